@@ -1,0 +1,2 @@
+-- bodies as plain trees
+pub mod Tree

@@ -1,0 +1,22 @@
+//! Atoms, and the operators that take them: what stands inside a line of a body.
+
+use py_code::{ItemList, PyText};
+
+/// A value that a line names without computing it.
+#[derive(Drop)]
+pub enum Atom {
+    /// A whole number.
+    Int(i128),
+    /// A name, read as a local or a global.
+    Name(PyText),
+}
+
+/// Atoms in order.
+pub type AtomList = ItemList<Atom>;
+
+/// An operator, whose arguments follow it in the line.
+#[derive(Clone, Copy, Debug, PartialEq, Eq)]
+pub enum Operator {
+    /// `add a b`: the sum of two numbers.
+    Add,
+}

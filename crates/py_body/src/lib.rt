@@ -1,0 +1,10 @@
+//! Bodies of functions: their statement trees, what a tree may do, and the compiler to code that does it.
+#![tactic(auto)]
+
+mod atom;
+mod body;
+mod stmt;
+
+pub use atom::{Atom, AtomList, Operator};
+pub use body::{Body, ParamList};
+pub use stmt::{Stmt, StmtForm, StmtList};
