@@ -1,0 +1,158 @@
+-- What the objects of a run are: by number, by the names that they are declared under, and which are new.
+use Rattle.std.specs.Prelude.{ℕ, suc, ◌<◌, Option, Some, None, List, [], ◌∷◌, ◌++◌, Bool, true, false, ◌≡◌, ◌||◌, slice_get, length, eqb, bytes_eq, if◌then◌else◌, codes}
+use Rattle.py_objects.specs.declared.refs.PyObjectRef.{PyObjectRef}
+use Rattle.py_objects.specs.declared.refs.PyTypeRef.{PyTypeRef}
+use Rattle.py_objects.specs.declared.refs.PyBaseExceptionRef.{PyBaseExceptionRef}
+use Rattle.py_objects.specs.declared.payload.Payload.{Payload}
+use Rattle.py_objects.specs.declared.payload.Payload.TheVariants as payload
+use Rattle.py_objects.specs.declared.payload.ErrorKind.{ErrorKind}
+use Rattle.py_objects.specs.declared.payload.ErrorKind.TheVariants.{NameError, OverflowError, RecursionError, TypeError, UnboundLocalError}
+use Rattle.py_objects.specs.declared.request.Request.{Request}
+use Rattle.py_objects.specs.declared.request.Request.TheVariants as request
+use Rattle.py_objects.specs.declared.event.DriveAnswer.{DriveAnswer}
+use Rattle.py_objects.specs.declared.event.DriveAnswer.TheVariants as drive
+use Rattle.py_objects.specs.declared.event.GotAnswer.{GotAnswer}
+use Rattle.py_objects.specs.declared.event.GotAnswer.TheVariants as got
+use Rattle.py_objects.specs.declared.event.ResumeHow.{ResumeHow}
+use Rattle.py_objects.specs.declared.event.ResumeHow.TheVariants as how
+use Rattle.py_objects.specs.declared.event.Ending.{Ending}
+use Rattle.py_objects.specs.declared.event.Ending.TheVariants as ending
+use Rattle.py_objects.specs.declared.event.Event.{Event}
+use Rattle.py_objects.specs.declared.event.Event.TheVariants as event
+
+abbrev pub Obj : Type 0
+Obj = PyObjectRef
+
+-- a name is the list of its characters
+abbrev pub Name : Type 0
+Name = List ℕ
+
+-- the object has this payload
+abbrev pub HasPayload : List Payload → Obj → Payload → Type 0
+HasPayload objects v p = slice_get objects v.number ≡ Some p
+
+-- an exception as an object
+abbrev pub as_object : PyBaseExceptionRef → Obj
+as_object e = record { number = e.number }
+
+-- a class as an object
+abbrev pub class_object : PyTypeRef → Obj
+class_object c = record { number = c.number }
+
+-- what stays where it is as more comes
+abbrev pub Grows : List Payload → List Payload → Type 0
+Grows old new = (more : List Payload) × (new ≡ old ++ more)
+
+-- the name that a payload declares, where it is a declaration
+abbrev pub declares : Payload → Option Name
+declares payload.None = None
+declares (payload.Bool b) = None
+declares (payload.Int n) = None
+declares (payload.Str s) = None
+declares (payload.Tuple vs) = None
+declares (payload.Class c) = Some c.name
+declares (payload.Function f) = Some f.name
+declares (payload.Exception e) = None
+
+abbrev pub is_name : Name → Option Name → Bool
+is_name n None = false
+is_name n (Some m) = bytes_eq n m
+
+abbrev pub declared_from : ℕ → List Payload → Name → Option Obj
+declared_from i [] n = None
+declared_from i (p ∷ ps) n = if is_name n (declares p) then Some (record { number = i }) else declared_from (suc i) ps n
+
+-- the first object that is declared under a name
+abbrev pub declared : List Payload → Name → Option Obj
+declared objects n = declared_from 0 objects n
+
+-- the name of a built-in exception class
+abbrev pub name_of : ErrorKind → Name
+name_of NameError = codes "NameError"
+name_of OverflowError = codes "OverflowError"
+name_of RecursionError = codes "RecursionError"
+name_of TypeError = codes "TypeError"
+name_of UnboundLocalError = codes "UnboundLocalError"
+
+-- the built-in exception classes, in the order of their objects
+abbrev pub error_kinds : List ErrorKind
+error_kinds = NameError ∷ OverflowError ∷ RecursionError ∷ TypeError ∷ UnboundLocalError ∷ []
+
+abbrev pub numbers : List Obj → List ℕ
+numbers [] = []
+numbers (v ∷ vs) = v.number ∷ numbers vs
+
+abbrev pub numbers_if : Option Obj → List ℕ
+numbers_if None = []
+numbers_if (Some v) = v.number ∷ []
+
+abbrev pub number_if : Option PyBaseExceptionRef → List ℕ
+number_if None = []
+number_if (Some e) = e.number ∷ []
+
+-- the numbers that a payload names
+abbrev pub payload_numbers : Payload → List ℕ
+payload_numbers payload.None = []
+payload_numbers (payload.Bool b) = []
+payload_numbers (payload.Int n) = []
+payload_numbers (payload.Str s) = []
+payload_numbers (payload.Tuple vs) = numbers vs
+payload_numbers (payload.Class c) = []
+payload_numbers (payload.Function f) = []
+payload_numbers (payload.Exception e) = e.class.number ∷ e.args.number ∷ []
+
+abbrev pub request_numbers : Request → List ℕ
+request_numbers (request.Binary op a b) = a.number ∷ b.number ∷ []
+
+abbrev pub how_numbers : ResumeHow → List ℕ
+how_numbers how.Start = []
+how_numbers (how.Send v) = v.number ∷ []
+how_numbers (how.Throw e) = e.number ∷ []
+
+abbrev pub got_numbers : GotAnswer → List ℕ
+got_numbers (got.Value v) = v.number ∷ []
+got_numbers (got.Stop v) = numbers_if v
+got_numbers (got.Raise e) = e.number ∷ []
+
+abbrev pub ending_numbers : Ending → List ℕ
+ending_numbers (ending.Return v) = v.number ∷ []
+ending_numbers (ending.Raise e) = e.number ∷ []
+
+abbrev pub result_numbers : DriveAnswer → List ℕ
+result_numbers (drive.Returns v) = v.number ∷ []
+result_numbers (drive.Yields v) = v.number ∷ []
+result_numbers (drive.Stops v) = numbers_if v
+result_numbers drive.Closes = []
+result_numbers (drive.Raises e) = e.number ∷ []
+result_numbers (drive.Reported text) = []
+
+-- every number that an event names
+abbrev pub event_numbers : Event → List ℕ
+event_numbers (event.Drive d) = []
+event_numbers (event.Result d w) = result_numbers w
+event_numbers (event.Make a f vs) = f.number ∷ numbers vs
+event_numbers (event.Resume a h) = how_numbers h
+event_numbers (event.Ask a r own at) = number_if own ++ request_numbers r
+event_numbers (event.Got a w) = got_numbers w
+event_numbers (event.Round a at) = []
+event_numbers (event.Yield a v at) = v.number ∷ []
+event_numbers (event.End a e at) = ending_numbers e
+
+abbrev pub is_among : ℕ → List ℕ → Bool
+is_among n [] = false
+is_among n (m ∷ ms) = eqb n m || is_among n ms
+
+-- no earlier event names the number, and nothing is declared under it
+pub record IsNew (objects : List Payload) (before : List Event) (n : ℕ) : Type 0 where
+  pub unnamed : (i : ℕ) (e : Event) → slice_get before i ≡ Some e → is_among n (event_numbers e) ≡ false
+  pub undeclared : (x : Name) (v : Obj) → declared objects x ≡ Some v → eqb n v.number ≡ false
+
+-- all of the numbers name objects
+abbrev pub AllBelow : ℕ → List ℕ → Type 0
+AllBelow n [] = Unit {0}
+AllBelow n (m ∷ ms) = (m < n) × AllBelow n ms
+
+-- every number that an event or a payload names is an object's
+pub record AreNamed (objects : List Payload) (events : List Event) : Type 0 where
+  pub in_events : (i : ℕ) (e : Event) → slice_get events i ≡ Some e → AllBelow (length objects) (event_numbers e)
+  pub in_payloads : (i : ℕ) (p : Payload) → slice_get objects i ≡ Some p → AllBelow (length objects) (payload_numbers p)

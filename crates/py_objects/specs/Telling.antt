@@ -1,0 +1,36 @@
+-- The words in which bodies tell their events. Each takes the events that are told and, last, what may follow: K holds of
+-- what comes of it and of the events behind. Where nothing is left to tell, the telling is cut there.
+use Rattle.std.specs.Prelude.{ℕ, Option, List, [], ◌∷◌, ◌≡◌, ◌⊎◌}
+use Rattle.py_objects.specs.declared.refs.PyBaseExceptionRef.{PyBaseExceptionRef}
+use Rattle.py_objects.specs.declared.payload.Payload.{Payload}
+use Rattle.py_objects.specs.declared.request.Request.{Request}
+use Rattle.py_objects.specs.declared.event.GotAnswer.{GotAnswer}
+use Rattle.py_objects.specs.declared.event.GotAnswer.TheVariants as got
+use Rattle.py_objects.specs.Objects.{Obj, HasPayload}
+use Rattle.py_objects.specs.Own.{Own, Asks, Gets}
+
+-- what comes of a load or a request: a value, a raise, or the end of what is told
+pub data Value : Type 0 where
+  Given : Obj → Value
+  Failed : PyBaseExceptionRef → Value
+  Stopped : Value
+
+abbrev pub AfterValue : Type 1
+AfterValue = Value → List Own → Type 0
+
+-- an object of this payload, without an event
+abbrev pub IsLiteral : List Payload → Payload → List Own → AfterValue → Type 0
+IsLiteral objects p ts K = ((ts ≡ []) × K Stopped []) ⊎ ((v : Obj) × HasPayload objects v p × K (Given v) ts)
+
+-- an answer goes on as a value or as a raise; that there is nothing more answers no request of these bodies
+abbrev pub Answers : GotAnswer → List Own → AfterValue → Type 0
+Answers (got.Value v) ts K = K (Given v) ts
+Answers (got.Raise e) ts K = K (Failed e) ts
+Answers (got.Stop v) ts K = ⊥
+
+abbrev pub Answered : List Own → AfterValue → Type 0
+Answered ts K = ((ts ≡ []) × K Stopped []) ⊎ ((w : GotAnswer) × (mid : List Own) × (ts ≡ Gets w ∷ mid) × Answers w mid K)
+
+-- a request while h is handled, from whatever unit, and its answer
+abbrev pub Asked : Request → Option PyBaseExceptionRef → List Own → AfterValue → Type 0
+Asked r h ts K = ((ts ≡ []) × K Stopped []) ⊎ ((at : ℕ) × (mid : List Own) × (ts ≡ Asks at r h ∷ mid) × Answered mid K)
