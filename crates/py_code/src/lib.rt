@@ -7,6 +7,7 @@ mod instruction;
 mod list;
 mod literal;
 mod names;
+mod operator;
 mod text;
 mod unit;
 
@@ -16,5 +17,8 @@ pub use instruction::Instruction;
 pub use list::{ItemList, NoMemory};
 pub use literal::{BuiltinFn, Literal, LiteralList};
 pub use names::NameId;
+pub use operator::{
+    BinaryOperator, ComparisonOperator, ConversionFlag, RaiseKind, TestOperator, UnaryOperator,
+};
 pub use text::{PyText, same_text, text_of};
 pub use unit::{CodeUnit, Label, OpArg, OpArgState};
