@@ -1,8 +1,24 @@
 //! Code objects: lists, texts, names, units, constants and the code that holds them.
 #![tactic(auto)]
 
+mod code;
+mod flags;
+mod instruction;
 mod list;
+mod literal;
+mod names;
+mod operator;
 mod text;
+mod unit;
 
+pub use code::{CodeObject, Decoded, PyCode};
+pub use flags::CodeFlags;
+pub use instruction::Instruction;
 pub use list::{ItemList, NoMemory};
+pub use literal::{BuiltinFn, Literal, LiteralList};
+pub use names::NameId;
+pub use operator::{
+    BinaryOperator, ComparisonOperator, ConversionFlag, RaiseKind, TestOperator, UnaryOperator,
+};
 pub use text::{PyText, same_text, text_of};
+pub use unit::{CodeUnit, Label, OpArg, OpArgState};

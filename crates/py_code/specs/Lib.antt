@@ -1,0 +1,6 @@
+-- units, and the arguments that prefixes build
+pub mod Units
+-- the numbers of operators
+pub mod Operators
+-- the constants of a code
+pub mod Literals
