@@ -1,10 +1,11 @@
 -- What the objects of a run are: by number, by the names that they are declared under, and which are new.
-use Rattle.std.specs.Prelude.{ℕ, suc, ◌<◌, Option, Some, None, List, [], ◌∷◌, ◌++◌, Bool, true, false, ◌≡◌, ◌||◌, slice_get, length, eqb, bytes_eq, if◌then◌else◌, codes}
+use Rattle.std.specs.Prelude.{ℕ, suc, ◌<◌, Option, Some, None, List, [], ◌∷◌, ◌++◌, Bool, false, ◌≡◌, ◌||◌, slice_get, length, eqb, bytes_eq, if◌then◌else◌, codes}
 use Rattle.py_objects.specs.declared.refs.PyObjectRef.{PyObjectRef}
 use Rattle.py_objects.specs.declared.refs.PyTypeRef.{PyTypeRef}
 use Rattle.py_objects.specs.declared.refs.PyBaseExceptionRef.{PyBaseExceptionRef}
 use Rattle.py_objects.specs.declared.payload.Payload.{Payload}
 use Rattle.py_objects.specs.declared.payload.Payload.TheVariants as payload
+use Rattle.py_objects.specs.declared.payload.ClassBody.{ClassBody}
 use Rattle.py_objects.specs.declared.payload.ErrorKind.{ErrorKind}
 use Rattle.py_objects.specs.declared.payload.ErrorKind.TheVariants.{NameError, OverflowError, RecursionError, TypeError, UnboundLocalError}
 use Rattle.py_objects.specs.declared.request.Request.{Request}
@@ -156,3 +157,27 @@ AllBelow n (m ∷ ms) = (m < n) × AllBelow n ms
 pub record AreNamed (objects : List Payload) (events : List Event) : Type 0 where
   pub in_events : (i : ℕ) (e : Event) → slice_get events i ≡ Some e → AllBelow (length objects) (event_numbers e)
   pub in_payloads : (i : ℕ) (p : Payload) → slice_get objects i ≡ Some p → AllBelow (length objects) (payload_numbers p)
+
+-- what an exception's entry names: its class is the declared one of its name, its arguments are a tuple
+abbrev pub IsMade : List Payload → Payload → Type 0
+IsMade objects payload.None = Unit {0}
+IsMade objects (payload.Bool b) = Unit {0}
+IsMade objects (payload.Int n) = Unit {0}
+IsMade objects (payload.Str s) = Unit {0}
+IsMade objects (payload.Tuple vs) = Unit {0}
+IsMade objects (payload.Class c) = Unit {0}
+IsMade objects (payload.Function f) = Unit {0}
+IsMade objects (payload.Exception e) =
+    (c : ClassBody) × (vs : List Obj) × HasPayload objects (class_object e.class) (payload.Class c)
+    × (declared objects c.name ≡ Some (class_object e.class)) × HasPayload objects e.args (payload.Tuple vs)
+
+-- each entry names objects that are there, of the kinds that it needs
+abbrev pub AllFit : List Payload → Type 0
+AllFit objects = (i : ℕ) (p : Payload) → slice_get objects i ≡ Some p → AllBelow (length objects) (payload_numbers p) × IsMade objects p
+
+-- more objects came, none of which is a declaration
+pub record GrowsPlainly (old new : List Payload) : Type 0 where
+  pub more : List Payload
+  pub is : new ≡ old ++ more
+  pub plain : (i : ℕ) (p : Payload) → slice_get more i ≡ Some p → declares p ≡ None
+  pub fit : AllFit old → AllFit new

@@ -1,0 +1,8 @@
+-- what each instruction does
+pub mod Rows
+-- runs of the rows of a code
+pub mod RunOfRows
+-- what a frame's step says
+pub mod Steps
+-- what holds of every run
+pub mod Laws

@@ -1,0 +1,139 @@
+-- What units of code do, an equation an instruction.
+use Rattle.std.specs.Prelude.{ℕ, suc, ◌-◌, Option, Some, None, List, [], ◌∷◌, slice_get, slice_set, length, nat_lt, if◌then◌else◌}
+use Rattle.py_code.specs.declared.instruction.Instruction.{Instruction}
+use Rattle.py_code.specs.declared.instruction.Instruction.TheVariants.{LoadConst, LoadFast, StoreFast, Pop, BinaryOperation, ReturnValue, ReturnConst, ExtendedArg}
+use Rattle.py_code.specs.declared.unit.CodeUnit.{CodeUnit}
+use Rattle.py_code.specs.declared.literal.Literal.{Literal, None as NoneLiteral, Bool as BoolLiteral, Int as IntLiteral, Str as StrLiteral, Tuple' as TupleLiteral, Code as CodeLiteral, Builtin as BuiltinLiteral}
+use Rattle.py_code.specs.declared.operator.BinaryOperator.{BinaryOperator}
+use Rattle.py_code.specs.declared.operator.BinaryOperator.TheVariants as binary
+use Rattle.py_code.specs.declared.code.PyCode.{PyCode}
+use Rattle.py_code.specs.Literals.{literals_of}
+use Rattle.py_code.specs.Operators.{binary_operators}
+use Rattle.py_code.specs.Units.{with_byte}
+use Rattle.py_objects.specs.declared.payload.Payload.{Payload}
+use Rattle.py_objects.specs.declared.payload.Payload.TheVariants as payload
+use Rattle.py_objects.specs.declared.request.Arithmetic.{Arithmetic}
+use Rattle.py_objects.specs.declared.request.Arithmetic.TheVariants.{Add}
+use Rattle.py_objects.specs.declared.request.Request.TheVariants.{Binary}
+use Rattle.py_objects.specs.declared.event.GotAnswer.{GotAnswer}
+use Rattle.py_objects.specs.declared.event.GotAnswer.TheVariants as got
+use Rattle.py_objects.specs.declared.event.Ending.TheVariants as ending
+use Rattle.py_objects.specs.Objects.{Obj}
+use Rattle.py_objects.specs.Own.{Own, Asks, Ends}
+use Rattle.py_frame.specs.declared.input.Expect.{Expect}
+use Rattle.py_frame.specs.declared.input.Expect.TheVariants as expect
+
+-- a frame
+pub record State : Type 0 where
+  pub at : ℕ  -- the unit that comes next
+  pub prefix : ℕ  -- what the prefixes in front of it carry
+  pub stack : List Obj  -- the top first
+  pub locals : List (Option Obj)
+  pub wants : Expect  -- Go where the next unit runs
+
+-- what a unit, or an answer, leads to: another state silently, another state behind an event, or nothing that has a meaning
+pub data Step : Type 0 where
+  Goes : State → Step
+  Tells : Own → State → Step
+  Stuck : Step
+
+-- a unit's step, which may need an object of this payload
+pub data Move : Type 0 where
+  Plainly : Step → Move
+  Loads : Payload → (Obj → Step) → Move
+
+-- behind the unit that runs
+abbrev pub next : State → State
+next s = record { at = suc s.at; prefix = 0; stack = s.stack; locals = s.locals; wants = s.wants }
+
+abbrev pub with_stack : List Obj → State → State
+with_stack stack s = record { at = s.at; prefix = s.prefix; stack = stack; locals = s.locals; wants = s.wants }
+
+abbrev pub with_locals : List (Option Obj) → State → State
+with_locals locals s = record { at = s.at; prefix = s.prefix; stack = s.stack; locals = locals; wants = s.wants }
+
+abbrev pub waiting : Expect → State → State
+waiting x s = record { at = s.at; prefix = s.prefix; stack = s.stack; locals = s.locals; wants = x }
+
+abbrev pub pushed : Obj → State → State
+pushed v s = with_stack (v ∷ s.stack) s
+
+-- the payload of a constant, where constants of that kind are loaded so far
+abbrev pub payload_of : Literal → Option Payload
+payload_of NoneLiteral = Some payload.None
+payload_of (BoolLiteral b) = Some (payload.Bool b)
+payload_of (IntLiteral n) = Some (payload.Int n)
+payload_of (StrLiteral s) = Some (payload.Str s)
+payload_of (TupleLiteral shape items) = None
+payload_of (CodeLiteral c) = None
+payload_of (BuiltinLiteral f) = None
+
+abbrev pub or_stuck : Option Payload → (Obj → Step) → Move
+or_stuck None f = Plainly Stuck
+or_stuck (Some p) f = Loads p f
+
+abbrev pub loads : Option Literal → (Obj → Step) → Move
+loads None f = Plainly Stuck
+loads (Some l) f = or_stuck (payload_of l) f
+
+-- a local that is there and set
+abbrev pub set_in : Option (Option Obj) → Option Obj
+set_in None = None
+set_in (Some local) = local
+
+abbrev pub load_fast : Option Obj → State → Step
+load_fast None s = Stuck
+load_fast (Some v) s = Goes (pushed v (next s))
+
+abbrev pub store_fast : ℕ → List Obj → State → Step
+store_fast i [] s = Stuck
+store_fast i (v ∷ stack) s = if nat_lt i (length s.locals) then Goes (with_locals (slice_set s.locals i (Some v)) (with_stack stack (next s))) else Stuck
+
+abbrev pub pop : List Obj → State → Step
+pop [] s = Stuck
+pop (v ∷ stack) s = Goes (with_stack stack (next s))
+
+-- the operators that are asked so far
+abbrev pub arithmetic_of : Option BinaryOperator → Option Arithmetic
+arithmetic_of (Some binary.Add) = Some Add
+arithmetic_of _ = None
+
+abbrev pub binary_operation : Option Arithmetic → List Obj → State → Step
+binary_operation None stack s = Stuck
+binary_operation (Some op) [] s = Stuck
+binary_operation (Some op) (b ∷ []) s = Stuck
+binary_operation (Some op) (b ∷ a ∷ stack) s = Tells (Asks s.at (Binary op a b) None) (waiting expect.Answer (with_stack stack (next s)))
+
+-- an end by a value
+abbrev pub returns : Obj → State → Step
+returns v s = Tells (Ends s.at (ending.Return v)) (waiting expect.Ended (next s))
+
+abbrev pub return_value : List Obj → State → Step
+return_value [] s = Stuck
+return_value (v ∷ stack) s = returns v (with_stack stack s)
+
+-- the instructions that run so far; the others have no meaning yet
+abbrev pub act : PyCode → Instruction → ℕ → State → Move
+act code LoadConst i s = loads (slice_get (literals_of code.code.constants) i) (λ v. Goes (pushed v (next s)))
+act code LoadFast i s = Plainly (load_fast (set_in (slice_get s.locals i)) s)
+act code StoreFast i s = Plainly (store_fast i s.stack s)
+act code Pop i s = Plainly (pop s.stack s)
+act code BinaryOperation i s = Plainly (binary_operation (arithmetic_of (slice_get binary_operators i)) s.stack s)
+act code ReturnValue i s = Plainly (return_value s.stack s)
+act code ReturnConst i s = loads (slice_get (literals_of code.code.constants) i) (λ v. returns v s)
+act code ExtendedArg i s = Plainly (Goes (record { at = suc s.at; prefix = i; stack = s.stack; locals = s.locals; wants = s.wants }))
+act code _ i s = Plainly Stuck
+
+abbrev pub unit_move : PyCode → Option CodeUnit → State → Move
+unit_move code None s = Plainly Stuck
+unit_move code (Some u) s = act code u.op (with_byte s.prefix u.arg) s
+
+-- what the unit that comes next does
+abbrev pub advance : PyCode → State → Move
+advance code s = unit_move code (slice_get code.code.instructions.items s.at) s
+
+-- what an answer does in a state that waits for it: a value is pushed, a raise ends the frame at the unit that asked
+abbrev pub receive : GotAnswer → State → Step
+receive (got.Value v) s = Goes (waiting expect.Go (pushed v s))
+receive (got.Raise e) s = Tells (Ends (s.at - 1) (ending.Raise e)) (waiting expect.Ended s)
+receive (got.Stop v) s = Stuck

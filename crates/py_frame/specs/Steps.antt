@@ -1,0 +1,55 @@
+-- What a frame hears and tells by a step.
+use Rattle.std.specs.Prelude.{ℕ, ◌-◌, List, [], ◌∷◌, ◌++◌}
+use Rattle.py_code.specs.declared.code.PyCode.{PyCode}
+use Rattle.py_objects.specs.declared.payload.Payload.{Payload}
+use Rattle.py_objects.specs.declared.event.GotAnswer.TheVariants as got
+use Rattle.py_objects.specs.declared.event.ResumeHow.TheVariants as how
+use Rattle.py_objects.specs.declared.event.Ending.TheVariants as ending
+use Rattle.py_objects.specs.Objects.{Obj}
+use Rattle.py_objects.specs.Own.{Own, Resumes, Asks, Gets, Ends}
+use Rattle.py_frame.specs.declared.input.Input.{Input}
+use Rattle.py_frame.specs.declared.input.Input.TheVariants as input
+use Rattle.py_frame.specs.declared.input.Expect.{Expect}
+use Rattle.py_frame.specs.declared.input.Expect.TheVariants as expect
+use Rattle.py_frame.specs.declared.input.FrameStep.{FrameStep}
+use Rattle.py_frame.specs.declared.input.FrameStep.TheVariants as step
+use Rattle.py_frame.specs.Rows.{State}
+use Rattle.py_frame.specs.RunOfRows.{IsAt}
+
+-- which inputs are those that a frame expects
+abbrev pub Expects : Expect → Input → Type 0
+Expects expect.Start input.Start = Unit {0}
+Expects expect.Start input.Go = ⊥
+Expects expect.Start (input.Answer w) = ⊥
+Expects expect.Go input.Start = ⊥
+Expects expect.Go input.Go = Unit {0}
+Expects expect.Go (input.Answer w) = ⊥
+Expects expect.Answer input.Start = ⊥
+Expects expect.Answer input.Go = ⊥
+Expects expect.Answer (input.Answer (got.Value v)) = Unit {0}
+Expects expect.Answer (input.Answer (got.Raise e)) = Unit {0}
+Expects expect.Answer (input.Answer (got.Stop v)) = ⊥
+Expects expect.Ended i = ⊥
+
+-- what is expected behind a step
+abbrev pub expected : FrameStep → Expect
+expected (step.Ask r own) = expect.Answer
+expected (step.Return v) = expect.Ended
+expected (step.Raise e) = expect.Ended
+
+-- the own event that an input is
+abbrev pub heard : Input → List Own
+heard input.Start = Resumes how.Start ∷ []
+heard input.Go = []
+heard (input.Answer w) = Gets w ∷ []
+
+-- the own event that a step of the unit `at` is
+abbrev pub told : ℕ → FrameStep → List Own
+told at (step.Ask r own) = Asks at r own ∷ []
+told at (step.Return v) = Ends at (ending.Return v) ∷ []
+told at (step.Raise e) = Ends at (ending.Raise e) ∷ []
+
+-- whatever run of the rows led to the old state is extended by what was heard and what is told, by the last unit begun
+abbrev pub Extends : List Payload → List Payload → PyCode → State → Input → FrameStep → State → Type 0
+Extends objects objects' code s i step s' =
+    (args : List Obj) (ts : List Own) → IsAt objects code args ts s → IsAt objects' code args (ts ++ (heard i ++ told (s'.at - 1) step)) s'
