@@ -1,2 +1,9 @@
 -- bodies as plain trees
 pub mod Tree
+-- the names of a body, and its locals
+pub mod Binding
+-- what a tree may tell
+pub mod Outcome
+pub mod Trace
+-- code that does what a body does
+pub mod Fits
