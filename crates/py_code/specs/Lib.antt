@@ -6,3 +6,5 @@ pub mod Operators
 pub mod Literals
 -- a table of names as a list
 pub mod Names
+-- codes with the names that they use
+pub mod Codes

@@ -2,6 +2,7 @@
 #![tactic(auto)]
 
 mod code;
+mod code_list;
 mod flags;
 mod instruction;
 mod list;
@@ -12,6 +13,7 @@ mod text;
 mod unit;
 
 pub use code::{CodeObject, Decoded, PyCode};
+pub use code_list::CodeList;
 pub use flags::CodeFlags;
 pub use instruction::Instruction;
 pub use list::{ItemList, NoMemory};
