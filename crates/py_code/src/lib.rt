@@ -18,9 +18,12 @@ pub use flags::CodeFlags;
 pub use instruction::Instruction;
 pub use list::{ItemList, NoMemory};
 pub use literal::{BuiltinFn, Literal, LiteralList};
-pub use names::NameId;
+pub use names::{NameId, Names};
 pub use operator::{
     BinaryOperator, ComparisonOperator, ConversionFlag, RaiseKind, TestOperator, UnaryOperator,
 };
 pub use text::{PyText, same_text, text_of};
 pub use unit::{CodeUnit, Label, OpArg, OpArgState};
+
+#[cfg(test)]
+mod tests;
