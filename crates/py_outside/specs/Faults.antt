@@ -1,5 +1,5 @@
 -- How faults are counted, and when a call may answer one.
-use Rattle.std.specs.Prelude.{◌≡◌, ℕ, ◌+◌, ◌-◌, ◌^◌, ◌≤◌, min, Result, OnErr, MatchResult}
+use Rattle.std.specs.Prelude.{◌≡◌, ℕ, ◌+◌, ◌-◌, ◌^◌, ◌≤◌, min, Bool, IsTrue, Result, IsOk, OnErr, MatchResult}
 
 -- the next value of a count that stops at the last value of u64
 abbrev pub one_more : ℕ → ℕ
@@ -17,3 +17,14 @@ pub record HasCause {T E : Type 0} (before now : ℕ) (result : Result T E) : Ty
 -- the count goes one on at a failure, and stays at a success
 abbrev pub CountsFailure : {T E : Type 0} → ℕ → ℕ → Result T E → Type 0
 CountsFailure before now result = MatchResult result (λ _. now ≡ before) (λ _. now ≡ one_more before)
+
+-- a call succeeded, met no fault, and left what it read as sound as it was
+pub record StaysSound {T E : Type 0} (before now : ℕ) (sound : Bool) (result : Result T E) : Type 0 where
+  pub succeeds : IsOk result
+  pub same : now ≡ before
+  pub stays : IsTrue sound
+
+-- a call succeeded, and met no fault
+pub record MeetsNoFault {T E : Type 0} (before now : ℕ) (result : Result T E) : Type 0 where
+  pub succeeds : IsOk result
+  pub same : now ≡ before

@@ -1,5 +1,5 @@
 -- Sources and sinks in memory, as contracts see them.
-use Rattle.std.specs.Prelude.{◌≡◌, ℕ, ◌-◌, min, List, ◌++◌, length, take, drop, refl}
+use Rattle.std.specs.Prelude.{ℕ, ◌-◌, min, Bool, true, false, List, [], ◌∷◌, ◌++◌, length, drop, refl}
 use Rattle.std.specs.Coded.{Coded, code_by, coded×, coded_list, coded_ℕ}
 use Rattle.py_outside.specs.Faults.{one_more}
 
@@ -61,3 +61,17 @@ readable s room = min (min (length s.left) (length room)) s.most
 -- how many bytes of a piece a call takes
 abbrev pub writable : SinkState → List ℕ → ℕ
 writable s piece = min (min (length piece) (s.room - length s.taken)) s.most
+
+-- no call is to fail
+abbrev pub none_listed : List ℕ → Bool
+none_listed [] = true
+none_listed (_ ∷ _) = false
+
+-- how many bytes are taken with no fault, where so many are free: all, if no call is to fail
+abbrev pub free_or_none : List ℕ → ℕ → ℕ
+free_or_none [] free = free
+free_or_none (_ ∷ _) free = 0
+
+-- how many bytes a sink surely takes
+abbrev pub sure_of : SinkState → ℕ
+sure_of s = free_or_none s.fails (s.room - length s.taken)

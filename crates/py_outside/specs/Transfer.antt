@@ -1,6 +1,8 @@
 -- What is read to the end of a source, and what is written whole.
-use Rattle.std.specs.Prelude.{◌≡◌, ℕ, ◌+◌, ◌<◌, ◌≤◌, List, ◌++◌, length, take, Option, IfSome}
+use Rattle.std.specs.Prelude.{◌≡◌, ℕ, ◌+◌, ◌<◌, ◌≤◌, List, ◌++◌, length, take, Bool, IsTrue, Option, IfSome, Result, IsErrOf}
 use Rattle.std.specs.Io.KnownBytes.{Consumes, Appends, IsAtEnd}
+use Rattle.py_outside.specs.declared.reading.ReadError.{ReadError}
+use Rattle.py_outside.specs.declared.reading.ReadError.TheVariants.{Fault}
 
 -- count more bytes were taken from the source and put behind those that were held; none only at its end
 pub record Takes (left left' : Option (List ℕ)) (held held' : List ℕ) (count : ℕ) : Type 0 where
@@ -25,3 +27,9 @@ pub record AppendsFront (taken taken' : Option (List ℕ)) (bytes : List ℕ) : 
   pub count : ℕ
   pub short : count < length bytes
   pub appended : Appends taken taken' (take count bytes)
+
+-- no fault was met or answered, and the source is as sound as it was
+pub record IsUntouched {T : Type 0} (before now : ℕ) (sound : Bool) (result : Result T ReadError) : Type 0 where
+  pub same : now ≡ before
+  pub stays : IsTrue sound
+  pub answered : IsErrOf result Fault → ⊥

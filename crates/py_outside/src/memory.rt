@@ -3,8 +3,8 @@
 ghost use Rattle.std.specs.Prelude.{◌≡◌, ◌+◌, ◌≤◌, ◌<◌, ◌↔◌, ◌++◌, ◌⊎◌, length, take, drop, [], vec_len, vec_capacity, Some, IsTrue, IsErr, IfOk, OnErr, Contains};
 ghost use Rattle.std.specs.Io.{ReadsAtMost, WritesAtMost};
 ghost use Rattle.std.specs.Io.KnownBytes.{ReadConsumes, WriteAppends};
-ghost use Rattle.py_outside.specs.Faults.{HasCause, one_more};
-ghost use Rattle.py_outside.specs.Memory.{source_after, failed_source, sink_after, failed_sink, readable, writable};
+ghost use Rattle.py_outside.specs.Faults.{HasCause, StaysSound, MeetsNoFault, one_more};
+ghost use Rattle.py_outside.specs.Memory.{source_after, failed_source, sink_after, failed_sink, readable, writable, none_listed, sure_of};
 
 use crate::sink::{Sink, WriteFailed};
 use crate::source::{ReadFailed, Source};
@@ -66,6 +66,7 @@ impl Source for SourceMemory {
     ghost left = { λ s. Some s.left };
     ghost faults = { λ s. s.faults };
     ghost reads = { λ s. s.calls };
+    ghost is_sound = { λ s. none_listed s.fails };
 
     /// Moves as many bytes as are left, fit and may be moved by one call.
     fn read(&mut self, room: &mut [u8]) -> Result<usize, ReadFailed>
@@ -73,6 +74,7 @@ impl Source for SourceMemory {
         ensures bytes { ReadConsumes (Some self.old.left) (Some self.new.left) result room.new }
         ensures cause { HasCause self.old.faults self.new.faults result }
         ensures turns { self.new.calls ≤ self.old.calls + 1 }
+        ensures sound { IsTrue (none_listed self.old.fails) → StaysSound self.old.faults self.new.faults (none_listed self.new.fails) result }
 
         // An empty room changes nothing. With another, just the listed calls fail.
         ensures no_room { length room.old ≡ 0 → (result ≡ Ok 0) × (self.new ≡ self.old) }
@@ -157,6 +159,7 @@ impl SinkMemory {
 impl Sink for SinkMemory {
     ghost taken = { λ s. Some s.taken };
     ghost faults = { λ s. s.faults };
+    ghost sure = { λ s. sure_of s };
 
     /// Takes as many bytes as there are, are free and may be taken by one call.
     fn write(&mut self, piece: &[u8]) -> Result<usize, WriteFailed>
@@ -164,6 +167,8 @@ impl Sink for SinkMemory {
         ensures some { IfOk result (λ count. 0 < length piece.now → 0 < count) }
         ensures bytes { WriteAppends (Some self.old.taken) (Some self.new.taken) result piece.now }
         ensures cause { HasCause self.old.faults self.new.faults result }
+        ensures sure { 0 < length piece.now → length piece.now ≤ sure_of self.old → MeetsNoFault self.old.faults self.new.faults result }
+        ensures still { IfOk result (λ count. sure_of self.old ≤ sure_of self.new + count) }
 
         // An empty piece changes nothing. With another, just the listed calls fail, and those of a full sink.
         ensures no_piece { length piece.now ≡ 0 → (result ≡ Ok 0) × (self.new ≡ self.old) }

@@ -1,8 +1,8 @@
 //! Reading a source to its end.
 
-ghost use Rattle.std.specs.Prelude.{◌≡◌, ◌+◌, ◌<◌, ◌≤◌, length, vec_len, IfOk, OnErr, IfSome, IsErrOf};
+ghost use Rattle.std.specs.Prelude.{◌≡◌, ◌+◌, ◌-◌, ◌<◌, ◌≤◌, length, vec_len, IfOk, OnErr, IfSome, IsErrOf, IsTrue};
 ghost use Rattle.py_outside.specs.Faults.{Rose};
-ghost use Rattle.py_outside.specs.Transfer.{Takes, HasRead, LosesUpTo};
+ghost use Rattle.py_outside.specs.Transfer.{Takes, HasRead, LosesUpTo, IsUntouched};
 ghost use Rattle.py_outside.specs.declared.reading.ReadError.TheVariants.{NoMemory};
 
 use crate::source::Source;
@@ -42,6 +42,8 @@ fn read_piece<S: Source>(source: &mut S, bytes: &mut Vec<u8>) -> Result<usize, R
     ensures fault { IsErrOf result ReadError.Fault → Rose (S.faults source.old) (S.faults source.new) }
     ensures not_long { IsErrOf result ReadError.TooLong → ⊥ }
     ensures turns { S.reads source.new ≤ S.reads source.old + 1 }
+    ensures err { OnErr result (LosesUpTo (S.left source.old) (S.left source.new) (LIMIT + 1 - vec_len bytes.old)) }
+    ensures sound { IsTrue (S.is_sound source.old) → IsUntouched (S.faults source.old) (S.faults source.new) (S.is_sound source.new) result }
 {
     let mut room = [0u8; PIECE];
     let most = PIECE.min(LIMIT + 1 - bytes.len());
@@ -59,12 +61,14 @@ fn read_piece<S: Source>(source: &mut S, bytes: &mut Vec<u8>) -> Result<usize, R
 pub fn read_bytes<S: Source>(alloc: Global, source: &mut S) -> Result<Vec<u8>, ReadError>
     ensures read { IfOk result (λ bytes. HasRead (S.left source.old) (S.left source.new) bytes.items) }
     ensures short { IfOk result (λ bytes. vec_len bytes ≤ LIMIT) }
+    ensures err { OnErr result (LosesUpTo (S.left source.old) (S.left source.new) (LIMIT + 1)) }
     ensures long { IsErrOf result ReadError.TooLong → IfSome (S.left source.old) (λ all. LIMIT < length all) }
 
     // Faults are counted by the source alone.
     ensures fault { IsErrOf result ReadError.Fault → Rose (S.faults source.old) (S.faults source.new) }
     ensures later { S.faults source.old ≤ S.faults source.new }
     ensures turns { S.reads source.new ≤ S.reads source.old + (LIMIT + 1) }
+    ensures sound { IsTrue (S.is_sound source.old) → IsUntouched (S.faults source.old) (S.faults source.new) (S.is_sound source.new) result }
 {
     let mut bytes = Vec::new(alloc);
     for _turn in 0..LIMIT + 1 {

@@ -40,7 +40,6 @@ impl<R: Read + Drop> Source for StdSource<R> {
         ensures bound { ReadsAtMost result room.new }
         ensures bytes { ReadConsumes (R.remaining (reader_of self.old)) (R.remaining (reader_of self.new)) result room.new }
         ensures cause { HasCause (read_faults self.old) (read_faults self.new) result }
-        ensures turns { 0 ≤ 0 + 1 }
         ensures counted { CountsFailure (read_faults self.old) (read_faults self.new) result }
     {
         match self.inner.read(room) {

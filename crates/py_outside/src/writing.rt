@@ -1,8 +1,8 @@
 //! Writing bytes whole.
 
-ghost use Rattle.std.specs.Prelude.{OnOk, OnErr};
+ghost use Rattle.std.specs.Prelude.{◌≤◌, length, OnOk, OnErr};
 ghost use Rattle.std.specs.Io.KnownBytes.{Appends};
-ghost use Rattle.py_outside.specs.Faults.{HasCause};
+ghost use Rattle.py_outside.specs.Faults.{HasCause, MeetsNoFault};
 ghost use Rattle.py_outside.specs.Transfer.{AppendsFront};
 
 use crate::sink::{Sink, WriteFailed};
@@ -12,6 +12,7 @@ pub fn write_bytes<K: Sink>(sink: &mut K, bytes: &[u8]) -> Result<(), WriteFaile
     ensures whole { OnOk result (Appends (K.taken sink.old) (K.taken sink.new) bytes.now) }
     ensures front { OnErr result (AppendsFront (K.taken sink.old) (K.taken sink.new) bytes.now) }
     ensures cause { HasCause (K.faults sink.old) (K.faults sink.new) result }
+    ensures sure { length bytes.now ≤ K.sure sink.old → MeetsNoFault (K.faults sink.old) (K.faults sink.new) result }
 {
     let mut done = 0;
     while done < bytes.len() {
