@@ -14,3 +14,6 @@ pub use sink::{Sink, WriteFailed};
 pub use source::{ReadFailed, Source};
 pub use stdio::{StdSink, StdSource};
 pub use writing::write_bytes;
+
+#[cfg(test)]
+mod tests;

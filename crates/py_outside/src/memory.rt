@@ -64,8 +64,11 @@ impl SourceMemory {
 
 impl Source for SourceMemory {
     ghost left = { λ s. Some s.left };
+
     ghost faults = { λ s. s.faults };
+
     ghost reads = { λ s. s.calls };
+
     ghost is_sound = { λ s. none_listed s.fails };
 
     /// Moves as many bytes as are left, fit and may be moved by one call.
@@ -158,7 +161,9 @@ impl SinkMemory {
 
 impl Sink for SinkMemory {
     ghost taken = { λ s. Some s.taken };
+
     ghost faults = { λ s. s.faults };
+
     ghost sure = { λ s. sure_of s };
 
     /// Takes as many bytes as there are, are free and may be taken by one call.

@@ -13,7 +13,9 @@ pub struct WriteFailed;
 /// far, and how many bytes it still takes for sure, with no fault.
 pub trait Sink {
     ghost taken: { Self → Option (List ℕ) };
+
     ghost faults: { Self → ℕ };
+
     ghost sure: { Self → ℕ } = { λ _. 0 };
 
     /// Takes a front of the piece, and returns how many bytes: at least one of a piece that isn't

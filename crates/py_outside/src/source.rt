@@ -14,8 +14,11 @@ pub struct ReadFailed;
 /// it fails.
 pub trait Source {
     ghost left: { Self → Option (List ℕ) };
+
     ghost faults: { Self → ℕ };
+
     ghost reads: { Self → ℕ };
+
     ghost is_sound: { Self → Bool } = { λ _. false };
 
     /// Moves bytes to the front of the room, and returns how many. `Ok(0)` for a room that isn't

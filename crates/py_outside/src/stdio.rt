@@ -32,7 +32,9 @@ impl<R: Read + Drop> Source for StdSource<R> {
     ghost use Rattle.py_outside.specs.Streams.{reader_of, read_faults};
 
     ghost left = { λ s. R.remaining (reader_of s) };
+
     ghost faults = { λ s. read_faults s };
+
     ghost reads = { λ _. 0 };
 
     /// Reads once. Any error of the reader is a fault.
@@ -75,6 +77,7 @@ impl<W: Write + Drop> Sink for StdSink<W> {
     ghost use Rattle.py_outside.specs.Streams.{writer_of, write_faults};
 
     ghost taken = { λ s. W.contents (writer_of s) };
+
     ghost faults = { λ s. write_faults s };
 
     /// Writes once. Any error of the writer is a fault, and so is that it takes nothing of a piece
