@@ -1,6 +1,6 @@
 //! Reading a source to its end.
 
-ghost use Rattle.std.specs.Prelude.{◌≡◌, ◌+◌, ◌-◌, ◌<◌, ◌≤◌, length, vec_len, IfOk, OnErr, IfSome, IsErrOf, IsTrue};
+ghost use Rattle.std.specs.Prelude.{◌≡◌, ◌+◌, ◌-◌, ◌^◌, ◌<◌, ◌≤◌, length, vec_len, IfOk, OnErr, IfSome, IsErrOf, IsTrue};
 ghost use Rattle.py_outside.specs.Faults.{Rose};
 ghost use Rattle.py_outside.specs.Transfer.{Takes, HasRead, LosesUpTo, IsUntouched};
 ghost use Rattle.py_outside.specs.declared.reading.ReadError.TheVariants.{NoMemory};
@@ -8,7 +8,7 @@ ghost use Rattle.py_outside.specs.declared.reading.ReadError.TheVariants.{NoMemo
 use crate::source::Source;
 use std::alloc::{AllocError, Global};
 
-/// The most bytes that are read of a source.
+/// The most bytes that are read of a source, 2 ^ 20.
 pub const LIMIT: usize = 1_048_576;
 
 // How many bytes a read asks for.
@@ -60,14 +60,14 @@ fn read_piece<S: Source>(source: &mut S, bytes: &mut Vec<u8>) -> Result<usize, R
 /// is lost.
 pub fn read_bytes<S: Source>(alloc: Global, source: &mut S) -> Result<Vec<u8>, ReadError>
     ensures read { IfOk result (λ bytes. HasRead (S.left source.old) (S.left source.new) bytes.items) }
-    ensures short { IfOk result (λ bytes. vec_len bytes ≤ LIMIT) }
-    ensures err { OnErr result (LosesUpTo (S.left source.old) (S.left source.new) (LIMIT + 1)) }
-    ensures long { IsErrOf result ReadError.TooLong → IfSome (S.left source.old) (λ all. LIMIT < length all) }
+    ensures short { IfOk result (λ bytes. vec_len bytes ≤ 2 ^ 20) }
+    ensures err { OnErr result (LosesUpTo (S.left source.old) (S.left source.new) (2 ^ 20 + 1)) }
+    ensures long { IsErrOf result ReadError.TooLong → IfSome (S.left source.old) (λ all. 2 ^ 20 < length all) }
 
     // Faults are counted by the source alone.
     ensures fault { IsErrOf result ReadError.Fault → Rose (S.faults source.old) (S.faults source.new) }
     ensures later { S.faults source.old ≤ S.faults source.new }
-    ensures turns { S.reads source.new ≤ S.reads source.old + (LIMIT + 1) }
+    ensures turns { S.reads source.new ≤ S.reads source.old + (2 ^ 20 + 1) }
     ensures sound { IsTrue (S.is_sound source.old) → IsUntouched (S.faults source.old) (S.faults source.new) (S.is_sound source.new) result }
 {
     let mut bytes = Vec::new(alloc);
