@@ -10,6 +10,8 @@ mod parse;
 mod reader;
 mod rules;
 mod script;
+#[cfg(test)]
+mod tests;
 mod token;
 mod words;
 
