@@ -6,3 +6,7 @@ pub mod Joining
 pub mod Staying
 -- growth by payloads that declare nothing
 pub mod PlainGrowth
+-- locals that are filled one by one
+mod Filling
+-- what loads a constant
+mod Loading

@@ -1,8 +1,14 @@
 //! Frames: running code, one event at a time.
 #![tactic(auto)]
 
+mod constants;
+mod data;
+mod execute;
+mod frame;
 mod input;
 mod laws;
+mod locals;
 
+pub use frame::Frame;
 pub use input::{Expect, FrameStep, Input};
 pub use laws::runs_of_rows;
