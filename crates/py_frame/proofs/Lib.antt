@@ -10,3 +10,7 @@ pub mod PlainGrowth
 mod Filling
 -- what loads a constant
 mod Loading
+-- a unit leads behind itself
+mod Later
+-- steps of the code as steps of a run
+mod Stepping

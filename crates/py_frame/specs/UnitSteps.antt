@@ -1,5 +1,6 @@
 -- What a unit did, and how that stands to its row.
 use Rattle.std.specs.Prelude.{ℕ, Option, Some, None, List, ◌≡◌}
+use Rattle.py_code.specs.declared.code.PyCode.{PyCode}
 use Rattle.py_objects.specs.declared.payload.Payload.{Payload}
 use Rattle.py_objects.specs.declared.event.Ending.TheVariants as ending
 use Rattle.py_objects.specs.Objects.{Obj, HasPayload}
@@ -9,6 +10,7 @@ use Rattle.py_frame.specs.declared.input.FrameStep.TheVariants as step
 use Rattle.py_frame.specs.declared.execute.UnitStep.{UnitStep}
 use Rattle.py_frame.specs.declared.execute.UnitStep.TheVariants as unit
 use Rattle.py_frame.specs.Rows.{State, Step, Goes, Tells, Stuck, Move, Plainly, Loads}
+use Rattle.py_frame.specs.RunOfRows.{Reaches}
 
 -- the own event that a step of the unit `at` tells
 abbrev pub told_event : ℕ → FrameStep → Own
@@ -31,3 +33,8 @@ MayLead objects (Loads p f) done = (v : Obj) × HasPayload objects v p × (f v �
 abbrev pub led_by : Option Obj → (Obj → Step) → Step
 led_by None f = Stuck
 led_by (Some v) f = f v
+
+-- steps lead from one state to another, and tell these events
+pub record Leads (objects : List Payload) (code : PyCode) (s : State) (ts : List Own) (t : State) : Type 0 where
+  pub count : ℕ
+  pub run : Reaches objects code count s ts t

@@ -8,6 +8,8 @@ mod frame;
 mod input;
 mod laws;
 mod locals;
+mod pending;
+mod step;
 
 pub use frame::Frame;
 pub use input::{Expect, FrameStep, Input};
