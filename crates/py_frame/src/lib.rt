@@ -14,3 +14,6 @@ mod step;
 pub use frame::Frame;
 pub use input::{Expect, FrameStep, Input};
 pub use laws::runs_of_rows;
+
+#[cfg(test)]
+mod tests;
