@@ -1,0 +1,16 @@
+-- a run goes over to more objects
+pub mod Growing
+-- runs one behind the other are one run
+pub mod Joining
+-- the numbers of a run name objects
+pub mod Staying
+-- growth by payloads that declare nothing
+pub mod PlainGrowth
+-- locals that are filled one by one
+mod Filling
+-- what loads a constant
+mod Loading
+-- a unit leads behind itself
+mod Later
+-- steps of the code as steps of a run
+mod Stepping
