@@ -4,3 +4,7 @@ pub mod Units
 pub mod Operators
 -- the constants of a code
 pub mod Literals
+-- a table of names as a list
+pub mod Names
+-- codes with the names that they use
+pub mod Codes

@@ -1,6 +1,6 @@
 //! Code: units with all that they refer to.
 
-ghost use Rattle.std.specs.Prelude.{◌≡◌, drop};
+ghost use Rattle.std.specs.Prelude.{◌≡◌, drop, unwrap_or, vec_len};
 ghost use Rattle.py_code.specs.Units.{decoded_from};
 
 use crate::flags::CodeFlags;
@@ -79,5 +79,105 @@ impl PyCode {
             }
         }
         None
+    }
+}
+
+impl PyCode {
+    /// How many parameters take a positional argument alone.
+    pub fn co_posonlyargcount(&self) -> u32
+        ensures { result ≡ self.now.code.posonlyarg_count }
+    {
+        self.code.posonlyarg_count
+    }
+
+    /// How many parameters take a positional argument.
+    pub fn co_argcount(&self) -> u32
+        ensures { result ≡ self.now.code.arg_count }
+    {
+        self.code.arg_count
+    }
+
+    /// How many parameters take a keyword argument alone.
+    pub fn co_kwonlyargcount(&self) -> u32
+        ensures { result ≡ self.now.code.kwonlyarg_count }
+    {
+        self.code.kwonlyarg_count
+    }
+
+    /// How many values the stack holds at most.
+    pub fn co_stacksize(&self) -> u32
+        ensures { result ≡ self.now.code.max_stackdepth }
+    {
+        self.code.max_stackdepth
+    }
+
+    /// The line that the code begins at, 0 for code without a source.
+    pub fn co_firstlineno(&self) -> u32
+        ensures { result ≡ unwrap_or self.now.code.first_line_number 0 }
+    {
+        self.code.first_line_number.unwrap_or(0)
+    }
+
+    /// How many locals there are.
+    pub fn co_nlocals(&self) -> usize
+        ensures { result ≡ vec_len self.now.code.varnames }
+    {
+        self.code.varnames.len()
+    }
+
+    /// The number that stands for the marks.
+    pub fn co_flags(&self) -> u16
+        ensures { result ≡ self.now.code.flags }
+    {
+        self.code.flags.bits()
+    }
+
+    /// The file that the code comes from.
+    pub fn co_filename(&self) -> NameId
+        ensures { result ≡ self.now.code.source_path }
+    {
+        self.code.source_path
+    }
+
+    /// The name of the code.
+    pub fn co_name(&self) -> NameId
+        ensures { result ≡ self.now.code.obj_name }
+    {
+        self.code.obj_name
+    }
+
+    /// The names that instructions refer to.
+    pub fn co_names(&self) -> &[NameId]
+        ensures { result.now ≡ self.now.code.names.items }
+    {
+        self.code.names.as_slice()
+    }
+
+    /// The names of the locals, the parameters first.
+    pub fn co_varnames(&self) -> &[NameId]
+        ensures { result.now ≡ self.now.code.varnames.items }
+    {
+        self.code.varnames.as_slice()
+    }
+
+    /// The names of the locals that inner code refers to.
+    pub fn co_cellvars(&self) -> &[NameId]
+        ensures { result.now ≡ self.now.code.cellvars.items }
+    {
+        self.code.cellvars.as_slice()
+    }
+
+    /// The names that the code refers to in the code around it.
+    pub fn co_freevars(&self) -> &[NameId]
+        ensures { result.now ≡ self.now.code.freevars.items }
+    {
+        self.code.freevars.as_slice()
+    }
+
+    /// The constants that instructions refer to.
+    pub fn co_consts(&self) -> &LiteralList
+        ensures { result.now ≡ self.now.code.constants }
+    {
+        &self.code.constants
     }
 }

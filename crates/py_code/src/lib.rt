@@ -2,6 +2,7 @@
 #![tactic(auto)]
 
 mod code;
+mod code_list;
 mod flags;
 mod instruction;
 mod list;
@@ -12,13 +13,17 @@ mod text;
 mod unit;
 
 pub use code::{CodeObject, Decoded, PyCode};
+pub use code_list::CodeList;
 pub use flags::CodeFlags;
 pub use instruction::Instruction;
 pub use list::{ItemList, NoMemory};
 pub use literal::{BuiltinFn, Literal, LiteralList};
-pub use names::NameId;
+pub use names::{NameId, Names};
 pub use operator::{
     BinaryOperator, ComparisonOperator, ConversionFlag, RaiseKind, TestOperator, UnaryOperator,
 };
 pub use text::{PyText, same_text, text_of};
 pub use unit::{CodeUnit, Label, OpArg, OpArgState};
+
+#[cfg(test)]
+mod tests;

@@ -1,0 +1,187 @@
+-- Texts in a table, and what interning makes of it.
+use Rattle.std.proofs.Common.{◌≡◌, ◌≢◌, ◌<◌, ◌≤◌, ◌+◌, ℕ, zero, suc, List, [], ◌∷◌, ◌++◌, Bool, true, false, cond, not, ◌||◌, Some, None, refl, sym, ap, ◌∙◌, map, length, get_or, slice_get, arith, ◌⊎◌, inl, inr}
+use Rattle.std.specs.Prelude.{Option, String, bytes_eq, nat_lt, position, string_bytes, string_eq}
+use Rattle.std.specs.List.{list_any, position_or_len}
+use Rattle.std.proofs.Math.Nat.{eq-or-lt_of_le}
+use Rattle.std.proofs.lemmas.Bool.{cases_lt}
+use Rattle.std.proofs.lemmas.Bool.Decides.{nat_tests}
+use Rattle.std.proofs.lemmas.Grind.{common_steps}
+use Rattle.std.proofs.lemmas.List.{length-map, map-append}
+use Rattle.std.proofs.lemmas.List.Folds.{position_or_len_push}
+use Rattle.std.proofs.lemmas.List.Sums.{passes_at_first}
+use Rattle.std.proofs.lemmas.Map.Keys.{any_passes_from_place}
+use Rattle.std.proofs.lemmas.Option.{slice_get-get_or, slice_get_past, slice_get_within}
+use Rattle.std.proofs.lemmas.Slice.Eq.{bytes_eq-Decides}
+use Rattle.indexmap.specs.IndexSet.{insert_key}
+use Rattle.py_code.specs.Names.{interned, place_of, TextsDiffer}
+
+-- ---- a test on a list, and on the texts of a list of strings
+
+position_or_len-map : {X Y : Type 0} (f : X → Y) (p : Y → Bool) (xs : List X) → position_or_len p (map f xs) ≡ position_or_len (λ x. p (f x)) xs
+position_or_len-map f p [] = refl
+position_or_len-map f p (x ∷ xs) = rw (position_or_len-map f p xs)
+
+position-map : {X Y : Type 0} (f : X → Y) (p : Y → Bool) (xs : List X) → position p (map f xs) ≡ position (λ x. p (f x)) xs
+position-map f p xs = rw (position_or_len-map f p xs, length-map xs f)
+
+list_any-map : {X Y : Type 0} (f : X → Y) (p : Y → Bool) (xs : List X) → list_any p (map f xs) ≡ list_any (λ x. p (f x)) xs
+list_any-map f p [] = refl
+list_any-map f p (x ∷ xs) = rw (list_any-map f p xs)
+
+-- where an element passes, the first one that does is in the list
+below_length : {X : Type 0} (p : X → Bool) (xs : List X) → list_any p xs ≡ true → position_or_len p xs < length xs
+below_length p [] some = grind arith
+below_length p (x ∷ xs) some = by (p x) (below_length p xs) some
+  where
+    by : (b : Bool) → (list_any p xs ≡ true → position_or_len p xs < length xs) → (b || list_any p xs) ≡ true
+        → cond (not b) (1 + position_or_len p xs) 0 < suc (length xs)
+    by true later _ = omega arith
+    by false later rest = omega (arith, later rest)
+
+-- where none passes, it is the end of the list
+is_length : {X : Type 0} (p : X → Bool) (xs : List X) → list_any p xs ≡ false → position_or_len p xs ≡ length xs
+is_length p [] none = refl
+is_length p (x ∷ xs) none = by (p x) (is_length p xs) none
+  where
+    by : (b : Bool) → (list_any p xs ≡ false → position_or_len p xs ≡ length xs) → (b || list_any p xs) ≡ false
+        → cond (not b) (1 + position_or_len p xs) 0 ≡ suc (length xs)
+    by true later never = cc
+    by false later rest = omega (arith, later rest)
+
+-- ---- one more element
+
+slice_get-append_before : {X : Type 0} (xs : List X) (y : X) (i : ℕ) → i < length xs → slice_get (xs ++ y ∷ []) i ≡ slice_get xs i
+slice_get-append_before [] y i below = absurd (omega arith)
+slice_get-append_before (x ∷ xs) y zero below = refl
+slice_get-append_before (x ∷ xs) y (suc i) below = slice_get-append_before xs y i (omega arith)
+
+slice_get-append_last : {X : Type 0} (xs : List X) (y : X) → slice_get (xs ++ y ∷ []) (length xs) ≡ Some y
+slice_get-append_last [] y = refl
+slice_get-append_last (x ∷ xs) y = slice_get-append_last xs y
+
+-- ---- where a text stands
+
+bytes_eq-refl : (text : List ℕ) → bytes_eq text text ≡ true
+bytes_eq-refl text = (bytes_eq-Decides text text).1 refl
+
+place_of_within : (texts : List (List ℕ)) (text : List ℕ) (at : ℕ) → place_of texts text ≡ Some at
+    → (at ≡ position_or_len (bytes_eq text) texts) × (at < length texts)
+place_of_within texts text at found = grind (arith, nat_tests)
+
+-- the text stands at its place
+pub found_text : (texts : List (List ℕ)) (text : List ℕ) (at : ℕ) → place_of texts text ≡ Some at → slice_get texts at ≡ Some text
+found_text texts text at found =
+    let (is, below) = place_of_within texts text at found in
+    let passes = passes_at_first (bytes_eq text) texts [] (omega arith) in
+    let same = (bytes_eq-Decides text (get_or texts (position_or_len (bytes_eq text) texts) [])).0 passes in
+    let stored = slice_get-get_or texts at [] below in
+    cc
+
+-- a text without a place stands nowhere
+pub absent_text : (texts : List (List ℕ)) (text : List ℕ) → place_of texts text ≡ None → (at : ℕ) → slice_get texts at ≢ Some text
+absent_text texts text none at there =
+    let some = any_passes_from_place (bytes_eq text) texts at text there (bytes_eq-refl text) in
+    let below = below_length (bytes_eq text) texts some in
+    absurd (grind (arith, nat_tests))
+
+-- ---- interning
+
+-- a text that no entry has stands behind the others alone
+only_last : (texts : List (List ℕ)) (text : List ℕ) → list_any (bytes_eq text) texts ≡ false
+    → (at : ℕ) → slice_get (texts ++ text ∷ []) at ≡ Some text → at ≡ length texts
+only_last texts text none at there = by (cases_lt at (length texts))
+  where
+    by : (at < length texts) ⊎ (length texts ≤ at) → at ≡ length texts
+    by (inl below) =
+        let stood = any_passes_from_place (bytes_eq text) texts at text (sym (slice_get-append_before texts text at below) ∙ there) (bytes_eq-refl text) in
+        absurd (cc)
+    by (inr past) =
+        let within = slice_get_within (texts ++ text ∷ []) at text there in
+        let more : length (texts ++ text ∷ []) ≡ length texts + 1 = grind (arith, common_steps) in
+        omega arith
+
+TextsDiffer-append : (texts : List (List ℕ)) (text : List ℕ) → list_any (bytes_eq text) texts ≡ false → TextsDiffer texts → TextsDiffer (texts ++ text ∷ [])
+TextsDiffer-append texts text none differ left right within same = by (cases_lt left (length texts)) (cases_lt right (length texts))
+  where
+    last : slice_get (texts ++ text ∷ []) (length texts) ≡ Some text
+    last = slice_get-append_last texts text
+
+    more : length (texts ++ text ∷ []) ≡ length texts + 1
+    more = grind (arith, common_steps)
+
+    at_end : length texts ≤ left → left ≡ length texts
+    at_end past = omega (arith, more)
+
+    by : (left < length texts) ⊎ (length texts ≤ left) → (right < length texts) ⊎ (length texts ≤ right) → left ≡ right
+    by (inl l) (inl r) = differ left right l (sym (slice_get-append_before texts text left l) ∙ same ∙ slice_get-append_before texts text right r)
+    by (inl l) (inr r) =
+        let stored = slice_get-get_or (texts ++ text ∷ []) left [] within in
+        let right_within = slice_get_within (texts ++ text ∷ []) right _ (sym same ∙ stored) in
+        let end : right ≡ length texts = omega (arith, more) in
+        let there = same ∙ ap (slice_get (texts ++ text ∷ [])) end ∙ last in
+        only_last texts text none left there ∙ sym end
+    by (inr l) _ =
+        let end = at_end l in
+        let there = sym same ∙ ap (slice_get (texts ++ text ∷ [])) end ∙ last in
+        end ∙ sym (only_last texts text none right there)
+
+-- a text that has a place is known
+pub interned-known : (texts : List (List ℕ)) (text : List ℕ) (at : ℕ) → place_of texts text ≡ Some at → interned texts text ≡ texts
+interned-known texts text at found =
+    let (is, below) = place_of_within texts text at found in
+    by (list_any (bytes_eq text) texts) refl (omega arith)
+  where
+    by : (b : Bool) → list_any (bytes_eq text) texts ≡ b → position_or_len (bytes_eq text) texts < length texts
+        → cond b texts (texts ++ text ∷ []) ≡ texts
+    by true some below = refl
+    by false none below = absurd (omega (arith, is_length (bytes_eq text) texts none))
+
+-- what is interned stands at the place where it stood, or at the end
+pub place_of-interned : (texts : List (List ℕ)) (text : List ℕ) → place_of (interned texts text) text ≡ Some (position_or_len (bytes_eq text) texts)
+place_of-interned texts text = by (list_any (bytes_eq text) texts) refl
+  where
+    by : (b : Bool) → list_any (bytes_eq text) texts ≡ b
+        → place_of (cond b texts (texts ++ text ∷ [])) text ≡ Some (position_or_len (bytes_eq text) texts)
+    by true some = let below = below_length (bytes_eq text) texts some in grind (arith, nat_tests)
+    by false none =
+        let end = is_length (bytes_eq text) texts none in
+        let last : position_or_len (bytes_eq text) (texts ++ text ∷ []) ≡ length texts =
+        rw (position_or_len_push, bytes_eq-refl text, end) (grind (arith, nat_tests)) in
+        let more : length (texts ++ text ∷ []) ≡ length texts + 1 = grind (arith, common_steps) in
+        grind (arith, nat_tests)
+
+-- interning keeps the texts distinct
+pub TextsDiffer-interned : (texts : List (List ℕ)) (text : List ℕ) → TextsDiffer texts → TextsDiffer (interned texts text)
+TextsDiffer-interned texts text differ = by (list_any (bytes_eq text) texts) refl
+  where
+    by : (b : Bool) → list_any (bytes_eq text) texts ≡ b → TextsDiffer (cond b texts (texts ++ text ∷ []))
+    by true _ = differ
+    by false none = TextsDiffer-append texts text none differ
+
+-- ---- a table that is a set of strings
+
+module _ {Y : Type 0} (keys : List (String Y)) (texts : List (List ℕ)) (view : map string_bytes keys ≡ texts) where
+  -- what a look-up finds
+  pub place_of-view : (text : List ℕ) (found : Option ℕ) → found ≡ position (λ key. bytes_eq text (string_bytes key)) keys → found ≡ place_of texts text
+  place_of-view text found at = at ∙ sym (position-map string_bytes (bytes_eq text) keys) ∙ ap (λ ts. place_of ts text) view
+
+  module _ (new : List (String Y)) (key : String Y) (text : List ℕ) (is : string_bytes key ≡ text) (made : new ≡ insert_key string_eq keys key) where
+    -- what an insertion leaves
+    pub interned-view : map string_bytes new ≡ interned texts text
+    interned-view =
+        ap (map string_bytes) made ∙ by (list_any (string_eq key) keys) (list_any-map string_bytes (bytes_eq (string_bytes key)) keys)
+        ∙ ap (λ ts. interned ts (string_bytes key)) view ∙ ap (interned texts) is
+      where
+        by : (b : Bool) → list_any (bytes_eq (string_bytes key)) (map string_bytes keys) ≡ b
+            → map string_bytes (cond b keys (keys ++ key ∷ [])) ≡ interned (map string_bytes keys) (string_bytes key)
+        by true some = sym (ap (λ b. cond b (map string_bytes keys) (map string_bytes keys ++ string_bytes key ∷ [])) some)
+        by false none =
+            map-append string_bytes keys (key ∷ [])
+            ∙ sym (ap (λ b. cond b (map string_bytes keys) (map string_bytes keys ++ string_bytes key ∷ [])) none)
+
+    -- and where the key then stands
+    pub place_of-inserted : (at : ℕ) → at ≡ position_or_len (string_eq key) keys → place_of (map string_bytes new) text ≡ Some at
+    place_of-inserted at place =
+        ap (λ ts. place_of ts text) interned-view ∙ place_of-interned texts text
+        ∙ ap Some (ap (position_or_len (bytes_eq text)) (sym view) ∙ position_or_len-map string_bytes (bytes_eq text) keys
+        ∙ ap (λ t. position_or_len (λ k. bytes_eq t (string_bytes k)) keys) (sym is) ∙ sym place)
