@@ -7,3 +7,5 @@ pub mod Outcome
 pub mod Trace
 -- code that does what a body does
 pub mod Fits
+-- where the code of each form stands
+pub mod Code
