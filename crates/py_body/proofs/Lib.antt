@@ -2,3 +2,9 @@
 pub mod Locals
 -- runs over a unit and its prefixes
 pub mod Decoding
+-- laid code runs as its tree
+pub mod Running
+-- the names that a body binds
+pub mod Bound
+-- code laid for a body fits it
+pub mod Fitting

@@ -1,18 +1,21 @@
 -- Where the code of each form stands.
-use Rattle.std.specs.Prelude.{ℕ, suc, ◌+◌, ◌*◌, Option, Some, List, [], ◌∷◌, ◌++◌, ◌≡◌, slice_get, length, drop, bytes_eq, if◌then◌else◌}
+use Rattle.std.specs.Prelude.{ℕ, suc, ◌+◌, ◌*◌, ◌<◌, ◌^◌, Option, Some, List, [], ◌∷◌, ◌++◌, ◌≡◌, slice_get, length, drop, bytes_eq, if◌then◌else◌}
 use Rattle.py_code.specs.declared.unit.CodeUnit.{CodeUnit}
 use Rattle.py_code.specs.declared.instruction.Instruction.{Instruction}
 use Rattle.py_code.specs.declared.instruction.Instruction.TheVariants.{LoadConst, LoadFast, StoreFast, BinaryOperation, ReturnValue, ReturnConst}
 use Rattle.py_code.specs.declared.literal.Literal.{Literal, None as NoneLiteral, Int as IntLiteral}
 use Rattle.py_code.specs.declared.operator.BinaryOperator.{BinaryOperator}
 use Rattle.py_code.specs.declared.operator.BinaryOperator.TheVariants as binary
+use Rattle.py_code.specs.declared.code.PyCode.{PyCode}
+use Rattle.py_code.specs.Literals.{literals_of}
 use Rattle.py_code.specs.Operators.{binary_number}
 use Rattle.py_code.specs.Units.{decoded_from}
 use Rattle.py_body.specs.declared.atom.Atom.{Atom}
 use Rattle.py_body.specs.declared.atom.Atom.TheVariants as atom
 use Rattle.py_body.specs.declared.atom.Operator.{Operator}
 use Rattle.py_body.specs.declared.atom.Operator.TheVariants as operator
-use Rattle.py_body.specs.Tree.{Name, Form, operate, give, Suite, nothing, first}
+use Rattle.py_body.specs.Tree.{Name, Form, operate, give, Suite, nothing, first, Tree}
+use Rattle.py_body.specs.Binding.{locals_of}
 
 -- the place of a name, or the length of the list where it isn't there
 abbrev pub place : List Name → Name → ℕ
@@ -58,3 +61,10 @@ size_of_form (give a) = 8
 abbrev pub size_of : Suite → ℕ
 size_of nothing = 0
 size_of (first n f more) = size_of_form f + size_of more
+
+-- the code is that of a body
+pub record IsLaid (code : PyCode) (t : Tree) : Type 0 where
+  pub arity : code.code.arg_count ≡ length t.params
+  pub locals : length code.code.varnames.items ≡ length (locals_of t)
+  pub laid : LaidSuite code.code.instructions.items (literals_of code.code.constants) (locals_of t) t.suite 0
+  pub short : length code.code.instructions.items < 2 ^ 32
