@@ -4,7 +4,9 @@ use Rattle.std.specs.Prelude.{bytes_eq}
 use Rattle.std.specs.List.{list_any}
 use Rattle.std.proofs.lemmas.Slice.Eq.{bytes_eq-Decides}
 use Rattle.py_body.specs.Tree.{Name, Form, operate, give, Suite, nothing, first}
-use Rattle.py_body.specs.Binding.{bound, bound_by}
+use Rattle.py_body.specs.Binding.{bound, bound_by, statements, SuiteKnown}
+use Rattle.py_body.specs.declared.atom.Operator.TheVariants as operator
+use Rattle.py_body.specs.Emitting.{size_of}
 use Rattle.py_body.specs.Code.{place}
 use Rattle.py_body.proofs.Running.{AllBound}
 
@@ -67,3 +69,24 @@ AllBound-bound_by nothing names = tt
 AllBound-bound_by (first n (give a) more) names = AllBound-bound_by more names
 AllBound-bound_by (first n (operate x op atoms) more) names =
     (place-goes_on (bound names x) (bound_by (bound names x) more) x (GoesOn-bound_by more (bound names x)) (place-bound names x), AllBound-bound_by more (bound names x))
+
+length-bound : (names : List Name) (x : Name) → length (bound names x) ≤ length names + 1
+length-bound names x = by (list_any (bytes_eq x) names)
+  where
+    by : (b : Bool) → length (cond b names (names ++ x ∷ [])) ≤ length names + 1
+    by true = omega arith
+    by false = omega (arith, length-append names (x ∷ []))
+
+pub length-bound_by : (s : Suite) (names : List Name) → length (bound_by names s) ≤ length names + statements s
+length-bound_by nothing names = omega arith
+length-bound_by (first n (give a) more) names = let rest = length-bound_by more names in omega (arith, rest)
+length-bound_by (first n (operate x op atoms) more) names =
+    let rest = length-bound_by more (bound names x) in
+    let one = length-bound names x in
+    omega (arith, rest, one)
+
+-- a statement of a closed body takes at most 16 units
+pub size_of-known : (s : Suite) (names : List Name) → SuiteKnown names s → size_of s ≤ 16 * statements s
+size_of-known nothing names known = omega arith
+size_of-known (first n (give a) more) names (one, rest) = let later = size_of-known more names rest in omega (arith, later)
+size_of-known (first n (operate x operator.Add atoms) more) names ((arity, all), rest) = let later = size_of-known more (names ++ x ∷ []) rest in omega (arith, later, arity)

@@ -76,24 +76,24 @@ module _ (objects : List Payload) (code : PyCode) (final : State) where
       by : (b : Bool) → is_prefix u.op ≡ b
           → cond b (decoded_from (with_byte prefix u.arg) (at + 1) us) (Some (record { op = u.op; arg = record { 0 = with_byte prefix u.arg }; next = at + 1 })) ≡ Some (record { op = op; arg = record { 0 = arg }; next = next })
           → ((m : ℕ) → decoded_from (with_byte prefix u.arg) (suc at) us ≡ Some (record { op = op; arg = record { 0 = arg }; next = next })
-            → Reaches objects code m (running (suc at) (with_byte prefix u.arg) stack locals) ts final
-            → (ts ≡ [] → EndsFree → Q)
-            → ((k p m : ℕ) → suc k ≡ next → ByMove objects (act code op arg (running k p stack locals)) ts (λ s mid. Reaches objects code m s mid final) → Q) → Q)
+          → Reaches objects code m (running (suc at) (with_byte prefix u.arg) stack locals) ts final
+          → (ts ≡ [] → EndsFree → Q)
+          → ((k p m : ℕ) → suc k ≡ next → ByMove objects (act code op arg (running k p stack locals)) ts (λ s mid. Reaches objects code m s mid final) → Q) → Q)
           → Q
       by true prefixed d later =
           let is_move : advance code (running at prefix stack locals) ≡ Plainly (Goes (running (suc at) (with_byte prefix u.arg) stack locals)) =
-            advance_at at prefix stack locals u first.0 ∙ ap (λ (o : Instruction). act code o (with_byte prefix u.arg) (running at prefix stack locals)) (prefix_is u.op prefixed) in
+          advance_at at prefix stack locals u first.0 ∙ ap (λ (o : Instruction). act code o (with_byte prefix u.arg) (running at prefix stack locals)) (prefix_is u.op prefixed) in
           let place : at + 1 ≡ suc at = add-one at in
           either_left n _ ts (left_of n at prefix stack locals ts _ is_move tt run) cut
-            (λ m more. later m (rw place at d) more cut go)
+          (λ m more. later m (rw place at d) more cut go)
       by false plain d later =
           let same = Some-injective _ _ d in
           let is_op : u.op ≡ op = ap (λ (r : Decoded). r.op) same in
           let is_arg : with_byte prefix u.arg ≡ arg = ap (λ (r : Decoded). r.arg.0) same in
           let is_next : at + 1 ≡ next = ap (λ (r : Decoded). r.next) same in
           let is_move : advance code (running at prefix stack locals) ≡ act code op arg (running at prefix stack locals) =
-            advance_at at prefix stack locals u first.0
-            ∙ ap (λ (o : Instruction). act code o (with_byte prefix u.arg) (running at prefix stack locals)) is_op
-            ∙ ap (λ (i : ℕ). act code op i (running at prefix stack locals)) is_arg in
+          advance_at at prefix stack locals u first.0
+          ∙ ap (λ (o : Instruction). act code o (with_byte prefix u.arg) (running at prefix stack locals)) is_op
+          ∙ ap (λ (i : ℕ). act code op i (running at prefix stack locals)) is_arg in
           either_left n _ ts (left_of n at prefix stack locals ts _ is_move (free at prefix) run) cut
-            (λ m more. go at prefix m (sym (add-one at) ∙ is_next) more)
+          (λ m more. go at prefix m (sym (add-one at) ∙ is_next) more)

@@ -1,5 +1,5 @@
 -- the locals of a frame as those of a body
-pub mod Locals
+pub mod Env
 -- runs over a unit and its prefixes
 pub mod Decoding
 -- laid code runs as its tree
@@ -8,3 +8,9 @@ pub mod Running
 pub mod Bound
 -- code laid for a body fits it
 pub mod Fitting
+-- what is emitted piece by piece
+pub mod EmittingLemmas
+-- what is emitted for a form
+pub mod CompilingLemmas
+-- names in a table that grows
+pub mod NamingLemmas

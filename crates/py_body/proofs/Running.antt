@@ -26,9 +26,9 @@ use Rattle.py_body.specs.Tree.{Name, Form, operate, give, Suite, nothing, first}
 use Rattle.py_body.specs.Binding.{Env, find_local, set_local, IsKnown, SuiteKnown}
 use Rattle.py_body.specs.Outcome.{After, Use, Named, Loads, Normal, On_normal, RunsSuite}
 use Rattle.py_body.specs.Trace.{EndsBy}
-use Rattle.py_body.specs.Code.{place, Stands, LaidAtom, LaidSuite}
+use Rattle.py_body.specs.Code.{Parts, place, Stands, LaidAtom, LaidSuite, parts_with}
 use Rattle.py_body.proofs.Decoding.{running, EndsFree, decoded_run}
-use Rattle.py_body.proofs.Locals.{env_of, IsSet, AreSet, AreSet-more, slice_get-place, set_local-env_of, length-slice_set}
+use Rattle.py_body.proofs.Env.{env_of, IsSet, AreSet, AreSet-more, slice_get-place, set_local-env_of, length-slice_set}
 
 -- the names that a suite binds are among these
 abbrev pub AllBound : List Name → Suite → Type 0
@@ -40,8 +40,8 @@ module _ (objects : List Payload) (code : PyCode) (vars : List Name) (final : St
   abbrev units : List CodeUnit
   units = code.code.instructions.items
 
-  abbrev constants : List Literal
-  constants = literals_of code.code.constants
+  abbrev parts : Parts
+  parts = parts_with vars code
 
   abbrev IsFinal : Type 0
   IsFinal = EndsFree objects code final
@@ -69,25 +69,25 @@ module _ (objects : List Payload) (code : PyCode) (vars : List Name) (final : St
   ended_run zero s ts (none, here) = (none, subst (λ (t : State). IsFreeAt code t.wants t) (sym here) tt)
   ended_run (suc n) s ts run = absurd run
 
-  atom_run : {Q : Type 0} (a : Atom) (at to : ℕ) (stack : List Obj) (locals : List (Option Obj)) (env : Env) (n : ℕ) (ts : List Own)
-      → LaidAtom units constants vars a at to → env ≡ env_of vars locals → CanLoad env a
+  atom_run : {Q : Type 0} (line : ℕ) (a : Atom) (at to : ℕ) (stack : List Obj) (locals : List (Option Obj)) (env : Env) (n : ℕ) (ts : List Own)
+      → LaidAtom parts line a at to → env ≡ env_of vars locals → CanLoad env a
       → Reaches objects code n (running at 0 stack locals) ts final
       → (ts ≡ [] → IsFinal → Q)
       → ((v : Obj) (m : ℕ) → IsValue env a v → Reaches objects code m (running to 0 (v ∷ stack) locals) ts final → Q)
       → Q
-  atom_run (atom.Int i) at to stack locals env n ts (c, stands, is_constant) same can run cut go =
-      decoded_run objects code final (drop at units) at 0 LoadConst c to stack locals n ts refl stands
-        (λ k p. subst (λ (o : Option Literal). IsFreeMove (load_move o (λ v. Goes (pushed v (behind (running k p stack locals)))))) (sym is_constant) (λ v. tt)) run cut
-        (λ k p m is_next more.
-          let step = subst (λ (o : Option Literal). ByMove objects (load_move o (λ v. Goes (pushed v (behind (running k p stack locals))))) ts (λ s mid. Reaches objects code m s mid final)) is_constant more in
-          go step.0 m step.1 (subst (λ (b : ℕ). Reaches objects code m (running b 0 (step.0 ∷ stack) locals) ts final) is_next step.2))
-  atom_run (atom.Name x) at to stack locals env n ts stands same (v, found) run cut go =
+  atom_run line (atom.Int i) at to stack locals env n ts (c, stands, is_constant) same can run cut go =
+      decoded_run objects code final (drop at units) at 0 LoadConst c to stack locals n ts refl stands.0
+      (λ k p. subst (λ (o : Option Literal). IsFreeMove (load_move o (λ v. Goes (pushed v (behind (running k p stack locals)))))) (sym is_constant) (λ v. tt)) run cut
+      (λ k p m is_next more.
+      let step = subst (λ (o : Option Literal). ByMove objects (load_move o (λ v. Goes (pushed v (behind (running k p stack locals))))) ts (λ s mid. Reaches objects code m s mid final)) is_constant more in
+      go step.0 m step.1 (subst (λ (b : ℕ). Reaches objects code m (running b 0 (step.0 ∷ stack) locals) ts final) is_next step.2))
+  atom_run line (atom.Name x) at to stack locals env n ts stands same (v, found) run cut go =
       let here : slice_get locals (place vars x) ≡ Some (Some v) = slice_get-place vars locals x v (subst (λ (e : Env). find_local x e ≡ Some (Some v)) same found) in
-      decoded_run objects code final (drop at units) at 0 LoadFast (place vars x) to stack locals n ts refl stands
-        (λ k p. subst (λ (o : Option (Option Obj)). IsFree (load_fast (set_in o) (running k p stack locals))) (sym here) tt) run cut
-        (λ k p m is_next more.
-          let step = subst (λ (o : Option (Option Obj)). ByStep (load_fast (set_in o) (running k p stack locals)) ts (λ s mid. Reaches objects code m s mid final)) here more in
-          go v m found (subst (λ (b : ℕ). Reaches objects code m (running b 0 (v ∷ stack) locals) ts final) is_next step))
+      decoded_run objects code final (drop at units) at 0 LoadFast (place vars x) to stack locals n ts refl stands.0
+      (λ k p. subst (λ (o : Option (Option Obj)). IsFree (load_fast (set_in o) (running k p stack locals))) (sym here) tt) run cut
+      (λ k p m is_next more.
+      let step = subst (λ (o : Option (Option Obj)). ByStep (load_fast (set_in o) (running k p stack locals)) ts (λ s mid. Reaches objects code m s mid final)) here more in
+      go v m found (subst (λ (b : ℕ). Reaches objects code m (running b 0 (v ∷ stack) locals) ts final) is_next step))
 
   -- a suite, begun with these locals, may tell the events, and the run that tells them comes to a state with a meaning
   abbrev Tells_suite : Suite → Env → List Own → Type 0
@@ -97,19 +97,19 @@ module _ (objects : List Payload) (code : PyCode) (vars : List Name) (final : St
   cut_suite nothing env ts none free = (free, inl (none, refl))
   cut_suite (first n f more) env ts none free = (free, inl (none, refl))
 
-  store_run : (x : Name) (more : Suite) (at to : ℕ) (v : Obj) (locals : List (Option Obj)) (env : Env) (n : ℕ) (ts : List Own)
-      → Stands units at StoreFast (place vars x) to → length locals ≡ length vars → place vars x < length vars
+  store_run : (line : ℕ) (x : Name) (more : Suite) (at to : ℕ) (v : Obj) (locals : List (Option Obj)) (env : Env) (n : ℕ) (ts : List Own)
+      → Stands parts line at StoreFast (place vars x) to → length locals ≡ length vars → place vars x < length vars
       → Reaches objects code n (running at 0 (v ∷ []) locals) ts final
       → ((m : ℕ) → Reaches objects code m (running to 0 [] (slice_set locals (place vars x) (Some v))) ts final → Tells_suite more (set_local x (Some v) env) ts)
       → Tells_suite more (set_local x (Some v) env) ts
-  store_run x more at to v locals env n ts stands long below run later =
+  store_run line x more at to v locals env n ts stands long below run later =
       let within : nat_lt (place vars x) (length locals) ≡ true = lt-ltb (place vars x) (length locals) (omega arith) in
-      decoded_run objects code final (drop at units) at 0 StoreFast (place vars x) to (v ∷ []) locals n ts refl stands
-        (λ k p. subst (λ (b : Bool). IsFree (cond b (Goes (with_locals (slice_set locals (place vars x) (Some v)) (with_stack [] (behind (running k p (v ∷ []) locals))))) Stuck)) (sym within) tt) run
-        (λ none free. cut_suite more _ ts none free)
-        (λ k p m is_next more1.
-          let step = subst (λ (b : Bool). ByStep (cond b (Goes (with_locals (slice_set locals (place vars x) (Some v)) (with_stack [] (behind (running k p (v ∷ []) locals))))) Stuck) ts (λ s mid. Reaches objects code m s mid final)) within more1 in
-          later m (subst (λ (b : ℕ). Reaches objects code m (running b 0 [] (slice_set locals (place vars x) (Some v))) ts final) is_next step))
+      decoded_run objects code final (drop at units) at 0 StoreFast (place vars x) to (v ∷ []) locals n ts refl stands.0
+      (λ k p. subst (λ (b : Bool). IsFree (cond b (Goes (with_locals (slice_set locals (place vars x) (Some v)) (with_stack [] (behind (running k p (v ∷ []) locals))))) Stuck)) (sym within) tt) run
+      (λ none free. cut_suite more _ ts none free)
+      (λ k p m is_next more1.
+      let step = subst (λ (b : Bool). ByStep (cond b (Goes (with_locals (slice_set locals (place vars x) (Some v)) (with_stack [] (behind (running k p (v ∷ []) locals))))) Stuck) ts (λ s mid. Reaches objects code m s mid final)) within more1 in
+      later m (subst (λ (b : ℕ). Reaches objects code m (running b 0 [] (slice_set locals (place vars x) (Some v))) ts final) is_next step))
 
   -- what follows a statement of a body
   abbrev Follows : Suite → After
@@ -131,49 +131,49 @@ module _ (objects : List Payload) (code : PyCode) (vars : List Name) (final : St
       (end.1, inr (got.Raise e, mid, is, inr (suc k - 1, ends ∙ ap (λ (us : List Own). Ends (suc k - 1) (ending.Raise e) ∷ us) end.0)))
   answered_run x more k locals env (suc n) ts (got.Stop v, mid, is, never) later = absurd never
 
-  ask_run : (at to : ℕ) (a b : Obj) (locals : List (Option Obj)) (n : ℕ) (ts : List Own) (Q : Type 0)
-      → Stands units at BinaryOperation 6 to
+  ask_run : (line at to : ℕ) (a b : Obj) (locals : List (Option Obj)) (n : ℕ) (ts : List Own) (Q : Type 0)
+      → Stands parts line at BinaryOperation 6 to
       → Reaches objects code n (running at 0 (b ∷ a ∷ []) locals) ts final
       → (ts ≡ [] → IsFinal → Q)
       → ((k m : ℕ) (mid : List Own) → suc k ≡ to → ts ≡ Asks k (Binary arithmetic.Add a b) None ∷ mid → Reaches objects code m (asking (suc k) locals) mid final → Q)
       → Q
-  ask_run at to a b locals n ts Q stands run cut go =
-      decoded_run objects code final (drop at units) at 0 BinaryOperation 6 to (b ∷ a ∷ []) locals n ts refl stands (λ k p. tt) run cut
-        (λ k p m is_next (mid, is, later). go k m mid is_next is later)
+  ask_run line at to a b locals n ts Q stands run cut go =
+      decoded_run objects code final (drop at units) at 0 BinaryOperation 6 to (b ∷ a ∷ []) locals n ts refl stands.0 (λ k p. tt) run cut
+      (λ k p m is_next (mid, is, later). go k m mid is_next is later)
 
-  pub suite_run : (s : Suite) (names : List Name) (at : ℕ) (locals : List (Option Obj)) (env : Env) (n : ℕ) (ts : List Own)
-      → LaidSuite units constants vars s at → env ≡ env_of vars locals → length locals ≡ length vars
+  pub suite_run : (s : Suite) (line : ℕ) (names : List Name) (at : ℕ) (locals : List (Option Obj)) (env : Env) (n : ℕ) (ts : List Own)
+      → LaidSuite parts line s at → env ≡ env_of vars locals → length locals ≡ length vars
       → SuiteKnown names s → AllBound vars s → AreSet names env
       → Reaches objects code n (running at 0 [] locals) ts final → Tells_suite s env ts
-  suite_run nothing names at locals env n ts (c, to, stands, is_constant) same long known bound set run =
-      decoded_run objects code final (drop at units) at 0 ReturnConst c to [] locals n ts refl stands
-        (λ k p. subst (λ (o : Option Literal). IsFreeMove (load_move o (λ v. returns v (running k p [] locals)))) (sym is_constant) (λ v. tt)) run
-        (λ none free. cut_suite nothing env ts none free)
-        (λ k p m is_next more.
-          let (v, has, (rest, is, later)) = subst (λ (o : Option Literal). ByMove objects (load_move o (λ v. returns v (running k p [] locals))) ts (λ s mid. Reaches objects code m s mid final)) is_constant more in
-          let end = ended_run m (behind (running k p [] locals)) rest later in
-          (end.1, inr (inr (v, has, inr (k, is ∙ ap (λ (us : List Own). Ends k (ending.Return v) ∷ us) end.0)))))
-  suite_run (first i (give a) more) names at locals env n ts (to, (ends, laid, stands), rest) same long (known, later) bound set run =
-      atom_run a at ends [] locals env n ts laid same (can_load names env a set known) run
-        (λ none free. cut_suite (first i (give a) more) env ts none free)
-        (λ v m is_value run1. decoded_run objects code final (drop ends units) ends 0 ReturnValue 0 to (v ∷ []) locals m ts refl stands (λ k p. tt) run1
-          (λ none free. cut_suite (first i (give a) more) env ts none free)
-          (λ k p m1 is_next (mid, is, run2).
-            let end = ended_run m1 (behind (running k p [] locals)) mid run2 in
-            (end.1, inr (loaded env a v ts _ is_value (inr (k, is ∙ ap (λ (us : List Own). Ends k (ending.Return v) ∷ us) end.0))))))
-  suite_run (first i (operate x operator.Add []) more) names at locals env n ts laid same long ((arity, atoms), known) bound set run = absurd (omega (arith, arity))
-  suite_run (first i (operate x operator.Add (a ∷ [])) more) names at locals env n ts laid same long ((arity, atoms), known) bound set run = absurd (omega (arith, arity))
-  suite_run (first i (operate x operator.Add (a ∷ b ∷ c ∷ atoms)) more) names at locals env n ts laid same long ((arity, all), known) bound set run = absurd (omega (arith, arity))
-  suite_run (first i (operate x operator.Add (a ∷ b ∷ [])) more) names at locals env n ts (to, (asks, stores, (mid, laid_a, (end, laid_b, is_asks)), stands_ask, stands_store), rest) same long ((arity, all), known) (below, bound) set run =
+  suite_run nothing line names at locals env n ts (to, (c, stands, is_constant)) same long known bound set run =
+      decoded_run objects code final (drop at units) at 0 ReturnConst c to [] locals n ts refl stands.0
+      (λ k p. subst (λ (o : Option Literal). IsFreeMove (load_move o (λ v. returns v (running k p [] locals)))) (sym is_constant) (λ v. tt)) run
+      (λ none free. cut_suite nothing env ts none free)
+      (λ k p m is_next more.
+      let (v, has, (rest, is, later)) = subst (λ (o : Option Literal). ByMove objects (load_move o (λ v. returns v (running k p [] locals))) ts (λ s mid. Reaches objects code m s mid final)) is_constant more in
+      let end = ended_run m (behind (running k p [] locals)) rest later in
+      (end.1, inr (inr (v, has, inr (k, is ∙ ap (λ (us : List Own). Ends k (ending.Return v) ∷ us) end.0)))))
+  suite_run (first i (give a) more) line names at locals env n ts (to, (ends, laid, stands), rest) same long (known, later) bound set run =
+      atom_run i a at ends [] locals env n ts laid same (can_load names env a set known) run
+      (λ none free. cut_suite (first i (give a) more) env ts none free)
+      (λ v m is_value run1. decoded_run objects code final (drop ends units) ends 0 ReturnValue 0 to (v ∷ []) locals m ts refl stands.0 (λ k p. tt) run1
+      (λ none free. cut_suite (first i (give a) more) env ts none free)
+      (λ k p m1 is_next (mid, is, run2).
+      let end = ended_run m1 (behind (running k p [] locals)) mid run2 in
+      (end.1, inr (loaded env a v ts _ is_value (inr (k, is ∙ ap (λ (us : List Own). Ends k (ending.Return v) ∷ us) end.0))))))
+  suite_run (first i (operate x operator.Add []) more) line names at locals env n ts laid same long ((arity, atoms), known) bound set run = absurd (omega (arith, arity))
+  suite_run (first i (operate x operator.Add (a ∷ [])) more) line names at locals env n ts laid same long ((arity, atoms), known) bound set run = absurd (omega (arith, arity))
+  suite_run (first i (operate x operator.Add (a ∷ b ∷ c ∷ atoms)) more) line names at locals env n ts laid same long ((arity, all), known) bound set run = absurd (omega (arith, arity))
+  suite_run (first i (operate x operator.Add (a ∷ b ∷ [])) more) line names at locals env n ts (to, (asks, stores, (mid, laid_a, (end, laid_b, is_asks)), stands_ask, stands_store), rest) same long ((arity, all), known) (below, bound) set run =
       let cut : ts ≡ [] → IsFinal → Tells_suite (first i (operate x operator.Add (a ∷ b ∷ [])) more) env ts = cut_suite (first i (operate x operator.Add (a ∷ b ∷ [])) more) env ts in
-      atom_run a at mid [] locals env n ts laid_a same (can_load names env a set (all 0 a (omega arith))) run cut
-        (λ v m is_a run1. atom_run b mid end (v ∷ []) locals env m ts laid_b same (can_load names env b set (all 1 b (omega arith))) run1 cut
-          (λ w m1 is_b run2. ask_run asks stores v w locals m1 ts _ stands_ask (subst (λ (p : ℕ). Reaches objects code m1 (running p 0 (w ∷ v ∷ []) locals) ts final) (sym is_asks) run2) cut
-            (λ k m2 us is_next is run3.
-              let answer = answered_run x more k locals env m2 us run3
-                (λ u m3 us1 run4. store_run x more stores to u locals env m3 us1 stands_store long below
-                  (subst (λ (p : ℕ). Reaches objects code m3 (running p 0 (u ∷ []) locals) us1 final) is_next run4)
-                  (λ m4 run5. suite_run more (names ++ x ∷ []) to (slice_set locals (place vars x) (Some u)) (set_local x (Some u) env) m4 us1 rest
-                    (ap (set_local x (Some u)) same ∙ set_local-env_of vars locals x (Some u) below long)
-                    (length-slice_set locals (place vars x) (Some u) ∙ long) known bound (AreSet-more names env x u set) run5)) in
-              (answer.0, inr (loaded env a v ts _ is_a (loaded env b w ts _ is_b (inr (k, us, is, answer.1))))))))
+      atom_run i a at mid [] locals env n ts laid_a same (can_load names env a set (all 0 a (omega arith))) run cut
+      (λ v m is_a run1. atom_run i b mid end (v ∷ []) locals env m ts laid_b same (can_load names env b set (all 1 b (omega arith))) run1 cut
+      (λ w m1 is_b run2. ask_run i asks stores v w locals m1 ts _ stands_ask (subst (λ (p : ℕ). Reaches objects code m1 (running p 0 (w ∷ v ∷ []) locals) ts final) (sym is_asks) run2) cut
+      (λ k m2 us is_next is run3.
+      let answer = answered_run x more k locals env m2 us run3
+      (λ u m3 us1 run4. store_run i x more stores to u locals env m3 us1 stands_store long below
+      (subst (λ (p : ℕ). Reaches objects code m3 (running p 0 (u ∷ []) locals) us1 final) is_next run4)
+      (λ m4 run5. suite_run more i (names ++ x ∷ []) to (slice_set locals (place vars x) (Some u)) (set_local x (Some u) env) m4 us1 rest
+      (ap (set_local x (Some u)) same ∙ set_local-env_of vars locals x (Some u) below long)
+      (length-slice_set locals (place vars x) (Some u) ∙ long) known bound (AreSet-more names env x u set) run5)) in
+      (answer.0, inr (loaded env a v ts _ is_a (loaded env b w ts _ is_b (inr (k, us, is, answer.1))))))))

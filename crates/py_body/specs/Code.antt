@@ -1,5 +1,5 @@
 -- Where the code of each form stands.
-use Rattle.std.specs.Prelude.{ℕ, suc, ◌+◌, ◌*◌, ◌<◌, ◌^◌, Option, Some, List, [], ◌∷◌, ◌++◌, ◌≡◌, slice_get, length, drop, bytes_eq, if◌then◌else◌}
+use Rattle.std.specs.Prelude.{ℕ, suc, ◌+◌, ◌*◌, ◌<◌, ◌≤◌, ◌^◌, Some, List, [], ◌∷◌, ◌≡◌, slice_get, length, drop, bytes_eq, if◌then◌else◌}
 use Rattle.py_code.specs.declared.unit.CodeUnit.{CodeUnit}
 use Rattle.py_code.specs.declared.instruction.Instruction.{Instruction}
 use Rattle.py_code.specs.declared.instruction.Instruction.TheVariants.{LoadConst, LoadFast, StoreFast, BinaryOperation, ReturnValue, ReturnConst}
@@ -17,6 +17,13 @@ use Rattle.py_body.specs.declared.atom.Operator.TheVariants as operator
 use Rattle.py_body.specs.Tree.{Name, Form, operate, give, Suite, nothing, first, Tree}
 use Rattle.py_body.specs.Binding.{locals_of}
 
+-- the parts of a code that its units refer to
+pub record Parts : Type 0 where
+  pub units : List CodeUnit
+  pub locations : List ℕ  -- the line of each unit
+  pub constants : List Literal
+  pub vars : List Name  -- the names of the locals
+
 -- the place of a name, or the length of the list where it isn't there
 abbrev pub place : List Name → Name → ℕ
 place [] x = 0
@@ -26,45 +33,50 @@ place (y ∷ ys) x = if bytes_eq x y then 0 else suc (place ys x)
 abbrev pub binary_of : Operator → BinaryOperator
 binary_of operator.Add = binary.Add
 
--- the unit at a place, behind its prefixes, is this instruction with this operand, and `next` is the place behind it
-abbrev pub Stands : List CodeUnit → ℕ → Instruction → ℕ → ℕ → Type 0
-Stands units at op arg next = decoded_from 0 at (drop at units) ≡ Some (record { op = op; arg = record { 0 = arg }; next = next })
+-- the units from one place up to another are of this line
+abbrev pub HasLine : List ℕ → ℕ → ℕ → ℕ → Type 0
+HasLine locations line at next = (k : ℕ) → at ≤ k → k < next → slice_get locations k ≡ Some line
+
+-- the unit at a place, behind its prefixes, is this instruction with this operand, of this line, and `next` is the place behind it
+abbrev pub Stands : Parts → ℕ → ℕ → Instruction → ℕ → ℕ → Type 0
+Stands parts line at op arg next =
+    (decoded_from 0 at (drop at parts.units) ≡ Some (record { op = op; arg = record { 0 = arg }; next = next })) × HasLine parts.locations line at next
+
+-- the same of an instruction whose operand is the place of a constant
+abbrev pub StandsConst : Parts → ℕ → ℕ → Instruction → Literal → ℕ → Type 0
+StandsConst parts line at op literal next = (i : ℕ) × Stands parts line at op i next × (slice_get parts.constants i ≡ Some literal)
 
 -- from one place to another stands the load of an atom
-abbrev pub LaidAtom : List CodeUnit → List Literal → List Name → Atom → ℕ → ℕ → Type 0
-LaidAtom units constants vars (atom.Int n) at next = (i : ℕ) × Stands units at LoadConst i next × (slice_get constants i ≡ Some (IntLiteral n))
-LaidAtom units constants vars (atom.Name x) at next = Stands units at LoadFast (place vars x) next
+abbrev pub LaidAtom : Parts → ℕ → Atom → ℕ → ℕ → Type 0
+LaidAtom parts line (atom.Int n) at next = StandsConst parts line at LoadConst (IntLiteral n) next
+LaidAtom parts line (atom.Name x) at next = Stands parts line at LoadFast (place parts.vars x) next
 
 -- the loads of atoms in order
-abbrev pub LaidAtoms : List CodeUnit → List Literal → List Name → List Atom → ℕ → ℕ → Type 0
-LaidAtoms units constants vars [] at next = next ≡ at
-LaidAtoms units constants vars (a ∷ atoms) at next = (mid : ℕ) × LaidAtom units constants vars a at mid × LaidAtoms units constants vars atoms mid next
+abbrev pub LaidAtoms : Parts → ℕ → List Atom → ℕ → ℕ → Type 0
+LaidAtoms parts line [] at next = next ≡ at
+LaidAtoms parts line (a ∷ atoms) at next = (mid : ℕ) × LaidAtom parts line a at mid × LaidAtoms parts line atoms mid next
 
--- the code of a statement
-abbrev pub LaidForm : List CodeUnit → List Literal → List Name → Form → ℕ → ℕ → Type 0
-LaidForm units constants vars (operate x op atoms) at next =
-    (asks : ℕ) × (stores : ℕ) × LaidAtoms units constants vars atoms at asks
-    × Stands units asks BinaryOperation (binary_number (binary_of op)) stores × Stands units stores StoreFast (place vars x) next
-LaidForm units constants vars (give a) at next = (ends : ℕ) × LaidAtom units constants vars a at ends × Stands units ends ReturnValue 0 next
+-- the code of a statement of this line
+abbrev pub LaidForm : Parts → ℕ → Form → ℕ → ℕ → Type 0
+LaidForm parts line (operate x op atoms) at next =
+    (asks : ℕ) × (stores : ℕ) × LaidAtoms parts line atoms at asks
+    × Stands parts line asks BinaryOperation (binary_number (binary_of op)) stores × Stands parts line stores StoreFast (place parts.vars x) next
+LaidForm parts line (give a) at next = (ends : ℕ) × LaidAtom parts line a at ends × Stands parts line ends ReturnValue 0 next
 
--- the code of statements, and the return of None behind them
-abbrev pub LaidSuite : List CodeUnit → List Literal → List Name → Suite → ℕ → Type 0
-LaidSuite units constants vars nothing at = (i : ℕ) × (next : ℕ) × Stands units at ReturnConst i next × (slice_get constants i ≡ Some NoneLiteral)
-LaidSuite units constants vars (first n f more) at = (next : ℕ) × LaidForm units constants vars f at next × LaidSuite units constants vars more next
+-- the code of statements behind this line, and the return of None at their end
+abbrev pub LaidSuite : Parts → ℕ → Suite → ℕ → Type 0
+LaidSuite parts line nothing at = (next : ℕ) × StandsConst parts line at ReturnConst NoneLiteral next
+LaidSuite parts line (first n f more) at = (next : ℕ) × LaidForm parts n f at next × LaidSuite parts n more next
 
--- no fewer units, and no fewer constants, than a statement takes: an instruction has up to three prefixes
-abbrev pub size_of_form : Form → ℕ
-size_of_form (operate x op atoms) = 4 * length atoms + 8
-size_of_form (give a) = 8
-
--- the same of statements, without the end
-abbrev pub size_of : Suite → ℕ
-size_of nothing = 0
-size_of (first n f more) = size_of_form f + size_of more
+-- the parts of a code whose locals have these names
+abbrev pub parts_with : List Name → PyCode → Parts
+parts_with vars code =
+    record { units = code.code.instructions.items; locations = code.code.locations.items; constants = literals_of code.code.constants; vars = vars }
 
 -- the code is that of a body
 pub record IsLaid (code : PyCode) (t : Tree) : Type 0 where
   pub arity : code.code.arg_count ≡ length t.params
   pub locals : length code.code.varnames.items ≡ length (locals_of t)
-  pub laid : LaidSuite code.code.instructions.items (literals_of code.code.constants) (locals_of t) t.suite 0
+  pub laid : LaidSuite (parts_with (locals_of t) code) t.line t.suite 0
   pub short : length code.code.instructions.items < 2 ^ 32
+  pub located : length code.code.locations.items ≡ length code.code.instructions.items

@@ -9,3 +9,7 @@ pub mod Trace
 pub mod Fits
 -- where the code of each form stands
 pub mod Code
+-- the names of a code
+pub mod Naming
+-- what the functions of the compiler promise each other
+pub mod Emitting

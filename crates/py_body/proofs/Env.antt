@@ -97,8 +97,9 @@ AreSet names env = (x : Name) → Contains names x → IsSet x env
 
 pub AreSet-more : (names : List Name) (env : Env) (x : Name) (v : Obj) → AreSet names env → AreSet (names ++ x ∷ []) (set_local x (Some v) env)
 AreSet-more names env x v set y known = elim (Contains-push_cases names x y known) [
-      inl earlier ↦ stays_set env x y v (set y earlier)
-    | inr same ↦ subst (λ (z : Name). IsSet z (set_local x (Some v) env)) same (becomes_set env x v) ]
+  | inl earlier ↦ stays_set env x y v (set y earlier)
+  | inr same ↦ subst (λ (z : Name). IsSet z (set_local x (Some v) env)) same (becomes_set env x v)
+]
 
 -- the names that have arguments are set at the entry
 pub AreSet-begun : (names more : List Name) (vs : List Obj) → length vs ≡ length names → AreSet names (begun (names ++ more) vs)
