@@ -14,3 +14,5 @@ pub mod EmittingLemmas
 pub mod CompilingLemmas
 -- names in a table that grows
 pub mod NamingLemmas
+-- names and their texts
+pub mod EncodedNames

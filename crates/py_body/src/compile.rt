@@ -117,7 +117,7 @@ impl Emitter {
             binary_operator(operator).number(),
             line,
         )?;
-        let place = self.locals.place(name) as u32;
+        let place = self.locals.place(name)? as u32;
         self.emit(Instruction::StoreFast, place, line)
     }
 
@@ -148,7 +148,7 @@ impl Emitter {
                 line,
             ),
             Atom::Name(name) => {
-                let place = self.locals.place(name) as u32;
+                let place = self.locals.place(name)? as u32;
                 self.emit(Instruction::LoadFast, place, line)
             }
         }

@@ -25,6 +25,13 @@ returns-clause-named c =
     c.in_ok-source_path.ensures.found c.in_ok-obj_name.ensures.grows c.in_ok-obj_name.ensures.named c.in_ok-varnames.ensures.grows
     (subst (λ (names : List Name). NamesAll c.intern_all.new.names c.in_ok-varnames.varnames.items names) vars c.in_ok-varnames.ensures.named)
 
+pub returns-in_err-varnames-clause-grows : goal.returns-in_err-varnames-clause-grows
+returns-in_err-varnames-clause-grows c =
+    let first : Continues c.args.names.now c.intern.new.self =
+      subst (Continues c.args.names.now) (sym c.in_ok-source_path.ensures.texts) (Continues-interned c.args.names.now (codes "<script>")) in
+    Continues-trans c.args.names.now c.intern.new.self c.intern_all.new.names first
+    (Continues-trans c.intern.new.self c.intern_text.new.names c.intern_all.new.names c.in_ok-obj_name.ensures.grows c.in_err-varnames.ensures.grows)
+
 pub returns-clause-grows : goal.returns-clause-grows
 returns-clause-grows c =
     let first : Continues c.args.names.now c.intern.new.self =
