@@ -1,6 +1,6 @@
 -- Names, and their texts in UTF-8.
-use Rattle.std.proofs.Common.{◌≡◌, ◌≢◌, ◌<◌, ◌≤◌, ◌+◌, ℕ, zero, suc, List, [], ◌∷◌, ◌++◌, Bool, true, false, cond, ◌||◌, Some, None, refl, sym, ap, ◌∙◌, subst, true≢false, map, length, take, get_or, arith, length-append}
-use Rattle.std.specs.Prelude.{Option, bytes_eq, encode_utf8_all, unwrap_or, AllPairs}
+use Rattle.std.proofs.Common.{◌≡◌, ◌≢◌, ◌<◌, ◌+◌, ℕ, zero, suc, List, [], ◌∷◌, ◌++◌, Bool, true, false, cond, ◌||◌, refl, sym, ap, ◌∙◌, true≢false, map, length, take, get_or, arith, length-append}
+use Rattle.std.specs.Prelude.{bytes_eq, encode_utf8_all, unwrap_or, AllPairs}
 use Rattle.std.specs.List.{list_any}
 use Rattle.std.proofs.lemmas.List.{length-map, map-append, take_more}
 use Rattle.std.proofs.lemmas.Slice.Eq.{bytes_eq-Decides}
@@ -9,7 +9,7 @@ use Rattle.py_code.specs.Names.{interned, place_of}
 use Rattle.py_body.specs.Tree.{Name}
 use Rattle.py_body.specs.Binding.{bound}
 use Rattle.py_body.specs.Code.{place}
-use Rattle.py_body.proofs.EmittingLemmas.{place-position, place-within}
+use Rattle.py_body.proofs.EmittingLemmas.{place-position}
 
 -- two texts are the same where the names are
 bytes_eq-encoded : (x y : Name) → bytes_eq (encode_utf8_all x) (encode_utf8_all y) ≡ bytes_eq x y

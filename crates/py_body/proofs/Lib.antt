@@ -16,3 +16,5 @@ pub mod CompilingLemmas
 pub mod NamingLemmas
 -- names and their texts
 pub mod EncodedNames
+-- the bodies of the tests
+pub mod Samples

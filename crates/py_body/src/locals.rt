@@ -75,15 +75,27 @@ impl Locals {
     fn with(self, name: &PyText) -> Result<Locals, NoMemory>
         ensures { IfOk result (λ locals. locals ≡ bound self name.now) }
     {
-        let Locals { alloc, mut names, mut table } = self;
+        let Locals {
+            alloc,
+            mut names,
+            mut table,
+        } = self;
         let known = table.len();
         let text = utf8_of(alloc, name)?;
         table.intern(&text)?;
         if table.len() == known {
-            return Ok(Locals { alloc, names, table });
+            return Ok(Locals {
+                alloc,
+                names,
+                table,
+            });
         }
         names.push(name.copy(alloc)?)?;
-        Ok(Locals { alloc, names, table })
+        Ok(Locals {
+            alloc,
+            names,
+            table,
+        })
     }
 
     /// The names in order.

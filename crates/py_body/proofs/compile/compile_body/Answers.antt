@@ -1,7 +1,6 @@
-use Rattle.std.proofs.Common.{◌≡◌, List, ℕ, ap, ◌∙◌, sym, refl, subst, codes, length}
-use Rattle.py_body.specs.Tree.{Name, Tree, tree_of}
+use Rattle.std.proofs.Common.{◌≡◌, List, ap, ◌∙◌, sym, refl, subst, codes, length}
+use Rattle.py_body.specs.Tree.{Name, tree_of}
 use Rattle.py_body.specs.Binding.{locals_of}
-use Rattle.py_body.specs.Code.{IsLaid}
 use Rattle.py_body.specs.Emitting.{parts_of}
 use Rattle.py_body.specs.Naming.{Continues, NamesAll}
 use Rattle.py_body.proofs.EmittingLemmas.{Continues-trans}
@@ -28,7 +27,7 @@ returns-clause-named c =
 pub returns-in_err-varnames-clause-grows : goal.returns-in_err-varnames-clause-grows
 returns-in_err-varnames-clause-grows c =
     let first : Continues c.args.names.now c.intern.new.self =
-      subst (Continues c.args.names.now) (sym c.in_ok-source_path.ensures.texts) (Continues-interned c.args.names.now (codes "<script>")) in
+    subst (Continues c.args.names.now) (sym c.in_ok-source_path.ensures.texts) (Continues-interned c.args.names.now (codes "<script>")) in
     Continues-trans c.args.names.now c.intern.new.self c.intern_all.new.names first
     (Continues-trans c.intern.new.self c.intern_text.new.names c.intern_all.new.names c.in_ok-obj_name.ensures.grows c.in_err-varnames.ensures.grows)
 

@@ -1,4 +1,4 @@
-use Rattle.std.proofs.Common.{◌≡◌, ◌≢◌, ◌++◌, ◌∷◌, [], List, ℕ, length, ap, sym, ◌∙◌, arith}
+use Rattle.std.proofs.Common.{◌≡◌, ◌≢◌, ◌++◌, ◌∷◌, [], List, length, ap, sym, ◌∙◌}
 use Rattle.py_body.specs.Tree.{Name}
 use Rattle.py_body.specs.Binding.{bound}
 use Rattle.py_body.proofs.EncodedNames.{bound-known, bound-new}
