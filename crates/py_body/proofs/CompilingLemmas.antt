@@ -1,8 +1,8 @@
 -- What is emitted for a form.
-use Rattle.std.proofs.Common.{◌≡◌, ◌<◌, ◌≤◌, ◌+◌, ◌*◌, ℕ, zero, suc, List, [], ◌∷◌, ◌++◌, refl, sym, ap, ◌∙◌, subst, length, take, drop, get_or, arith, length-append, drop-cons, add-one, drop_of_length-le}
-use Rattle.std.proofs.lemmas.List.{take_more, take_all}
+use Rattle.std.proofs.Common.{◌≡◌, ◌<◌, ◌≤◌, ◌+◌, ◌*◌, ℕ, suc, List, [], ◌∷◌, ◌++◌, refl, sym, ap, ◌∙◌, subst, length, take, drop, get_or, arith, length-append, drop-cons, add-one, drop_of_length-le}
+use Rattle.std.proofs.lemmas.List.{take_more}
 use Rattle.py_code.specs.declared.instruction.Instruction.TheVariants.{LoadConst, LoadFast, StoreFast, BinaryOperation, ReturnValue, ReturnConst}
-use Rattle.py_code.specs.declared.literal.Literal.{Literal, None as NoneLiteral, Int as IntLiteral}
+use Rattle.py_code.specs.declared.literal.Literal.{None as NoneLiteral, Int as IntLiteral}
 use Rattle.py_code.specs.Operators.{binary_number}
 use Rattle.py_body.specs.declared.atom.Atom.{Atom}
 use Rattle.py_body.specs.declared.atom.Atom.TheVariants as atom
@@ -10,9 +10,9 @@ use Rattle.py_body.specs.declared.atom.Operator.{Operator}
 use Rattle.py_body.specs.declared.stmt.Stmt.{Stmt}
 use Rattle.py_body.specs.Tree.{Name, Form, operate, give, Suite, nothing, first, form_of, suite_of, Tree}
 use Rattle.py_body.specs.Binding.{locals_of, IsClosed}
-use Rattle.py_body.specs.Code.{Parts, place, binary_of, Stands, StandsConst, LaidAtom, LaidAtoms, LaidForm, LaidSuite}
-use Rattle.py_body.specs.Emitting.{IsMatched, Begins, Emits, EmitsUnit, EmitsConst, EmitsAtom, EmitsAtoms, EmitsForm, EmitsSuite, IsEmitted, size_of_form, size_of}
-use Rattle.py_body.proofs.Bound.{size_of-known}
+use Rattle.py_body.specs.Code.{Parts, place, binary_of, Stands, LaidAtom, LaidAtoms, LaidSuite}
+use Rattle.py_body.specs.Emitting.{IsMatched, HasRoom, Begins, EmitsUnit, EmitsConst, EmitsAtom, EmitsAtoms, EmitsForm, EmitsSuite, IsEmitted, size_of}
+use Rattle.py_body.proofs.Bound.{length-bound_by, size_of-known}
 use Rattle.py_body.proofs.EmittingLemmas.{Begins-refl, Begins-trans, joined, reworded}
 
 -- ---- atoms
@@ -118,6 +118,17 @@ suite_ends old mid new line last stmts i high before end =
     }
 
 -- ---- bodies
+
+-- a body that can be compiled needs no more than fits 32 bits
+pub body_has_room : (old : Parts) (t : Tree) → IsClosed t → IsMatched old → length old.constants ≡ 0 → old.vars ≡ locals_of t → HasRoom old (size_of t.suite)
+body_has_room old t closed matched none vars =
+    let size = size_of-known t.suite t.params closed.known in
+    let many = length-bound_by t.suite t.params in
+    record {
+      matched = matched;
+      constants = omega (arith, none, size, closed.short);
+      vars = omega (arith, ap length vars, many, closed.few, closed.short);
+    }
 
 pub body_emitted : (old new : Parts) (t : Tree) → IsClosed t → IsMatched old → length old.units ≡ 0 → old.vars ≡ locals_of t → EmitsSuite old new t.suite t.line → IsEmitted new t
 body_emitted old new t closed matched none vars emits =

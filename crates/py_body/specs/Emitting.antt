@@ -7,7 +7,7 @@ use Rattle.py_code.specs.Literals.{literals_of}
 use Rattle.py_code.specs.Units.{decoded_from}
 use Rattle.py_body.specs.declared.atom.Atom.{Atom}
 use Rattle.py_body.specs.declared.emit.Emitter.{Emitter}
-use Rattle.py_body.specs.Tree.{Name, Form, operate, give, Suite, nothing, first, Tree}
+use Rattle.py_body.specs.Tree.{Form, operate, give, Suite, nothing, first, Tree}
 use Rattle.py_body.specs.Binding.{locals_of}
 use Rattle.py_body.specs.Naming.{Continues}
 use Rattle.py_body.specs.Code.{Parts, Stands, StandsConst, LaidAtom, LaidAtoms, LaidForm, LaidSuite}
@@ -19,6 +19,12 @@ parts_of e = record { units = e.units.items; locations = e.locations.items; cons
 -- each unit has its line
 abbrev pub IsMatched : Parts → Type 0
 IsMatched parts = length parts.locations ≡ length parts.units
+
+-- each unit has its line, the locals' places fit 32 bits, and so do those of as many more constants
+pub record HasRoom (parts : Parts) (more : ℕ) : Type 0 where
+  pub matched : IsMatched parts
+  pub constants : length parts.constants + more < 2 ^ 32
+  pub vars : length parts.vars < 2 ^ 32
 
 -- the units that have no line yet are of this one
 abbrev pub located : ℕ → Parts → Parts

@@ -1,11 +1,10 @@
 //! The compiler: the code of a body.
 
-ghost use Rattle.std.specs.Prelude.{◌≡◌, ◌+◌, ◌*◌, ◌<◌, ◌^◌, length, IfOk, OnOk};
-ghost use Rattle.py_code.specs.Literals.{literals_of};
+ghost use Rattle.std.specs.Prelude.{◌≡◌, ◌*◌, length, IfOk, OnOk};
 ghost use Rattle.py_body.specs.Tree.{form_of, operate, suite_of, tree_of};
 ghost use Rattle.py_body.specs.Binding.{IsClosed};
-ghost use Rattle.py_body.specs.Code.{binary_of, IsLaid};
-ghost use Rattle.py_body.specs.Emitting.{parts_of, IsEmitted, IsMatched, EmitsAtom, EmitsAtoms, EmitsForm, EmitsSuite, size_of_form, size_of};
+ghost use Rattle.py_body.specs.Code.{binary_of, IsLaid, IsPlain};
+ghost use Rattle.py_body.specs.Emitting.{parts_of, IsEmitted, HasRoom, EmitsAtom, EmitsAtoms, EmitsForm, EmitsSuite, size_of_form, size_of};
 ghost use Rattle.py_body.specs.Fits.{Fits};
 ghost use Rattle.py_body.specs.Naming.{Continues, IsNamed};
 
@@ -20,11 +19,13 @@ use py_code::{
 };
 use std::alloc::Global;
 
-/// The code of a body: its locals are known by their places, and each number that it names is a constant of its own.
+/// The code of a body, whose names go into the table. Its locals are known by their places, and each number that it
+/// names is a constant of its own. It fails only where memory runs out; the table may then have some of the names.
 pub fn compile_body(alloc: Global, names: &mut Names, body: &Body) -> Result<PyCode, NoMemory>
     requires { IsClosed (tree_of body.now) }
     ensures fits { IfOk result (λ code. Fits code (tree_of body.now)) }
     ensures laid { IfOk result (λ code. IsLaid code (tree_of body.now)) }
+    ensures plain { IfOk result (λ code. IsPlain code (tree_of body.now)) }
     ensures named { IfOk result (λ code. IsNamed names.new code (tree_of body.now)) }
     ensures grows { Continues names.old names.new }
 {
@@ -67,9 +68,7 @@ fn emit_body(alloc: Global, body: &Body) -> Result<Emitter, NoMemory>
 impl Emitter {
     /// Adds the code of statements behind a line, and the return of None at their end.
     fn compile_statements(&mut self, suite: &StmtList, line: u32) -> Result<(), NoMemory>
-        requires matched { IsMatched (parts_of self.old) }
-        requires few_constants { length (literals_of self.old.constants) + size_of (suite_of suite.now) < 2 ^ 32 }
-        requires few_locals { length self.old.locals < 2 ^ 32 }
+        requires { HasRoom (parts_of self.old) (size_of (suite_of suite.now)) }
         ensures { OnOk result (EmitsSuite (parts_of self.old) (parts_of self.new) (suite_of suite.now) line) }
     {
         let mut last = line;
@@ -82,9 +81,7 @@ impl Emitter {
 
     /// Adds the code of a statement.
     fn compile_statement(&mut self, stmt: &Stmt) -> Result<(), NoMemory>
-        requires matched { IsMatched (parts_of self.old) }
-        requires few_constants { length (literals_of self.old.constants) + size_of_form (form_of stmt.now.form) < 2 ^ 32 }
-        requires few_locals { length self.old.locals < 2 ^ 32 }
+        requires { HasRoom (parts_of self.old) (size_of_form (form_of stmt.now.form)) }
         ensures { OnOk result (EmitsForm (parts_of self.old) (parts_of self.new) (form_of stmt.now.form) stmt.now.line) }
     {
         match &stmt.form {
@@ -106,9 +103,7 @@ impl Emitter {
         atoms: &AtomList,
         line: u32,
     ) -> Result<(), NoMemory>
-        requires matched { IsMatched (parts_of self.old) }
-        requires few_constants { length (literals_of self.old.constants) + 4 * length atoms.now < 2 ^ 32 }
-        requires few_locals { length self.old.locals < 2 ^ 32 }
+        requires { HasRoom (parts_of self.old) (4 * length atoms.now) }
         ensures { OnOk result (EmitsForm (parts_of self.old) (parts_of self.new) (operate name.now operator atoms.now) line) }
     {
         self.compile_atoms(atoms, line)?;
@@ -117,15 +112,13 @@ impl Emitter {
             binary_operator(operator).number(),
             line,
         )?;
-        let place = self.locals.place(name) as u32;
+        let place = self.locals.place(name)? as u32;
         self.emit(Instruction::StoreFast, place, line)
     }
 
     /// Adds the loads of atoms in order.
     fn compile_atoms(&mut self, atoms: &AtomList, line: u32) -> Result<(), NoMemory>
-        requires matched { IsMatched (parts_of self.old) }
-        requires few_constants { length (literals_of self.old.constants) + 4 * length atoms.now < 2 ^ 32 }
-        requires few_locals { length self.old.locals < 2 ^ 32 }
+        requires { HasRoom (parts_of self.old) (4 * length atoms.now) }
         ensures { OnOk result (EmitsAtoms (parts_of self.old) (parts_of self.new) atoms.now line) }
     {
         for atom in atoms.as_slice() {
@@ -136,9 +129,7 @@ impl Emitter {
 
     /// Adds the load of an atom.
     fn compile_atom(&mut self, atom: &Atom, line: u32) -> Result<(), NoMemory>
-        requires matched { IsMatched (parts_of self.old) }
-        requires few_constants { length (literals_of self.old.constants) < 2 ^ 32 }
-        requires few_locals { length self.old.locals < 2 ^ 32 }
+        requires { HasRoom (parts_of self.old) 1 }
         ensures { OnOk result (EmitsAtom (parts_of self.old) (parts_of self.new) atom.now line) }
     {
         match atom {
@@ -148,7 +139,7 @@ impl Emitter {
                 line,
             ),
             Atom::Name(name) => {
-                let place = self.locals.place(name) as u32;
+                let place = self.locals.place(name)? as u32;
                 self.emit(Instruction::LoadFast, place, line)
             }
         }
