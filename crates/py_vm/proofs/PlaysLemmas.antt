@@ -1,15 +1,13 @@
 -- An activation that plays, as its frame hears and tells events.
-use Rattle.std.proofs.Common.{◌≡◌, ◌<◌, ◌≤◌, ◌-◌, ◌++◌, ℕ, zero, suc, List, [], ◌∷◌, Some, inl, inr, refl, sym, ap, subst, ◌∙◌, length, append_assoc, append-nil, arith}
-use Rattle.std.specs.Prelude.{Option, slice_get}
+use Rattle.std.proofs.Common.{◌≡◌, ◌≤◌, ◌-◌, ◌++◌, ℕ, List, [], ◌∷◌, Some, inl, inr, refl, sym, ap, subst, ◌∙◌, length, append_assoc, append-nil}
+use Rattle.std.specs.Prelude.{slice_get}
 use Rattle.py_code.specs.declared.code.PyCode.{PyCode}
 use Rattle.py_objects.specs.declared.payload.Payload.{Payload}
-use Rattle.py_objects.specs.declared.payload.Payload.TheVariants as payload
 use Rattle.py_objects.specs.declared.event.Event.{Event}
-use Rattle.py_objects.specs.declared.event.GotAnswer.{GotAnswer}
 use Rattle.py_objects.specs.declared.event.GotAnswer.TheVariants as got
 use Rattle.py_objects.specs.declared.event.Ending.TheVariants as ending
 use Rattle.py_objects.specs.declared.event.ResumeHow.TheVariants as how
-use Rattle.py_objects.specs.Objects.{Obj, HasPayload, Grows, numbers, AllBelow}
+use Rattle.py_objects.specs.Objects.{Obj, Grows, numbers, AllBelow}
 use Rattle.py_objects.specs.Own.{Own, Gets, Resumes, Ends, whose, own_of, own_events}
 use Rattle.py_frame.specs.declared.input.Expect.{Expect}
 use Rattle.py_frame.specs.declared.input.Expect.TheVariants as expect
@@ -18,15 +16,15 @@ use Rattle.py_frame.specs.declared.input.Input.TheVariants as input
 use Rattle.py_frame.specs.declared.input.FrameStep.{FrameStep}
 use Rattle.py_frame.specs.declared.input.FrameStep.TheVariants as step
 use Rattle.py_frame.specs.Rows.{State, waiting, pushed}
-use Rattle.py_frame.specs.RunOfRows.{Steps, Reaches, IsAt, RowsRun}
+use Rattle.py_frame.specs.RunOfRows.{Steps, Reaches, IsAt}
 use Rattle.py_frame.specs.Steps.{Expects, heard, told, Extends}
-use Rattle.py_frame.specs.Laws.{heard_numbers, told_numbers, HearsBelow, TellsBelow}
+use Rattle.py_frame.specs.Laws.{heard_numbers, HearsBelow, TellsBelow}
 use Rattle.py_frame.proofs.Growing.{payload_grown, runs_grow}
 use Rattle.py_frame.proofs.Joining.{run_extended}
 use Rattle.py_frame.proofs.PlainGrowth.{below_more, length_grown}
 use Rattle.py_frame.proofs.Staying.{runs_stay_below}
 use Rattle.py_vm.specs.declared.stage.Running.{Running}
-use Rattle.py_vm.specs.Run.{Activation, start, state_after}
+use Rattle.py_vm.specs.Run.{start, state_after}
 use Rattle.py_vm.specs.RowsOf.{RowsTell, RowsOf}
 use Rattle.py_vm.specs.Stands.{Plays}
 use Rattle.py_vm.proofs.OwnLemmas.{own_events_own}

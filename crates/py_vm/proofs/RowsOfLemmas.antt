@@ -1,13 +1,12 @@
 -- What activations may tell, as objects and codes grow, and in other words.
-use Rattle.std.proofs.Common.{◌≡◌, ℕ, suc, List, ◌++◌, Some, inl, inr}
-use Rattle.std.specs.Prelude.{slice_get}
+use Rattle.std.proofs.Common.{suc, List, ◌++◌, inl, inr}
 use Rattle.py_code.specs.declared.code.PyCode.{PyCode}
 use Rattle.py_objects.specs.declared.payload.Payload.{Payload}
 use Rattle.py_objects.specs.declared.event.Event.{Event}
 use Rattle.py_objects.specs.Objects.{Obj, Grows}
 use Rattle.py_objects.specs.Own.{Own, own_events}
 use Rattle.py_frame.proofs.Growing.{payload_grown, runs_grow, slice_get_grown}
-use Rattle.py_vm.specs.Run.{May, Activation, start, state_after, EachTells}
+use Rattle.py_vm.specs.Run.{May, EachTells}
 use Rattle.py_vm.specs.RowsOf.{RowsTell, RowsOf}
 
 -- what tells by one reading tells by each reading that lets through no less

@@ -1,5 +1,5 @@
 -- What an activation of a function may tell, by the rows of the function's code.
-use Rattle.std.specs.Prelude.{ℕ, Option, Some, List, [], ◌∷◌, ◌++◌, ◌≡◌, ◌⊎◌, slice_get}
+use Rattle.std.specs.Prelude.{ℕ, Some, List, [], ◌∷◌, ◌++◌, ◌≡◌, ◌⊎◌, slice_get}
 use Rattle.py_code.specs.declared.code.PyCode.{PyCode}
 use Rattle.py_objects.specs.declared.refs.PyBaseExceptionRef.{PyBaseExceptionRef}
 use Rattle.py_objects.specs.declared.payload.Payload.{Payload}
