@@ -15,7 +15,7 @@ use Rattle.py_vm.specs.declared.drive.Drive.TheVariants.{Call}
 use Rattle.py_vm.specs.declared.stage.Stage.{Stage}
 use Rattle.py_vm.specs.declared.stage.Stage.TheVariants as stage
 use Rattle.py_vm.specs.declared.vm.VirtualMachine.{VirtualMachine}
-use Rattle.py_vm.specs.Run.{State, Idle, start, state_after, EachTells, Comes}
+use Rattle.py_vm.specs.Run.{State, Idle, start, state_after, EachTells, Comes, IsDone, IsRunBy}
 use Rattle.py_vm.specs.RowsOf.{RowsOf}
 use Rattle.py_vm.specs.Classes.{class_payload, first_objects, first_classes, HaveClasses}
 use Rattle.py_vm.specs.Machine.{events_of, objects_of, codes_of, done_of}
@@ -47,6 +47,23 @@ stands_tells m stands = stands.keeps.tells
 
 pub stands_named : (m : VirtualMachine) → Stands m → AreNamed (objects_of m) (events_of m)
 stands_named m stands = stands.keeps.named
+
+-- all its drives are done
+pub stands_is_done : (m : VirtualMachine) → Stands m → IsDone (done_of m) (events_of m)
+stands_is_done m stands = record { done = refl; idle = stands_idle m stands }
+
+-- a machine without events has made a run of no drives
+pub nothing_runs : (m : VirtualMachine) → Stands m → events_of m ≡ [] → IsRunBy (RowsOf (codes_of m).codes (objects_of m)) [] (objects_of m) (events_of m)
+nothing_runs m stands none = record {
+  comes = subst (Comes [] m.store [] start) (sym none) tt;
+  tells = stands_tells m stands;
+  named = stands_named m stands;
+}
+
+-- a drive makes a run of one drive more, whole or not
+pub adds_run : (drive : Drive) (old new : VirtualMachine) (asked : List Drive) → length asked ≡ done_of old → Comes asked (objects_of old) [] start (events_of old) → Adds drive old new
+    → IsRunBy (RowsOf (codes_of new).codes (objects_of new)) (asked ++ drive ∷ []) (objects_of new) (events_of new)
+adds_run drive old new asked same comes adds = record { comes = adds.runs asked same comes; tells = adds.tells; named = adds.named }
 
 -- the objects that a machine begins with
 first_fit : AllFit first_objects
