@@ -1,12 +1,19 @@
 //! What a reader can work out by hand.
 
+ghost use Rattle.std.specs.Prelude.{IfOk};
+ghost use Rattle.py_vm.specs.SumCode.{IsSumCode};
+
 use crate::answer::{Reply, give, operate};
 use crate::exceptions::ExceptionZoo;
 use crate::*;
 use py_code::{
-    CodeFlags, CodeObject, LiteralList, NameId, Names, NoMemory, PyCode, same_text, text_of,
+    CodeFlags, CodeObject, CodeUnit, Instruction, LiteralList, NameId, Names, NoMemory, PyCode,
+    same_text, text_of,
 };
-use py_objects::{Arithmetic, ErrorKind, GotAnswer, Payload, PyBaseExceptionRef, Store};
+use py_objects::{
+    Arithmetic, DriveAnswer, ErrorKind, FunctionBody, GotAnswer, ObjList, Payload,
+    PyBaseExceptionRef, PyObjectRef, Store,
+};
 use std::alloc::Global;
 use std::test::Fail;
 
@@ -50,6 +57,66 @@ fn fails(alloc: Global, reply: &Reply, kind: ErrorKind, reason: &[u8]) -> Result
         Reply::Int(_) => Ok(false),
         Reply::Str(_) => Ok(false),
     }
+}
+
+/// A code that returns the sum of its two arguments.
+fn sum_code(alloc: Global) -> Result<PyCode, NoMemory>
+    ensures { IfOk result IsSumCode }
+{
+    let mut instructions = Vec::new(alloc);
+    instructions.push(CodeUnit {
+        op: Instruction::LoadFast,
+        arg: 0,
+    })?;
+    instructions.push(CodeUnit {
+        op: Instruction::LoadFast,
+        arg: 1,
+    })?;
+    instructions.push(CodeUnit {
+        op: Instruction::BinaryOperation,
+        arg: 6,
+    })?;
+    instructions.push(CodeUnit {
+        op: Instruction::ReturnValue,
+        arg: 0,
+    })?;
+    let mut varnames = Vec::new(alloc);
+    varnames.push(NameId { index: 0 })?;
+    varnames.push(NameId { index: 1 })?;
+    let mut code = some_code(alloc);
+    code.code.instructions = instructions;
+    code.code.varnames = varnames;
+    Ok(code)
+}
+
+/// What the sum of 40 and 2 comes to in so many turns, and how many events there are.
+fn driven(alloc: Global, turns: u64) -> Result<(u64, Result<DriveAnswer, VmFault>), NoMemory> {
+    let mut vm = VirtualMachine::new(alloc, Names::new(alloc))?;
+    let code = vm.add_code(sum_code(alloc)?)?;
+    let name = text_of(alloc, b"sum")?;
+    let function = vm.add_object(Payload::Function(FunctionBody { name, code }))?;
+    let left = vm.add_object(Payload::Int(40))?;
+    let right = vm.add_object(Payload::Int(2))?;
+    let mut args = ObjList::new(alloc);
+    args.push(left)?;
+    args.push(right)?;
+    let answer = vm.drive(Drive::Call(function, args), turns);
+    Ok((vm.events(), answer))
+}
+
+#[test]
+fn a_call_is_done_in_seven_turns(rt: HostRuntime) -> Result<(), Fail> {
+    let alloc = rt.alloc();
+    for turns in 0..7 {
+        let (events, answer) = driven(alloc, turns)?;
+        assert!(rt; events == turns);
+        assert!(rt; matches!(answer, Err(VmFault::OutOfTurns)));
+    }
+    let (events, answer) = driven(alloc, 8)?;
+    assert!(rt; events == 7);
+    // The sum stands behind the function and the operands.
+    assert!(rt; matches!(answer, Ok(DriveAnswer::Returns(PyObjectRef { number: 9 }))));
+    Ok(())
 }
 
 #[test]
