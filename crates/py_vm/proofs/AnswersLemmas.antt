@@ -1,5 +1,5 @@
 -- Replies by cases on the operands.
-use Rattle.std.proofs.Common.{◌≡◌, ◌++◌, ◌∷◌, [], List, Some, refl, sym, ap, ◌∙◌, ℤ}
+use Rattle.std.proofs.Common.{◌≡◌, ◌++◌, List, Some, refl, sym, ap, ◌∙◌, ℤ}
 use Rattle.std.specs.Prelude.{Option, None}
 use Rattle.py_objects.specs.declared.payload.Payload.{Payload}
 use Rattle.py_objects.specs.declared.payload.Payload.TheVariants as payload

@@ -1,6 +1,6 @@
 -- What a journal keeps as one more event comes.
-use Rattle.std.proofs.Common.{◌≡◌, ◌<◌, ◌≤◌, ◌-◌, ◌++◌, ℕ, zero, suc, List, [], ◌∷◌, Some, inl, inr, refl, sym, ap, subst, ◌∙◌, length, ne_eqb, arith}
-use Rattle.std.specs.Prelude.{Option, slice_get}
+use Rattle.std.proofs.Common.{◌≡◌, ◌<◌, ◌≤◌, ◌++◌, ℕ, zero, suc, List, [], ◌∷◌, Some, inl, inr, sym, ap, subst, ◌∙◌, length, ne_eqb, arith}
+use Rattle.std.specs.Prelude.{slice_get}
 use Rattle.std.proofs.lemmas.Bool.Decides.{eqb_tells}
 use Rattle.py_code.specs.declared.code.PyCode.{PyCode}
 use Rattle.py_objects.specs.declared.payload.Payload.{Payload}
@@ -11,7 +11,6 @@ use Rattle.py_frame.proofs.PlainGrowth.{below_more, length_grown, slice_get_spli
 use Rattle.py_vm.specs.declared.stage.Running.{Running}
 use Rattle.py_vm.specs.Run.{Activation, start, state_after, EachTells}
 use Rattle.py_vm.specs.RowsOf.{RowsOf}
-use Rattle.py_vm.specs.Stands.{Plays}
 use Rattle.py_vm.proofs.OwnLemmas.{own_events_other}
 use Rattle.py_vm.proofs.RowsOfLemmas.{rows_of_still}
 

@@ -1,15 +1,13 @@
 -- An activation that plays, as its frame hears and tells events.
-use Rattle.std.proofs.Common.{◌≡◌, ◌<◌, ◌≤◌, ◌-◌, ◌++◌, ℕ, zero, suc, List, [], ◌∷◌, Some, refl, sym, ap, subst, ◌∙◌, length, append_assoc, append-nil, arith}
-use Rattle.std.specs.Prelude.{Option, slice_get}
+use Rattle.std.proofs.Common.{◌≡◌, ◌≤◌, ◌-◌, ◌++◌, ℕ, List, [], ◌∷◌, Some, inl, inr, refl, sym, ap, subst, ◌∙◌, length, append_assoc, append-nil}
+use Rattle.std.specs.Prelude.{slice_get}
 use Rattle.py_code.specs.declared.code.PyCode.{PyCode}
 use Rattle.py_objects.specs.declared.payload.Payload.{Payload}
-use Rattle.py_objects.specs.declared.payload.Payload.TheVariants as payload
 use Rattle.py_objects.specs.declared.event.Event.{Event}
-use Rattle.py_objects.specs.declared.event.GotAnswer.{GotAnswer}
 use Rattle.py_objects.specs.declared.event.GotAnswer.TheVariants as got
 use Rattle.py_objects.specs.declared.event.Ending.TheVariants as ending
 use Rattle.py_objects.specs.declared.event.ResumeHow.TheVariants as how
-use Rattle.py_objects.specs.Objects.{Obj, HasPayload, Grows, numbers, AllBelow}
+use Rattle.py_objects.specs.Objects.{Obj, Grows, numbers, AllBelow}
 use Rattle.py_objects.specs.Own.{Own, Gets, Resumes, Ends, whose, own_of, own_events}
 use Rattle.py_frame.specs.declared.input.Expect.{Expect}
 use Rattle.py_frame.specs.declared.input.Expect.TheVariants as expect
@@ -18,66 +16,47 @@ use Rattle.py_frame.specs.declared.input.Input.TheVariants as input
 use Rattle.py_frame.specs.declared.input.FrameStep.{FrameStep}
 use Rattle.py_frame.specs.declared.input.FrameStep.TheVariants as step
 use Rattle.py_frame.specs.Rows.{State, waiting, pushed}
-use Rattle.py_frame.specs.RunOfRows.{Steps, Reaches, IsAt, RowsRun}
+use Rattle.py_frame.specs.RunOfRows.{Steps, Reaches, IsAt}
 use Rattle.py_frame.specs.Steps.{Expects, heard, told, Extends}
-use Rattle.py_frame.specs.Laws.{heard_numbers, told_numbers, HearsBelow, TellsBelow}
+use Rattle.py_frame.specs.Laws.{heard_numbers, HearsBelow, TellsBelow}
 use Rattle.py_frame.proofs.Growing.{payload_grown, runs_grow}
 use Rattle.py_frame.proofs.Joining.{run_extended}
 use Rattle.py_frame.proofs.PlainGrowth.{below_more, length_grown}
 use Rattle.py_frame.proofs.Staying.{runs_stay_below}
 use Rattle.py_vm.specs.declared.stage.Running.{Running}
-use Rattle.py_vm.specs.Run.{Activation, start, state_after}
-use Rattle.py_vm.specs.RowsOf.{RowsRunOn, RowsOf}
+use Rattle.py_vm.specs.Run.{start, state_after}
+use Rattle.py_vm.specs.RowsOf.{RowsTell, RowsOf}
 use Rattle.py_vm.specs.Stands.{Plays}
 use Rattle.py_vm.proofs.OwnLemmas.{own_events_own}
 
--- steps that tell an input that is expected, and maybe more
-record Hears (objects : List Payload) (code : PyCode) (s : State) (i : Input) : Type 0 where
-  more : List Own
-  to : State
-  count : ℕ
-  run : Reaches objects code count s (heard i ++ more) to
-
+-- one step, by what the frame waits for
 one_step : (objects : List Payload) (code : PyCode) (x : Expect) (s t : State) (ts : List Own) → s.wants ≡ x
     → Steps objects code x s ts (λ s1 mid. (mid ≡ []) × (t ≡ s1)) → Reaches objects code 1 s ts t
 one_step objects code x s t ts wants steps = subst (λ y. Steps objects code y s ts (λ s1 mid. (mid ≡ []) × (t ≡ s1))) (sym wants) steps
 
-hears_by : (objects : List Payload) (code : PyCode) (x : Expect) (s : State) (i : Input) → s.wants ≡ x → Expects x i → Hears objects code s i
-hears_by objects code expect.Start s input.Start wants expects = record {
-  more = [];
-  to = waiting expect.Go s;
-  count = 1;
-  run = one_step objects code expect.Start s (waiting expect.Go s) (Resumes how.Start ∷ []) wants ([], refl, (refl, refl));
-}
-hears_by objects code expect.Start s input.Go wants expects = absurd expects
-hears_by objects code expect.Start s (input.Answer w) wants expects = absurd expects
-hears_by objects code expect.Go s input.Start wants expects = absurd expects
-hears_by objects code expect.Go s input.Go wants expects = record { more = []; to = s; count = 0; run = (refl, refl) }
-hears_by objects code expect.Go s (input.Answer w) wants expects = absurd expects
-hears_by objects code expect.Answer s input.Start wants expects = absurd expects
-hears_by objects code expect.Answer s input.Go wants expects = absurd expects
-hears_by objects code expect.Answer s (input.Answer (got.Value v)) wants expects = record {
-  more = [];
-  to = waiting expect.Go (pushed v s);
-  count = 1;
-  run = one_step objects code expect.Answer s (waiting expect.Go (pushed v s)) (Gets (got.Value v) ∷ []) wants (got.Value v, [], refl, (refl, refl));
-}
-hears_by objects code expect.Answer s (input.Answer (got.Raise e)) wants expects = record {
-  more = Ends (s.at - 1) (ending.Raise e) ∷ [];
-  to = waiting expect.Ended s;
-  count = 1;
-  run = one_step objects code expect.Answer s (waiting expect.Ended s) (Gets (got.Raise e) ∷ Ends (s.at - 1) (ending.Raise e) ∷ []) wants (got.Raise e, Ends (s.at - 1) (ending.Raise e) ∷ [], refl, ([], refl, (refl, refl)));
-}
-hears_by objects code expect.Answer s (input.Answer (got.Stop v)) wants expects = absurd expects
-hears_by objects code expect.Ended s i wants expects = absurd expects
-
--- a run that is to hear what it expects is the front of a run
-front_run : (objects : List Payload) (code : PyCode) (args : List Obj) (before : List Own) (s : State) (i : Input)
-    → IsAt objects code args before s → Expects s.wants i → RowsRunOn objects code args (before ++ heard i)
-front_run objects code args before s i at expects =
-    let h = hears_by objects code s.wants s i refl expects in
-    let run : IsAt objects code args (before ++ (heard i ++ h.more)) h.to = run_extended objects code args h.count before (heard i ++ h.more) s h.to at h.run in
-    (h.more, (h.to, subst (λ ts. IsAt objects code args ts h.to) (sym (append_assoc before (heard i) h.more)) run))
+-- a run that is to hear what it expects tells what the rows may
+heard_tells : (objects : List Payload) (code : PyCode) (args : List Obj) (before : List Own) (x : Expect) (s : State) (i : Input)
+    → s.wants ≡ x → Expects x i → IsAt objects code args before s → RowsTell objects code args (before ++ heard i)
+heard_tells objects code args before expect.Start s input.Start wants expects at =
+    let t : State = waiting expect.Go s in
+    inl (t, run_extended objects code args 1 before (Resumes how.Start ∷ []) s t at (one_step objects code expect.Start s t (Resumes how.Start ∷ []) wants ([], refl, (refl, refl))))
+heard_tells objects code args before expect.Start s input.Go wants expects at = absurd expects
+heard_tells objects code args before expect.Start s (input.Answer w) wants expects at = absurd expects
+heard_tells objects code args before expect.Go s input.Start wants expects at = absurd expects
+heard_tells objects code args before expect.Go s input.Go wants expects at = inl (s, subst (λ ts. IsAt objects code args ts s) (sym (append-nil before)) at)
+heard_tells objects code args before expect.Go s (input.Answer w) wants expects at = absurd expects
+heard_tells objects code args before expect.Answer s input.Start wants expects at = absurd expects
+heard_tells objects code args before expect.Answer s input.Go wants expects at = absurd expects
+heard_tells objects code args before expect.Answer s (input.Answer (got.Value v)) wants expects at =
+    let t : State = waiting expect.Go (pushed v s) in
+    inl (t, run_extended objects code args 1 before (Gets (got.Value v) ∷ []) s t at (one_step objects code expect.Answer s t (Gets (got.Value v) ∷ []) wants (got.Value v, [], refl, (refl, refl))))
+heard_tells objects code args before expect.Answer s (input.Answer (got.Raise e)) wants expects at =
+    let t : State = waiting expect.Ended s in
+    let end : List Own = Ends (s.at - 1) (ending.Raise e) ∷ [] in
+    let run = run_extended objects code args 1 before (Gets (got.Raise e) ∷ end) s t at (one_step objects code expect.Answer s t (Gets (got.Raise e) ∷ end) wants (got.Raise e, end, refl, ([], refl, (refl, refl)))) in
+    inr (before, e, s.at - 1, refl, (t, subst (λ ts. IsAt objects code args ts t) (sym (append_assoc before (Gets (got.Raise e) ∷ []) end)) run))
+heard_tells objects code args before expect.Answer s (input.Answer (got.Stop v)) wants expects at = absurd expects
+heard_tells objects code args before expect.Ended s i wants expects at = absurd expects
 
 -- an activation that goes on by what its frame expects has told what the rows may
 pub goes_tells : (codes : List PyCode) (objects : List Payload) (events : List Event) (r : Running) (i : Input)
@@ -87,7 +66,7 @@ goes_tells codes objects events r i p expects = (
   p.is_function,
   p.code,
   p.is_code,
-  subst (λ own. RowsRunOn objects p.code p.activation.args own) (sym p.whole) (front_run objects p.code p.activation.args p.before r.frame i p.is_at expects),
+  subst (λ own. RowsTell objects p.code p.activation.args own) (sym p.whole) (heard_tells objects p.code p.activation.args p.before r.frame.wants r.frame i refl expects p.is_at),
 )
 
 -- so has one that has nothing to hear
@@ -98,7 +77,7 @@ rests_tells codes objects events r p = (
   p.is_function,
   p.code,
   p.is_code,
-  ([], (r.frame, subst (λ ts. IsAt objects p.code p.activation.args ts r.frame) (sym (append-nil (own_events r.act events) ∙ p.whole ∙ append-nil p.before)) p.is_at)),
+  inl (r.frame, subst (λ ts. IsAt objects p.code p.activation.args ts r.frame) (sym (p.whole ∙ append-nil p.before)) p.is_at),
 )
 
 -- what is heard in a list of events is heard in its parts

@@ -1,5 +1,5 @@
 -- New objects that give replies.
-use Rattle.std.proofs.Common.{◌≡◌, ◌<◌, ◌≤◌, ◌+◌, ◌++◌, ◌||◌, ℕ, zero, suc, List, [], ◌∷◌, Bool, true, false, cond, Some, refl, sym, ap, subst, ◌∙◌, length, length-append, eqb, ne_eqb, arith}
+use Rattle.std.proofs.Common.{◌≡◌, ◌<◌, ◌≤◌, ◌+◌, ◌++◌, ◌||◌, ℕ, suc, List, [], ◌∷◌, Bool, true, false, cond, Some, refl, sym, ap, subst, ◌∙◌, length, length-append, eqb, ne_eqb, arith}
 use Rattle.std.specs.Prelude.{Option, None, slice_get}
 use Rattle.std.proofs.lemmas.Option.{slice_get_within}
 use Rattle.py_objects.specs.declared.refs.PyTypeRef.{PyTypeRef}
@@ -10,10 +10,10 @@ use Rattle.py_objects.specs.declared.payload.ErrorKind.{ErrorKind}
 use Rattle.py_objects.specs.declared.event.Event.{Event}
 use Rattle.py_objects.specs.declared.event.GotAnswer.TheVariants as got
 use Rattle.py_objects.specs.Objects.{Obj, Name, HasPayload, Grows, class_object, declares, is_name, declared_from, declared, name_of, is_among, event_numbers, payload_numbers, IsNew, AllBelow, AreNamed, IsMade, AllFit, GrowsPlainly}
-use Rattle.py_frame.proofs.Growing.{payload_grown, slice_get_grown}
-use Rattle.py_frame.proofs.PlainGrowth.{plainly_grows, grows_plainly_refl, grows_plainly_trans, grows_plainly_by, declared_grown, length_grown}
+use Rattle.py_frame.proofs.Growing.{payload_grown}
+use Rattle.py_frame.proofs.PlainGrowth.{plainly_grows, grows_plainly_refl, grows_plainly_trans, grows_plainly_by, declared_grown}
 use Rattle.py_vm.specs.declared.exceptions.ExceptionZoo.{ExceptionZoo}
-use Rattle.py_vm.specs.Answers.{Has, Fails, IsRaised}
+use Rattle.py_vm.specs.Answers.{Has, Fails}
 use Rattle.py_vm.specs.Classes.{class_of, HaveClasses}
 use Rattle.py_vm.specs.Replying.{IsClass, IsNewException}
 use Rattle.py_vm.specs.Turns.{IsGiven}

@@ -1,6 +1,6 @@
 -- A run as objects and drives grow, and as one more event comes.
-use Rattle.std.proofs.Common.{◌≡◌, ◌<◌, ◌+◌, ℕ, suc, List, [], ◌∷◌, ◌++◌, Bool, true, false, cond, Some, refl, sym, ap, subst, ◌∙◌, length, length-append, append_assoc, append-nil, arith}
-use Rattle.std.specs.Prelude.{Option, None, slice_get}
+use Rattle.std.proofs.Common.{◌≡◌, ◌+◌, ℕ, suc, List, [], ◌∷◌, ◌++◌, cond, Some, refl, sym, ap, subst, ◌∙◌, length, length-append, append_assoc, append-nil, arith}
+use Rattle.std.specs.Prelude.{None, slice_get}
 use Rattle.py_objects.specs.declared.refs.PyBaseExceptionRef.{PyBaseExceptionRef}
 use Rattle.py_objects.specs.declared.payload.Payload.{Payload}
 use Rattle.py_objects.specs.declared.payload.Payload.TheVariants as payload
@@ -11,7 +11,7 @@ use Rattle.py_objects.specs.declared.event.GotAnswer.{GotAnswer}
 use Rattle.py_objects.specs.declared.event.GotAnswer.TheVariants as got
 use Rattle.py_objects.specs.declared.event.Event.{Event}
 use Rattle.py_objects.specs.declared.event.Event.TheVariants as event
-use Rattle.py_objects.specs.Objects.{Obj, Name, HasPayload, Grows, declares, is_name, declared_from, declared, IsNew, GrowsPlainly}
+use Rattle.py_objects.specs.Objects.{Name, Grows, declares, is_name, declared_from, declared, IsNew, GrowsPlainly}
 use Rattle.py_frame.proofs.Growing.{payload_grown, slice_get_grown}
 use Rattle.py_frame.proofs.PlainGrowth.{plainly_grows}
 use Rattle.py_vm.specs.declared.drive.Drive.{Drive}

@@ -1,28 +1,26 @@
 -- Machines between drives, and what a drive adds.
-use Rattle.std.proofs.Common.{◌≡◌, ◌<◌, ◌≤◌, ◌+◌, ◌++◌, ℕ, zero, suc, List, [], ◌∷◌, Some, inl, inr, refl, sym, ap, subst, ◌∙◌, length, length-append, append_assoc, append-nil, add-one, arith}
+use Rattle.std.proofs.Common.{◌≡◌, ◌≤◌, ◌+◌, ◌++◌, ℕ, zero, suc, List, [], ◌∷◌, Some, inl, inr, refl, sym, ap, subst, ◌∙◌, length, length-append, append_assoc, append-nil, add-one, arith}
 use Rattle.std.specs.Prelude.{Option, None, slice_get}
 use Rattle.py_code.specs.declared.code.PyCode.{PyCode}
 use Rattle.py_code.specs.Codes.{Codes}
 use Rattle.py_objects.specs.declared.payload.Payload.{Payload}
 use Rattle.py_objects.specs.declared.payload.Payload.TheVariants as payload
-use Rattle.py_objects.specs.declared.payload.ErrorKind.{ErrorKind}
 use Rattle.py_objects.specs.declared.payload.ErrorKind.TheVariants.{NameError, OverflowError, RecursionError, TypeError, UnboundLocalError}
-use Rattle.py_objects.specs.declared.event.Event.{Event}
 use Rattle.py_objects.specs.declared.event.Event.TheVariants as event
 use Rattle.py_objects.specs.declared.event.DriveAnswer.{DriveAnswer}
-use Rattle.py_objects.specs.Objects.{Obj, HasPayload, Grows, class_object, declared, name_of, payload_numbers, AllBelow, IsMade, AllFit, AreNamed, GrowsPlainly}
+use Rattle.py_objects.specs.Objects.{Grows, payload_numbers, AllBelow, IsMade, AllFit, AreNamed}
 use Rattle.py_frame.proofs.PlainGrowth.{plainly_grows, grows_plainly_refl, grows_plainly_trans, made_grown, below_more, length_grown, slice_get_split}
 use Rattle.py_vm.specs.declared.drive.Drive.{Drive}
 use Rattle.py_vm.specs.declared.drive.Drive.TheVariants.{Call}
 use Rattle.py_vm.specs.declared.stage.Stage.{Stage}
 use Rattle.py_vm.specs.declared.stage.Stage.TheVariants as stage
 use Rattle.py_vm.specs.declared.vm.VirtualMachine.{VirtualMachine}
-use Rattle.py_vm.specs.Run.{State, Phase, Idle, start, state_after, EachTells, Comes}
+use Rattle.py_vm.specs.Run.{State, Idle, start, state_after, EachTells, Comes, IsDone, IsRunBy}
 use Rattle.py_vm.specs.RowsOf.{RowsOf}
-use Rattle.py_vm.specs.Classes.{class_of, class_payload, first_objects, first_classes, HaveClasses}
+use Rattle.py_vm.specs.Classes.{class_payload, first_objects, first_classes, HaveClasses}
 use Rattle.py_vm.specs.Machine.{events_of, objects_of, codes_of, done_of}
-use Rattle.py_vm.specs.Stands.{IsCallable, AtStage, phase_of, acts_of, Keeps, Stands, Adds, EndsBy}
-use Rattle.py_vm.specs.Turns.{first_stage, Halts, IsBusy, AsksFor, Turns, Drove}
+use Rattle.py_vm.specs.Stands.{IsCallable, AtStage, phase_of, acts_of, Stands, Adds, EndsBy}
+use Rattle.py_vm.specs.Turns.{first_stage, Halts, Turns, Drove}
 use Rattle.py_vm.proofs.OwnLemmas.{own_events-nil}
 use Rattle.py_objects.specs.Own.{own_events}
 use Rattle.py_vm.proofs.RowsOfLemmas.{tells_grow, tells_still}
@@ -49,6 +47,23 @@ stands_tells m stands = stands.keeps.tells
 
 pub stands_named : (m : VirtualMachine) → Stands m → AreNamed (objects_of m) (events_of m)
 stands_named m stands = stands.keeps.named
+
+-- all its drives are done
+pub stands_is_done : (m : VirtualMachine) → Stands m → IsDone (done_of m) (events_of m)
+stands_is_done m stands = record { done = refl; idle = stands_idle m stands }
+
+-- a machine without events has made a run of no drives
+pub nothing_runs : (m : VirtualMachine) → Stands m → events_of m ≡ [] → IsRunBy (RowsOf (codes_of m).codes (objects_of m)) [] (objects_of m) (events_of m)
+nothing_runs m stands none = record {
+  comes = subst (Comes [] m.store [] start) (sym none) tt;
+  tells = stands_tells m stands;
+  named = stands_named m stands;
+}
+
+-- a drive makes a run of one drive more, whole or not
+pub adds_run : (drive : Drive) (old new : VirtualMachine) (asked : List Drive) → length asked ≡ done_of old → Comes asked (objects_of old) [] start (events_of old) → Adds drive old new
+    → IsRunBy (RowsOf (codes_of new).codes (objects_of new)) (asked ++ drive ∷ []) (objects_of new) (events_of new)
+adds_run drive old new asked same comes adds = record { comes = adds.runs asked same comes; tells = adds.tells; named = adds.named }
 
 -- the objects that a machine begins with
 first_fit : AllFit first_objects

@@ -1,5 +1,5 @@
 -- One turn keeps the machine's invariant, and adds an event that may come.
-use Rattle.std.proofs.Common.{◌≡◌, ◌<◌, ◌≤◌, ◌-◌, ◌+◌, ◌++◌, ◌⊎◌, ℕ, zero, suc, List, [], ◌∷◌, Some, inl, inr, refl, sym, ap, subst, ◌∙◌, length, length-append, ne_eqb, arith}
+use Rattle.std.proofs.Common.{◌≡◌, ◌<◌, ◌≤◌, ◌-◌, ◌+◌, ◌++◌, ℕ, zero, suc, List, [], ◌∷◌, Some, refl, sym, ap, subst, ◌∙◌, length, length-append, ne_eqb, arith}
 use Rattle.std.specs.Prelude.{Option, None, Result, Ok, Err, OnErr, slice_get}
 use Rattle.std.proofs.lemmas.Option.{slice_get_within}
 use Rattle.py_code.specs.declared.code.PyCode.{PyCode}
@@ -7,7 +7,6 @@ use Rattle.py_objects.specs.declared.refs.PyBaseExceptionRef.{PyBaseExceptionRef
 use Rattle.py_objects.specs.declared.payload.Payload.{Payload}
 use Rattle.py_objects.specs.declared.payload.Payload.TheVariants as payload
 use Rattle.py_objects.specs.declared.payload.FunctionBody.{FunctionBody}
-use Rattle.py_objects.specs.declared.payload.ErrorKind.{ErrorKind}
 use Rattle.py_objects.specs.declared.request.Request.{Request}
 use Rattle.py_objects.specs.declared.event.Event.{Event}
 use Rattle.py_objects.specs.declared.event.Event.TheVariants as event
@@ -17,9 +16,8 @@ use Rattle.py_objects.specs.declared.event.GotAnswer.TheVariants as got
 use Rattle.py_objects.specs.declared.event.Ending.{Ending}
 use Rattle.py_objects.specs.declared.event.Ending.TheVariants as ending
 use Rattle.py_objects.specs.declared.event.DriveAnswer.{DriveAnswer}
-use Rattle.py_objects.specs.declared.event.DriveAnswer.TheVariants as answer
-use Rattle.py_objects.specs.Objects.{Obj, HasPayload, Grows, numbers, request_numbers, got_numbers, ending_numbers, result_numbers, event_numbers, AllBelow, AllFit, AreNamed, GrowsPlainly}
-use Rattle.py_objects.specs.Own.{Own, Makes, whose, own_of, own_events}
+use Rattle.py_objects.specs.Objects.{Obj, HasPayload, Grows, ending_numbers, result_numbers, event_numbers, AllBelow, AllFit, AreNamed, GrowsPlainly}
+use Rattle.py_objects.specs.Own.{Makes, whose, own_of, own_events}
 use Rattle.py_frame.specs.declared.input.Expect.{Expect}
 use Rattle.py_frame.specs.declared.input.Expect.TheVariants as expect
 use Rattle.py_frame.specs.declared.input.Input.{Input}
@@ -27,29 +25,25 @@ use Rattle.py_frame.specs.declared.input.Input.TheVariants as input
 use Rattle.py_frame.specs.declared.input.FrameStep.{FrameStep}
 use Rattle.py_frame.specs.declared.input.FrameStep.TheVariants as step
 use Rattle.py_frame.specs.Rows.{State as FrameState}
-use Rattle.py_frame.specs.RunOfRows.{started, IsAt, IsSound, IsRunning}
+use Rattle.py_frame.specs.RunOfRows.{started, IsAt, IsSound}
 use Rattle.py_frame.specs.Steps.{Expects, Extends, expected, heard, told}
-use Rattle.py_frame.specs.Laws.{HearsBelow}
-use Rattle.py_frame.proofs.Growing.{payload_grown, slice_get_grown}
-use Rattle.py_frame.proofs.PlainGrowth.{plainly_grows, grows_plainly_refl, grows_plainly_trans, declared_grown, below_more, length_grown}
+use Rattle.py_frame.proofs.Growing.{payload_grown}
+use Rattle.py_frame.proofs.PlainGrowth.{plainly_grows, grows_plainly_refl, grows_plainly_trans, declared_grown}
 use Rattle.py_vm.specs.declared.exceptions.ExceptionZoo.{ExceptionZoo}
-use Rattle.py_vm.specs.declared.drive.Drive.{Drive}
-use Rattle.py_vm.specs.declared.drive.Drive.TheVariants.{Call}
 use Rattle.py_vm.specs.declared.stage.Running.{Running}
 use Rattle.py_vm.specs.declared.stage.Stage.{Stage}
 use Rattle.py_vm.specs.declared.stage.Stage.TheVariants as stage
 use Rattle.py_vm.specs.declared.vm.VirtualMachine.{VirtualMachine}
-use Rattle.py_vm.specs.Answers.{Reply, Replies, Gives}
-use Rattle.py_vm.specs.Run.{State, Activation, Act, Phase, Due, start, after, state_after, left_by, top_asks, rest_of, IsTop, question, Answers_call, MayCome, EachTells}
+use Rattle.py_vm.specs.Answers.{Reply, Replies}
+use Rattle.py_vm.specs.Run.{State, Activation, start, after, state_after, left_by, top_asks, rest_of, IsTop, question, Answers_call, EachTells}
 use Rattle.py_vm.specs.RowsOf.{RowsOf}
 use Rattle.py_vm.specs.Classes.{HaveClasses}
-use Rattle.py_vm.specs.Stands.{CanCall, Plays, GoesBy, IsHalted, IsFresh, AtStage, Keeps}
-use Rattle.py_vm.specs.Turns.{begun_by, fresh, made_by, entered_by, ended_by, stepped_by, got_by, answer_by, result_by, IsHeard, IsGiven, CanGo, IsReady, Turned, IsBusy, Turns, Halts, IsFreshFor, Made_one}
+use Rattle.py_vm.specs.Stands.{CanCall, Plays, GoesBy, IsHalted, IsFresh, Keeps}
+use Rattle.py_vm.specs.Turns.{begun_by, fresh, made_by, entered_by, ended_by, stepped_by, got_by, answer_by, result_by, IsHeard, IsGiven, IsReady, Turned, IsBusy, Turns, Halts, IsFreshFor, Made_one}
 use Rattle.py_vm.proofs.OwnLemmas.{own_events_own, own_events_other, state_after-append, done_below, made_below}
-use Rattle.py_vm.proofs.RowsOfLemmas.{rows_of_still}
-use Rattle.py_vm.proofs.RunLemmas.{replies_grow, declared_stays}
+use Rattle.py_vm.proofs.RunLemmas.{replies_grow}
 use Rattle.py_vm.proofs.ReplyingLemmas.{newest}
-use Rattle.py_vm.proofs.PlaysLemmas.{goes_tells, rests_tells, hears_append, plays_hears, plays_tells, Told}
+use Rattle.py_vm.proofs.PlaysLemmas.{goes_tells, rests_tells, plays_hears, plays_tells, Told}
 use Rattle.py_vm.proofs.JournalLemmas.{named_on, later_on, tells_on, mine_tells}
 
 -- the built-in classes stay

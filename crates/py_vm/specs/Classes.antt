@@ -1,5 +1,5 @@
 -- The built-in exception classes among the objects.
-use Rattle.std.specs.Prelude.{ℕ, Some, List, [], ◌∷◌, ◌≡◌, map}
+use Rattle.std.specs.Prelude.{Some, List, ◌∷◌, ◌≡◌, map}
 use Rattle.py_objects.specs.declared.refs.PyTypeRef.{PyTypeRef}
 use Rattle.py_objects.specs.declared.payload.Payload.{Payload}
 use Rattle.py_objects.specs.declared.payload.Payload.TheVariants as payload

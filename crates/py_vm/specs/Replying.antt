@@ -1,6 +1,6 @@
 -- The replies that the machine makes, and new exceptions.
 use Rattle.std.specs.Int.{w128}
-use Rattle.std.specs.Prelude.{ℕ, FitsSigned, ◌<◌, ◌≤◌, Option, Some, None, List, [], ◌∷◌, ◌++◌, ◌≡◌, length}
+use Rattle.std.specs.Prelude.{FitsSigned, ◌<◌, ◌≤◌, Option, Some, None, List, [], ◌∷◌, ◌++◌, ◌≡◌, length}
 use Rattle.py_objects.specs.declared.refs.PyTypeRef.{PyTypeRef}
 use Rattle.py_objects.specs.declared.refs.PyBaseExceptionRef.{PyBaseExceptionRef}
 use Rattle.py_objects.specs.declared.payload.Payload.{Payload}

@@ -1,5 +1,5 @@
 -- The machine's invariant: its parts are what its events say, and each activation has told what the rows may.
-use Rattle.std.specs.Prelude.{ℕ, suc, ◌+◌, ◌<◌, ◌≤◌, Option, Some, None, List, [], ◌∷◌, ◌++◌, ◌≡◌, slice_get, length}
+use Rattle.std.specs.Prelude.{ℕ, suc, ◌<◌, Some, None, List, [], ◌∷◌, ◌++◌, ◌≡◌, slice_get, length}
 use Rattle.py_code.specs.declared.code.PyCode.{PyCode}
 use Rattle.py_objects.specs.declared.payload.Payload.{Payload}
 use Rattle.py_objects.specs.declared.payload.Payload.TheVariants as payload

@@ -59,7 +59,7 @@ fn binary(
 }
 
 /// The reply of an operator at two payloads.
-fn operate(
+pub(crate) fn operate(
     alloc: Global,
     store: &Store,
     op: Arithmetic,

@@ -14,3 +14,6 @@ pub use drive::Drive;
 pub use fault::VmFault;
 pub use journal::Journal;
 pub use vm::VirtualMachine;
+
+#[cfg(test)]
+mod tests;

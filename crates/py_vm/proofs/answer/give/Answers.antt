@@ -1,10 +1,8 @@
-use Rattle.std.proofs.Common.{◌≡◌, ◌++◌, ◌∷◌, [], ◌∙◌, sym, ap, subst, refl, ℤ}
+use Rattle.std.proofs.Common.{◌++◌, ◌∷◌, [], ◌∙◌, ap, refl, ℤ}
 use Rattle.std.specs.Int.{w128}
 use Rattle.std.specs.Prelude.{FitsSigned}
 use Rattle.std.proofs.lemmas.Int.{to_z-of_z}
 use Rattle.py_objects.specs.declared.payload.Payload.TheVariants as payload
-use Rattle.py_vm.specs.Replying.{reply_of, IsClass, IsSized}
-use Rattle.py_vm.specs.Turns.{IsGiven}
 use Rattle.py_vm.proofs.ReplyingLemmas.{still_plainly, text_grows, added_plainly, built_in_class, value_given, raise_given}
 use Rattle.py_vm.proofs.answer.give.Goals as goal
 

@@ -1,4 +1,3 @@
-use Rattle.std.specs.Prelude.{Some, None}
 use Rattle.py_vm.proofs.StandsLemmas.{drove_start, drove_on, last_adds, last_answer, halted_adds}
 use Rattle.py_vm.proofs.vm.VirtualMachine.drive.Goals as goal
 
