@@ -1,0 +1,8 @@
+-- what a script means
+pub mod Whole
+-- what is written
+pub mod Text
+-- what the words ask for
+pub mod Words
+-- when each answer of the top call comes
+pub mod Causes
