@@ -1,0 +1,14 @@
+-- how bytes are cut into lines, tokens and words
+pub mod Cuts
+pub mod Lexing
+pub mod Digits
+pub mod Eachs
+-- the program's lists by their trees
+pub mod Views
+-- the reader against the grammar
+pub mod Whole
+pub mod Sound
+pub mod Begun
+pub mod Verdicts
+-- what every script keeps
+pub mod Keeps

@@ -1,0 +1,14 @@
+-- what the contract of `parse_script` rests on: which bytes are a script, and which line is the bad one
+pub mod Script
+pub mod Grammar
+pub mod Rules
+pub mod Drive
+pub mod Says
+pub mod Words
+pub mod Tokens
+pub mod Lines
+-- what every script keeps, for the layers above
+pub mod WellFormed
+-- what the functions inside the crate promise each other
+pub mod Reader
+pub mod Reading

@@ -1,0 +1,80 @@
+-- The words of a script: names and numbers.
+use Rattle.std.specs.Prelude.{ℕ, ◌+◌, ◌-◌, ◌*◌, List, [], ◌∷◌, Bool, false, not, ◌||◌, ◌&&◌, if◌then◌else◌, ◌==◌, nat_le, length, bytes_eq, codes, fold, Option, Some, None, ℤ, pos, neg_ℤ, option_map}
+use Rattle.std.specs.List.{list_all}
+
+-- whether a byte is one of these and those between them
+abbrev pub between : ℕ → ℕ → ℕ → Bool
+between low high b = nat_le low b && nat_le b high
+
+abbrev pub is_digit : ℕ → Bool
+is_digit b = between 48 57 b
+
+-- a letter or _
+abbrev pub starts_name : ℕ → Bool
+starts_name b = between 65 90 b || between 97 122 b || (b == 95)
+
+-- a letter, a digit or _
+abbrev pub continues_name : ℕ → Bool
+continues_name b = starts_name b || is_digit b
+
+-- a letter or _, then letters, digits or _
+abbrev pub is_spelled_as_name : List ℕ → Bool
+is_spelled_as_name [] = false
+is_spelled_as_name (b ∷ bs) = starts_name b && list_all continues_name bs
+
+-- the words for constants
+abbrev pub is_constant_word : List ℕ → Bool
+is_constant_word w = bytes_eq w (codes "None") || bytes_eq w (codes "True") || bytes_eq w (codes "False")
+
+-- the words that begin declarations, and the one that ends them
+abbrev pub is_declaring_word : List ℕ → Bool
+is_declaring_word w =
+    bytes_eq w (codes "def") || bytes_eq w (codes "gen") || bytes_eq w (codes "async") || bytes_eq w (codes "class")
+    || bytes_eq w (codes "manager") || bytes_eq w (codes "code") || bytes_eq w (codes "end")
+
+-- the words that begin blocks
+abbrev pub is_block_word : List ℕ → Bool
+is_block_word w =
+    bytes_eq w (codes "if") || bytes_eq w (codes "else") || bytes_eq w (codes "while") || bytes_eq w (codes "for")
+    || bytes_eq w (codes "try") || bytes_eq w (codes "except") || bytes_eq w (codes "finally") || bytes_eq w (codes "with")
+
+-- the words that change which line comes next
+abbrev pub is_jump_word : List ℕ → Bool
+is_jump_word w =
+    bytes_eq w (codes "break") || bytes_eq w (codes "continue") || bytes_eq w (codes "return") || bytes_eq w (codes "raise")
+    || bytes_eq w (codes "reraise") || bytes_eq w (codes "pass")
+
+-- the words of statements on names and values
+abbrev pub is_statement_word : List ℕ → Bool
+is_statement_word w =
+    bytes_eq w (codes "show") || bytes_eq w (codes "do") || bytes_eq w (codes "del") || bytes_eq w (codes "unpack")
+    || bytes_eq w (codes "global") || bytes_eq w (codes "nonlocal") || bytes_eq w (codes "import")
+
+-- the words that stand inside statements
+abbrev pub is_inner_word : List ℕ → Bool
+is_inner_word w = bytes_eq w (codes "await") || bytes_eq w (codes "from") || bytes_eq w (codes "in") || bytes_eq w (codes "type")
+
+-- a word of the language, which is no name
+abbrev pub is_reserved : List ℕ → Bool
+is_reserved w = is_constant_word w || is_declaring_word w || is_block_word w || is_jump_word w || is_statement_word w || is_inner_word w
+
+abbrev pub is_name : List ℕ → Bool
+is_name w = is_spelled_as_name w && not (is_reserved w)
+
+-- 1 to 18 decimal digits
+abbrev pub are_digits : List ℕ → Bool
+are_digits digits = nat_le 1 (length digits) && nat_le (length digits) 18 && list_all is_digit digits
+
+-- the number that decimal digits spell
+abbrev pub value_of : List ℕ → ℕ
+value_of digits = fold (λ n b. n * 10 + (b - 48)) 0 digits
+
+abbrev pub digits_number : List ℕ → Option ℕ
+digits_number digits = if are_digits digits then Some (value_of digits) else None
+
+-- the number that a word spells: digits, with a minus in front or without
+abbrev pub number_of : List ℕ → Option ℤ
+number_of [] = None
+number_of (b ∷ bs) =
+    if b == 45 then option_map (λ n. neg_ℤ (pos n)) (digits_number bs)
+    else option_map pos (digits_number (b ∷ bs))

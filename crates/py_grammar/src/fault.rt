@@ -1,0 +1,23 @@
+//! Why bytes give no script.
+
+use py_code::NoMemory;
+
+/// Why bytes give no script.
+#[derive(Clone, Copy, Debug, PartialEq, Eq)]
+pub enum ParseFault {
+    /// The bad line, from 1: the least with which no script begins, or the one behind the last where a body is left open.
+    Malformed(u64),
+    /// Memory ran out.
+    NoMemory,
+}
+
+impl From<NoMemory> for ParseFault {
+    ghost use Rattle.std.specs.Prelude.{◌≡◌};
+    ghost use Rattle.py_grammar.specs.declared.fault.ParseFault.TheVariants.{NoMemory};
+
+    ghost from_gives = { λ _ e. e ≡ NoMemory };
+
+    fn from(_error: NoMemory) -> ParseFault {
+        ParseFault::NoMemory
+    }
+}

@@ -1,0 +1,276 @@
+//! What a line says, by its tokens.
+
+ghost use Rattle.std.specs.Prelude.{◌≡◌, IfOk, MatchOption, Some, None, map, ◌∷◌};
+ghost use Rattle.py_grammar.specs.Tokens.{lexeme_of, Word};
+ghost use Rattle.py_grammar.specs.Words.{number_of as number_in};
+ghost use Rattle.py_grammar.specs.Says.{name_of as name_in, atom_of as atom_in, name_atom as name_atom_in, number_atom, each, alone, only_atom, operator_of as operator_in, before_close as before_close_in, operation, value_form, def_form, call_form, assign_form, line_form, begins_equals as begin_equals, says};
+
+use crate::line::{Line, LineRead};
+use crate::token::{Token, tokens_of};
+use crate::words::{is_name, number_of};
+use py_body::{Atom, AtomList, Operator, ParamList};
+use py_code::{NoMemory, PyText, text_of};
+use std::alloc::Global;
+
+/// The name that a token is.
+fn name_of(alloc: Global, token: &Token<'_>) -> Result<Option<PyText>, NoMemory>
+    ensures { IfOk result (λ name. name ≡ name_in (lexeme_of token.now)) }
+{
+    match token {
+        Token::Word(word) if is_name(word) => Ok(Some(text_of(alloc, word)?)),
+        _ => Ok(None),
+    }
+}
+
+fn name_atom(alloc: Global, word: &[u8]) -> Result<Option<Atom>, NoMemory>
+    ensures { IfOk result (λ atom. atom ≡ name_atom_in word.now) }
+{
+    if !is_name(word) {
+        return Ok(None);
+    }
+    Ok(Some(Atom::Name(text_of(alloc, word)?)))
+}
+
+fn word_atom(alloc: Global, word: &[u8]) -> Result<Option<Atom>, NoMemory>
+    ensures { IfOk result (λ atom. atom ≡ number_atom (number_in word.now) word.now) }
+{
+    if let Some(number) = number_of(word) {
+        return Ok(Some(Atom::Int(number)));
+    }
+    name_atom(alloc, word)
+}
+
+/// The atom that a token is.
+fn atom_of(alloc: Global, token: &Token<'_>) -> Result<Option<Atom>, NoMemory>
+    ensures { IfOk result (λ atom. atom ≡ atom_in (lexeme_of token.now)) }
+{
+    match token {
+        Token::Word(word) => word_atom(alloc, word),
+        Token::Open => Ok(None),
+        Token::Close => Ok(None),
+        Token::Equals => Ok(None),
+    }
+}
+
+/// The names that all the tokens are.
+fn names_of(alloc: Global, tokens: &[Token<'_>]) -> Result<Option<ParamList>, NoMemory>
+    ensures { IfOk result (λ names. names ≡ each name_in (map lexeme_of tokens.now)) }
+{
+    let mut names = ParamList::new(alloc);
+    for token in tokens {
+        match name_of(alloc, token)? {
+            Some(name) => names.push(name)?,
+            None => return Ok(None),
+        }
+    }
+    Ok(Some(names))
+}
+
+/// The atoms that all the tokens are.
+fn atoms_of(alloc: Global, tokens: &[Token<'_>]) -> Result<Option<AtomList>, NoMemory>
+    ensures { IfOk result (λ atoms. atoms ≡ each atom_in (map lexeme_of tokens.now)) }
+{
+    let mut atoms = AtomList::new(alloc);
+    for token in tokens {
+        match atom_of(alloc, token)? {
+            Some(atom) => atoms.push(atom)?,
+            None => return Ok(None),
+        }
+    }
+    Ok(Some(atoms))
+}
+
+/// A line, where nothing stands behind it.
+fn lone(line: Line, tokens: &[Token<'_>]) -> Option<Line>
+    ensures { result ≡ alone line (map lexeme_of tokens.now) }
+{
+    if tokens.is_empty() { Some(line) } else { None }
+}
+
+/// The atom that is the only token.
+fn lone_atom(alloc: Global, tokens: &[Token<'_>]) -> Result<Option<Atom>, NoMemory>
+    ensures { IfOk result (λ atom. atom ≡ only_atom (map lexeme_of tokens.now)) }
+{
+    match tokens {
+        [atom] => atom_of(alloc, atom),
+        _ => Ok(None),
+    }
+}
+
+/// The line of a `def` with these tokens behind it.
+fn def_line(alloc: Global, tokens: &[Token<'_>]) -> Result<Option<Line>, NoMemory>
+    ensures { IfOk result (λ line. line ≡ def_form (map lexeme_of tokens.now)) }
+{
+    let Some((name, params)) = tokens.split_first() else {
+        return Ok(None);
+    };
+    match (name_of(alloc, name)?, names_of(alloc, params)?) {
+        (Some(name), Some(params)) => Ok(Some(Line::Def(name, params))),
+        _ => Ok(None),
+    }
+}
+
+/// The line of a `call` with these tokens behind it.
+fn call_line(alloc: Global, tokens: &[Token<'_>]) -> Result<Option<Line>, NoMemory>
+    ensures { IfOk result (λ line. line ≡ call_form (map lexeme_of tokens.now)) }
+{
+    let Some((name, args)) = tokens.split_first() else {
+        return Ok(None);
+    };
+    match (name_of(alloc, name)?, atoms_of(alloc, args)?) {
+        (Some(name), Some(args)) => Ok(Some(Line::Call(name, args))),
+        _ => Ok(None),
+    }
+}
+
+/// The operator that a token is.
+fn operator_of(token: &Token<'_>) -> Option<Operator>
+    ensures { result ≡ operator_in (lexeme_of token.now) }
+{
+    let Token::Word(word) = token else {
+        return None;
+    };
+    if *word == b"add".as_slice() {
+        return Some(Operator::Add);
+    }
+    None
+}
+
+/// The tokens before a `)` that is the last.
+#[tactic(auto, using(crate::proofs::Eachs::before_yes, crate::proofs::Eachs::before_no, crate::proofs::Eachs::before_none))]
+fn before_close<'t, 'b>(tokens: &'t [Token<'b>]) -> Option<&'t [Token<'b>]>
+    ensures { MatchOption result (before_close_in (map lexeme_of tokens.now) ≡ None) (λ front. before_close_in (map lexeme_of tokens.now) ≡ Some (map lexeme_of front.now)) }
+{
+    let Some((last, front)) = tokens.split_last() else {
+        return None;
+    };
+    if !matches!(last, Token::Close) {
+        return None;
+    }
+    Some(front)
+}
+
+/// The line of an operator and its arguments, of which a name is the target.
+fn operation_line(
+    alloc: Global,
+    target: Option<PyText>,
+    tokens: &[Token<'_>],
+) -> Result<Option<Line>, NoMemory>
+    ensures { IfOk result (λ line. line ≡ operation target (map lexeme_of tokens.now)) }
+{
+    let Some((op, args)) = tokens.split_first() else {
+        return Ok(None);
+    };
+    let Some(atoms) = atoms_of(alloc, args)? else {
+        return Ok(None);
+    };
+    let Some(op) = operator_of(op) else {
+        return Ok(None);
+    };
+    let Some(name) = target else {
+        return Ok(None);
+    };
+    Ok(Some(Line::Operate(name, op, atoms)))
+}
+
+/// The line of what is assigned to a target.
+fn value_line(
+    alloc: Global,
+    target: Option<PyText>,
+    tokens: &[Token<'_>],
+) -> Result<Option<Line>, NoMemory>
+    ensures { IfOk result (λ line. line ≡ value_form target (map lexeme_of tokens.now)) }
+{
+    let Some((first, rest)) = tokens.split_first() else {
+        return Ok(None);
+    };
+    if !matches!(first, Token::Open) {
+        return Ok(None);
+    }
+    let Some(inner) = before_close(rest) else {
+        return Ok(None);
+    };
+    operation_line(alloc, target, inner)
+}
+
+/// The line of an assignment to a target, of which these tokens stand behind it.
+fn assign_line(
+    alloc: Global,
+    target: &Token<'_>,
+    tokens: &[Token<'_>],
+) -> Result<Option<Line>, NoMemory>
+    ensures { IfOk result (λ line. line ≡ assign_form (lexeme_of target.now) (map lexeme_of tokens.now)) }
+{
+    let Some((equals, rest)) = tokens.split_first() else {
+        return Ok(None);
+    };
+    if !matches!(equals, Token::Equals) {
+        return Ok(None);
+    }
+    value_line(alloc, name_of(alloc, target)?, rest)
+}
+
+fn begins_equals(tokens: &[Token<'_>]) -> bool
+    ensures { result ≡ begin_equals (map lexeme_of tokens.now) }
+{
+    match tokens.split_first() {
+        None => false,
+        Some((first, _)) => matches!(first, Token::Equals),
+    }
+}
+
+/// The line of a word and the tokens behind it.
+fn word_line(
+    alloc: Global,
+    first: &Token<'_>,
+    word: &[u8],
+    rest: &[Token<'_>],
+) -> Result<Option<Line>, NoMemory>
+    requires { lexeme_of first.now ≡ Word word.now }
+    ensures { IfOk result (λ line. line ≡ line_form (lexeme_of first.now ∷ map lexeme_of rest.now)) }
+{
+    if word == b"end".as_slice() {
+        return Ok(lone(Line::End, rest));
+    }
+    if word == b"return".as_slice() {
+        return Ok(lone_atom(alloc, rest)?.map(Line::Return));
+    }
+    if word == b"def".as_slice() {
+        return def_line(alloc, rest);
+    }
+    if word == b"call".as_slice() {
+        if !begins_equals(rest) {
+            return call_line(alloc, rest);
+        }
+    }
+    assign_line(alloc, first, rest)
+}
+
+/// The line that tokens are.
+fn form_of(alloc: Global, tokens: &[Token<'_>]) -> Result<Option<Line>, NoMemory>
+    ensures { IfOk result (λ line. line ≡ line_form (map lexeme_of tokens.now)) }
+{
+    let Some((first, rest)) = tokens.split_first() else {
+        return Ok(None);
+    };
+    match first {
+        Token::Word(word) => word_line(alloc, first, word, rest),
+        Token::Open => Ok(None),
+        Token::Close => Ok(None),
+        Token::Equals => Ok(None),
+    }
+}
+
+/// What a line says.
+pub fn line_of(alloc: Global, line: &[u8]) -> Result<LineRead, NoMemory>
+    ensures { IfOk result (λ read. read ≡ says line.now) }
+{
+    let tokens = tokens_of(alloc, line)?;
+    if tokens.is_empty() {
+        return Ok(LineRead::Blank);
+    }
+    match form_of(alloc, tokens.as_slice())? {
+        Some(line) => Ok(LineRead::Said(line)),
+        None => Ok(LineRead::Malformed),
+    }
+}

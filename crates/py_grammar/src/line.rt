@@ -1,0 +1,48 @@
+//! What a line says, apart from where it stands.
+
+ghost use Rattle.std.specs.Prelude.{◌≡◌};
+ghost use Rattle.py_grammar.specs.Reader.{is_end as is_end_line};
+
+use py_body::{Atom, AtomList, Operator, ParamList};
+use py_code::PyText;
+
+/// A line that says something.
+#[derive(Drop)]
+pub enum Line {
+    /// `end`.
+    End,
+    /// `return a`.
+    Return(Atom),
+    /// `x = (op a ..)`.
+    Operate(PyText, Operator, AtomList),
+    /// `def f p ..`.
+    Def(PyText, ParamList),
+    /// `call f a ..`.
+    Call(PyText, AtomList),
+}
+
+impl Line {
+    /// Whether a line is an `end`.
+    pub fn is_end(&self) -> bool
+        ensures { result ≡ is_end_line self.now }
+    {
+        match self {
+            Line::End => true,
+            Line::Return(_) => false,
+            Line::Operate(_, _, _) => false,
+            Line::Def(_, _) => false,
+            Line::Call(_, _) => false,
+        }
+    }
+}
+
+/// How a line reads by itself.
+#[derive(Drop)]
+pub enum LineRead {
+    /// Nothing stands in the line.
+    Blank,
+    /// The line says this.
+    Said(Line),
+    /// The line is of no form.
+    Malformed,
+}

@@ -1,0 +1,91 @@
+//! Bytes to scripts.
+
+ghost use Rattle.std.specs.Prelude.{◌≡◌, ◌≤◌, ◌⊎◌, IfOk, IsOk, Some, None, Err, true, false, length, [], ℕ};
+ghost use Rattle.py_grammar.specs.Script.{IsScript, IsBadLine, trees_of, drives_of};
+ghost use Rattle.py_grammar.specs.WellFormed.{IsWellFormed};
+ghost use Rattle.py_grammar.specs.Lines.{lines};
+ghost use Rattle.py_grammar.specs.Says.{says};
+ghost use Rattle.py_grammar.specs.Reader.{takes_line, walk, start};
+ghost use Rattle.py_grammar.specs.Reading.{state_of, IsAnswerOf};
+ghost use Rattle.py_grammar.specs.declared.fault.ParseFault.TheVariants.{Malformed, NoMemory as OutOfMemory};
+ghost use Rattle.py_grammar.specs.declared.script.Script.{Script as ScriptOf};
+
+use crate::fault::ParseFault;
+use crate::forms::line_of;
+use crate::line::LineRead;
+use crate::lines::first_line;
+use crate::reader::Reader;
+use crate::script::Script;
+use py_code::NoMemory;
+use std::alloc::Global;
+
+/// A line of the text: whether it may stand here.
+fn push_bytes(reader: &mut Reader, number: u32, line: &[u8]) -> Result<bool, NoMemory>
+    ensures yes { IfOk result (λ ok. ok ≡ true → takes_line (state_of reader.old) number (says line.now) ≡ Some (state_of reader.new)) }
+    ensures no { IfOk result (λ ok. ok ≡ false → takes_line (state_of reader.old) number (says line.now) ≡ None) }
+{
+    match line_of(reader.alloc, line)? {
+        LineRead::Blank => Ok(true),
+        LineRead::Said(line) => reader.push_line(number, line),
+        LineRead::Malformed => Ok(false),
+    }
+}
+
+/// The script at the end of the lines, of which this would be the number of the next.
+fn script_of(reader: Reader, number: u32) -> Result<Script, ParseFault>
+    ensures { IsAnswerOf (walk (state_of reader) number []) result }
+{
+    let Reader {
+        alloc: _,
+        declarations,
+        drives,
+        inside,
+    } = reader;
+    match inside {
+        None => Ok(Script {
+            declarations,
+            drives,
+        }),
+        Some(_) => Err(ParseFault::Malformed(u64::from(number))),
+    }
+}
+
+/// What the lines of bytes say to the reader, one after another.
+fn read_lines(alloc: Global, bytes: &[u8]) -> Result<Script, ParseFault>
+    requires { length bytes.now ≤ 1048576 }
+    ensures { IsAnswerOf (walk start 1 (lines bytes.now)) result }
+{
+    let mut reader = Reader::new(alloc);
+    let mut rest = bytes;
+    let mut number: u32 = 1;
+    while let Some((line, more)) = first_line(rest) {
+        if !push_bytes(&mut reader, number, line)? {
+            return Err(ParseFault::Malformed(u64::from(number)));
+        }
+        rest = more;
+        number += 1;
+    }
+    script_of(reader, number)
+}
+
+/// The script that bytes are, or the line that makes them none.
+#[tactic(auto, using(crate::proofs::Verdicts::answer_ok, crate::proofs::Verdicts::answer_well_formed, crate::proofs::Verdicts::answer_malformed))]
+pub fn parse_script(alloc: Global, bytes: &[u8]) -> Result<Script, ParseFault>
+    requires { length bytes.now ≤ 1048576 }
+    ensures ok { IfOk result (λ script. IsScript bytes.now script) }
+    ensures well_formed { IfOk result (λ script. IsWellFormed script) }
+    ensures malformed { (k : ℕ) → result ≡ Err (Malformed k) → IsBadLine bytes.now k }
+
+    // Memory is the only reason for which it refuses a script, or doesn't name the bad line.
+    ensures only_scripts { (script : ScriptOf) → IsScript bytes.now script → (result ≡ Err OutOfMemory) ⊎ IsOk result }
+    ensures bad { (k : ℕ) → IsBadLine bytes.now k → (result ≡ Err OutOfMemory) ⊎ (result ≡ Err (Malformed k)) }
+{
+    read_lines(alloc, bytes)
+}
+
+/// What the grammar keeps: bytes are one script at most and have one bad line at most, never both.
+pub fn one_script(bytes: &[u8])
+    ensures one_tree { (s : ScriptOf) → (t : ScriptOf) → IsScript bytes.now s → IsScript bytes.now t → (trees_of s ≡ trees_of t) × (drives_of s ≡ drives_of t) }
+    ensures not_both { (s : ScriptOf) → (k : ℕ) → IsScript bytes.now s → IsBadLine bytes.now k → ⊥ }
+    ensures one_bad { (j : ℕ) → (k : ℕ) → IsBadLine bytes.now j → IsBadLine bytes.now k → j ≡ k }
+{}

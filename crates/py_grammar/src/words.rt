@@ -1,0 +1,153 @@
+//! The words of a script: names and numbers.
+
+ghost use Rattle.std.specs.Prelude.{◌≡◌, ◌<◌, ◌≤◌, ◌^◌, pos, neg_ℤ, IfSome};
+ghost use Rattle.std.specs.List.{list_all};
+ghost use Rattle.py_grammar.specs.Words.{starts_name as starts_name_byte, continues_name as continues_name_byte, is_constant_word as is_constant, is_declaring_word as is_declaring, is_block_word as is_block, is_jump_word as is_jump, is_statement_word as is_statement, is_inner_word as is_inner, is_reserved as is_reserved_word, is_name as is_name_word, is_spelled_as_name as is_spelled, digits_number as digits_number_in, number_of as number_in};
+
+fn starts_name(byte: u8) -> bool
+    ensures { result ≡ starts_name_byte byte }
+{
+    byte.is_ascii_alphabetic() || byte == b'_'
+}
+
+fn continues_name(byte: u8) -> bool
+    ensures { result ≡ continues_name_byte byte }
+{
+    starts_name(byte) || byte.is_ascii_digit()
+}
+
+fn all_continue(bytes: &[u8]) -> bool
+    ensures { result ≡ list_all continues_name_byte bytes.now }
+{
+    bytes.iter().all(|b| continues_name(*b))
+}
+
+/// Whether a word is a letter or `_`, then letters, digits or `_`.
+fn is_spelled_as_name(word: &[u8]) -> bool
+    ensures { result ≡ is_spelled word.now }
+{
+    match word.split_first() {
+        None => false,
+        Some((first, rest)) => { starts_name(*first) && all_continue(rest) }
+    }
+}
+
+fn is_constant_word(word: &[u8]) -> bool
+    ensures { result ≡ is_constant word.now }
+{
+    word == b"None".as_slice() || word == b"True".as_slice() || word == b"False".as_slice()
+}
+
+fn is_declaring_word(word: &[u8]) -> bool
+    ensures { result ≡ is_declaring word.now }
+{
+    word == b"def".as_slice()
+        || word == b"gen".as_slice()
+        || word == b"async".as_slice()
+        || word == b"class".as_slice()
+        || word == b"manager".as_slice()
+        || word == b"code".as_slice()
+        || word == b"end".as_slice()
+}
+
+fn is_block_word(word: &[u8]) -> bool
+    ensures { result ≡ is_block word.now }
+{
+    word == b"if".as_slice()
+        || word == b"else".as_slice()
+        || word == b"while".as_slice()
+        || word == b"for".as_slice()
+        || word == b"try".as_slice()
+        || word == b"except".as_slice()
+        || word == b"finally".as_slice()
+        || word == b"with".as_slice()
+}
+
+fn is_jump_word(word: &[u8]) -> bool
+    ensures { result ≡ is_jump word.now }
+{
+    word == b"break".as_slice()
+        || word == b"continue".as_slice()
+        || word == b"return".as_slice()
+        || word == b"raise".as_slice()
+        || word == b"reraise".as_slice()
+        || word == b"pass".as_slice()
+}
+
+fn is_statement_word(word: &[u8]) -> bool
+    ensures { result ≡ is_statement word.now }
+{
+    word == b"show".as_slice()
+        || word == b"do".as_slice()
+        || word == b"del".as_slice()
+        || word == b"unpack".as_slice()
+        || word == b"global".as_slice()
+        || word == b"nonlocal".as_slice()
+        || word == b"import".as_slice()
+}
+
+fn is_inner_word(word: &[u8]) -> bool
+    ensures { result ≡ is_inner word.now }
+{
+    word == b"await".as_slice()
+        || word == b"from".as_slice()
+        || word == b"in".as_slice()
+        || word == b"type".as_slice()
+}
+
+/// Whether a word is one of the language, and so no name.
+fn is_reserved(word: &[u8]) -> bool
+    ensures { result ≡ is_reserved_word word.now }
+{
+    is_constant_word(word)
+        || is_declaring_word(word)
+        || is_block_word(word)
+        || is_jump_word(word)
+        || is_statement_word(word)
+        || is_inner_word(word)
+}
+
+/// Whether a word is a name.
+pub fn is_name(word: &[u8]) -> bool
+    ensures { result ≡ is_name_word word.now }
+{
+    is_spelled_as_name(word) && !is_reserved(word)
+}
+
+/// The number that 1 to 18 decimal digits spell.
+#[tactic(auto, using(crate::proofs::Digits::next_small))]
+fn digits_number(digits: &[u8]) -> Option<u64>
+    ensures is { result ≡ digits_number_in digits.now }
+    ensures small { IfSome result (λ n. n < 1000000000000000000) }
+{
+    if digits.is_empty() || digits.len() > 18 {
+        return None;
+    }
+    let mut value: u64 = 0;
+    for digit in digits {
+        if !digit.is_ascii_digit() {
+            return None;
+        }
+        value = value * 10 + u64::from(*digit - b'0');
+    }
+    Some(value)
+}
+
+/// The number that a word spells: digits, with a minus in front or without.
+pub fn number_of(word: &[u8]) -> Option<i128>
+    ensures { result ≡ number_in word.now }
+{
+    let Some((first, rest)) = word.split_first() else {
+        return None;
+    };
+    if *first == b'-' {
+        let Some(size) = digits_number(rest) else {
+            return None;
+        };
+        return Some(-i128::from(size));
+    }
+    let Some(size) = digits_number(word) else {
+        return None;
+    };
+    Some(i128::from(size))
+}
