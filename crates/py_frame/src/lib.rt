@@ -2,5 +2,7 @@
 #![tactic(auto)]
 
 mod input;
+mod laws;
 
 pub use input::{Expect, FrameStep, Input};
+pub use laws::runs_of_rows;

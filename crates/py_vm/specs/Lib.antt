@@ -2,3 +2,5 @@
 pub mod Answers
 -- which event may come next, and what a run is
 pub mod Run
+-- what activations tell by the rows of their code
+pub mod RowsOf
