@@ -1,4 +1,4 @@
-use Rattle.std.proofs.Common.{Some, ap, sym, ◌∙◌}
+use Rattle.std.proofs.Common.{ap, sym, ◌∙◌}
 use Rattle.std.specs.Prelude.{option_map}
 use Rattle.py_code.proofs.NamesLemmas.{absent_text, found_text, place_of-view}
 use Rattle.py_code.proofs.names.Names.get.Goals as goal

@@ -1,4 +1,4 @@
-use Rattle.std.proofs.Common.{refl, sym, ◌∙◌, subst}
+use Rattle.std.proofs.Common.{refl, sym, subst}
 use Rattle.py_code.proofs.NamesLemmas.{found_text, interned-known, interned-view, place_of-inserted, TextsDiffer-interned}
 use Rattle.py_code.specs.Names.{TextsDiffer}
 use Rattle.py_code.proofs.names.Names.intern.Goals as goal
