@@ -1,0 +1,2 @@
+-- what a script gives the compiler and the machine
+pub mod Closed
