@@ -1,5 +1,5 @@
 -- What is read to the end of a source, and what is written whole.
-use Rattle.std.specs.Prelude.{◌≡◌, ℕ, ◌+◌, ◌<◌, ◌≤◌, List, ◌++◌, length, take, Bool, IsTrue, Option, IfSome, Result, IsErrOf}
+use Rattle.std.specs.Prelude.{◌≡◌, ℕ, ◌<◌, ◌≤◌, List, ◌++◌, length, take, Bool, IsTrue, Option, IfSome, Result, IsErrOf}
 use Rattle.std.specs.Io.KnownBytes.{Consumes, Appends, IsAtEnd}
 use Rattle.py_outside.specs.declared.reading.ReadError.{ReadError}
 use Rattle.py_outside.specs.declared.reading.ReadError.TheVariants.{Fault}

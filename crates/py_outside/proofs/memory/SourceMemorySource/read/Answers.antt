@@ -1,4 +1,4 @@
-use Rattle.std.proofs.Common.{◌≡◌, ◌≤◌, ◌+◌, List, ℕ, take, drop, length, arith, ap, sym, ◌∙◌, drop_of_length-le}
+use Rattle.std.proofs.Common.{◌≡◌, ◌≤◌, ◌+◌, take, drop, length, arith, ap, sym, ◌∙◌, drop_of_length-le}
 use Rattle.std.proofs.lemmas.Grind.{common_steps}
 use Rattle.py_outside.proofs.Moves.{moved}
 use Rattle.py_outside.proofs.memory.SourceMemorySource.read.Goals as goal
