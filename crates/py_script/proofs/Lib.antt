@@ -1,2 +1,6 @@
 -- what a script gives the compiler and the machine
 pub mod Closed
+pub mod Objects
+-- what a machine's run is in the script's own words
+pub mod Made
+pub mod Traced

@@ -1,5 +1,7 @@
 -- what a script means
 pub mod Whole
+-- what a machine holds of it
+pub mod Loaded
 -- what is written
 pub mod Text
 -- what the words ask for
