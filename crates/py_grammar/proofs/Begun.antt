@@ -49,6 +49,7 @@ both_rows-none : (b : Option (List Row)) → b ≡ both_rows (Some []) b
 both_rows-none None = refl
 both_rows-none (Some b) = refl
 
+-- the rows of lines behind lines
 rows_from-append : (n : ℕ) (front back : Text) → rows_from n (front ++ back) ≡ both_rows (rows_from n front) (rows_from (after n front) back)
 rows_from-append n [] back = both_rows-none (rows_from n back)
 rows_from-append n (l ∷ front) back = ap (with_read n (says l)) (rows_from-append (suc n) front back) ∙ with_read-both n (says l) (rows_from (suc n) front) (rows_from (after (suc n) front) back)
@@ -127,6 +128,7 @@ begins_whole front ts ds b = ([], ts, ds, subst (λ t. Spells t ts ds) (sym (app
 abbrev end_line : List ℕ
 end_line = codes "end"
 
+-- a script that begins with lines and an end begins with the lines
 begins_end : (front : Text) → Begins (front ++ end_line ∷ []) → Begins front
 begins_end front b = (end_line ++ 10 ∷ b.0, b.1, b.2, subst (λ t. Spells t b.1 b.2) (append_assoc front (end_line ∷ []) (lines b.0)) b.3)
 
@@ -186,6 +188,7 @@ refused front st l b k g = go (says l) refl k (rows_from (suc (after 1 front)) g
 abbrev Fate : Text → Type 0
 Fate text = ((st : State) × Been text st) ⊎ ((f : Text) × (l : List ℕ) × (b : Text) × (text ≡ f ++ l ∷ b) × (BeginsLines (f ++ l ∷ []) → ⊥))
 
+-- each line in turn is taken or refused
 fate : (rest front : Text) (st : State) → Been front st → Fate (front ++ rest)
 fate [] front st b = subst Fate (sym (append-nil front)) (inl (st, b))
 fate (l ∷ ls) front st b = go (takes_line st (after 1 front) (says l)) refl (one_line front st (after 1 front) l (says l) refl refl b) (λ s c. fate ls (front ++ l ∷ []) s c)
@@ -194,6 +197,7 @@ fate (l ∷ ls) front st b = go (takes_line st (after 1 front) (says l)) refl (o
     go None k c f = inr (front, l, ls, refl, refused front st l b k)
     go (Some s) k c f = subst Fate (append_assoc front (l ∷ []) ls) (f s c)
 
+-- where lines follow, bytes do: any line that may follow has bytes
 pub as_bytes : (front : Text) → BeginsLines front → Begins front
 as_bytes front b = go (fate front [] start been_start)
   where

@@ -17,6 +17,7 @@ in_first_end : (b : ℕ) (more : List ℕ) (p : Bool) → (b == 13) ≡ p → co
 in_first_end b more true h = refl
 in_first_end b more false h = refl
 
+-- the lines of bytes are cut at the first LF
 pub cut_first : (b : ℕ) (bs : List ℕ) → lines (b ∷ bs) ≡ cut (take (prefix_len is_within (b ∷ bs)) (b ∷ bs)) (drop (prefix_len is_within (b ∷ bs)) (b ∷ bs))
 cut_first b [] = go (b == 10) refl
   where
@@ -39,16 +40,19 @@ cut_first b (c ∷ cs) = go (b == 10) refl (c == 10) refl (cut_first c cs)
         step h k ∙ ap (in_first b) (ih ∙ ap (λ n. cut (take n (c ∷ cs)) (drop n (c ∷ cs))) (size c cs k)) ∙ in_first_cut b c (take (prefix_len is_within cs) cs) (drop (prefix_len is_within cs) cs)
         ∙ sym (ap (λ n. cut (take n (b ∷ c ∷ cs)) (drop n (b ∷ c ∷ cs))) (size b (c ∷ cs) h ∙ ap suc (size c cs k)))
 
+-- a line that ends with another byte stays
 chop_no : (x : ℕ) (front : List ℕ) → (x == 13) ≡ false → without_cr (front ++ x ∷ []) ≡ front ++ x ∷ []
 chop_no x [] h = rw h refl
 chop_no x (b ∷ []) h = ap (λ y. b ∷ y) (chop_no x [] h)
 chop_no x (b ∷ c ∷ front) h = ap (λ y. b ∷ y) (chop_no x (c ∷ front) h)
 
+-- a CR at the end goes
 pub chop_yes : (front : List ℕ) → without_cr (front ++ 13 ∷ []) ≡ front
 chop_yes [] = refl
 chop_yes (b ∷ []) = refl
 chop_yes (b ∷ c ∷ front) = ap (λ y. b ∷ y) (chop_yes (c ∷ front))
 
+-- the same for the last byte that the program has split off
 pub chopped_yes : (line front : List ℕ) (x : ℕ) → line ≡ front ++ x ∷ [] → x ≡ 13 → front ≡ without_cr line
 chopped_yes line front x e h = sym (ap without_cr (e ∙ ap (λ y. front ++ y ∷ []) h) ∙ chop_yes front)
 
@@ -59,11 +63,13 @@ pub chopped_none : (line : List ℕ) → length line ≡ 0 → line ≡ without_
 chopped_none [] e = refl
 chopped_none (b ∷ bs) e = absurd (omega (arith, e))
 
+-- the cut, for the front and the rest that the program has split off
 pub cut_line : (bytes line more : List ℕ) (n : ℕ) → n ≡ prefix_len is_within bytes → line ≡ take n bytes → more ≡ drop n bytes → (length bytes ≡ 0 → ⊥) → lines bytes ≡ cut line more
 cut_line [] line more n e f g h = absurd (h refl)
 cut_line (b ∷ bs) line more n e f g h =
     cut_first b bs ∙ ap (λ k. cut (take k (b ∷ bs)) (drop k (b ∷ bs))) (sym e) ∙ ap (λ l. cut l (drop n (b ∷ bs))) (sym f) ∙ ap (cut line) (sym g)
 
+-- the last line, which no LF ends
 pub cut_end : (bytes line more : List ℕ) (n : ℕ) → n ≡ prefix_len is_within bytes → line ≡ take n bytes → more ≡ drop n bytes → (length bytes ≡ 0 → ⊥) → length more ≡ 0
     → (lines bytes ≡ line ∷ lines more) × (length more < length bytes)
 cut_end bytes line [] n e f g h k = (cut_line bytes line [] n e f g h, size bytes h)
@@ -73,6 +79,7 @@ cut_end bytes line [] n e f g h k = (cut_line bytes line [] n e f g h, size byte
     size (b ∷ bs) q = omega arith
 cut_end bytes line (b ∷ bs) n e f g h k = absurd (omega (arith, k))
 
+-- a line that an LF ends
 pub cut_lf : (bytes line more rest chop : List ℕ) (x n : ℕ) → n ≡ prefix_len is_within bytes → line ≡ take n bytes → more ≡ drop n bytes → (length bytes ≡ 0 → ⊥) → more ≡ x ∷ rest → chop ≡ without_cr line
     → (lines bytes ≡ chop ∷ lines rest) × (length rest < length bytes)
 cut_lf bytes line more rest chop x n e f g h k m = (

@@ -20,6 +20,7 @@ one_both : {X : Type 0} (b : Option X) → both (λ x xs. x ∷ xs) b (Some []) 
 one_both None = refl
 one_both (Some y) = refl
 
+-- one more token at the end
 each-snoc : {X : Type 0} (f : Lexeme → Option X) (toks : List Lexeme) (tok : Lexeme) → each f (toks ++ tok ∷ []) ≡ both (λ xs y. xs ++ y ∷ []) (each f toks) (f tok)
 each-snoc f [] tok = one_both (f tok)
 each-snoc f (t ∷ toks) tok = ap (both (λ x xs. x ∷ xs) (f t)) (each-snoc f toks tok) ∙ snoc_both (f t) (f tok) (each f toks)
@@ -32,10 +33,12 @@ none_both : {X : Type 0} (a : Option X) → both (λ x xs. x ∷ xs) a None ≡ 
 none_both None = refl
 none_both (Some x) = refl
 
+-- a token that says nothing
 pub each-none : {X : Type 0} (f : Lexeme → Option X) (front : List Lexeme) (tok : Lexeme) (back : List Lexeme) → f tok ≡ None → each f (front ++ tok ∷ back) ≡ None
 each-none f [] tok back k = ap (λ o. both (λ x xs. x ∷ xs) o (each f back)) k
 each-none f (t ∷ front) tok back k = ap (both (λ x xs. x ∷ xs) (f t)) (each-none f front tok back k) ∙ none_both (f t)
 
+-- a list at a place that a loop has come to
 take_at_next : {A : Type 0} (toks : List A) (i : ℕ) (d : A) → i < length toks → take (i + 1) toks ≡ take i toks ++ get_or toks i d ∷ []
 take_at_next toks i d low = (take_at_read toks i d low).1
 
@@ -70,6 +73,7 @@ before_last (u ∷ v ∷ front) t = ap (option_map (λ ts. u ∷ ts)) (before_la
     go true = refl
     go false = refl
 
+-- the same for the tokens that the program has split
 before_seen : (tokens front : List Token) (t : Token) → tokens ≡ front ++ t ∷ [] → before_close (map lexeme_of tokens) ≡ cond (is_close (lexeme_of t)) (Some (map lexeme_of front)) None
 before_seen tokens front t e = ap (λ l. before_close (map lexeme_of l)) e ∙ ap before_close (map-append lexeme_of front (t ∷ [])) ∙ before_last (map lexeme_of front) (lexeme_of t)
 

@@ -21,6 +21,7 @@ use Rattle.py_grammar.specs.Grammar.{Item, Declares, Drives, add, WellForm, Well
 use Rattle.py_grammar.specs.Script.{Text, Spells, IsScript}
 use Rattle.py_grammar.specs.WellFormed.{IsKnown, IsNumber, IsWellFormedIn, names_behind, NamesKnown, AreDistinct, IsWellDeclared, Calls, IsWellDriven, AreWellFormed, IsWellFormed}
 
+-- the parts of a test
 and_left : (a b : Bool) → (a && b) ≡ true → a ≡ true
 and_left true b h = refl
 and_left false b h = cc
@@ -45,6 +46,7 @@ true_or : (a b : Bool) → a ≡ true → (a || b) ≡ true
 true_or true b h = refl
 true_or false b h = cc
 
+-- what tests on numbers and names tell
 le_by_test : (m n : ℕ) → nat_le m n ≡ true → m ≤ n
 le_by_test m n h = leb-true m n h
 
@@ -83,6 +85,7 @@ all_by_test p P f (x ∷ xs) h = All-cons P x xs (f x (and_left (p x) (list_all 
 abbrev Covers : List Name → Suite → List Name → Type 0
 Covers ps before names = (x : Name) → (is_among x ps || assigns x before) ≡ true → Contains names x
 
+-- what a statement behind others assigns to
 assigns-add : (x : Name) (s : Suite) (n : ℕ) (f : Form) → assigns x (add s n f) ≡ (assigns x s || binds x f)
 assigns-add x nothing n f = or_none (binds x f)
   where
@@ -95,6 +98,7 @@ assigns-add x (first m g more) n f = ap (λ b. binds x g || b) (assigns-add x mo
     or_assoc true b c = refl
     or_assoc false b c = refl
 
+-- the parameters cover what is known at the start; a statement adds its target
 covers_start : (ps : List Name) → Covers ps nothing ps
 covers_start ps x h = contains_by_test x ps (one (is_among x ps) h)
   where
@@ -129,6 +133,7 @@ known_by_test ps before names c (atom.Name x) h = c x h
 arity_two : (op : Operator) → arity_of op ≡ 2
 arity_two operator.Add = refl
 
+-- statements, behind these
 form_keeps : (ps : List Name) (before : Suite) (names : List Name) (f : Form) → Covers ps before names → WellForm ps before f → IsWellFormedIn names f
 form_keeps ps before names (give a) c w = known_by_test ps before names c a w
 form_keeps ps before names (operate x op atoms) c w =
@@ -142,6 +147,7 @@ suite_keeps ps nothing before names c w = tt
 suite_keeps ps (first n f more) before names c w =
     (form_keeps ps before names f c w.0, suite_keeps ps more (add before n f) (names_behind names f) (covers_more ps before names n f c) w.1)
 
+-- a declaration, behind these
 declared_keeps : (ts : List Tree) (t : Tree) → may_declare ts t.name t.params ≡ true → WellSuite t.params nothing t.suite → IsWellDeclared t
 declared_keeps ts t h w =
     let none : Bool = is_none_yet ts in
@@ -182,6 +188,7 @@ names_keep (Declares t ∷ is) ts ds w v =
     subst (λ x. AreDistinct (map (λ t. t.name) x)) (append_assoc ts (t ∷ []) (trees_in is)) (names_keep is (ts ++ t ∷ []) ds w.1.1 (names_push ts t (new_by_test ts t w.0) v))
 names_keep (Drives d ∷ is) ts ds w v = names_keep is ts (ds ++ d ∷ []) w.1 v
 
+-- all declarations of the items
 trees_keep : (is : List Item) (ts : List Tree) (ds : List Drive) → WellItems ts ds is → All IsWellDeclared (trees_in is)
 trees_keep [] ts ds w = All-nil IsWellDeclared
 trees_keep (Declares t ∷ is) ts ds w = All-cons IsWellDeclared t (trees_in is) (declared_keeps ts t w.0 w.1.0) (trees_keep is (ts ++ t ∷ []) ds w.1.1)
@@ -201,6 +208,7 @@ number_by_test : (a : Atom) → is_number a ≡ true → IsNumber a
 number_by_test (atom.Int n) h = tt
 number_by_test (atom.Name x) h = cc
 
+-- a drive, behind these declarations and with others to follow
 drive_keeps : (ts more : List Tree) (ds : List Drive) (d : Drive) → may_drive ts ds d.function d.args ≡ true → IsWellDriven (ts ++ more) d
 drive_keeps ts more ds d h =
     let none : Bool = is_none_yet ds in
@@ -212,6 +220,7 @@ drive_keeps ts more ds d h =
       numbers = all_by_test is_number IsNumber number_by_test d.args (and_right (none && called) numbers h);
     }
 
+-- all drives of the items
 drives_keep : (is : List Item) (ts : List Tree) (ds : List Drive) → WellItems ts ds is → All (IsWellDriven (ts ++ trees_in is)) (drives_in is)
 drives_keep [] ts ds w = All-nil (IsWellDriven (ts ++ []))
 drives_keep (Declares t ∷ is) ts ds w = subst (λ x. All (IsWellDriven x) (drives_in is)) (append_assoc ts (t ∷ []) (trees_in is)) (drives_keep is (ts ++ t ∷ []) ds w.1.1)

@@ -7,6 +7,7 @@ use Rattle.py_grammar.specs.Tokens.{Word, is_blank, is_mark, is_plain, is_quote,
 pub plain_within : (bs : List ℕ) → prefix_len is_plain bs ≤ length bs
 plain_within bs = prefix_len-le-length is_plain bs
 
+-- what each byte does to the cut, by its kind and place
 plain_size : (b : ℕ) (bs : List ℕ) → is_blank b ≡ false → is_mark b ≡ false → prefix_len is_plain (b ∷ bs) ≡ suc (prefix_len is_plain bs)
 plain_size b bs h k = rw (h, k) (one-add _)
 
@@ -31,6 +32,7 @@ between_word b bs h k q = rw (h, k, q) refl
 no_size : (b : ℕ) (bs : List ℕ) → is_plain b ≡ false → prefix_len is_plain (b ∷ bs) ≡ 0
 no_size b bs h = rw h refl
 
+-- the rest of a word ends at a blank or a mark
 inside_cut : (bs : List ℕ) → cut_from Inside bs ≡ cut (take (prefix_len is_plain bs) bs) (tokens_of (drop (prefix_len is_plain bs) bs))
 inside_cut [] = refl
 inside_cut (b ∷ bs) = go (is_blank b) refl (is_mark b) refl (inside_cut bs)
@@ -41,6 +43,7 @@ inside_cut (b ∷ bs) = go (is_blank b) refl (is_mark b) refl (inside_cut bs)
     go false h true k ih = inside_mark b bs h k ∙ between_mark b bs h k ∙ sym (ap (λ n. cut (take n (b ∷ bs)) (tokens_of (drop n (b ∷ bs)))) (no_size b bs (rw (h, k) refl)))
     go false h false k ih = inside_plain b bs h k ∙ ap (longer b) ih ∙ sym (ap (λ n. cut (take n (b ∷ bs)) (tokens_of (drop n (b ∷ bs)))) (plain_size b bs h k))
 
+-- the rest of a quoted text ends at its quote and what is joined to it
 quoted_cut : (bs : List ℕ) → cut_from Quoted bs ≡ cut (take (quoted_len bs) bs) (tokens_of (drop (quoted_len bs) bs))
 quoted_cut [] = refl
 quoted_cut (b ∷ bs) = go (is_quote b) refl (quoted_cut bs)

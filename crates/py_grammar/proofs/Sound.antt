@@ -17,6 +17,7 @@ open_rows o = record { number = o.line; line = line.Def o.name o.params } ∷ su
 abbrev pub WellOpen : List Tree → Open → Type 0
 WellOpen ts o = (may_declare ts o.name o.params ≡ true) × WellSuite o.params nothing o.done
 
+-- the rows and the rules of a statement behind others
 suite_rows-add : (s : Suite) (n : ℕ) (f : Form) → suite_rows (add s n f) ≡ suite_rows s ++ form_row n f ∷ []
 suite_rows-add nothing n f = refl
 suite_rows-add (first m g more) n f = ap (λ r. form_row m g ∷ r) (suite_rows-add more n f)
@@ -34,6 +35,7 @@ grows_if : (ts : List Tree) (o : Open) (r : Row) (b : Bool) (o2 : Open) → (b �
 grows_if ts o r true o2 f = f refl
 grows_if ts o r false o2 f = tt
 
+-- an open body grows by a statement that keeps the rules
 grows_by : (ts : List Tree) (o : Open) (n : ℕ) (f : Form) → WellOpen ts o → WellForm o.params o.done f → Grows ts o (form_row n f) (Some (grown o n f))
 grows_by ts o n f w v = (
   ap (λ x. record { number = o.line; line = line.Def o.name o.params } ∷ x) (suite_rows-add o.done n f),
@@ -64,6 +66,7 @@ pub record Came (rows : List Row) (ts : List Tree) (ds : List Drive) (i : Option
   pub well : WellItems [] [] items
   pub well_open : WellInside ts i
 
+-- what one list of items behind another has
 items_rows-append : (is js : List Item) → items_rows (is ++ js) ≡ items_rows is ++ items_rows js
 items_rows-append [] js = refl
 items_rows-append (i ∷ is) js = ap (λ r. item_rows i ++ r) (items_rows-append is js) ∙ sym (append_assoc (item_rows i) (items_rows is) (items_rows js))
@@ -90,7 +93,8 @@ CameTo rows None = Unit {0}
 CameTo rows (Some s) = Came rows s.trees s.drives s.inside
 
 -- one more item
-one_item : (rows all : List Row) (ts : List Tree) (ds : List Drive) (i : Option Open) (it : Item) (c : Came rows ts ds i) → all ≡ items_rows c.items ++ item_rows it → WellItems ts ds (it ∷ []) → Came all (ts ++ trees_in (it ∷ [])) (ds ++ drives_in (it ∷ [])) None
+one_item : (rows all : List Row) (ts : List Tree) (ds : List Drive) (i : Option Open) (it : Item) (c : Came rows ts ds i)
+    → all ≡ items_rows c.items ++ item_rows it → WellItems ts ds (it ∷ []) → Came all (ts ++ trees_in (it ∷ [])) (ds ++ drives_in (it ∷ [])) None
 one_item rows all ts ds i it c e w = record {
   items = c.items ++ it ∷ [];
   spelled = e ∙ ap (λ r. items_rows c.items ++ r) (sym (append-nil (item_rows it))) ∙ sym (items_rows-append c.items (it ∷ [])) ∙ sym (append-nil _);
@@ -104,6 +108,7 @@ came_if : (rows : List Row) (b : Bool) (s : State) → (b ≡ true → CameTo ro
 came_if rows true s f = f refl
 came_if rows false s f = tt
 
+-- a line outside of bodies
 outside_sound : (rows : List Row) (ts : List Tree) (ds : List Drive) (n : ℕ) (l : Line) → Came rows ts ds None → CameTo (rows ++ row n l ∷ []) (outside ts ds n l)
 outside_sound rows ts ds n (line.Def f ps) c = came_if _ _ _ (λ e. record {
   items = c.items;
@@ -142,6 +147,7 @@ end_sound rows ts ds o c =
 goes_sound : (rows : List Row) (ts : List Tree) (ds : List Drive) (o : Open) (n : ℕ) (l : Line) → Came rows ts ds (Some o) → CameTo (rows ++ row n l ∷ []) (still_inside ts ds (goes_on o n l))
 goes_sound rows ts ds o n l c = still_sound rows ts ds o (row n l) (goes_on o n l) c (goes_on_sound ts o n l c.well_open)
 
+-- a line where a body is open
 inside_sound : (rows : List Row) (ts : List Tree) (ds : List Drive) (o : Open) (n : ℕ) (l : Line) → Came rows ts ds (Some o) → CameTo (rows ++ row n l ∷ []) (in_body ts ds o n l)
 inside_sound rows ts ds o n line.End c = end_sound rows ts ds o c
 inside_sound rows ts ds o n (line.Return a) c = goes_sound rows ts ds o n (line.Return a) c

@@ -25,6 +25,7 @@ abbrev pub IsTrueOf : Text → Verdict → Type 0
 IsTrueOf text (Good ts ds) = Spells text ts ds
 IsTrueOf text (Bad k) = IsBad text k
 
+-- at the end of the lines
 true_at_end : (front : Text) (ts : List Tree) (ds : List Drive) (i : Option Open) → Been front (state ts ds i) → IsTrueOf front (at_end ts ds i (after 1 front))
 true_at_end front ts ds None b = been_spells front ts ds b
 true_at_end front ts ds (Some o) b = inr (
@@ -56,6 +57,7 @@ one_spelling text ts ts2 ds ds2 a b =
     let g : state ts ds None ≡ state ts2 ds2 None = cc f in
     (ap (λ q. q.trees) g, ap (λ q. q.drives) g)
 
+-- a script has no bad line
 script_not_bad : (text : Text) (ts : List Tree) (ds : List Drive) (k : ℕ) → Spells text ts ds → IsBad text k → ⊥
 script_not_bad text ts ds k s (inl b) = b.6 (as_bytes (b.0 ++ b.1 ∷ []) (b.2, ts, ds, subst (λ t. Spells t ts ds) (b.3 ∙ sym (append_assoc b.0 (b.1 ∷ []) b.2)) s))
 script_not_bad text ts ds k s (inr b) = b.2 ts ds s
@@ -71,6 +73,7 @@ same_place (x ∷ f1) (y ∷ f2) l1 l2 b1 b2 P c p np q nq e =
     let t : f1 ++ l1 ∷ b1 ≡ f2 ++ l2 ∷ b2 = cc e in
     ap suc (same_place f1 f2 l1 l2 b1 b2 (λ f. P (x ∷ f)) (λ a b r. c (x ∷ a) b r) p np (subst (λ z. P (z ∷ f2)) (sym h) q) (λ r. nq (subst (λ z. P (z ∷ (f2 ++ l2 ∷ []))) h r)) t)
 
+-- a text has one bad line at most
 one_bad : (text : Text) (j k : ℕ) → IsBad text j → IsBad text k → j ≡ k
 one_bad text j k (inl a) (inl b) = a.4 ∙ ap suc (same_place a.0 b.0 a.1 b.1 a.2 b.2 Begins begins_fewer a.5 a.6 b.5 b.6 (sym a.3 ∙ b.3)) ∙ sym b.4
 one_bad text j k (inl a) (inr b) = absurd (a.6 (begins_fewer (a.0 ++ a.1 ∷ []) a.2 (subst Begins (a.3 ∙ sym (append_assoc a.0 (a.1 ∷ []) a.2)) b.1)))

@@ -19,6 +19,7 @@ use Rattle.py_grammar.specs.Script.{declared_tree, drive_of}
 use Rattle.py_grammar.specs.Reader.{outside, only_if, state}
 use Rattle.py_grammar.specs.Reading.{inside_of}
 
+-- declarations by their trees
 pub declares_map : (x : Name) (ds : List Declaration) → declares x (map declared_tree ds) ≡ list_any (λ d. bytes_eq x (declared_tree d).name) ds
 declares_map x [] = refl
 declares_map x (d ∷ ds) = ap (λ b. bytes_eq x (declared_tree d).name || b) (declares_map x ds)
@@ -27,6 +28,7 @@ pub takes_map : (x : Name) (n : ℕ) (ds : List Declaration) → list_any (takes
 takes_map x n [] = refl
 takes_map x n (d ∷ ds) = ap (λ b. takes x n (declared_tree d) || b) (takes_map x n ds)
 
+-- statements by their suite
 pub assigns_suite : (x : Name) (ss : List Stmt) → assigns x (suite_of ss) ≡ list_any (λ s. binds x (form_of s.form)) ss
 assigns_suite x [] = refl
 assigns_suite x (s ∷ ss) = ap (λ b. binds x (form_of s.form) || b) (assigns_suite x ss)
@@ -35,6 +37,7 @@ pub has_operation_suite : (ss : List Stmt) → has_operation (suite_of ss) ≡ l
 has_operation_suite [] = refl
 has_operation_suite (s ∷ ss) = ap (λ b. is_operation (form_of s.form) || b) (has_operation_suite ss)
 
+-- a statement behind others
 pub suite_push : (ss : List Stmt) (s : Stmt) → suite_of (ss ++ s ∷ []) ≡ add (suite_of ss) s.line (form_of s.form)
 suite_push [] s = refl
 suite_push (t ∷ ss) s = ap (first t.line (form_of t.form)) (suite_push ss s)
@@ -44,7 +47,8 @@ pub drive_refused : (ts : List Tree) (ds : List Drive) (n : ℕ) (l : Line) (f :
 drive_refused ts ds n l f args e w = ap (outside ts ds n) e ∙ ap (λ b. only_if b (state ts (ds ++ record { function = f; args = args } ∷ []) None)) w
 
 -- a drive that may, in the program's list
-pub drive_taken : (ts : List Tree) (old new : List DriveLine) (n : ℕ) (l : Line) (f : Name) (args : List Atom) (i : Option OpenBody) → l ≡ Call f args → may_drive ts (map drive_of old) f args ≡ true → new ≡ old ++ drive.Call f args ∷ [] → i ≡ None
+pub drive_taken : (ts : List Tree) (old new : List DriveLine) (n : ℕ) (l : Line) (f : Name) (args : List Atom) (i : Option OpenBody)
+    → l ≡ Call f args → may_drive ts (map drive_of old) f args ≡ true → new ≡ old ++ drive.Call f args ∷ [] → i ≡ None
     → outside ts (map drive_of old) n l ≡ Some (state ts (map drive_of new) (inside_of i))
 drive_taken ts old new n l f args i e w g h =
     ap (outside ts (map drive_of old) n) e ∙ ap (λ b. only_if b (state ts (map drive_of old ++ record { function = f; args = args } ∷ []) None)) w

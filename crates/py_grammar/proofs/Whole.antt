@@ -14,6 +14,7 @@ abbrev pub run : State → List Row → Option State
 run st [] = Some st
 run st (r ∷ rows) = and_then (accept st r.number r.line) (λ s. run s rows)
 
+-- rows behind rows
 pub run-append : (st : State) (rows more : List Row) → run st (rows ++ more) ≡ and_then (run st rows) (λ s. run s more)
 run-append st [] more = refl
 run-append st (r ∷ rows) more = go (accept st r.number r.line) (λ s. run-append s rows more)

@@ -3,7 +3,9 @@
 ghost use Rattle.std.specs.Prelude.{◌≡◌, IfOk, MatchOption, Some, None, map, ◌∷◌};
 ghost use Rattle.py_grammar.specs.Tokens.{lexeme_of, Word};
 ghost use Rattle.py_grammar.specs.Words.{number_of as number_in};
-ghost use Rattle.py_grammar.specs.Says.{name_of as name_in, atom_of as atom_in, name_atom as name_atom_in, number_atom, each, alone, only_atom, operator_of as operator_in, before_close as before_close_in, operation, value_form, def_form, call_form, assign_form, line_form, begins_equals as begin_equals, says};
+ghost use Rattle.py_grammar.specs.Says.{name_of as name_in, atom_of as atom_in, name_atom as name_atom_in, number_atom, operator_of as operator_in};
+ghost use Rattle.py_grammar.specs.Says.{each, alone, only_atom, before_close as before_close_in, begins_equals as begin_equals};
+ghost use Rattle.py_grammar.specs.Says.{operation, value_form, def_form, call_form, assign_form, line_form, says};
 
 use crate::line::{Line, LineRead};
 use crate::token::{Token, tokens_of};

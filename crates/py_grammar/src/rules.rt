@@ -1,10 +1,13 @@
 //! The rules on lines that look at what stands before them.
 
-ghost use Rattle.std.specs.Prelude.{◌≡◌, map, bytes_eq, length};
+ghost use Rattle.std.specs.Prelude.{◌≡◌, map, bytes_eq};
 ghost use Rattle.std.specs.List.{list_any, list_all};
 ghost use Rattle.py_body.specs.Tree.{form_of, suite_of};
 ghost use Rattle.py_grammar.specs.Script.{declared_tree, drive_of};
-ghost use Rattle.py_grammar.specs.Rules.{declares, is_among as is_among_names, all_differ as do_all_differ, is_builtin_class as is_builtin, takes as takes_count, is_number as is_number_atom, may_declare as may_be_declared, may_drive as may_be_driven, binds as binds_name, assigns as assigns_name, is_known as is_known_atom, is_operation as is_operation_form, has_operation as has_operation_in, arity_of as arity_in, may_operate as may_be_operated};
+ghost use Rattle.py_grammar.specs.Rules.{declares, is_among as is_among_names, all_differ as do_all_differ, is_builtin_class as is_builtin};
+ghost use Rattle.py_grammar.specs.Rules.{takes as takes_count, is_number as is_number_atom, may_declare as may_be_declared, may_drive as may_be_driven};
+ghost use Rattle.py_grammar.specs.Rules.{binds as binds_name, is_known as is_known_atom};
+ghost use Rattle.py_grammar.specs.Rules.{is_operation as is_operation_form, arity_of as arity_in, may_operate as may_be_operated};
 
 use crate::script::{DeclList, Declaration, DriveList};
 use py_body::{Atom, AtomList, Operator, ParamList, Stmt, StmtForm, StmtList};

@@ -1,8 +1,11 @@
 //! The words of a script: names and numbers.
 
-ghost use Rattle.std.specs.Prelude.{◌≡◌, ◌<◌, ◌≤◌, ◌^◌, pos, neg_ℤ, IfSome};
+ghost use Rattle.std.specs.Prelude.{◌≡◌, ◌<◌, IfSome};
 ghost use Rattle.std.specs.List.{list_all};
-ghost use Rattle.py_grammar.specs.Words.{starts_name as starts_name_byte, continues_name as continues_name_byte, is_constant_word as is_constant, is_declaring_word as is_declaring, is_block_word as is_block, is_jump_word as is_jump, is_statement_word as is_statement, is_inner_word as is_inner, is_reserved as is_reserved_word, is_name as is_name_word, is_spelled_as_name as is_spelled, digits_number as digits_number_in, number_of as number_in};
+ghost use Rattle.py_grammar.specs.Words.{starts_name as starts_name_byte, continues_name as continues_name_byte, is_spelled_as_name as is_spelled};
+ghost use Rattle.py_grammar.specs.Words.{is_constant_word as is_constant, is_declaring_word as is_declaring, is_block_word as is_block};
+ghost use Rattle.py_grammar.specs.Words.{is_jump_word as is_jump, is_statement_word as is_statement, is_inner_word as is_inner};
+ghost use Rattle.py_grammar.specs.Words.{is_reserved as is_reserved_word, is_name as is_name_word, digits_number as digits_number_in, number_of as number_in};
 
 fn starts_name(byte: u8) -> bool
     ensures { result ≡ starts_name_byte byte }

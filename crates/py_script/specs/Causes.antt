@@ -1,7 +1,8 @@
 -- When each answer of the top call comes, and what it hands back, writes and notes.
-use Rattle.std.specs.Prelude.{ℕ, ◌<◌, ◌≤◌, ◌^◌, ◌⊎◌, List, [], ◌++◌, Option, IfSome, ◌≡◌, length, take, codes, decimal, Result, Ok, Err}
-use Rattle.std.specs.Io.KnownBytes.{Appends, Keeps, IsAtEnd}
+use Rattle.std.specs.Prelude.{ℕ, ◌<◌, ◌^◌, ◌⊎◌, List, [], ◌++◌, Option, IfSome, ◌≡◌, length, codes, decimal, Result, Ok, Err}
+use Rattle.std.specs.Io.KnownBytes.{Appends, Keeps}
 use Rattle.py_outside.specs.Faults.{Rose}
+use Rattle.py_outside.specs.Transfer.{AppendsFront}
 use Rattle.py_grammar.specs.Script.{IsBadLine}
 use Rattle.py_vm.specs.declared.journal.Journal.{Journal}
 use Rattle.py_script.specs.declared.words.Command.{Command}
@@ -13,6 +14,7 @@ use Rattle.py_script.specs.declared.fault.CommandResult.TheVariants as outcome
 use Rattle.py_script.specs.Words.{command_in}
 use Rattle.py_script.specs.Whole.{IsWholeRun, IsCutRun}
 use Rattle.py_script.specs.Text.{text_of}
+use Rattle.py_script.specs.Steps.{WasRead}
 
 -- the source and the sink, before a call and after it: the bytes left and taken, where they are told, and the faults
 pub record Ends : Type 0 where
@@ -25,24 +27,16 @@ pub record Ends : Type 0 where
   pub writes : ℕ
   pub writes' : ℕ
 
--- the source was read to its end, and had no more bytes than a script may have
-abbrev pub WasRead : Ends → Type 0
-WasRead e = IfSome e.left (λ bytes. length bytes ≤ 2 ^ 20) × IsAtEnd e.left'
-
--- a front of these bytes was written
-abbrev pub AppendsFront : Ends → List ℕ → Type 0
-AppendsFront e text = (count : ℕ) × Appends e.taken e.taken' (take count text)
-
 -- when a run of at most so many turns answers what it does
 abbrev pub IsAnswer : Ends → ℕ → Result Journal ScriptFault → Type 0
-IsAnswer e turns (Ok j) = WasRead e × IfSome e.left (λ bytes. IsWholeRun bytes turns j) × Appends e.taken e.taken' (text_of j)
+IsAnswer e turns (Ok j) = WasRead e.left e.left' (λ bytes. IsWholeRun bytes turns j) × Appends e.taken e.taken' (text_of j)
 IsAnswer e turns (Err fault.ReadFault) = Rose e.reads e.reads' × Keeps e.taken e.taken'
 IsAnswer e turns (Err (fault.WriteFault j)) =
-    Rose e.writes e.writes' × WasRead e × IfSome e.left (λ bytes. IsWholeRun bytes turns j ⊎ IsCutRun bytes turns j) × AppendsFront e (text_of j)
+    Rose e.writes e.writes' × WasRead e.left e.left' (λ bytes. IsWholeRun bytes turns j ⊎ IsCutRun bytes turns j) × AppendsFront e.taken e.taken' (text_of j)
 IsAnswer e turns (Err fault.TooLong) = IfSome e.left (λ bytes. 2 ^ 20 < length bytes) × Keeps e.taken e.taken'
-IsAnswer e turns (Err (fault.Malformed line)) = WasRead e × IfSome e.left (λ bytes. IsBadLine bytes line) × Keeps e.taken e.taken'
+IsAnswer e turns (Err (fault.Malformed line)) = WasRead e.left e.left' (λ bytes. IsBadLine bytes line) × Keeps e.taken e.taken'
 IsAnswer e turns (Err (fault.Refused code at)) = ⊥
-IsAnswer e turns (Err (fault.OutOfTurns j)) = WasRead e × IfSome e.left (λ bytes. IsCutRun bytes turns j) × Appends e.taken e.taken' (text_of j)
+IsAnswer e turns (Err (fault.OutOfTurns j)) = WasRead e.left e.left' (λ bytes. IsCutRun bytes turns j) × Appends e.taken e.taken' (text_of j)
 IsAnswer e turns (Err (fault.NoMemory j)) = Keeps e.taken e.taken'
 
 -- the status that stands for each result

@@ -6,5 +6,7 @@ pub mod Loaded
 pub mod Text
 -- what the words ask for
 pub mod Words
+-- what the steps of a run answer
+pub mod Steps
 -- when each answer of the top call comes
 pub mod Causes
