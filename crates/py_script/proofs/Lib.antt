@@ -4,3 +4,11 @@ pub mod Objects
 -- what a machine's run is in the script's own words
 pub mod Made
 pub mod Traced
+-- what was read
+pub mod Reading
+-- what is written
+mod NoteLemmas
+mod ReprLemmas
+-- journals worked by hand
+mod WorkedLemmas
+mod OneText

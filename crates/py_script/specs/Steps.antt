@@ -25,6 +25,17 @@ pub record IsRunnable (s : Script) : Type 0 where
   pub well : IsWellFormed s
   pub closed : AllClosed (trees_of s)
 
+-- what parsing bytes answers
+abbrev pub IsParsed : List ℕ → Result Script ScriptFault → Type 0
+IsParsed bytes (Ok s) = IsScript bytes s
+IsParsed bytes (Err fault.ReadFault) = ⊥
+IsParsed bytes (Err (fault.WriteFault j)) = ⊥
+IsParsed bytes (Err fault.TooLong) = ⊥
+IsParsed bytes (Err (fault.Malformed line)) = IsBadLine bytes line
+IsParsed bytes (Err (fault.Refused code at)) = ⊥
+IsParsed bytes (Err (fault.OutOfTurns j)) = ⊥
+IsParsed bytes (Err (fault.NoMemory j)) = Unit {0}
+
 -- what was read of a source is the bytes that it had left, at most 2^20, and it is at its end
 pub record WasRead (left left' : Option (List ℕ)) (claim : List ℕ → Type 0) : Type 0 where
   pub short : IfSome left (λ bytes. length bytes ≤ 2 ^ 20)
