@@ -7,3 +7,9 @@ pub mod Outcome
 pub mod Trace
 -- code that does what a body does
 pub mod Fits
+-- where the code of each form stands
+pub mod Code
+-- the names of a code
+pub mod Naming
+-- what the functions of the compiler promise each other
+pub mod Emitting

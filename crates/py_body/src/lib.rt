@@ -3,8 +3,13 @@
 
 mod atom;
 mod body;
+mod compile;
+mod emit;
+mod locals;
+mod naming;
 mod stmt;
 
 pub use atom::{Atom, AtomList, Operator};
 pub use body::{Body, ParamList};
+pub use compile::compile_body;
 pub use stmt::{Stmt, StmtForm, StmtList};

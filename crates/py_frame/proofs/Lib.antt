@@ -6,3 +6,11 @@ pub mod Joining
 pub mod Staying
 -- growth by payloads that declare nothing
 pub mod PlainGrowth
+-- locals that are filled one by one
+mod Filling
+-- what loads a constant
+mod Loading
+-- a unit leads behind itself
+mod Later
+-- steps of the code as steps of a run
+mod Stepping

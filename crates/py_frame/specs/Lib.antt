@@ -4,5 +4,7 @@ pub mod Rows
 pub mod RunOfRows
 -- what a frame's step says
 pub mod Steps
+-- what a unit did, as its row
+pub mod UnitSteps
 -- what holds of every run
 pub mod Laws

@@ -4,3 +4,14 @@ pub mod RunLemmas
 pub mod OwnLemmas
 -- what activations tell as objects and codes grow
 pub mod RowsOfLemmas
+-- new objects that give replies
+pub mod ReplyingLemmas
+-- replies by cases on the operands
+mod AnswersLemmas
+-- an activation that plays, and what a journal keeps as events come
+mod PlaysLemmas
+mod JournalLemmas
+-- one turn keeps the invariant
+mod TurnsLemmas
+-- machines between drives, and what a drive adds
+pub mod StandsLemmas

@@ -4,3 +4,11 @@ pub mod Answers
 pub mod Run
 -- what activations tell by the rows of their code
 pub mod RowsOf
+-- the built-in classes among the objects
+pub mod Classes
+-- a machine as callers see it, what it keeps between drives, and what a drive adds
+pub mod Machine
+pub mod Stands
+-- what the functions inside the crate promise each other
+pub mod Turns
+pub mod Replying

@@ -1,10 +1,16 @@
 //! The machine: drives, one event a turn, and what a run is.
 #![tactic(auto)]
 
+mod answer;
 mod drive;
+mod exceptions;
 mod fault;
 mod journal;
+mod stage;
+mod turn;
+mod vm;
 
 pub use drive::Drive;
 pub use fault::VmFault;
 pub use journal::Journal;
+pub use vm::VirtualMachine;

@@ -1,0 +1,92 @@
+-- The names that a body binds.
+use Rattle.std.proofs.Common.{◌≡◌, ◌<◌, ◌≤◌, ◌+◌, ◌*◌, ℕ, suc, List, [], ◌∷◌, ◌++◌, Bool, true, false, cond, ◌||◌, refl, sym, ap, ◌∙◌, subst, length, length-append, append_assoc, append-nil, arith}
+use Rattle.std.specs.Prelude.{bytes_eq}
+use Rattle.std.specs.List.{list_any}
+use Rattle.std.proofs.lemmas.Slice.Eq.{bytes_eq-Decides}
+use Rattle.py_body.specs.Tree.{Name, Form, operate, give, Suite, nothing, first}
+use Rattle.py_body.specs.Binding.{bound, bound_by, statements, SuiteKnown}
+use Rattle.py_body.specs.declared.atom.Operator.TheVariants as operator
+use Rattle.py_body.specs.Emitting.{size_of}
+use Rattle.py_body.specs.Code.{place}
+use Rattle.py_body.proofs.Running.{AllBound}
+
+-- a list of names that goes on
+abbrev pub GoesOn : List Name → List Name → Type 0
+GoesOn names vars = (more : List Name) × (vars ≡ names ++ more)
+
+GoesOn-bound : (names : List Name) (x : Name) → GoesOn names (bound names x)
+GoesOn-bound names x = by (list_any (bytes_eq x) names)
+  where
+    by : (b : Bool) → GoesOn names (cond b names (names ++ x ∷ []))
+    by true = ([], sym (append-nil names))
+    by false = (x ∷ [], refl)
+
+pub GoesOn-bound_by : (s : Suite) (names : List Name) → GoesOn names (bound_by names s)
+GoesOn-bound_by nothing names = ([], sym (append-nil names))
+GoesOn-bound_by (first n (give a) more) names = GoesOn-bound_by more names
+GoesOn-bound_by (first n (operate x op atoms) more) names =
+    let one = GoesOn-bound names x in
+    let all = GoesOn-bound_by more (bound names x) in
+    (one.0 ++ all.0, all.1 ∙ ap (λ (l : List Name). l ++ all.0) one.1 ∙ append_assoc names one.0 all.0)
+
+place-append : (names more : List Name) (x : Name) → place names x < length names → place (names ++ more) x < length (names ++ more)
+place-append [] more x below = absurd (omega arith)
+place-append (y ∷ ys) more x below = by (bytes_eq x y) (place-append ys more x) below
+  where
+    by : (b : Bool) → (place ys x < length ys → place (ys ++ more) x < length (ys ++ more)) → cond b 0 (suc (place ys x)) < suc (length ys) → cond b 0 (suc (place (ys ++ more) x)) < suc (length (ys ++ more))
+    by true later low = omega arith
+    by false later low = omega (arith, later (omega (arith, low)))
+
+place-goes_on : (names vars : List Name) (x : Name) → GoesOn names vars → place names x < length names → place vars x < length vars
+place-goes_on names vars x (more, is) below = rw is (place-append names more x below)
+
+place-any : (names : List Name) (x : Name) → list_any (bytes_eq x) names ≡ true → place names x < length names
+place-any [] x some = absurd (cc)
+place-any (y ∷ ys) x some = by (bytes_eq x y) (place-any ys x) some
+  where
+    by : (b : Bool) → (list_any (bytes_eq x) ys ≡ true → place ys x < length ys) → (b || list_any (bytes_eq x) ys) ≡ true → cond b 0 (suc (place ys x)) < suc (length ys)
+    by true later is = omega arith
+    by false later is = omega (arith, later is)
+
+place-last : (names : List Name) (x : Name) → place (names ++ x ∷ []) x < length (names ++ x ∷ [])
+place-last [] x = rw ((bytes_eq-Decides x x).1 refl) (omega arith)
+place-last (y ∷ ys) x = by (bytes_eq x y) (place-last ys x)
+  where
+    by : (b : Bool) → place (ys ++ x ∷ []) x < length (ys ++ x ∷ []) → cond b 0 (suc (place (ys ++ x ∷ []) x)) < suc (length (ys ++ x ∷ []))
+    by true later = omega arith
+    by false later = omega (arith, later)
+
+place-bound : (names : List Name) (x : Name) → place (bound names x) x < length (bound names x)
+place-bound names x = by (list_any (bytes_eq x) names) refl
+  where
+    by : (b : Bool) → list_any (bytes_eq x) names ≡ b → place (cond b names (names ++ x ∷ [])) x < length (cond b names (names ++ x ∷ []))
+    by true some = place-any names x some
+    by false none = place-last names x
+
+-- all that a suite binds is bound by it
+pub AllBound-bound_by : (s : Suite) (names : List Name) → AllBound (bound_by names s) s
+AllBound-bound_by nothing names = tt
+AllBound-bound_by (first n (give a) more) names = AllBound-bound_by more names
+AllBound-bound_by (first n (operate x op atoms) more) names =
+    (place-goes_on (bound names x) (bound_by (bound names x) more) x (GoesOn-bound_by more (bound names x)) (place-bound names x), AllBound-bound_by more (bound names x))
+
+length-bound : (names : List Name) (x : Name) → length (bound names x) ≤ length names + 1
+length-bound names x = by (list_any (bytes_eq x) names)
+  where
+    by : (b : Bool) → length (cond b names (names ++ x ∷ [])) ≤ length names + 1
+    by true = omega arith
+    by false = omega (arith, length-append names (x ∷ []))
+
+pub length-bound_by : (s : Suite) (names : List Name) → length (bound_by names s) ≤ length names + statements s
+length-bound_by nothing names = omega arith
+length-bound_by (first n (give a) more) names = let rest = length-bound_by more names in omega (arith, rest)
+length-bound_by (first n (operate x op atoms) more) names =
+    let rest = length-bound_by more (bound names x) in
+    let one = length-bound names x in
+    omega (arith, rest, one)
+
+-- a statement of a closed body takes at most 16 units
+pub size_of-known : (s : Suite) (names : List Name) → SuiteKnown names s → size_of s ≤ 16 * statements s
+size_of-known nothing names known = omega arith
+size_of-known (first n (give a) more) names (one, rest) = let later = size_of-known more names rest in omega (arith, later)
+size_of-known (first n (operate x operator.Add atoms) more) names ((arity, all), rest) = let later = size_of-known more (names ++ x ∷ []) rest in omega (arith, later, arity)

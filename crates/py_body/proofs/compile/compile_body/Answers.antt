@@ -1,0 +1,33 @@
+use Rattle.std.proofs.Common.{◌≡◌, List, ℕ, ap, ◌∙◌, sym, refl, subst, codes, length}
+use Rattle.py_body.specs.Tree.{Name, Tree, tree_of}
+use Rattle.py_body.specs.Binding.{locals_of}
+use Rattle.py_body.specs.Code.{IsLaid}
+use Rattle.py_body.specs.Emitting.{parts_of}
+use Rattle.py_body.specs.Naming.{Continues, NamesAll}
+use Rattle.py_body.proofs.EmittingLemmas.{Continues-trans}
+use Rattle.py_body.proofs.Fitting.{fits_laid, laid_code}
+use Rattle.py_body.proofs.NamingLemmas.{Continues-interned, length-NamesAll, named_code}
+use Rattle.py_body.proofs.compile.compile_body.Goals as goal
+
+pub returns-clause-laid : goal.returns-clause-laid
+returns-clause-laid c =
+    let vars : c.as_slice.result.now ≡ locals_of (tree_of c.args.body.now) = c.as_slice.ensures ∙ c.in_ok-emitter.ensures.vars in
+    laid_code (parts_of c.in_ok-emitter.emitter) c.new-code.result _ (tree_of c.args.body.now) c.new-code.ensures c.in_ok-emitter.ensures
+    refl refl refl c.len.ensures (length-NamesAll _ _ _ c.in_ok-varnames.ensures.named ∙ ap (λ (names : List Name). length names) vars)
+
+pub returns-clause-fits : goal.returns-clause-fits
+returns-clause-fits c = fits_laid c.new-code.result (tree_of c.args.body.now) c.requires (returns-clause-laid c)
+
+pub returns-clause-named : goal.returns-clause-named
+returns-clause-named c =
+    let vars : c.as_slice.result.now ≡ locals_of (tree_of c.args.body.now) = c.as_slice.ensures ∙ c.in_ok-emitter.ensures.vars in
+    named_code c.intern.new.self c.intern_text.new.names c.intern_all.new.names c.new-code.result _ (tree_of c.args.body.now) c.new-code.ensures
+    c.in_ok-source_path.ensures.found c.in_ok-obj_name.ensures.grows c.in_ok-obj_name.ensures.named c.in_ok-varnames.ensures.grows
+    (subst (λ (names : List Name). NamesAll c.intern_all.new.names c.in_ok-varnames.varnames.items names) vars c.in_ok-varnames.ensures.named)
+
+pub returns-clause-grows : goal.returns-clause-grows
+returns-clause-grows c =
+    let first : Continues c.args.names.now c.intern.new.self =
+    subst (Continues c.args.names.now) (sym c.in_ok-source_path.ensures.texts) (Continues-interned c.args.names.now (codes "<script>")) in
+    Continues-trans c.args.names.now c.intern.new.self c.intern_all.new.names first
+    (Continues-trans c.intern.new.self c.intern_text.new.names c.intern_all.new.names c.in_ok-obj_name.ensures.grows c.in_ok-varnames.ensures.grows)

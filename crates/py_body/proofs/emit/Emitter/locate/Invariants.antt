@@ -1,0 +1,12 @@
+use Rattle.std.proofs.Common.{◌≡◌, ◌-◌, ◌++◌, length, replicate}
+use Rattle.py_code.specs.Literals.{literals_of}
+use Rattle.py_body.specs.Emitting.{parts_of}
+use Rattle.py_body.proofs.emit.Emitter.locate.Given as goal
+
+abbrev pub invariant-loop-unit : goal.invariant-loop-unit
+invariant-loop-unit l = record {
+  located : l.self.locations.items ≡ l.fn.self.locations.items ++ replicate (l._unit - length l.fn.self.locations.items) l.line;
+  units : l.self.units ≡ l.fn.self.units;
+  constants : l.self.constants ≡ l.fn.self.constants;
+  locals : l.self.locals ≡ l.fn.self.locals;
+}

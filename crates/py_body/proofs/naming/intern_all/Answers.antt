@@ -1,0 +1,15 @@
+use Rattle.std.proofs.Common.{ap, ◌++◌, ◌∷◌, [], subst, sym, List}
+use Rattle.py_code.specs.declared.names.NameId.{NameId}
+use Rattle.py_body.specs.Naming.{NamesAll}
+use Rattle.py_body.proofs.EmittingLemmas.{Continues-trans}
+use Rattle.py_body.proofs.NamingLemmas.{names_more}
+use Rattle.py_body.proofs.naming.intern_all.Goals as goal
+
+pub loop-text-preserved : goal.loop-text-preserved
+loop-text-preserved c =
+    record {
+      named = rw c.in_ok-push.ensures.items
+          (names_more c.loop-text.names c.intern_text.new.names c.loop-text.ids.items c.args.texts.now c.loop-text.text-index c.in_ok-id.id c.text-item.result
+          c.loop-text-test.true c.text-item.is c.in_ok-id.ensures.grows c.loop-text.invariant.named c.in_ok-id.ensures.named);
+      grows = Continues-trans c.args.names.now c.loop-text.names c.intern_text.new.names c.loop-text.invariant.grows c.in_ok-id.ensures.grows;
+    }

@@ -1,0 +1,82 @@
+-- Where the code of each form stands.
+use Rattle.std.specs.Prelude.{ℕ, suc, ◌+◌, ◌*◌, ◌<◌, ◌≤◌, ◌^◌, Some, List, [], ◌∷◌, ◌≡◌, slice_get, length, drop, bytes_eq, if◌then◌else◌}
+use Rattle.py_code.specs.declared.unit.CodeUnit.{CodeUnit}
+use Rattle.py_code.specs.declared.instruction.Instruction.{Instruction}
+use Rattle.py_code.specs.declared.instruction.Instruction.TheVariants.{LoadConst, LoadFast, StoreFast, BinaryOperation, ReturnValue, ReturnConst}
+use Rattle.py_code.specs.declared.literal.Literal.{Literal, None as NoneLiteral, Int as IntLiteral}
+use Rattle.py_code.specs.declared.operator.BinaryOperator.{BinaryOperator}
+use Rattle.py_code.specs.declared.operator.BinaryOperator.TheVariants as binary
+use Rattle.py_code.specs.declared.code.PyCode.{PyCode}
+use Rattle.py_code.specs.Literals.{literals_of}
+use Rattle.py_code.specs.Operators.{binary_number}
+use Rattle.py_code.specs.Units.{decoded_from}
+use Rattle.py_body.specs.declared.atom.Atom.{Atom}
+use Rattle.py_body.specs.declared.atom.Atom.TheVariants as atom
+use Rattle.py_body.specs.declared.atom.Operator.{Operator}
+use Rattle.py_body.specs.declared.atom.Operator.TheVariants as operator
+use Rattle.py_body.specs.Tree.{Name, Form, operate, give, Suite, nothing, first, Tree}
+use Rattle.py_body.specs.Binding.{locals_of}
+
+-- the parts of a code that its units refer to
+pub record Parts : Type 0 where
+  pub units : List CodeUnit
+  pub locations : List ℕ  -- the line of each unit
+  pub constants : List Literal
+  pub vars : List Name  -- the names of the locals
+
+-- the place of a name, or the length of the list where it isn't there
+abbrev pub place : List Name → Name → ℕ
+place [] x = 0
+place (y ∷ ys) x = if bytes_eq x y then 0 else suc (place ys x)
+
+-- the operator of the machine that an operator is
+abbrev pub binary_of : Operator → BinaryOperator
+binary_of operator.Add = binary.Add
+
+-- the units from one place up to another are of this line
+abbrev pub HasLine : List ℕ → ℕ → ℕ → ℕ → Type 0
+HasLine locations line at next = (k : ℕ) → at ≤ k → k < next → slice_get locations k ≡ Some line
+
+-- the unit at a place, behind its prefixes, is this instruction with this operand, of this line, and `next` is the place behind it
+abbrev pub Stands : Parts → ℕ → ℕ → Instruction → ℕ → ℕ → Type 0
+Stands parts line at op arg next =
+    (decoded_from 0 at (drop at parts.units) ≡ Some (record { op = op; arg = record { 0 = arg }; next = next })) × HasLine parts.locations line at next
+
+-- the same of an instruction whose operand is the place of a constant
+abbrev pub StandsConst : Parts → ℕ → ℕ → Instruction → Literal → ℕ → Type 0
+StandsConst parts line at op literal next = (i : ℕ) × Stands parts line at op i next × (slice_get parts.constants i ≡ Some literal)
+
+-- from one place to another stands the load of an atom
+abbrev pub LaidAtom : Parts → ℕ → Atom → ℕ → ℕ → Type 0
+LaidAtom parts line (atom.Int n) at next = StandsConst parts line at LoadConst (IntLiteral n) next
+LaidAtom parts line (atom.Name x) at next = Stands parts line at LoadFast (place parts.vars x) next
+
+-- the loads of atoms in order
+abbrev pub LaidAtoms : Parts → ℕ → List Atom → ℕ → ℕ → Type 0
+LaidAtoms parts line [] at next = next ≡ at
+LaidAtoms parts line (a ∷ atoms) at next = (mid : ℕ) × LaidAtom parts line a at mid × LaidAtoms parts line atoms mid next
+
+-- the code of a statement of this line
+abbrev pub LaidForm : Parts → ℕ → Form → ℕ → ℕ → Type 0
+LaidForm parts line (operate x op atoms) at next =
+    (asks : ℕ) × (stores : ℕ) × LaidAtoms parts line atoms at asks
+    × Stands parts line asks BinaryOperation (binary_number (binary_of op)) stores × Stands parts line stores StoreFast (place parts.vars x) next
+LaidForm parts line (give a) at next = (ends : ℕ) × LaidAtom parts line a at ends × Stands parts line ends ReturnValue 0 next
+
+-- the code of statements behind this line, and the return of None at their end
+abbrev pub LaidSuite : Parts → ℕ → Suite → ℕ → Type 0
+LaidSuite parts line nothing at = (next : ℕ) × StandsConst parts line at ReturnConst NoneLiteral next
+LaidSuite parts line (first n f more) at = (next : ℕ) × LaidForm parts n f at next × LaidSuite parts n more next
+
+-- the parts of a code whose locals have these names
+abbrev pub parts_with : List Name → PyCode → Parts
+parts_with vars code =
+    record { units = code.code.instructions.items; locations = code.code.locations.items; constants = literals_of code.code.constants; vars = vars }
+
+-- the code is that of a body
+pub record IsLaid (code : PyCode) (t : Tree) : Type 0 where
+  pub arity : code.code.arg_count ≡ length t.params
+  pub locals : length code.code.varnames.items ≡ length (locals_of t)
+  pub laid : LaidSuite (parts_with (locals_of t) code) t.line t.suite 0
+  pub short : length code.code.instructions.items < 2 ^ 32
+  pub located : length code.code.locations.items ≡ length code.code.instructions.items

@@ -1,0 +1,27 @@
+-- The names of a code, as places in the table of names.
+use Rattle.std.specs.Prelude.{ℕ, ◌<◌, Some, List, [], ◌∷◌, ◌++◌, ◌≡◌, slice_get, length, codes, encode_utf8_all}
+use Rattle.py_code.specs.declared.code.PyCode.{PyCode}
+use Rattle.py_code.specs.declared.names.NameId.{NameId}
+use Rattle.py_body.specs.Tree.{Name, Tree}
+use Rattle.py_body.specs.Binding.{locals_of}
+
+-- one list goes on as another
+abbrev pub Continues : {A : Type 0} → List A → List A → Type 0
+Continues {A} front whole = (more : List A) × (whole ≡ front ++ more)
+
+-- the table has this text at the name's place
+abbrev pub IsNameOf : List (List ℕ) → NameId → List ℕ → Type 0
+IsNameOf table id text = (id.index < length table) × (slice_get table id.index ≡ Some text)
+
+-- each of these is the name of one of those characters, in order
+abbrev pub NamesAll : List (List ℕ) → List NameId → List Name → Type 0
+NamesAll table [] [] = Unit {0}
+NamesAll table [] (x ∷ xs) = ⊥
+NamesAll table (id ∷ ids) [] = ⊥
+NamesAll table (id ∷ ids) (x ∷ xs) = IsNameOf table id (encode_utf8_all x) × NamesAll table ids xs
+
+-- the names of the code of a body
+pub record IsNamed (table : List (List ℕ)) (code : PyCode) (t : Tree) : Type 0 where
+  pub source_path : IsNameOf table code.code.source_path (codes "<script>")
+  pub obj_name : IsNameOf table code.code.obj_name (encode_utf8_all t.name)
+  pub varnames : NamesAll table code.code.varnames.items (locals_of t)

@@ -1,0 +1,165 @@
+//! The compiler: the code of a body.
+
+ghost use Rattle.std.specs.Prelude.{◌≡◌, ◌+◌, ◌*◌, ◌<◌, ◌^◌, length, IfOk, OnOk};
+ghost use Rattle.py_code.specs.Literals.{literals_of};
+ghost use Rattle.py_body.specs.Tree.{form_of, operate, suite_of, tree_of};
+ghost use Rattle.py_body.specs.Binding.{IsClosed};
+ghost use Rattle.py_body.specs.Code.{binary_of, IsLaid};
+ghost use Rattle.py_body.specs.Emitting.{parts_of, IsEmitted, IsMatched, EmitsAtom, EmitsAtoms, EmitsForm, EmitsSuite, size_of_form, size_of};
+ghost use Rattle.py_body.specs.Fits.{Fits};
+ghost use Rattle.py_body.specs.Naming.{Continues, IsNamed};
+
+use crate::atom::{Atom, AtomList, Operator};
+use crate::body::Body;
+use crate::emit::Emitter;
+use crate::locals::Locals;
+use crate::naming::{intern_all, intern_text};
+use crate::stmt::{Stmt, StmtForm, StmtList};
+use py_code::{
+    BinaryOperator, CodeFlags, CodeObject, Instruction, Literal, Names, NoMemory, PyCode, PyText,
+};
+use std::alloc::Global;
+
+/// The code of a body: its locals are known by their places, and each number that it names is a constant of its own.
+pub fn compile_body(alloc: Global, names: &mut Names, body: &Body) -> Result<PyCode, NoMemory>
+    requires { IsClosed (tree_of body.now) }
+    ensures fits { IfOk result (λ code. Fits code (tree_of body.now)) }
+    ensures laid { IfOk result (λ code. IsLaid code (tree_of body.now)) }
+    ensures named { IfOk result (λ code. IsNamed names.new code (tree_of body.now)) }
+    ensures grows { Continues names.old names.new }
+{
+    let emitter = emit_body(alloc, body)?;
+    let source_path = names.intern("<script>")?;
+    let obj_name = intern_text(alloc, names, &body.name)?;
+    let varnames = intern_all(alloc, names, emitter.locals.as_slice())?;
+    let code = PyCode::new(CodeObject {
+        instructions: emitter.units,
+        locations: emitter.locations,
+        flags: CodeFlags::new(CodeFlags::NEW_LOCALS | CodeFlags::IS_OPTIMIZED),
+        posonlyarg_count: 0,
+        arg_count: body.params.len() as u32,
+        kwonlyarg_count: 0,
+        source_path,
+        first_line_number: Some(body.line),
+        max_stackdepth: 2,
+        obj_name,
+        cell2arg: Vec::new(alloc),
+        constants: emitter.constants,
+        names: Vec::new(alloc),
+        varnames,
+        cellvars: Vec::new(alloc),
+        freevars: Vec::new(alloc),
+    });
+    Ok(code)
+}
+
+/// The units of a body with all that they refer to.
+fn emit_body(alloc: Global, body: &Body) -> Result<Emitter, NoMemory>
+    requires { IsClosed (tree_of body.now) }
+    ensures { IfOk result (λ emitter. IsEmitted (parts_of emitter) (tree_of body.now)) }
+{
+    let locals = Locals::of_body(alloc, body)?;
+    let mut emitter = Emitter::new(alloc, locals);
+    emitter.compile_statements(&body.suite, body.line)?;
+    Ok(emitter)
+}
+
+impl Emitter {
+    /// Adds the code of statements behind a line, and the return of None at their end.
+    fn compile_statements(&mut self, suite: &StmtList, line: u32) -> Result<(), NoMemory>
+        requires matched { IsMatched (parts_of self.old) }
+        requires few_constants { length (literals_of self.old.constants) + size_of (suite_of suite.now) < 2 ^ 32 }
+        requires few_locals { length self.old.locals < 2 ^ 32 }
+        ensures { OnOk result (EmitsSuite (parts_of self.old) (parts_of self.new) (suite_of suite.now) line) }
+    {
+        let mut last = line;
+        for stmt in suite.as_slice() {
+            self.compile_statement(stmt)?;
+            last = stmt.line;
+        }
+        self.emit_with_const(Instruction::ReturnConst, Literal::None, last)
+    }
+
+    /// Adds the code of a statement.
+    fn compile_statement(&mut self, stmt: &Stmt) -> Result<(), NoMemory>
+        requires matched { IsMatched (parts_of self.old) }
+        requires few_constants { length (literals_of self.old.constants) + size_of_form (form_of stmt.now.form) < 2 ^ 32 }
+        requires few_locals { length self.old.locals < 2 ^ 32 }
+        ensures { OnOk result (EmitsForm (parts_of self.old) (parts_of self.new) (form_of stmt.now.form) stmt.now.line) }
+    {
+        match &stmt.form {
+            StmtForm::Operate(name, operator, atoms) => self.compile_operation(
+                name, *operator, atoms, stmt.line,
+            ),
+            StmtForm::Return(atom) => {
+                self.compile_atom(atom, stmt.line)?;
+                self.emit(Instruction::ReturnValue, 0, stmt.line)
+            }
+        }
+    }
+
+    /// Adds what binds an operator's value to a name.
+    fn compile_operation(
+        &mut self,
+        name: &PyText,
+        operator: Operator,
+        atoms: &AtomList,
+        line: u32,
+    ) -> Result<(), NoMemory>
+        requires matched { IsMatched (parts_of self.old) }
+        requires few_constants { length (literals_of self.old.constants) + 4 * length atoms.now < 2 ^ 32 }
+        requires few_locals { length self.old.locals < 2 ^ 32 }
+        ensures { OnOk result (EmitsForm (parts_of self.old) (parts_of self.new) (operate name.now operator atoms.now) line) }
+    {
+        self.compile_atoms(atoms, line)?;
+        self.emit(
+            Instruction::BinaryOperation,
+            binary_operator(operator).number(),
+            line,
+        )?;
+        let place = self.locals.place(name) as u32;
+        self.emit(Instruction::StoreFast, place, line)
+    }
+
+    /// Adds the loads of atoms in order.
+    fn compile_atoms(&mut self, atoms: &AtomList, line: u32) -> Result<(), NoMemory>
+        requires matched { IsMatched (parts_of self.old) }
+        requires few_constants { length (literals_of self.old.constants) + 4 * length atoms.now < 2 ^ 32 }
+        requires few_locals { length self.old.locals < 2 ^ 32 }
+        ensures { OnOk result (EmitsAtoms (parts_of self.old) (parts_of self.new) atoms.now line) }
+    {
+        for atom in atoms.as_slice() {
+            self.compile_atom(atom, line)?;
+        }
+        Ok(())
+    }
+
+    /// Adds the load of an atom.
+    fn compile_atom(&mut self, atom: &Atom, line: u32) -> Result<(), NoMemory>
+        requires matched { IsMatched (parts_of self.old) }
+        requires few_constants { length (literals_of self.old.constants) < 2 ^ 32 }
+        requires few_locals { length self.old.locals < 2 ^ 32 }
+        ensures { OnOk result (EmitsAtom (parts_of self.old) (parts_of self.new) atom.now line) }
+    {
+        match atom {
+            Atom::Int(number) => self.emit_with_const(
+                Instruction::LoadConst,
+                Literal::Int(*number),
+                line,
+            ),
+            Atom::Name(name) => {
+                let place = self.locals.place(name) as u32;
+                self.emit(Instruction::LoadFast, place, line)
+            }
+        }
+    }
+}
+
+/// The operator of the machine that an operator is.
+fn binary_operator(operator: Operator) -> BinaryOperator
+    ensures { result ≡ binary_of operator }
+{
+    match operator {
+        Operator::Add => BinaryOperator::Add,
+    }
+}

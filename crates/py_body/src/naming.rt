@@ -1,0 +1,44 @@
+//! The names of a code: texts in the table of names.
+
+ghost use Rattle.std.specs.Prelude.{◌≡◌, IfOk, encode_utf8_all, string_bytes};
+ghost use Rattle.py_body.specs.Naming.{Continues, IsNameOf, NamesAll};
+
+use py_code::{NameId, Names, NoMemory, PyText};
+use std::alloc::Global;
+
+/// The name of a text.
+pub fn intern_text(alloc: Global, names: &mut Names, text: &PyText) -> Result<NameId, NoMemory>
+    ensures named { IfOk result (λ id. IsNameOf names.new id (encode_utf8_all text.now)) }
+    ensures grows { Continues names.old names.new }
+{
+    let text = utf8_of(alloc, text)?;
+    names.intern(&text)
+}
+
+/// The names of texts, in order.
+pub fn intern_all(
+    alloc: Global,
+    names: &mut Names,
+    texts: &[PyText],
+) -> Result<Vec<NameId>, NoMemory>
+    ensures named { IfOk result (λ ids. NamesAll names.new ids.items texts.now) }
+    ensures grows { Continues names.old names.new }
+{
+    let mut ids = Vec::new(alloc);
+    for text in texts {
+        let id = intern_text(alloc, names, text)?;
+        ids.push(id)?;
+    }
+    Ok(ids)
+}
+
+/// A text in UTF-8.
+fn utf8_of(alloc: Global, text: &PyText) -> Result<String, NoMemory>
+    ensures { IfOk result (λ string. string_bytes string ≡ encode_utf8_all text.now) }
+{
+    let mut string = String::new(alloc);
+    for character in text.as_slice() {
+        string.push(*character)?;
+    }
+    Ok(string)
+}

@@ -1,0 +1,40 @@
+-- What loads a constant.
+use Rattle.std.proofs.Common.{◌≡◌, ◌++◌, List, [], ◌∷◌, Some, refl, subst, length}
+use Rattle.std.specs.Prelude.{Option, slice_get}
+use Rattle.py_code.specs.declared.literal.Literal.{Literal, None as NoneLiteral, Bool as BoolLiteral, Int as IntLiteral, Str as StrLiteral, Tuple' as TupleLiteral, Code as CodeLiteral, Builtin as BuiltinLiteral}
+use Rattle.py_objects.specs.declared.payload.Payload.{Payload}
+use Rattle.py_objects.specs.declared.payload.Payload.TheVariants as payload
+use Rattle.py_objects.specs.Objects.{Obj, HasPayload, GrowsPlainly}
+use Rattle.py_frame.specs.Rows.{Step, payload_of, or_stuck, loads}
+use Rattle.py_frame.specs.UnitSteps.{MayLead}
+use Rattle.py_frame.proofs.PlainGrowth.{grows_plainly_refl, grows_plainly_by}
+
+-- the payload that came last has the number of those before
+entry_added : (objects : List Payload) (p : Payload) → slice_get (objects ++ p ∷ []) (length objects) ≡ Some p
+entry_added [] p = refl
+entry_added (q ∷ qs) p = entry_added qs p
+
+-- a new object of a constant's payload is one that its load may take
+pub load_leads : (objects objects' : List Payload) (literal : Option Literal) (l : Literal) (p : Payload) (v : Obj) (f : Obj → Step)
+    → literal ≡ Some l → payload_of l ≡ Some p → v.number ≡ length objects → objects' ≡ objects ++ p ∷ [] → MayLead objects' (loads literal f) (f v)
+load_leads objects objects' literal l p v f is_literal is_payload number added =
+    let has : HasPayload objects' v p = rw (added, number) (entry_added objects p) in
+    let leads : MayLead objects' (or_stuck (Some p) f) (f v) = (v, has, refl) in
+    rw is_literal (rw is_payload leads)
+
+-- the payload of a constant is no declaration, and names nothing
+pub literal_grows : (objects : List Payload) (l : Literal) (p : Payload) → payload_of l ≡ Some p → GrowsPlainly objects (objects ++ p ∷ [])
+literal_grows objects NoneLiteral p is = let same : payload.None ≡ p = cc in subst (λ (q : Payload). GrowsPlainly objects (objects ++ q ∷ [])) same (grows_plainly_by objects payload.None refl (λ _. tt) (λ _. tt))
+literal_grows objects (BoolLiteral b) p is = let same : payload.Bool b ≡ p = cc in subst (λ (q : Payload). GrowsPlainly objects (objects ++ q ∷ [])) same (grows_plainly_by objects (payload.Bool b) refl (λ _. tt) (λ _. tt))
+literal_grows objects (IntLiteral n) p is = let same : payload.Int n ≡ p = cc in subst (λ (q : Payload). GrowsPlainly objects (objects ++ q ∷ [])) same (grows_plainly_by objects (payload.Int n) refl (λ _. tt) (λ _. tt))
+literal_grows objects (StrLiteral s) p is = let same : payload.Str s ≡ p = cc in subst (λ (q : Payload). GrowsPlainly objects (objects ++ q ∷ [])) same (grows_plainly_by objects (payload.Str s) refl (λ _. tt) (λ _. tt))
+literal_grows objects (TupleLiteral shape items) p is = cc
+literal_grows objects (CodeLiteral c) p is = cc
+literal_grows objects (BuiltinLiteral f) p is = cc
+
+pub load_grows : (objects objects' : List Payload) (l : Literal) (p : Payload) → payload_of l ≡ Some p → objects' ≡ objects ++ p ∷ [] → GrowsPlainly objects objects'
+load_grows objects objects' l p is added = rw added (literal_grows objects l p is)
+
+-- the same objects are plain growth
+pub unchanged_grows : (objects objects' : List Payload) → objects' ≡ objects → GrowsPlainly objects objects'
+unchanged_grows objects objects' same = rw same (grows_plainly_refl objects)

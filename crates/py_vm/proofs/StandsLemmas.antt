@@ -1,0 +1,266 @@
+-- Machines between drives, and what a drive adds.
+use Rattle.std.proofs.Common.{◌≡◌, ◌<◌, ◌≤◌, ◌+◌, ◌++◌, ℕ, zero, suc, List, [], ◌∷◌, Some, inl, inr, refl, sym, ap, subst, ◌∙◌, length, length-append, append_assoc, append-nil, add-one, arith}
+use Rattle.std.specs.Prelude.{Option, None, slice_get}
+use Rattle.py_code.specs.declared.code.PyCode.{PyCode}
+use Rattle.py_code.specs.Codes.{Codes}
+use Rattle.py_objects.specs.declared.payload.Payload.{Payload}
+use Rattle.py_objects.specs.declared.payload.Payload.TheVariants as payload
+use Rattle.py_objects.specs.declared.payload.ErrorKind.{ErrorKind}
+use Rattle.py_objects.specs.declared.payload.ErrorKind.TheVariants.{NameError, OverflowError, RecursionError, TypeError, UnboundLocalError}
+use Rattle.py_objects.specs.declared.event.Event.{Event}
+use Rattle.py_objects.specs.declared.event.Event.TheVariants as event
+use Rattle.py_objects.specs.declared.event.DriveAnswer.{DriveAnswer}
+use Rattle.py_objects.specs.Objects.{Obj, HasPayload, Grows, class_object, declared, name_of, payload_numbers, AllBelow, IsMade, AllFit, AreNamed, GrowsPlainly}
+use Rattle.py_frame.proofs.PlainGrowth.{plainly_grows, grows_plainly_refl, grows_plainly_trans, made_grown, below_more, length_grown, slice_get_split}
+use Rattle.py_vm.specs.declared.drive.Drive.{Drive}
+use Rattle.py_vm.specs.declared.drive.Drive.TheVariants.{Call}
+use Rattle.py_vm.specs.declared.stage.Stage.{Stage}
+use Rattle.py_vm.specs.declared.stage.Stage.TheVariants as stage
+use Rattle.py_vm.specs.declared.vm.VirtualMachine.{VirtualMachine}
+use Rattle.py_vm.specs.Run.{State, Phase, Idle, start, state_after, EachTells, Comes}
+use Rattle.py_vm.specs.RowsOf.{RowsOf}
+use Rattle.py_vm.specs.Classes.{class_of, class_payload, first_objects, first_classes, HaveClasses}
+use Rattle.py_vm.specs.Machine.{events_of, objects_of, codes_of, done_of}
+use Rattle.py_vm.specs.Stands.{IsCallable, AtStage, phase_of, acts_of, Keeps, Stands, Adds, EndsBy}
+use Rattle.py_vm.specs.Turns.{first_stage, Halts, IsBusy, AsksFor, Turns, Drove}
+use Rattle.py_vm.proofs.OwnLemmas.{own_events-nil}
+use Rattle.py_objects.specs.Own.{own_events}
+use Rattle.py_vm.proofs.RowsOfLemmas.{tells_grow, tells_still}
+use Rattle.py_vm.proofs.RunLemmas.{comes_grow, comes_more, comes_on}
+use Rattle.py_vm.proofs.ReplyingLemmas.{newest}
+use Rattle.py_vm.proofs.JournalLemmas.{named_still, one_entry}
+use Rattle.py_vm.proofs.TurnsLemmas.{classes_stay}
+
+-- the entries of a machine that stands fit
+pub stands_fit : (m : VirtualMachine) → Stands m → AllFit (objects_of m)
+stands_fit m stands = stands.keeps.fit
+
+-- so many drives are done as it counts
+pub stands_done : (m : VirtualMachine) → Stands m → done_of m ≡ m.done
+stands_done m stands = stands.keeps.done
+
+-- nothing runs
+pub stands_idle : (m : VirtualMachine) → Stands m → (state_after start (events_of m)).phase ≡ Idle
+stands_idle m stands = stands.keeps.phase ∙ ap phase_of stands.idle
+
+-- its activations told what the rows may, and its events name objects
+pub stands_tells : (m : VirtualMachine) → Stands m → EachTells (RowsOf (codes_of m).codes (objects_of m)) (events_of m)
+stands_tells m stands = stands.keeps.tells
+
+pub stands_named : (m : VirtualMachine) → Stands m → AreNamed (objects_of m) (events_of m)
+stands_named m stands = stands.keeps.named
+
+-- the objects that a machine begins with
+first_fit : AllFit first_objects
+first_fit zero p is = subst (λ q. AllBelow (length first_objects) (payload_numbers q) × IsMade first_objects q) (let same : payload.None ≡ p = cc in same) (tt, tt)
+first_fit (suc zero) p is = subst (λ q. AllBelow (length first_objects) (payload_numbers q) × IsMade first_objects q) (let same : class_payload NameError ≡ p = cc in same) (tt, tt)
+first_fit (suc (suc zero)) p is = subst (λ q. AllBelow (length first_objects) (payload_numbers q) × IsMade first_objects q) (let same : class_payload OverflowError ≡ p = cc in same) (tt, tt)
+first_fit (suc (suc (suc zero))) p is = subst (λ q. AllBelow (length first_objects) (payload_numbers q) × IsMade first_objects q) (let same : class_payload RecursionError ≡ p = cc in same) (tt, tt)
+first_fit (suc (suc (suc (suc zero)))) p is = subst (λ q. AllBelow (length first_objects) (payload_numbers q) × IsMade first_objects q) (let same : class_payload TypeError ≡ p = cc in same) (tt, tt)
+first_fit (suc (suc (suc (suc (suc zero))))) p is = subst (λ q. AllBelow (length first_objects) (payload_numbers q) × IsMade first_objects q) (let same : class_payload UnboundLocalError ≡ p = cc in same) (tt, tt)
+first_fit (suc (suc (suc (suc (suc (suc i)))))) p is = absurd (cc is)
+
+first_have : HaveClasses first_classes first_objects
+first_have NameError = (refl, refl)
+first_have OverflowError = (refl, refl)
+first_have RecursionError = (refl, refl)
+first_have TypeError = (refl, refl)
+first_have UnboundLocalError = (refl, refl)
+
+-- a machine that has done nothing stands
+pub start_stands : (m : VirtualMachine) → m.events ≡ [] → m.store ≡ first_objects → m.exceptions ≡ first_classes → m.done ≡ 0 → m.made ≡ 0 → m.stage ≡ stage.Idle → Stands m
+start_stands m no_events objects classes none_done none_made idle =
+    let fit : AllFit m.store = subst AllFit (sym objects) first_fit in
+    let nothing : state_after start m.events ≡ start = ap (state_after start) no_events in
+    record {
+      keeps = record {
+        done = ap (λ (s : State). s.done) nothing ∙ sym none_done;
+        phase = ap (λ (s : State). s.phase) nothing ∙ ap phase_of (sym idle);
+        stack = ap (λ (s : State). s.stack) nothing ∙ ap acts_of (sym idle);
+        made = ap (λ (s : State). length s.made) nothing ∙ sym none_made;
+        fit = fit;
+        classes = subst (λ zoo. HaveClasses zoo m.store) (sym classes) (subst (HaveClasses first_classes) (sym objects) first_have);
+        tells = λ i a made. absurd (let none : None ≡ Some a = sym (ap (λ (s : State). slice_get s.made i) nothing) ∙ made in cc none);
+        later = λ b past. ap (own_events b) no_events ∙ own_events-nil b;
+        named = record {
+          in_events = λ i e here. absurd (let none : None ≡ Some e = sym (ap (λ l. slice_get l i) no_events) ∙ here in cc none);
+          in_payloads = λ i p here. (fit i p here).0;
+        };
+        at_stage = subst (AtStage m.codes.codes m.store m.events m.made) (sym idle) tt;
+      };
+      idle = idle;
+    }
+
+-- a machine stands also with one more code
+pub code_added : (m : VirtualMachine) (codes : Codes) (code : PyCode) → codes ≡ record { names = m.codes.names; codes = m.codes.codes ++ code ∷ [] } → Stands m → Stands (record m { codes = codes })
+code_added m codes code added stands =
+    let k = stands.keeps in
+    let still : Grows m.store m.store = plainly_grows m.store m.store (grows_plainly_refl m.store) in
+    record {
+      keeps = record {
+        done = k.done;
+        phase = k.phase;
+        stack = k.stack;
+        made = k.made;
+        fit = k.fit;
+        classes = k.classes;
+        tells = subst (λ l. EachTells (RowsOf l m.store) m.events) (sym (ap (λ (c : Codes). c.codes) added)) (tells_grow m.codes.codes (code ∷ []) m.store m.store m.events still k.tells);
+        later = k.later;
+        named = k.named;
+        at_stage = subst (AtStage codes.codes m.store m.events m.made) (sym stands.idle) tt;
+      };
+      idle = stands.idle;
+    }
+
+-- and with the same codes
+pub codes_still : (m : VirtualMachine) (codes : Codes) → codes ≡ m.codes → Stands m → Stands (record m { codes = codes })
+codes_still m codes same stands = subst (λ c. Stands (record m { codes = c })) (sym same) stands
+
+-- entries fit also with one more that fits
+fit_added : (objects : List Payload) (q : Payload) → AllFit objects → AllBelow (length objects) (payload_numbers q) → IsMade objects q → AllFit (objects ++ q ∷ [])
+fit_added objects q fit below made i p here =
+    let grows : Grows objects (objects ++ q ∷ []) = (q ∷ [], refl) in
+    let longer : length objects ≤ length (objects ++ q ∷ []) = length_grown _ _ grows in
+    elim (slice_get_split objects (q ∷ []) i p here) [
+      | inl front ↦ (below_more _ _ _ longer (fit i p front).0, made_grown _ _ p grows (fit i p front).1)
+      | inr back ↦ subst (λ r. AllBelow (length (objects ++ q ∷ [])) (payload_numbers r) × IsMade (objects ++ q ∷ []) r) (one_entry q p _ back) (below_more _ _ _ longer below, made_grown _ _ q grows made)
+    ]
+
+-- a machine stands also with one more object
+pub object_added : (m : VirtualMachine) (objects : List Payload) (p : Payload) → objects ≡ m.store ++ p ∷ [] → AllBelow (length m.store) (payload_numbers p) → IsMade m.store p → Stands m → Stands (record m { store = objects })
+object_added m objects p added below made stands =
+    let k = stands.keeps in
+    let grows : Grows m.store objects = (p ∷ [], added) in
+    let fit : AllFit objects = subst AllFit (sym added) (fit_added m.store p k.fit below made) in
+    record {
+      keeps = record {
+        done = k.done;
+        phase = k.phase;
+        stack = k.stack;
+        made = k.made;
+        fit = fit;
+        classes = classes_stay m.exceptions m.store objects grows k.classes;
+        tells = tells_still m.codes.codes m.store objects m.events grows k.tells;
+        later = k.later;
+        named = named_still m.store objects m.events grows fit k.named;
+        at_stage = subst (AtStage m.codes.codes objects m.events m.made) (sym stands.idle) tt;
+      };
+      idle = stands.idle;
+    }
+
+pub objects_still : (m : VirtualMachine) (objects : List Payload) → objects ≡ m.store → Stands m → Stands (record m { store = objects })
+objects_still m objects same stands = subst (λ os. Stands (record m { store = os })) (sym same) stands
+
+-- a drive begins
+pub drove_start : (m : VirtualMachine) (d : Drive) (s : Stage) → s ≡ first_stage d → Stands m → IsCallable m d → Drove m d 0 (record m { stage = s })
+drove_start m (Call f vs) s is stands callable =
+    let k = stands.keeps in
+    subst (λ x. Drove m (Call f vs) 0 (record m { stage = x })) (sym is) (record {
+      keeps = record {
+        done = k.done;
+        phase = k.phase ∙ ap phase_of stands.idle;
+        stack = k.stack ∙ ap acts_of stands.idle;
+        made = k.made;
+        fit = k.fit;
+        classes = k.classes;
+        tells = k.tells;
+        later = k.later;
+        named = k.named;
+        at_stage = callable;
+      };
+      part = [];
+      count = refl;
+      events = sym (append-nil m.events);
+      grows = grows_plainly_refl m.store;
+      codes = refl;
+      done = sym k.done;
+      busy = tt;
+      asks = refl;
+      runs = λ asked same comes. comes_more asked (Call f vs ∷ []) m.store [] start m.events comes;
+    })
+
+-- one more turn adds a part of a run
+runs_on : (m0 m m' : VirtualMachine) (d : Drive) (n : ℕ) (a : Option DriveAnswer) → Drove m0 d n m → Turns m m.stage a m'
+    → (asked : List Drive) → length asked ≡ done_of m0 → Comes asked m0.store [] start m0.events → Comes (asked ++ d ∷ []) m'.store [] start m'.events
+runs_on m0 m m' d n a drove turns asked same comes =
+    let here : slice_get (asked ++ d ∷ []) m.done ≡ Some d = ap (slice_get (asked ++ d ∷ [])) (drove.done ∙ sym same) ∙ newest asked d in
+    subst (λ es. Comes (asked ++ d ∷ []) m'.store [] start es) (sym turns.events)
+    (comes_on (asked ++ d ∷ []) m'.store [] start m.events turns.added
+    (comes_grow (asked ++ d ∷ []) m.store m'.store [] start m.events turns.grows (drove.runs asked same comes))
+    (turns.comes (asked ++ d ∷ []) d drove.asks here))
+
+part_on : (m0 m m' : VirtualMachine) (d : Drive) (n : ℕ) (a : Option DriveAnswer) → (drove : Drove m0 d n m) → (turns : Turns m m.stage a m') → m'.events ≡ m0.events ++ (drove.part ++ turns.added ∷ [])
+part_on m0 m m' d n a drove turns = turns.events ∙ ap (λ l. l ++ turns.added ∷ []) drove.events ∙ append_assoc m0.events drove.part (turns.added ∷ [])
+
+pub drove_on : (m0 m m' : VirtualMachine) (d : Drive) (n : ℕ) → Drove m0 d n m → Turns m m.stage None m' → Drove m0 d (n + 1) m'
+drove_on m0 m m' d n drove turns = record {
+  keeps = turns.keeps;
+  part = drove.part ++ turns.added ∷ [];
+  count = length-append drove.part (turns.added ∷ []) ∙ ap (λ k. k + 1) drove.count;
+  events = part_on m0 m m' d n None drove turns;
+  grows = grows_plainly_trans m0.store m.store m'.store drove.grows turns.grows;
+  codes = turns.codes ∙ drove.codes;
+  done = turns.ends.0 ∙ drove.done;
+  busy = turns.ends.1;
+  asks = turns.asks d drove.asks;
+  runs = runs_on m0 m m' d n None drove turns;
+}
+
+-- what was added, where the turns are spent
+pub drove_adds : (m0 m : VirtualMachine) (d : Drive) (n : ℕ) → Drove m0 d n m → Adds d m0 m
+drove_adds m0 m d n drove = record {
+  part = drove.part;
+  events = drove.events;
+  grows = drove.grows;
+  codes = drove.codes;
+  runs = drove.runs;
+  tells = drove.keeps.tells;
+  named = drove.keeps.named;
+}
+
+pub drove_count : (m0 m : VirtualMachine) (d : Drive) (n : ℕ) → Drove m0 d n m → length m.events ≡ length m0.events + n
+drove_count m0 m d n drove = ap length drove.events ∙ length-append m0.events drove.part ∙ ap (λ k. length m0.events + k) drove.count
+
+pub drove_done : (m0 m : VirtualMachine) (d : Drive) (n : ℕ) → Drove m0 d n m → done_of m ≡ done_of m0
+drove_done m0 m d n drove = drove.keeps.done ∙ drove.done
+
+-- where the drive has its result
+pub last_adds : (m0 m m' : VirtualMachine) (d : Drive) (n : ℕ) (a : Option DriveAnswer) → Drove m0 d n m → Turns m m.stage a m' → Adds d m0 m'
+last_adds m0 m m' d n a drove turns = record {
+  part = drove.part ++ turns.added ∷ [];
+  events = part_on m0 m m' d n a drove turns;
+  grows = grows_plainly_trans m0.store m.store m'.store drove.grows turns.grows;
+  codes = turns.codes ∙ drove.codes;
+  runs = runs_on m0 m m' d n a drove turns;
+  tells = turns.keeps.tells;
+  named = turns.keeps.named;
+}
+
+pub last_count : (m0 m m' : VirtualMachine) (d : Drive) (n : ℕ) (a : Option DriveAnswer) → Drove m0 d n m → Turns m m.stage a m' → length m'.events ≡ length m0.events + (n + 1)
+last_count m0 m m' d n a drove turns =
+    let so_far = drove_count m0 m d n drove in
+    let one : length m'.events ≡ length m.events + 1 = ap length turns.events ∙ length-append m.events (turns.added ∷ []) in
+    omega (arith, so_far, one)
+
+pub last_stands : (m0 m m' : VirtualMachine) (d : Drive) (n : ℕ) (w : DriveAnswer) → Drove m0 d n m → Turns m m.stage (Some w) m' → Stands m' × (done_of m' ≡ suc (done_of m0))
+last_stands m0 m m' d n w drove turns =
+    (record { keeps = turns.keeps; idle = turns.ends.2 }, turns.keeps.done ∙ turns.ends.1 ∙ add-one m.done ∙ ap suc drove.done)
+
+pub last_answer : (m0 m m' : VirtualMachine) (d : Drive) (n : ℕ) (w : DriveAnswer) → Drove m0 d n m → Turns m m.stage (Some w) m' → EndsBy (events_of m') (suc (done_of m0)) w
+last_answer m0 m m' d n w drove turns =
+    (m.events, turns.events ∙ ap (λ e. m.events ++ e ∷ []) (turns.ends.0 ∙ ap (λ k. event.Result k w) (add-one m.done ∙ ap suc drove.done)))
+
+-- where memory ran out
+pub halted_adds : (m0 m m' : VirtualMachine) (d : Drive) (n : ℕ) → Drove m0 d n m → Halts m m' → Adds d m0 m'
+halted_adds m0 m m' d n drove halts =
+    let grows : Grows m.store m'.store = plainly_grows m.store m'.store halts.grows in
+    let same_codes : m'.codes.codes ≡ m.codes.codes = ap (λ (c : Codes). c.codes) halts.codes in
+    record {
+      part = drove.part;
+      events = halts.events ∙ drove.events;
+      grows = grows_plainly_trans m0.store m.store m'.store drove.grows halts.grows;
+      codes = halts.codes ∙ drove.codes;
+      runs = λ asked same comes. subst (λ es. Comes (asked ++ d ∷ []) m'.store [] start es) (sym halts.events) (comes_grow (asked ++ d ∷ []) m.store m'.store [] start m.events halts.grows (drove.runs asked same comes));
+      tells = subst (λ es. EachTells (RowsOf m'.codes.codes m'.store) es) (sym halts.events) (subst (λ l. EachTells (RowsOf l m'.store) m.events) (sym same_codes) (tells_still m.codes.codes m.store m'.store m.events grows drove.keeps.tells));
+      named = subst (AreNamed m'.store) (sym halts.events) (named_still m.store m'.store m.events grows (halts.grows.fit drove.keeps.fit) drove.keeps.named);
+    }

@@ -1,0 +1,195 @@
+-- What each turn changes, by the stage.
+use Rattle.std.specs.Prelude.{ℕ, ◌-◌, ◌+◌, ◌≤◌, Option, Some, None, List, [], ◌∷◌, ◌++◌, ◌≡◌, slice_get, length}
+use Rattle.py_code.specs.declared.code.PyCode.{PyCode}
+use Rattle.py_objects.specs.declared.payload.Payload.{Payload}
+use Rattle.py_objects.specs.declared.payload.Payload.TheVariants as payload
+use Rattle.py_objects.specs.declared.payload.FunctionBody.{FunctionBody}
+use Rattle.py_objects.specs.declared.request.Request.{Request}
+use Rattle.py_objects.specs.declared.event.Event.{Event}
+use Rattle.py_objects.specs.declared.event.Event.TheVariants as event
+use Rattle.py_objects.specs.declared.event.ResumeHow.TheVariants as how
+use Rattle.py_objects.specs.declared.event.GotAnswer.{GotAnswer}
+use Rattle.py_objects.specs.declared.event.GotAnswer.TheVariants as got
+use Rattle.py_objects.specs.declared.event.Ending.{Ending}
+use Rattle.py_objects.specs.declared.event.Ending.TheVariants as ending
+use Rattle.py_objects.specs.declared.event.DriveAnswer.{DriveAnswer}
+use Rattle.py_objects.specs.declared.event.DriveAnswer.TheVariants as answer
+use Rattle.py_objects.specs.Objects.{Obj, HasPayload, request_numbers, got_numbers, AllBelow, AllFit, AreNamed, GrowsPlainly}
+use Rattle.py_frame.specs.declared.input.Input.{Input}
+use Rattle.py_frame.specs.declared.input.Input.TheVariants as input
+use Rattle.py_frame.specs.declared.input.FrameStep.{FrameStep}
+use Rattle.py_frame.specs.declared.input.FrameStep.TheVariants as step
+use Rattle.py_frame.specs.Rows.{State}
+use Rattle.py_frame.specs.RunOfRows.{started, IsRunning}
+use Rattle.py_frame.specs.Steps.{Expects, Extends, expected}
+use Rattle.py_vm.specs.declared.drive.Drive.{Drive}
+use Rattle.py_vm.specs.declared.drive.Drive.TheVariants.{Call}
+use Rattle.py_vm.specs.declared.stage.Running.{Running}
+use Rattle.py_vm.specs.declared.stage.Stage.{Stage}
+use Rattle.py_vm.specs.declared.stage.Stage.TheVariants as stage
+use Rattle.py_vm.specs.declared.vm.VirtualMachine.{VirtualMachine}
+use Rattle.py_vm.specs.Answers.{Reply, Replies, Gives}
+use Rattle.py_vm.specs.Run.{start, state_after, MayCome, Comes}
+use Rattle.py_vm.specs.Classes.{HaveClasses}
+use Rattle.py_vm.specs.Machine.{done_of}
+use Rattle.py_vm.specs.Stands.{CanCall, Keeps}
+
+-- the drive is told
+abbrev pub begun_by : VirtualMachine → Obj → List Obj → VirtualMachine
+begun_by m f vs = record m { events = m.events ++ event.Drive (m.done + 1) ∷ []; stage = stage.Asking f vs }
+
+-- an activation that hasn't begun
+abbrev pub fresh : ℕ → ℕ → PyCode → List Obj → Running
+fresh act place code vs = record { act = act; code = place; frame = started code vs }
+
+-- an activation of the function is made
+abbrev pub made_by : VirtualMachine → Obj → List Obj → ℕ → PyCode → VirtualMachine
+made_by m f vs place code =
+    record m { events = m.events ++ event.Make (m.made + 1) f vs ∷ []; made = m.made + 1; stage = stage.Made (fresh (m.made + 1) place code vs) f }
+
+-- it is entered
+abbrev pub entered_by : VirtualMachine → Running → VirtualMachine
+entered_by m r = record m { events = m.events ++ event.Resume r.act how.Start ∷ []; stage = stage.Going r input.Start }
+
+-- it ends
+abbrev pub ended_by : VirtualMachine → Running → Ending → VirtualMachine
+ended_by m r e = record m { events = m.events ++ event.End r.act e (r.frame.at - 1) ∷ []; stage = stage.Due e }
+
+-- its frame has made this step
+abbrev pub stepped_by : VirtualMachine → Running → FrameStep → VirtualMachine
+stepped_by m r (step.Ask q own) = record m { events = m.events ++ event.Ask r.act q own (r.frame.at - 1) ∷ []; stage = stage.Waiting r q own }
+stepped_by m r (step.Return v) = ended_by m r (ending.Return v)
+stepped_by m r (step.Raise e) = ended_by m r (ending.Raise e)
+
+-- it gets the answer to what it asked
+abbrev pub got_by : VirtualMachine → Running → GotAnswer → VirtualMachine
+got_by m r w = record m { events = m.events ++ event.Got r.act w ∷ []; stage = stage.Going r (input.Answer w) }
+
+-- what a call comes to that ends like this
+abbrev pub answer_by : Ending → DriveAnswer
+answer_by (ending.Return v) = answer.Returns v
+answer_by (ending.Raise e) = answer.Raises e
+
+-- the drive has its result
+abbrev pub result_by : VirtualMachine → DriveAnswer → VirtualMachine
+result_by m w = record m { events = m.events ++ event.Result (m.done + 1) w ∷ []; done = m.done + 1; stage = stage.Idle }
+
+-- an activation of a function was made
+abbrev pub Made_one : VirtualMachine → Obj → List Obj → VirtualMachine → Type 0
+Made_one m f vs m' =
+    (b : FunctionBody) × HasPayload m.store f (payload.Function b) × (c : PyCode) × (slice_get m.codes.codes b.code ≡ Some c) × (m' ≡ made_by m f vs b.code c)
+
+-- an activation went on by an input
+abbrev pub Went_on : VirtualMachine → Running → Input → VirtualMachine → Type 0
+Went_on m r i m' =
+    (c : PyCode) × (slice_get m.codes.codes r.code ≡ Some c) × (objects : List Payload) × GrowsPlainly m.store objects × (step : FrameStep) × (t : State)
+    × Extends m.store objects c r.frame i step t × (t.wants ≡ expected step) × (m' ≡ stepped_by (record m { store = objects }) (record r { frame = t }) step)
+
+-- an answer that a frame may hear
+abbrev pub IsHeard : GotAnswer → Type 0
+IsHeard (got.Value v) = Unit {0}
+IsHeard (got.Stop v) = ⊥
+IsHeard (got.Raise e) = Unit {0}
+
+-- an answer gives the reply, whatever happened before, and names objects
+pub record IsGiven (old new : List Payload) (reply : Reply) (w : GotAnswer) : Type 0 where
+  pub gives : (before : List Event) → AreNamed old before → Gives new before reply w
+  pub below : AllBelow (length new) (got_numbers w)
+  pub heard : IsHeard w
+
+-- an activation was answered
+abbrev pub Answered : VirtualMachine → Running → Request → VirtualMachine → Type 0
+Answered m r q m' =
+    (reply : Reply) × Replies m.store q reply × (objects : List Payload) × GrowsPlainly m.store objects × (w : GotAnswer) × IsGiven m.store objects reply w
+    × (m' ≡ got_by (record m { store = objects }) r w)
+
+-- an activation of the function that hasn't begun
+abbrev pub IsFreshFor : VirtualMachine → ℕ → Obj → List Obj → Running → Type 0
+IsFreshFor m act f vs r =
+    (b : FunctionBody) × HasPayload m.store f (payload.Function b) × (c : PyCode) × (slice_get m.codes.codes b.code ≡ Some c) × (r ≡ fresh act b.code c vs)
+
+-- the stage in which a drive begins
+abbrev pub first_stage : Drive → Stage
+first_stage (Call f vs) = stage.Begins f vs
+
+-- a frame that goes on by what it expects
+pub record CanGo (codes : List PyCode) (objects : List Payload) (r : Running) (i : Input) : Type 0 where
+  pub code : PyCode
+  pub is_code : slice_get codes r.code ≡ Some code
+  pub running : IsRunning objects code r.frame
+  pub expects : Expects r.frame.wants i
+
+-- what a turn needs
+abbrev pub IsReady : VirtualMachine → Stage → Type 0
+IsReady m stage.Idle = ⊥
+IsReady m (stage.Begins f vs) = m.done ≤ length m.events
+IsReady m (stage.Asking f vs) = (m.made ≤ length m.events) × CanCall m.codes.codes m.store f vs
+IsReady m (stage.Made r f) = Unit {0}
+IsReady m (stage.Going r i) = CanGo m.codes.codes m.store r i
+IsReady m (stage.Waiting r q own) = AllFit m.store × HaveClasses m.exceptions m.store × AllBelow (length m.store) (request_numbers q)
+IsReady m (stage.Due e) = m.done ≤ length m.events
+
+-- one turn, and the answer of the drive where it came
+abbrev pub Turned : VirtualMachine → Stage → Option DriveAnswer → VirtualMachine → Type 0
+Turned m stage.Idle a m' = ⊥
+Turned m (stage.Begins f vs) a m' = (a ≡ None) × (m' ≡ begun_by m f vs)
+Turned m (stage.Asking f vs) a m' = (a ≡ None) × Made_one m f vs m'
+Turned m (stage.Made r f) a m' = (a ≡ None) × (m' ≡ entered_by m r)
+Turned m (stage.Going r i) a m' = (a ≡ None) × Went_on m r i m'
+Turned m (stage.Waiting r q own) a m' = (a ≡ None) × Answered m r q m'
+Turned m (stage.Due e) a m' = (a ≡ Some (answer_by e)) × (m' ≡ result_by m (answer_by e))
+
+-- without memory no event is added
+pub record Halts (m m' : VirtualMachine) : Type 0 where
+  pub events : m'.events ≡ m.events
+  pub grows : GrowsPlainly m.store m'.store
+  pub codes : m'.codes ≡ m.codes
+
+-- a drive runs
+abbrev pub IsBusy : Stage → Type 0
+IsBusy stage.Idle = ⊥
+IsBusy (stage.Begins f vs) = Unit {0}
+IsBusy (stage.Asking f vs) = Unit {0}
+IsBusy (stage.Made r f) = Unit {0}
+IsBusy (stage.Going r i) = Unit {0}
+IsBusy (stage.Waiting r q own) = Unit {0}
+IsBusy (stage.Due e) = Unit {0}
+
+-- a stage that still has the drive's question has this one's
+abbrev pub AsksFor : Drive → Stage → Type 0
+AsksFor d stage.Idle = Unit {0}
+AsksFor d (stage.Begins f vs) = Call f vs ≡ d
+AsksFor d (stage.Asking f vs) = Call f vs ≡ d
+AsksFor d (stage.Made r f) = Unit {0}
+AsksFor d (stage.Going r i) = Unit {0}
+AsksFor d (stage.Waiting r q own) = Unit {0}
+AsksFor d (stage.Due e) = Unit {0}
+
+-- whether the drive has its result
+abbrev pub AfterTurn : VirtualMachine → VirtualMachine → Event → Option DriveAnswer → Type 0
+AfterTurn m m' e None = (m'.done ≡ m.done) × IsBusy m'.stage
+AfterTurn m m' e (Some w) = (e ≡ event.Result (m.done + 1) w) × (m'.done ≡ m.done + 1) × (m'.stage ≡ stage.Idle)
+
+-- one turn of a drive, from this stage: one event more, which may come
+pub record Turns (m : VirtualMachine) (s : Stage) (a : Option DriveAnswer) (m' : VirtualMachine) : Type 0 where
+  pub keeps : Keeps m' m'.stage
+  pub added : Event
+  pub events : m'.events ≡ m.events ++ added ∷ []
+  pub grows : GrowsPlainly m.store m'.store
+  pub codes : m'.codes ≡ m.codes
+  pub ends : AfterTurn m m' added a
+  pub asks : (d : Drive) → AsksFor d s → AsksFor d m'.stage
+  pub comes : (asked : List Drive) (d : Drive) → AsksFor d s → slice_get asked m.done ≡ Some d → MayCome asked m'.store m.events (state_after start m.events) added
+
+-- n turns of a drive, which isn't done
+pub record Drove (m : VirtualMachine) (d : Drive) (n : ℕ) (m' : VirtualMachine) : Type 0 where
+  pub keeps : Keeps m' m'.stage
+  pub part : List Event
+  pub count : length part ≡ n
+  pub events : m'.events ≡ m.events ++ part
+  pub grows : GrowsPlainly m.store m'.store
+  pub codes : m'.codes ≡ m.codes
+  pub done : m'.done ≡ done_of m
+  pub busy : IsBusy m'.stage
+  pub asks : AsksFor d m'.stage
+  pub runs : (asked : List Drive) → length asked ≡ done_of m → Comes asked m.store [] start m.events → Comes (asked ++ d ∷ []) m'.store [] start m'.events

@@ -1,0 +1,254 @@
+//! One turn of the machine: one event.
+
+ghost use Rattle.std.specs.Prelude.{◌≡◌, ◌≤◌, ◌-◌, length, Some, IfOk, OnOk, OnErr};
+ghost use Rattle.py_objects.specs.Objects.{request_numbers, AllBelow, AllFit};
+ghost use Rattle.py_vm.specs.Classes.{HaveClasses};
+ghost use Rattle.py_vm.specs.Stands.{CanCall, Keeps};
+ghost use Rattle.py_vm.specs.Turns.{begun_by, Made_one, IsFreshFor, entered_by, ended_by, stepped_by, Went_on, got_by, Answered, answer_by, result_by, CanGo, IsReady, Turned, Halts, IsBusy, Turns};
+ghost use Rattle.py_frame.specs.declared.input.FrameStep.TheVariants.{Ask};
+
+use crate::answer::{give, reply_to};
+use crate::stage::{Running, Stage};
+use crate::vm::VirtualMachine;
+use py_code::NoMemory;
+use py_frame::{Frame, FrameStep, Input};
+use py_objects::{
+    DriveAnswer, Ending, Event, GotAnswer, ObjList, Payload, PyBaseExceptionRef, PyObjectRef,
+    Request, ResumeHow,
+};
+
+impl VirtualMachine {
+    /// Adds one event to a drive, and gives the drive's answer where that event is its result.
+    pub(crate) fn advance(&mut self) -> Result<Option<DriveAnswer>, NoMemory>
+        requires keeps { Keeps self.old self.old.stage }
+        requires busy { IsBusy self.old.stage }
+        ensures ok { IfOk result (λ answer. Turns self.old self.old.stage answer self.new) }
+        ensures err { OnErr result (Halts self.old self.new) }
+    {
+        let answer = self.turn()?;
+        Ok(answer)
+    }
+
+    /// The turn of each stage.
+    fn turn(&mut self) -> Result<Option<DriveAnswer>, NoMemory>
+        requires { IsReady self.old self.old.stage }
+        ensures ok { IfOk result (λ answer. Turned self.old self.old.stage answer self.new) }
+        ensures err { OnErr result (Halts self.old self.new) }
+    {
+        match std::mem::replace(&mut self.stage, Stage::Idle) {
+            Stage::Idle => unreachable!(),
+            Stage::Begins(function, args) => {
+                self.begin(function, args)?;
+                Ok(None)
+            }
+            Stage::Asking(function, args) => {
+                self.make(function, args)?;
+                Ok(None)
+            }
+            Stage::Made(running, _) => {
+                self.enter(running)?;
+                Ok(None)
+            }
+            Stage::Going(running, input) => {
+                self.go(running, input)?;
+                Ok(None)
+            }
+            Stage::Waiting(running, request, _) => {
+                self.answer(running, request)?;
+                Ok(None)
+            }
+            Stage::Due(ending) => {
+                self.finish(ending)?;
+                Ok(Some(answer_by(ending)))
+            }
+        }
+    }
+
+    /// The drive begins.
+    fn begin(&mut self, function: PyObjectRef, args: ObjList) -> Result<(), NoMemory>
+        requires { self.old.done ≤ length self.old.events }
+        ensures ok { OnOk result (self.new ≡ begun_by self.old function args) }
+        ensures err { OnErr result (Halts self.old self.new) }
+    {
+        // A list's length has 63 bits, so the count of drives doesn't pass its end.
+        let _events = self.events.as_slice().len();
+        self.events.push(Event::Drive {
+            drive: self.done + 1,
+        })?;
+        self.stage = Stage::Asking(function, args);
+        Ok(())
+    }
+
+    /// An activation of the function is made.
+    fn make(&mut self, function: PyObjectRef, args: ObjList) -> Result<(), NoMemory>
+        requires counted { self.old.made ≤ length self.old.events }
+        requires callable { CanCall self.old.codes.codes self.old.store function args }
+        ensures ok { OnOk result (Made_one self.old function args self.new) }
+        ensures err { OnErr result (Halts self.old self.new) }
+    {
+        let _events = self.events.as_slice().len();
+        let act = self.made + 1;
+        let running = self.fresh(act, function, &args)?;
+        self.events.push(Event::Make {
+            act,
+            function,
+            args,
+        })?;
+        self.made = act;
+        self.stage = Stage::Made(running, function);
+        Ok(())
+    }
+
+    /// The activation that was made is entered.
+    fn enter(&mut self, running: Running) -> Result<(), NoMemory>
+        ensures ok { OnOk result (self.new ≡ entered_by self.old running) }
+        ensures err { OnErr result (Halts self.old self.new) }
+    {
+        self.events.push(Event::Resume {
+            act: running.act,
+            how: ResumeHow::Start,
+        })?;
+        self.stage = Stage::Going(running, Input::Start);
+        Ok(())
+    }
+
+    /// The activation goes on to its next event.
+    fn go(&mut self, running: Running, input: Input) -> Result<(), NoMemory>
+        requires { CanGo self.old.codes.codes self.old.store running input }
+        ensures ok { OnOk result (Went_on self.old running input self.new) }
+        ensures err { OnErr result (Halts self.old self.new) }
+    {
+        let mut going = running;
+        let Some(code) = self.codes.get(going.code) else {
+            unreachable!();
+        };
+        let step = going.frame.step(code, &mut self.store, input)?;
+        self.stepped(going, step)?;
+        Ok(())
+    }
+
+    /// The activation's frame has made a step.
+    fn stepped(&mut self, running: Running, step: FrameStep) -> Result<(), NoMemory>
+        ensures ok { OnOk result (self.new ≡ stepped_by self.old running step) }
+        ensures err { OnErr result (Halts self.old self.new) }
+    {
+        match step {
+            FrameStep::Ask(request, own) => self.asked(running, request, own),
+            FrameStep::Return(value) => self.ended(running, Ending::Return(value)),
+            FrameStep::Raise(exception) => self.ended(running, Ending::Raise(exception)),
+        }
+    }
+
+    /// The activation asks.
+    fn asked(
+        &mut self,
+        running: Running,
+        request: Request,
+        own: Option<PyBaseExceptionRef>,
+    ) -> Result<(), NoMemory>
+        ensures ok { OnOk result (self.new ≡ stepped_by self.old running (Ask request own)) }
+        ensures err { OnErr result (Halts self.old self.new) }
+    {
+        self.events.push(Event::Ask {
+            act: running.act,
+            request,
+            own,
+            at: running.frame.lasti().saturating_sub(1),
+        })?;
+        self.stage = Stage::Waiting(running, request, own);
+        Ok(())
+    }
+
+    /// The activation ends.
+    fn ended(&mut self, running: Running, ending: Ending) -> Result<(), NoMemory>
+        ensures ok { OnOk result (self.new ≡ ended_by self.old running ending) }
+        ensures err { OnErr result (Halts self.old self.new) }
+    {
+        self.events.push(Event::End {
+            act: running.act,
+            ending,
+            at: running.frame.lasti().saturating_sub(1),
+        })?;
+        self.stage = Stage::Due(ending);
+        Ok(())
+    }
+
+    /// What the activation asked is answered.
+    fn answer(&mut self, running: Running, request: Request) -> Result<(), NoMemory>
+        requires fit { AllFit self.old.store }
+        requires classes { HaveClasses self.old.exceptions self.old.store }
+        requires below { AllBelow (length self.old.store) (request_numbers request) }
+        ensures ok { OnOk result (Answered self.old running request self.new) }
+        ensures err { OnErr result (Halts self.old self.new) }
+    {
+        let reply = reply_to(self.alloc, &self.store, request)?;
+        let answer = give(self.alloc, &mut self.store, self.exceptions, reply)?;
+        self.got(running, answer)?;
+        Ok(())
+    }
+
+    /// The activation gets an answer.
+    fn got(&mut self, running: Running, answer: GotAnswer) -> Result<(), NoMemory>
+        ensures ok { OnOk result (self.new ≡ got_by self.old running answer) }
+        ensures err { OnErr result (Halts self.old self.new) }
+    {
+        self.events.push(Event::Got {
+            act: running.act,
+            answer,
+        })?;
+        self.stage = Stage::Going(running, Input::Answer(answer));
+        Ok(())
+    }
+
+    /// The drive has its result.
+    fn finish(&mut self, ending: Ending) -> Result<(), NoMemory>
+        requires { self.old.done ≤ length self.old.events }
+        ensures ok { OnOk result (self.new ≡ result_by self.old (answer_by ending)) }
+        ensures err { OnErr result (Halts self.old self.new) }
+    {
+        let _events = self.events.as_slice().len();
+        let drive = self.done + 1;
+        self.events.push(Event::Result {
+            drive,
+            answer: answer_by(ending),
+        })?;
+        self.done = drive;
+        self.stage = Stage::Idle;
+        Ok(())
+    }
+
+    /// An activation of a function, which hasn't begun.
+    fn fresh(&self, act: u64, function: PyObjectRef, args: &ObjList) -> Result<Running, NoMemory>
+        requires { CanCall self.now.codes.codes self.now.store function args.now }
+        ensures { IfOk result (λ running. IsFreshFor self.now act function args.now running) }
+    {
+        let place = match self.store.get(function) {
+            Payload::Function(body) => body.code,
+            Payload::None => unreachable!(),
+            Payload::Bool(_) => unreachable!(),
+            Payload::Int(_) => unreachable!(),
+            Payload::Str(_) => unreachable!(),
+            Payload::Tuple(_) => unreachable!(),
+            Payload::Class(_) => unreachable!(),
+            Payload::Exception(_) => unreachable!(),
+        };
+        let Some(code) = self.codes.get(place) else {
+            unreachable!();
+        };
+        Ok(Running {
+            act,
+            code: place,
+            frame: Frame::new(self.alloc, code, args)?,
+        })
+    }
+}
+
+/// What a call comes to whose activation ended like this.
+fn answer_by(ending: Ending) -> DriveAnswer
+    ensures { result ≡ answer_by ending }
+{
+    match ending {
+        Ending::Return(value) => DriveAnswer::Returns(value),
+        Ending::Raise(exception) => DriveAnswer::Raises(exception),
+    }
+}

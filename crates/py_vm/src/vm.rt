@@ -1,0 +1,148 @@
+//! The machine: its codes, its objects, and all that happened.
+
+ghost use Rattle.std.specs.Prelude.{◌≡◌, ◌≤◌, ◌<◌, ◌+◌, [], ◌∷◌, ◌++◌, suc, length, Err, IfOk, OnOk, OnErr};
+ghost use Rattle.py_objects.specs.Objects.{payload_numbers, AllBelow, IsMade};
+ghost use Rattle.py_vm.specs.Classes.{first_objects};
+ghost use Rattle.py_vm.specs.Machine.{events_of, objects_of, codes_of, done_of};
+ghost use Rattle.py_vm.specs.Stands.{IsCallable, Stands, Adds, EndsBy};
+ghost use Rattle.py_vm.specs.Turns.{first_stage};
+ghost use Rattle.py_vm.specs.declared.fault.VmFault.TheVariants.{OutOfTurns};
+
+use crate::drive::Drive;
+use crate::exceptions::ExceptionZoo;
+use crate::fault::VmFault;
+use crate::journal::Journal;
+use crate::stage::Stage;
+use py_code::{CodeList, Names, NoMemory, PyCode};
+use py_objects::{ChangeList, DriveAnswer, EventList, Payload, PyObjectRef, Store};
+use std::alloc::Global;
+
+/// A machine that runs drives one behind the other, one event a turn.
+#[derive(Drop)]
+pub struct VirtualMachine {
+    pub(crate) alloc: Global,
+    pub(crate) store: Store,
+    pub(crate) codes: CodeList,
+    pub(crate) events: EventList,
+    pub(crate) exceptions: ExceptionZoo,
+    /// How many drives have their result.
+    pub(crate) done: u64,
+    /// How many activations were made.
+    pub(crate) made: u64,
+    pub(crate) stage: Stage,
+}
+
+impl VirtualMachine {
+    /// A machine whose codes' names are places in this table. Its objects are `None` and the built-in exception classes.
+    pub fn new(alloc: Global, names: Names) -> Result<VirtualMachine, NoMemory>
+        ensures stands { IfOk result (λ vm. Stands vm) }
+        ensures objects { IfOk result (λ vm. objects_of vm ≡ first_objects) }
+        ensures events { IfOk result (λ vm. events_of vm ≡ []) }
+        ensures codes { IfOk result (λ vm. codes_of vm ≡ record { names = names; codes = [] }) }
+    {
+        let mut store = Store::new(alloc)?;
+        let exceptions = ExceptionZoo::new(alloc, &mut store)?;
+        Ok(VirtualMachine {
+            alloc,
+            store,
+            codes: CodeList::new(alloc, names),
+            events: EventList::new(alloc),
+            exceptions,
+            done: 0,
+            made: 0,
+            stage: Stage::Idle,
+        })
+    }
+
+    /// Puts a code behind the others, and gives its place, by which functions name it.
+    pub fn add_code(&mut self, code: PyCode) -> Result<usize, NoMemory>
+        requires { Stands self.old }
+        ensures place { IfOk result (λ place. place ≡ length (codes_of self.old).codes) }
+        ensures added { OnOk result (codes_of self.new ≡ record (codes_of self.old) { codes = (codes_of self.old).codes ++ code ∷ [] }) }
+        ensures events { events_of self.new ≡ events_of self.old }
+        ensures objects { objects_of self.new ≡ objects_of self.old }
+        ensures stands { Stands self.new }
+        ensures err { OnErr result (self.new ≡ self.old) }
+    {
+        let place = self.codes.len();
+        self.codes.push(code)?;
+        Ok(place)
+    }
+
+    /// A new object, which names objects that are there.
+    pub fn add_object(&mut self, payload: Payload) -> Result<PyObjectRef, NoMemory>
+        requires stands { Stands self.old }
+        requires below { AllBelow (length (objects_of self.old)) (payload_numbers payload) }
+        requires made { IsMade (objects_of self.old) payload }
+        ensures number { IfOk result (λ object. object.number ≡ length (objects_of self.old)) }
+        ensures added { OnOk result (objects_of self.new ≡ objects_of self.old ++ payload ∷ []) }
+        ensures events { events_of self.new ≡ events_of self.old }
+        ensures codes { codes_of self.new ≡ codes_of self.old }
+        ensures stands { Stands self.new }
+        ensures err { OnErr result (self.new ≡ self.old) }
+    {
+        let object = self.store.add(payload)?;
+        Ok(object)
+    }
+
+    /// Makes one drive, in at most so many turns, of which each adds one event. A machine whose drive isn't done makes no other.
+    pub fn drive(&mut self, drive: Drive, turns: u64) -> Result<DriveAnswer, VmFault>
+        requires stands { Stands self.old }
+        requires callable { IsCallable self.old drive }
+        // Whatever comes of it, the journal is one of the drives so far and this one.
+        ensures adds { Adds drive self.old self.new }
+        ensures turns { length (events_of self.new) ≤ length (events_of self.old) + turns }
+
+        ensures done { OnOk result (Stands self.new × (done_of self.new ≡ suc (done_of self.old))) }
+        ensures answer { IfOk result (λ answer. EndsBy (events_of self.new) (suc (done_of self.old)) answer) }
+        ensures out_of_turns { result ≡ Err OutOfTurns → (length (events_of self.new) ≡ length (events_of self.old) + turns) × (done_of self.new ≡ done_of self.old) }
+    {
+        self.stage = first_stage(drive);
+        'turns: for _turn in 0..turns {
+            match self.advance() {
+                Ok(Some(answer)) => return Ok(answer),
+                Ok(None) => {}
+                Err(NoMemory) => return Err(VmFault::NoMemory),
+            }
+        }
+        Err(VmFault::OutOfTurns)
+    }
+
+    /// How many events there are.
+    pub fn events(&self) -> u64
+        ensures { result ≡ length (events_of self.now) }
+    {
+        self.events.len() as u64
+    }
+
+    /// The objects.
+    pub fn store(&self) -> &Store
+        ensures { result.now ≡ objects_of self.now }
+    {
+        &self.store
+    }
+
+    /// All that happened. No object was changed.
+    pub fn journal(self) -> Journal
+        ensures events { result.events ≡ events_of self }
+        ensures objects { result.objects ≡ objects_of self }
+        ensures changes { result.changes ≡ [] }
+        ensures codes { result.codes ≡ codes_of self }
+    {
+        Journal {
+            events: self.events,
+            objects: self.store.into_payloads(),
+            changes: ChangeList::new(self.alloc),
+            codes: self.codes,
+        }
+    }
+}
+
+/// The stage in which a drive begins.
+fn first_stage(drive: Drive) -> Stage
+    ensures { result ≡ first_stage drive }
+{
+    match drive {
+        Drive::Call(function, args) => Stage::Begins(function, args),
+    }
+}
