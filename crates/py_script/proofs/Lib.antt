@@ -4,6 +4,8 @@ pub mod Objects
 -- what a machine's run is in the script's own words
 pub mod Made
 pub mod Traced
+pub mod Loading
+pub mod Driven
 -- what was read
 pub mod Reading
 -- what is written

@@ -86,11 +86,11 @@ behind_classes n ts none =
 entry_behind : (ts : List Tree) (j : ℕ) → slice_get (script_objects ts) (6 + j) ≡ slice_get (function_entries 0 ts) j
 entry_behind ts j = ap (slice_get (script_objects ts)) (let e : 6 + j ≡ suc (suc (suc (suc (suc (suc j))))) = omega arith in e)
 
-functions_are : (ts : List Tree) → AllPairs (λ x y. x ≢ y) (map (λ s. s.name) ts) → (j : ℕ) (t : Tree) → slice_get ts j ≡ Some t → is_builtin_class t.name ≡ false
-    → (f : Obj) × (declared (script_objects ts) t.name ≡ Some f) × HasPayload (script_objects ts) f (payload.Function (record { name = t.name; code = j }))
+-- the functions that are loaded are declared, in order
+pub functions_are : (ts : List Tree) → AllPairs (λ x y. x ≢ y) (map (λ s. s.name) ts) → (j : ℕ) (t : Tree) → slice_get ts j ≡ Some t → is_builtin_class t.name ≡ false
+    → (declared (script_objects ts) t.name ≡ Some (record { number = 6 + j })) × HasPayload (script_objects ts) (record { number = 6 + j }) (payload.Function (record { name = t.name; code = j }))
 functions_are ts differ j t is none =
-    ( record { number = 6 + j }
-    , behind_classes t.name ts none ∙ found_from 6 0 ts j t differ is
+    ( behind_classes t.name ts none ∙ found_from 6 0 ts j t differ is
     , entry_behind ts j ∙ entry_at 0 ts j t is ∙ ap (λ n. Some (payload.Function (record { name = t.name; code = n }))) (let e : 0 + j ≡ j = omega arith in e) )
 
 classes_are : (ts : List Tree) (k : ErrorKind) → (c : Obj) × (declared (script_objects ts) (name_of k) ≡ Some c) × HasPayload (script_objects ts) c (payload.Class (record { name = name_of k }))
@@ -138,7 +138,7 @@ only_classes_at ts (suc (suc (suc (suc (suc (suc j)))))) b is =
 -- the objects that are loaded are a script's
 pub loaded_objects : (ts : List Tree) → AllPairs (λ x y. x ≢ y) (map (λ s. s.name) ts) → ((j : ℕ) (t : Tree) → slice_get ts j ≡ Some t → is_builtin_class t.name ≡ false) → AllFit (script_objects ts) → AreObjects ts (script_objects ts)
 loaded_objects ts differ no_class fit = record {
-  functions = λ j t is. functions_are ts differ j t is (no_class j t is);
+  functions = λ j t is. let h = functions_are ts differ j t is (no_class j t is) in (_, h.0, h.1);
   classes = λ i k is. classes_are ts k;
   only_functions = λ f b is. only_functions_at ts f.number b is;
   only_classes = λ c b is. only_classes_at ts c.number b is;

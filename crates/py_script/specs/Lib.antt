@@ -11,4 +11,5 @@ pub mod Worked
 -- what functions inside the crate promise each other
 pub mod Steps
 pub mod Loaded
+pub mod Session
 pub mod Depths

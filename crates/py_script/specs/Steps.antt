@@ -13,7 +13,7 @@ use Rattle.py_vm.specs.declared.fault.VmFault.TheVariants as vm_fault
 use Rattle.py_vm.specs.declared.journal.Journal.{Journal}
 use Rattle.py_script.specs.declared.fault.ScriptFault.{ScriptFault}
 use Rattle.py_script.specs.declared.fault.ScriptFault.TheVariants as fault
-use Rattle.py_script.specs.Whole.{IsRun, IsWhole}
+use Rattle.py_script.specs.Whole.{IsRun, IsWhole, RunsItsCodes}
 use Rattle.py_script.specs.Text.{text_of}
 
 -- each body of the trees can be compiled
@@ -55,8 +55,8 @@ IsReading left left' faults faults' (Err (fault.NoMemory j)) = Unit {0}
 
 -- what making the drives of a script in at most so many turns comes to, with the journal that is left
 abbrev pub HasRun : Script → ℕ → Journal → Result Unit VmFault → Type 0
-HasRun s turns j (Ok _) = IsRun s j × IsWhole s j × (length j.events ≤ turns)
-HasRun s turns j (Err vm_fault.OutOfTurns) = IsRun s j × (IsWhole s j → ⊥) × (length j.events ≡ turns)
+HasRun s turns j (Ok _) = IsRun s j × IsWhole s j × (length j.events ≤ turns) × RunsItsCodes s j
+HasRun s turns j (Err vm_fault.OutOfTurns) = IsRun s j × (IsWhole s j → ⊥) × (length j.events ≡ turns) × RunsItsCodes s j
 HasRun s turns j (Err vm_fault.NoMemory) = Unit {0}
 
 -- what writing the text of a journal answers, by the bytes that the sink had taken and its faults, before and after

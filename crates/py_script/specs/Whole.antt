@@ -17,7 +17,9 @@ use Rattle.py_grammar.specs.Script.{trees_of, drives_of, IsScript}
 use Rattle.py_vm.specs.declared.drive.Drive.{Drive as Question}
 use Rattle.py_vm.specs.declared.drive.Drive.TheVariants as question
 use Rattle.py_vm.specs.declared.journal.Journal.{Journal}
-use Rattle.py_vm.specs.Run.{May, IsRunBy, IsDone}
+use Rattle.py_vm.specs.Run.{May, EachTells, IsRunBy, IsDone}
+use Rattle.py_vm.specs.RowsOf.{RowsOf}
+use Rattle.py_script.specs.Loaded.{AreCompiled}
 
 -- an object of an atom of a drive: any one of a number's value, the declared one of a name
 abbrev pub IsOf : List Payload → Atom → Obj → Type 0
@@ -69,10 +71,16 @@ pub record IsRun (s : Script) (j : Journal) : Type 0 where
 abbrev pub IsWhole : Script → Journal → Type 0
 IsWhole s j = IsDone (length (drives_of s)) j.events
 
+-- the journal's codes are those of the script's bodies, which they fit, and each activation's own events, with their
+-- units, are a run of the rows of its code
+pub record RunsItsCodes (s : Script) (j : Journal) : Type 0 where
+  pub compiled : AreCompiled (trees_of s) j.codes.codes
+  pub tells : EachTells (RowsOf j.codes.codes j.objects) j.events
+
 -- the journal is a whole run of the script that the bytes are, of at most so many events
 abbrev pub IsWholeRun : List ℕ → ℕ → Journal → Type 0
-IsWholeRun bytes turns j = (s : Script) × IsScript bytes s × IsRun s j × IsWhole s j × (length j.events ≤ turns)
+IsWholeRun bytes turns j = (s : Script) × IsScript bytes s × IsRun s j × IsWhole s j × (length j.events ≤ turns) × RunsItsCodes s j
 
 -- the journal is a prefix of a run of the script that the bytes are, of exactly so many events, and no whole one
 abbrev pub IsCutRun : List ℕ → ℕ → Journal → Type 0
-IsCutRun bytes turns j = (s : Script) × IsScript bytes s × IsRun s j × (IsWhole s j → ⊥) × (length j.events ≡ turns)
+IsCutRun bytes turns j = (s : Script) × IsScript bytes s × IsRun s j × (IsWhole s j → ⊥) × (length j.events ≡ turns) × RunsItsCodes s j

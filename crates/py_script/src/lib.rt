@@ -6,7 +6,8 @@ mod notes;
 mod quoted;
 mod read;
 mod repr;
-mod str;
+mod session;
+mod str_of;
 mod text;
 mod words;
 mod worked;
@@ -24,3 +25,6 @@ pub use py_vm::Journal;
 pub use text::journal_text;
 pub use words::{Command, Words, command_of};
 pub use worked::worked_journals;
+
+#[cfg(test)]
+mod tests;

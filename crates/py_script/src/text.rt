@@ -6,7 +6,7 @@ ghost use Rattle.py_script.specs.Text.{payload_of, repr, details, raised, number
 
 use crate::quoted::push_text;
 use crate::repr::{push_class_name, tuple_items};
-use crate::str::{DEPTH, push_said, push_whole_repr};
+use crate::str_of::{DEPTH, push_said, push_whole_repr};
 use py_code::NoMemory;
 use py_objects::{DriveAnswer, Event, Payload, PayloadList, PyBaseExceptionRef, PyObjectRef};
 use py_vm::Journal;

@@ -1,5 +1,5 @@
 use Rattle.std.proofs.Common.{◌+◌, ◌*◌}
-use Rattle.py_script.proofs.str.+str.Given as goal
+use Rattle.py_script.proofs.str_of.+str.Given as goal
 
 abbrev pub decreases-push_str : goal.decreases-push_str
 decreases-push_str l = 2 * l.depth
