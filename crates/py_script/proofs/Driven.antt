@@ -26,7 +26,7 @@ use Rattle.py_vm.proofs.StandsLemmas.{stands_fit, stands_tells, stands_named}
 use Rattle.py_script.specs.declared.session.Session.{Session}
 use Rattle.py_script.specs.Whole.{AreOf, Asks, AreObjects, IsRunOf}
 use Rattle.py_script.specs.Loaded.{AreCompiled, script_objects}
-use Rattle.py_script.specs.Session.{IsLoaded, InRun, IsInRun, IsReady, OnlyGrew}
+use Rattle.py_script.specs.Session.{IsLoaded, InRun, IsInRun, IsNamedAt, IsReady, OnlyGrew}
 use Rattle.py_script.proofs.Loading.{ref_at}
 use Rattle.py_script.proofs.Objects.{functions_are, loaded_objects, objects_grow, asked_grow, asked_more}
 use Rattle.py_script.proofs.Traced.{function_of, tells_traces}
@@ -89,7 +89,7 @@ ready_grows trees drives old new g r = record {
 
 -- the function at the place of the declaration that a drive names is the one that it asks for
 pub asks_for : (trees : List Tree) (drives : List Drive) (s : Session) (grown : List Payload) (d : Drive) (i : ℕ) (f : Obj) (vs : List Obj) → IsReady trees drives s → GrowsPlainly (objects_of s.vm) grown
-    → ((t : Tree) × (slice_get trees i ≡ Some t) × (t.name ≡ d.function)) → slice_get s.functions i ≡ Some f → AreOf grown d.args vs → Asks grown d (question.Call f vs)
+    → IsNamedAt trees d.function i → slice_get s.functions i ≡ Some f → AreOf grown d.args vs → Asks grown d (question.Call f vs)
 asks_for trees drives s grown d i f vs r grows (t, at, named) is of =
     let h = r.functions i t at in
     let both : Some h.0 ≡ Some f = sym h.1 ∙ is in
@@ -128,6 +128,27 @@ ready_driven trees drives s new d q r next asks adds same stands done = record {
   count = length-append r.asked (q ∷ []) ∙ (let one : length r.asked ≡ done_of s.vm = r.count in let e : length r.asked + 1 ≡ done_of new.vm = omega (arith, one, done) in e);
   run = run_driven trees drives s new.vm d q next asks adds r;
 }
+
+next_grows : (drives : List Drive) (d : Drive) (old new : Session) → OnlyGrew old new → slice_get drives (done_of old.vm) ≡ Some d → slice_get drives (done_of new.vm) ≡ Some d
+next_grows drives d old new g next = ap (λ es. slice_get drives (state_after start es).done) g.events ∙ next
+
+-- a drive whose arguments were made goes on with the run, wherever it stopped
+pub called_run : (trees : List Tree) (drives : List Drive) (old new : Session) (vm : VirtualMachine) (d : Drive) (i : ℕ) (f : Obj) (vs : List Obj) → IsReady trees drives old → OnlyGrew old new → slice_get drives (done_of old.vm) ≡ Some d
+    → IsNamedAt trees d.function i → slice_get old.functions i ≡ Some f → AreOf (objects_of new.vm) d.args vs → Adds (question.Call f vs) new.vm vm → IsInRun trees drives vm
+called_run trees drives old new vm d i f vs r g next place at of adds =
+    let ready = ready_grows trees drives old new g r in
+    let asks = asks_for trees drives old (objects_of new.vm) d i f vs r g.grows place at of in
+    (ready.asked ++ question.Call f vs ∷ [], run_driven trees drives new vm d (question.Call f vs) (next_grows drives d old new g next) asks adds ready)
+
+-- and where it is done, the next one can be made
+pub called_ready : (trees : List Tree) (drives : List Drive) (old new : Session) (vm : VirtualMachine) (d : Drive) (i : ℕ) (f : Obj) (vs : List Obj) → IsReady trees drives old → OnlyGrew old new → slice_get drives (done_of old.vm) ≡ Some d
+    → IsNamedAt trees d.function i → slice_get old.functions i ≡ Some f → AreOf (objects_of new.vm) d.args vs → Adds (question.Call f vs) new.vm vm
+    → Stands vm × (done_of vm ≡ suc (done_of new.vm)) → IsReady trees drives (record new { vm = vm }) × (done_of vm ≡ suc (done_of old.vm))
+called_ready trees drives old new vm d i f vs r g next place at of adds (stands, done) =
+    let ready = ready_grows trees drives old new g r in
+    let asks = asks_for trees drives old (objects_of new.vm) d i f vs r g.grows place at of in
+    ( ready_driven trees drives new (record new { vm = vm }) d (question.Call f vs) ready (next_grows drives d old new g next) asks adds refl stands done
+    , done ∙ ap (λ es. suc (state_after start es).done) g.events )
 
 -- what a machine has is a run of the script
 pub is_run_of : (trees : List Tree) (drives : List Drive) (vm : VirtualMachine) → All (IsWellDriven trees) drives → IsInRun trees drives vm → IsRunOf trees drives (objects_of vm) (events_of vm)

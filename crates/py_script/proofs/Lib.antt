@@ -6,6 +6,7 @@ pub mod Made
 pub mod Traced
 pub mod Loading
 pub mod Driven
+pub mod Ran
 -- what was read
 pub mod Reading
 -- what is written

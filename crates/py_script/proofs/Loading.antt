@@ -1,7 +1,7 @@
 -- How a machine is loaded, declaration by declaration.
 use Rattle.std.proofs.Common.{◌≡◌, ◌<◌, ◌≤◌, ◌+◌, ◌-◌, ℕ, zero, suc, List, [], ◌∷◌, ◌++◌, length, Bool, true, false, Some, None, refl, sym, ap, ◌∙◌, subst, arith, length-append, append_assoc, append-nil, ◌⊎◌, inl, inr, get_or, take, ℤ}
 use Rattle.std.specs.Prelude.{Option, option_map, slice_get, map, Any, Result, Ok, Err, OnOk, OnErr, bytes_eq}
-use Rattle.std.proofs.lemmas.List.{map-append}
+use Rattle.std.proofs.lemmas.List.{map-append, length-map, length-take-le, take_all}
 use Rattle.std.proofs.lemmas.Grind.{take_at_read}
 use Rattle.std.proofs.lemmas.Option.{slice_get_within, slice_get-map, slice_get-get_or, slice_get_read}
 use Rattle.std.proofs.lemmas.Slice.Eq.{bytes_eq-Decides}
@@ -16,6 +16,8 @@ use Rattle.py_frame.proofs.PlainGrowth.{below_more, length_grown, grows_plainly_
 use Rattle.py_body.specs.Tree.{Tree}
 use Rattle.py_body.specs.Binding.{IsClosed}
 use Rattle.py_body.specs.Fits.{Fits}
+use Rattle.py_grammar.specs.declared.script.Declaration.{Declaration}
+use Rattle.py_grammar.specs.Script.{declared_tree}
 use Rattle.py_vm.specs.declared.vm.VirtualMachine.{VirtualMachine}
 use Rattle.py_vm.specs.Machine.{objects_of}
 use Rattle.py_script.specs.Loaded.{AreCompiled, function_entries}
@@ -27,11 +29,18 @@ pub entry_mapped : {A B : Type 0} (f : A → B) (xs : List A) (i : ℕ) (x : A) 
 entry_mapped f xs i x is = slice_get-map f xs i ∙ ap (option_map f) is
 
 -- the next entry of a list, as a loop has it
-pub entry_read : {A B : Type 0} (f : A → B) (xs : List A) (i : ℕ) (d : A) → i < length xs → slice_get (map f xs) i ≡ Some (f (get_or xs i d))
-entry_read f xs i d low = entry_mapped f xs i (get_or xs i d) (slice_get-get_or xs i d low)
+pub entry_read : {A B : Type 0} (f : A → B) (xs : List A) (i : ℕ) (x : A) → i < length xs → x ≡ get_or xs i x → slice_get (map f xs) i ≡ Some (f x)
+entry_read f xs i x low is = entry_mapped f xs i (get_or xs i x) (slice_get-get_or xs i x low) ∙ ap (λ y. Some (f y)) (sym is)
 
-pub front_more : {A B : Type 0} (f : A → B) (xs : List A) (i : ℕ) (d : A) → i < length xs → map f (take (i + 1) xs) ≡ map f (take i xs) ++ f (get_or xs i d) ∷ []
-front_more f xs i d low = ap (map f) (take_at_read xs i d low).1 ∙ map-append f (take i xs) (get_or xs i d ∷ [])
+-- the front of a list up to it
+pub front_more : {A B : Type 0} (f : A → B) (xs : List A) (i : ℕ) (x : A) → i < length xs → x ≡ get_or xs i x → map f (take (i + 1) xs) ≡ map f (take i xs) ++ f x ∷ []
+front_more f xs i x low is = ap (map f) (take_at_read xs i x low).1 ∙ (map-append f (take i xs) (get_or xs i x ∷ []) ∙ ap (λ y. map f (take i xs) ++ f y ∷ []) (sym is))
+
+pub front_length : {A B : Type 0} (f : A → B) (xs : List A) (i : ℕ) → i < length xs → length (map f (take i xs)) ≡ i
+front_length f xs i low = length-map (take i xs) f ∙ length-take-le i xs (omega (arith, low))
+
+pub front_whole : {A B : Type 0} (f : A → B) (xs : List A) (i : ℕ) → length xs ≤ i → map f (take i xs) ≡ map f xs
+front_whole f xs i high = ap (map f) (take_all i xs high)
 
 one_more : {X : Type 0} (xs : List X) (y x : X) (i : ℕ) → slice_get (xs ++ y ∷ []) i ≡ Some x → (slice_get xs i ≡ Some x) ⊎ ((i ≡ length xs) × (y ≡ x))
 one_more [] y x zero h = inr (refl, cc h)
@@ -91,6 +100,25 @@ newest old new p v grown number = ap (λ os. slice_get os v.number) grown ∙ ap
 pub numbers_more : (n : ℕ) (vs : List Obj) (v : Obj) → AllBelow n (numbers vs) → v.number < n → AllBelow n (numbers (vs ++ v ∷ []))
 numbers_more n [] v below low = (low, tt)
 numbers_more n (w ∷ vs) v below low = (below.0, numbers_more n vs v below.1 low)
+
+entries_length : (i : ℕ) (ts : List Tree) → length (function_entries i ts) ≡ length ts
+entries_length i [] = refl
+entries_length i (t ∷ ts) = ap suc (entries_length (suc i) ts)
+
+-- where the next function is, behind those of a list's front
+pub next_ref : (first : List Payload) (ds : List Declaration) (i : ℕ) (objects : List Payload) → i < length ds → objects ≡ first ++ function_entries 0 (map declared_tree (take i ds)) → length objects ≡ length first + i
+next_ref first ds i objects low is =
+    ap length is ∙ (length-append first (function_entries 0 (map declared_tree (take i ds)))
+    ∙ ap (λ n. length first + n) (entries_length 0 (map declared_tree (take i ds)) ∙ front_length declared_tree ds i low))
+
+-- one more entry behind those of a list's front
+pub next_entry : (first : List Payload) (ds : List Declaration) (i : ℕ) (d : Declaration) (objects : List Payload) → i < length ds → d ≡ get_or ds i d → objects ≡ first ++ function_entries 0 (map declared_tree (take i ds))
+    → objects ++ payload.Function (record { name = (declared_tree d).name; code = i }) ∷ [] ≡ first ++ function_entries 0 (map declared_tree (take (i + 1) ds))
+next_entry first ds i d objects low is before =
+    let front = map declared_tree (take i ds) in
+    let new : List Payload = payload.Function (record { name = (declared_tree d).name; code = i }) ∷ [] in
+    ap (λ os. os ++ new) before ∙ (append_assoc first (function_entries 0 front) new
+    ∙ ap (λ es. first ++ es) (sym (ap (function_entries 0) (front_more declared_tree ds i d low is) ∙ entries_more front (declared_tree d) i (sym (front_length declared_tree ds i low)))))
 
 -- a declaration that has the name is found
 pub named_at : (name : Name) (ts : List Tree) (i : ℕ) (t : Tree) → slice_get ts i ≡ Some t → bytes_eq name t.name ≡ true → (u : Tree) × (slice_get ts i ≡ Some u) × (u.name ≡ name)

@@ -3,7 +3,7 @@ use Rattle.std.specs.Prelude.{ℕ, zero, suc, Some, List, [], ◌∷◌, ◌≡�
 use Rattle.py_code.specs.declared.code.PyCode.{PyCode}
 use Rattle.py_objects.specs.declared.payload.Payload.{Payload}
 use Rattle.py_objects.specs.Objects.{Obj, declared, AreNamed, GrowsPlainly}
-use Rattle.py_body.specs.Tree.{Tree}
+use Rattle.py_body.specs.Tree.{Name, Tree}
 use Rattle.py_grammar.specs.Drive.{Drive}
 use Rattle.py_vm.specs.declared.drive.Drive.{Drive as Question}
 use Rattle.py_vm.specs.declared.vm.VirtualMachine.{VirtualMachine}
@@ -39,6 +39,10 @@ pub record InRun (trees : List Tree) (drives : List Drive) (vm : VirtualMachine)
 
 abbrev pub IsInRun : List Tree → List Drive → VirtualMachine → Type 0
 IsInRun trees drives vm = (asked : List Question) × InRun trees drives vm asked
+
+-- the tree at a place has the name
+abbrev pub IsNamedAt : List Tree → Name → ℕ → Type 0
+IsNamedAt trees name i = (t : Tree) × (slice_get trees i ≡ Some t) × (t.name ≡ name)
 
 -- the functions are those that are declared under the trees' names
 abbrev pub AreFunctions : List Tree → List Payload → List Obj → Type 0

@@ -2,7 +2,8 @@
 
 ghost use Rattle.std.specs.Prelude.{◌≡◌, ◌≤◌, ◌<◌, ◌+◌, ◌++◌, Err, [], IfOk, OnOk, suc, map, length, slice_get, Some, All, Any, bytes_eq};
 ghost use Rattle.py_objects.specs.Objects.{numbers, AllBelow};
-ghost use Rattle.py_body.specs.Tree.{Tree};
+ghost use Rattle.py_body.specs.Binding.{IsClosed};
+ghost use Rattle.py_body.specs.Fits.{Fits};
 ghost use Rattle.py_grammar.specs.Script.{declared_tree, drive_of, trees_of, drives_of};
 ghost use Rattle.py_grammar.specs.WellFormed.{IsNumber, IsWellDriven};
 ghost use Rattle.py_vm.specs.Machine.{events_of, objects_of, codes_of, done_of};
@@ -12,7 +13,7 @@ ghost use Rattle.py_vm.specs.declared.fault.VmFault.TheVariants.{OutOfTurns};
 ghost use Rattle.py_script.specs.Whole.{IsOf, AreOf};
 ghost use Rattle.py_script.specs.Loaded.{AreCompiled, function_entries};
 ghost use Rattle.py_script.specs.Steps.{AllClosed, IsRunnable, HasRun};
-ghost use Rattle.py_script.specs.Session.{refs_from, IsLoaded, IsInRun, IsReady, OnlyGrew};
+ghost use Rattle.py_script.specs.Session.{refs_from, IsLoaded, IsInRun, IsNamedAt, IsReady, OnlyGrew};
 
 use crate::read::empty_journal;
 use py_body::{Atom, AtomList, compile_body};
@@ -30,6 +31,20 @@ pub(crate) struct Session {
     pub(crate) functions: ObjList,
 }
 
+/// The code of a declaration.
+fn compile_one(
+    alloc: Global,
+    names: &mut Names,
+    declaration: &Declaration,
+) -> Result<PyCode, NoMemory>
+    requires { IsClosed (declared_tree declaration.now) }
+    ensures { IfOk result (λ code. Fits code (declared_tree declaration.now)) }
+{
+    match declaration {
+        Declaration::Function(body) => compile_body(alloc, names, body),
+    }
+}
+
 /// The codes of the declarations, in order.
 fn compile_all(
     alloc: Global,
@@ -41,8 +56,8 @@ fn compile_all(
 {
     let mut codes = Vec::new(alloc);
     for declaration in declarations {
-        let Declaration::Function(body) = declaration;
-        codes.push(compile_body(alloc, names, body)?)?;
+        let code = compile_one(alloc, names, declaration)?;
+        codes.push(code)?;
     }
     Ok(codes)
 }
@@ -61,6 +76,22 @@ fn add_codes(vm: &mut VirtualMachine, codes: Vec<PyCode>) -> Result<(), NoMemory
     Ok(())
 }
 
+/// What an object of a declaration is, whose code has this number.
+fn function_body(
+    alloc: Global,
+    declaration: &Declaration,
+    code: usize,
+) -> Result<FunctionBody, NoMemory>
+    ensures { IfOk result (λ body. body ≡ record { name = (declared_tree declaration.now).name; code = code }) }
+{
+    match declaration {
+        Declaration::Function(body) => Ok(FunctionBody {
+            name: body.name.copy(alloc)?,
+            code,
+        }),
+    }
+}
+
 /// Makes a function of each declaration, whose code is the one at its place.
 fn add_functions(
     alloc: Global,
@@ -76,9 +107,8 @@ fn add_functions(
 {
     let mut functions = ObjList::new(alloc);
     for (code, declaration) in declarations.iter().enumerate() {
-        let Declaration::Function(body) = declaration;
-        let name = body.name.copy(alloc)?;
-        let function = vm.add_object(Payload::Function(FunctionBody { name, code }))?;
+        let body = function_body(alloc, declaration, code)?;
+        let function = vm.add_object(Payload::Function(body))?;
         functions.push(function)?;
     }
     Ok(functions)
@@ -105,14 +135,15 @@ fn load_script(alloc: Global, script: &Script) -> Result<Session, NoMemory>
 fn has_name(declaration: &Declaration, name: &PyText) -> bool
     ensures { result ≡ bytes_eq name.now (declared_tree declaration.now).name }
 {
-    let Declaration::Function(body) = declaration;
-    same_text(name, &body.name)
+    match declaration {
+        Declaration::Function(body) => same_text(name, &body.name),
+    }
 }
 
 /// The place of the declaration that has a name.
 fn place_of(declarations: &[Declaration], name: &PyText) -> usize
     requires { Any (λ t. t.name ≡ name.now) (map declared_tree declarations.now) }
-    ensures { (t : Tree) × (slice_get (map declared_tree declarations.now) result ≡ Some t) × (t.name ≡ name.now) }
+    ensures { IsNamedAt (map declared_tree declarations.now) name.now result }
 {
     for (place, declaration) in declarations.iter().enumerate() {
         if has_name(declaration, name) {

@@ -8,18 +8,18 @@ use Rattle.py_script.proofs.session.place_of.Goals as goal
 pub returns-then-has_name : goal.returns-then-has_name
 returns-then-has_name c =
     named_at c.args.name.now (map declared_tree c.args.declarations.now) c.loop-place.place _
-    (entry_read declared_tree c.args.declarations.now c.loop-place.place c.index-declarations-place.result c.loop-place-test.true)
-    (sym (c.has_name.ensures ∙ ap (λ d. bytes_eq c.args.name.now (declared_tree d).name) c.index-declarations-place.is) ∙ c.if-has_name.true)
+    (entry_read declared_tree c.args.declarations.now c.loop-place.place c.index-declarations-place.result c.loop-place-test.true c.index-declarations-place.is)
+    (sym c.has_name.ensures ∙ c.if-has_name.true)
 
 pub loop-place-preserved : goal.loop-place-preserved
 loop-place-preserved c =
     none_more c.args.name.now (map declared_tree c.args.declarations.now) c.loop-place.place _
-    (entry_read declared_tree c.args.declarations.now c.loop-place.place c.index-declarations-place.result c.loop-place-test.true)
-    (sym (c.has_name.ensures ∙ ap (λ d. bytes_eq c.args.name.now (declared_tree d).name) c.index-declarations-place.is) ∙ c.if-has_name.false)
+    (entry_read declared_tree c.args.declarations.now c.loop-place.place c.index-declarations-place.result c.loop-place-test.true c.index-declarations-place.is)
+    (sym c.has_name.ensures ∙ c.if-has_name.false)
     c.loop-place.invariant
 
 pub unreachable-requires : goal.unreachable-requires
 unreachable-requires c =
-    let size : length (map declared_tree c.args.declarations.now) ≡ length c.args.declarations.now = length-map declared_tree c.args.declarations.now in
+    let size : length (map declared_tree c.args.declarations.now) ≡ length c.args.declarations.now = length-map c.args.declarations.now declared_tree in
     found_none c.args.name.now (map declared_tree c.args.declarations.now) c.loop-place.place c.requires c.loop-place.invariant
     (let high : length (map declared_tree c.args.declarations.now) ≤ c.loop-place.place = omega (arith, size, c.loop-place-test.false) in high)

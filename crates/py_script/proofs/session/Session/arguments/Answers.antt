@@ -28,7 +28,7 @@ loop-atom-preserved c =
     record {
       grew = grew_more _ _ _ c.loop-atom.invariant.grew c.argument.ensures.grew;
       are = subst (λ (vs : List Obj). AreOf new (take (c.loop-atom.atom-index + 1) c.args.atoms.now) vs) (sym c.in_ok-push.ensures.added)
-          (subst (λ (atoms : List Atom). AreOf new atoms _) (ap (λ a. take c.loop-atom.atom-index c.args.atoms.now ++ a ∷ []) c.atom-item.is ∙ sym front) more);
+          (subst (λ (atoms : List Atom). AreOf new atoms (c.loop-atom.values ++ c.in_ok-value.value ∷ [])) (ap (λ a. take c.loop-atom.atom-index c.args.atoms.now ++ a ∷ []) c.atom-item.is ∙ sym front) more);
       below = subst (λ (vs : List Obj). AllBelow (length new) (numbers vs)) (sym c.in_ok-push.ensures.added)
           (numbers_more (length new) c.loop-atom.values c.in_ok-value.value (below_more (length old) (length new) (numbers c.loop-atom.values) size c.loop-atom.invariant.below) c.in_ok-value.ensures.below);
     }
