@@ -18,3 +18,5 @@ pub mod NamingLemmas
 pub mod EncodedNames
 -- the bodies of the tests
 pub mod Samples
+-- what a body may tell, on fronts and with more objects
+pub mod Carry

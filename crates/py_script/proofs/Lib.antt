@@ -1,0 +1,17 @@
+-- what a script gives the compiler and the machine
+pub mod Closed
+pub mod Objects
+-- what a machine's run is in the script's own words
+pub mod Made
+pub mod Traced
+pub mod Loading
+pub mod Driven
+pub mod Ran
+-- what was read
+pub mod Reading
+-- what is written
+mod NoteLemmas
+mod ReprLemmas
+-- journals worked by hand
+mod WorkedLemmas
+mod OneText

@@ -1,0 +1,141 @@
+-- How a machine is loaded, declaration by declaration.
+use Rattle.std.proofs.Common.{◌≡◌, ◌<◌, ◌≤◌, ◌+◌, ◌-◌, ℕ, zero, suc, List, [], ◌∷◌, ◌++◌, length, Bool, true, false, Some, None, refl, sym, ap, ◌∙◌, subst, arith, length-append, append_assoc, append-nil, ◌⊎◌, inl, inr, get_or, take, ℤ}
+use Rattle.std.specs.Prelude.{Option, option_map, slice_get, map, Any, Result, Ok, Err, OnOk, OnErr, bytes_eq}
+use Rattle.std.proofs.lemmas.List.{map-append, length-map, length-take-le, take_all}
+use Rattle.std.proofs.lemmas.Grind.{take_at_read}
+use Rattle.std.proofs.lemmas.Option.{slice_get_within, slice_get-map, slice_get-get_or, slice_get_read}
+use Rattle.std.proofs.lemmas.Slice.Eq.{bytes_eq-Decides}
+use Rattle.std.proofs.lemmas.Bool.Decides.{eqb_tells}
+use Rattle.py_code.specs.declared.code.PyCode.{PyCode}
+use Rattle.py_code.specs.declared.list.NoMemory.{NoMemory}
+use Rattle.py_objects.specs.declared.payload.Payload.{Payload}
+use Rattle.py_objects.specs.declared.payload.Payload.TheVariants as payload
+use Rattle.py_objects.specs.declared.refs.PyObjectRef.{PyObjectRef}
+use Rattle.py_objects.specs.Objects.{Obj, Name, HasPayload, numbers, payload_numbers, AllBelow, IsMade, declares, GrowsPlainly}
+use Rattle.py_frame.proofs.PlainGrowth.{below_more, length_grown, grows_plainly_refl, grows_plainly_by, plainly_grows}
+use Rattle.py_body.specs.Tree.{Tree}
+use Rattle.py_body.specs.Binding.{IsClosed}
+use Rattle.py_body.specs.Fits.{Fits}
+use Rattle.py_grammar.specs.declared.script.Declaration.{Declaration}
+use Rattle.py_grammar.specs.Script.{declared_tree}
+use Rattle.py_vm.specs.declared.vm.VirtualMachine.{VirtualMachine}
+use Rattle.py_vm.specs.Machine.{objects_of}
+use Rattle.py_script.specs.Loaded.{AreCompiled, function_entries}
+use Rattle.py_script.specs.Steps.{AllClosed}
+use Rattle.py_script.specs.Session.{refs_from}
+
+-- the entry of a list that is mapped
+pub entry_mapped : {A B : Type 0} (f : A → B) (xs : List A) (i : ℕ) (x : A) → slice_get xs i ≡ Some x → slice_get (map f xs) i ≡ Some (f x)
+entry_mapped f xs i x is = slice_get-map f xs i ∙ ap (option_map f) is
+
+-- the next entry of a list, as a loop has it
+pub entry_read : {A B : Type 0} (f : A → B) (xs : List A) (i : ℕ) (x : A) → i < length xs → x ≡ get_or xs i x → slice_get (map f xs) i ≡ Some (f x)
+entry_read f xs i x low is = entry_mapped f xs i (get_or xs i x) (slice_get-get_or xs i x low) ∙ ap (λ y. Some (f y)) (sym is)
+
+-- the front of a list up to it
+pub front_more : {A B : Type 0} (f : A → B) (xs : List A) (i : ℕ) (x : A) → i < length xs → x ≡ get_or xs i x → map f (take (i + 1) xs) ≡ map f (take i xs) ++ f x ∷ []
+front_more f xs i x low is = ap (map f) (take_at_read xs i x low).1 ∙ (map-append f (take i xs) (get_or xs i x ∷ []) ∙ ap (λ y. map f (take i xs) ++ f y ∷ []) (sym is))
+
+pub front_length : {A B : Type 0} (f : A → B) (xs : List A) (i : ℕ) → i < length xs → length (map f (take i xs)) ≡ i
+front_length f xs i low = length-map (take i xs) f ∙ length-take-le i xs (omega (arith, low))
+
+pub front_whole : {A B : Type 0} (f : A → B) (xs : List A) (i : ℕ) → length xs ≤ i → map f (take i xs) ≡ map f xs
+front_whole f xs i high = ap (map f) (take_all i xs high)
+
+one_more : {X : Type 0} (xs : List X) (y x : X) (i : ℕ) → slice_get (xs ++ y ∷ []) i ≡ Some x → (slice_get xs i ≡ Some x) ⊎ ((i ≡ length xs) × (y ≡ x))
+one_more [] y x zero h = inr (refl, cc h)
+one_more [] y x (suc i) h = absurd (cc h)
+one_more (z ∷ xs) y x zero h = inl h
+one_more (z ∷ xs) y x (suc i) h = elim (one_more xs y x i h) [ inl old ↦ inl old | inr new ↦ inr (ap suc new.0, new.1) ]
+
+here : {X : Type 0} (xs : List X) (y : X) → slice_get (xs ++ y ∷ []) (length xs) ≡ Some y
+here [] y = refl
+here (x ∷ xs) y = here xs y
+
+still : {X : Type 0} (xs : List X) (y x : X) (i : ℕ) → slice_get xs i ≡ Some x → slice_get (xs ++ y ∷ []) i ≡ Some x
+still [] y x i h = absurd (cc h)
+still (z ∷ xs) y x zero h = h
+still (z ∷ xs) y x (suc i) h = still xs y x i h
+
+-- one more body is compiled
+pub compiled_more : (ts : List Tree) (cs : List PyCode) (t : Tree) (c : PyCode) → AreCompiled ts cs → length cs ≡ length ts → Fits c t → AreCompiled (ts ++ t ∷ []) (cs ++ c ∷ [])
+compiled_more ts cs t c all same fits i u is = go (one_more ts t u i is)
+  where
+    go : (slice_get ts i ≡ Some u) ⊎ ((i ≡ length ts) × (t ≡ u)) → (d : PyCode) × (slice_get (cs ++ c ∷ []) i ≡ Some d) × Fits d u
+    go (inl old) = let k = all i u old in (k.0, still cs c k.0 i k.1, k.2)
+    go (inr (at, new)) = (c, ap (slice_get (cs ++ c ∷ [])) (at ∙ sym same) ∙ here cs c, subst (Fits c) new fits)
+
+refs_suc : (k n : ℕ) → refs_from k n ++ record { number = k + n } ∷ [] ≡ refs_from k (suc n)
+refs_suc k zero = ap (λ m. record { number = m } ∷ []) (let e : k + 0 ≡ k = omega arith in e)
+refs_suc k (suc n) = ap (λ l. record { number = k } ∷ l) (ap (λ m. refs_from (suc k) n ++ record { number = m } ∷ []) (let e : k + suc n ≡ suc k + n = omega arith in e) ∙ refs_suc (suc k) n)
+
+pub refs_more : (k n : ℕ) → refs_from k n ++ record { number = k + n } ∷ [] ≡ refs_from k (n + 1)
+refs_more k n = refs_suc k n ∙ ap (refs_from k) (let e : suc n ≡ n + 1 = omega arith in e)
+
+-- the function at a place
+pub ref_at : (k n i : ℕ) → i < n → slice_get (refs_from k n) i ≡ Some (record { number = k + i })
+ref_at k zero i low = absurd (omega (arith, low))
+ref_at k (suc n) zero low = ap (λ m. Some (record { number = m })) (let e : k ≡ k + 0 = omega arith in e)
+ref_at k (suc n) (suc i) low = ref_at (suc k) n i (omega (arith, low)) ∙ ap (λ m. Some (record { number = m })) (let e : suc k + i ≡ k + suc i = omega arith in e)
+
+entries_more_from : (i : ℕ) (ts : List Tree) (t : Tree) → function_entries i (ts ++ t ∷ []) ≡ function_entries i ts ++ payload.Function (record { name = t.name; code = i + length ts }) ∷ []
+entries_more_from i [] t = ap (λ n. payload.Function (record { name = t.name; code = n }) ∷ []) (let e : i ≡ i + 0 = omega arith in e)
+entries_more_from i (s ∷ ts) t =
+    ap (λ l. payload.Function (record { name = s.name; code = i }) ∷ l)
+    (entries_more_from (suc i) ts t ∙ ap (λ n. function_entries (suc i) ts ++ payload.Function (record { name = t.name; code = n }) ∷ []) (let e : suc i + length ts ≡ i + suc (length ts) = omega arith in e))
+
+pub entries_more : (ts : List Tree) (t : Tree) (n : ℕ) → n ≡ length ts → function_entries 0 (ts ++ t ∷ []) ≡ function_entries 0 ts ++ payload.Function (record { name = t.name; code = n }) ∷ []
+entries_more ts t n same = entries_more_from 0 ts t ∙ ap (λ k. function_entries 0 ts ++ payload.Function (record { name = t.name; code = k }) ∷ []) (let e : 0 + length ts ≡ n = omega (arith, same) in e)
+
+-- an object that declares nothing and names none was added, or nothing
+pub grown_by : (old new : VirtualMachine) (p : Payload) (r : Result PyObjectRef NoMemory) → declares p ≡ None → AllBelow (length (objects_of old)) (payload_numbers p) → IsMade (objects_of old) p
+    → OnOk r (objects_of new ≡ objects_of old ++ p ∷ []) → OnErr r (new ≡ old) → GrowsPlainly (objects_of old) (objects_of new)
+grown_by old new p (Ok v) plain below made added same = subst (GrowsPlainly (objects_of old)) (sym added) (grows_plainly_by (objects_of old) p plain (λ _. below) (λ _. made))
+grown_by old new p (Err e) plain below made added same = subst (λ (m : VirtualMachine). GrowsPlainly (objects_of old) (objects_of m)) (sym same) (grows_plainly_refl (objects_of old))
+
+-- the newest object has its payload
+pub newest : (old new : List Payload) (p : Payload) (v : Obj) → new ≡ old ++ p ∷ [] → v.number ≡ length old → HasPayload new v p
+newest old new p v grown number = ap (λ os. slice_get os v.number) grown ∙ ap (slice_get (old ++ p ∷ [])) number ∙ here old p
+
+pub numbers_more : (n : ℕ) (vs : List Obj) (v : Obj) → AllBelow n (numbers vs) → v.number < n → AllBelow n (numbers (vs ++ v ∷ []))
+numbers_more n [] v below low = (low, tt)
+numbers_more n (w ∷ vs) v below low = (below.0, numbers_more n vs v below.1 low)
+
+entries_length : (i : ℕ) (ts : List Tree) → length (function_entries i ts) ≡ length ts
+entries_length i [] = refl
+entries_length i (t ∷ ts) = ap suc (entries_length (suc i) ts)
+
+-- where the next function is, behind those of a list's front
+pub next_ref : (first : List Payload) (ds : List Declaration) (i : ℕ) (objects : List Payload) → i < length ds → objects ≡ first ++ function_entries 0 (map declared_tree (take i ds)) → length objects ≡ length first + i
+next_ref first ds i objects low is =
+    ap length is ∙ (length-append first (function_entries 0 (map declared_tree (take i ds)))
+    ∙ ap (λ n. length first + n) (entries_length 0 (map declared_tree (take i ds)) ∙ front_length declared_tree ds i low))
+
+-- one more entry behind those of a list's front
+pub next_entry : (first : List Payload) (ds : List Declaration) (i : ℕ) (d : Declaration) (objects : List Payload) → i < length ds → d ≡ get_or ds i d → objects ≡ first ++ function_entries 0 (map declared_tree (take i ds))
+    → objects ++ payload.Function (record { name = (declared_tree d).name; code = i }) ∷ [] ≡ first ++ function_entries 0 (map declared_tree (take (i + 1) ds))
+next_entry first ds i d objects low is before =
+    let front = map declared_tree (take i ds) in
+    let new : List Payload = payload.Function (record { name = (declared_tree d).name; code = i }) ∷ [] in
+    ap (λ os. os ++ new) before ∙ (append_assoc first (function_entries 0 front) new
+    ∙ ap (λ es. first ++ es) (sym (ap (function_entries 0) (front_more declared_tree ds i d low is) ∙ entries_more front (declared_tree d) i (sym (front_length declared_tree ds i low)))))
+
+-- a declaration that has the name is found
+pub named_at : (name : Name) (ts : List Tree) (i : ℕ) (t : Tree) → slice_get ts i ≡ Some t → bytes_eq name t.name ≡ true → (u : Tree) × (slice_get ts i ≡ Some u) × (u.name ≡ name)
+named_at name ts i t is hit = (t, is, sym ((bytes_eq-Decides name t.name).0 hit))
+
+-- none of the declarations up to here has it
+pub none_more : (name : Name) (ts : List Tree) (i : ℕ) (t : Tree) → slice_get ts i ≡ Some t → bytes_eq name t.name ≡ false
+    → ((k : ℕ) (u : Tree) → k < i → slice_get ts k ≡ Some u → u.name ≡ name → ⊥) → (k : ℕ) (u : Tree) → k < i + 1 → slice_get ts k ≡ Some u → u.name ≡ name → ⊥
+none_more name ts i t is miss before k u low at same = elim (eqb_tells k i) [
+      | inl y ↦
+          let both : Some u ≡ Some t = sym at ∙ ap (slice_get ts) y.1 ∙ is in
+          let tree : u ≡ t = cc both in
+          let hit : bytes_eq name t.name ≡ true = (bytes_eq-Decides name t.name).1 (sym same ∙ ap (λ (x : Tree). x.name) tree) in
+          (let clash : true ≡ false = sym hit ∙ miss in cc clash)
+      | inr n ↦ let ne : k ≡ i → ⊥ = n.1 in before k u (omega (arith, low, ne)) at same
+    ]
+
+-- but one does
+pub found_none : (name : Name) (ts : List Tree) (i : ℕ) → Any (λ t. t.name ≡ name) ts → ((k : ℕ) (u : Tree) → k < i → slice_get ts k ≡ Some u → u.name ≡ name → ⊥) → length ts ≤ i → ⊥
+found_none name ts i (k, t, low, is, same) before all = before k t (omega (arith, low, all)) (slice_get_read ts (length ts) k t refl low (sym is)) same

@@ -1,0 +1,93 @@
+-- The activations of a run: each is asked by a drive, and has own events.
+use Rattle.std.proofs.Common.{◌≡◌, ◌<◌, ◌≤◌, ◌+◌, ℕ, zero, suc, List, [], ◌∷◌, ◌++◌, length, Bool, true, false, cond, Some, None, refl, sym, ap, ◌∙◌, subst, arith, length-append, ◌⊎◌, inl, inr, eqb, eq-eqb}
+use Rattle.std.specs.Prelude.{Option, slice_get}
+use Rattle.std.proofs.lemmas.Bool.Decides.{eqb_tells}
+use Rattle.std.proofs.lemmas.Option.{slice_get_within}
+use Rattle.py_objects.specs.declared.payload.Payload.{Payload}
+use Rattle.py_objects.specs.declared.event.Event.{Event}
+use Rattle.py_objects.specs.declared.event.Event.TheVariants as event
+use Rattle.py_objects.specs.Objects.{Obj}
+use Rattle.py_objects.specs.Own.{Own, Makes, whose, own_of, own_if, told_by, own_events}
+use Rattle.py_vm.specs.declared.drive.Drive.{Drive as Question}
+use Rattle.py_vm.specs.declared.drive.Drive.TheVariants as question
+use Rattle.py_vm.specs.Run.{Activation, State, start, after, state_after, Comes}
+
+-- each activation is one that a drive asked for
+abbrev pub AllAsked : List Question → List Activation → Type 0
+AllAsked asked made = (i : ℕ) (a : Activation) → slice_get made i ≡ Some a → (k : ℕ) × (slice_get asked k ≡ Some (question.Call a.function a.args))
+
+-- an entry of a list with one more is one of the list, or that one
+one_more : {X : Type 0} (xs : List X) (x y : X) (i : ℕ) → slice_get (xs ++ y ∷ []) i ≡ Some x → (slice_get xs i ≡ Some x) ⊎ (y ≡ x)
+one_more [] x y zero h = inr (cc h)
+one_more [] x y (suc i) h = absurd (cc h)
+one_more (z ∷ xs) x y zero h = inl h
+one_more (z ∷ xs) x y (suc i) h = one_more xs x y i h
+
+asked_more : (asked : List Question) (made : List Activation) (f : Obj) (vs : List Obj) (k : ℕ) → slice_get asked k ≡ Some (question.Call f vs) → AllAsked asked made → AllAsked asked (made ++ record { function = f; args = vs } ∷ [])
+asked_more asked made f vs k h all i a is = go (one_more made a (record { function = f; args = vs }) i is)
+  where
+    go : (slice_get made i ≡ Some a) ⊎ (record { function = f; args = vs } ≡ a) → (j : ℕ) × (slice_get asked j ≡ Some (question.Call a.function a.args))
+    go (inl old) = all i a old
+    go (inr new) = (k, subst (λ (x : Activation). slice_get asked k ≡ Some (question.Call x.function x.args)) new h)
+
+pub made_asked : (asked : List Question) (objects : List Payload) (before : List Event) (s : State) (es : List Event) → Comes asked objects before s es → AllAsked asked s.made → AllAsked asked (state_after s es).made
+made_asked asked objects before s [] comes all = all
+made_asked asked objects before s (event.Drive d ∷ es) comes all = made_asked asked objects _ (after s (event.Drive d)) es comes.1 all
+made_asked asked objects before s (event.Result d w ∷ es) comes all = made_asked asked objects _ (after s (event.Result d w)) es comes.1 all
+made_asked asked objects before s (event.Make a f vs ∷ es) comes all =
+    made_asked asked objects _ (after s (event.Make a f vs)) es comes.1 (asked_more asked s.made f vs s.done comes.0.3 all)
+made_asked asked objects before s (event.Resume a h ∷ es) comes all = made_asked asked objects _ (after s (event.Resume a h)) es comes.1 all
+made_asked asked objects before s (event.Ask a r own at ∷ es) comes all = made_asked asked objects _ (after s (event.Ask a r own at)) es comes.1 all
+made_asked asked objects before s (event.Got a w ∷ es) comes all = made_asked asked objects _ (after s (event.Got a w)) es comes.1 all
+made_asked asked objects before s (event.Round a at ∷ es) comes all = made_asked asked objects _ (after s (event.Round a at)) es comes.1 all
+made_asked asked objects before s (event.Yield a v at ∷ es) comes all = made_asked asked objects _ (after s (event.Yield a v at)) es comes.1 all
+made_asked asked objects before s (event.End a e at ∷ es) comes all = made_asked asked objects _ (after s (event.End a e at)) es comes.1 all
+
+-- some event was told
+pub record HasTold (ts : List Own) : Type 0 where
+  pub front : Own
+  pub behind : List Own
+  pub is : ts ≡ front ∷ behind
+
+told_behind : (xs ts : List Own) → HasTold ts → HasTold (xs ++ ts)
+told_behind [] ts told = told
+told_behind (x ∷ xs) ts told = record { front = x; behind = xs ++ ts; is = refl }
+
+abbrev MadeTell : State → List Event → Type 0
+MadeTell s es = (i : ℕ) → length s.made ≤ i → i < length (state_after s es).made → HasTold (own_events (suc i) es)
+
+-- so has each activation behind an event that makes none
+still_tell : (s : State) (e : Event) (es : List Event) → (after s e).made ≡ s.made → MadeTell (after s e) es → MadeTell s (e ∷ es)
+unfolding own_events
+still_tell s e es same tell i low high = told_behind (told_by (suc i) e) (own_events (suc i) es) (tell i (subst (λ (l : List Activation). length l ≤ i) (sym same) low) high)
+
+-- an event that makes an activation is its own
+make_tells : (s : State) (a : ℕ) (f : Obj) (vs : List Obj) (es : List Event) → a ≡ suc (length s.made) → MadeTell (after s (event.Make a f vs)) es → MadeTell s (event.Make a f vs ∷ es)
+unfolding own_events told_by
+make_tells s a f vs es numbered tell i low high = go (eqb (suc i) a) refl
+  where
+    go : (b : Bool) → eqb (suc i) a ≡ b → HasTold (own_events (suc i) (event.Make a f vs ∷ es))
+    go true mine = record { front = Makes; behind = own_events (suc i) es; is = ap (λ c. own_if c (Makes ∷ []) ++ own_events (suc i) es) mine }
+    go false other =
+        let apart : i ≡ length s.made → ⊥ = λ e. absurd (let hit : eqb (suc i) a ≡ true = eq-eqb (suc i) a (ap suc e ∙ sym numbered) in let clash : true ≡ false = sym hit ∙ other in cc clash) in
+        let grown : length (after s (event.Make a f vs)).made ≡ length s.made + 1 = length-append s.made (record { function = f; args = vs } ∷ []) in
+        told_behind (told_by (suc i) (event.Make a f vs)) (own_events (suc i) es) (tell i (above grown apart) high)
+      where
+        above : length (after s (event.Make a f vs)).made ≡ length s.made + 1 → (i ≡ length s.made → ⊥) → length (after s (event.Make a f vs)).made ≤ i
+        above grown apart = elim (eqb_tells i (length s.made)) [ inl y ↦ absurd (apart y.1) | inr n ↦ let ne : i ≡ length s.made → ⊥ = n.1 in omega (arith, grown, low, ne) ]
+
+pub made_tell : (asked : List Question) (objects : List Payload) (before : List Event) (s : State) (es : List Event) → Comes asked objects before s es → MadeTell s es
+made_tell asked objects before s [] comes = λ i low high. absurd (omega (arith, low, high))
+made_tell asked objects before s (event.Drive d ∷ es) comes = still_tell s (event.Drive d) es refl (made_tell asked objects _ (after s (event.Drive d)) es comes.1)
+made_tell asked objects before s (event.Result d w ∷ es) comes = still_tell s (event.Result d w) es refl (made_tell asked objects _ (after s (event.Result d w)) es comes.1)
+made_tell asked objects before s (event.Make a f vs ∷ es) comes = make_tells s a f vs es comes.0.2 (made_tell asked objects _ (after s (event.Make a f vs)) es comes.1)
+made_tell asked objects before s (event.Resume a h ∷ es) comes = still_tell s (event.Resume a h) es refl (made_tell asked objects _ (after s (event.Resume a h)) es comes.1)
+made_tell asked objects before s (event.Ask a r own at ∷ es) comes = still_tell s (event.Ask a r own at) es refl (made_tell asked objects _ (after s (event.Ask a r own at)) es comes.1)
+made_tell asked objects before s (event.Got a w ∷ es) comes = still_tell s (event.Got a w) es refl (made_tell asked objects _ (after s (event.Got a w)) es comes.1)
+made_tell asked objects before s (event.Round a at ∷ es) comes = still_tell s (event.Round a at) es refl (made_tell asked objects _ (after s (event.Round a at)) es comes.1)
+made_tell asked objects before s (event.Yield a v at ∷ es) comes = still_tell s (event.Yield a v at) es refl (made_tell asked objects _ (after s (event.Yield a v at)) es comes.1)
+made_tell asked objects before s (event.End a e at ∷ es) comes = still_tell s (event.End a e at) es refl (made_tell asked objects _ (after s (event.End a e at)) es comes.1)
+
+-- each activation of a whole list of events has told
+pub activation_tells : (asked : List Question) (objects : List Payload) (es : List Event) (i : ℕ) (a : Activation) → Comes asked objects [] start es → slice_get (state_after start es).made i ≡ Some a → HasTold (own_events (suc i) es)
+activation_tells asked objects es i a comes made = made_tell asked objects [] start es comes i (omega arith) (slice_get_within (state_after start es).made i a made)

@@ -1,0 +1,196 @@
+-- The objects of a script: as they are loaded, and as more come.
+use Rattle.std.proofs.Common.{◌≡◌, ◌<◌, ◌+◌, ◌-◌, ℕ, zero, suc, List, [], ◌∷◌, ◌++◌, length, Bool, true, false, cond, ◌||◌, Some, None, refl, sym, ap, ◌∙◌, subst, arith, ◌⊎◌, inl, inr, ◌≢◌}
+use Rattle.std.specs.Prelude.{Option, option_map, slice_get, AllPairs, map, codes, bytes_eq, Contains}
+use Rattle.std.proofs.lemmas.Option.{slice_get_within, get_or_from_slice_get, slice_get-map}
+use Rattle.std.proofs.lemmas.Slice.Eq.{bytes_eq-Decides}
+use Rattle.py_objects.specs.declared.payload.Payload.{Payload}
+use Rattle.py_objects.specs.declared.payload.Payload.TheVariants as payload
+use Rattle.py_objects.specs.declared.payload.ClassBody.{ClassBody}
+use Rattle.py_objects.specs.declared.payload.FunctionBody.{FunctionBody}
+use Rattle.py_objects.specs.declared.payload.ErrorKind.{ErrorKind}
+use Rattle.py_objects.specs.declared.payload.ErrorKind.TheVariants.{NameError, OverflowError, RecursionError, TypeError, UnboundLocalError}
+use Rattle.py_objects.specs.Objects.{Obj, Name, HasPayload, declares, is_name, declared, declared_from, name_of, error_kinds, AllFit, Grows, GrowsPlainly}
+use Rattle.py_frame.proofs.Growing.{payload_grown}
+use Rattle.py_frame.proofs.PlainGrowth.{plainly_grows, slice_get_split}
+use Rattle.py_body.specs.declared.atom.Atom.{Atom}
+use Rattle.py_body.specs.declared.atom.Atom.TheVariants as atom
+use Rattle.py_body.specs.Tree.{Tree}
+use Rattle.py_grammar.specs.Drive.{Drive}
+use Rattle.py_grammar.specs.Rules.{is_builtin_class}
+use Rattle.py_vm.specs.declared.drive.Drive.{Drive as Question}
+use Rattle.py_vm.specs.declared.drive.Drive.TheVariants as question
+use Rattle.py_vm.proofs.RunLemmas.{declared_stays}
+use Rattle.py_script.specs.Whole.{IsOf, AreOf, Asks, AreAsked, AreObjects}
+use Rattle.py_script.specs.Loaded.{class_entries, function_entries, script_objects}
+
+-- a name that differs is another one
+other_name : (n m : Name) → (m ≡ n → ⊥) → bytes_eq n m ≡ false
+other_name n m differ = go (bytes_eq n m) refl
+  where
+    go : (b : Bool) → bytes_eq n m ≡ b → b ≡ false
+    go true h = absurd (differ (sym ((bytes_eq-Decides n m).0 h)))
+    go false h = refl
+
+same_name : (n : Name) → bytes_eq n n ≡ true
+same_name n = (bytes_eq-Decides n n).1 refl
+
+-- the entry of a function, behind those of the ones before it
+entry_at : (i : ℕ) (ts : List Tree) (j : ℕ) (t : Tree) → slice_get ts j ≡ Some t → slice_get (function_entries i ts) j ≡ Some (payload.Function (record { name = t.name; code = i + j }))
+entry_at i [] j t is = absurd (cc is)
+entry_at i (s ∷ ts) zero t is =
+    let same : s ≡ t = cc is in
+    ap (λ (x : Tree). Some (payload.Function (record { name = x.name; code = i }))) same ∙ ap (λ n. Some (payload.Function (record { name = t.name; code = n }))) (let e : i ≡ i + 0 = omega arith in e)
+entry_at i (s ∷ ts) (suc j) t is = entry_at (suc i) ts j t is ∙ ap (λ n. Some (payload.Function (record { name = t.name; code = n }))) (let e : suc i + j ≡ i + suc j = omega arith in e)
+
+-- each entry of a function is that of a body
+entry_of : (i : ℕ) (ts : List Tree) (j : ℕ) (p : Payload) → slice_get (function_entries i ts) j ≡ Some p → (t : Tree) × (slice_get ts j ≡ Some t) × (p ≡ payload.Function (record { name = t.name; code = i + j }))
+entry_of i [] j p is = absurd (cc is)
+entry_of i (s ∷ ts) zero p is =
+    let same : payload.Function (record { name = s.name; code = i }) ≡ p = cc is in
+    (s, refl, sym same ∙ ap (λ n. payload.Function (record { name = s.name; code = n })) (let e : i ≡ i + 0 = omega arith in e))
+entry_of i (s ∷ ts) (suc j) p is =
+    let h = entry_of (suc i) ts j p is in
+    (h.0, h.1, h.2 ∙ ap (λ n. payload.Function (record { name = h.0.name; code = n })) (let e : suc i + j ≡ i + suc j = omega arith in e))
+
+-- names that differ are found at their places
+found_from : (k i : ℕ) (ts : List Tree) (j : ℕ) (t : Tree) → AllPairs (λ x y. x ≢ y) (map (λ s. s.name) ts) → slice_get ts j ≡ Some t → declared_from k (function_entries i ts) t.name ≡ Some (record { number = k + j })
+found_from k i [] j t differ is = absurd (cc is)
+found_from k i (s ∷ ts) zero t differ is =
+    let same : s ≡ t = cc is in
+    let hit : bytes_eq t.name s.name ≡ true = ap (λ (x : Tree). bytes_eq t.name x.name) same ∙ same_name t.name in
+    ap (λ b. cond b (Some (record { number = k })) (declared_from (suc k) (function_entries (suc i) ts) t.name)) hit ∙ ap (λ n. Some (record { number = n })) (let e : k ≡ k + 0 = omega arith in e)
+found_from k i (s ∷ ts) (suc j) t differ is =
+    let names : List Name = map (λ (x : Tree). x.name) ts in
+    let at : slice_get names j ≡ Some t.name = slice_get-map (λ (x : Tree). x.name) ts j ∙ ap (λ o. option_map (λ (x : Tree). x.name) o) is in
+    let low : j < length names = slice_get_within names j t.name at in
+    let apart : s.name ≡ t.name → ⊥ = λ e. differ 0 (suc j) t.name (omega arith) (omega (arith, low)) (e ∙ sym (get_or_from_slice_get names j t.name t.name at)) in
+    let miss : bytes_eq t.name s.name ≡ false = other_name t.name s.name apart in
+    let later : AllPairs (λ (x y : Name). x ≢ y) names = λ a b d less below. differ (suc a) (suc b) d (omega (arith, less)) (omega (arith, below)) in
+    ap (λ b. cond b (Some (record { number = k })) (declared_from (suc k) (function_entries (suc i) ts) t.name)) miss
+    ∙ found_from (suc k) (suc i) ts j t later is ∙ ap (λ n. Some (record { number = n })) (let e : suc k + j ≡ k + suc j = omega arith in e)
+
+both_false : (a b : Bool) → (a || b) ≡ false → (a ≡ false) × (b ≡ false)
+both_false true b h = absurd (let e : true ≡ false = h in cc e)
+both_false false b h = (refl, h)
+
+-- what is no class is declared behind the classes
+behind_classes : (n : Name) (ts : List Tree) → is_builtin_class n ≡ false → declared (script_objects ts) n ≡ declared_from 6 (function_entries 0 ts) n
+behind_classes n ts none =
+    let a = both_false _ (bytes_eq n (codes "RecursionError")) none in
+    let b = both_false _ (bytes_eq n (codes "UnboundLocalError")) a.0 in
+    let c = both_false _ (bytes_eq n (codes "NameError")) b.0 in
+    let d = both_false (bytes_eq n (codes "OverflowError")) (bytes_eq n (codes "TypeError")) c.0 in
+    rw (c.1, d.0, a.1, d.1, b.1) refl
+
+-- entries behind the first six
+entry_behind : (ts : List Tree) (j : ℕ) → slice_get (script_objects ts) (6 + j) ≡ slice_get (function_entries 0 ts) j
+entry_behind ts j = ap (slice_get (script_objects ts)) (let e : 6 + j ≡ suc (suc (suc (suc (suc (suc j))))) = omega arith in e)
+
+-- the functions that are loaded are declared, in order
+pub functions_are : (ts : List Tree) → AllPairs (λ x y. x ≢ y) (map (λ s. s.name) ts) → (j : ℕ) (t : Tree) → slice_get ts j ≡ Some t → is_builtin_class t.name ≡ false
+    → (declared (script_objects ts) t.name ≡ Some (record { number = 6 + j })) × HasPayload (script_objects ts) (record { number = 6 + j }) (payload.Function (record { name = t.name; code = j }))
+functions_are ts differ j t is none =
+    ( behind_classes t.name ts none ∙ found_from 6 0 ts j t differ is
+    , entry_behind ts j ∙ entry_at 0 ts j t is ∙ ap (λ n. Some (payload.Function (record { name = t.name; code = n }))) (let e : 0 + j ≡ j = omega arith in e) )
+
+classes_are : (ts : List Tree) (k : ErrorKind) → (c : Obj) × (declared (script_objects ts) (name_of k) ≡ Some c) × HasPayload (script_objects ts) c (payload.Class (record { name = name_of k }))
+classes_are ts NameError = (record { number = 1 }, refl, refl)
+classes_are ts OverflowError = (record { number = 2 }, refl, refl)
+classes_are ts RecursionError = (record { number = 3 }, refl, refl)
+classes_are ts TypeError = (record { number = 4 }, refl, refl)
+classes_are ts UnboundLocalError = (record { number = 5 }, refl, refl)
+
+no_function : {A : Type 0} (c : ClassBody) (b : FunctionBody) → Some (payload.Class c) ≡ Some (payload.Function b) → A
+no_function c b e = absurd (let d : payload.Class c ≡ payload.Function b = cc e in cc d)
+
+only_functions_at : (ts : List Tree) (n : ℕ) (b : FunctionBody) → slice_get (script_objects ts) n ≡ Some (payload.Function b) → (t : Tree) × (slice_get ts b.code ≡ Some t) × (b.name ≡ t.name)
+only_functions_at ts zero b is = absurd (let d : payload.None ≡ payload.Function b = cc is in cc d)
+only_functions_at ts (suc zero) b is = no_function _ b is
+only_functions_at ts (suc (suc zero)) b is = no_function _ b is
+only_functions_at ts (suc (suc (suc zero))) b is = no_function _ b is
+only_functions_at ts (suc (suc (suc (suc zero)))) b is = no_function _ b is
+only_functions_at ts (suc (suc (suc (suc (suc zero))))) b is = no_function _ b is
+only_functions_at ts (suc (suc (suc (suc (suc (suc j)))))) b is =
+    let h = entry_of 0 ts j (payload.Function b) is in
+    let body : b ≡ record { name = h.0.name; code = 0 + j } = cc h.2 in
+    let place : b.code ≡ j = ap (λ (x : FunctionBody). x.code) body ∙ (let e : 0 + j ≡ j = omega arith in e) in
+    (h.0, ap (slice_get ts) place ∙ h.1, ap (λ (x : FunctionBody). x.name) body)
+
+class_named : (k : ErrorKind) (i : ℕ) (b : ClassBody) → slice_get (map name_of error_kinds) i ≡ Some (name_of k) → Some (payload.Class (record { name = name_of k })) ≡ Some (payload.Class b) → Contains (map name_of error_kinds) b.name
+class_named k i b at is =
+    let inside : payload.Class (record { name = name_of k }) ≡ payload.Class b = cc is in
+    let body : record { name = name_of k } ≡ b = cc inside in
+    let name : name_of k ≡ b.name = ap (λ (x : ClassBody). x.name) body in
+    let here : slice_get (map name_of error_kinds) i ≡ Some b.name = at ∙ ap Some name in
+    (i, slice_get_within (map name_of error_kinds) i b.name here, get_or_from_slice_get (map name_of error_kinds) i b.name b.name here)
+
+only_classes_at : (ts : List Tree) (n : ℕ) (b : ClassBody) → slice_get (script_objects ts) n ≡ Some (payload.Class b) → Contains (map name_of error_kinds) b.name
+only_classes_at ts zero b is = absurd (let d : payload.None ≡ payload.Class b = cc is in cc d)
+only_classes_at ts (suc zero) b is = class_named NameError 0 b refl is
+only_classes_at ts (suc (suc zero)) b is = class_named OverflowError 1 b refl is
+only_classes_at ts (suc (suc (suc zero))) b is = class_named RecursionError 2 b refl is
+only_classes_at ts (suc (suc (suc (suc zero)))) b is = class_named TypeError 3 b refl is
+only_classes_at ts (suc (suc (suc (suc (suc zero))))) b is = class_named UnboundLocalError 4 b refl is
+only_classes_at ts (suc (suc (suc (suc (suc (suc j)))))) b is =
+    let h = entry_of 0 ts j (payload.Class b) is in
+    absurd (cc h.2)
+
+-- the objects that are loaded are a script's
+pub loaded_objects : (ts : List Tree) → AllPairs (λ x y. x ≢ y) (map (λ s. s.name) ts) → ((j : ℕ) (t : Tree) → slice_get ts j ≡ Some t → is_builtin_class t.name ≡ false) → AllFit (script_objects ts) → AreObjects ts (script_objects ts)
+loaded_objects ts differ no_class fit = record {
+  functions = λ j t is. let h = functions_are ts differ j t is (no_class j t is) in (_, h.0, h.1);
+  classes = λ i k is. classes_are ts k;
+  only_functions = λ f b is. only_functions_at ts f.number b is;
+  only_classes = λ c b is. only_classes_at ts c.number b is;
+  fit = fit;
+}
+
+-- an entry that is a declaration was there before others came plainly
+declared_before : (objects objects' : List Payload) (v : Obj) (p : Payload) (n : Name) → GrowsPlainly objects objects' → declares p ≡ Some n → HasPayload objects' v p → HasPayload objects v p
+declared_before objects objects' v p n grows says has = go (slice_get_split objects grows.more v.number p (ap (λ os. slice_get os v.number) (sym grows.is) ∙ has))
+  where
+    go : (slice_get objects v.number ≡ Some p) ⊎ (slice_get grows.more (v.number - length objects) ≡ Some p) → HasPayload objects v p
+    go (inl old) = old
+    go (inr new) = absurd (let none : declares p ≡ None = grows.plain _ p new in let clash : Some n ≡ None = sym says ∙ none in cc clash)
+
+-- a script's objects stay so as others come plainly
+pub objects_grow : (ts : List Tree) (objects objects' : List Payload) → GrowsPlainly objects objects' → AreObjects ts objects → AreObjects ts objects'
+objects_grow ts objects objects' grows are = record {
+  functions = λ j t is. let h = are.functions j t is in (h.0, declared_stays objects objects' t.name grows ∙ h.1, payload_grown objects objects' h.0 _ (plainly_grows objects objects' grows) h.2);
+  classes = λ i k is. let h = are.classes i k is in (h.0, declared_stays objects objects' (name_of k) grows ∙ h.1, payload_grown objects objects' h.0 _ (plainly_grows objects objects' grows) h.2);
+  only_functions = λ f b is. are.only_functions f b (declared_before objects objects' f (payload.Function b) b.name grows refl is);
+  only_classes = λ c b is. are.only_classes c b (declared_before objects objects' c (payload.Class b) b.name grows refl is);
+  fit = grows.fit are.fit;
+}
+
+of_grows : (objects objects' : List Payload) (a : Atom) (v : Obj) → GrowsPlainly objects objects' → IsOf objects a v → IsOf objects' a v
+of_grows objects objects' (atom.Int n) v grows is = payload_grown objects objects' v _ (plainly_grows objects objects' grows) is
+of_grows objects objects' (atom.Name x) v grows is = declared_stays objects objects' x grows ∙ is
+
+pub are_of_grow : (objects objects' : List Payload) (atoms : List Atom) (vs : List Obj) → GrowsPlainly objects objects' → AreOf objects atoms vs → AreOf objects' atoms vs
+are_of_grow objects objects' [] [] grows of = of
+are_of_grow objects objects' [] (v ∷ vs) grows of = of
+are_of_grow objects objects' (a ∷ atoms) [] grows of = of
+are_of_grow objects objects' (a ∷ atoms) (v ∷ vs) grows of = (of_grows objects objects' a v grows of.0, are_of_grow objects objects' atoms vs grows of.1)
+
+-- one more atom has its object
+pub are_of_more : (objects : List Payload) (atoms : List Atom) (vs : List Obj) (a : Atom) (v : Obj) → AreOf objects atoms vs → IsOf objects a v → AreOf objects (atoms ++ a ∷ []) (vs ++ v ∷ [])
+are_of_more objects [] [] a v of is = (is, tt)
+are_of_more objects [] (w ∷ vs) a v of is = absurd of
+are_of_more objects (b ∷ atoms) [] a v of is = absurd of
+are_of_more objects (b ∷ atoms) (w ∷ vs) a v of is = (of.0, are_of_more objects atoms vs a v of.1 is)
+
+asks_grow : (objects objects' : List Payload) (d : Drive) (q : Question) → GrowsPlainly objects objects' → Asks objects d q → Asks objects' d q
+asks_grow objects objects' d (question.Call f vs) grows asks = (declared_stays objects objects' d.function grows ∙ asks.0, are_of_grow objects objects' d.args vs grows asks.1)
+
+pub asked_grow : (objects objects' : List Payload) (ds : List Drive) (qs : List Question) → GrowsPlainly objects objects' → AreAsked objects ds qs → AreAsked objects' ds qs
+asked_grow objects objects' ds [] grows are = tt
+asked_grow objects objects' [] (q ∷ qs) grows are = are
+asked_grow objects objects' (d ∷ ds) (q ∷ qs) grows are = (asks_grow objects objects' d q grows are.0, asked_grow objects objects' ds qs grows are.1)
+
+-- one more drive is begun
+pub asked_more : (objects : List Payload) (ds : List Drive) (qs : List Question) (d : Drive) (q : Question) → AreAsked objects ds qs → slice_get ds (length qs) ≡ Some d → Asks objects d q → AreAsked objects ds (qs ++ q ∷ [])
+asked_more objects [] [] d q are is asks = absurd (cc is)
+asked_more objects (e ∷ ds) [] d q are is asks = let same : e ≡ d = cc is in (subst (λ (x : Drive). Asks objects x q) (sym same) asks, tt)
+asked_more objects [] (p ∷ qs) d q are is asks = absurd are
+asked_more objects (e ∷ ds) (p ∷ qs) d q are is asks = (are.0, asked_more objects ds qs d q are.1 is asks)

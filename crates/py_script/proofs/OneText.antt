@@ -1,0 +1,360 @@
+-- Each whole run of one call of the worked function writes the same text.
+use Rattle.std.proofs.Common.{◌≡◌, ℕ, suc, List, [], ◌∷◌, ◌++◌, Option, Some, None, ◌<◌, ◌≤◌, refl, sym, ap, subst, inl, inr, ◌∙◌, ⊎_elim, arith, length, append-nil}
+use Rattle.std.specs.Prelude.{ℤ, pos, ◌+ℤ◌, Bool, true, false, if◌then◌else◌, codes, slice_get}
+use Rattle.std.specs.Fmt.{signed_decimal}
+use Rattle.py_objects.specs.declared.refs.PyBaseExceptionRef.{PyBaseExceptionRef}
+use Rattle.py_objects.specs.declared.payload.Payload.{Payload}
+use Rattle.py_objects.specs.declared.payload.Payload.TheVariants as payload
+use Rattle.py_objects.specs.declared.payload.ErrorKind.TheVariants.{OverflowError}
+use Rattle.py_objects.specs.declared.request.Arithmetic.TheVariants.{Add}
+use Rattle.py_objects.specs.declared.request.Request.{Request}
+use Rattle.py_objects.specs.declared.request.Request.TheVariants.{Binary}
+use Rattle.py_objects.specs.declared.event.ResumeHow.TheVariants as how
+use Rattle.py_objects.specs.declared.event.GotAnswer.{GotAnswer}
+use Rattle.py_objects.specs.declared.event.GotAnswer.TheVariants as got
+use Rattle.py_objects.specs.declared.event.Ending.{Ending}
+use Rattle.py_objects.specs.declared.event.Ending.TheVariants as ending
+use Rattle.py_objects.specs.declared.event.DriveAnswer.{DriveAnswer}
+use Rattle.py_objects.specs.declared.event.DriveAnswer.TheVariants as answer
+use Rattle.py_objects.specs.declared.event.Event.{Event}
+use Rattle.py_objects.specs.declared.event.Event.TheVariants as event
+use Rattle.py_objects.specs.Objects.{Obj, HasPayload, class_object, declared}
+use Rattle.py_objects.specs.Own.{Own, Asks, Gets, Ends, whose, own_of, own_events, told_by}
+use Rattle.py_objects.specs.Telling.{Given, Failed, AfterValue, Asked, Answered, Answers}
+use Rattle.py_body.specs.Trace.{IsBegun, Ended}
+use Rattle.py_vm.specs.declared.drive.Drive.{Drive as Question}
+use Rattle.py_vm.specs.declared.drive.Drive.TheVariants.{Call}
+use Rattle.py_vm.specs.Answers.{Reply, Has, Fails, Replies, Gives, whole, in_range}
+use Rattle.py_vm.specs.Run.{Left, left_by, Phase, Idle, Asking, Going, Made, Due, Act, Activation, State, start, after, state_after, question, IsTop, MayCome, Comes, Answers_call}
+use Rattle.py_script.specs.Whole.{AreAsked, Asks as IsAsked, AreObjects, Traces}
+use Rattle.py_script.specs.Text.{bytes_of, class_name, details, events_text, items_of, numbered, payload_of, raised, repr_within, result_text, shown, str_by, str_within}
+use Rattle.py_script.specs.Worked.{Writes, call_of, class_entry, events, exception, function, greatest, objects, overflow_by, overflow_objects, trees}
+use Rattle.py_script.proofs.WorkedLemmas.{ascii_bytes, begun, decimal_1, decimal_45, entry_of_f, few_asked, gives_sum, is_run, overflow_is_run, some_is, traced_by}
+
+-- how a drive's answer tells an ending
+abbrev answer_of : Ending → DriveAnswer
+answer_of (ending.Return v) = answer.Returns v
+answer_of (ending.Raise e) = answer.Raises e
+
+answers : (x : Ending) (w : DriveAnswer) → Answers_call (left_by x) w → w ≡ answer_of x
+answers (ending.Return v) w h = h
+answers (ending.Raise e) w h = h
+
+-- an answer that ends the body which gets it, by a return or by a raise
+abbrev EndedBy : GotAnswer → List Own → Type 0
+EndedBy (got.Value v) ts = Ended (ending.Return v) ts
+EndedBy (got.Stop v) ts = ⊥
+EndedBy (got.Raise e) ts = Ended (ending.Raise e) ts
+
+asks_of : (e : Event) (at : ℕ) (r : Request) (own : Option PyBaseExceptionRef) → own_of e ≡ Asks at r own ∷ [] → e ≡ event.Ask (whose e) r own at
+asks_of (event.Drive d) at r own h = cc
+asks_of (event.Result d w) at r own h = cc
+asks_of (event.Make a f vs) at r own h = cc
+asks_of (event.Resume a x) at r own h = cc
+asks_of (event.Ask a r' own' at') at r own h = cc
+asks_of (event.Got a w) at r own h = cc
+asks_of (event.Round a at') at r own h = cc
+asks_of (event.Yield a v at') at r own h = cc
+asks_of (event.End a x at') at r own h = cc
+
+ends_of : (e : Event) (at : ℕ) (x : Ending) → own_of e ≡ Ends at x ∷ [] → e ≡ event.End (whose e) x at
+ends_of (event.Drive d) at x h = cc
+ends_of (event.Result d w) at x h = cc
+ends_of (event.Make a f vs) at x h = cc
+ends_of (event.Resume a y) at x h = cc
+ends_of (event.Ask a r own at') at x h = cc
+ends_of (event.Got a w) at x h = cc
+ends_of (event.Round a at') at x h = cc
+ends_of (event.Yield a v at') at x h = cc
+ends_of (event.End a y at') at x h = cc
+
+-- an event of the first activation stands in front of its own events
+told : (e : Event) (o : Own) (es : List Event) → 1 ≡ whose e → own_of e ≡ o ∷ [] → own_events 1 (e ∷ es) ≡ o ∷ own_events 1 es
+unfolding own_events told_by
+told e o es w h = rw (sym w, h) refl
+
+-- made activations stay
+kept : (s : State) (es : List Event) (a : Activation) → slice_get s.made 0 ≡ Some a → slice_get (state_after s es).made 0 ≡ Some a
+kept s [] a h = h
+kept s (event.Drive d ∷ es) a h = kept (after s (event.Drive d)) es a h
+kept s (event.Result d w ∷ es) a h = kept (after s (event.Result d w)) es a h
+kept s (event.Make b f vs ∷ es) a h = kept (after s (event.Make b f vs)) es a (front s.made (record { function = f; args = vs } ∷ []) a h)
+  where
+    front : (xs ys : List Activation) (a : Activation) → slice_get xs 0 ≡ Some a → slice_get (xs ++ ys) 0 ≡ Some a
+    front [] ys a h = cc
+    front (x ∷ xs) ys a h = h
+kept s (event.Resume b x ∷ es) a h = kept (after s (event.Resume b x)) es a h
+kept s (event.Ask b r own at ∷ es) a h = kept (after s (event.Ask b r own at)) es a h
+kept s (event.Got b w ∷ es) a h = kept (after s (event.Got b w)) es a h
+kept s (event.Round b at ∷ es) a h = kept (after s (event.Round b at)) es a h
+kept s (event.Yield b v at ∷ es) a h = kept (after s (event.Yield b v at)) es a h
+kept s (event.End b x at ∷ es) a h = kept (after s (event.End b x at)) es a h
+
+-- an answer that may be given ends the body so that this line is written
+abbrev WritesAt : List Payload → List ℕ → GotAnswer → Type 0
+WritesAt store line w = (x : Ending) × ((ts : List Own) → EndedBy w ts → Ended x ts) × (result_text store 1 (answer_of x) ≡ line)
+
+-- a store, the questions that are asked, two numbers, and what is written of their sum
+module _ (store : List Payload) (qs : List Question) (m n : ℤ) (line : List ℕ) (given : (before : List Event) (w : GotAnswer) → Gives store before (whole (m +ℤ n)) w → WritesAt store line w) where
+  idle_next : (before : List Event) (s : State) (e : Event) → s.phase ≡ Idle → MayCome qs store before s e → (e ≡ event.Drive (suc s.done)) × (s.done < length qs)
+  idle_next before s (event.Drive d) p h = (ap event.Drive h.1, h.2)
+  idle_next before s (event.Result d w) p h = absurd (cc h.2.1)
+  idle_next before s (event.Make a f vs) p h = absurd (cc h.0)
+  idle_next before s (event.Resume a how.Start) p h = absurd (cc h.1)
+  idle_next before s (event.Resume a (how.Send v)) p h = absurd h
+  idle_next before s (event.Resume a (how.Throw x)) p h = absurd h
+  idle_next before s (event.Ask a r own at) p h = absurd (cc h.0)
+  idle_next before s (event.Got a w) p h = absurd (cc h.0)
+  idle_next before s (event.Round a at) p h = absurd (cc h.0)
+  idle_next before s (event.Yield a v at) p h = absurd (cc h.0)
+  idle_next before s (event.End a x at) p h = absurd (cc h.0)
+
+  -- a drive's question is open
+  asked_next : (before : List Event) (s : State) (e : Event) → s.phase ≡ Asking → s.stack ≡ [] → MayCome qs store before s e → (f : Obj) × (vs : List Obj) × (e ≡ event.Make (suc (length s.made)) f vs) × (slice_get qs s.done ≡ Some (Call f vs))
+  asked_next before s (event.Drive d) p q h = absurd (cc h.0)
+  asked_next before s (event.Result d w) p q h = absurd (cc h.2.1)
+  asked_next before s (event.Make a f vs) p q h = (f, vs, ap (λ (k : ℕ). event.Make k f vs) h.2, h.3)
+  asked_next before s (event.Resume a how.Start) p q h = absurd (cc h.1)
+  asked_next before s (event.Resume a (how.Send v)) p q h = absurd h
+  asked_next before s (event.Resume a (how.Throw x)) p q h = absurd h
+  asked_next before s (event.Ask a r own at) p q h = absurd (cc h.0)
+  asked_next before s (event.Got a w) p q h = absurd (subst (IsTop a) q h.1)
+  asked_next before s (event.Round a at) p q h = absurd (cc h.0)
+  asked_next before s (event.Yield a v at) p q h = absurd (cc h.0)
+  asked_next before s (event.End a x at) p q h = absurd (cc h.0)
+
+  made_next : (before : List Event) (s : State) (e : Event) (f : Obj) → s.phase ≡ Made f → MayCome qs store before s e → e ≡ event.Resume (length s.made) how.Start
+  made_next before s (event.Drive d) f p h = absurd (cc h.0)
+  made_next before s (event.Result d w) f p h = absurd (cc h.2.1)
+  made_next before s (event.Make a g vs) f p h = absurd (cc h.0)
+  made_next before s (event.Resume a how.Start) f p h = ap (λ (k : ℕ). event.Resume k how.Start) h.2
+  made_next before s (event.Resume a (how.Send v)) f p h = absurd h
+  made_next before s (event.Resume a (how.Throw x)) f p h = absurd h
+  made_next before s (event.Ask a r own at) f p h = absurd (cc h.0)
+  made_next before s (event.Got a w) f p h = absurd (cc h.0)
+  made_next before s (event.Round a at) f p h = absurd (cc h.0)
+  made_next before s (event.Yield a v at) f p h = absurd (cc h.0)
+  made_next before s (event.End a x at) f p h = absurd (cc h.0)
+
+  -- the innermost activation tells something
+  going_next : (before : List Event) (s : State) (e : Event) → s.phase ≡ Going → MayCome qs store before s e → IsTop (whose e) s.stack × ((o : Own) × (own_of e ≡ o ∷ []))
+  going_next before s (event.Drive d) p h = absurd (cc h.0)
+  going_next before s (event.Result d w) p h = absurd (cc h.2.1)
+  going_next before s (event.Make a f vs) p h = absurd (cc h.0)
+  going_next before s (event.Resume a how.Start) p h = absurd (cc h.1)
+  going_next before s (event.Resume a (how.Send v)) p h = absurd h
+  going_next before s (event.Resume a (how.Throw x)) p h = absurd h
+  going_next before s (event.Ask a r own at) p h = (h.1, (_, refl))
+  going_next before s (event.Got a w) p h = absurd (cc h.0)
+  going_next before s (event.Round a at) p h = (h.1, (_, refl))
+  going_next before s (event.Yield a v at) p h = (h.1, (_, refl))
+  going_next before s (event.End a x at) p h = (h.1, (_, refl))
+
+  -- an activation's question is open
+  got_next : (before : List Event) (s : State) (e : Event) (top : Act) → s.phase ≡ Asking → s.stack ≡ top ∷ [] → MayCome qs store before s e → (w : GotAnswer) × (e ≡ event.Got (whose e) w) × IsTop (whose e) s.stack × ((r : Request) × (reply : Reply) × (question s.stack ≡ Some r) × Replies store r reply × Gives store before reply w)
+  got_next before s (event.Drive d) top p q h = absurd (cc h.0)
+  got_next before s (event.Result d w) top p q h = absurd (cc h.2.1)
+  got_next before s (event.Make a f vs) top p q h = absurd (cc h.1)
+  got_next before s (event.Resume a how.Start) top p q h = absurd (cc h.1)
+  got_next before s (event.Resume a (how.Send v)) top p q h = absurd h
+  got_next before s (event.Resume a (how.Throw x)) top p q h = absurd h
+  got_next before s (event.Ask a r own at) top p q h = absurd (cc h.0)
+  got_next before s (event.Got a w) top p q h = (w, refl, h.1, h.2)
+  got_next before s (event.Round a at) top p q h = absurd (cc h.0)
+  got_next before s (event.Yield a v at) top p q h = absurd (cc h.0)
+  got_next before s (event.End a x at) top p q h = absurd (cc h.0)
+
+  -- an activation was left
+  due_next : (before : List Event) (s : State) (e : Event) (left : Left) → s.phase ≡ Due left → MayCome qs store before s e → (w : DriveAnswer) × (e ≡ event.Result (suc s.done) w) × Answers_call left w
+  due_next before s (event.Drive d) left p h = absurd (cc h.0)
+  due_next before s (event.Result d w) left p h = (w, ap (λ (k : ℕ). event.Result k w) h.0, let same : h.2.0 ≡ left = cc h.2.1 in subst (λ (l : Left). Answers_call l w) same h.2.2)
+  due_next before s (event.Make a f vs) left p h = absurd (cc h.0)
+  due_next before s (event.Resume a how.Start) left p h = absurd (cc h.1)
+  due_next before s (event.Resume a (how.Send v)) left p h = absurd h
+  due_next before s (event.Resume a (how.Throw x)) left p h = absurd h
+  due_next before s (event.Ask a r own at) left p h = absurd (cc h.0)
+  due_next before s (event.Got a w) left p h = absurd (cc h.0)
+  due_next before s (event.Round a at) left p h = absurd (cc h.0)
+  due_next before s (event.Yield a v at) left p h = absurd (cc h.0)
+  due_next before s (event.End a x at) left p h = absurd (cc h.0)
+
+  -- a state in which so many drives are done
+  abbrev at : ℕ → Phase → List Act → List Activation → State
+  at count phase stack made = record { done = count; phase = phase; stack = stack; made = made }
+
+  -- the first activation, which asks this
+  abbrev act : Option Request → Act
+  act r = record { number = 1; asks = r; own = None }
+
+  -- these events may follow, and one drive is done then
+  abbrev Follows : List Event → State → List Event → Type 0
+  Follows before s es = Comes qs store before s es × ((state_after s es).done ≡ 1)
+
+  ended : (made : List Activation) (before es : List Event) → length qs ≤ 1 → Comes qs store before (at 1 Idle [] made) es → es ≡ []
+  ended made before [] few h = refl
+  ended made before (e ∷ es) few h = let more = (idle_next before (at 1 Idle [] made) e refl h.0).1 in absurd (omega arith)
+
+  result_behind : (x : Ending) (made : List Activation) (before es : List Event) → length qs ≤ 1 → Follows before (at 0 (Due (left_by x)) [] made) es → events_text store es ≡ result_text store 1 (answer_of x)
+  result_behind x made before [] few h = absurd (cc h.1)
+  result_behind x made before (e ∷ es) few h =
+      let c = due_next before (at 0 (Due (left_by x)) [] made) e (left_by x) refl h.0.0 in
+      let is : e ≡ event.Result 1 (answer_of x) = c.1 ∙ ap (λ (w : DriveAnswer). event.Result 1 w) (answers x c.0 c.2) in
+      let none = ended made (before ++ event.Result 1 (answer_of x) ∷ []) es few (subst (λ (y : Event). Comes qs store (before ++ y ∷ []) (after (at 0 (Due (left_by x)) [] made) y) es) is h.0.1) in
+      subst (λ (y : Event). events_text store (y ∷ es) ≡ result_text store 1 (answer_of x)) (sym is)
+      (subst (λ (ys : List Event). events_text store (event.Result 1 (answer_of x) ∷ ys) ≡ result_text store 1 (answer_of x)) (sym none) (append-nil (result_text store 1 (answer_of x))))
+
+  end_behind : (x : Ending) (made : List Activation) (before es : List Event) → length qs ≤ 1 → Ended x (own_events 1 es) → Follows before (at 0 Going (act None ∷ []) made) es → events_text store es ≡ result_text store 1 (answer_of x)
+  end_behind x made before [] few t h = absurd (cc h.1)
+  end_behind x made before (e ∷ es) few t h =
+      let c = going_next before (at 0 Going (act None ∷ []) made) e refl h.0.0 in
+      let own = told e c.1.0 es c.0 c.1.1 in
+      ⊎_elim (λ none. absurd cc)
+      (λ some.
+      let which : own_of e ≡ Ends some.0 x ∷ [] = cc in
+      let is : e ≡ event.End 1 x some.0 = ends_of e some.0 x which ∙ ap (λ (k : ℕ). event.End k x some.0) (sym c.0) in
+      subst (λ (y : Event). Follows before (at 0 Going (act None ∷ []) made) (y ∷ es) → events_text store (y ∷ es) ≡ result_text store 1 (answer_of x)) (sym is)
+      (λ k. result_behind x made _ es few (k.0.1, k.1)) h)
+      t
+
+  -- what the body gets ends it
+  abbrev EndsIt : AfterValue → Type 0
+  EndsIt K = ((v : Obj) (ts : List Own) → K (Given v) ts → Ended (ending.Return v) ts) × ((e : PyBaseExceptionRef) (ts : List Own) → K (Failed e) ts → Ended (ending.Raise e) ts)
+
+  ends_it : (K : AfterValue) → EndsIt K → (w : GotAnswer) (ts : List Own) → Answers w ts K → EndedBy w ts
+  ends_it K k (got.Value v) ts h = k.0 v ts h
+  ends_it K k (got.Stop v) ts h = h
+  ends_it K k (got.Raise e) ts h = k.1 e ts h
+
+  got_it : (K : AfterValue) → EndsIt K → (w : GotAnswer) (ts : List Own) → Answered (Gets w ∷ ts) K → EndedBy w ts
+  got_it K k w ts (inl none) = absurd (cc none.0)
+  got_it K k w ts (inr some) =
+      let same : w ≡ some.0 = cc some.2 in
+      let rest : ts ≡ some.1 = cc some.2 in
+      ends_it K k w ts (subst (λ (xs : List Own). Answers w xs K) (sym rest) (subst (λ (w : GotAnswer). Answers w some.1 K) (sym same) some.3))
+
+  -- the operands of the sum
+  abbrev AreNumbers : Obj → Obj → Type 0
+  AreNumbers a b = HasPayload store a (payload.Int m) × HasPayload store b (payload.Int n)
+
+  answer_behind : (a b : Obj) (K : AfterValue) (made : List Activation) (before es : List Event) → AreNumbers a b → length qs ≤ 1 → EndsIt K → Answered (own_events 1 es) K → Follows before (at 0 Asking (act (Some (Binary Add a b)) ∷ []) made) es → events_text store es ≡ line
+  unfolding own_events told_by
+  answer_behind a b K made before [] ab few k t h = absurd (cc h.1)
+  answer_behind a b K made before (e ∷ es) ab few k t h =
+      let c = got_next before (at 0 Asking (act (Some (Binary Add a b)) ∷ []) made) e (act (Some (Binary Add a b))) refl refl h.0.0 in
+      let sum = given before c.0 (gives_sum store before a b m n c.0 ab.0 ab.1 c.3) in
+      let is : e ≡ event.Got 1 c.0 = c.1 ∙ ap (λ (k : ℕ). event.Got k c.0) (sym c.2) in
+      subst (λ (x : Event). Answered (own_events 1 (x ∷ es)) K → Follows before (at 0 Asking (act (Some (Binary Add a b)) ∷ []) made) (x ∷ es) → events_text store (x ∷ es) ≡ line) (sym is)
+      (λ u l. end_behind sum.0 made _ es few (sum.1 (own_events 1 es) (got_it K k c.0 (own_events 1 es) u)) (l.0.1, l.1) ∙ sum.2) t h
+
+  question_behind : (a b : Obj) (K : AfterValue) (made : List Activation) (before es : List Event) → AreNumbers a b → length qs ≤ 1 → EndsIt K → Asked (Binary Add a b) None (own_events 1 es) K → Follows before (at 0 Going (act None ∷ []) made) es → events_text store es ≡ line
+  question_behind a b K made before [] ab few k t h = absurd (cc h.1)
+  question_behind a b K made before (e ∷ es) ab few k t h =
+      let c = going_next before (at 0 Going (act None ∷ []) made) e refl h.0.0 in
+      let own = told e c.1.0 es c.0 c.1.1 in
+      ⊎_elim (λ none. let empty = none.0 in absurd cc)
+      (λ some.
+      let which : own_of e ≡ Asks some.0 (Binary Add a b) None ∷ [] = cc in
+      let rest : some.1 ≡ own_events 1 es = cc in
+      let is : e ≡ event.Ask 1 (Binary Add a b) None some.0 = asks_of e some.0 (Binary Add a b) None which ∙ ap (λ (k : ℕ). event.Ask k (Binary Add a b) None some.0) (sym c.0) in
+      subst (λ (x : Event). Follows before (at 0 Going (act None ∷ []) made) (x ∷ es) → events_text store (x ∷ es) ≡ line) (sym is)
+      (λ l. answer_behind a b K made _ es ab few k (subst (λ (xs : List Own). Answered xs K) rest some.3) (l.0.1, l.1)) h)
+      t
+
+  entry_behind : (f a b : Obj) (before es : List Event) → AreNumbers a b → length qs ≤ 1 → IsBegun store function (a ∷ b ∷ []) (own_events 1 es) → Follows before (at 0 (Made f) [] (record { function = f; args = a ∷ b ∷ [] } ∷ [])) es → events_text store es ≡ line
+  unfolding own_events told_by
+  entry_behind f a b before [] ab few t h = absurd (cc h.1)
+  entry_behind f a b before (e ∷ es) ab few t h =
+      subst (λ (x : Event). IsBegun store function (a ∷ b ∷ []) (own_events 1 (x ∷ es)) → Follows before (at 0 (Made f) [] (record { function = f; args = a ∷ b ∷ [] } ∷ [])) (x ∷ es) → events_text store (x ∷ es) ≡ line)
+      (sym (made_next before (at 0 (Made f) [] (record { function = f; args = a ∷ b ∷ [] } ∷ [])) e f refl h.0.0))
+      (λ u l. question_behind a b _ _ _ es ab few (λ v ts x. ⊎_elim (λ cut. inl cut.0) (λ more. more) x, λ e ts x. x) (⊎_elim (λ cut. inl (cut.0, refl)) (λ more. more) u.1) (l.0.1, l.1)) t h
+
+  -- the first question is the script's
+  first_asked : (xs : List Question) (q : Question) → AreAsked store (call_of m n ∷ []) xs → slice_get xs 0 ≡ Some q → IsAsked store (call_of m n) q
+  first_asked [] q h e = absurd cc
+  first_asked (x ∷ xs) q h e = subst (IsAsked store (call_of m n)) (some_is x q e) h.0
+
+  -- what the first activation that is made tells
+  abbrev Tells : State → List Event → Type 0
+  Tells s es = (a : Activation) → slice_get (state_after s es).made 0 ≡ Some a → Traces trees store a.function a.args (own_events 1 es)
+
+  making : (f : Obj) (vs : List Obj) (before es : List Event) → AreObjects trees store → length qs ≤ 1 → IsAsked store (call_of m n) (Call f vs) → Tells (at 0 Asking [] []) (event.Make 1 f vs ∷ es) → Follows before (at 0 Asking [] []) (event.Make 1 f vs ∷ es) → events_text store (event.Make 1 f vs ∷ es) ≡ line
+  unfolding own_events told_by
+  making f [] before es o few q t h = absurd q.1
+  making f (a ∷ []) before es o few q t h = absurd q.1.1
+  making f (a ∷ b ∷ c ∷ vs) before es o few q t h = absurd q.1.1.1
+  making f (a ∷ b ∷ []) before es o few q t h =
+      let made : Activation = record { function = f; args = a ∷ b ∷ [] } in
+      let trace = traced_by store f (a ∷ b ∷ []) _ (entry_of_f store f o q.0) (t made (kept (at 0 (Made f) [] (made ∷ [])) es made refl)) in
+      entry_behind f a b _ es (q.1.0, q.1.1.0) few (begun store function (a ∷ b ∷ []) (own_events 1 es) trace) (h.0.1, h.1)
+
+  making_behind : (before es : List Event) → AreObjects trees store → AreAsked store (call_of m n ∷ []) qs → Tells (at 0 Asking [] []) es → Follows before (at 0 Asking [] []) es → events_text store es ≡ line
+  making_behind before [] o asked t h = absurd (cc h.1)
+  making_behind before (e ∷ es) o asked t h =
+      let c = asked_next before (at 0 Asking [] []) e refl refl h.0.0 in
+      subst (λ (x : Event). Tells (at 0 Asking [] []) (x ∷ es) → Follows before (at 0 Asking [] []) (x ∷ es) → events_text store (x ∷ es) ≡ line) (sym c.2)
+      (λ u l. making c.0 c.1 before es o (few_asked store (call_of m n ∷ []) qs asked) (first_asked qs _ asked c.3) u l) t h
+
+  all_behind : (es : List Event) → AreObjects trees store → AreAsked store (call_of m n ∷ []) qs → Tells start es → Follows [] start es → events_text store es ≡ line
+  unfolding own_events told_by
+  all_behind [] o asked t h = absurd (cc h.1)
+  all_behind (e ∷ es) o asked t h =
+      let c = idle_next [] start e refl h.0.0 in
+      subst (λ (x : Event). Tells start (x ∷ es) → Follows [] start (x ∷ es) → events_text store (x ∷ es) ≡ line) (sym c.0)
+      (λ u l. making_behind (event.Drive 1 ∷ []) es o asked u (l.0.1, l.1)) t h
+
+-- a line of the only drive
+first_line : (text : List ℕ) → numbered 1 text ≡ codes "1" ++ (text ++ codes "\n")
+first_line text = ap (λ (ds : List ℕ). ds ++ (text ++ codes "\n")) decimal_1
+
+-- the value is written
+of_value : (store : List Payload) (i : ℤ) (before : List Event) (w : GotAnswer) → Gives store before (Has (payload.Int i)) w → WritesAt store (codes "1" ++ ((codes " returns " ++ signed_decimal i) ++ codes "\n")) w
+of_value store i before (got.Value v) h = (
+  ending.Return v,
+  λ ts t. t,
+  subst (λ (p : Option Payload). numbered 1 (codes " returns " ++ shown (Some (repr_within 999 store)) store p) ≡ codes "1" ++ ((codes " returns " ++ signed_decimal i) ++ codes "\n")) (sym h) (first_line (codes " returns " ++ signed_decimal i)),
+)
+of_value store i before (got.Stop v) h = absurd h
+of_value store i before (got.Raise e) h = absurd h
+
+-- the text of each sum in range
+pub text_of_sum : (m n : ℤ) → in_range (m +ℤ n) ≡ true → Writes m n (codes "1 returns " ++ (signed_decimal (m +ℤ n) ++ codes "\n"))
+text_of_sum m n i store es r d =
+    all_behind store r.asked m n _
+    (λ before w g. of_value store (m +ℤ n) before w (subst (λ (b : Bool). Gives store before (if b then Has (payload.Int (m +ℤ n)) else Fails OverflowError (codes "integer out of range")) w) i g))
+    es r.are_objects r.are_asked (r.run.tells 0) (r.run.comes, d.done)
+
+-- the class of the exception, by the name under which it is declared
+class_of : (store : List Payload) (c : Obj) → AreObjects trees store → declared store (codes "OverflowError") ≡ Some c → HasPayload store c (class_entry OverflowError)
+class_of store c o e =
+    let entry = o.classes 1 OverflowError refl in
+    subst (λ (c : Obj). HasPayload store c (class_entry OverflowError)) (some_is _ _ (sym entry.1 ∙ e)) entry.2
+
+-- the exception is written
+of_raise : (store : List Payload) → AreObjects trees store → (before : List Event) (w : GotAnswer) → Gives store before (Fails OverflowError (codes "integer out of range")) w → WritesAt store (codes "1 raises OverflowError: integer out of range\n") w
+of_raise store o before (got.Value v) h = absurd h
+of_raise store o before (got.Stop v) h = absurd h
+of_raise store o before (got.Raise e) h = (
+  ending.Raise e,
+  λ ts t. t,
+  ap (λ (p : Option Payload). numbered 1 (codes " raises " ++ raised store p)) h.entry
+      ∙ (ap (λ (p : Option Payload). numbered 1 (codes " raises " ++ (bytes_of (class_name p) ++ details store (items_of (payload_of store h.body.args))))) (class_of store (class_object h.body.class) o h.class)
+      ∙ (ap (λ (p : Option Payload). numbered 1 (codes " raises " ++ (bytes_of (codes "OverflowError") ++ details store (items_of p)))) h.args
+      ∙ (ap (λ (p : Option Payload). numbered 1 (codes " raises " ++ (bytes_of (codes "OverflowError") ++ (codes ": " ++ str_by (str_within 999 store) store h.argument p)))) h.message
+      ∙ (first_line (codes " raises " ++ (bytes_of (codes "OverflowError") ++ (codes ": " ++ bytes_of (codes "integer out of range"))))
+      ∙ (ap (λ (name : List ℕ). codes "1" ++ ((codes " raises " ++ (name ++ (codes ": " ++ bytes_of (codes "integer out of range")))) ++ codes "\n")) (ascii_bytes (codes "OverflowError") refl)
+      ∙ ap (λ (text : List ℕ). codes "1" ++ ((codes " raises " ++ (codes "OverflowError" ++ (codes ": " ++ text))) ++ codes "\n")) (ascii_bytes (codes "integer out of range") refl)))))),
+)
+
+-- the text of each sum out of range
+pub text_of_overflow : (m n : ℤ) → in_range (m +ℤ n) ≡ false → Writes m n (codes "1 raises OverflowError: integer out of range\n")
+text_of_overflow m n i store es r d =
+    all_behind store r.asked m n _
+    (λ before w g. of_raise store r.are_objects before w (subst (λ (b : Bool). Gives store before (if b then Has (payload.Int (m +ℤ n)) else Fails OverflowError (codes "integer out of range")) w) i g))
+    es r.are_objects r.are_asked (r.run.tells 0) (r.run.comes, d.done)
+
+-- the text of the worked run, and of the one that raises
+pub text : events_text objects events ≡ codes "1 returns 45\n"
+text = text_of_sum (pos 33) (pos 12) refl objects events is_run (record { done = refl; idle = refl }) ∙ ap (λ (ds : List ℕ). codes "1 returns " ++ (ds ++ codes "\n")) decimal_45
+
+pub overflow_text : events_text overflow_objects (overflow_by (exception 11)) ≡ codes "1 raises OverflowError: integer out of range\n"
+overflow_text = text_of_overflow greatest (pos 1) refl overflow_objects (overflow_by (exception 11)) overflow_is_run (record { done = refl; idle = refl })

@@ -1,0 +1,8 @@
+use Rattle.std.proofs.Common.{◌+◌, ◌*◌}
+use Rattle.py_script.proofs.str_of.+str.Given as goal
+
+abbrev pub decreases-push_str : goal.decreases-push_str
+decreases-push_str l = 2 * l.depth
+
+abbrev pub decreases-push_said : goal.decreases-push_said
+decreases-push_said l = 2 * l.depth + 1

@@ -1,0 +1,15 @@
+-- what a script means
+pub mod Whole
+-- what is written
+pub mod Text
+-- what the words ask for
+pub mod Words
+-- when each answer of the top call comes
+pub mod Causes
+-- a script worked by hand
+pub mod Worked
+-- what functions inside the crate promise each other
+pub mod Steps
+pub mod Loaded
+pub mod Session
+pub mod Depths

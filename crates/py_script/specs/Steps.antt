@@ -1,0 +1,71 @@
+-- What the steps of a run answer: reading the script, making its drives, and writing the text.
+use Rattle.std.specs.Prelude.{ℕ, ◌<◌, ◌≤◌, ◌^◌, List, [], Option, Some, IfSome, ◌≡◌, slice_get, length, Result, Ok, Err}
+use Rattle.std.specs.Io.KnownBytes.{Appends, Keeps, IsAtEnd}
+use Rattle.py_outside.specs.Faults.{Rose}
+use Rattle.py_outside.specs.Transfer.{AppendsFront}
+use Rattle.py_body.specs.Tree.{Tree}
+use Rattle.py_body.specs.Binding.{IsClosed}
+use Rattle.py_grammar.specs.declared.script.Script.{Script}
+use Rattle.py_grammar.specs.Script.{IsScript, IsBadLine, trees_of}
+use Rattle.py_grammar.specs.WellFormed.{IsWellFormed}
+use Rattle.py_vm.specs.declared.fault.VmFault.{VmFault}
+use Rattle.py_vm.specs.declared.fault.VmFault.TheVariants as vm_fault
+use Rattle.py_vm.specs.declared.journal.Journal.{Journal}
+use Rattle.py_script.specs.declared.fault.ScriptFault.{ScriptFault}
+use Rattle.py_script.specs.declared.fault.ScriptFault.TheVariants as fault
+use Rattle.py_script.specs.Whole.{IsRun, IsWhole, RunsItsCodes}
+use Rattle.py_script.specs.Text.{text_of}
+
+-- each body of the trees can be compiled
+abbrev pub AllClosed : List Tree → Type 0
+AllClosed trees = (i : ℕ) (t : Tree) → slice_get trees i ≡ Some t → IsClosed t
+
+-- a script that can be run: it keeps the rules, and its bodies can be compiled
+pub record IsRunnable (s : Script) : Type 0 where
+  pub well : IsWellFormed s
+  pub closed : AllClosed (trees_of s)
+
+-- what parsing bytes answers
+abbrev pub IsParsed : List ℕ → Result Script ScriptFault → Type 0
+IsParsed bytes (Ok s) = IsScript bytes s
+IsParsed bytes (Err fault.ReadFault) = ⊥
+IsParsed bytes (Err (fault.WriteFault j)) = ⊥
+IsParsed bytes (Err fault.TooLong) = ⊥
+IsParsed bytes (Err (fault.Malformed line)) = IsBadLine bytes line
+IsParsed bytes (Err (fault.Refused code at)) = ⊥
+IsParsed bytes (Err (fault.OutOfTurns j)) = ⊥
+IsParsed bytes (Err (fault.NoMemory j)) = Unit {0}
+
+-- what was read of a source is the bytes that it had left, at most 2^20, and it is at its end
+pub record WasRead (left left' : Option (List ℕ)) (claim : List ℕ → Type 0) : Type 0 where
+  pub short : IfSome left (λ bytes. length bytes ≤ 2 ^ 20)
+  pub end : IsAtEnd left'
+  pub claimed : IfSome left claim
+
+-- what reading a script answers, by the bytes that the source had left and its faults, before and after
+abbrev pub IsReading : Option (List ℕ) → Option (List ℕ) → ℕ → ℕ → Result Script ScriptFault → Type 0
+IsReading left left' faults faults' (Ok s) = WasRead left left' (λ bytes. IsScript bytes s)
+IsReading left left' faults faults' (Err fault.ReadFault) = Rose faults faults'
+IsReading left left' faults faults' (Err (fault.WriteFault j)) = ⊥
+IsReading left left' faults faults' (Err fault.TooLong) = IfSome left (λ bytes. 2 ^ 20 < length bytes)
+IsReading left left' faults faults' (Err (fault.Malformed line)) = WasRead left left' (λ bytes. IsBadLine bytes line)
+IsReading left left' faults faults' (Err (fault.Refused code at)) = ⊥
+IsReading left left' faults faults' (Err (fault.OutOfTurns j)) = ⊥
+IsReading left left' faults faults' (Err (fault.NoMemory j)) = Unit {0}
+
+-- what making the drives of a script in at most so many turns comes to, with the journal that is left
+abbrev pub HasRun : Script → ℕ → Journal → Result Unit VmFault → Type 0
+HasRun s turns j (Ok _) = IsRun s j × IsWhole s j × (length j.events ≤ turns) × RunsItsCodes s j
+HasRun s turns j (Err vm_fault.OutOfTurns) = IsRun s j × (IsWhole s j → ⊥) × (length j.events ≡ turns) × RunsItsCodes s j
+HasRun s turns j (Err vm_fault.NoMemory) = Unit {0}
+
+-- what writing the text of a journal answers, by the bytes that the sink had taken and its faults, before and after
+abbrev pub IsWriting : Option (List ℕ) → Option (List ℕ) → ℕ → ℕ → Journal → Result Journal ScriptFault → Type 0
+IsWriting taken taken' faults faults' journal (Ok j) = (j ≡ journal) × Appends taken taken' (text_of journal)
+IsWriting taken taken' faults faults' journal (Err fault.ReadFault) = ⊥
+IsWriting taken taken' faults faults' journal (Err (fault.WriteFault j)) = (j ≡ journal) × Rose faults faults' × AppendsFront taken taken' (text_of journal)
+IsWriting taken taken' faults faults' journal (Err fault.TooLong) = ⊥
+IsWriting taken taken' faults faults' journal (Err (fault.Malformed line)) = ⊥
+IsWriting taken taken' faults faults' journal (Err (fault.Refused code at)) = ⊥
+IsWriting taken taken' faults faults' journal (Err (fault.OutOfTurns j)) = ⊥
+IsWriting taken taken' faults faults' journal (Err (fault.NoMemory j)) = (j ≡ journal) × Keeps taken taken'

@@ -1,0 +1,157 @@
+-- A script worked by hand: its journal, and lists of events that look like one and are none.
+use Rattle.std.specs.Prelude.{ℕ, ◌-◌, ◌^◌, None, List, [], ◌∷◌, ℤ, pos, ◌≡◌, codes}
+use Rattle.py_objects.specs.declared.refs.PyBaseExceptionRef.{PyBaseExceptionRef}
+use Rattle.py_objects.specs.declared.payload.Payload.{Payload}
+use Rattle.py_objects.specs.declared.payload.Payload.TheVariants as payload
+use Rattle.py_objects.specs.declared.payload.ErrorKind.{ErrorKind}
+use Rattle.py_objects.specs.declared.payload.ErrorKind.TheVariants.{NameError, OverflowError, RecursionError, TypeError, UnboundLocalError}
+use Rattle.py_objects.specs.declared.request.Arithmetic.TheVariants.{Add}
+use Rattle.py_objects.specs.declared.request.Request.TheVariants.{Binary}
+use Rattle.py_objects.specs.declared.event.ResumeHow.TheVariants.{Start}
+use Rattle.py_objects.specs.declared.event.GotAnswer.TheVariants as got
+use Rattle.py_objects.specs.declared.event.Ending.TheVariants as ending
+use Rattle.py_objects.specs.declared.event.DriveAnswer.TheVariants as answer
+use Rattle.py_objects.specs.declared.event.Event.{Event}
+use Rattle.py_objects.specs.declared.event.Event.TheVariants as event
+use Rattle.py_objects.specs.Objects.{Obj, Name, name_of}
+use Rattle.py_body.specs.declared.atom.Atom.TheVariants as atom
+use Rattle.py_body.specs.declared.atom.Operator.TheVariants as operator
+use Rattle.py_body.specs.Tree.{Tree, operate, give, nothing, first}
+use Rattle.py_grammar.specs.Drive.{Drive}
+use Rattle.py_vm.specs.Run.{IsDone}
+use Rattle.py_script.specs.Whole.{IsRunOf}
+use Rattle.py_script.specs.Text.{events_text}
+
+-- the bytes of the script
+abbrev pub script : List ℕ
+script = codes "def f a b\nx = (add a b)\nreturn x\nend\ncall f 33 12\n"
+
+-- def f a b / x = (add a b) / return x / end
+abbrev pub function : Tree
+function =
+    record {
+      name = codes "f";
+      params = codes "a" ∷ codes "b" ∷ [];
+      suite = first 2 (operate (codes "x") operator.Add (atom.Name (codes "a") ∷ atom.Name (codes "b") ∷ [])) (first 3 (give (atom.Name (codes "x"))) nothing);
+      line = 1;
+    }
+
+-- what the script declares
+abbrev pub trees : List Tree
+trees = function ∷ []
+
+-- call f with two numbers
+abbrev pub call_of : ℤ → ℤ → Drive
+call_of m n = record { function = codes "f"; args = atom.Int m ∷ atom.Int n ∷ [] }
+
+-- what it drives: call f 33 12
+abbrev pub drives : List Drive
+drives = call_of (pos 33) (pos 12) ∷ []
+
+-- an object by its number
+abbrev pub object : ℕ → Obj
+object n = record { number = n }
+
+-- an exception by its number
+abbrev pub exception : ℕ → PyBaseExceptionRef
+exception n = record { number = n }
+
+-- the entry of a built-in class
+abbrev pub class_entry : ErrorKind → Payload
+class_entry kind = payload.Class (record { name = name_of kind })
+
+-- the entry of a function, with the number of its code
+abbrev pub function_entry : Name → ℕ → Payload
+function_entry name code = payload.Function (record { name = name; code = code })
+
+-- None, the built-in classes, which have the numbers 1 to 5, a function with number 6, and its two arguments, 7 and 8
+abbrev pub objects_of : Payload → ℤ → ℤ → List Payload → List Payload
+objects_of f m n more =
+    payload.None ∷ class_entry NameError ∷ class_entry OverflowError ∷ class_entry RecursionError ∷ class_entry TypeError ∷ class_entry UnboundLocalError
+    ∷ f ∷ payload.Int m ∷ payload.Int n ∷ more
+
+-- the objects of the run, where the function has this entry; the sum has number 9
+abbrev pub objects_by : Payload → List Payload
+objects_by f = objects_of f (pos 33) (pos 12) (payload.Int (pos 45) ∷ [])
+
+-- the objects of the run
+abbrev pub objects : List Payload
+objects = objects_by (function_entry (codes "f") 0)
+
+-- the n-th drive calls f, whose n-th activation is entered; these events follow
+abbrev pub entered : ℕ → List Event → List Event
+entered n events = event.Drive n ∷ event.Make n (object 6) (object 7 ∷ object 8 ∷ []) ∷ event.Resume n Start ∷ events
+
+-- its body asks for the sum of two objects, at its third unit
+abbrev pub asked : ℕ → Obj → Obj → List Event → List Event
+asked n a b events = event.Ask n (Binary Add a b) None 2 ∷ events
+
+-- it gets a value and returns it, at its sixth unit
+abbrev pub returned : ℕ → Obj → List Event → List Event
+returned n v events = event.Got n (got.Value v) ∷ event.End n (ending.Return v) 5 ∷ event.Result n (answer.Returns v) ∷ events
+
+-- it gets an exception, which ends it where it asked
+abbrev pub raised : ℕ → PyBaseExceptionRef → List Event → List Event
+raised n e events = event.Got n (got.Raise e) ∷ event.End n (ending.Raise e) 2 ∷ event.Result n (answer.Raises e) ∷ events
+
+-- a run of the drive, in which this object is the sum
+abbrev pub events_by : Obj → List Event
+events_by v = entered 1 (asked 1 (object 7) (object 8) (returned 1 v []))
+
+-- the run of the script
+abbrev pub events : List Event
+events = events_by (object 9)
+
+-- the same without its last event
+abbrev pub unfinished : List Event
+unfinished = entered 1 (asked 1 (object 7) (object 8) (event.Got 1 (got.Value (object 9)) ∷ event.End 1 (ending.Return (object 9)) 5 ∷ []))
+
+-- a loop goes round, where the body has none
+abbrev pub with_round : List Event
+with_round = entered 1 (event.Round 1 0 ∷ asked 1 (object 7) (object 8) (returned 1 (object 9) []))
+
+-- the result stands where the activation's end is missing
+abbrev pub without_end : List Event
+without_end = entered 1 (asked 1 (object 7) (object 8) (event.Got 1 (got.Value (object 9)) ∷ event.Result 1 (answer.Returns (object 9)) ∷ []))
+
+-- the body asks for the sum of 12 and 33
+abbrev pub swapped : List Event
+swapped = entered 1 (asked 1 (object 8) (object 7) (returned 1 (object 9) []))
+
+-- a second drive begins, which the script hasn't
+abbrev pub driven_twice : List Event
+driven_twice = entered 1 (asked 1 (object 7) (object 8) (returned 1 (object 9) (event.Drive 2 ∷ [])))
+
+-- the greatest whole number
+abbrev pub greatest : ℤ
+greatest = pos (2 ^ 127 - 1)
+
+-- a drive that adds 1 to it
+abbrev pub overflowing : Drive
+overflowing = call_of greatest (pos 1)
+
+-- the entry of an exception of the class with this number, with the arguments 10
+abbrev pub error_entry : ℕ → Payload
+error_entry class = payload.Exception (record { class = record { number = class }; args = object 10 })
+
+-- the objects of a run that raises: the text 9, a tuple of it, 10, and an exception of the class with this number, 11
+abbrev pub raising_objects : ℕ → List Payload → List Payload
+raising_objects class more =
+    objects_of (function_entry (codes "f") 0) greatest (pos 1)
+    (payload.Str (codes "integer out of range") ∷ payload.Tuple (object 9 ∷ []) ∷ error_entry class ∷ more)
+
+-- the objects where OverflowError is raised
+abbrev pub overflow_objects : List Payload
+overflow_objects = raising_objects 2 []
+
+-- the n-th drive raises an exception, and these events follow
+abbrev pub raises : ℕ → PyBaseExceptionRef → List Event → List Event
+raises n e events = entered n (asked n (object 7) (object 8) (raised n e events))
+
+-- the run in which the drive raises this exception
+abbrev pub overflow_by : PyBaseExceptionRef → List Event
+overflow_by e = raises 1 e []
+
+-- each whole run of the call with these numbers writes this
+abbrev pub Writes : ℤ → ℤ → List ℕ → Type 0
+Writes m n line = (store : List Payload) (es : List Event) → IsRunOf trees (call_of m n ∷ []) store es → IsDone 1 es → events_text store es ≡ line

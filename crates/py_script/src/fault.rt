@@ -1,0 +1,56 @@
+//! What a run of a script, and a whole command, come to.
+
+use py_vm::Journal;
+
+/// Why a script wasn't run to its end and written.
+#[derive(Drop)]
+pub enum ScriptFault {
+    /// A read of the source failed.
+    ReadFault,
+    /// A write to the sink failed; the journal is that of the run.
+    WriteFault(Journal),
+    /// The source had more than 2^20 bytes.
+    TooLong,
+    /// The bytes are no script; the line is the first bad one, from 1.
+    Malformed(u64),
+    /// A raw block was refused: the number of its code, from 0, and the unit.
+    Refused(usize, usize),
+    /// The turns were spent before the run was whole; the journal is that of the run.
+    OutOfTurns(Journal),
+    /// Memory ran out; the journal is that of the run so far.
+    NoMemory(Journal),
+}
+
+/// What a command came to.
+#[derive(Drop)]
+pub enum CommandResult {
+    /// The script ran whole, and its text is written.
+    Ran(Journal),
+    /// It didn't.
+    Fault(ScriptFault),
+    /// A script was made and run.
+    Made(Summary),
+    /// The words ask for nothing.
+    Usage,
+    /// Memory ran out while a script was made.
+    NoMemory,
+}
+
+/// What the drives of a made script came to, by their answers.
+#[derive(Clone, Copy, Debug, PartialEq, Eq)]
+pub struct Summary {
+    pub drives: u64,
+    pub events: u64,
+    pub returns: u64,
+    pub yields: u64,
+    pub stops: u64,
+    pub closes: u64,
+    pub raises: u64,
+}
+
+/// How a command ended: the status that the program ends with, and what it stands for.
+#[derive(Drop)]
+pub struct Ended {
+    pub status: u8,
+    pub result: CommandResult,
+}

@@ -1,0 +1,30 @@
+//! Scripts from bytes to lines: what they mean, how they are run, and what is written.
+#![tactic(auto)]
+
+mod fault;
+mod notes;
+mod quoted;
+mod read;
+mod repr;
+mod session;
+mod str_of;
+mod text;
+mod words;
+mod worked;
+mod write;
+
+pub use fault::{CommandResult, Ended, ScriptFault, Summary};
+pub use py_grammar::{
+    DeclList, Declaration, DriveLine, DriveList, ParseFault, Script, parse_script,
+};
+pub use py_outside::{
+    ReadFailed, Sink, SinkMemory, Source, SourceMemory, StdSink, StdSource, WriteFailed,
+    read_bytes, write_bytes,
+};
+pub use py_vm::Journal;
+pub use text::journal_text;
+pub use words::{Command, Words, command_of};
+pub use worked::worked_journals;
+
+#[cfg(test)]
+mod tests;

@@ -1,0 +1,68 @@
+//! Characters behind a text, as they are or between quotes.
+
+ghost use Rattle.std.specs.Prelude.{◌≡◌, [], ◌∷◌, ◌++◌, OnOk, string_bytes};
+ghost use Rattle.py_script.specs.Text.{bytes_of, has, quote_of, escaped, quoted};
+
+use py_code::{NoMemory, PyText};
+
+/// Puts characters behind the text.
+pub(crate) fn push_text(out: &mut String, text: &PyText) -> Result<(), NoMemory>
+    ensures { OnOk result (string_bytes out.new ≡ string_bytes out.old ++ bytes_of text.now) }
+{
+    for c in text.as_slice() {
+        out.push(*c)?;
+    }
+    Ok(())
+}
+
+/// Puts a text between quotes behind the text.
+pub(crate) fn push_quoted(out: &mut String, text: &PyText) -> Result<(), NoMemory>
+    ensures { OnOk result (string_bytes out.new ≡ string_bytes out.old ++ quoted text.now) }
+{
+    let quote = quote_for(text);
+    out.push(quote)?;
+    push_escaped(out, text, quote)?;
+    out.push(quote)?;
+    Ok(())
+}
+
+// The double quote spares backslashes where a text has single quotes alone.
+fn quote_for(text: &PyText) -> char
+    ensures { result ≡ quote_of text.now }
+{
+    if contains(text, '\'') && !contains(text, '"') {
+        '"'
+    } else {
+        '\''
+    }
+}
+
+fn contains(text: &PyText, wanted: char) -> bool
+    ensures { result ≡ has wanted text.now }
+{
+    for c in text.as_slice() {
+        if *c == wanted {
+            return true;
+        }
+    }
+    false
+}
+
+fn push_escaped(out: &mut String, text: &PyText, quote: char) -> Result<(), NoMemory>
+    ensures { OnOk result (string_bytes out.new ≡ string_bytes out.old ++ bytes_of (escaped quote text.now)) }
+{
+    for c in text.as_slice() {
+        push_character(out, *c, quote)?;
+    }
+    Ok(())
+}
+
+fn push_character(out: &mut String, c: char, quote: char) -> Result<(), NoMemory>
+    ensures { OnOk result (string_bytes out.new ≡ string_bytes out.old ++ bytes_of (escaped quote (c ∷ []))) }
+{
+    if c == quote || c == '\\' {
+        out.push('\\')?;
+    }
+    out.push(c)?;
+    Ok(())
+}

@@ -1,0 +1,277 @@
+//! A script in a machine: its declarations are loaded, and its drives are made one after another.
+
+ghost use Rattle.std.specs.Prelude.{◌≡◌, ◌≤◌, ◌<◌, ◌+◌, ◌++◌, Err, [], IfOk, OnOk, suc, map, length, slice_get, Some, All, Any, bytes_eq};
+ghost use Rattle.py_objects.specs.Objects.{numbers, AllBelow};
+ghost use Rattle.py_body.specs.Binding.{IsClosed};
+ghost use Rattle.py_body.specs.Fits.{Fits};
+ghost use Rattle.py_grammar.specs.Script.{declared_tree, drive_of, trees_of, drives_of};
+ghost use Rattle.py_grammar.specs.WellFormed.{IsNumber, IsWellDriven};
+ghost use Rattle.py_vm.specs.Machine.{events_of, objects_of, codes_of, done_of};
+ghost use Rattle.py_vm.specs.Run.{IsDone};
+ghost use Rattle.py_vm.specs.Stands.{Stands};
+ghost use Rattle.py_vm.specs.declared.fault.VmFault.TheVariants.{OutOfTurns};
+ghost use Rattle.py_script.specs.Whole.{IsOf, AreOf};
+ghost use Rattle.py_script.specs.Loaded.{AreCompiled, function_entries};
+ghost use Rattle.py_script.specs.Steps.{AllClosed, IsRunnable, HasRun};
+ghost use Rattle.py_script.specs.Session.{refs_from, IsLoaded, IsInRun, IsNamedAt, IsReady, OnlyGrew};
+
+use crate::read::empty_journal;
+use py_body::{Atom, AtomList, compile_body};
+use py_code::{Names, NoMemory, PyCode, PyText, same_text};
+use py_grammar::{Declaration, DriveLine, Script};
+use py_objects::{FunctionBody, ObjList, Payload, PyObjectRef};
+use py_vm::{Drive, Journal, VirtualMachine, VmFault};
+use std::alloc::Global;
+
+/// A machine that holds the declarations of a script, with the functions that they are, in order.
+#[derive(Drop)]
+pub(crate) struct Session {
+    pub(crate) alloc: Global,
+    pub(crate) vm: VirtualMachine,
+    pub(crate) functions: ObjList,
+}
+
+/// The code of a declaration.
+fn compile_one(
+    alloc: Global,
+    names: &mut Names,
+    declaration: &Declaration,
+) -> Result<PyCode, NoMemory>
+    requires { IsClosed (declared_tree declaration.now) }
+    ensures { IfOk result (λ code. Fits code (declared_tree declaration.now)) }
+{
+    match declaration {
+        Declaration::Function(body) => compile_body(alloc, names, body),
+    }
+}
+
+/// The codes of the declarations, in order.
+fn compile_all(
+    alloc: Global,
+    names: &mut Names,
+    declarations: &[Declaration],
+) -> Result<Vec<PyCode>, NoMemory>
+    requires { AllClosed (map declared_tree declarations.now) }
+    ensures { IfOk result (λ codes. AreCompiled (map declared_tree declarations.now) codes.items) }
+{
+    let mut codes = Vec::new(alloc);
+    for declaration in declarations {
+        let code = compile_one(alloc, names, declaration)?;
+        codes.push(code)?;
+    }
+    Ok(codes)
+}
+
+/// Puts the codes behind those of the machine.
+fn add_codes(vm: &mut VirtualMachine, codes: Vec<PyCode>) -> Result<(), NoMemory>
+    requires { Stands vm.old }
+    ensures codes { OnOk result ((codes_of vm.new).codes ≡ (codes_of vm.old).codes ++ codes.items) }
+    ensures events { events_of vm.new ≡ events_of vm.old }
+    ensures objects { objects_of vm.new ≡ objects_of vm.old }
+    ensures stands { Stands vm.new }
+{
+    for code in codes {
+        vm.add_code(code)?;
+    }
+    Ok(())
+}
+
+/// What an object of a declaration is, whose code has this number.
+fn function_body(
+    alloc: Global,
+    declaration: &Declaration,
+    code: usize,
+) -> Result<FunctionBody, NoMemory>
+    ensures { IfOk result (λ body. body ≡ record { name = (declared_tree declaration.now).name; code = code }) }
+{
+    match declaration {
+        Declaration::Function(body) => Ok(FunctionBody {
+            name: body.name.copy(alloc)?,
+            code,
+        }),
+    }
+}
+
+/// Makes a function of each declaration, whose code is the one at its place.
+fn add_functions(
+    alloc: Global,
+    vm: &mut VirtualMachine,
+    declarations: &[Declaration],
+) -> Result<ObjList, NoMemory>
+    requires { Stands vm.old }
+    ensures functions { IfOk result (λ functions. functions ≡ refs_from (length (objects_of vm.old)) (length declarations.now)) }
+    ensures objects { OnOk result (objects_of vm.new ≡ objects_of vm.old ++ function_entries 0 (map declared_tree declarations.now)) }
+    ensures codes { codes_of vm.new ≡ codes_of vm.old }
+    ensures events { events_of vm.new ≡ events_of vm.old }
+    ensures stands { Stands vm.new }
+{
+    let mut functions = ObjList::new(alloc);
+    for (code, declaration) in declarations.iter().enumerate() {
+        let body = function_body(alloc, declaration, code)?;
+        let function = vm.add_object(Payload::Function(body))?;
+        functions.push(function)?;
+    }
+    Ok(functions)
+}
+
+/// A machine that holds the declarations of the script.
+fn load_script(alloc: Global, script: &Script) -> Result<Session, NoMemory>
+    requires { IsRunnable script.now }
+    ensures { IfOk result (λ session. IsLoaded (trees_of script.now) session) }
+{
+    let mut names = Names::new(alloc);
+    let codes = compile_all(alloc, &mut names, script.declarations.as_slice())?;
+    let mut vm = VirtualMachine::new(alloc, names)?;
+    add_codes(&mut vm, codes)?;
+    let functions = add_functions(alloc, &mut vm, script.declarations.as_slice())?;
+    Ok(Session {
+        alloc,
+        vm,
+        functions,
+    })
+}
+
+/// Whether a declaration has a name.
+fn has_name(declaration: &Declaration, name: &PyText) -> bool
+    ensures { result ≡ bytes_eq name.now (declared_tree declaration.now).name }
+{
+    match declaration {
+        Declaration::Function(body) => same_text(name, &body.name),
+    }
+}
+
+/// The place of the declaration that has a name.
+fn place_of(declarations: &[Declaration], name: &PyText) -> usize
+    requires { Any (λ t. t.name ≡ name.now) (map declared_tree declarations.now) }
+    ensures { IsNamedAt (map declared_tree declarations.now) name.now result }
+{
+    for (place, declaration) in declarations.iter().enumerate() {
+        if has_name(declaration, name) {
+            return place;
+        }
+    }
+    unreachable!()
+}
+
+impl Session {
+    /// The object of an argument of a drive, made anew.
+    fn argument(&mut self, atom: &Atom) -> Result<PyObjectRef, NoMemory>
+        requires stands { Stands self.old.vm }
+        requires number { IsNumber atom.now }
+        ensures is { IfOk result (λ value. IsOf (objects_of self.new.vm) atom.now value) }
+        ensures below { IfOk result (λ value. value.number < length (objects_of self.new.vm)) }
+        ensures grew { OnlyGrew self.old self.new }
+    {
+        match atom {
+            Atom::Int(number) => self.vm.add_object(Payload::Int(*number)),
+            Atom::Name(_) => unreachable!(),
+        }
+    }
+
+    /// The objects of the arguments of a drive, in order.
+    fn arguments(&mut self, atoms: &[Atom]) -> Result<ObjList, NoMemory>
+        requires stands { Stands self.old.vm }
+        requires numbers { All IsNumber atoms.now }
+        ensures are { IfOk result (λ values. AreOf (objects_of self.new.vm) atoms.now values) }
+        ensures below { IfOk result (λ values. AllBelow (length (objects_of self.new.vm)) (numbers values)) }
+        ensures grew { OnlyGrew self.old self.new }
+    {
+        let mut values = ObjList::new(self.alloc);
+        for atom in atoms {
+            let value = self.argument(atom)?;
+            values.push(value)?;
+        }
+        Ok(values)
+    }
+
+    /// The function at a place.
+    fn function_at(&self, place: usize) -> PyObjectRef
+        requires { place < length self.now.functions }
+        ensures { slice_get self.now.functions place ≡ Some result }
+    {
+        match self.functions.get(place) {
+            Some(function) => *function,
+            None => unreachable!(),
+        }
+    }
+
+    /// Calls the function that a drive names, in at most so many turns.
+    fn call(
+        &mut self,
+        script: &Script,
+        name: &PyText,
+        atoms: &AtomList,
+        turns: u64,
+    ) -> Result<(), VmFault>
+        requires ready { IsReady (trees_of script.now) (drives_of script.now) self.old }
+        requires well { IsWellDriven (trees_of script.now) (record { function = name.now; args = atoms.now }) }
+        requires next { slice_get (drives_of script.now) (done_of self.old.vm) ≡ Some (record { function = name.now; args = atoms.now }) }
+        ensures run { IsInRun (trees_of script.now) (drives_of script.now) self.new.vm }
+        ensures turns { length (events_of self.new.vm) ≤ length (events_of self.old.vm) + turns }
+        ensures ready { OnOk result (IsReady (trees_of script.now) (drives_of script.now) self.new × (done_of self.new.vm ≡ suc (done_of self.old.vm))) }
+        ensures out_of_turns { result ≡ Err OutOfTurns → (length (events_of self.new.vm) ≡ length (events_of self.old.vm) + turns) × (done_of self.new.vm ≡ done_of self.old.vm) }
+    {
+        let place = place_of(script.declarations.as_slice(), name);
+        let function = self.function_at(place);
+        let args = match self.arguments(atoms.as_slice()) {
+            Ok(args) => args,
+            Err(_) => return Err(VmFault::NoMemory),
+        };
+        let _answer = self.vm.drive(Drive::Call(function, args), turns)?;
+        Ok(())
+    }
+
+    /// Makes the next drive, in at most so many turns.
+    fn drive(&mut self, script: &Script, line: &DriveLine, turns: u64) -> Result<(), VmFault>
+        requires ready { IsReady (trees_of script.now) (drives_of script.now) self.old }
+        requires well { IsWellDriven (trees_of script.now) (drive_of line.now) }
+        requires next { slice_get (drives_of script.now) (done_of self.old.vm) ≡ Some (drive_of line.now) }
+        ensures run { IsInRun (trees_of script.now) (drives_of script.now) self.new.vm }
+        ensures turns { length (events_of self.new.vm) ≤ length (events_of self.old.vm) + turns }
+        ensures ready { OnOk result (IsReady (trees_of script.now) (drives_of script.now) self.new × (done_of self.new.vm ≡ suc (done_of self.old.vm))) }
+        ensures out_of_turns { result ≡ Err OutOfTurns → (length (events_of self.new.vm) ≡ length (events_of self.old.vm) + turns) × (done_of self.new.vm ≡ done_of self.old.vm) }
+    {
+        match line {
+            DriveLine::Call(name, atoms) => self.call(script, name, atoms, turns),
+        }
+    }
+
+    /// Makes the drives one after another, in at most so many turns in all.
+    fn run(&mut self, script: &Script, turns: u64) -> Result<(), VmFault>
+        requires ready { IsReady (trees_of script.now) (drives_of script.now) self.old }
+        requires begun { events_of self.old.vm ≡ [] }
+        requires driven { All (IsWellDriven (trees_of script.now)) (drives_of script.now) }
+        ensures run { IsInRun (trees_of script.now) (drives_of script.now) self.new.vm }
+        ensures turns { length (events_of self.new.vm) ≤ turns }
+        ensures whole { OnOk result (IsDone (length (drives_of script.now)) (events_of self.new.vm)) }
+        ensures out_of_turns { result ≡ Err OutOfTurns → (length (events_of self.new.vm) ≡ turns) × (done_of self.new.vm < length (drives_of script.now)) }
+    {
+        for line in script.drives.as_slice() {
+            let left = turns - self.vm.events();
+            self.drive(script, line, left)?;
+        }
+        Ok(())
+    }
+}
+
+/// The journal of a run of the script, in at most so many turns, and what stopped it.
+pub(crate) fn run_drives(
+    alloc: Global,
+    script: &Script,
+    turns: u64,
+) -> (Journal, Result<(), VmFault>)
+    requires { IsRunnable script.now }
+    ensures { HasRun script.now turns result.0 result.1 }
+{
+    let mut session = match load_script(alloc, script) {
+        Ok(session) => session,
+        Err(_) => return (empty_journal(alloc), Err(VmFault::NoMemory)),
+    };
+    let ran = session.run(script, turns);
+    let Session {
+        alloc: _,
+        vm,
+        functions: _,
+    } = session;
+    (vm.journal(), ran)
+}

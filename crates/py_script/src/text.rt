@@ -1,0 +1,134 @@
+//! The text of a journal.
+
+ghost use Rattle.std.specs.Prelude.{◌≡◌, ◌++◌, OnOk, IfOk, string_bytes, codes};
+ghost use Rattle.py_objects.specs.Objects.{as_object};
+ghost use Rattle.py_script.specs.Text.{payload_of, repr, details, raised, numbered, result_text, event_text, text_of};
+
+use crate::quoted::push_text;
+use crate::repr::{push_class_name, tuple_items};
+use crate::str_of::{DEPTH, push_said, push_whole_repr};
+use py_code::NoMemory;
+use py_objects::{DriveAnswer, Event, Payload, PayloadList, PyBaseExceptionRef, PyObjectRef};
+use py_vm::Journal;
+use std::alloc::Global;
+
+/// The text of a journal: a line for each result of a drive, in order, and each report as it is.
+pub fn journal_text(alloc: Global, journal: &Journal) -> Result<Vec<u8>, NoMemory>
+    ensures { IfOk result (λ bytes. bytes.items ≡ text_of journal.now) }
+{
+    let mut out = String::new(alloc);
+    for event in journal.events.as_slice() {
+        push_event(&mut out, &journal.objects, event)?;
+    }
+    Ok(out.into_bytes())
+}
+
+fn push_event(out: &mut String, objects: &PayloadList, event: &Event) -> Result<(), NoMemory>
+    ensures { OnOk result (string_bytes out.new ≡ string_bytes out.old ++ event_text objects.now event.now) }
+{
+    match event {
+        Event::Result { drive, answer } => push_result(out, objects, *drive, answer),
+        Event::Drive { .. }
+        | Event::Make { .. }
+        | Event::Resume { .. }
+        | Event::Ask { .. }
+        | Event::Got { .. }
+        | Event::Round { .. }
+        | Event::Yield { .. }
+        | Event::End { .. } => Ok(()),
+    }
+}
+
+fn push_result(
+    out: &mut String,
+    objects: &PayloadList,
+    drive: u64,
+    answer: &DriveAnswer,
+) -> Result<(), NoMemory>
+    ensures { OnOk result (string_bytes out.new ≡ string_bytes out.old ++ result_text objects.now drive answer.now) }
+{
+    match answer {
+        DriveAnswer::Returns(value) => push_value(out, objects, drive, " returns ", *value),
+        DriveAnswer::Yields(value) => push_value(out, objects, drive, " yields ", *value),
+        DriveAnswer::Stops(None) => push_line(out, drive, " stops None"),
+        DriveAnswer::Stops(Some(value)) => push_value(out, objects, drive, " stops ", *value),
+        DriveAnswer::Closes => push_line(out, drive, " closes"),
+        DriveAnswer::Raises(exception) => push_raise(out, objects, drive, *exception),
+        DriveAnswer::Reported(text) => push_text(out, text),
+    }
+}
+
+fn push_line(out: &mut String, drive: u64, words: &str) -> Result<(), NoMemory>
+    ensures { OnOk result (string_bytes out.new ≡ string_bytes out.old ++ numbered drive words.now) }
+{
+    write!(out, "{drive}{words}\n")?;
+    Ok(())
+}
+
+fn push_value(
+    out: &mut String,
+    objects: &PayloadList,
+    drive: u64,
+    word: &str,
+    value: PyObjectRef,
+) -> Result<(), NoMemory>
+    ensures { OnOk result (string_bytes out.new ≡ string_bytes out.old ++ numbered drive (word.now ++ repr objects.now value)) }
+{
+    write!(out, "{drive}{word}")?;
+    push_whole_repr(out, objects, value)?;
+    out.push_str("\n")?;
+    Ok(())
+}
+
+fn push_raise(
+    out: &mut String,
+    objects: &PayloadList,
+    drive: u64,
+    exception: PyBaseExceptionRef,
+) -> Result<(), NoMemory>
+    ensures { OnOk result (string_bytes out.new ≡ string_bytes out.old ++ numbered drive (codes " raises " ++ raised objects.now (payload_of objects.now (as_object exception)))) }
+{
+    write!(out, "{drive} raises ")?;
+    push_exception(out, objects, exception)?;
+    out.push_str("\n")?;
+    Ok(())
+}
+
+fn push_exception(
+    out: &mut String,
+    objects: &PayloadList,
+    exception: PyBaseExceptionRef,
+) -> Result<(), NoMemory>
+    ensures { OnOk result (string_bytes out.new ≡ string_bytes out.old ++ raised objects.now (payload_of objects.now (as_object exception))) }
+{
+    let Some(payload) = objects.get(exception.number as usize) else {
+        return Ok(());
+    };
+    match payload {
+        Payload::Exception(body) => {
+            push_class_name(out, objects, body.class)?;
+            push_details(out, objects, tuple_items(objects, body.args))
+        }
+        Payload::None
+        | Payload::Bool(_)
+        | Payload::Int(_)
+        | Payload::Str(_)
+        | Payload::Tuple(_)
+        | Payload::Class(_)
+        | Payload::Function(_) => Ok(()),
+    }
+}
+
+fn push_details(
+    out: &mut String,
+    objects: &PayloadList,
+    items: &[PyObjectRef],
+) -> Result<(), NoMemory>
+    ensures { OnOk result (string_bytes out.new ≡ string_bytes out.old ++ details objects.now items.now) }
+{
+    if items.is_empty() {
+        return Ok(());
+    }
+    out.push_str(": ")?;
+    push_said(out, objects, items, DEPTH)
+}

@@ -1,0 +1,27 @@
+//! Writing the text of a journal to a sink.
+
+ghost use Rattle.py_script.specs.Steps.{IsWriting};
+
+use crate::fault::ScriptFault;
+use crate::text::journal_text;
+use py_outside::{Sink, write_bytes};
+use py_vm::Journal;
+use std::alloc::Global;
+
+/// Writes the text of a journal, which is made whole before its first byte is written, and hands the journal back.
+pub(crate) fn write_text<K: Sink>(
+    alloc: Global,
+    sink: &mut K,
+    journal: Journal,
+) -> Result<Journal, ScriptFault>
+    ensures { IsWriting (K.taken sink.old) (K.taken sink.new) (K.faults sink.old) (K.faults sink.new) journal result }
+{
+    let text = match journal_text(alloc, &journal) {
+        Ok(text) => text,
+        Err(_) => return Err(ScriptFault::NoMemory(journal)),
+    };
+    match write_bytes(sink, text.as_slice()) {
+        Ok(()) => Ok(journal),
+        Err(_) => Err(ScriptFault::WriteFault(journal)),
+    }
+}
