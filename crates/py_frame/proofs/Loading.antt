@@ -32,6 +32,7 @@ literal_grows objects (TupleLiteral shape items) p is = cc
 literal_grows objects (CodeLiteral c) p is = cc
 literal_grows objects (BuiltinLiteral f) p is = cc
 
+-- so a load is plain growth
 pub load_grows : (objects objects' : List Payload) (l : Literal) (p : Payload) → payload_of l ≡ Some p → objects' ≡ objects ++ p ∷ [] → GrowsPlainly objects objects'
 load_grows objects objects' l p is added = rw added (literal_grows objects l p is)
 

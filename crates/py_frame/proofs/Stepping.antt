@@ -22,7 +22,7 @@ use Rattle.py_frame.specs.Steps.{Expects, Extends, heard, told, expected}
 use Rattle.py_frame.specs.UnitSteps.{told_event, effect, MayLead, Leads}
 use Rattle.py_frame.proofs.Growing.{reaches_grow, runs_grow}
 use Rattle.py_frame.proofs.Joining.{reaches_join, run_extended}
-use Rattle.py_frame.proofs.Later.{wanted, IsBehind, advance_leads_behind, advance_is_within}
+use Rattle.py_frame.proofs.Later.{IsBehind, advance_leads_behind, advance_is_within}
 use Rattle.py_frame.proofs.PlainGrowth.{plainly_grows, grows_plainly_refl, grows_plainly_trans}
 
 -- a run has come silently from one frame to another that goes on
@@ -36,6 +36,7 @@ pub record IsSilent (old new : List Payload) (code : PyCode) (s t : State) : Typ
 abbrev Last : State → Behind
 Last t s ts = (ts ≡ []) × (t ≡ s)
 
+-- where a move may lead is a step of a run
 by_move_led : (objects : List Payload) (move : Move) (done : Step) (ts : List Own) (K : Behind) → MayLead objects move done → ByStep done ts K → ByMove objects move ts K
 by_move_led objects (Plainly step) done ts K led behind = subst (λ (d : Step). ByStep d ts K) (sym led) behind
 by_move_led objects (Loads p f) done ts K (v, has, led) behind = (v, has, subst (λ (d : Step). ByStep d ts K) (sym led) behind)
@@ -90,6 +91,7 @@ pub leads_extend : (objects objects' : List Payload) (code : PyCode) (s t : Stat
 leads_extend objects objects' code s t i step grows leads args ts is_at =
     run_extended objects' code args leads.count ts (heard i ++ told (t.at - 1) step) s t (runs_grow objects objects' code args ts s grows is_at) leads.run
 
+-- a move with a meaning leads somewhere
 free_leads : (objects : List Payload) (move : Move) → IsFreeMove move → MayLead objects move Stuck → ⊥
 free_leads objects (Plainly step) free led = let none : IsFree Stuck = subst IsFree led free in none
 free_leads objects (Loads p f) free (v, has, led) = let none : IsFree Stuck = subst IsFree led (free v) in none
@@ -100,53 +102,42 @@ running_leads objects objects' code s running is led =
     let free : IsFreeAt code expect.Go s = subst (λ (x : Expect). IsFreeAt code x s) is (running.sound.free objects running.args running.told s refl running.is_at) in
     free_leads objects' (advance code s) free led
 
+-- what is told is one event
 told_event_is : (at : ℕ) (step : FrameStep) → told at step ≡ told_event at step ∷ []
 told_event_is at (step.Ask r own) = refl
 told_event_is at (step.Return v) = refl
 told_event_is at (step.Raise e) = refl
-
-wanted_is : (at : ℕ) (step : FrameStep) → wanted (told_event at step) ≡ expected step
-wanted_is at (step.Ask r own) = refl
-wanted_is at (step.Return v) = refl
-wanted_is at (step.Raise e) = refl
 
 -- a unit that tells a step
 pub step_told : (objects : List Payload) (code : PyCode) (s t : State) (step : FrameStep) → s.wants ≡ expect.Go → MayLead objects (advance code s) (Tells (told_event s.at step) t)
     → Leads objects code s (told (t.at - 1) step) t
 step_told objects code s t step is led =
     let behind : IsBehind s (Tells (told_event s.at step) t) = advance_leads_behind objects code s _ led in
-    let at : s.at ≡ t.at - 1 = omega (arith, behind.0) in
+    let at : s.at ≡ t.at - 1 = omega (arith, behind) in
     let leads : Leads objects code s (told_event s.at step ∷ []) t = unit_tells objects code s t (told_event s.at step) is led in
     subst (λ (n : ℕ). Leads objects code s (told n step) t) at (subst (λ (ts : List Own). Leads objects code s ts t) (sym (told_event_is s.at step)) leads)
 
--- what is expected behind it
-pub step_expected : (objects : List Payload) (code : PyCode) (s t : State) (step : FrameStep) → MayLead objects (advance code s) (Tells (told_event s.at step) t) → t.wants ≡ expected step
-step_expected objects code s t step led = (advance_leads_behind objects code s _ led).1 ∙ wanted_is s.at step
-
 -- an answer leads to no other unit
-answer_behind : (w : GotAnswer) (s t : State) (x : Own) → receive w s ≡ Tells x t → (t.at ≡ s.at) × (t.wants ≡ wanted x)
+answer_behind : (w : GotAnswer) (s t : State) (x : Own) → receive w s ≡ Tells x t → t.at ≡ s.at
 answer_behind (got.Value v) s t x led = absurd (let e : Goes _ ≡ Tells x t = led in cc)
 answer_behind (got.Raise e) s t x led =
-    let P : Step → Type 0 = λ d. elim d as (λ _. Type 0) [ Goes u ↦ ⊥ | Tells y u ↦ (u.at ≡ s.at) × (u.wants ≡ wanted y) | Stuck ↦ ⊥ ] in
-    subst P led (refl, refl)
+    let P : Step → Type 0 = λ d. elim d as (λ _. Type 0) [ Goes u ↦ ⊥ | Tells y u ↦ u.at ≡ s.at | Stuck ↦ ⊥ ] in
+    subst P led refl
 answer_behind (got.Stop v) s t x led = absurd (let e : Stuck ≡ Tells x t = led in cc)
 
 -- an answer that the frame ends by
 pub answer_told : (objects : List Payload) (code : PyCode) (s t : State) (w : GotAnswer) (step : FrameStep) → s.wants ≡ expect.Answer → receive w s ≡ Tells (told_event (s.at - 1) step) t
     → Leads objects code s (Gets w ∷ told (t.at - 1) step) t
 answer_told objects code s t w step is led =
-    let at : s.at - 1 ≡ t.at - 1 = ap (λ n. n - 1) (sym (answer_behind w s t _ led).0) in
+    let at : s.at - 1 ≡ t.at - 1 = ap (λ n. n - 1) (sym (answer_behind w s t _ led)) in
     let leads : Leads objects code s (Gets w ∷ told_event (s.at - 1) step ∷ []) t = answer_tells objects code s t w _ is led in
     subst (λ (n : ℕ). Leads objects code s (Gets w ∷ told n step) t) at (subst (λ (ts : List Own). Leads objects code s (Gets w ∷ ts) t) (sym (told_event_is (s.at - 1) step)) leads)
-
--- what is expected behind it
-pub answer_expected : (s t : State) (w : GotAnswer) (step : FrameStep) → receive w s ≡ Tells (told_event (s.at - 1) step) t → t.wants ≡ expected step
-answer_expected s t w step led = (answer_behind w s t _ led).1 ∙ wanted_is (s.at - 1) step
 
 -- which step did what a row says
 pub done_goes : (at : ℕ) (done : Step) (step : UnitStep) (t : State) → done ≡ effect at step t → step ≡ unit.Goes → done ≡ Goes t
 done_goes at done step t row is = row ∙ ap (λ (u : UnitStep). effect at u t) is
 
+-- the same of a step that tells
 pub done_tells : (at : ℕ) (done : Step) (step : UnitStep) (t : State) (tells : FrameStep) → done ≡ effect at step t → step ≡ unit.Tells tells → done ≡ Tells (told_event at tells) t
 done_tells at done step t tells row is = row ∙ ap (λ (u : UnitStep). effect at u t) is
 
@@ -163,20 +154,10 @@ expects_answer expect.Go w h = absurd h
 expects_answer expect.Answer w h = refl
 expects_answer expect.Ended w h = absurd h
 
-pub expects_go : (x : Expect) → Expects x input.Go → x ≡ expect.Go
-expects_go expect.Start h = absurd h
-expects_go expect.Go h = refl
-expects_go expect.Answer h = absurd h
-expects_go expect.Ended h = absurd h
-
 -- what holds of a value holds of what follows
 pub if_ok_mapped : {A B : Type 0} (r : Result A B) (P Q : A → Type 0) → ((v : A) → P v → Q v) → IfOk r P → IfOk r Q
 if_ok_mapped (Ok v) P Q f h = f v h
 if_ok_mapped (Err e) P Q f h = h
-
--- a frame that runs is at the start of a silent run
-pub silent_begins : (objects : List Payload) (code : PyCode) (s : State) → IsRunning objects code s → s.wants ≡ expect.Go → IsSilent objects objects code s s
-silent_begins objects code s running goes = record { running = running; goes = goes; leads = record { count = zero; run = (refl, refl) }; objects = grows_plainly_refl objects }
 
 -- a unit that goes on goes on with a silent run
 pub silent_goes : (old mid new : List Payload) (code : PyCode) (s t u : State) (step : UnitStep) → IsSilent old mid code s t → GrowsPlainly mid new
@@ -207,12 +188,6 @@ pub silent_tells : (old mid new : List Payload) (code : PyCode) (s t u : State) 
 silent_tells old mid new code s t u step tells silent more row is =
     let led : MayLead new (advance code t) (Tells (told_event t.at tells) u) = subst (λ (k : UnitStep). MayLead new (advance code t) (effect t.at k u)) is row in
     leads_on mid new code s t u [] (told (u.at - 1) tells) (plainly_grows mid new more) silent.leads (step_told new code t u tells silent.goes led)
-
--- and leaves what is expected behind it
-pub silent_expects : (new : List Payload) (code : PyCode) (t u : State) (step : UnitStep) (tells : FrameStep)
-    → MayLead new (advance code t) (effect t.at step u) → step ≡ unit.Tells tells → u.wants ≡ expected tells
-silent_expects new code t u step tells row is =
-    step_expected new code t u tells (subst (λ (k : UnitStep). MayLead new (advance code t) (effect t.at k u)) is row)
 
 -- no unit of it lacks a meaning
 pub silent_moves : (old mid new : List Payload) (code : PyCode) (s t u : State) (step : UnitStep) → IsSilent old mid code s t
