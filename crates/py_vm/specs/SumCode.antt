@@ -1,5 +1,5 @@
 -- A code by which drives are tested: it returns the sum of its two arguments.
-use Rattle.std.specs.Prelude.{ℕ, List, [], ◌∷◌, ◌≡◌, length}
+use Rattle.std.specs.Prelude.{List, [], ◌∷◌, ◌≡◌, length}
 use Rattle.py_code.specs.declared.code.PyCode.{PyCode}
 use Rattle.py_code.specs.declared.unit.CodeUnit.{CodeUnit}
 use Rattle.py_code.specs.declared.instruction.Instruction.TheVariants.{LoadFast, BinaryOperation, ReturnValue}
