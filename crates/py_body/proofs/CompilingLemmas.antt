@@ -1,8 +1,8 @@
 -- What is emitted for a form.
-use Rattle.std.proofs.Common.{◌≡◌, ◌<◌, ◌≤◌, ◌+◌, ◌*◌, ℕ, zero, suc, List, [], ◌∷◌, ◌++◌, refl, sym, ap, ◌∙◌, subst, length, take, drop, get_or, arith, length-append, drop-cons, add-one, drop_of_length-le}
-use Rattle.std.proofs.lemmas.List.{take_more, take_all}
+use Rattle.std.proofs.Common.{◌≡◌, ◌<◌, ◌≤◌, ◌+◌, ◌*◌, ℕ, suc, List, [], ◌∷◌, ◌++◌, refl, sym, ap, ◌∙◌, subst, length, take, drop, get_or, arith, length-append, drop-cons, add-one, drop_of_length-le}
+use Rattle.std.proofs.lemmas.List.{take_more}
 use Rattle.py_code.specs.declared.instruction.Instruction.TheVariants.{LoadConst, LoadFast, StoreFast, BinaryOperation, ReturnValue, ReturnConst}
-use Rattle.py_code.specs.declared.literal.Literal.{Literal, None as NoneLiteral, Int as IntLiteral}
+use Rattle.py_code.specs.declared.literal.Literal.{None as NoneLiteral, Int as IntLiteral}
 use Rattle.py_code.specs.Operators.{binary_number}
 use Rattle.py_body.specs.declared.atom.Atom.{Atom}
 use Rattle.py_body.specs.declared.atom.Atom.TheVariants as atom
@@ -10,8 +10,8 @@ use Rattle.py_body.specs.declared.atom.Operator.{Operator}
 use Rattle.py_body.specs.declared.stmt.Stmt.{Stmt}
 use Rattle.py_body.specs.Tree.{Name, Form, operate, give, Suite, nothing, first, form_of, suite_of, Tree}
 use Rattle.py_body.specs.Binding.{locals_of, IsClosed}
-use Rattle.py_body.specs.Code.{Parts, place, binary_of, Stands, StandsConst, LaidAtom, LaidAtoms, LaidForm, LaidSuite}
-use Rattle.py_body.specs.Emitting.{IsMatched, Begins, Emits, EmitsUnit, EmitsConst, EmitsAtom, EmitsAtoms, EmitsForm, EmitsSuite, IsEmitted, size_of_form, size_of}
+use Rattle.py_body.specs.Code.{Parts, place, binary_of, Stands, LaidAtom, LaidAtoms, LaidSuite}
+use Rattle.py_body.specs.Emitting.{IsMatched, Begins, EmitsUnit, EmitsConst, EmitsAtom, EmitsAtoms, EmitsForm, EmitsSuite, IsEmitted, size_of}
 use Rattle.py_body.proofs.Bound.{size_of-known}
 use Rattle.py_body.proofs.EmittingLemmas.{Begins-refl, Begins-trans, joined, reworded}
 

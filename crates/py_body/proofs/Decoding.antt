@@ -1,5 +1,5 @@
 -- Runs over a unit and the prefixes in front of it.
-use Rattle.std.proofs.Common.{◌≡◌, ◌+◌, ℕ, zero, suc, List, [], ◌∷◌, Bool, true, false, cond, Some, None, refl, sym, ap, ◌∙◌, subst, drop, arith, add-one}
+use Rattle.std.proofs.Common.{◌≡◌, ◌+◌, ℕ, zero, suc, List, [], ◌∷◌, Bool, true, false, cond, Some, refl, sym, ap, ◌∙◌, subst, drop, add-one}
 use Rattle.std.specs.Prelude.{Option, slice_get}
 use Rattle.py_code.specs.declared.code.Decoded.{Decoded}
 use Rattle.py_code.specs.declared.code.PyCode.{PyCode}
@@ -11,8 +11,8 @@ use Rattle.py_objects.specs.declared.payload.Payload.{Payload}
 use Rattle.py_objects.specs.Objects.{Obj}
 use Rattle.py_objects.specs.Own.{Own}
 use Rattle.py_frame.specs.declared.input.Expect.TheVariants as expect
-use Rattle.py_frame.specs.Rows.{State, Step, Goes, Tells, Stuck, Move, Plainly, Loads, act, unit_move, advance}
-use Rattle.py_frame.specs.RunOfRows.{ByStep, ByMove, Reaches, IsFreeMove, IsFreeAt}
+use Rattle.py_frame.specs.Rows.{State, Goes, Move, Plainly, act, unit_move, advance}
+use Rattle.py_frame.specs.RunOfRows.{ByMove, Reaches, IsFreeMove, IsFreeAt}
 
 -- the unit in front of those that are left
 slice_get-drop : (units : List CodeUnit) (at : ℕ) (u : CodeUnit) (us : List CodeUnit) → drop at units ≡ u ∷ us → (slice_get units at ≡ Some u) × (drop (suc at) units ≡ us)

@@ -1,17 +1,16 @@
 -- What is emitted piece by piece.
-use Rattle.std.proofs.Common.{◌≡◌, ◌<◌, ◌≤◌, ◌+◌, ◌-◌, ◌*◌, ℕ, zero, suc, List, [], ◌∷◌, ◌++◌, Bool, true, false, cond, not, Some, None, refl, sym, ap, ◌∙◌, subst, length, drop, replicate, arith, length-append, append_assoc, append-nil, add-zero, zero-add}
-use Rattle.std.specs.Prelude.{Option, slice_get, bytes_eq, position, unwrap_or, nat_lt, Result, Ok, Err, OnOk}
+use Rattle.std.proofs.Common.{◌≡◌, ◌<◌, ◌≤◌, ◌+◌, ◌-◌, ℕ, zero, suc, List, [], ◌∷◌, ◌++◌, Bool, true, false, cond, not, Some, None, refl, sym, ap, ◌∙◌, subst, length, drop, replicate, arith, length-append, append_assoc, append-nil}
+use Rattle.std.specs.Prelude.{slice_get, bytes_eq, position, unwrap_or, nat_lt, Result, Ok, Err, OnOk}
 use Rattle.std.specs.List.{position_or_len}
 use Rattle.std.proofs.lemmas.Bool.{ltb-false}
 use Rattle.std.proofs.Math.ListN.{length-replicate}
 use Rattle.py_code.specs.declared.unit.CodeUnit.{CodeUnit}
 use Rattle.py_code.specs.declared.instruction.Instruction.{Instruction}
-use Rattle.py_code.specs.declared.code.Decoded.{Decoded}
 use Rattle.py_code.specs.declared.literal.Literal.{Literal}
 use Rattle.py_code.specs.Units.{decoded_from}
 use Rattle.py_body.specs.Tree.{Name}
 use Rattle.py_body.specs.Naming.{Continues}
-use Rattle.py_body.specs.Code.{Parts, place, HasLine, Stands, StandsConst}
+use Rattle.py_body.specs.Code.{Parts, place, Stands}
 use Rattle.py_body.specs.Emitting.{IsMatched, located, Spells, Begins, Emits, EmitsUnit, EmitsConst}
 
 -- ---- lists that go on

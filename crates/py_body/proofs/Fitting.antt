@@ -1,6 +1,5 @@
 -- Code that is laid for a body fits it.
-use Rattle.std.proofs.Common.{◌≡◌, ◌++◌, ℕ, zero, suc, List, [], ◌∷◌, arith, refl, sym, ap, ◌∙◌, subst, length}
-use Rattle.std.specs.Prelude.{Option}
+use Rattle.std.proofs.Common.{◌≡◌, ℕ, zero, suc, List, arith, sym, ap, ◌∙◌, subst, length}
 use Rattle.py_code.specs.declared.code.PyCode.{PyCode}
 use Rattle.py_code.specs.declared.code.CodeObject.{CodeObject}
 use Rattle.py_code.specs.Literals.{literals_of}
@@ -8,9 +7,9 @@ use Rattle.py_objects.specs.declared.payload.Payload.{Payload}
 use Rattle.py_objects.specs.Objects.{Obj}
 use Rattle.py_objects.specs.Own.{Own}
 use Rattle.py_frame.specs.Rows.{State}
-use Rattle.py_frame.specs.RunOfRows.{started, filled, Reaches, IsFreeAt, IsSound}
+use Rattle.py_frame.specs.RunOfRows.{started, filled, Reaches, IsFreeAt}
 use Rattle.py_body.specs.Tree.{Name, Tree}
-use Rattle.py_body.specs.Binding.{Env, begun, locals_of, IsClosed}
+use Rattle.py_body.specs.Binding.{begun, locals_of, IsClosed}
 use Rattle.py_body.specs.Trace.{IsBegun}
 use Rattle.py_body.specs.Code.{Parts, LaidSuite, parts_with, IsLaid}
 use Rattle.py_body.specs.Emitting.{IsEmitted}

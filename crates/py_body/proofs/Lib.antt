@@ -14,3 +14,7 @@ pub mod EmittingLemmas
 pub mod CompilingLemmas
 -- names in a table that grows
 pub mod NamingLemmas
+-- names and their texts
+pub mod EncodedNames
+-- the bodies of the tests
+pub mod Samples

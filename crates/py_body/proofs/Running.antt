@@ -1,12 +1,11 @@
 -- Laid code runs as its tree, and comes to no state without a meaning.
-use Rattle.std.proofs.Common.{◌≡◌, ◌<◌, ◌-◌, ℕ, zero, suc, List, [], ◌∷◌, ◌++◌, Bool, true, cond, refl, sym, ap, ◌∙◌, subst, length, drop, arith, ◌⊎◌, inl, inr}
-use Rattle.std.specs.Prelude.{Option, None, Some, slice_get, slice_set, nat_lt, All}
+use Rattle.std.proofs.Common.{◌≡◌, ◌<◌, ◌-◌, ℕ, zero, suc, List, [], ◌∷◌, ◌++◌, Bool, true, cond, refl, sym, ap, ◌∙◌, subst, length, drop, arith, inl, inr}
+use Rattle.std.specs.Prelude.{Option, None, Some, slice_get, slice_set, nat_lt}
 use Rattle.std.proofs.lemmas.Bool.{lt-ltb}
 use Rattle.py_code.specs.declared.code.PyCode.{PyCode}
 use Rattle.py_code.specs.declared.instruction.Instruction.TheVariants.{LoadConst, LoadFast, StoreFast, BinaryOperation, ReturnValue, ReturnConst}
 use Rattle.py_code.specs.declared.literal.Literal.{Literal}
 use Rattle.py_code.specs.declared.unit.CodeUnit.{CodeUnit}
-use Rattle.py_code.specs.Literals.{literals_of}
 use Rattle.py_objects.specs.declared.payload.Payload.{Payload}
 use Rattle.py_objects.specs.declared.payload.Payload.TheVariants as payload
 use Rattle.py_objects.specs.declared.event.GotAnswer.TheVariants as got
@@ -17,12 +16,12 @@ use Rattle.py_objects.specs.Objects.{Obj, HasPayload}
 use Rattle.py_objects.specs.Own.{Own, Asks, Ends}
 use Rattle.py_objects.specs.Telling.{Given, AfterValue, Answered}
 use Rattle.py_frame.specs.declared.input.Expect.TheVariants as expect
-use Rattle.py_frame.specs.Rows.{State, Step, Goes, Stuck, next as behind, with_stack, with_locals, waiting, pushed, loads as load_move, set_in, load_fast, returns}
+use Rattle.py_frame.specs.Rows.{State, Goes, Stuck, next as behind, with_stack, with_locals, waiting, pushed, loads as load_move, set_in, load_fast, returns}
 use Rattle.py_frame.specs.RunOfRows.{ByMove, ByStep, Reaches, IsFree, IsFreeMove, IsFreeAt}
 use Rattle.py_body.specs.declared.atom.Atom.{Atom}
 use Rattle.py_body.specs.declared.atom.Atom.TheVariants as atom
 use Rattle.py_body.specs.declared.atom.Operator.TheVariants as operator
-use Rattle.py_body.specs.Tree.{Name, Form, operate, give, Suite, nothing, first}
+use Rattle.py_body.specs.Tree.{Name, operate, give, Suite, nothing, first}
 use Rattle.py_body.specs.Binding.{Env, find_local, set_local, IsKnown, SuiteKnown}
 use Rattle.py_body.specs.Outcome.{After, Use, Named, Loads, Normal, On_normal, RunsSuite}
 use Rattle.py_body.specs.Trace.{EndsBy}

@@ -1,5 +1,5 @@
 -- Where the code of each form stands.
-use Rattle.std.specs.Prelude.{ℕ, suc, ◌+◌, ◌*◌, ◌<◌, ◌≤◌, ◌^◌, Some, List, [], ◌∷◌, ◌≡◌, slice_get, length, drop, bytes_eq, if◌then◌else◌}
+use Rattle.std.specs.Prelude.{ℕ, suc, ◌<◌, ◌≤◌, ◌^◌, Some, List, [], ◌∷◌, ◌≡◌, slice_get, length, drop, bytes_eq, if◌then◌else◌}
 use Rattle.py_code.specs.declared.unit.CodeUnit.{CodeUnit}
 use Rattle.py_code.specs.declared.instruction.Instruction.{Instruction}
 use Rattle.py_code.specs.declared.instruction.Instruction.TheVariants.{LoadConst, LoadFast, StoreFast, BinaryOperation, ReturnValue, ReturnConst}
@@ -80,3 +80,13 @@ pub record IsLaid (code : PyCode) (t : Tree) : Type 0 where
   pub laid : LaidSuite (parts_with (locals_of t) code) t.line t.suite 0
   pub short : length code.code.instructions.items < 2 ^ 32
   pub located : length code.code.locations.items ≡ length code.code.instructions.items
+
+-- what the code of a body says of itself: it makes a scope, knows its locals by their places, and needs a stack of two
+pub record IsPlain (code : PyCode) (t : Tree) : Type 0 where
+  pub flags : code.code.flags ≡ 33
+  pub first_line_number : code.code.first_line_number ≡ Some t.line
+  pub max_stackdepth : code.code.max_stackdepth ≡ 2
+  pub posonlyarg_count : code.code.posonlyarg_count ≡ 0
+  pub kwonlyarg_count : code.code.kwonlyarg_count ≡ 0
+  pub names : code.code.names.items ≡ []
+  pub cells : (code.code.cellvars.items ≡ []) × (code.code.cell2arg.items ≡ []) × (code.code.freevars.items ≡ [])

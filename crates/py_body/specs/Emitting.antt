@@ -7,7 +7,7 @@ use Rattle.py_code.specs.Literals.{literals_of}
 use Rattle.py_code.specs.Units.{decoded_from}
 use Rattle.py_body.specs.declared.atom.Atom.{Atom}
 use Rattle.py_body.specs.declared.emit.Emitter.{Emitter}
-use Rattle.py_body.specs.Tree.{Name, Form, operate, give, Suite, nothing, first, Tree}
+use Rattle.py_body.specs.Tree.{Form, operate, give, Suite, nothing, first, Tree}
 use Rattle.py_body.specs.Binding.{locals_of}
 use Rattle.py_body.specs.Naming.{Continues}
 use Rattle.py_body.specs.Code.{Parts, Stands, StandsConst, LaidAtom, LaidAtoms, LaidForm, LaidSuite}

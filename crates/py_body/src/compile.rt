@@ -4,7 +4,7 @@ ghost use Rattle.std.specs.Prelude.{◌≡◌, ◌+◌, ◌*◌, ◌<◌, ◌^�
 ghost use Rattle.py_code.specs.Literals.{literals_of};
 ghost use Rattle.py_body.specs.Tree.{form_of, operate, suite_of, tree_of};
 ghost use Rattle.py_body.specs.Binding.{IsClosed};
-ghost use Rattle.py_body.specs.Code.{binary_of, IsLaid};
+ghost use Rattle.py_body.specs.Code.{binary_of, IsLaid, IsPlain};
 ghost use Rattle.py_body.specs.Emitting.{parts_of, IsEmitted, IsMatched, EmitsAtom, EmitsAtoms, EmitsForm, EmitsSuite, size_of_form, size_of};
 ghost use Rattle.py_body.specs.Fits.{Fits};
 ghost use Rattle.py_body.specs.Naming.{Continues, IsNamed};
@@ -25,6 +25,7 @@ pub fn compile_body(alloc: Global, names: &mut Names, body: &Body) -> Result<PyC
     requires { IsClosed (tree_of body.now) }
     ensures fits { IfOk result (λ code. Fits code (tree_of body.now)) }
     ensures laid { IfOk result (λ code. IsLaid code (tree_of body.now)) }
+    ensures plain { IfOk result (λ code. IsPlain code (tree_of body.now)) }
     ensures named { IfOk result (λ code. IsNamed names.new code (tree_of body.now)) }
     ensures grows { Continues names.old names.new }
 {
@@ -117,7 +118,7 @@ impl Emitter {
             binary_operator(operator).number(),
             line,
         )?;
-        let place = self.locals.place(name) as u32;
+        let place = self.locals.place(name)? as u32;
         self.emit(Instruction::StoreFast, place, line)
     }
 
@@ -148,7 +149,7 @@ impl Emitter {
                 line,
             ),
             Atom::Name(name) => {
-                let place = self.locals.place(name) as u32;
+                let place = self.locals.place(name)? as u32;
                 self.emit(Instruction::LoadFast, place, line)
             }
         }

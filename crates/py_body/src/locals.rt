@@ -1,14 +1,14 @@
 //! The locals of a body: which names it binds, and the place of each.
 
-ghost use Rattle.std.specs.Prelude.{◌≡◌, ◌≤◌, length, bytes_eq, position, IfOk, OnOk};
-ghost use Rattle.std.specs.List.{list_any};
+ghost use Rattle.std.specs.Prelude.{◌≡◌, ◌≢◌, ◌≤◌, length, [], IfOk, AllPairs};
 ghost use Rattle.py_body.specs.Tree.{tree_of};
 ghost use Rattle.py_body.specs.Binding.{bound, locals_of};
 ghost use Rattle.py_body.specs.Code.{place};
 
 use crate::body::{Body, ParamList};
+use crate::naming::utf8_of;
 use crate::stmt::StmtForm;
-use py_code::{NoMemory, PyText, same_text};
+use py_code::{Names, NoMemory, PyText};
 use std::alloc::Global;
 use std::marker::Model;
 
@@ -17,26 +17,31 @@ use std::marker::Model;
 pub struct Locals {
     alloc: Global,
     names: ParamList,
+    /// The names in UTF-8, in which places are looked up.
+    table: Names,
 }
 
 impl Model for Locals {
-    ghost use Rattle.std.specs.Prelude.{List};
+    ghost use Rattle.std.specs.Prelude.{◌≡◌, List, map, encode_utf8_all};
     ghost use Rattle.py_body.specs.Tree.{Name};
 
     ghost Value = { List Name };
 
     ghost view = { λ l. l.names };
+
+    ghost invariant = { λ l. l.table ≡ map encode_utf8_all l.names };
 }
 
 impl Locals {
     /// The locals of a body: its parameters, then the other names that it binds.
     pub fn of_body(alloc: Global, body: &Body) -> Result<Locals, NoMemory>
+        requires { AllPairs (λ x y. x ≢ y) body.now.params }
         ensures { IfOk result (λ locals. locals ≡ locals_of (tree_of body.now)) }
     {
-        let mut locals = Locals::of_params(alloc, &body.params)?;
+        let mut locals = Locals::of_params(alloc, body.params.as_slice())?;
         for stmt in body.suite.as_slice() {
             match &stmt.form {
-                StmtForm::Operate(name, _operator, _atoms) => locals.bind(name)?,
+                StmtForm::Operate(name, _operator, _atoms) => locals = locals.with(name)?,
                 StmtForm::Return(_atom) => {}
             }
         }
@@ -44,41 +49,53 @@ impl Locals {
     }
 
     /// The parameters alone.
-    fn of_params(alloc: Global, params: &ParamList) -> Result<Locals, NoMemory>
+    fn of_params(alloc: Global, params: &[PyText]) -> Result<Locals, NoMemory>
+        requires { AllPairs (λ x y. x ≢ y) params.now }
         ensures { IfOk result (λ locals. locals ≡ params.now) }
     {
-        let mut names = ParamList::new(alloc);
-        for param in params.as_slice() {
-            names.push(param.copy(alloc)?)?;
+        let mut locals = Locals::new(alloc);
+        for param in params {
+            locals = locals.with(param)?;
         }
-        Ok(Locals { alloc, names })
+        Ok(locals)
     }
 
-    /// Puts a name behind the others, unless it is there.
-    fn bind(&mut self, name: &PyText) -> Result<(), NoMemory>
-        ensures { OnOk result (self.new ≡ bound self.old name.now) }
+    /// No locals.
+    fn new(alloc: Global) -> Locals
+        ensures { result ≡ [] }
     {
-        if self.contains(name) {
-            return Ok(());
+        Locals {
+            alloc,
+            names: ParamList::new(alloc),
+            table: Names::new(alloc),
         }
-        self.names.push(name.copy(self.alloc)?)
     }
 
-    /// Whether a name is one of them.
-    fn contains(&self, name: &PyText) -> bool
-        ensures { result ≡ list_any (bytes_eq name.now) self.now }
+    /// These with a name behind them, unless it is one of them.
+    fn with(self, name: &PyText) -> Result<Locals, NoMemory>
+        ensures { IfOk result (λ locals. locals ≡ bound self name.now) }
     {
-        self.names
-            .as_slice()
-            .iter()
-            .any(|known| same_text(name, known))
-    }
-
-    /// How many there are.
-    pub fn len(&self) -> usize
-        ensures { result ≡ length self.now }
-    {
-        self.names.len()
+        let Locals {
+            alloc,
+            mut names,
+            mut table,
+        } = self;
+        let known = table.len();
+        let text = utf8_of(alloc, name)?;
+        table.intern(&text)?;
+        if table.len() == known {
+            return Ok(Locals {
+                alloc,
+                names,
+                table,
+            });
+        }
+        names.push(name.copy(alloc)?)?;
+        Ok(Locals {
+            alloc,
+            names,
+            table,
+        })
     }
 
     /// The names in order.
@@ -89,20 +106,14 @@ impl Locals {
     }
 
     /// The place of a name, or how many names there are where it is none of them.
-    pub fn place(&self, name: &PyText) -> usize
-        ensures place { result ≡ place self.now name.now }
-        ensures bound { result ≤ length self.now }
+    pub fn place(&self, name: &PyText) -> Result<usize, NoMemory>
+        ensures place { IfOk result (λ at. at ≡ place self.now name.now) }
+        ensures bound { IfOk result (λ at. at ≤ length self.now) }
     {
-        self.position(name).unwrap_or(self.len())
-    }
-
-    /// The place of a name, if it is one of them.
-    fn position(&self, name: &PyText) -> Option<usize>
-        ensures { result ≡ position (bytes_eq name.now) self.now }
-    {
-        self.names
-            .as_slice()
-            .iter()
-            .position(|known| same_text(name, known))
+        let text = utf8_of(self.alloc, name)?;
+        match self.table.get(&text) {
+            Some(id) => Ok(id.index),
+            None => Ok(self.names.len()),
+        }
     }
 }

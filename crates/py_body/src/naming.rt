@@ -33,7 +33,7 @@ pub fn intern_all(
 }
 
 /// A text in UTF-8.
-fn utf8_of(alloc: Global, text: &PyText) -> Result<String, NoMemory>
+pub fn utf8_of(alloc: Global, text: &PyText) -> Result<String, NoMemory>
     ensures { IfOk result (λ string. string_bytes string ≡ encode_utf8_all text.now) }
 {
     let mut string = String::new(alloc);

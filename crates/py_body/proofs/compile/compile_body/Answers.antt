@@ -1,7 +1,6 @@
-use Rattle.std.proofs.Common.{◌≡◌, List, ℕ, ap, ◌∙◌, sym, refl, subst, codes, length}
-use Rattle.py_body.specs.Tree.{Name, Tree, tree_of}
+use Rattle.std.proofs.Common.{◌≡◌, List, ap, ◌∙◌, sym, refl, subst, codes, length}
+use Rattle.py_body.specs.Tree.{Name, tree_of}
 use Rattle.py_body.specs.Binding.{locals_of}
-use Rattle.py_body.specs.Code.{IsLaid}
 use Rattle.py_body.specs.Emitting.{parts_of}
 use Rattle.py_body.specs.Naming.{Continues, NamesAll}
 use Rattle.py_body.proofs.EmittingLemmas.{Continues-trans}
@@ -24,6 +23,13 @@ returns-clause-named c =
     named_code c.intern.new.self c.intern_text.new.names c.intern_all.new.names c.new-code.result _ (tree_of c.args.body.now) c.new-code.ensures
     c.in_ok-source_path.ensures.found c.in_ok-obj_name.ensures.grows c.in_ok-obj_name.ensures.named c.in_ok-varnames.ensures.grows
     (subst (λ (names : List Name). NamesAll c.intern_all.new.names c.in_ok-varnames.varnames.items names) vars c.in_ok-varnames.ensures.named)
+
+pub returns-in_err-varnames-clause-grows : goal.returns-in_err-varnames-clause-grows
+returns-in_err-varnames-clause-grows c =
+    let first : Continues c.args.names.now c.intern.new.self =
+    subst (Continues c.args.names.now) (sym c.in_ok-source_path.ensures.texts) (Continues-interned c.args.names.now (codes "<script>")) in
+    Continues-trans c.args.names.now c.intern.new.self c.intern_all.new.names first
+    (Continues-trans c.intern.new.self c.intern_text.new.names c.intern_all.new.names c.in_ok-obj_name.ensures.grows c.in_err-varnames.ensures.grows)
 
 pub returns-clause-grows : goal.returns-clause-grows
 returns-clause-grows c =

@@ -1,8 +1,7 @@
-use Rattle.std.proofs.Common.{◌≡◌, ◌<◌, ◌≤◌, ◌+◌, ◌*◌, ◌^◌, ℕ, List, length, arith, ap, ◌∙◌, sym}
-use Rattle.py_body.specs.Tree.{Name, Tree, suite_of, tree_of}
-use Rattle.py_body.specs.Binding.{locals_of, statements}
+use Rattle.std.proofs.Common.{List, length, arith, ap, ◌∙◌, sym}
+use Rattle.py_body.specs.Tree.{Name, Tree, tree_of}
 use Rattle.py_body.specs.Code.{Parts}
-use Rattle.py_body.specs.Emitting.{parts_of, size_of}
+use Rattle.py_body.specs.Emitting.{parts_of}
 use Rattle.py_body.proofs.Bound.{length-bound_by, size_of-known}
 use Rattle.py_body.proofs.CompilingLemmas.{body_emitted}
 use Rattle.py_body.proofs.compile.emit_body.Goals as goal

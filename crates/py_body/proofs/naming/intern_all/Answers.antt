@@ -1,6 +1,3 @@
-use Rattle.std.proofs.Common.{ap, ◌++◌, ◌∷◌, [], subst, sym, List}
-use Rattle.py_code.specs.declared.names.NameId.{NameId}
-use Rattle.py_body.specs.Naming.{NamesAll}
 use Rattle.py_body.proofs.EmittingLemmas.{Continues-trans}
 use Rattle.py_body.proofs.NamingLemmas.{names_more}
 use Rattle.py_body.proofs.naming.intern_all.Goals as goal

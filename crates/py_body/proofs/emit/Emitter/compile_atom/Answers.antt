@@ -1,12 +1,12 @@
-use Rattle.std.proofs.Common.{ℤ, subst, arith, rules}
+use Rattle.std.proofs.Common.{ℤ, subst, rules}
 use Rattle.std.specs.Int.{w128}
 use Rattle.std.specs.Prelude.{FitsSigned, OnOk}
-use Rattle.std.proofs.lemmas.Int.{to_z-of_z, ints}
+use Rattle.std.proofs.lemmas.Int.{to_z-of_z}
 use Rattle.std.proofs.lemmas.Result.{on_ok_weaker}
 use Rattle.py_code.specs.declared.instruction.Instruction.TheVariants.{LoadConst}
 use Rattle.py_code.specs.declared.literal.Literal.{Int as IntLiteral}
 use Rattle.py_body.specs.Emitting.{parts_of, EmitsConst}
-use Rattle.py_body.proofs.CompilingLemmas.{int_emitted, name_emitted}
+use Rattle.py_body.proofs.CompilingLemmas.{int_emitted}
 use Rattle.py_body.proofs.emit.Emitter.compile_atom.Goals as goal
 
 pub returns-in-Int : goal.returns-in-Int

@@ -18,4 +18,4 @@ returns c =
     subst (λ (n : ℕ). EmitsUnit loaded asked BinaryOperation n c.args.line) number c.in_ok-emit.ensures.units in
     on_ok_weaker c.emit-2.result
     (operation_emitted (parts_of c.args.self.now) loaded asked new c.args.name.now c.args.operator c.args.atoms.now c.args.line c.in_ok-compile_atoms.ensures asks)
-    (subst (λ (n : ℕ). OnOk c.emit-2.result (EmitsUnit asked new StoreFast n c.args.line)) c.place-place.ensures.place c.emit-2.ensures.units)
+    (subst (λ (n : ℕ). OnOk c.emit-2.result (EmitsUnit asked new StoreFast n c.args.line)) c.in_ok-place.ensures.place c.emit-2.ensures.units)

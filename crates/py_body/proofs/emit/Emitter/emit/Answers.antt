@@ -1,6 +1,5 @@
 use Rattle.std.proofs.Common.{refl}
 use Rattle.std.proofs.lemmas.Result.{on_ok_weaker}
-use Rattle.py_code.specs.Literals.{literals_of}
 use Rattle.py_body.specs.Emitting.{parts_of}
 use Rattle.py_body.proofs.EmittingLemmas.{unit_emitted}
 use Rattle.py_body.proofs.emit.Emitter.emit.Goals as goal

@@ -1,6 +1,4 @@
 use Rattle.std.proofs.Common.{◌≡◌, ◌-◌, ◌++◌, length, replicate}
-use Rattle.py_code.specs.Literals.{literals_of}
-use Rattle.py_body.specs.Emitting.{parts_of}
 use Rattle.py_body.proofs.emit.Emitter.locate.Given as goal
 
 abbrev pub invariant-loop-unit : goal.invariant-loop-unit

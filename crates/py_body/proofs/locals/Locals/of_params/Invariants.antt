@@ -2,4 +2,4 @@ use Rattle.std.proofs.Common.{◌≡◌, take}
 use Rattle.py_body.proofs.locals.Locals.of_params.Given as goal
 
 abbrev pub invariant-loop-param : goal.invariant-loop-param
-invariant-loop-param l = l.names ≡ take l.param-index l.params
+invariant-loop-param l = l.locals ≡ take l.param-index l.params
