@@ -11,8 +11,8 @@ use Rattle.py_body.specs.declared.stmt.Stmt.{Stmt}
 use Rattle.py_body.specs.Tree.{Name, Form, operate, give, Suite, nothing, first, form_of, suite_of, Tree}
 use Rattle.py_body.specs.Binding.{locals_of, IsClosed}
 use Rattle.py_body.specs.Code.{Parts, place, binary_of, Stands, LaidAtom, LaidAtoms, LaidSuite}
-use Rattle.py_body.specs.Emitting.{IsMatched, Begins, EmitsUnit, EmitsConst, EmitsAtom, EmitsAtoms, EmitsForm, EmitsSuite, IsEmitted, size_of}
-use Rattle.py_body.proofs.Bound.{size_of-known}
+use Rattle.py_body.specs.Emitting.{IsMatched, HasRoom, Begins, EmitsUnit, EmitsConst, EmitsAtom, EmitsAtoms, EmitsForm, EmitsSuite, IsEmitted, size_of}
+use Rattle.py_body.proofs.Bound.{length-bound_by, size_of-known}
 use Rattle.py_body.proofs.EmittingLemmas.{Begins-refl, Begins-trans, joined, reworded}
 
 -- ---- atoms
@@ -118,6 +118,17 @@ suite_ends old mid new line last stmts i high before end =
     }
 
 -- ---- bodies
+
+-- a body that can be compiled needs no more than fits 32 bits
+pub body_has_room : (old : Parts) (t : Tree) → IsClosed t → IsMatched old → length old.constants ≡ 0 → old.vars ≡ locals_of t → HasRoom old (size_of t.suite)
+body_has_room old t closed matched none vars =
+    let size = size_of-known t.suite t.params closed.known in
+    let many = length-bound_by t.suite t.params in
+    record {
+      matched = matched;
+      constants = omega (arith, none, size, closed.short);
+      vars = omega (arith, ap length vars, many, closed.few, closed.short);
+    }
 
 pub body_emitted : (old new : Parts) (t : Tree) → IsClosed t → IsMatched old → length old.units ≡ 0 → old.vars ≡ locals_of t → EmitsSuite old new t.suite t.line → IsEmitted new t
 body_emitted old new t closed matched none vars emits =

@@ -20,6 +20,12 @@ parts_of e = record { units = e.units.items; locations = e.locations.items; cons
 abbrev pub IsMatched : Parts → Type 0
 IsMatched parts = length parts.locations ≡ length parts.units
 
+-- each unit has its line, the locals' places fit 32 bits, and so do those of as many more constants
+pub record HasRoom (parts : Parts) (more : ℕ) : Type 0 where
+  pub matched : IsMatched parts
+  pub constants : length parts.constants + more < 2 ^ 32
+  pub vars : length parts.vars < 2 ^ 32
+
 -- the units that have no line yet are of this one
 abbrev pub located : ℕ → Parts → Parts
 located line parts = record {

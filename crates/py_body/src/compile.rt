@@ -1,11 +1,10 @@
 //! The compiler: the code of a body.
 
-ghost use Rattle.std.specs.Prelude.{◌≡◌, ◌+◌, ◌*◌, ◌<◌, ◌^◌, length, IfOk, OnOk};
-ghost use Rattle.py_code.specs.Literals.{literals_of};
+ghost use Rattle.std.specs.Prelude.{◌≡◌, ◌*◌, length, IfOk, OnOk};
 ghost use Rattle.py_body.specs.Tree.{form_of, operate, suite_of, tree_of};
 ghost use Rattle.py_body.specs.Binding.{IsClosed};
 ghost use Rattle.py_body.specs.Code.{binary_of, IsLaid, IsPlain};
-ghost use Rattle.py_body.specs.Emitting.{parts_of, IsEmitted, IsMatched, EmitsAtom, EmitsAtoms, EmitsForm, EmitsSuite, size_of_form, size_of};
+ghost use Rattle.py_body.specs.Emitting.{parts_of, IsEmitted, HasRoom, EmitsAtom, EmitsAtoms, EmitsForm, EmitsSuite, size_of_form, size_of};
 ghost use Rattle.py_body.specs.Fits.{Fits};
 ghost use Rattle.py_body.specs.Naming.{Continues, IsNamed};
 
@@ -68,9 +67,7 @@ fn emit_body(alloc: Global, body: &Body) -> Result<Emitter, NoMemory>
 impl Emitter {
     /// Adds the code of statements behind a line, and the return of None at their end.
     fn compile_statements(&mut self, suite: &StmtList, line: u32) -> Result<(), NoMemory>
-        requires matched { IsMatched (parts_of self.old) }
-        requires few_constants { length (literals_of self.old.constants) + size_of (suite_of suite.now) < 2 ^ 32 }
-        requires few_locals { length self.old.locals < 2 ^ 32 }
+        requires { HasRoom (parts_of self.old) (size_of (suite_of suite.now)) }
         ensures { OnOk result (EmitsSuite (parts_of self.old) (parts_of self.new) (suite_of suite.now) line) }
     {
         let mut last = line;
@@ -83,9 +80,7 @@ impl Emitter {
 
     /// Adds the code of a statement.
     fn compile_statement(&mut self, stmt: &Stmt) -> Result<(), NoMemory>
-        requires matched { IsMatched (parts_of self.old) }
-        requires few_constants { length (literals_of self.old.constants) + size_of_form (form_of stmt.now.form) < 2 ^ 32 }
-        requires few_locals { length self.old.locals < 2 ^ 32 }
+        requires { HasRoom (parts_of self.old) (size_of_form (form_of stmt.now.form)) }
         ensures { OnOk result (EmitsForm (parts_of self.old) (parts_of self.new) (form_of stmt.now.form) stmt.now.line) }
     {
         match &stmt.form {
@@ -107,9 +102,7 @@ impl Emitter {
         atoms: &AtomList,
         line: u32,
     ) -> Result<(), NoMemory>
-        requires matched { IsMatched (parts_of self.old) }
-        requires few_constants { length (literals_of self.old.constants) + 4 * length atoms.now < 2 ^ 32 }
-        requires few_locals { length self.old.locals < 2 ^ 32 }
+        requires { HasRoom (parts_of self.old) (4 * length atoms.now) }
         ensures { OnOk result (EmitsForm (parts_of self.old) (parts_of self.new) (operate name.now operator atoms.now) line) }
     {
         self.compile_atoms(atoms, line)?;
@@ -124,9 +117,7 @@ impl Emitter {
 
     /// Adds the loads of atoms in order.
     fn compile_atoms(&mut self, atoms: &AtomList, line: u32) -> Result<(), NoMemory>
-        requires matched { IsMatched (parts_of self.old) }
-        requires few_constants { length (literals_of self.old.constants) + 4 * length atoms.now < 2 ^ 32 }
-        requires few_locals { length self.old.locals < 2 ^ 32 }
+        requires { HasRoom (parts_of self.old) (4 * length atoms.now) }
         ensures { OnOk result (EmitsAtoms (parts_of self.old) (parts_of self.new) atoms.now line) }
     {
         for atom in atoms.as_slice() {
@@ -137,9 +128,7 @@ impl Emitter {
 
     /// Adds the load of an atom.
     fn compile_atom(&mut self, atom: &Atom, line: u32) -> Result<(), NoMemory>
-        requires matched { IsMatched (parts_of self.old) }
-        requires few_constants { length (literals_of self.old.constants) < 2 ^ 32 }
-        requires few_locals { length self.old.locals < 2 ^ 32 }
+        requires { HasRoom (parts_of self.old) 1 }
         ensures { OnOk result (EmitsAtom (parts_of self.old) (parts_of self.new) atom.now line) }
     {
         match atom {
