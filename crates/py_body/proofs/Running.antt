@@ -89,18 +89,18 @@ module _ (objects : List Payload) (code : PyCode) (vars : List Name) (final : St
       go v m found (subst (λ (b : ℕ). Reaches objects code m (running b 0 (v ∷ stack) locals) ts final) is_next step))
 
   -- a suite, begun with these locals, may tell the events, and the run that tells them comes to a state with a meaning
-  abbrev Tells_suite : Suite → Env → List Own → Type 0
-  Tells_suite s env ts = IsFinal × RunsSuite objects s env None ts (EndsBy objects)
+  abbrev TellsSuite : Suite → Env → List Own → Type 0
+  TellsSuite s env ts = IsFinal × RunsSuite objects s env None ts (EndsBy objects)
 
-  cut_suite : (s : Suite) (env : Env) (ts : List Own) → ts ≡ [] → IsFinal → Tells_suite s env ts
+  cut_suite : (s : Suite) (env : Env) (ts : List Own) → ts ≡ [] → IsFinal → TellsSuite s env ts
   cut_suite nothing env ts none free = (free, inl (none, refl))
   cut_suite (first n f more) env ts none free = (free, inl (none, refl))
 
   store_run : (line : ℕ) (x : Name) (more : Suite) (at to : ℕ) (v : Obj) (locals : List (Option Obj)) (env : Env) (n : ℕ) (ts : List Own)
       → Stands parts line at StoreFast (place vars x) to → length locals ≡ length vars → place vars x < length vars
       → Reaches objects code n (running at 0 (v ∷ []) locals) ts final
-      → ((m : ℕ) → Reaches objects code m (running to 0 [] (slice_set locals (place vars x) (Some v))) ts final → Tells_suite more (set_local x (Some v) env) ts)
-      → Tells_suite more (set_local x (Some v) env) ts
+      → ((m : ℕ) → Reaches objects code m (running to 0 [] (slice_set locals (place vars x) (Some v))) ts final → TellsSuite more (set_local x (Some v) env) ts)
+      → TellsSuite more (set_local x (Some v) env) ts
   store_run line x more at to v locals env n ts stands long below run later =
       let within : nat_lt (place vars x) (length locals) ≡ true = lt-ltb (place vars x) (length locals) (omega arith) in
       decoded_run objects code final (drop at units) at 0 StoreFast (place vars x) to (v ∷ []) locals n ts refl stands.0
@@ -120,7 +120,7 @@ module _ (objects : List Payload) (code : PyCode) (vars : List Name) (final : St
 
   answered_run : (x : Name) (more : Suite) (k : ℕ) (locals : List (Option Obj)) (env : Env) (n : ℕ) (ts : List Own)
       → Reaches objects code n (asking (suc k) locals) ts final
-      → ((v : Obj) (m : ℕ) (us : List Own) → Reaches objects code m (running (suc k) 0 (v ∷ []) locals) us final → Tells_suite more (set_local x (Some v) env) us)
+      → ((v : Obj) (m : ℕ) (us : List Own) → Reaches objects code m (running (suc k) 0 (v ∷ []) locals) us final → TellsSuite more (set_local x (Some v) env) us)
       → IsFinal × Answered ts (Use env (Follows more) (λ v. Follows more (set_local x (Some v) env) Normal))
   answered_run x more k locals env zero ts (none, here) later = (subst (λ (t : State). IsFreeAt code t.wants t) (sym here) tt, inl (none, refl))
   answered_run x more k locals env (suc n) ts (got.Value v, mid, is, run) later =
@@ -143,7 +143,7 @@ module _ (objects : List Payload) (code : PyCode) (vars : List Name) (final : St
   pub suite_run : (s : Suite) (line : ℕ) (names : List Name) (at : ℕ) (locals : List (Option Obj)) (env : Env) (n : ℕ) (ts : List Own)
       → LaidSuite parts line s at → env ≡ env_of vars locals → length locals ≡ length vars
       → SuiteKnown names s → AllBound vars s → AreSet names env
-      → Reaches objects code n (running at 0 [] locals) ts final → Tells_suite s env ts
+      → Reaches objects code n (running at 0 [] locals) ts final → TellsSuite s env ts
   suite_run nothing line names at locals env n ts (to, (c, stands, is_constant)) same long known bound set run =
       decoded_run objects code final (drop at units) at 0 ReturnConst c to [] locals n ts refl stands.0
       (λ k p. subst (λ (o : Option Literal). IsFreeMove (load_move o (λ v. returns v (running k p [] locals)))) (sym is_constant) (λ v. tt)) run
@@ -164,7 +164,7 @@ module _ (objects : List Payload) (code : PyCode) (vars : List Name) (final : St
   suite_run (first i (operate x operator.Add (a ∷ [])) more) line names at locals env n ts laid same long ((arity, atoms), known) bound set run = absurd (omega (arith, arity))
   suite_run (first i (operate x operator.Add (a ∷ b ∷ c ∷ atoms)) more) line names at locals env n ts laid same long ((arity, all), known) bound set run = absurd (omega (arith, arity))
   suite_run (first i (operate x operator.Add (a ∷ b ∷ [])) more) line names at locals env n ts (to, (asks, stores, (mid, laid_a, (end, laid_b, is_asks)), stands_ask, stands_store), rest) same long ((arity, all), known) (below, bound) set run =
-      let cut : ts ≡ [] → IsFinal → Tells_suite (first i (operate x operator.Add (a ∷ b ∷ [])) more) env ts = cut_suite (first i (operate x operator.Add (a ∷ b ∷ [])) more) env ts in
+      let cut : ts ≡ [] → IsFinal → TellsSuite (first i (operate x operator.Add (a ∷ b ∷ [])) more) env ts = cut_suite (first i (operate x operator.Add (a ∷ b ∷ [])) more) env ts in
       atom_run i a at mid [] locals env n ts laid_a same (can_load names env a set (all 0 a (omega arith))) run cut
       (λ v m is_a run1. atom_run i b mid end (v ∷ []) locals env m ts laid_b same (can_load names env b set (all 1 b (omega arith))) run1 cut
       (λ w m1 is_b run2. ask_run i asks stores v w locals m1 ts _ stands_ask (subst (λ (p : ℕ). Reaches objects code m1 (running p 0 (w ∷ v ∷ []) locals) ts final) (sym is_asks) run2) cut

@@ -81,7 +81,8 @@ pub record IsLaid (code : PyCode) (t : Tree) : Type 0 where
   pub short : length code.code.instructions.items < 2 ^ 32
   pub located : length code.code.locations.items ≡ length code.code.instructions.items
 
--- what the code of a body says of itself: it makes a scope, knows its locals by their places, and needs a stack of two
+-- what the code of a body says of itself: it makes a scope (flag 1), knows its locals by their places (flag 32), and
+-- needs a stack of two
 pub record IsPlain (code : PyCode) (t : Tree) : Type 0 where
   pub flags : code.code.flags ≡ 33
   pub first_line_number : code.code.first_line_number ≡ Some t.line
