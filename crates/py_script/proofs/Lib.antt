@@ -8,6 +8,8 @@ pub mod Loading
 pub mod Driven
 -- what was read
 pub mod Reading
+-- what a run answers
+pub mod Answering
 -- what is written
 mod NoteLemmas
 mod ReprLemmas
