@@ -9,6 +9,8 @@ pub mod Driven
 pub mod Ran
 -- what was read
 pub mod Reading
+-- what a run answers
+pub mod Answering
 -- what is written
 mod NoteLemmas
 mod ReprLemmas

@@ -1,5 +1,5 @@
 -- What the rows of compiled code may tell is a trace of its body.
-use Rattle.std.proofs.Common.{◌≡◌, ◌<◌, ℕ, zero, suc, List, [], ◌∷◌, ◌++◌, length, Some, None, refl, sym, ap, ◌∙◌, subst, arith, append-nil}
+use Rattle.std.proofs.Common.{◌≡◌, ◌<◌, ℕ, zero, suc, List, [], ◌∷◌, ◌++◌, length, Some, None, refl, sym, ap, ◌∙◌, subst, arith, append-nil, ◌⊎◌, inl, inr}
 use Rattle.std.specs.Prelude.{Option, slice_get, All, Any}
 use Rattle.std.proofs.lemmas.Option.{slice_get_within, get_or_from_slice_get, slice_get_read}
 use Rattle.py_code.specs.declared.code.PyCode.{PyCode}
@@ -8,7 +8,9 @@ use Rattle.py_objects.specs.declared.payload.Payload.TheVariants as payload
 use Rattle.py_objects.specs.declared.payload.FunctionBody.{FunctionBody}
 use Rattle.py_objects.specs.declared.event.Event.{Event}
 use Rattle.py_objects.specs.Objects.{Obj, Name, HasPayload, declared, Grows}
-use Rattle.py_objects.specs.Own.{Own, own_events}
+use Rattle.py_objects.specs.declared.event.Ending.TheVariants as ending
+use Rattle.py_objects.specs.Own.{Own, Ends, own_events}
+use Rattle.py_frame.specs.RunOfRows.{RowsRun}
 use Rattle.py_body.specs.declared.atom.Atom.{Atom}
 use Rattle.py_body.specs.Tree.{Tree}
 use Rattle.py_body.specs.Trace.{IsTrace}
@@ -19,7 +21,7 @@ use Rattle.py_grammar.specs.WellFormed.{Calls, IsWellDriven}
 use Rattle.py_vm.specs.declared.drive.Drive.{Drive as Question}
 use Rattle.py_vm.specs.declared.drive.Drive.TheVariants as question
 use Rattle.py_vm.specs.Run.{Activation, start, state_after, Comes, EachTells}
-use Rattle.py_vm.specs.RowsOf.{RowsOf}
+use Rattle.py_vm.specs.RowsOf.{RowsTell, RowsOf}
 use Rattle.py_script.specs.Whole.{AreOf, Asks, AreAsked, AreObjects, Traces}
 use Rattle.py_script.specs.Loaded.{AreCompiled}
 use Rattle.py_script.proofs.Made.{AllAsked, HasTold, made_asked, activation_tells}
@@ -62,10 +64,15 @@ function_of trees objects d f vs are well asks = go (called trees d well.calls)
         , subst (λ (x : Obj). HasPayload objects x (payload.Function (record { name = t.name; code = j }))) same g.2
         , as_many objects d.args vs asks.1 ∙ sym calls.count )
 
+-- what rows tell goes on to a run of them
+goes_on : (objects : List Payload) (c : PyCode) (vs : List Obj) (own : List Own) → RowsTell objects c vs own → (more : List Own) × RowsRun objects c vs (own ++ more)
+goes_on objects c vs own (inl rows) = ([], subst (λ (l : List Own). RowsRun objects c vs l) (sym (append-nil own)) rows)
+goes_on objects c vs own (inr (front, e, at, is, rows)) = (Ends at (ending.Raise e) ∷ [], rows)
+
 -- an activation of a function that was asked for has a tree's trace where its code's rows tell it
 traced : (trees : List Tree) (objects : List Payload) (codes : List PyCode) (d : Drive) (f : Obj) (vs : List Obj) (own : List Own) → AreObjects trees objects → AreCompiled trees codes → IsWellDriven trees d
     → Asks objects d (question.Call f vs) → HasTold own → RowsOf codes objects f vs own → Traces trees objects f vs own
-traced trees objects codes d f vs own are compiled well asks told (b, has, c, is, (more, rows)) = go (function_of trees objects d f vs are well asks)
+traced trees objects codes d f vs own are compiled well asks told (b, has, c, is, tells) = go (function_of trees objects d f vs are well asks)
   where
     go : (j : ℕ) × (t : Tree) × (slice_get trees j ≡ Some t) × HasPayload objects f (payload.Function (record { name = t.name; code = j })) × (length vs ≡ length t.params) → Traces trees objects f vs own
     go (j, t, at, entry, arity) =
@@ -76,7 +83,9 @@ traced trees objects codes d f vs own are compiled well asks told (b, has, c, is
         let k = compiled j t at in
         let same_code : Some k.0 ≡ Some c = sym k.1 ∙ ap (slice_get codes) (sym place) ∙ is in
         let fits = subst (λ (x : PyCode). Fits x t) (let e : k.0 ≡ c = cc same_code in e) k.2 in
-        let whole : IsTrace objects t vs (own ++ more) = fits.traces objects vs (own ++ more) arity rows in
+        let on = goes_on objects c vs own tells in
+        let more = on.0 in
+        let whole : IsTrace objects t vs (own ++ more) = fits.traces objects vs (own ++ more) arity on.1 in
         let split : IsTrace objects t vs ((told.front ∷ told.behind) ++ more) = subst (λ (l : List Own). IsTrace objects t vs (l ++ more)) told.is whole in
         let front : IsTrace objects t vs (told.front ∷ told.behind) = trace_goes objects objects t vs told.front told.behind more ([], sym (append-nil objects)) split in
         (b, has, (t, ap (slice_get trees) place ∙ at, subst (IsTrace objects t vs) (sym told.is) front))

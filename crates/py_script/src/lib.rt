@@ -1,6 +1,7 @@
 //! Scripts from bytes to lines: what they mean, how they are run, and what is written.
 #![tactic(auto)]
 
+mod command;
 mod fault;
 mod notes;
 mod quoted;
@@ -13,6 +14,7 @@ mod words;
 mod worked;
 mod write;
 
+pub use command::{run_command, run_script};
 pub use fault::{CommandResult, Ended, ScriptFault, Summary};
 pub use py_grammar::{
     DeclList, Declaration, DriveLine, DriveList, ParseFault, Script, parse_script,
