@@ -1,5 +1,5 @@
 -- What a run answers, from what its steps answered.
-use Rattle.std.specs.Prelude.{◌≡◌, ℕ, ◌⊎◌, List, Option, Some, None, IfSome, Result, Ok, Err}
+use Rattle.std.specs.Prelude.{◌≡◌, ℕ, ◌⊎◌, List, Option, Some, None, Result, Ok, Err}
 use Rattle.std.proofs.Common.{inl, inr, sym, subst}
 use Rattle.py_grammar.specs.declared.script.Script.{Script}
 use Rattle.py_vm.specs.declared.fault.VmFault.TheVariants as vm_fault
@@ -11,7 +11,7 @@ use Rattle.py_script.specs.Whole.{IsWholeRun, IsCutRun}
 use Rattle.py_script.specs.Steps.{WasRead, IsReading, HasRun, IsWriting}
 use Rattle.py_script.specs.Causes.{Ends, IsAnswer}
 
--- the bytes that were read keep what follows from what they keep
+-- what follows from what holds of the bytes that were read holds of them too
 claims_more : (P Q : List ℕ → Type 0) (left left' : Option (List ℕ)) → ((bytes : List ℕ) → P bytes → Q bytes) → WasRead left left' P → WasRead left left' Q
 claims_more P Q None left' more was = record { short = was.short; end = was.end; claimed = tt }
 claims_more P Q (Some bytes) left' more was = record { short = was.short; end = was.end; claimed = more bytes was.claimed }

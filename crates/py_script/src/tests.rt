@@ -1,5 +1,7 @@
 //! Texts and notes at worked values; representations are those that Python prints.
 
+mod runs;
+
 use crate::notes::write_note;
 use crate::*;
 use py_code::{CodeList, Names, NoMemory, PyText, text_of};

@@ -1,0 +1,241 @@
+//! Whole commands over sources and sinks in memory; statuses, texts and notes are worked from the rules of scripts.
+
+ghost use Rattle.std.specs.Prelude.{◌≤◌};
+
+use crate::*;
+use py_code::NoMemory;
+use std::alloc::Global;
+use std::test::Fail;
+
+// A script of one drive, whose run has seven events and whose text has thirteen bytes.
+const SUM: &[u8] = b"def f a b\nx = (add a b)\nreturn x\nend\ncall f 33 12\n";
+
+const USAGE: &[u8] = b"usage: pyrun run [TURNS] or make SEED COUNT\n";
+
+/// What a command came to, and what its sinks have taken.
+#[derive(Drop)]
+struct Outcome {
+    status: u8,
+    text: SinkMemory,
+    notes: SinkMemory,
+}
+
+fn source(alloc: Global, bytes: &[u8], fails: &[u64], most: usize) -> Result<SourceMemory, NoMemory>
+    requires { 1 ≤ most }
+{
+    Ok(SourceMemory::new(bytes.to_vec(alloc)?, fails.to_vec(alloc)?, most))
+}
+
+fn sink(alloc: Global, fails: &[u64], most: usize) -> Result<SinkMemory, NoMemory>
+    requires { 1 ≤ most }
+{
+    SinkMemory::new(alloc, fails.to_vec(alloc)?, most, 100)
+}
+
+/// What a command of one word comes to over a source and a sink.
+fn run_over(
+    alloc: Global,
+    word: &str,
+    source: &mut SourceMemory,
+    sink: SinkMemory,
+) -> Result<Outcome, NoMemory> {
+    let mut words = Words::new(alloc);
+    words.push(word)?;
+    let mut text = sink;
+    let mut notes = SinkMemory::new(alloc, Vec::new(alloc), 100, 100)?;
+    let ended = run_command(alloc, &words, source, &mut text, &mut notes);
+    Ok(Outcome {
+        status: ended.status,
+        text,
+        notes,
+    })
+}
+
+/// What a run of a script comes to, with no fault.
+fn run(alloc: Global, script: &[u8]) -> Result<Outcome, NoMemory> {
+    let mut source = source(alloc, script, &[], 5)?;
+    let text = sink(alloc, &[], 5)?;
+    run_over(alloc, "run", &mut source, text)
+}
+
+#[test]
+fn a_script_is_run_and_its_text_is_written(rt: HostRuntime) -> Result<(), Fail> {
+    let alloc = rt.alloc();
+    let rows: [(&[u8], &str); 16] = [
+        (SUM, "1 returns 45\n"),
+        (b"", ""),
+        (b"\n \t\n\r\n", ""),
+        (b"def f\nreturn 7\nend\n", ""),
+        (b"def f\nreturn 7\nend\ncall f\n", "1 returns 7\n"),
+        (b"def f\nend\ncall f\n", "1 returns None\n"),
+        (
+            b"def f a b c\nx = (add a c)\nreturn x\nend\ncall f 1 2 3\n",
+            "1 returns 4\n",
+        ),
+        (
+            b"def f a\nreturn a\nend\ncall f 999999999999999999\n",
+            "1 returns 999999999999999999\n",
+        ),
+        (
+            b"def f a\nx = (add a a)\nreturn x\nend\ncall f -999999999999999999\n",
+            "1 returns -1999999999999999998\n",
+        ),
+        (b"def f a\nreturn a\nend\ncall f -0\n", "1 returns 0\n"),
+        (b"def f a\nreturn a\nend\ncall f 007\n", "1 returns 7\n"),
+        (
+            b"def _f9 a_1 B2\nreturn B2\nend\ncall _f9 1 2\n",
+            "1 returns 2\n",
+        ),
+        (
+            b"def f a\nreturn 1\nreturn a\nend\ncall f 2\n",
+            "1 returns 1\n",
+        ),
+        (
+            b"def f a\r\n\r\nreturn a\r\nend\r\ncall f 5\r\n",
+            "1 returns 5\n",
+        ),
+        (
+            b"\tdef\tf  a \n\treturn\ta\t\n end\t\n\tcall\tf\t6\n",
+            "1 returns 6\n",
+        ),
+        (b"def f\nreturn 8\nend\ncall f", "1 returns 8\n"),
+    ];
+    for (script, text) in rows {
+        let outcome = run(alloc, script)?;
+        assert_eq!(rt; outcome.status, 0);
+        assert_eq!(rt; outcome.text.bytes(), text.as_bytes());
+        assert_eq!(rt; outcome.notes.bytes(), b"".as_slice());
+    }
+    Ok(())
+}
+
+#[test]
+fn what_is_no_script_is_noted_with_its_line(rt: HostRuntime) -> Result<(), Fail> {
+    let alloc = rt.alloc();
+    let rows: [(&[u8], &str); 14] = [
+        (
+            b"def f a\nreturn a\nend\ncall f 1000000000000000000\n",
+            "malformed: line 4\n",
+        ),
+        (
+            b"def f a\nreturn a\nend\ncall f 0000000000000000007\n",
+            "malformed: line 4\n",
+        ),
+        (b"def 1f\nend\n", "malformed: line 1\n"),
+        (b"def f 1a\nend\n", "malformed: line 1\n"),
+        (b"def f end\nend\n", "malformed: line 1\n"),
+        (b"def f a a\nend\n", "malformed: line 1\n"),
+        (b"def TypeError\nend\n", "malformed: line 1\n"),
+        (b"def f\nreturn 1\n", "malformed: line 3\n"),
+        (b"def f", "malformed: line 2\n"),
+        (b"def f a\nend\n\ncall f 1 2\n", "malformed: line 4\n"),
+        (b"def f a\nend\ncall f\n", "malformed: line 3\n"),
+        (b"def f\nend\ndef g\nend\n", "malformed: line 3\n"),
+        (b"def f\nend\ncall g\n", "malformed: line 3\n"),
+        (b"def f\nend\ncall f\ncall f\n", "malformed: line 4\n"),
+    ];
+    for (script, note) in rows {
+        let outcome = run(alloc, script)?;
+        assert_eq!(rt; outcome.status, 2);
+        assert_eq!(rt; outcome.text.bytes(), b"".as_slice());
+        assert_eq!(rt; outcome.notes.bytes(), note.as_bytes());
+    }
+    Ok(())
+}
+
+#[test]
+fn other_words_read_and_write_nothing(rt: HostRuntime) -> Result<(), Fail> {
+    let alloc = rt.alloc();
+    let mut source = source(alloc, SUM, &[], 100)?;
+    for word in ["", "Run", "runs", "make"] {
+        let text = sink(alloc, &[], 5)?;
+        let outcome = run_over(alloc, word, &mut source, text)?;
+        assert_eq!(rt; outcome.status, 64);
+        assert_eq!(rt; outcome.text.bytes(), b"".as_slice());
+        assert_eq!(rt; outcome.notes.bytes(), USAGE);
+    }
+    assert_eq!(rt; read_bytes(alloc, &mut source)?.as_slice(), SUM);
+    Ok(())
+}
+
+#[test]
+fn a_read_that_fails_is_noted(rt: HostRuntime) -> Result<(), Fail> {
+    let alloc = rt.alloc();
+    // The read that fails: the first, one in mid-stream, and the one that would find the end.
+    for call in [1u64, 3, 11] {
+        let mut source = source(alloc, SUM, &[call], 5)?;
+        let text = sink(alloc, &[], 5)?;
+        let outcome = run_over(alloc, "run", &mut source, text)?;
+        assert_eq!(rt; outcome.status, 5, "at {call}");
+        assert_eq!(rt; outcome.text.bytes(), b"".as_slice());
+        assert_eq!(rt; outcome.notes.bytes(), b"read fault\n".as_slice());
+    }
+    Ok(())
+}
+
+#[test]
+fn a_write_that_fails_leaves_the_front_of_the_text(rt: HostRuntime) -> Result<(), Fail> {
+    let alloc = rt.alloc();
+    let whole = b"1 returns 45\n".as_slice();
+    for taken in 0..14usize {
+        // One byte a call: the last call that is to fail comes behind the text.
+        let (status, note) = if taken < 13 {
+            (6, b"write fault\n".as_slice())
+        } else {
+            (0, b"".as_slice())
+        };
+        let mut source = source(alloc, SUM, &[], 100)?;
+        let text = sink(alloc, &[taken as u64 + 1], 1)?;
+        let outcome = run_over(alloc, "run", &mut source, text)?;
+        assert_eq!(rt; outcome.status, status, "at {taken}");
+        assert_eq!(rt; outcome.text.bytes(), &whole[..taken]);
+        assert_eq!(rt; outcome.notes.bytes(), note);
+    }
+    Ok(())
+}
+
+#[test]
+fn a_byte_above_the_limit_is_too_long(rt: HostRuntime) -> Result<(), Fail> {
+    let alloc = rt.alloc();
+    let rows: [(usize, u8, &[u8]); 2] = [(1_048_576, 0, b""), (1_048_577, 7, b"too long\n")];
+    for (length, status, note) in rows {
+        let blanks = vec![in alloc; b' '; length]?;
+        let mut source = SourceMemory::new(blanks, Vec::new(alloc), 4096);
+        let text = sink(alloc, &[], 5)?;
+        let outcome = run_over(alloc, "run", &mut source, text)?;
+        assert_eq!(rt; outcome.status, status);
+        assert_eq!(rt; outcome.notes.bytes(), note);
+    }
+    Ok(())
+}
+
+/// Whether a run in at most so many turns is whole, and how many events it has.
+fn run_in(alloc: Global, turns: u64, text: &mut SinkMemory) -> Result<(bool, usize), NoMemory> {
+    let mut source = source(alloc, SUM, &[], 100)?;
+    match run_script(alloc, &mut source, text, turns) {
+        Ok(journal) => Ok((true, journal.events.len())),
+        Err(ScriptFault::OutOfTurns(journal)) => Ok((false, journal.events.len())),
+        Err(_) => Err(NoMemory),
+    }
+}
+
+#[test]
+fn a_run_is_cut_at_its_turns(rt: HostRuntime) -> Result<(), Fail> {
+    let alloc = rt.alloc();
+    let whole = b"1 returns 45\n".as_slice();
+    for (turns, ran, events, written) in [
+        (0, false, 0, 0),
+        (6, false, 6, 0),
+        (7, true, 7, 13),
+        (8, true, 7, 13),
+    ] {
+        let mut text = sink(alloc, &[], 5)?;
+        assert_eq!(rt;
+            run_in(alloc, turns, &mut text)?,
+            (ran, events),
+            "in {turns}"
+        );
+        assert_eq!(rt; text.bytes(), &whole[..written]);
+    }
+    Ok(())
+}
