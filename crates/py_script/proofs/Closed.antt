@@ -1,16 +1,15 @@
 -- The bodies of a script can be compiled: they keep the names' rules, and have no more statements than the script has bytes.
-use Rattle.std.proofs.Common.{◌≡◌, ◌≤◌, ℕ, zero, suc, List, [], ◌∷◌, ◌++◌, length, Bool, true, false, cond, Some, None, refl, sym, ap, ◌∙◌, subst, arith, length-append}
-use Rattle.std.specs.Prelude.{Option, option_map, slice_get, All, ◌==◌, ◌&&◌}
+use Rattle.std.proofs.Common.{◌≡◌, ◌≤◌, ℕ, zero, suc, List, [], ◌∷◌, ◌++◌, length, Bool, true, false, cond, Some, None, refl, sym, ap, ◌∙◌, arith, length-append}
+use Rattle.std.specs.Prelude.{Option, slice_get, ◌==◌, ◌&&◌}
 use Rattle.py_body.specs.declared.atom.Operator.TheVariants as operator
 use Rattle.py_body.specs.Tree.{Name, Form, operate, give, Suite, nothing, first, Tree}
 use Rattle.py_body.specs.Binding.{SuiteKnown, FormKnown, statements, IsClosed}
-use Rattle.py_grammar.specs.Drive.{Drive}
 use Rattle.py_grammar.specs.declared.line.LineRead.{LineRead}
 use Rattle.py_grammar.specs.declared.line.LineRead.TheVariants.{Blank, Said, Malformed}
 use Rattle.py_grammar.specs.declared.script.Script.{Script}
 use Rattle.py_grammar.specs.Lines.{lines, in_first, at_lf}
 use Rattle.py_grammar.specs.Says.{says}
-use Rattle.py_grammar.specs.Grammar.{Row, row, Item, Declares, Drives, suite_rows, form_row, end_row, item_rows, items_rows, trees_in}
+use Rattle.py_grammar.specs.Grammar.{Row, row, Item, Declares, Drives, suite_rows, end_row, item_rows, items_rows, trees_in}
 use Rattle.py_grammar.specs.Script.{Text, with_read, rows_from, IsScript, trees_of}
 use Rattle.py_grammar.specs.WellFormed.{NamesKnown, IsWellFormedIn, IsWellDeclared}
 

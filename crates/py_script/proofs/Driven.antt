@@ -1,26 +1,23 @@
 -- How a script's run goes on, drive by drive.
-use Rattle.std.proofs.Common.{◌≡◌, ◌<◌, ◌≤◌, ◌+◌, ℕ, zero, suc, List, [], ◌∷◌, ◌++◌, length, Some, refl, sym, ap, ◌∙◌, subst, arith, length-append}
-use Rattle.std.specs.Prelude.{Option, Bool, false, slice_get, All, AllPairs, map}
+use Rattle.std.proofs.Common.{◌≡◌, ◌+◌, ℕ, suc, List, [], ◌∷◌, ◌++◌, length, Some, refl, sym, ap, ◌∙◌, subst, arith, length-append}
+use Rattle.std.specs.Prelude.{false, slice_get, All, AllPairs, map}
 use Rattle.std.proofs.lemmas.Option.{slice_get_within}
 use Rattle.py_code.specs.Codes.{Codes}
 use Rattle.py_objects.specs.declared.payload.Payload.{Payload}
 use Rattle.py_objects.specs.declared.payload.Payload.TheVariants as payload
-use Rattle.py_objects.specs.declared.event.Event.{Event}
 use Rattle.py_objects.specs.Objects.{Obj, HasPayload, declared, numbers, AllBelow, AllFit, GrowsPlainly}
 use Rattle.py_frame.specs.RunOfRows.{IsSound}
-use Rattle.py_frame.proofs.PlainGrowth.{grows_plainly_refl, grows_plainly_trans, plainly_grows}
+use Rattle.py_frame.proofs.PlainGrowth.{grows_plainly_refl, grows_plainly_trans}
 use Rattle.py_body.specs.Tree.{Tree}
-use Rattle.py_body.specs.Fits.{Fits}
 use Rattle.py_grammar.specs.Drive.{Drive}
 use Rattle.py_grammar.specs.Rules.{is_builtin_class}
 use Rattle.py_grammar.specs.WellFormed.{IsWellDriven}
 use Rattle.py_vm.specs.declared.drive.Drive.{Drive as Question}
 use Rattle.py_vm.specs.declared.drive.Drive.TheVariants as question
 use Rattle.py_vm.specs.declared.vm.VirtualMachine.{VirtualMachine}
-use Rattle.py_vm.specs.Run.{start, state_after, Comes, EachTells, IsRunBy}
-use Rattle.py_vm.specs.RowsOf.{RowsOf}
+use Rattle.py_vm.specs.Run.{start, state_after, Comes}
 use Rattle.py_vm.specs.Machine.{events_of, objects_of, codes_of, done_of}
-use Rattle.py_vm.specs.Stands.{CanCall, IsCallable, Stands, Adds}
+use Rattle.py_vm.specs.Stands.{IsCallable, Stands, Adds}
 use Rattle.py_vm.proofs.RunLemmas.{declared_stays, comes_grow}
 use Rattle.py_vm.proofs.StandsLemmas.{stands_fit, stands_tells, stands_named}
 use Rattle.py_script.specs.declared.session.Session.{Session}
@@ -51,10 +48,11 @@ loaded_ready trees drives s l differ no_class =
     record {
       stands = l.stands;
       functions = λ i t is.
-          let at = functions_are trees differ i t is (no_class i t is) in
-          ( record { number = 6 + i }
-          , ap (λ fs. slice_get fs i) l.functions ∙ ref_at 6 (length trees) i (slice_get_within trees i t is)
-          , ap (λ os. declared os t.name) l.objects ∙ at.0 );
+          let at = functions_are trees differ i t is (no_class i t is) in (
+            record { number = 6 + i },
+            ap (λ fs. slice_get fs i) l.functions ∙ ref_at 6 (length trees) i (slice_get_within trees i t is),
+            ap (λ os. declared os t.name) l.objects ∙ at.0,
+          );
       asked = [];
       count = sym (ap (λ es. (state_after start es).done) l.events);
       run = record {
@@ -146,9 +144,10 @@ pub called_ready : (trees : List Tree) (drives : List Drive) (old new : Session)
     → Stands vm × (done_of vm ≡ suc (done_of new.vm)) → IsReady trees drives (record new { vm = vm }) × (done_of vm ≡ suc (done_of old.vm))
 called_ready trees drives old new vm d i f vs r g next place at of adds (stands, done) =
     let ready = ready_grows trees drives old new g r in
-    let asks = asks_for trees drives old (objects_of new.vm) d i f vs r g.grows place at of in
-    ( ready_driven trees drives new (record new { vm = vm }) d (question.Call f vs) ready (next_grows drives d old new g next) asks adds refl stands done
-    , done ∙ ap (λ es. suc (state_after start es).done) g.events )
+    let asks = asks_for trees drives old (objects_of new.vm) d i f vs r g.grows place at of in (
+      ready_driven trees drives new (record new { vm = vm }) d (question.Call f vs) ready (next_grows drives d old new g next) asks adds refl stands done,
+      done ∙ ap (λ es. suc (state_after start es).done) g.events,
+    )
 
 -- what a machine has is a run of the script
 pub is_run_of : (trees : List Tree) (drives : List Drive) (vm : VirtualMachine) → All (IsWellDriven trees) drives → IsInRun trees drives vm → IsRunOf trees drives (objects_of vm) (events_of vm)

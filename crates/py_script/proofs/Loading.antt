@@ -1,9 +1,9 @@
 -- How a machine is loaded, declaration by declaration.
-use Rattle.std.proofs.Common.{◌≡◌, ◌<◌, ◌≤◌, ◌+◌, ◌-◌, ℕ, zero, suc, List, [], ◌∷◌, ◌++◌, length, Bool, true, false, Some, None, refl, sym, ap, ◌∙◌, subst, arith, length-append, append_assoc, append-nil, ◌⊎◌, inl, inr, get_or, take, ℤ}
-use Rattle.std.specs.Prelude.{Option, option_map, slice_get, map, Any, Result, Ok, Err, OnOk, OnErr, bytes_eq}
+use Rattle.std.proofs.Common.{◌≡◌, ◌<◌, ◌≤◌, ◌+◌, ℕ, zero, suc, List, [], ◌∷◌, ◌++◌, length, true, false, Some, None, refl, sym, ap, ◌∙◌, subst, arith, length-append, append_assoc, ◌⊎◌, inl, inr, get_or, take}
+use Rattle.std.specs.Prelude.{option_map, slice_get, map, Any, Result, Ok, Err, OnOk, OnErr, bytes_eq}
 use Rattle.std.proofs.lemmas.List.{map-append, length-map, length-take-le, take_all}
 use Rattle.std.proofs.lemmas.Grind.{take_at_read}
-use Rattle.std.proofs.lemmas.Option.{slice_get_within, slice_get-map, slice_get-get_or, slice_get_read}
+use Rattle.std.proofs.lemmas.Option.{slice_get-map, slice_get-get_or, slice_get_read}
 use Rattle.std.proofs.lemmas.Slice.Eq.{bytes_eq-Decides}
 use Rattle.std.proofs.lemmas.Bool.Decides.{eqb_tells}
 use Rattle.py_code.specs.declared.code.PyCode.{PyCode}
@@ -12,16 +12,14 @@ use Rattle.py_objects.specs.declared.payload.Payload.{Payload}
 use Rattle.py_objects.specs.declared.payload.Payload.TheVariants as payload
 use Rattle.py_objects.specs.declared.refs.PyObjectRef.{PyObjectRef}
 use Rattle.py_objects.specs.Objects.{Obj, Name, HasPayload, numbers, payload_numbers, AllBelow, IsMade, declares, GrowsPlainly}
-use Rattle.py_frame.proofs.PlainGrowth.{below_more, length_grown, grows_plainly_refl, grows_plainly_by, plainly_grows}
+use Rattle.py_frame.proofs.PlainGrowth.{grows_plainly_refl, grows_plainly_by}
 use Rattle.py_body.specs.Tree.{Tree}
-use Rattle.py_body.specs.Binding.{IsClosed}
 use Rattle.py_body.specs.Fits.{Fits}
 use Rattle.py_grammar.specs.declared.script.Declaration.{Declaration}
 use Rattle.py_grammar.specs.Script.{declared_tree}
 use Rattle.py_vm.specs.declared.vm.VirtualMachine.{VirtualMachine}
 use Rattle.py_vm.specs.Machine.{objects_of}
 use Rattle.py_script.specs.Loaded.{AreCompiled, function_entries}
-use Rattle.py_script.specs.Steps.{AllClosed}
 use Rattle.py_script.specs.Session.{refs_from}
 
 -- the entry of a list that is mapped
@@ -128,13 +126,13 @@ named_at name ts i t is hit = (t, is, sym ((bytes_eq-Decides name t.name).0 hit)
 pub none_more : (name : Name) (ts : List Tree) (i : ℕ) (t : Tree) → slice_get ts i ≡ Some t → bytes_eq name t.name ≡ false
     → ((k : ℕ) (u : Tree) → k < i → slice_get ts k ≡ Some u → u.name ≡ name → ⊥) → (k : ℕ) (u : Tree) → k < i + 1 → slice_get ts k ≡ Some u → u.name ≡ name → ⊥
 none_more name ts i t is miss before k u low at same = elim (eqb_tells k i) [
-      | inl y ↦
-          let both : Some u ≡ Some t = sym at ∙ ap (slice_get ts) y.1 ∙ is in
-          let tree : u ≡ t = cc both in
-          let hit : bytes_eq name t.name ≡ true = (bytes_eq-Decides name t.name).1 (sym same ∙ ap (λ (x : Tree). x.name) tree) in
-          (let clash : true ≡ false = sym hit ∙ miss in cc clash)
-      | inr n ↦ let ne : k ≡ i → ⊥ = n.1 in before k u (omega (arith, low, ne)) at same
-    ]
+  | inl y ↦
+      let both : Some u ≡ Some t = sym at ∙ ap (slice_get ts) y.1 ∙ is in
+      let tree : u ≡ t = cc both in
+      let hit : bytes_eq name t.name ≡ true = (bytes_eq-Decides name t.name).1 (sym same ∙ ap (λ (x : Tree). x.name) tree) in
+      (let clash : true ≡ false = sym hit ∙ miss in cc clash)
+  | inr n ↦ let ne : k ≡ i → ⊥ = n.1 in before k u (omega (arith, low, ne)) at same
+]
 
 -- but one does
 pub found_none : (name : Name) (ts : List Tree) (i : ℕ) → Any (λ t. t.name ≡ name) ts → ((k : ℕ) (u : Tree) → k < i → slice_get ts k ≡ Some u → u.name ≡ name → ⊥) → length ts ≤ i → ⊥

@@ -1,13 +1,13 @@
 -- The activations of a run: each is asked by a drive, and has own events.
-use Rattle.std.proofs.Common.{◌≡◌, ◌<◌, ◌≤◌, ◌+◌, ℕ, zero, suc, List, [], ◌∷◌, ◌++◌, length, Bool, true, false, cond, Some, None, refl, sym, ap, ◌∙◌, subst, arith, length-append, ◌⊎◌, inl, inr, eqb, eq-eqb}
-use Rattle.std.specs.Prelude.{Option, slice_get}
+use Rattle.std.proofs.Common.{◌≡◌, ◌<◌, ◌≤◌, ◌+◌, ℕ, zero, suc, List, [], ◌∷◌, ◌++◌, length, Bool, true, false, Some, refl, sym, ap, ◌∙◌, subst, arith, length-append, ◌⊎◌, inl, inr, eqb, eq-eqb}
+use Rattle.std.specs.Prelude.{slice_get}
 use Rattle.std.proofs.lemmas.Bool.Decides.{eqb_tells}
 use Rattle.std.proofs.lemmas.Option.{slice_get_within}
 use Rattle.py_objects.specs.declared.payload.Payload.{Payload}
 use Rattle.py_objects.specs.declared.event.Event.{Event}
 use Rattle.py_objects.specs.declared.event.Event.TheVariants as event
 use Rattle.py_objects.specs.Objects.{Obj}
-use Rattle.py_objects.specs.Own.{Own, Makes, whose, own_of, own_if, told_by, own_events}
+use Rattle.py_objects.specs.Own.{Own, Makes, own_if, told_by, own_events}
 use Rattle.py_vm.specs.declared.drive.Drive.{Drive as Question}
 use Rattle.py_vm.specs.declared.drive.Drive.TheVariants as question
 use Rattle.py_vm.specs.Run.{Activation, State, start, after, state_after, Comes}

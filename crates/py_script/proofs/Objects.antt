@@ -1,6 +1,6 @@
 -- The objects of a script: as they are loaded, and as more come.
 use Rattle.std.proofs.Common.{◌≡◌, ◌<◌, ◌+◌, ◌-◌, ℕ, zero, suc, List, [], ◌∷◌, ◌++◌, length, Bool, true, false, cond, ◌||◌, Some, None, refl, sym, ap, ◌∙◌, subst, arith, ◌⊎◌, inl, inr, ◌≢◌}
-use Rattle.std.specs.Prelude.{Option, option_map, slice_get, AllPairs, map, codes, bytes_eq, Contains}
+use Rattle.std.specs.Prelude.{option_map, slice_get, AllPairs, map, codes, bytes_eq, Contains}
 use Rattle.std.proofs.lemmas.Option.{slice_get_within, get_or_from_slice_get, slice_get-map}
 use Rattle.std.proofs.lemmas.Slice.Eq.{bytes_eq-Decides}
 use Rattle.py_objects.specs.declared.payload.Payload.{Payload}
@@ -9,7 +9,7 @@ use Rattle.py_objects.specs.declared.payload.ClassBody.{ClassBody}
 use Rattle.py_objects.specs.declared.payload.FunctionBody.{FunctionBody}
 use Rattle.py_objects.specs.declared.payload.ErrorKind.{ErrorKind}
 use Rattle.py_objects.specs.declared.payload.ErrorKind.TheVariants.{NameError, OverflowError, RecursionError, TypeError, UnboundLocalError}
-use Rattle.py_objects.specs.Objects.{Obj, Name, HasPayload, declares, is_name, declared, declared_from, name_of, error_kinds, AllFit, Grows, GrowsPlainly}
+use Rattle.py_objects.specs.Objects.{Obj, Name, HasPayload, declares, declared, declared_from, name_of, error_kinds, AllFit, GrowsPlainly}
 use Rattle.py_frame.proofs.Growing.{payload_grown}
 use Rattle.py_frame.proofs.PlainGrowth.{plainly_grows, slice_get_split}
 use Rattle.py_body.specs.declared.atom.Atom.{Atom}
@@ -21,7 +21,7 @@ use Rattle.py_vm.specs.declared.drive.Drive.{Drive as Question}
 use Rattle.py_vm.specs.declared.drive.Drive.TheVariants as question
 use Rattle.py_vm.proofs.RunLemmas.{declared_stays}
 use Rattle.py_script.specs.Whole.{IsOf, AreOf, Asks, AreAsked, AreObjects}
-use Rattle.py_script.specs.Loaded.{class_entries, function_entries, script_objects}
+use Rattle.py_script.specs.Loaded.{function_entries, script_objects}
 
 -- a name that differs is another one
 other_name : (n m : Name) → (m ≡ n → ⊥) → bytes_eq n m ≡ false
@@ -89,9 +89,10 @@ entry_behind ts j = ap (slice_get (script_objects ts)) (let e : 6 + j ≡ suc (s
 -- the functions that are loaded are declared, in order
 pub functions_are : (ts : List Tree) → AllPairs (λ x y. x ≢ y) (map (λ s. s.name) ts) → (j : ℕ) (t : Tree) → slice_get ts j ≡ Some t → is_builtin_class t.name ≡ false
     → (declared (script_objects ts) t.name ≡ Some (record { number = 6 + j })) × HasPayload (script_objects ts) (record { number = 6 + j }) (payload.Function (record { name = t.name; code = j }))
-functions_are ts differ j t is none =
-    ( behind_classes t.name ts none ∙ found_from 6 0 ts j t differ is
-    , entry_behind ts j ∙ entry_at 0 ts j t is ∙ ap (λ n. Some (payload.Function (record { name = t.name; code = n }))) (let e : 0 + j ≡ j = omega arith in e) )
+functions_are ts differ j t is none = (
+  behind_classes t.name ts none ∙ found_from 6 0 ts j t differ is,
+  entry_behind ts j ∙ entry_at 0 ts j t is ∙ ap (λ n. Some (payload.Function (record { name = t.name; code = n }))) (let e : 0 + j ≡ j = omega arith in e),
+)
 
 classes_are : (ts : List Tree) (k : ErrorKind) → (c : Obj) × (declared (script_objects ts) (name_of k) ≡ Some c) × HasPayload (script_objects ts) c (payload.Class (record { name = name_of k }))
 classes_are ts NameError = (record { number = 1 }, refl, refl)

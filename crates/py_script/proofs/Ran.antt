@@ -15,7 +15,7 @@ use Rattle.py_vm.specs.Run.{start, state_after, EachTells, IsDone}
 use Rattle.py_vm.specs.RowsOf.{RowsOf}
 use Rattle.py_vm.specs.Machine.{events_of, objects_of, codes_of, done_of}
 use Rattle.py_script.specs.declared.session.Session.{Session}
-use Rattle.py_script.specs.Whole.{IsRunOf, IsRun, IsWhole, RunsItsCodes}
+use Rattle.py_script.specs.Whole.{IsRunOf, IsRun, RunsItsCodes}
 use Rattle.py_script.specs.Loaded.{AreCompiled}
 use Rattle.py_script.specs.Steps.{IsRunnable, HasRun}
 use Rattle.py_script.specs.Session.{IsLoaded, IsInRun, IsReady}
@@ -53,11 +53,12 @@ comes_to : (s : Script) (turns : ℕ) (vm : VirtualMachine) (j : Journal) (r : R
 comes_to s turns vm j (Ok u) run codes h short whole cut =
     (run, subst (IsDone (length (drives_of s))) (sym h.events) whole, subst (λ (es : List Event). length es ≤ turns) (sym h.events) short, codes)
 comes_to s turns vm j (Err vm_fault.OutOfTurns) run codes h short whole cut =
-    let few : done_of vm < length (drives_of s) = (cut refl).1 in
-    ( run
-    , (λ w. let all : done_of vm ≡ length (drives_of s) = ap (λ es. (state_after start es).done) (sym h.events) ∙ w.done in omega (arith, few, all))
-    , ap length h.events ∙ (cut refl).0
-    , codes )
+    let few : done_of vm < length (drives_of s) = (cut refl).1 in (
+      run,
+      (λ w. let all : done_of vm ≡ length (drives_of s) = ap (λ es. (state_after start es).done) (sym h.events) ∙ w.done in omega (arith, few, all)),
+      ap length h.events ∙ (cut refl).0,
+      codes,
+    )
 comes_to s turns vm j (Err vm_fault.NoMemory) run codes h short whole cut = tt
 
 -- what a session's run comes to, with the journal that it leaves

@@ -1,13 +1,13 @@
 -- What the rows of compiled code may tell is a trace of its body.
-use Rattle.std.proofs.Common.{◌≡◌, ◌<◌, ℕ, zero, suc, List, [], ◌∷◌, ◌++◌, length, Some, None, refl, sym, ap, ◌∙◌, subst, arith, append-nil, ◌⊎◌, inl, inr}
-use Rattle.std.specs.Prelude.{Option, slice_get, All, Any}
+use Rattle.std.proofs.Common.{◌≡◌, ℕ, zero, suc, List, [], ◌∷◌, ◌++◌, length, Some, refl, sym, ap, ◌∙◌, subst, append-nil, inl, inr}
+use Rattle.std.specs.Prelude.{slice_get, All, Any}
 use Rattle.std.proofs.lemmas.Option.{slice_get_within, get_or_from_slice_get, slice_get_read}
 use Rattle.py_code.specs.declared.code.PyCode.{PyCode}
 use Rattle.py_objects.specs.declared.payload.Payload.{Payload}
 use Rattle.py_objects.specs.declared.payload.Payload.TheVariants as payload
 use Rattle.py_objects.specs.declared.payload.FunctionBody.{FunctionBody}
 use Rattle.py_objects.specs.declared.event.Event.{Event}
-use Rattle.py_objects.specs.Objects.{Obj, Name, HasPayload, declared, Grows}
+use Rattle.py_objects.specs.Objects.{Obj, HasPayload, declared}
 use Rattle.py_objects.specs.declared.event.Ending.TheVariants as ending
 use Rattle.py_objects.specs.Own.{Own, Ends, own_events}
 use Rattle.py_frame.specs.RunOfRows.{RowsRun}
@@ -20,11 +20,11 @@ use Rattle.py_grammar.specs.Drive.{Drive}
 use Rattle.py_grammar.specs.WellFormed.{Calls, IsWellDriven}
 use Rattle.py_vm.specs.declared.drive.Drive.{Drive as Question}
 use Rattle.py_vm.specs.declared.drive.Drive.TheVariants as question
-use Rattle.py_vm.specs.Run.{Activation, start, state_after, Comes, EachTells}
+use Rattle.py_vm.specs.Run.{start, Comes, EachTells}
 use Rattle.py_vm.specs.RowsOf.{RowsTell, RowsOf}
 use Rattle.py_script.specs.Whole.{AreOf, Asks, AreAsked, AreObjects, Traces}
 use Rattle.py_script.specs.Loaded.{AreCompiled}
-use Rattle.py_script.proofs.Made.{AllAsked, HasTold, made_asked, activation_tells}
+use Rattle.py_script.proofs.Made.{HasTold, made_asked, activation_tells}
 
 -- as many objects as atoms
 pub as_many : (objects : List Payload) (atoms : List Atom) (vs : List Obj) → AreOf objects atoms vs → length vs ≡ length atoms
@@ -59,10 +59,13 @@ function_of trees objects d f vs are well asks = go (called trees d well.calls)
         let g = are.functions j t is in
         let found : declared objects d.function ≡ Some g.0 = ap (declared objects) (sym calls.function) ∙ g.1 in
         let both : Some g.0 ≡ Some f = sym found ∙ asks.0 in
-        let same : g.0 ≡ f = cc both in
-        ( j, t, is
-        , subst (λ (x : Obj). HasPayload objects x (payload.Function (record { name = t.name; code = j }))) same g.2
-        , as_many objects d.args vs asks.1 ∙ sym calls.count )
+        let same : g.0 ≡ f = cc both in (
+          j,
+          t,
+          is,
+          subst (λ (x : Obj). HasPayload objects x (payload.Function (record { name = t.name; code = j }))) same g.2,
+          as_many objects d.args vs asks.1 ∙ sym calls.count,
+        )
 
 -- what rows tell goes on to a run of them
 goes_on : (objects : List Payload) (c : PyCode) (vs : List Obj) (own : List Own) → RowsTell objects c vs own → (more : List Own) × RowsRun objects c vs (own ++ more)

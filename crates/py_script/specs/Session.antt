@@ -1,6 +1,5 @@
 -- A script in a machine: what holds between its drives, and what each call keeps.
 use Rattle.std.specs.Prelude.{ℕ, zero, suc, Some, List, [], ◌∷◌, ◌≡◌, slice_get, length}
-use Rattle.py_code.specs.declared.code.PyCode.{PyCode}
 use Rattle.py_objects.specs.declared.payload.Payload.{Payload}
 use Rattle.py_objects.specs.Objects.{Obj, declared, AreNamed, GrowsPlainly}
 use Rattle.py_body.specs.Tree.{Name, Tree}

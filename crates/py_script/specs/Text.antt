@@ -1,5 +1,5 @@
 -- The text of a journal: a line for each result of a drive, in order.
-use Rattle.std.specs.Prelude.{ℕ, zero, suc, Option, Some, None, List, [], ◌∷◌, ◌++◌, Bool, true, false, ◌||◌, ◌==◌, slice_get, length, codes, decimal, flat_map, encode_utf8, if◌then◌else◌}
+use Rattle.std.specs.Prelude.{ℕ, zero, suc, Option, Some, None, List, [], ◌∷◌, ◌++◌, Bool, true, false, ◌||◌, ◌==◌, slice_get, codes, decimal, flat_map, encode_utf8, if◌then◌else◌}
 use Rattle.std.specs.Fmt.{signed_decimal}
 use Rattle.py_objects.specs.declared.payload.Payload.{Payload}
 use Rattle.py_objects.specs.declared.payload.Payload.TheVariants as payload

@@ -1,4 +1,4 @@
-use Rattle.std.proofs.Common.{◌≡◌, ◌≤◌, ℕ, List, length, subst, arith}
+use Rattle.std.proofs.Common.{◌≤◌, ℕ, List, length, subst, arith}
 use Rattle.std.specs.Prelude.{vec_len}
 use Rattle.py_script.specs.Steps.{IsParsed}
 use Rattle.py_script.proofs.Reading.{parsed_is_read}

@@ -1,7 +1,5 @@
-use Rattle.std.proofs.Common.{◌≡◌, ◌∙◌, ◌+◌, ◌++◌, ◌∷◌, [], List, length, ap, sym}
-use Rattle.py_objects.specs.declared.payload.Payload.{Payload}
+use Rattle.std.proofs.Common.{◌≡◌, ◌∙◌, ◌+◌, ◌++◌, ◌∷◌, [], length, ap}
 use Rattle.py_objects.specs.declared.payload.Payload.TheVariants as payload
-use Rattle.py_objects.specs.declared.payload.FunctionBody.{FunctionBody}
 use Rattle.py_vm.specs.Machine.{objects_of}
 use Rattle.py_script.specs.Session.{refs_from}
 use Rattle.py_script.proofs.Loading.{refs_more, next_ref, next_entry}

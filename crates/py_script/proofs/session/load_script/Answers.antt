@@ -1,13 +1,12 @@
-use Rattle.std.proofs.Common.{◌≡◌, ◌∙◌, ◌++◌, ◌∷◌, [], List, length, map, ap, sym, subst}
+use Rattle.std.proofs.Common.{◌≡◌, ◌∙◌, ◌++◌, List, length, map, ap, sym, subst}
 use Rattle.std.proofs.lemmas.List.{length-map}
 use Rattle.py_code.specs.Codes.{Codes}
 use Rattle.py_code.specs.declared.code.PyCode.{PyCode}
 use Rattle.py_objects.specs.declared.payload.Payload.{Payload}
-use Rattle.py_objects.specs.Objects.{Obj}
 use Rattle.py_grammar.specs.declared.script.Declaration.{Declaration}
 use Rattle.py_grammar.specs.Script.{declared_tree, trees_of}
 use Rattle.py_vm.specs.Classes.{first_objects}
-use Rattle.py_vm.specs.Machine.{objects_of, codes_of, events_of}
+use Rattle.py_vm.specs.Machine.{objects_of, codes_of}
 use Rattle.py_script.specs.Loaded.{AreCompiled, function_entries}
 use Rattle.py_script.specs.Session.{refs_from}
 use Rattle.py_script.proofs.session.load_script.Goals as goal
@@ -24,9 +23,9 @@ returns c =
     let all : (codes_of new).codes ≡ codes = ap (λ (k : Codes). k.codes) c.add_functions.ensures.codes ∙ added in
     let compiled : AreCompiled trees codes = subst (λ (l : List Declaration). AreCompiled (map declared_tree l) codes) c.as_slice.ensures c.in_ok-codes.ensures in
     let objects : objects_of new ≡ objects_of vm ++ function_entries 0 trees =
-        c.in_ok-functions.ensures.objects ∙ ap (λ (l : List Declaration). objects_of vm ++ function_entries 0 (map declared_tree l)) c.as_slice-2.ensures in
+    c.in_ok-functions.ensures.objects ∙ ap (λ (l : List Declaration). objects_of vm ++ function_entries 0 (map declared_tree l)) c.as_slice-2.ensures in
     let functions : c.in_ok-functions.functions ≡ refs_from (length (objects_of vm)) (length ds) =
-        c.in_ok-functions.ensures.functions ∙ ap (λ (l : List Declaration). refs_from (length (objects_of vm)) (length l)) c.as_slice-2.ensures in
+    c.in_ok-functions.ensures.functions ∙ ap (λ (l : List Declaration). refs_from (length (objects_of vm)) (length l)) c.as_slice-2.ensures in
     record {
       stands = c.add_functions.ensures.stands;
       events = c.add_functions.ensures.events ∙ (c.add_codes.ensures.events ∙ c.in_ok-vm.ensures.events);

@@ -1,4 +1,3 @@
-use Rattle.py_grammar.specs.Script.{trees_of, drives_of}
 use Rattle.py_script.proofs.Ran.{runnable_ready, has_run}
 use Rattle.py_script.proofs.session.run_drives.Goals as goal
 

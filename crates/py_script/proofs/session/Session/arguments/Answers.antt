@@ -1,4 +1,4 @@
-use Rattle.std.proofs.Common.{◌≡◌, ◌≤◌, ◌+◌, ◌++◌, ◌∷◌, [], List, length, take, sym, ap, ◌∙◌, subst, arith}
+use Rattle.std.proofs.Common.{◌+◌, ◌++◌, ◌∷◌, [], List, length, take, sym, ap, ◌∙◌, subst}
 use Rattle.std.proofs.lemmas.Grind.{take_at_read}
 use Rattle.py_objects.specs.Objects.{Obj, numbers, AllBelow}
 use Rattle.py_frame.proofs.PlainGrowth.{below_more, length_grown, plainly_grows}

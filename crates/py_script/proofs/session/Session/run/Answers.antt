@@ -1,4 +1,4 @@
-use Rattle.std.proofs.Common.{◌≡◌, ◌∙◌, List, map, ap, sym}
+use Rattle.std.proofs.Common.{◌∙◌, List, map, ap, sym}
 use Rattle.std.specs.Prelude.{slice_get}
 use Rattle.py_grammar.specs.declared.script.DriveLine.{DriveLine}
 use Rattle.py_grammar.specs.Script.{trees_of, drive_of, drives_of}
