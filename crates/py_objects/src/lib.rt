@@ -14,3 +14,6 @@ pub use payload::{ClassBody, ErrorKind, ExceptionBody, FunctionBody, Payload, Pa
 pub use refs::{ObjList, PyBaseExceptionRef, PyObjectRef, PyTypeRef};
 pub use request::{Arithmetic, Request};
 pub use store::Store;
+
+#[cfg(test)]
+mod tests;

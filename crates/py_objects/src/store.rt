@@ -67,6 +67,7 @@ impl Store {
     pub fn into_payloads(self) -> PayloadList
         ensures { result ≡ self }
     {
-        self.payloads
+        let Store { payloads } = self;
+        payloads
     }
 }
