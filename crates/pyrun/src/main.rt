@@ -3,9 +3,8 @@
 
 use py_code::NoMemory;
 use py_script::{StdSink, StdSource, Words, run_command};
-use std::env;
-use std::io;
 use std::process::ExitCode;
+use std::{env, io};
 
 /// The status of a command whose words find no memory.
 const NO_MEMORY: u8 = 8;
