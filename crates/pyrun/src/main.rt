@@ -12,8 +12,10 @@ const NO_MEMORY: u8 = 8;
 /// The words of the command line behind the program's own. A command line that has no text is no known command.
 fn words_of(rt: &HostRuntime) -> Result<Words, NoMemory> {
     let mut words = Words::new(rt.alloc());
-    let Ok(args) = env::args(rt) else {
-        return Ok(words);
+    let args = match env::args(rt) {
+        Ok(args) => args,
+        Err(error) if error.kind() == io::ErrorKind::OutOfMemory => return Err(NoMemory),
+        Err(_) => return Ok(words),
     };
     for word in args.skip(1) {
         words.push(word.as_str())?;
