@@ -1,13 +1,13 @@
 -- What a run answers, from what its steps answered.
-use Rattle.std.specs.Prelude.{◌≡◌, ℕ, ◌⊎◌, List, Option, Some, None, Result, Ok, Err}
-use Rattle.std.proofs.Common.{inl, inr, sym, subst}
+use Rattle.std.specs.Prelude.{◌≡◌, ◌≤◌, ℕ, ◌⊎◌, List, length, Option, Some, None, Result, Ok, Err}
+use Rattle.std.proofs.Common.{inl, inr, sym, subst, arith}
 use Rattle.py_grammar.specs.declared.script.Script.{Script}
 use Rattle.py_vm.specs.declared.fault.VmFault.TheVariants as vm_fault
 use Rattle.py_vm.specs.declared.journal.Journal.{Journal}
 use Rattle.std.specs.Result.{IsErrAnd}
 use Rattle.py_script.specs.declared.fault.ScriptFault.{ScriptFault}
 use Rattle.py_script.specs.declared.fault.ScriptFault.TheVariants as fault
-use Rattle.py_script.specs.Whole.{IsWholeRun, IsCutRun}
+use Rattle.py_script.specs.Whole.{IsPartOfRun, IsWholeRun, IsCutRun}
 use Rattle.py_script.specs.Steps.{WasRead, IsReading, HasRun, IsWriting}
 use Rattle.py_script.specs.Causes.{Ends, IsAnswer}
 
@@ -23,6 +23,11 @@ whole_of_bytes e turns s j read ran = claims_more _ (λ bytes. IsWholeRun bytes 
 cut_of_bytes : (e : Ends) (turns : ℕ) (s : Script) (j : Journal) → IsReading e.left e.left' e.reads e.reads' (Ok s) → HasRun s turns j (Err vm_fault.OutOfTurns) → WasRead e.left e.left' (λ bytes. IsCutRun bytes turns j)
 cut_of_bytes e turns s j read ran = claims_more _ (λ bytes. IsCutRun bytes turns j) e.left e.left' (λ bytes is. (s, is, ran.0, ran.1, ran.2, ran.3)) read
 
+-- whichever run it is of, it is a part of one
+part : (bytes : List ℕ) (turns : ℕ) (j : Journal) → IsWholeRun bytes turns j ⊎ IsCutRun bytes turns j → IsPartOfRun bytes turns j
+part bytes turns j (inl (s, is, run, whole, short, codes)) = (s, is, run, short, codes)
+part bytes turns j (inr (s, is, run, cut, all, codes)) = (s, is, run, (let most : length j.events ≤ turns = omega (arith, all) in most), codes)
+
 -- a journal that wasn't written whole, whichever run it is of
 unwritten : (e : Ends) (turns : ℕ) (j : Journal) (f : ScriptFault) → WasRead e.left e.left' (λ bytes. IsWholeRun bytes turns j ⊎ IsCutRun bytes turns j)
     → IsWriting e.taken e.taken' e.writes e.writes' j (Err f) → IsAnswer e turns (Err f)
@@ -33,7 +38,9 @@ unwritten e turns j fault.TooLong was is = absurd is
 unwritten e turns j (fault.Malformed line) was is = absurd is
 unwritten e turns j (fault.Refused code at) was is = is
 unwritten e turns j (fault.OutOfTurns k) was is = absurd is
-unwritten e turns j (fault.NoMemory k) was is = is.1
+unwritten e turns j (fault.NoMemory k) was is =
+    let P : Journal → Type 0 = λ k. IsAnswer e turns (Err (fault.NoMemory k)) in
+    subst P (sym is.0) (inr (claims_more _ _ e.left e.left' (λ bytes. part bytes turns j) was), is.1)
 
 -- a whole run, however it was written
 pub answered_whole : (e : Ends) (turns : ℕ) (s : Script) (j : Journal) (r : Result Journal ScriptFault) → IsReading e.left e.left' e.reads e.reads' (Ok s)

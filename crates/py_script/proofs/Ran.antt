@@ -1,5 +1,5 @@
 -- What a session's run comes to, in the words of its script.
-use Rattle.std.proofs.Common.{◌≡◌, ◌≤◌, ◌<◌, ℕ, List, length, refl, sym, ap, ◌∙◌, subst, arith}
+use Rattle.std.proofs.Common.{◌≡◌, ◌≤◌, ◌<◌, ℕ, List, length, refl, sym, ap, ◌∙◌, subst, arith, inr}
 use Rattle.std.specs.Prelude.{[], Result, Ok, Err, OnOk}
 use Rattle.py_code.specs.Codes.{Codes}
 use Rattle.py_objects.specs.declared.payload.Payload.{Payload}
@@ -59,7 +59,7 @@ comes_to s turns vm j (Err vm_fault.OutOfTurns) run codes h short whole cut =
       ap length h.events ∙ (cut refl).0,
       codes,
     )
-comes_to s turns vm j (Err vm_fault.NoMemory) run codes h short whole cut = tt
+comes_to s turns vm j (Err vm_fault.NoMemory) run codes h short whole cut = inr (run, subst (λ (es : List Event). length es ≤ turns) (sym h.events) short, codes)
 
 -- what a session's run comes to, with the journal that it leaves
 pub has_run : (s : Script) (turns : ℕ) (vm : VirtualMachine) (j : Journal) (r : Result Unit VmFault) → IsRunnable s → IsInRun (trees_of s) (drives_of s) vm → length (events_of vm) ≤ turns

@@ -41,4 +41,4 @@ parsed_is_read left left' faults faults' bytes (Err fault.TooLong) has short is 
 parsed_is_read left left' faults faults' bytes (Err (fault.Malformed line)) has short is = was_read _ left left' bytes has short is
 parsed_is_read left left' faults faults' bytes (Err (fault.Refused code at)) has short is = is
 parsed_is_read left left' faults faults' bytes (Err (fault.OutOfTurns j)) has short is = is
-parsed_is_read left left' faults faults' bytes (Err (fault.NoMemory j)) has short is = tt
+parsed_is_read left left' faults faults' bytes (Err (fault.NoMemory j)) has short is = is

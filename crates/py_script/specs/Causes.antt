@@ -11,7 +11,7 @@ use Rattle.py_script.specs.declared.fault.ScriptFault.TheVariants as fault
 use Rattle.py_script.specs.declared.fault.CommandResult.{CommandResult}
 use Rattle.py_script.specs.declared.fault.CommandResult.TheVariants as outcome
 use Rattle.py_script.specs.Words.{command_in}
-use Rattle.py_script.specs.Whole.{IsWholeRun, IsCutRun}
+use Rattle.py_script.specs.Whole.{IsEmpty, IsPartOfRun, IsWholeRun, IsCutRun}
 use Rattle.py_script.specs.Text.{text_of}
 use Rattle.py_script.specs.Steps.{WasRead}
 
@@ -36,7 +36,7 @@ IsAnswer e turns (Err fault.TooLong) = IfSome e.left (λ bytes. 2 ^ 20 < length 
 IsAnswer e turns (Err (fault.Malformed line)) = WasRead e.left e.left' (λ bytes. IsBadLine bytes line) × Keeps e.taken e.taken'
 IsAnswer e turns (Err (fault.Refused code at)) = ⊥
 IsAnswer e turns (Err (fault.OutOfTurns j)) = WasRead e.left e.left' (λ bytes. IsCutRun bytes turns j) × Appends e.taken e.taken' (text_of j)
-IsAnswer e turns (Err (fault.NoMemory j)) = Keeps e.taken e.taken'
+IsAnswer e turns (Err (fault.NoMemory j)) = (IsEmpty j ⊎ WasRead e.left e.left' (λ bytes. IsPartOfRun bytes turns j)) × Keeps e.taken e.taken'
 
 -- the status that stands for each result
 abbrev pub status_in : CommandResult → ℕ
@@ -71,5 +71,5 @@ abbrev pub IsEnding : Ends → List (List ℕ) → CommandResult → Type 0
 IsEnding e words (outcome.Ran j) = (turns : ℕ) × (command_in words ≡ command.Run turns) × IsAnswer e turns (Ok j)
 IsEnding e words (outcome.Fault f) = (turns : ℕ) × (command_in words ≡ command.Run turns) × IsAnswer e turns (Err f)
 IsEnding e words (outcome.Made summary) = ⊥
-IsEnding e words outcome.Usage = (command_in words ≡ command.Usage) × Keeps e.taken e.taken'
+IsEnding e words outcome.Usage = (command_in words ≡ command.Usage) × (e.left' ≡ e.left) × Keeps e.taken e.taken'
 IsEnding e words outcome.NoMemory = ⊥

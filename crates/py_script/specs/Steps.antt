@@ -1,5 +1,5 @@
 -- What the steps of a run answer: reading the script, making its drives, and writing the text.
-use Rattle.std.specs.Prelude.{ℕ, ◌<◌, ◌≤◌, ◌^◌, List, Option, Some, IfSome, ◌≡◌, slice_get, length, Result, Ok, Err}
+use Rattle.std.specs.Prelude.{ℕ, ◌<◌, ◌≤◌, ◌^◌, ◌⊎◌, List, Option, Some, IfSome, ◌≡◌, slice_get, length, Result, Ok, Err}
 use Rattle.std.specs.Io.KnownBytes.{Appends, Keeps, IsAtEnd}
 use Rattle.py_outside.specs.Faults.{Rose}
 use Rattle.py_outside.specs.Transfer.{AppendsFront}
@@ -13,7 +13,7 @@ use Rattle.py_vm.specs.declared.fault.VmFault.TheVariants as vm_fault
 use Rattle.py_vm.specs.declared.journal.Journal.{Journal}
 use Rattle.py_script.specs.declared.fault.ScriptFault.{ScriptFault}
 use Rattle.py_script.specs.declared.fault.ScriptFault.TheVariants as fault
-use Rattle.py_script.specs.Whole.{IsRun, IsWhole, RunsItsCodes}
+use Rattle.py_script.specs.Whole.{IsRun, IsWhole, RunsItsCodes, IsEmpty}
 use Rattle.py_script.specs.Text.{text_of}
 
 -- each body of the trees can be compiled
@@ -34,7 +34,7 @@ IsParsed bytes (Err fault.TooLong) = ⊥
 IsParsed bytes (Err (fault.Malformed line)) = IsBadLine bytes line
 IsParsed bytes (Err (fault.Refused code at)) = ⊥
 IsParsed bytes (Err (fault.OutOfTurns j)) = ⊥
-IsParsed bytes (Err (fault.NoMemory j)) = Unit {0}
+IsParsed bytes (Err (fault.NoMemory j)) = IsEmpty j
 
 -- what was read of a source is the bytes that it had left, at most 2^20, and it is at its end
 pub record WasRead (left left' : Option (List ℕ)) (claim : List ℕ → Type 0) : Type 0 where
@@ -51,13 +51,13 @@ IsReading left left' faults faults' (Err fault.TooLong) = IfSome left (λ bytes.
 IsReading left left' faults faults' (Err (fault.Malformed line)) = WasRead left left' (λ bytes. IsBadLine bytes line)
 IsReading left left' faults faults' (Err (fault.Refused code at)) = ⊥
 IsReading left left' faults faults' (Err (fault.OutOfTurns j)) = ⊥
-IsReading left left' faults faults' (Err (fault.NoMemory j)) = Unit {0}
+IsReading left left' faults faults' (Err (fault.NoMemory j)) = IsEmpty j
 
 -- what making the drives of a script in at most so many turns comes to, with the journal that is left
 abbrev pub HasRun : Script → ℕ → Journal → Result Unit VmFault → Type 0
 HasRun s turns j (Ok _) = IsRun s j × IsWhole s j × (length j.events ≤ turns) × RunsItsCodes s j
 HasRun s turns j (Err vm_fault.OutOfTurns) = IsRun s j × (IsWhole s j → ⊥) × (length j.events ≡ turns) × RunsItsCodes s j
-HasRun s turns j (Err vm_fault.NoMemory) = Unit {0}
+HasRun s turns j (Err vm_fault.NoMemory) = IsEmpty j ⊎ (IsRun s j × (length j.events ≤ turns) × RunsItsCodes s j)
 
 -- what writing the text of a journal answers, by the bytes that the sink had taken and its faults, before and after
 abbrev pub IsWriting : Option (List ℕ) → Option (List ℕ) → ℕ → ℕ → Journal → Result Journal ScriptFault → Type 0

@@ -77,6 +77,17 @@ pub record RunsItsCodes (s : Script) (j : Journal) : Type 0 where
   pub compiled : AreCompiled (trees_of s) j.codes.codes
   pub tells : EachTells (RowsOf j.codes.codes j.objects) j.events
 
+-- the journal where nothing ran
+pub record IsEmpty (j : Journal) : Type 0 where
+  pub events : j.events ≡ []
+  pub objects : j.objects ≡ []
+  pub changes : j.changes ≡ []
+  pub codes : j.codes.codes ≡ []
+
+-- the journal is a prefix of a run of the script that the bytes are, of at most so many events
+abbrev pub IsPartOfRun : List ℕ → ℕ → Journal → Type 0
+IsPartOfRun bytes turns j = (s : Script) × IsScript bytes s × IsRun s j × (length j.events ≤ turns) × RunsItsCodes s j
+
 -- the journal is a whole run of the script that the bytes are, of at most so many events
 abbrev pub IsWholeRun : List ℕ → ℕ → Journal → Type 0
 IsWholeRun bytes turns j = (s : Script) × IsScript bytes s × IsRun s j × IsWhole s j × (length j.events ≤ turns) × RunsItsCodes s j

@@ -17,7 +17,7 @@ pub enum ScriptFault {
     Refused(usize, usize),
     /// The turns were spent before the run was whole; the journal is that of the run.
     OutOfTurns(Journal),
-    /// Memory ran out; the journal is that of the run so far.
+    /// Memory ran out; the journal is that of the run so far, or an empty one where nothing ran.
     NoMemory(Journal),
 }
 

@@ -1,6 +1,7 @@
 //! Reading a script from a source.
 
 ghost use Rattle.std.specs.Prelude.{◌≤◌, ◌+◌, ◌^◌, IfOk, length};
+ghost use Rattle.py_script.specs.Whole.{IsEmpty};
 ghost use Rattle.py_script.specs.Steps.{IsParsed, IsReading, IsRunnable};
 
 use crate::fault::ScriptFault;
@@ -12,7 +13,9 @@ use py_vm::Journal;
 use std::alloc::Global;
 
 /// The journal of a run that hasn't begun.
-pub(crate) fn empty_journal(alloc: Global) -> Journal {
+pub(crate) fn empty_journal(alloc: Global) -> Journal
+    ensures { IsEmpty result }
+{
     Journal {
         events: EventList::new(alloc),
         objects: PayloadList::new(alloc),
