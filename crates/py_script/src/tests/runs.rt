@@ -5,6 +5,7 @@ ghost use Rattle.std.specs.Prelude.{◌≤◌};
 use crate::*;
 use py_code::NoMemory;
 use std::alloc::Global;
+use std::process::Abort;
 use std::test::Fail;
 
 // A script of one drive, whose run has seven events and whose text has thirteen bytes.
@@ -58,13 +59,24 @@ fn run(alloc: Global, script: &[u8]) -> Result<Outcome, NoMemory> {
     run_over(alloc, "run", &mut source, text)
 }
 
+/// A run of the script has to be whole, with this text.
+fn assert_writes(
+    rt: &impl Abort,
+    alloc: Global,
+    script: &[u8],
+    text: &str,
+) -> Result<(), NoMemory> {
+    let outcome = run(alloc, script)?;
+    assert_eq!(rt; outcome.status, 0);
+    assert_eq!(rt; outcome.text.bytes(), text.as_bytes());
+    assert_eq!(rt; outcome.notes.bytes(), b"".as_slice());
+    Ok(())
+}
+
 #[test]
 fn a_script_is_run_and_its_text_is_written(rt: HostRuntime) -> Result<(), Fail> {
-    let alloc = rt.alloc();
-    let rows: [(&[u8], &str); 16] = [
+    let rows: [(&[u8], &str); 11] = [
         (SUM, "1 returns 45\n"),
-        (b"", ""),
-        (b"\n \t\n\r\n", ""),
         (b"def f\nreturn 7\nend\n", ""),
         (b"def f\nreturn 7\nend\ncall f\n", "1 returns 7\n"),
         (b"def f\nend\ncall f\n", "1 returns None\n"),
@@ -90,6 +102,18 @@ fn a_script_is_run_and_its_text_is_written(rt: HostRuntime) -> Result<(), Fail> 
             b"def f a\nreturn 1\nreturn a\nend\ncall f 2\n",
             "1 returns 1\n",
         ),
+    ];
+    for (script, text) in rows {
+        assert_writes(&rt, rt.alloc(), script, text)?;
+    }
+    Ok(())
+}
+
+#[test]
+fn blanks_and_line_ends_change_nothing(rt: HostRuntime) -> Result<(), Fail> {
+    let rows: [(&[u8], &str); 5] = [
+        (b"", ""),
+        (b"\n \t\n\r\n", ""),
         (
             b"def f a\r\n\r\nreturn a\r\nend\r\ncall f 5\r\n",
             "1 returns 5\n",
@@ -101,10 +125,7 @@ fn a_script_is_run_and_its_text_is_written(rt: HostRuntime) -> Result<(), Fail> 
         (b"def f\nreturn 8\nend\ncall f", "1 returns 8\n"),
     ];
     for (script, text) in rows {
-        let outcome = run(alloc, script)?;
-        assert_eq!(rt; outcome.status, 0);
-        assert_eq!(rt; outcome.text.bytes(), text.as_bytes());
-        assert_eq!(rt; outcome.notes.bytes(), b"".as_slice());
+        assert_writes(&rt, rt.alloc(), script, text)?;
     }
     Ok(())
 }
