@@ -7,6 +7,8 @@ pub mod Traced
 pub mod Loading
 pub mod Driven
 pub mod Ran
+-- the words of a command line
+mod Turns
 -- what was read
 pub mod Reading
 -- what a run answers

@@ -1,7 +1,7 @@
 //! The words of a command line, and what they ask for.
 
 ghost use Rattle.std.specs.Prelude.{◌≡◌, [], ◌∷◌, ◌++◌, length, slice_get, option_copied, OnOk, OnErr};
-ghost use Rattle.py_script.specs.Words.{command_in};
+ghost use Rattle.py_script.specs.Words.{turns_in, run_of, command_in};
 
 use py_code::NoMemory;
 use std::alloc::Global;
@@ -70,16 +70,49 @@ pub enum Command {
     Usage,
 }
 
-/// What words ask for: `run` alone is a run of 1,000,000 turns.
+/// The turns that a word spells: one or more ASCII digits, with a value of at most 64 bits.
+fn turns_of(word: &[u8]) -> Option<u64>
+    ensures { result ≡ turns_in word.now }
+{
+    if word.is_empty() {
+        return None;
+    }
+    let mut turns: u64 = 0;
+    for digit in word {
+        if !digit.is_ascii_digit() {
+            return None;
+        }
+        let Some(tens) = turns.checked_mul(10) else {
+            return None;
+        };
+        let Some(more) = tens.checked_add(u64::from(*digit - b'0')) else {
+            return None;
+        };
+        turns = more;
+    }
+    Some(turns)
+}
+
+/// The command of `run` with its turns.
+fn run_with(turns: &str) -> Command
+    ensures { result ≡ run_of (turns_in turns.now) }
+{
+    match turns_of(turns.as_bytes()) {
+        Some(turns) => Command::Run { turns },
+        None => Command::Usage,
+    }
+}
+
+/// What words ask for: `run` alone is a run of 1,000,000 turns, and `run T` one of T turns.
 pub fn command_of(words: &Words) -> Command
     ensures { result ≡ command_in words.now }
 {
-    if words.len() != 1 {
+    if words.len() > 2 {
         return Command::Usage;
     }
-    match words.get(0) {
-        Some(word) if word == "run" => Command::Run { turns: 1_000_000 },
-        Some(_) => Command::Usage,
-        None => Command::Usage,
+    match (words.get(0), words.get(1)) {
+        (Some(word), None) if word == "run" => Command::Run { turns: 1_000_000 },
+        (Some(word), Some(turns)) if word == "run" => run_with(turns),
+        _ => Command::Usage,
     }
 }

@@ -33,15 +33,18 @@ fn sink(alloc: Global, fails: &[u64], most: usize) -> Result<SinkMemory, NoMemor
     SinkMemory::new(alloc, fails.to_vec(alloc)?, most, 100)
 }
 
-/// What a command of one word comes to over a source and a sink.
-fn run_over(
+/// What the words come to over a source and a sink.
+fn command_over(
     alloc: Global,
-    word: &str,
+    words: &[&str],
     source: &mut SourceMemory,
     sink: SinkMemory,
 ) -> Result<Outcome, NoMemory> {
-    let mut words = Words::new(alloc);
-    words.push(word)?;
+    let mut pushed = Words::new(alloc);
+    for word in words {
+        pushed.push(word)?;
+    }
+    let words = pushed;
     let mut text = sink;
     let mut notes = SinkMemory::new(alloc, Vec::new(alloc), 100, 100)?;
     let ended = run_command(alloc, &words, source, &mut text, &mut notes);
@@ -52,11 +55,20 @@ fn run_over(
     })
 }
 
+/// What `run` alone comes to over a source and a sink.
+fn run_over(
+    alloc: Global,
+    source: &mut SourceMemory,
+    sink: SinkMemory,
+) -> Result<Outcome, NoMemory> {
+    command_over(alloc, &["run"], source, sink)
+}
+
 /// What a run of a script comes to, with no fault.
 fn run(alloc: Global, script: &[u8]) -> Result<Outcome, NoMemory> {
     let mut source = source(alloc, script, &[], 5)?;
     let text = sink(alloc, &[], 5)?;
-    run_over(alloc, "run", &mut source, text)
+    run_over(alloc, &mut source, text)
 }
 
 /// A run of the script has to be whole, with this text.
@@ -168,14 +180,51 @@ fn what_is_no_script_is_noted_with_its_line(rt: HostRuntime) -> Result<(), Fail>
 fn other_words_read_and_write_nothing(rt: HostRuntime) -> Result<(), Fail> {
     let alloc = rt.alloc();
     let mut source = source(alloc, SUM, &[], 100)?;
-    for word in ["", "Run", "runs", "make"] {
+    let rows: [&[&str]; 13] = [
+        &[],
+        &[""],
+        &["Run"],
+        &["runs"],
+        &["make"],
+        &["7"],
+        &["run", ""],
+        &["run", "+7"],
+        &["run", "-7"],
+        &["run", "7x"],
+        &["run", "18446744073709551616"],
+        &["runs", "7"],
+        &["run", "7", "7"],
+    ];
+    for words in rows {
         let text = sink(alloc, &[], 5)?;
-        let outcome = run_over(alloc, word, &mut source, text)?;
+        let outcome = command_over(alloc, words, &mut source, text)?;
         assert_eq!(rt; outcome.status, 64);
         assert_eq!(rt; outcome.text.bytes(), b"".as_slice());
         assert_eq!(rt; outcome.notes.bytes(), USAGE);
     }
     assert_eq!(rt; read_bytes(alloc, &mut source)?.as_slice(), SUM);
+    Ok(())
+}
+
+#[test]
+fn a_command_may_say_its_turns(rt: HostRuntime) -> Result<(), Fail> {
+    let alloc = rt.alloc();
+    let rows: [(&[u8], &str, u8, &str, &str); 6] = [
+        (b"", "0", 0, "", ""),
+        (SUM, "0", 4, "", "out of turns\n"),
+        (SUM, "6", 4, "", "out of turns\n"),
+        (SUM, "7", 0, "1 returns 45\n", ""),
+        (SUM, "007", 0, "1 returns 45\n", ""),
+        (SUM, "18446744073709551615", 0, "1 returns 45\n", ""),
+    ];
+    for (script, turns, status, text, note) in rows {
+        let mut source = source(alloc, script, &[], 100)?;
+        let taken = sink(alloc, &[], 5)?;
+        let outcome = command_over(alloc, &["run", turns], &mut source, taken)?;
+        assert_eq!(rt; outcome.status, status, "in {turns}");
+        assert_eq!(rt; outcome.text.bytes(), text.as_bytes());
+        assert_eq!(rt; outcome.notes.bytes(), note.as_bytes());
+    }
     Ok(())
 }
 
@@ -186,7 +235,7 @@ fn a_read_that_fails_is_noted(rt: HostRuntime) -> Result<(), Fail> {
     for call in [1u64, 3, 11] {
         let mut source = source(alloc, SUM, &[call], 5)?;
         let text = sink(alloc, &[], 5)?;
-        let outcome = run_over(alloc, "run", &mut source, text)?;
+        let outcome = run_over(alloc, &mut source, text)?;
         assert_eq!(rt; outcome.status, 5, "at {call}");
         assert_eq!(rt; outcome.text.bytes(), b"".as_slice());
         assert_eq!(rt; outcome.notes.bytes(), b"read fault\n".as_slice());
@@ -207,7 +256,7 @@ fn a_write_that_fails_leaves_the_front_of_the_text(rt: HostRuntime) -> Result<()
         };
         let mut source = source(alloc, SUM, &[], 100)?;
         let text = sink(alloc, &[taken as u64 + 1], 1)?;
-        let outcome = run_over(alloc, "run", &mut source, text)?;
+        let outcome = run_over(alloc, &mut source, text)?;
         assert_eq!(rt; outcome.status, status, "at {taken}");
         assert_eq!(rt; outcome.text.bytes(), &whole[..taken]);
         assert_eq!(rt; outcome.notes.bytes(), note);
@@ -223,7 +272,7 @@ fn a_byte_above_the_limit_is_too_long(rt: HostRuntime) -> Result<(), Fail> {
         let blanks = vec![in alloc; b' '; length]?;
         let mut source = SourceMemory::new(blanks, Vec::new(alloc), 4096);
         let text = sink(alloc, &[], 5)?;
-        let outcome = run_over(alloc, "run", &mut source, text)?;
+        let outcome = run_over(alloc, &mut source, text)?;
         assert_eq!(rt; outcome.status, status);
         assert_eq!(rt; outcome.notes.bytes(), note);
     }
