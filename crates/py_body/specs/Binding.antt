@@ -6,7 +6,7 @@ use Rattle.py_body.specs.declared.atom.Atom.{Atom}
 use Rattle.py_body.specs.declared.atom.Atom.TheVariants as atom
 use Rattle.py_body.specs.declared.atom.Operator.{Operator}
 use Rattle.py_body.specs.declared.atom.Operator.TheVariants as operator
-use Rattle.py_body.specs.Tree.{Name, Form, operate, give, Suite, nothing, first, Tree}
+use Rattle.py_body.specs.Tree.{Name, Form, assign, operate, show, give, pass, target_of, Suite, nothing, first, Tree}
 
 -- how many arguments an operator takes
 abbrev pub arity_of : Operator → ℕ
@@ -16,11 +16,14 @@ arity_of operator.Add = 2
 abbrev pub bound : List Name → Name → List Name
 bound names x = if list_any (bytes_eq x) names then names else names ++ x ∷ []
 
+abbrev pub bound_if : List Name → Option Name → List Name
+bound_if names None = names
+bound_if names (Some x) = bound names x
+
 -- the names that a suite binds, behind others, in the order in which its lines first bind them
 abbrev pub bound_by : List Name → Suite → List Name
 bound_by names nothing = names
-bound_by names (first n (operate x op atoms) more) = bound_by (bound names x) more
-bound_by names (first n (give a) more) = bound_by names more
+bound_by names (first n f more) = bound_by (bound_if names (target_of f)) more
 
 -- the names of a body's locals: the parameters in order, then the others
 abbrev pub locals_of : Tree → List Name
@@ -48,24 +51,31 @@ begun (x ∷ xs) (v ∷ vs) = (x, Some v) ∷ begun xs vs
 abbrev pub start_env : Tree → List Obj → Env
 start_env t args = begun (locals_of t) args
 
--- an atom is a number, or one of these names
+-- an atom is a literal, or one of these names
 abbrev pub IsKnown : List Name → Atom → Type 0
+IsKnown names atom.None = Unit {0}
+IsKnown names (atom.Bool b) = Unit {0}
 IsKnown names (atom.Int n) = Unit {0}
+IsKnown names (atom.Str s) = Unit {0}
 IsKnown names (atom.Name x) = Contains names x
 
 -- the atoms of a statement are known, and as many as its operator takes
 abbrev pub FormKnown : List Name → Form → Type 0
+FormKnown names (assign x a) = IsKnown names a
 FormKnown names (operate x op atoms) = (length atoms ≡ arity_of op) × All (IsKnown names) atoms
+FormKnown names (show a) = IsKnown names a
 FormKnown names (give a) = IsKnown names a
+FormKnown names pass = Unit {0}
 
-abbrev pub names_behind : List Name → Form → List Name
-names_behind names (operate x op atoms) = names ++ x ∷ []
-names_behind names (give a) = names
+-- the names behind a statement that binds this one, or none
+abbrev pub names_behind : List Name → Option Name → List Name
+names_behind names None = names
+names_behind names (Some x) = names ++ x ∷ []
 
 -- each name that a statement takes is one of these, or bound by an earlier statement
 abbrev pub SuiteKnown : List Name → Suite → Type 0
 SuiteKnown names nothing = Unit {0}
-SuiteKnown names (first n f more) = FormKnown names f × SuiteKnown (names_behind names f) more
+SuiteKnown names (first n f more) = FormKnown names f × SuiteKnown (names_behind names (target_of f)) more
 
 abbrev pub statements : Suite → ℕ
 statements nothing = 0

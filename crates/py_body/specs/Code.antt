@@ -2,8 +2,8 @@
 use Rattle.std.specs.Prelude.{ℕ, suc, ◌<◌, ◌≤◌, ◌^◌, Some, List, [], ◌∷◌, ◌≡◌, slice_get, length, drop, bytes_eq, if◌then◌else◌}
 use Rattle.py_code.specs.declared.unit.CodeUnit.{CodeUnit}
 use Rattle.py_code.specs.declared.instruction.Instruction.{Instruction}
-use Rattle.py_code.specs.declared.instruction.Instruction.TheVariants.{LoadConst, LoadFast, StoreFast, BinaryOperation, ReturnValue, ReturnConst}
-use Rattle.py_code.specs.declared.literal.Literal.{Literal, None as NoneLiteral, Int as IntLiteral}
+use Rattle.py_code.specs.declared.instruction.Instruction.TheVariants.{LoadConst, LoadFast, StoreFast, BinaryOperation, PrintExpr, ReturnValue, ReturnConst}
+use Rattle.py_code.specs.declared.literal.Literal.{Literal, None as NoneLiteral, Bool as BoolLiteral, Int as IntLiteral, Str as StrLiteral}
 use Rattle.py_code.specs.declared.operator.BinaryOperator.{BinaryOperator}
 use Rattle.py_code.specs.declared.operator.BinaryOperator.TheVariants as binary
 use Rattle.py_code.specs.declared.code.PyCode.{PyCode}
@@ -14,7 +14,7 @@ use Rattle.py_body.specs.declared.atom.Atom.{Atom}
 use Rattle.py_body.specs.declared.atom.Atom.TheVariants as atom
 use Rattle.py_body.specs.declared.atom.Operator.{Operator}
 use Rattle.py_body.specs.declared.atom.Operator.TheVariants as operator
-use Rattle.py_body.specs.Tree.{Name, Form, operate, give, Suite, nothing, first, Tree}
+use Rattle.py_body.specs.Tree.{Name, Form, assign, operate, show, give, pass, Suite, nothing, first, Tree}
 use Rattle.py_body.specs.Binding.{locals_of}
 
 -- the parts of a code that its units refer to
@@ -48,7 +48,10 @@ StandsConst parts line at op literal next = (i : ℕ) × Stands parts line at op
 
 -- from one place to another stands the load of an atom
 abbrev pub LaidAtom : Parts → ℕ → Atom → ℕ → ℕ → Type 0
+LaidAtom parts line atom.None at next = StandsConst parts line at LoadConst NoneLiteral next
+LaidAtom parts line (atom.Bool b) at next = StandsConst parts line at LoadConst (BoolLiteral b) next
 LaidAtom parts line (atom.Int n) at next = StandsConst parts line at LoadConst (IntLiteral n) next
+LaidAtom parts line (atom.Str s) at next = StandsConst parts line at LoadConst (StrLiteral s) next
 LaidAtom parts line (atom.Name x) at next = Stands parts line at LoadFast (place parts.vars x) next
 
 -- the loads of atoms in order
@@ -58,15 +61,18 @@ LaidAtoms parts line (a ∷ atoms) at next = (mid : ℕ) × LaidAtom parts line 
 
 -- the code of a statement of this line
 abbrev pub LaidForm : Parts → ℕ → Form → ℕ → ℕ → Type 0
+LaidForm parts line (assign x a) at next = (stores : ℕ) × LaidAtom parts line a at stores × Stands parts line stores StoreFast (place parts.vars x) next
 LaidForm parts line (operate x op atoms) at next =
     (asks : ℕ) × (stores : ℕ) × LaidAtoms parts line atoms at asks
     × Stands parts line asks BinaryOperation (binary_number (binary_of op)) stores × Stands parts line stores StoreFast (place parts.vars x) next
+LaidForm parts line (show a) at next = (asks : ℕ) × LaidAtom parts line a at asks × Stands parts line asks PrintExpr 0 next
 LaidForm parts line (give a) at next = (ends : ℕ) × LaidAtom parts line a at ends × Stands parts line ends ReturnValue 0 next
+LaidForm parts line pass at next = next ≡ at
 
--- the code of statements behind this line, and the return of None at their end
+-- the code of statements, and at their end the return of None, which comes from no statement: its line is the header's
 abbrev pub LaidSuite : Parts → ℕ → Suite → ℕ → Type 0
-LaidSuite parts line nothing at = (next : ℕ) × StandsConst parts line at ReturnConst NoneLiteral next
-LaidSuite parts line (first n f more) at = (next : ℕ) × LaidForm parts n f at next × LaidSuite parts n more next
+LaidSuite parts header nothing at = (next : ℕ) × StandsConst parts header at ReturnConst NoneLiteral next
+LaidSuite parts header (first n f more) at = (next : ℕ) × LaidForm parts n f at next × LaidSuite parts header more next
 
 -- the parts of a code whose locals have these names
 abbrev pub parts_with : List Name → PyCode → Parts

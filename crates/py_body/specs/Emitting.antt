@@ -7,7 +7,7 @@ use Rattle.py_code.specs.Literals.{literals_of}
 use Rattle.py_code.specs.Units.{decoded_from}
 use Rattle.py_body.specs.declared.atom.Atom.{Atom}
 use Rattle.py_body.specs.declared.emit.Emitter.{Emitter}
-use Rattle.py_body.specs.Tree.{Form, operate, give, Suite, nothing, first, Tree}
+use Rattle.py_body.specs.Tree.{Form, assign, operate, show, give, pass, Suite, nothing, first, Tree}
 use Rattle.py_body.specs.Binding.{locals_of}
 use Rattle.py_body.specs.Naming.{Continues}
 use Rattle.py_body.specs.Code.{Parts, Stands, StandsConst, LaidAtom, LaidAtoms, LaidForm, LaidSuite}
@@ -72,8 +72,11 @@ EmitsAtoms old new atoms line = Emits old new (4 * length atoms) (λ whole at ne
 
 -- no fewer units than a statement takes
 abbrev pub size_of_form : Form → ℕ
+size_of_form (assign x a) = 8
 size_of_form (operate x op atoms) = 4 * length atoms + 8
+size_of_form (show a) = 8
 size_of_form (give a) = 8
+size_of_form pass = 0
 
 abbrev pub EmitsForm : Parts → Parts → Form → ℕ → Type 0
 EmitsForm old new f line = Emits old new (size_of_form f) (λ whole at next. LaidForm whole line f at next)

@@ -8,7 +8,7 @@ use Rattle.py_objects.specs.declared.payload.Payload.{Payload}
 use Rattle.py_objects.specs.declared.payload.Payload.TheVariants as payload
 use Rattle.py_objects.specs.declared.request.Arithmetic.TheVariants as arithmetic
 use Rattle.py_objects.specs.declared.request.Request.{Request}
-use Rattle.py_objects.specs.declared.request.Request.TheVariants.{Binary}
+use Rattle.py_objects.specs.declared.request.Request.TheVariants.{Binary, Show}
 use Rattle.py_objects.specs.Objects.{Obj}
 use Rattle.py_objects.specs.Own.{Own}
 use Rattle.py_objects.specs.Telling.{Given, Failed, Stopped, AfterValue, IsLiteral, Asked}
@@ -16,7 +16,7 @@ use Rattle.py_body.specs.declared.atom.Atom.{Atom}
 use Rattle.py_body.specs.declared.atom.Atom.TheVariants as atom
 use Rattle.py_body.specs.declared.atom.Operator.{Operator}
 use Rattle.py_body.specs.declared.atom.Operator.TheVariants as operator
-use Rattle.py_body.specs.Tree.{Form, operate, give, Suite, nothing, first}
+use Rattle.py_body.specs.Tree.{Form, assign, operate, show, give, pass, Suite, nothing, first}
 use Rattle.py_body.specs.Binding.{Env, find_local, set_local}
 
 -- what a statement comes to
@@ -43,7 +43,10 @@ Named (Some (Some v)) ts K = K (Given v) ts
 
 -- an atom's object
 abbrev pub Loads : List Payload → Env → Atom → List Own → AfterValue → Type 0
+Loads objects env atom.None ts K = IsLiteral objects payload.None ts K
+Loads objects env (atom.Bool b) ts K = IsLiteral objects (payload.Bool b) ts K
 Loads objects env (atom.Int n) ts K = IsLiteral objects (payload.Int n) ts K
+Loads objects env (atom.Str s) ts K = IsLiteral objects (payload.Str s) ts K
 Loads objects env (atom.Name x) ts K = Named (find_local x env) ts K
 
 -- atoms from the left
@@ -63,10 +66,14 @@ abbrev pub Asked_if : Option Request → Option PyBaseExceptionRef → List Own 
 Asked_if None h ts K = ⊥
 Asked_if (Some r) h ts K = Asked r h ts K
 
+-- a statement
 abbrev pub Runs : List Payload → Form → Env → Option PyBaseExceptionRef → List Own → After → Type 0
+Runs objects (assign x a) env h ts K = Loads objects env a ts (Use env K (λ v. K (set_local x (Some v) env) Normal))
 Runs objects (operate x op atoms) env h ts K =
     LoadsAll objects env atoms ts K (λ vs mid. Asked_if (request_of op vs) h mid (Use env K (λ v. K (set_local x (Some v) env) Normal)))
+Runs objects (show a) env h ts K = Loads objects env a ts (Use env K (λ v mid. Asked (Show v) h mid (Use env K (λ u. K env Normal))))
 Runs objects (give a) env h ts K = Loads objects env a ts (Use env K (λ v. K env (Returns v)))
+Runs objects pass env h ts K = K env Normal ts
 
 -- behind a statement of a sequence: the next one where it came to its end, else its outcome is that of all
 abbrev pub On_normal : After → (Env → List Own → Type 0) → After

@@ -1,10 +1,10 @@
 -- Bodies as the definitions see them: plain trees, apart from the program's lists.
-use Rattle.std.specs.Prelude.{ℕ, List, [], ◌∷◌}
+use Rattle.std.specs.Prelude.{ℕ, Option, Some, None, List, [], ◌∷◌}
 use Rattle.py_body.specs.declared.atom.Atom.{Atom}
 use Rattle.py_body.specs.declared.atom.Operator.{Operator}
 use Rattle.py_body.specs.declared.stmt.Stmt.{Stmt}
 use Rattle.py_body.specs.declared.stmt.StmtForm.{StmtForm}
-use Rattle.py_body.specs.declared.stmt.StmtForm.TheVariants.{Operate, Return}
+use Rattle.py_body.specs.declared.stmt.StmtForm.TheVariants.{Assign, Operate, Show, Return, Pass}
 use Rattle.py_body.specs.declared.body.Body.{Body}
 
 -- a name is the list of its characters
@@ -13,8 +13,11 @@ Name = List ℕ
 
 -- a statement
 pub data Form : Type 0 where
+  assign : Name → Atom → Form  -- x = a
   operate : Name → Operator → List Atom → Form  -- x = (op a ..)
+  show : Atom → Form  -- show a
   give : Atom → Form  -- return a
+  pass : Form  -- pass
 
 -- statements in order, each with its line
 pub data Suite : Type 0 where
@@ -22,8 +25,19 @@ pub data Suite : Type 0 where
   first : ℕ → Form → Suite → Suite
 
 abbrev pub form_of : StmtForm → Form
+form_of (Assign x a) = assign x a
 form_of (Operate x op atoms) = operate x op atoms
+form_of (Show a) = show a
 form_of (Return a) = give a
+form_of Pass = pass
+
+-- the name that a statement binds, where it binds one
+abbrev pub target_of : Form → Option Name
+target_of (assign x a) = Some x
+target_of (operate x op atoms) = Some x
+target_of (show a) = None
+target_of (give a) = None
+target_of pass = None
 
 -- the suite of a list of statements
 abbrev pub suite_of : List Stmt → Suite

@@ -5,8 +5,14 @@ use py_code::{ItemList, PyText};
 /// A value that a line names without computing it.
 #[derive(Drop)]
 pub enum Atom {
+    /// `None`.
+    None,
+    /// `True` or `False`.
+    Bool(bool),
     /// A whole number.
     Int(i128),
+    /// A text.
+    Str(PyText),
     /// A name, read as a local or a global.
     Name(PyText),
 }
@@ -17,6 +23,6 @@ pub type AtomList = ItemList<Atom>;
 /// An operator, whose arguments follow it in the line.
 #[derive(Clone, Copy, Debug, PartialEq, Eq)]
 pub enum Operator {
-    /// `add a b`: the sum of two numbers.
+    /// `add a b`: the sum of two numbers, or two texts as one.
     Add,
 }

@@ -13,10 +13,16 @@ pub struct Stmt {
 /// What a statement says, a variant a line of the grammar.
 #[derive(Drop)]
 pub enum StmtForm {
+    /// `x = a`: a value is bound to a name.
+    Assign(PyText, Atom),
     /// `x = (op a ..)`: the operator's value is bound to a name.
     Operate(PyText, Operator, AtomList),
+    /// `show a`.
+    Show(Atom),
     /// `return a`.
     Return(Atom),
+    /// `pass`, which does nothing.
+    Pass,
 }
 
 /// Statements in order.

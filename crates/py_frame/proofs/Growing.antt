@@ -38,7 +38,7 @@ pub steps_mapped : (objects objects' : List Payload) (code : PyCode) (x : Expect
     → ((s1 : State) (us : List Own) → K s1 us → K' s1 us) → Steps objects code x s ts K → Steps objects' code x s ts K'
 steps_mapped objects objects' code expect.Start s ts K K' grows f (mid, is, behind) = (mid, is, f _ mid behind)
 steps_mapped objects objects' code expect.Go s ts K K' grows f behind = by_move_mapped objects objects' (advance code s) ts K K' grows f behind
-steps_mapped objects objects' code expect.Answer s ts K K' grows f (w, mid, is, behind) = (w, mid, is, by_step_mapped (receive w s) mid K K' f behind)
+steps_mapped objects objects' code expect.Answer s ts K K' grows f (w, mid, is, behind) = (w, mid, is, by_step_mapped (receive code w s) mid K K' f behind)
 steps_mapped objects objects' code expect.Ended s ts K K' grows f behind = behind
 
 -- n steps go over to more objects

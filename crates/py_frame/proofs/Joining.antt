@@ -26,7 +26,7 @@ steps_followed : (objects : List Payload) (code : PyCode) (x : Expect) (s : Stat
     → Steps objects code x s ts K → Steps objects code x s (ts ++ more) K'
 steps_followed objects code expect.Start s ts more K K' f (mid, is, behind) = (mid ++ more, ap (λ us. us ++ more) is, f _ mid behind)
 steps_followed objects code expect.Go s ts more K K' f behind = by_move_followed objects (advance code s) ts more K K' f behind
-steps_followed objects code expect.Answer s ts more K K' f (w, mid, is, behind) = (w, mid ++ more, ap (λ us. us ++ more) is, by_step_followed (receive w s) mid more K K' f behind)
+steps_followed objects code expect.Answer s ts more K K' f (w, mid, is, behind) = (w, mid ++ more, ap (λ us. us ++ more) is, by_step_followed (receive code w s) mid more K K' f behind)
 steps_followed objects code expect.Ended s ts more K K' f behind = behind
 
 -- n steps and then m steps are n + m steps

@@ -5,7 +5,7 @@ use Rattle.std.proofs.lemmas.Option.{slice_get_within}
 use Rattle.py_code.specs.declared.code.PyCode.{PyCode}
 use Rattle.py_code.specs.declared.unit.CodeUnit.{CodeUnit}
 use Rattle.py_code.specs.declared.instruction.Instruction.{Instruction}
-use Rattle.py_code.specs.declared.instruction.Instruction.TheVariants.{LoadConst, LoadFast, StoreFast, Pop, BinaryOperation, ReturnValue, ReturnConst, ExtendedArg}
+use Rattle.py_code.specs.declared.instruction.Instruction.TheVariants.{LoadConst, LoadFast, StoreFast, Pop, BinaryOperation, PrintExpr, ReturnValue, ReturnConst, ExtendedArg}
 use Rattle.py_code.specs.declared.literal.Literal.{Literal}
 use Rattle.py_code.specs.Literals.{literals_of}
 use Rattle.py_code.specs.Operators.{binary_operators}
@@ -13,7 +13,7 @@ use Rattle.py_code.specs.Units.{with_byte}
 use Rattle.py_objects.specs.declared.payload.Payload.{Payload}
 use Rattle.py_objects.specs.declared.request.Arithmetic.{Arithmetic}
 use Rattle.py_objects.specs.Objects.{Obj}
-use Rattle.py_frame.specs.Rows.{State, Step, Goes, Tells, Stuck, Move, Plainly, Loads, payload_of, or_stuck, loads, set_in, load_fast, store_fast, pop, arithmetic_of, binary_operation, return_value, act, unit_move, advance}
+use Rattle.py_frame.specs.Rows.{State, Step, Goes, Tells, Stuck, Move, Plainly, Loads, payload_of, or_stuck, loads, set_in, load_fast, store_fast, pop, arithmetic_of, binary_operation, print_expr, return_value, act, unit_move, advance}
 use Rattle.py_frame.specs.UnitSteps.{MayLead}
 
 -- a step behind the unit of a state, which waits for nothing else where it goes on
@@ -60,6 +60,11 @@ binary_behind (Some op) [] s = tt
 binary_behind (Some op) (b ∷ []) s = tt
 binary_behind (Some op) (b ∷ a ∷ stack) s = refl
 
+-- a value that is shown
+print_behind : (stack : List Obj) (s : State) → IsBehind s (print_expr stack s)
+print_behind [] s = tt
+print_behind (v ∷ stack) s = refl
+
 -- a value that is returned
 return_behind : (stack : List Obj) (s : State) → IsBehind s (return_value stack s)
 return_behind [] s = tt
@@ -72,6 +77,7 @@ act_behind code LoadFast i s = load_behind (set_in (slice_get s.locals i)) s
 act_behind code StoreFast i s = store_behind i s.stack s
 act_behind code Pop i s = pop_behind s.stack s
 act_behind code BinaryOperation i s = binary_behind (arithmetic_of (slice_get binary_operators i)) s.stack s
+act_behind code PrintExpr i s = print_behind s.stack s
 act_behind code ReturnValue i s = return_behind s.stack s
 act_behind code ReturnConst i s = literal_behind (slice_get (literals_of code.code.constants) i) _ s (λ v. refl)
 act_behind code ExtendedArg i s = (refl, refl)

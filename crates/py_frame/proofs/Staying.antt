@@ -1,11 +1,11 @@
 -- Where all numbers that go into a frame name objects, so do all that come out.
-use Rattle.std.proofs.Common.{◌≡◌, ◌<◌, ℕ, zero, suc, List, [], ◌∷◌, Bool, true, false, cond, Some, refl, sym, subst, length}
+use Rattle.std.proofs.Common.{◌≡◌, ◌<◌, ◌-◌, ℕ, zero, suc, List, [], ◌∷◌, Bool, true, false, cond, Some, refl, sym, subst, length}
 use Rattle.std.specs.Prelude.{Option, None, slice_get, slice_set, nat_lt}
 use Rattle.std.proofs.lemmas.Option.{slice_get_within}
 use Rattle.py_code.specs.declared.code.PyCode.{PyCode}
 use Rattle.py_code.specs.declared.unit.CodeUnit.{CodeUnit}
 use Rattle.py_code.specs.declared.instruction.Instruction.{Instruction}
-use Rattle.py_code.specs.declared.instruction.Instruction.TheVariants.{LoadConst, LoadFast, StoreFast, Pop, BinaryOperation, ReturnValue, ReturnConst, ExtendedArg}
+use Rattle.py_code.specs.declared.instruction.Instruction.TheVariants.{LoadConst, LoadFast, StoreFast, Pop, BinaryOperation, PrintExpr, ReturnValue, ReturnConst, ExtendedArg}
 use Rattle.py_code.specs.declared.literal.Literal.{Literal}
 use Rattle.py_code.specs.Literals.{literals_of}
 use Rattle.py_code.specs.Operators.{binary_operators}
@@ -19,7 +19,7 @@ use Rattle.py_objects.specs.Objects.{Obj, AllBelow, numbers, got_numbers}
 use Rattle.py_objects.specs.Own.{Own, Makes, Resumes, Gets}
 use Rattle.py_frame.specs.declared.input.Expect.{Expect}
 use Rattle.py_frame.specs.declared.input.Expect.TheVariants as expect
-use Rattle.py_frame.specs.Rows.{State, Step, Goes, Tells, Stuck, Move, Plainly, Loads, payload_of, or_stuck, loads, set_in, load_fast, store_fast, pop, arithmetic_of, binary_operation, return_value, act, unit_move, advance, receive}
+use Rattle.py_frame.specs.Rows.{State, Step, Goes, Tells, Stuck, Move, Plainly, Loads, payload_of, or_stuck, loads, set_in, load_fast, store_fast, pop, arithmetic_of, binary_operation, print_expr, return_value, act, unit_move, advance, answered, unit_answered, receive}
 use Rattle.py_frame.specs.RunOfRows.{Behind, ByStep, ByMove, Steps, Reaches, filled, started}
 use Rattle.py_frame.specs.Laws.{told_numbers, HearsBelow, TellsBelow, RunsStayBelow}
 
@@ -101,6 +101,11 @@ binary_below n (Some op) (b ∷ []) s holds below = tt
 binary_below n (Some op) (b ∷ a ∷ stack) s holds below =
     ((below.1.0, (below.0, tt)), record { in_stack = below.1.1; in_locals = holds.in_locals })
 
+-- a value that is shown
+print_below : (n : ℕ) (stack : List Obj) (s : State) → HoldsBelow n s → AllBelow n (numbers stack) → StepBelow n (print_expr stack s)
+print_below n [] s holds below = tt
+print_below n (v ∷ stack) s holds below = ((below.0, tt), record { in_stack = below.1; in_locals = holds.in_locals })
+
 -- a value that is returned
 return_below : (n : ℕ) (stack : List Obj) (s : State) → HoldsBelow n s → AllBelow n (numbers stack) → StepBelow n (return_value stack s)
 return_below n [] s holds below = tt
@@ -113,6 +118,7 @@ act_below code LoadFast i n s holds = load_below n (slice_get s.locals i) s hold
 act_below code StoreFast i n s holds = store_below n i s.stack s holds holds.in_stack
 act_below code Pop i n s holds = pop_below n s.stack s holds holds.in_stack
 act_below code BinaryOperation i n s holds = binary_below n (arithmetic_of (slice_get binary_operators i)) s.stack s holds holds.in_stack
+act_below code PrintExpr i n s holds = print_below n s.stack s holds holds.in_stack
 act_below code ReturnValue i n s holds = return_below n s.stack s holds holds.in_stack
 act_below code ReturnConst i n s holds = literal_below n (slice_get (literals_of code.code.constants) i) _ (λ v below. ((below, tt), record { in_stack = holds.in_stack; in_locals = holds.in_locals }))
 act_below code ExtendedArg i n s holds = record { in_stack = holds.in_stack; in_locals = holds.in_locals }
@@ -125,11 +131,22 @@ advance_below code n s holds =
     let cases : (unit : Option CodeUnit) → P unit = λ unit. elim unit as P [ None ↦ tt | Some u ↦ act_below code u.op (with_byte s.prefix u.arg) n s holds ] in
     cases (slice_get code.code.instructions.items s.at)
 
+-- so does an instruction with the value that answers it
+answered_below : (n : ℕ) (op : Instruction) (v : Obj) (s : State) → v.number < n → HoldsBelow n s → StepBelow n (answered op v s)
+answered_below n BinaryOperation v s below holds = record { in_stack = (below, holds.in_stack); in_locals = holds.in_locals }
+answered_below n PrintExpr v s below holds = holds
+answered_below n _ v s below holds = tt
+
+unit_answered_below : (n : ℕ) (unit : Option CodeUnit) (v : Obj) (s : State) → v.number < n → HoldsBelow n s → StepBelow n (unit_answered unit v s)
+unit_answered_below n None v s below holds = tt
+unit_answered_below n (Some u) v s below holds = answered_below n u.op v s below holds
+
 -- so does an answer
-receive_below : (n : ℕ) (w : GotAnswer) (s : State) → HoldsBelow n s → AllBelow n (got_numbers w) → StepBelow n (receive w s)
-receive_below n (got.Value v) s holds below = record { in_stack = (below.0, holds.in_stack); in_locals = holds.in_locals }
-receive_below n (got.Raise e) s holds below = (below, record { in_stack = holds.in_stack; in_locals = holds.in_locals })
-receive_below n (got.Stop v) s holds below = tt
+receive_below : (code : PyCode) (n : ℕ) (w : GotAnswer) (s : State) → HoldsBelow n s → AllBelow n (got_numbers w) → StepBelow n (receive code w s)
+receive_below code n (got.Value v) s holds below =
+    unit_answered_below n (slice_get code.code.instructions.items (s.at - 1)) v _ below.0 (record { in_stack = holds.in_stack; in_locals = holds.in_locals })
+receive_below code n (got.Raise e) s holds below = (below, record { in_stack = holds.in_stack; in_locals = holds.in_locals })
+receive_below code n (got.Stop v) s holds below = tt
 
 -- the same of a step by what the frame waits for
 steps_below : (objects : List Payload) (code : PyCode) (x : Expect) (s : State) (ts : List Own) (K : Behind)
@@ -144,7 +161,7 @@ steps_below objects code expect.Go s ts K f holds hears behind =
 steps_below objects code expect.Answer s ts K f holds hears (w, mid, is, behind) =
     let n : ℕ = length objects in
     let heard : HearsBelow n (Gets w ∷ mid) = subst (HearsBelow n) is hears in
-    subst (TellsBelow n) (sym is) (tt, by_step_below n (receive w s) mid K f (receive_below n w s holds heard.0) heard.1 behind)
+    subst (TellsBelow n) (sym is) (tt, by_step_below n (receive code w s) mid K f (receive_below code n w s holds heard.0) heard.1 behind)
 steps_below objects code expect.Ended s ts K f holds hears behind = absurd behind
 
 -- a run from a state that holds numbers below tells numbers below

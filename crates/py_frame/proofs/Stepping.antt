@@ -1,12 +1,15 @@
 -- How steps of the code make steps of a run.
 use Rattle.std.proofs.Common.{◌≡◌, ◌<◌, ◌-◌, ◌+◌, ◌++◌, ℕ, zero, suc, List, [], ◌∷◌, refl, sym, ap, subst, length, arith, ◌∙◌, Ok, Err}
-use Rattle.std.specs.Prelude.{Result, IfOk}
+use Rattle.std.specs.Prelude.{Option, None, Some, Result, IfOk}
 use Rattle.py_code.specs.declared.code.PyCode.{PyCode}
+use Rattle.py_code.specs.declared.instruction.Instruction.{Instruction}
+use Rattle.py_code.specs.declared.instruction.Instruction.TheVariants.{BinaryOperation, PrintExpr}
+use Rattle.py_code.specs.declared.unit.CodeUnit.{CodeUnit}
 use Rattle.py_objects.specs.declared.payload.Payload.{Payload}
 use Rattle.py_objects.specs.declared.event.GotAnswer.{GotAnswer}
 use Rattle.py_objects.specs.declared.event.GotAnswer.TheVariants as got
 use Rattle.py_objects.specs.declared.event.ResumeHow.TheVariants as how
-use Rattle.py_objects.specs.Objects.{Grows, GrowsPlainly}
+use Rattle.py_objects.specs.Objects.{Obj, Grows, GrowsPlainly}
 use Rattle.py_objects.specs.Own.{Own, Resumes, Gets}
 use Rattle.py_frame.specs.declared.input.Input.{Input}
 use Rattle.py_frame.specs.declared.input.FrameStep.{FrameStep}
@@ -16,7 +19,7 @@ use Rattle.py_frame.specs.declared.input.Expect.TheVariants as expect
 use Rattle.py_frame.specs.declared.input.Input.TheVariants as input
 use Rattle.py_frame.specs.declared.execute.UnitStep.{UnitStep}
 use Rattle.py_frame.specs.declared.execute.UnitStep.TheVariants as unit
-use Rattle.py_frame.specs.Rows.{State, Step, Goes, Tells, Stuck, Move, Plainly, Loads, waiting, advance, receive}
+use Rattle.py_frame.specs.Rows.{State, Step, Goes, Tells, Stuck, Move, Plainly, Loads, waiting, advance, answered, unit_answered, receive}
 use Rattle.py_frame.specs.RunOfRows.{Behind, ByStep, ByMove, Steps, IsFree, IsFreeMove, IsFreeAt, IsRunning}
 use Rattle.py_frame.specs.Steps.{Expects, Extends, heard, told, expected}
 use Rattle.py_frame.specs.UnitSteps.{told_event, effect, MayLead, Leads}
@@ -58,12 +61,12 @@ pub unit_tells : (objects : List Payload) (code : PyCode) (s t : State) (x : Own
 unit_tells objects code s t x is led = one_step objects code expect.Go s (x ∷ []) t is (by_move_led objects (advance code s) (Tells x t) (x ∷ []) (Last t) led ([], refl, (refl, refl)))
 
 -- an answer that the frame goes on with
-pub answer_leads : (objects : List Payload) (code : PyCode) (s t : State) (w : GotAnswer) → s.wants ≡ expect.Answer → receive w s ≡ Goes t → Leads objects code s (Gets w ∷ []) t
+pub answer_leads : (objects : List Payload) (code : PyCode) (s t : State) (w : GotAnswer) → s.wants ≡ expect.Answer → receive code w s ≡ Goes t → Leads objects code s (Gets w ∷ []) t
 answer_leads objects code s t w is led =
     one_step objects code expect.Answer s (Gets w ∷ []) t is (w, [], refl, subst (λ (d : Step). ByStep d [] (Last t)) (sym led) (refl, refl))
 
 -- an answer that the frame ends by
-pub answer_tells : (objects : List Payload) (code : PyCode) (s t : State) (w : GotAnswer) (x : Own) → s.wants ≡ expect.Answer → receive w s ≡ Tells x t → Leads objects code s (Gets w ∷ x ∷ []) t
+pub answer_tells : (objects : List Payload) (code : PyCode) (s t : State) (w : GotAnswer) (x : Own) → s.wants ≡ expect.Answer → receive code w s ≡ Tells x t → Leads objects code s (Gets w ∷ x ∷ []) t
 answer_tells objects code s t w x is led =
     one_step objects code expect.Answer s (Gets w ∷ x ∷ []) t is (w, x ∷ [], refl, subst (λ (d : Step). ByStep d (x ∷ []) (Last t)) (sym led) ([], refl, (refl, refl)))
 
@@ -118,18 +121,27 @@ step_told objects code s t step is led =
     subst (λ (n : ℕ). Leads objects code s (told n step) t) at (subst (λ (ts : List Own). Leads objects code s ts t) (sym (told_event_is s.at step)) leads)
 
 -- an answer leads to no other unit
-answer_behind : (w : GotAnswer) (s t : State) (x : Own) → receive w s ≡ Tells x t → t.at ≡ s.at
-answer_behind (got.Value v) s t x led = absurd (let e : Goes _ ≡ Tells x t = led in cc)
-answer_behind (got.Raise e) s t x led =
+answered_goes : (op : Instruction) (v : Obj) (s t : State) (x : Own) → answered op v s ≡ Tells x t → ⊥
+answered_goes BinaryOperation v s t x led = (let e : Goes _ ≡ Tells x t = led in cc)
+answered_goes PrintExpr v s t x led = (let e : Goes _ ≡ Tells x t = led in cc)
+answered_goes _ v s t x led = (let e : Stuck ≡ Tells x t = led in cc)
+
+unit_answered_goes : (unit : Option CodeUnit) (v : Obj) (s t : State) (x : Own) → unit_answered unit v s ≡ Tells x t → ⊥
+unit_answered_goes None v s t x led = (let e : Stuck ≡ Tells x t = led in cc)
+unit_answered_goes (Some u) v s t x led = answered_goes u.op v s t x led
+
+answer_behind : (code : PyCode) (w : GotAnswer) (s t : State) (x : Own) → receive code w s ≡ Tells x t → t.at ≡ s.at
+answer_behind code (got.Value v) s t x led = absurd (unit_answered_goes _ v _ t x led)
+answer_behind code (got.Raise e) s t x led =
     let P : Step → Type 0 = λ d. elim d as (λ _. Type 0) [ Goes u ↦ ⊥ | Tells y u ↦ u.at ≡ s.at | Stuck ↦ ⊥ ] in
     subst P led refl
-answer_behind (got.Stop v) s t x led = absurd (let e : Stuck ≡ Tells x t = led in cc)
+answer_behind code (got.Stop v) s t x led = absurd (let e : Stuck ≡ Tells x t = led in cc)
 
 -- an answer that the frame ends by
-pub answer_told : (objects : List Payload) (code : PyCode) (s t : State) (w : GotAnswer) (step : FrameStep) → s.wants ≡ expect.Answer → receive w s ≡ Tells (told_event (s.at - 1) step) t
+pub answer_told : (objects : List Payload) (code : PyCode) (s t : State) (w : GotAnswer) (step : FrameStep) → s.wants ≡ expect.Answer → receive code w s ≡ Tells (told_event (s.at - 1) step) t
     → Leads objects code s (Gets w ∷ told (t.at - 1) step) t
 answer_told objects code s t w step is led =
-    let at : s.at - 1 ≡ t.at - 1 = ap (λ n. n - 1) (sym (answer_behind w s t _ led)) in
+    let at : s.at - 1 ≡ t.at - 1 = ap (λ n. n - 1) (sym (answer_behind code w s t _ led)) in
     let leads : Leads objects code s (Gets w ∷ told_event (s.at - 1) step ∷ []) t = answer_tells objects code s t w _ is led in
     subst (λ (n : ℕ). Leads objects code s (Gets w ∷ told n step) t) at (subst (λ (ts : List Own). Leads objects code s (Gets w ∷ ts) t) (sym (told_event_is (s.at - 1) step)) leads)
 
@@ -153,6 +165,19 @@ expects_answer expect.Start w h = absurd h
 expects_answer expect.Go w h = absurd h
 expects_answer expect.Answer w h = refl
 expects_answer expect.Ended w h = absurd h
+
+-- a frame that runs has a meaning for each answer that it expects
+pub answer_moves : (objects : List Payload) (code : PyCode) (s t : State) (w : GotAnswer) (step : UnitStep) → IsRunning objects code s → Expects s.wants (input.Answer w)
+    → receive code w s ≡ effect (s.at - 1) step t → step ≡ unit.Stuck → ⊥
+answer_moves objects code s t (got.Value v) step running expects row is =
+    let free : IsFreeAt code expect.Answer s =
+    subst (λ (x : Expect). IsFreeAt code x s) (expects_answer _ _ expects) (running.sound.free objects running.args running.told s refl running.is_at) in
+    let none : IsFree Stuck = subst IsFree (row ∙ ap (λ (u : UnitStep). effect (s.at - 1) u t) is) (free v) in
+    none
+answer_moves objects code s t (got.Raise e) step running expects row is =
+    (let never : Tells _ _ ≡ Stuck = row ∙ ap (λ (u : UnitStep). effect (s.at - 1) u t) is in cc)
+answer_moves objects code s t (got.Stop v) step running expects row is =
+    (let never : ⊥ = subst (λ (x : Expect). Expects x (input.Answer (got.Stop v))) (expects_answer _ _ expects) expects in never)
 
 -- what holds of a value holds of what follows
 pub if_ok_mapped : {A B : Type 0} (r : Result A B) (P Q : A → Type 0) → ((v : A) → P v → Q v) → IfOk r P → IfOk r Q

@@ -1,7 +1,7 @@
 -- What units of code do, an equation an instruction.
 use Rattle.std.specs.Prelude.{ℕ, suc, ◌-◌, Option, Some, None, List, [], ◌∷◌, slice_get, slice_set, length, nat_lt, if◌then◌else◌}
 use Rattle.py_code.specs.declared.instruction.Instruction.{Instruction}
-use Rattle.py_code.specs.declared.instruction.Instruction.TheVariants.{LoadConst, LoadFast, StoreFast, Pop, BinaryOperation, ReturnValue, ReturnConst, ExtendedArg}
+use Rattle.py_code.specs.declared.instruction.Instruction.TheVariants.{LoadConst, LoadFast, StoreFast, Pop, BinaryOperation, PrintExpr, ReturnValue, ReturnConst, ExtendedArg}
 use Rattle.py_code.specs.declared.unit.CodeUnit.{CodeUnit}
 use Rattle.py_code.specs.declared.literal.Literal.{Literal, None as NoneLiteral, Bool as BoolLiteral, Int as IntLiteral, Str as StrLiteral, Tuple' as TupleLiteral, Code as CodeLiteral, Builtin as BuiltinLiteral}
 use Rattle.py_code.specs.declared.operator.BinaryOperator.{BinaryOperator}
@@ -14,7 +14,7 @@ use Rattle.py_objects.specs.declared.payload.Payload.{Payload}
 use Rattle.py_objects.specs.declared.payload.Payload.TheVariants as payload
 use Rattle.py_objects.specs.declared.request.Arithmetic.{Arithmetic}
 use Rattle.py_objects.specs.declared.request.Arithmetic.TheVariants.{Add}
-use Rattle.py_objects.specs.declared.request.Request.TheVariants.{Binary}
+use Rattle.py_objects.specs.declared.request.Request.TheVariants.{Binary, Show}
 use Rattle.py_objects.specs.declared.event.GotAnswer.{GotAnswer}
 use Rattle.py_objects.specs.declared.event.GotAnswer.TheVariants as got
 use Rattle.py_objects.specs.declared.event.Ending.TheVariants as ending
@@ -104,6 +104,11 @@ binary_operation (Some op) [] s = Stuck
 binary_operation (Some op) (b ∷ []) s = Stuck
 binary_operation (Some op) (b ∷ a ∷ stack) s = Tells (Asks s.at (Binary op a b) None) (waiting expect.Answer (with_stack stack (next s)))
 
+-- a value that is asked to be shown
+abbrev pub print_expr : List Obj → State → Step
+print_expr [] s = Stuck
+print_expr (v ∷ stack) s = Tells (Asks s.at (Show v) None) (waiting expect.Answer (with_stack stack (next s)))
+
 -- an end by a value
 abbrev pub returns : Obj → State → Step
 returns v s = Tells (Ends s.at (ending.Return v)) (waiting expect.Ended (next s))
@@ -119,6 +124,7 @@ act code LoadFast i s = Plainly (load_fast (set_in (slice_get s.locals i)) s)
 act code StoreFast i s = Plainly (store_fast i s.stack s)
 act code Pop i s = Plainly (pop s.stack s)
 act code BinaryOperation i s = Plainly (binary_operation (arithmetic_of (slice_get binary_operators i)) s.stack s)
+act code PrintExpr i s = Plainly (print_expr s.stack s)
 act code ReturnValue i s = Plainly (return_value s.stack s)
 act code ReturnConst i s = loads (slice_get (literals_of code.code.constants) i) (λ v. returns v s)
 act code ExtendedArg i s = Plainly (Goes (record { at = suc s.at; prefix = i; stack = s.stack; locals = s.locals; wants = s.wants }))
@@ -132,8 +138,18 @@ unit_move code (Some u) s = act code u.op (with_byte s.prefix u.arg) s
 abbrev pub advance : PyCode → State → Move
 advance code s = unit_move code (slice_get code.code.instructions.items s.at) s
 
--- what an answer does in a state that waits for it: a value is pushed, a raise ends the frame at the unit that asked
-abbrev pub receive : GotAnswer → State → Step
-receive (got.Value v) s = Goes (waiting expect.Go (pushed v s))
-receive (got.Raise e) s = Tells (Ends (s.at - 1) (ending.Raise e)) (waiting expect.Ended s)
-receive (got.Stop v) s = Stuck
+-- what an instruction that asked does with the value that it is answered, an equation an instruction that asks
+abbrev pub answered : Instruction → Obj → State → Step
+answered BinaryOperation v s = Goes (pushed v s)
+answered PrintExpr v s = Goes s
+answered _ v s = Stuck
+
+abbrev pub unit_answered : Option CodeUnit → Obj → State → Step
+unit_answered None v s = Stuck
+unit_answered (Some u) v s = answered u.op v s
+
+-- what an answer does in a state that waits for it: a value goes to the unit that asked, a raise ends the frame there
+abbrev pub receive : PyCode → GotAnswer → State → Step
+receive code (got.Value v) s = unit_answered (slice_get code.code.instructions.items (s.at - 1)) v (waiting expect.Go s)
+receive code (got.Raise e) s = Tells (Ends (s.at - 1) (ending.Raise e)) (waiting expect.Ended s)
+receive code (got.Stop v) s = Stuck

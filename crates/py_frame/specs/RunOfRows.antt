@@ -3,6 +3,7 @@ use Rattle.std.specs.Prelude.{ℕ, zero, suc, ◌<◌, ◌^◌, Option, Some, No
 use Rattle.py_code.specs.declared.code.PyCode.{PyCode}
 use Rattle.py_objects.specs.declared.payload.Payload.{Payload}
 use Rattle.py_objects.specs.declared.event.GotAnswer.{GotAnswer}
+use Rattle.py_objects.specs.declared.event.GotAnswer.TheVariants as got
 use Rattle.py_objects.specs.declared.event.ResumeHow.TheVariants as how
 use Rattle.py_objects.specs.Objects.{Obj, HasPayload}
 use Rattle.py_objects.specs.Own.{Own, Makes, Resumes, Gets}
@@ -28,7 +29,7 @@ ByMove objects (Loads p f) ts K = (v : Obj) × HasPayload objects v p × ByStep 
 abbrev pub Steps : List Payload → PyCode → Expect → State → List Own → Behind → Type 0
 Steps objects code expect.Start s ts K = (mid : List Own) × (ts ≡ Resumes how.Start ∷ mid) × K (waiting expect.Go s) mid
 Steps objects code expect.Go s ts K = ByMove objects (advance code s) ts K
-Steps objects code expect.Answer s ts K = (w : GotAnswer) × (mid : List Own) × (ts ≡ Gets w ∷ mid) × ByStep (receive w s) mid K
+Steps objects code expect.Answer s ts K = (w : GotAnswer) × (mid : List Own) × (ts ≡ Gets w ∷ mid) × ByStep (receive code w s) mid K
 Steps objects code expect.Ended s ts K = ⊥
 
 -- n steps from one state to another, which tell these events
@@ -54,20 +55,22 @@ IsAt objects code args ts s = (n : ℕ) × (us : List Own) × (ts ≡ Makes ∷ 
 abbrev pub RowsRun : List Payload → PyCode → List Obj → List Own → Type 0
 RowsRun objects code args ts = (s : State) × IsAt objects code args ts s
 
+-- a step that has a meaning
 abbrev pub IsFree : Step → Type 0
 IsFree (Goes s) = Unit {0}
 IsFree (Tells x s) = Unit {0}
 IsFree Stuck = ⊥
 
+-- the same of a unit's step, whichever object it loads
 abbrev pub IsFreeMove : Move → Type 0
 IsFreeMove (Plainly step) = IsFree step
 IsFreeMove (Loads p f) = (v : Obj) → IsFree (f v)
 
--- a state whose next unit has a meaning
+-- a state whose next unit has a meaning, or any value that answers it
 abbrev pub IsFreeAt : PyCode → Expect → State → Type 0
 IsFreeAt code expect.Start s = Unit {0}
 IsFreeAt code expect.Go s = IsFreeMove (advance code s)
-IsFreeAt code expect.Answer s = Unit {0}
+IsFreeAt code expect.Answer s = (v : Obj) → IsFree (receive code (got.Value v) s)
 IsFreeAt code expect.Ended s = Unit {0}
 
 -- a code that has a meaning from any so many arguments, wherever a run of its rows comes to, and whose places fit 32 bits

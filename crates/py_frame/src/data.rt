@@ -2,7 +2,7 @@
 
 ghost use Rattle.std.specs.Prelude.{◌≡◌, ◌+◌, ◌^◌, ◌<◌, slice_get, IfOk};
 ghost use Rattle.py_code.specs.Operators.{binary_operators};
-ghost use Rattle.py_frame.specs.Rows.{pop, arithmetic_of, binary_operation, return_value};
+ghost use Rattle.py_frame.specs.Rows.{pop, arithmetic_of, binary_operation, print_expr, return_value};
 ghost use Rattle.py_frame.specs.UnitSteps.{effect};
 
 use crate::execute::UnitStep;
@@ -41,6 +41,19 @@ impl Frame {
         self.goes_on();
         self.waits(Expect::Answer);
         UnitStep::Tells(FrameStep::Ask(Request::Binary(operator, left, right), None))
+    }
+
+    /// Asks for the top to be shown.
+    pub(crate) fn print_expr(&mut self) -> UnitStep
+        requires { self.old.at + 1 < 2 ^ 32 }
+        ensures { print_expr self.old.stack self.old ≡ effect self.old.at result self.new }
+    {
+        let Some(value) = self.pop() else {
+            return UnitStep::Stuck;
+        };
+        self.goes_on();
+        self.waits(Expect::Answer);
+        UnitStep::Tells(FrameStep::Ask(Request::Show(value), None))
     }
 
     /// Ends by the top.

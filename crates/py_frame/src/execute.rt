@@ -60,6 +60,7 @@ impl Frame {
             Instruction::StoreFast => Ok(self.store_fast(arg as usize)),
             Instruction::Pop => Ok(self.pop_top()),
             Instruction::BinaryOperation => Ok(self.binary_operation(arg)),
+            Instruction::PrintExpr => Ok(self.print_expr()),
             Instruction::ReturnValue => Ok(self.return_value()),
             Instruction::ReturnConst => self.return_const(code, store, arg as usize),
             _ => Ok(UnitStep::Stuck),

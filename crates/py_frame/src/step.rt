@@ -53,7 +53,7 @@ impl Frame {
         ensures expects { IfOk result (λ step. self.new.wants ≡ expected step) }
         ensures objects { GrowsPlainly store.old store.new }
     {
-        match self.receive(answer)? {
+        match self.receive(code, answer)? {
             UnitStep::Goes => self.run(code, store),
             UnitStep::Tells(step) => Ok(step),
             UnitStep::Stuck => unreachable!(),

@@ -86,7 +86,7 @@ fn an_addition_asks_for_its_operands_in_order(rt: HostRuntime) -> Result<(), Fai
     let asks = FrameStep::Ask(Request::Binary(Arithmetic::Add, object(7), object(8)), None);
     let step = last_of(&rt, 3, &mut frame, &code, &mut store)?;
     assert!(rt; step == UnitStep::Tells(asks));
-    frame.receive(GotAnswer::Value(object(15)))?;
+    frame.receive(&code, GotAnswer::Value(object(15)))?;
     assert!(rt; frame.lasti() == 3);
     let returns = FrameStep::Return(object(15));
     let step = last_of(&rt, 1, &mut frame, &code, &mut store)?;

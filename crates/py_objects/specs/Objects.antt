@@ -21,6 +21,7 @@ use Rattle.py_objects.specs.declared.event.Ending.TheVariants as ending
 use Rattle.py_objects.specs.declared.event.Event.{Event}
 use Rattle.py_objects.specs.declared.event.Event.TheVariants as event
 
+-- an object is the number of its entry
 abbrev pub Obj : Type 0
 Obj = PyObjectRef
 
@@ -55,10 +56,12 @@ declares (payload.Class c) = Some c.name
 declares (payload.Function f) = Some f.name
 declares (payload.Exception e) = None
 
+-- whether a name is the one that is declared, if any
 abbrev pub is_name : Name → Option Name → Bool
 is_name n None = false
 is_name n (Some m) = bytes_eq n m
 
+-- the first object that is declared under a name, where the first entry has this number
 abbrev pub declared_from : ℕ → List Payload → Name → Option Obj
 declared_from i [] n = None
 declared_from i (p ∷ ps) n = if is_name n (declares p) then Some (record { number = i }) else declared_from (suc i) ps n
@@ -79,14 +82,17 @@ name_of UnboundLocalError = codes "UnboundLocalError"
 abbrev pub error_kinds : List ErrorKind
 error_kinds = NameError ∷ OverflowError ∷ RecursionError ∷ TypeError ∷ UnboundLocalError ∷ []
 
+-- the numbers of objects, in order
 abbrev pub numbers : List Obj → List ℕ
 numbers [] = []
 numbers (v ∷ vs) = v.number ∷ numbers vs
 
+-- the number of an object, where there is one
 abbrev pub numbers_if : Option Obj → List ℕ
 numbers_if None = []
 numbers_if (Some v) = v.number ∷ []
 
+-- the number of an exception, where there is one
 abbrev pub number_if : Option PyBaseExceptionRef → List ℕ
 number_if None = []
 number_if (Some e) = e.number ∷ []
@@ -102,23 +108,29 @@ payload_numbers (payload.Class c) = []
 payload_numbers (payload.Function f) = []
 payload_numbers (payload.Exception e) = e.class.number ∷ e.args.number ∷ []
 
+-- the numbers that a request names
 abbrev pub request_numbers : Request → List ℕ
 request_numbers (request.Binary op a b) = a.number ∷ b.number ∷ []
+request_numbers (request.Show v) = v.number ∷ []
 
+-- the numbers that an activation is entered with
 abbrev pub how_numbers : ResumeHow → List ℕ
 how_numbers how.Start = []
 how_numbers (how.Send v) = v.number ∷ []
 how_numbers (how.Throw e) = e.number ∷ []
 
+-- the numbers that an answer names
 abbrev pub got_numbers : GotAnswer → List ℕ
 got_numbers (got.Value v) = v.number ∷ []
 got_numbers (got.Stop v) = numbers_if v
 got_numbers (got.Raise e) = e.number ∷ []
 
+-- the numbers that an end names
 abbrev pub ending_numbers : Ending → List ℕ
 ending_numbers (ending.Return v) = v.number ∷ []
 ending_numbers (ending.Raise e) = e.number ∷ []
 
+-- the numbers that a drive's answer names
 abbrev pub result_numbers : DriveAnswer → List ℕ
 result_numbers (drive.Returns v) = v.number ∷ []
 result_numbers (drive.Yields v) = v.number ∷ []
@@ -139,6 +151,7 @@ event_numbers (event.Round a at) = []
 event_numbers (event.Yield a v at) = v.number ∷ []
 event_numbers (event.End a e at) = ending_numbers e
 
+-- whether a number is one of these
 abbrev pub is_among : ℕ → List ℕ → Bool
 is_among n [] = false
 is_among n (m ∷ ms) = eqb n m || is_among n ms

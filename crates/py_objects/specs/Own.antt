@@ -31,6 +31,7 @@ whose (event.Round a at) = a
 whose (event.Yield a v at) = a
 whose (event.End a e at) = a
 
+-- an event as its activation sees it, where it has one
 abbrev pub own_of : Event → List Own
 own_of (event.Drive d) = []
 own_of (event.Result d w) = []
@@ -42,6 +43,7 @@ own_of (event.Round a at) = Rounds at ∷ []
 own_of (event.Yield a v at) = Yields at v ∷ []
 own_of (event.End a e at) = Ends at e ∷ []
 
+-- these, or none
 abbrev pub own_if : Bool → List Own → List Own
 own_if b xs = if b then xs else []
 

@@ -15,6 +15,7 @@ pub data Value : Type 0 where
   Failed : PyBaseExceptionRef → Value
   Stopped : Value
 
+-- what holds of a value and of the events behind it
 abbrev pub AfterValue : Type 1
 AfterValue = Value → List Own → Type 0
 
@@ -28,6 +29,7 @@ Answers (got.Value v) ts K = K (Given v) ts
 Answers (got.Raise e) ts K = K (Failed e) ts
 Answers (got.Stop v) ts K = ⊥
 
+-- an answer, or the end of what is told
 abbrev pub Answered : List Own → AfterValue → Type 0
 Answered ts K = ((ts ≡ []) × K Stopped []) ⊎ ((w : GotAnswer) × (mid : List Own) × (ts ≡ Gets w ∷ mid) × Answers w mid K)
 

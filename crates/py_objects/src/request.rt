@@ -13,4 +13,6 @@ pub enum Arithmetic {
 pub enum Request {
     /// An operator of two operands, the left one first.
     Binary(Arithmetic, PyObjectRef, PyObjectRef),
+    /// A value that is shown.
+    Show(PyObjectRef),
 }

@@ -1,6 +1,7 @@
 //! The store: the objects of a run, which only grows.
 
 ghost use Rattle.std.specs.Prelude.{◌≡◌, ◌<◌, [], ◌∷◌, ◌++◌, length, slice_get, Some, IfOk, OnOk, OnErr};
+ghost use Rattle.py_objects.specs.Objects.{HasPayload};
 ghost use Rattle.py_objects.specs.declared.payload.Payload.TheVariants.{None as NonePayload};
 
 use crate::payload::{Payload, PayloadList};
@@ -13,15 +14,20 @@ use std::marker::Model;
 #[derive(Drop)]
 pub struct Store {
     payloads: PayloadList,
+    none: PyObjectRef,
 }
 
 impl Model for Store {
     ghost use Rattle.std.specs.Prelude.{List};
+    ghost use Rattle.py_objects.specs.Objects.{HasPayload};
     ghost use Rattle.py_objects.specs.declared.payload.Payload.{Payload};
+    ghost use Rattle.py_objects.specs.declared.payload.Payload.TheVariants.{None as NonePayload};
 
     ghost Value = { List Payload };
 
     ghost view = { λ s. s.payloads };
+
+    ghost invariant = { λ s. HasPayload s.payloads s.none NonePayload };
 }
 
 impl Store {
@@ -31,7 +37,17 @@ impl Store {
     {
         let mut payloads = PayloadList::new(alloc);
         payloads.push(Payload::None)?;
-        Ok(Store { payloads })
+        Ok(Store {
+            payloads,
+            none: PyObjectRef { number: 0 },
+        })
+    }
+
+    /// The object that was there first: `None`.
+    pub fn none(&self) -> PyObjectRef
+        ensures { HasPayload self.now result NonePayload }
+    {
+        self.none
     }
 
     /// How many objects there are.
@@ -67,7 +83,6 @@ impl Store {
     pub fn into_payloads(self) -> PayloadList
         ensures { result ≡ self }
     {
-        let Store { payloads } = self;
-        payloads
+        self.payloads
     }
 }

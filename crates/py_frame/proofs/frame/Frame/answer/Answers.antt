@@ -1,6 +1,6 @@
 use Rattle.std.proofs.Common.{[], ◌∷◌}
 use Rattle.py_objects.specs.Own.{Gets}
-use Rattle.py_frame.proofs.Stepping.{answer_leads, answer_told, done_goes, done_tells, expects_answer, if_ok_leads, running_there}
+use Rattle.py_frame.proofs.Stepping.{answer_leads, answer_moves, answer_told, done_goes, done_tells, expects_answer, if_ok_leads, running_there}
 use Rattle.py_frame.proofs.frame.Frame.answer.Goals as goal
 
 pub run-requires-clause-running : goal.run-requires-clause-running
@@ -16,3 +16,6 @@ returns-in-Goes-clause-leads c =
 pub returns-in-Tells-clause-leads : goal.returns-in-Tells-clause-leads
 returns-in-Tells-clause-leads c =
     answer_told _ _ _ _ _ _ (expects_answer _ _ c.requires.expected) (done_tells _ _ _ _ _ c.in_ok-receive.ensures c.in-Tells.is)
+
+pub unreachable-requires : goal.unreachable-requires
+unreachable-requires c = answer_moves _ _ _ _ _ _ c.requires.running c.requires.expected c.in_ok-receive.ensures c.in-Stuck.is
