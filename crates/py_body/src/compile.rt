@@ -1,10 +1,11 @@
 //! The compiler: the code of a body.
 
 ghost use Rattle.std.specs.Prelude.{◌≡◌, ◌*◌, length, IfOk, OnOk};
-ghost use Rattle.py_body.specs.Tree.{form_of, operate, suite_of, tree_of};
+ghost use Rattle.py_code.specs.declared.instruction.Instruction.TheVariants.{LoadConst};
+ghost use Rattle.py_body.specs.Tree.{form_of, assign, operate, suite_of, tree_of};
 ghost use Rattle.py_body.specs.Binding.{IsClosed};
 ghost use Rattle.py_body.specs.Code.{binary_of, IsLaid, IsPlain};
-ghost use Rattle.py_body.specs.Emitting.{parts_of, IsEmitted, HasRoom, EmitsAtom, EmitsAtoms, EmitsForm, EmitsSuite, size_of_form, size_of};
+ghost use Rattle.py_body.specs.Emitting.{parts_of, IsEmitted, HasRoom, EmitsAtom, EmitsAtoms, EmitsConst, EmitsForm, EmitsSuite, size_of_form, size_of};
 ghost use Rattle.py_body.specs.Fits.{Fits};
 ghost use Rattle.py_body.specs.Naming.{Continues, IsNamed};
 
@@ -66,17 +67,15 @@ fn emit_body(alloc: Global, body: &Body) -> Result<Emitter, NoMemory>
 }
 
 impl Emitter {
-    /// Adds the code of statements behind a line, and the return of None at their end.
-    fn compile_statements(&mut self, suite: &StmtList, line: u32) -> Result<(), NoMemory>
+    /// Adds the code of statements, and the return of None at their end, which has the line of the header.
+    fn compile_statements(&mut self, suite: &StmtList, header: u32) -> Result<(), NoMemory>
         requires { HasRoom (parts_of self.old) (size_of (suite_of suite.now)) }
-        ensures { OnOk result (EmitsSuite (parts_of self.old) (parts_of self.new) (suite_of suite.now) line) }
+        ensures { OnOk result (EmitsSuite (parts_of self.old) (parts_of self.new) (suite_of suite.now) header) }
     {
-        let mut last = line;
         for stmt in suite.as_slice() {
             self.compile_statement(stmt)?;
-            last = stmt.line;
         }
-        self.emit_with_const(Instruction::ReturnConst, Literal::None, last)
+        self.emit_with_const(Instruction::ReturnConst, Literal::None, header)
     }
 
     /// Adds the code of a statement.
@@ -85,14 +84,30 @@ impl Emitter {
         ensures { OnOk result (EmitsForm (parts_of self.old) (parts_of self.new) (form_of stmt.now.form) stmt.now.line) }
     {
         match &stmt.form {
+            StmtForm::Assign(name, atom) => self.compile_assignment(name, atom, stmt.line),
             StmtForm::Operate(name, operator, atoms) => self.compile_operation(
                 name, *operator, atoms, stmt.line,
             ),
+            StmtForm::Show(atom) => {
+                self.compile_atom(atom, stmt.line)?;
+                self.emit(Instruction::PrintExpr, 0, stmt.line)
+            }
             StmtForm::Return(atom) => {
                 self.compile_atom(atom, stmt.line)?;
                 self.emit(Instruction::ReturnValue, 0, stmt.line)
             }
+            StmtForm::Pass => Ok(()),
         }
+    }
+
+    /// Adds what binds a value to a name.
+    fn compile_assignment(&mut self, name: &PyText, atom: &Atom, line: u32) -> Result<(), NoMemory>
+        requires { HasRoom (parts_of self.old) 1 }
+        ensures { OnOk result (EmitsForm (parts_of self.old) (parts_of self.new) (assign name.now atom.now) line) }
+    {
+        self.compile_atom(atom, line)?;
+        let place = self.locals.place(name)? as u32;
+        self.emit(Instruction::StoreFast, place, line)
     }
 
     /// Adds what binds an operator's value to a name.
@@ -133,16 +148,26 @@ impl Emitter {
         ensures { OnOk result (EmitsAtom (parts_of self.old) (parts_of self.new) atom.now line) }
     {
         match atom {
-            Atom::Int(number) => self.emit_with_const(
-                Instruction::LoadConst,
-                Literal::Int(*number),
-                line,
-            ),
+            Atom::None => self.load_literal(Literal::None, line),
+            Atom::Bool(truth) => self.load_literal(Literal::Bool(*truth), line),
+            Atom::Int(number) => self.load_literal(Literal::Int(*number), line),
+            Atom::Str(text) => {
+                let text = text.copy(self.alloc)?;
+                self.load_literal(Literal::Str(text), line)
+            }
             Atom::Name(name) => {
                 let place = self.locals.place(name)? as u32;
                 self.emit(Instruction::LoadFast, place, line)
             }
         }
+    }
+
+    /// Adds the load of a constant.
+    fn load_literal(&mut self, literal: Literal, line: u32) -> Result<(), NoMemory>
+        requires { HasRoom (parts_of self.old) 1 }
+        ensures { OnOk result (EmitsConst (parts_of self.old) (parts_of self.new) LoadConst literal line) }
+    {
+        self.emit_with_const(Instruction::LoadConst, literal, line)
     }
 }
 

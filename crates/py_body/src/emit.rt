@@ -13,6 +13,7 @@ use std::alloc::Global;
 /// What the code of a body is put together from.
 #[derive(Drop)]
 pub struct Emitter {
+    pub alloc: Global,
     pub units: Vec<CodeUnit>,
     /// The line of each unit.
     pub locations: Vec<u32>,
@@ -26,6 +27,7 @@ impl Emitter {
         ensures { parts_of result ≡ record { units = []; locations = []; constants = []; vars = locals } }
     {
         Emitter {
+            alloc,
             units: Vec::new(alloc),
             locations: Vec::new(alloc),
             constants: LiteralList::new(alloc),

@@ -41,8 +41,11 @@ impl Locals {
         let mut locals = Locals::of_params(alloc, body.params.as_slice())?;
         for stmt in body.suite.as_slice() {
             match &stmt.form {
+                StmtForm::Assign(name, _atom) => locals = locals.with(name)?,
                 StmtForm::Operate(name, _operator, _atoms) => locals = locals.with(name)?,
+                StmtForm::Show(_atom) => {}
                 StmtForm::Return(_atom) => {}
+                StmtForm::Pass => {}
             }
         }
         Ok(locals)

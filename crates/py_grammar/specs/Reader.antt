@@ -1,6 +1,6 @@
 -- A reader of lines, by what it has read.
 use Rattle.std.specs.Prelude.{ℕ, suc, List, [], ◌∷◌, ◌++◌, Option, Some, None, Bool, true, false, if◌then◌else◌}
-use Rattle.py_body.specs.Tree.{Name, Form, operate, give, Suite, nothing, Tree}
+use Rattle.py_body.specs.Tree.{Name, Form, assign, operate, show, give, pass, Suite, nothing, Tree}
 use Rattle.py_grammar.specs.declared.line.Line.{Line}
 use Rattle.py_grammar.specs.declared.line.Line.TheVariants as line
 use Rattle.py_grammar.specs.declared.line.LineRead.{LineRead}
@@ -49,8 +49,11 @@ closed o = record { name = o.name; params = o.params; suite = o.done; line = o.l
 -- a line of a body other than its end
 abbrev pub goes_on : Open → ℕ → Line → Option Open
 goes_on o n line.End = None
-goes_on o n (line.Return a) = only_if (is_known o.params o.done a) (grown o n (give a))
+goes_on o n (line.Assign x a) = only_if (is_known o.params o.done a) (grown o n (assign x a))
 goes_on o n (line.Operate x op atoms) = only_if (may_operate o.params o.done op atoms) (grown o n (operate x op atoms))
+goes_on o n (line.Show a) = only_if (is_known o.params o.done a) (grown o n (show a))
+goes_on o n (line.Return a) = only_if (is_known o.params o.done a) (grown o n (give a))
+goes_on o n line.Pass = Some (grown o n pass)
 goes_on o n (line.Def f ps) = None
 goes_on o n (line.Call f args) = None
 
@@ -60,8 +63,11 @@ still_inside ts ds (Some o) = Some (state ts ds (Some o))
 
 abbrev pub is_end : Line → Bool
 is_end line.End = true
-is_end (line.Return a) = false
+is_end (line.Assign x a) = false
 is_end (line.Operate x op atoms) = false
+is_end (line.Show a) = false
+is_end (line.Return a) = false
+is_end line.Pass = false
 is_end (line.Def f ps) = false
 is_end (line.Call f args) = false
 
@@ -72,10 +78,13 @@ in_body ts ds o n l = if is_end l then Some (state (ts ++ closed o ∷ []) ds No
 -- a line outside of bodies
 abbrev pub outside : List Tree → List Drive → ℕ → Line → Option State
 outside ts ds n line.End = None
-outside ts ds n (line.Return a) = None
+outside ts ds n (line.Assign x a) = None
 outside ts ds n (line.Operate x op atoms) = None
+outside ts ds n (line.Show a) = None
+outside ts ds n (line.Return a) = None
+outside ts ds n line.Pass = None
 outside ts ds n (line.Def f ps) = only_if (may_declare ts f ps) (state ts ds (Some (opened n f ps)))
-outside ts ds n (line.Call f args) = only_if (may_drive ts ds f args) (state ts (ds ++ record { function = f; args = args } ∷ []) None)
+outside ts ds n (line.Call f args) = only_if (may_drive ts f args) (state ts (ds ++ record { function = f; args = args } ∷ []) None)
 
 abbrev pub accept_at : List Tree → List Drive → Option Open → ℕ → Line → Option State
 accept_at ts ds None n l = outside ts ds n l

@@ -1,5 +1,6 @@
 -- What a line says, by its tokens.
-use Rattle.std.specs.Prelude.{ℕ, List, [], ◌∷◌, Bool, true, false, ◌&&◌, not, if◌then◌else◌, bytes_eq, codes, Option, Some, None, option_map, ℤ}
+use Rattle.std.specs.Prelude.{ℕ, List, [], ◌∷◌, Bool, true, false, ◌&&◌, not, if◌then◌else◌, ◌==◌, length, bytes_eq, codes, Option, Some, None, option_map}
+use Rattle.std.specs.Str.Lossy.{utf8_valid_len}
 use Rattle.py_body.specs.declared.atom.Atom.{Atom}
 use Rattle.py_body.specs.declared.atom.Atom.TheVariants as atom
 use Rattle.py_body.specs.declared.atom.Operator.{Operator}
@@ -9,8 +10,8 @@ use Rattle.py_grammar.specs.declared.line.Line.{Line}
 use Rattle.py_grammar.specs.declared.line.Line.TheVariants as line
 use Rattle.py_grammar.specs.declared.line.LineRead.{LineRead}
 use Rattle.py_grammar.specs.declared.line.LineRead.TheVariants.{Blank, Said, Malformed}
-use Rattle.py_grammar.specs.Tokens.{Lexeme, Open, Close, Equals, Word, tokens_of}
-use Rattle.py_grammar.specs.Words.{is_name, number_of}
+use Rattle.py_grammar.specs.Tokens.{Lexeme, Open, Close, Equals, Word, is_blank, tokens_of}
+use Rattle.py_grammar.specs.Words.{is_name, number_of, quoted_text}
 
 abbrev pub name_of : Lexeme → Option Name
 name_of (Word w) = if is_name w then Some w else None
@@ -18,16 +19,28 @@ name_of Open = None
 name_of Close = None
 name_of Equals = None
 
+-- the first where it is there, else the second
+abbrev pub or_else : {X : Type 0} → Option X → Option X → Option X
+or_else (Some x) b = Some x
+or_else None b = b
+
+-- the constant that a word is
+abbrev pub constant_atom : List ℕ → Option Atom
+constant_atom w =
+    if bytes_eq w (codes "None") then Some atom.None
+    else if bytes_eq w (codes "True") then Some (atom.Bool true)
+    else if bytes_eq w (codes "False") then Some (atom.Bool false)
+    else None
+
 abbrev pub name_atom : List ℕ → Option Atom
 name_atom w = if is_name w then Some (atom.Name w) else None
 
--- the number that a word spells, else the name that it is
-abbrev pub number_atom : Option ℤ → List ℕ → Option Atom
-number_atom (Some n) w = Some (atom.Int n)
-number_atom None w = name_atom w
+-- the constant, the number, the text or the name that a word is
+abbrev pub word_atom : List ℕ → Option Atom
+word_atom w = or_else (constant_atom w) (or_else (option_map atom.Int (number_of w)) (or_else (option_map atom.Str (quoted_text w)) (name_atom w)))
 
 abbrev pub atom_of : Lexeme → Option Atom
-atom_of (Word w) = number_atom (number_of w) w
+atom_of (Word w) = word_atom w
 atom_of Open = None
 atom_of Close = None
 atom_of Equals = None
@@ -110,10 +123,10 @@ abbrev pub in_parentheses : Option Name → Option (List Lexeme) → Option Line
 in_parentheses x None = None
 in_parentheses x (Some inner) = operation x inner
 
--- what is assigned: an operation in parentheses
+-- what is assigned: an operation in parentheses, or an atom alone
 abbrev pub value_form : Option Name → List Lexeme → Option Line
 value_form x [] = None
-value_form x (t ∷ ts) = if is_open t then in_parentheses x (before_close ts) else None
+value_form x (t ∷ ts) = if is_open t then in_parentheses x (before_close ts) else both line.Assign x (only_atom (t ∷ ts))
 
 -- = and a value, behind a target
 abbrev pub assign_form : Lexeme → List Lexeme → Option Line
@@ -136,7 +149,9 @@ line_form (Close ∷ ts) = None
 line_form (Equals ∷ ts) = None
 line_form (Word w ∷ ts) =
     if bytes_eq w (codes "end") then alone line.End ts
+    else if bytes_eq w (codes "pass") then alone line.Pass ts
     else if bytes_eq w (codes "return") then option_map line.Return (only_atom ts)
+    else if bytes_eq w (codes "show") then option_map line.Show (only_atom ts)
     else if bytes_eq w (codes "def") then def_form ts
     else if is_drive w ts then call_form ts
     else assign_form (Word w) ts
@@ -150,6 +165,15 @@ abbrev pub read_tokens : List Lexeme → LineRead
 read_tokens [] = Blank
 read_tokens (t ∷ ts) = said (line_form (t ∷ ts))
 
--- what a line says
+-- whether the first byte that is no blank is #
+abbrev pub is_comment : List ℕ → Bool
+is_comment [] = false
+is_comment (b ∷ bs) = if is_blank b then is_comment bs else b == 35
+
+-- whether bytes are UTF-8
+abbrev pub is_utf8 : List ℕ → Bool
+is_utf8 bs = utf8_valid_len bs == length bs
+
+-- what a line says; a comment says nothing, in whatever characters
 abbrev pub says : List ℕ → LineRead
-says l = read_tokens (tokens_of l)
+says l = if is_comment l then (if is_utf8 l then Blank else Malformed) else read_tokens (tokens_of l)

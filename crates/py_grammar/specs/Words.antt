@@ -1,5 +1,5 @@
 -- The words of a script: names and numbers.
-use Rattle.std.specs.Prelude.{ℕ, ◌+◌, ◌-◌, ◌*◌, List, [], ◌∷◌, Bool, false, not, ◌||◌, ◌&&◌, if◌then◌else◌, ◌==◌, nat_le, length, bytes_eq, codes, fold, Option, Some, None, ℤ, pos, neg_ℤ, option_map}
+use Rattle.std.specs.Prelude.{ℕ, ◌+◌, ◌-◌, ◌*◌, List, [], ◌∷◌, Bool, false, not, ◌||◌, ◌&&◌, if◌then◌else◌, ◌==◌, ◌^◌, nat_le, length, bytes_eq, codes, fold, Option, Some, None, ℤ, pos, negsuc, neg_ℤ, int_le, option_map}
 use Rattle.std.specs.List.{list_all}
 
 -- whether a byte is one of these and those between them
@@ -61,9 +61,9 @@ is_reserved w = is_constant_word w || is_declaring_word w || is_block_word w || 
 abbrev pub is_name : List ℕ → Bool
 is_name w = is_spelled_as_name w && not (is_reserved w)
 
--- 1 to 18 decimal digits
+-- one or more decimal digits
 abbrev pub are_digits : List ℕ → Bool
-are_digits digits = nat_le 1 (length digits) && nat_le (length digits) 18 && list_all is_digit digits
+are_digits digits = nat_le 1 (length digits) && list_all is_digit digits
 
 -- the number that decimal digits spell
 abbrev pub value_of : List ℕ → ℕ
@@ -72,9 +72,36 @@ value_of digits = fold (λ n b. n * 10 + (b - 48)) 0 digits
 abbrev pub digits_number : List ℕ → Option ℕ
 digits_number digits = if are_digits digits then Some (value_of digits) else None
 
--- the number that a word spells: digits, with a minus in front or without
-abbrev pub number_of : List ℕ → Option ℤ
-number_of [] = None
-number_of (b ∷ bs) =
+-- whether a whole number has at most 128 bits with a sign
+abbrev pub is_whole : ℤ → Bool
+is_whole n = int_le (negsuc (2 ^ 127 - 1)) n && int_le n (pos (2 ^ 127 - 1))
+
+abbrev pub in_range : Option ℤ → Option ℤ
+in_range None = None
+in_range (Some n) = if is_whole n then Some n else None
+
+-- digits, with a minus in front or without
+abbrev pub signed_number : List ℕ → Option ℤ
+signed_number [] = None
+signed_number (b ∷ bs) =
     if b == 45 then option_map (λ n. neg_ℤ (pos n)) (digits_number bs)
     else option_map pos (digits_number (b ∷ bs))
+
+-- the number that a word spells, of at most 128 bits
+abbrev pub number_of : List ℕ → Option ℤ
+number_of word = in_range (signed_number word)
+
+-- whether a byte stands in a text: printable ASCII but for ' and \
+abbrev pub stands_in_text : ℕ → Bool
+stands_in_text b = between 32 126 b && not (b == 39) && not (b == 92)
+
+-- the characters before the ' that is the last byte
+abbrev pub closed_text : List ℕ → Option (List ℕ)
+closed_text [] = None
+closed_text (b ∷ []) = if b == 39 then Some [] else None
+closed_text (b ∷ c ∷ bs) = if stands_in_text b then option_map (λ text. b ∷ text) (closed_text (c ∷ bs)) else None
+
+-- the text that a word spells: its characters between two '
+abbrev pub quoted_text : List ℕ → Option (List ℕ)
+quoted_text [] = None
+quoted_text (b ∷ bs) = if b == 39 then closed_text bs else None

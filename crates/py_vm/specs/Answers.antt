@@ -88,6 +88,7 @@ abbrev pub Replies : List Payload → Request → Reply → Type 0
 Replies objects (request.Binary op a b) reply =
     (p : Payload) × (q : Payload) × (left : Name) × (right : Name) × HasPayload objects a p × HasPayload objects b q
     × IsTypeName objects p left × IsTypeName objects q right × (reply ≡ binary op p q left right)
+Replies objects (request.Show v) reply = reply ≡ Has payload.None
 
 -- a new exception of a built-in class with one argument, a text
 pub record IsRaised (objects : List Payload) (before : List Event) (kind : ErrorKind) (text : Name) (e : PyBaseExceptionRef) : Type 0 where

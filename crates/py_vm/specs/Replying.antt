@@ -15,12 +15,14 @@ use Rattle.py_vm.specs.Answers.{Reply, Has, Fails, IsTypeName, binary, not_suppo
 
 -- the reply that a made one is
 abbrev pub reply_of : MadeReply → Reply
+reply_of made.None = Has payload.None
 reply_of (made.Int n) = Has (payload.Int n)
 reply_of (made.Str s) = Has (payload.Str s)
 reply_of (made.Fails kind text) = Fails kind text
 
 -- a number among replies fits its bits
 abbrev pub IsSized : MadeReply → Type 0
+IsSized made.None = Unit {0}
 IsSized (made.Int n) = FitsSigned w128 n
 IsSized (made.Str s) = Unit {0}
 IsSized (made.Fails kind text) = Unit {0}

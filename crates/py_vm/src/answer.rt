@@ -19,9 +19,10 @@ use py_objects::{
 };
 use std::alloc::Global;
 
-/// What a question is answered: a number, a text, or the raise of a new exception of a built-in class with a text.
+/// What a question is answered: None, a number, a text, or the raise of a new exception of a built-in class with a text.
 #[derive(Drop)]
 pub(crate) enum Reply {
+    None,
     Int(i128),
     Str(PyText),
     Fails(ErrorKind, PyText),
@@ -36,6 +37,7 @@ pub(crate) fn reply_to(alloc: Global, store: &Store, request: Request) -> Result
 {
     match request {
         Request::Binary(op, left, right) => binary(alloc, store, op, left, right),
+        Request::Show(_) => Ok(Reply::None),
     }
 }
 
@@ -267,6 +269,7 @@ pub(crate) fn give(
     ensures given { IfOk result (λ answer. IsGiven store.old store.new (reply_of reply) answer) }
 {
     match reply {
+        Reply::None => Ok(GotAnswer::Value(store.none())),
         Reply::Int(number) => Ok(GotAnswer::Value(store.add(Payload::Int(number))?)),
         Reply::Str(text) => Ok(GotAnswer::Value(store.add(Payload::Str(text))?)),
         Reply::Fails(kind, text) => {
