@@ -1,15 +1,18 @@
 //! What a line says, by its tokens.
 
-ghost use Rattle.std.specs.Prelude.{◌≡◌, IfOk, MatchOption, Some, None, map, ◌∷◌};
+ghost use Rattle.std.specs.Prelude.{◌≡◌, if◌then◌else◌, IfOk, MatchOption, Some, None, map, ◌∷◌};
 ghost use Rattle.py_grammar.specs.Tokens.{lexeme_of, Word};
-ghost use Rattle.py_grammar.specs.Words.{number_of as number_in};
-ghost use Rattle.py_grammar.specs.Says.{name_of as name_in, atom_of as atom_in, name_atom as name_atom_in, number_atom, operator_of as operator_in};
+ghost use Rattle.py_grammar.specs.Says.{name_of as name_in, atom_of as atom_in, constant_atom as constant_in, name_atom as name_atom_in, word_atom as word_atom_in, operator_of as operator_in};
+ghost use Rattle.py_grammar.specs.Says.{both, is_utf8 as is_utf8_bytes};
+ghost use Rattle.py_grammar.specs.declared.line.Line.TheVariants.{Assign};
+ghost use Rattle.py_grammar.specs.declared.line.LineRead.TheVariants.{Blank, Malformed};
 ghost use Rattle.py_grammar.specs.Says.{each, alone, only_atom, before_close as before_close_in, begins_equals as begin_equals};
 ghost use Rattle.py_grammar.specs.Says.{operation, value_form, def_form, call_form, assign_form, line_form, says};
 
+use crate::comment::{is_comment, is_utf8};
 use crate::line::{Line, LineRead};
 use crate::token::{Token, tokens_of};
-use crate::words::{is_name, number_of};
+use crate::words::{is_name, number_of, quoted_text};
 use py_body::{Atom, AtomList, Operator, ParamList};
 use py_code::{NoMemory, PyText, text_of};
 use std::alloc::Global;
@@ -33,11 +36,34 @@ fn name_atom(alloc: Global, word: &[u8]) -> Result<Option<Atom>, NoMemory>
     Ok(Some(Atom::Name(text_of(alloc, word)?)))
 }
 
-fn word_atom(alloc: Global, word: &[u8]) -> Result<Option<Atom>, NoMemory>
-    ensures { IfOk result (λ atom. atom ≡ number_atom (number_in word.now) word.now) }
+/// The constant that a word is.
+fn constant_atom(word: &[u8]) -> Option<Atom>
+    ensures { result ≡ constant_in word.now }
 {
+    if word == b"None".as_slice() {
+        return Some(Atom::None);
+    }
+    if word == b"True".as_slice() {
+        return Some(Atom::Bool(true));
+    }
+    if word == b"False".as_slice() {
+        return Some(Atom::Bool(false));
+    }
+    None
+}
+
+/// The constant, the number, the text or the name that a word is.
+fn word_atom(alloc: Global, word: &[u8]) -> Result<Option<Atom>, NoMemory>
+    ensures { IfOk result (λ atom. atom ≡ word_atom_in word.now) }
+{
+    if let Some(constant) = constant_atom(word) {
+        return Ok(Some(constant));
+    }
     if let Some(number) = number_of(word) {
         return Ok(Some(Atom::Int(number)));
+    }
+    if let Some(text) = quoted_text(word) {
+        return Ok(Some(Atom::Str(text_of(alloc, text)?)));
     }
     name_atom(alloc, word)
 }
@@ -187,12 +213,29 @@ fn value_line(
         return Ok(None);
     };
     if !matches!(first, Token::Open) {
-        return Ok(None);
+        return atom_line(alloc, target, tokens);
     }
     let Some(inner) = before_close(rest) else {
         return Ok(None);
     };
     operation_line(alloc, target, inner)
+}
+
+/// The line of an atom alone that is assigned to a target.
+fn atom_line(
+    alloc: Global,
+    target: Option<PyText>,
+    tokens: &[Token<'_>],
+) -> Result<Option<Line>, NoMemory>
+    ensures { IfOk result (λ line. line ≡ both Assign target (only_atom (map lexeme_of tokens.now))) }
+{
+    let Some(name) = target else {
+        return Ok(None);
+    };
+    let Some(atom) = lone_atom(alloc, tokens)? else {
+        return Ok(None);
+    };
+    Ok(Some(Line::Assign(name, atom)))
 }
 
 /// The line of an assignment to a target, of which these tokens stand behind it.
@@ -234,8 +277,14 @@ fn word_line(
     if word == b"end".as_slice() {
         return Ok(lone(Line::End, rest));
     }
+    if word == b"pass".as_slice() {
+        return Ok(lone(Line::Pass, rest));
+    }
     if word == b"return".as_slice() {
         return Ok(lone_atom(alloc, rest)?.map(Line::Return));
+    }
+    if word == b"show".as_slice() {
+        return Ok(lone_atom(alloc, rest)?.map(Line::Show));
     }
     if word == b"def".as_slice() {
         return def_line(alloc, rest);
@@ -263,10 +312,24 @@ fn form_of(alloc: Global, tokens: &[Token<'_>]) -> Result<Option<Line>, NoMemory
     }
 }
 
+/// How a comment reads: its characters have to be UTF-8.
+fn comment_of(line: &[u8]) -> LineRead
+    ensures { result ≡ (if is_utf8_bytes line.now then Blank else Malformed) }
+{
+    if is_utf8(line) {
+        LineRead::Blank
+    } else {
+        LineRead::Malformed
+    }
+}
+
 /// What a line says.
 pub fn line_of(alloc: Global, line: &[u8]) -> Result<LineRead, NoMemory>
     ensures { IfOk result (λ read. read ≡ says line.now) }
 {
+    if is_comment(line) {
+        return Ok(comment_of(line));
+    }
     let tokens = tokens_of(alloc, line)?;
     if tokens.is_empty() {
         return Ok(LineRead::Blank);

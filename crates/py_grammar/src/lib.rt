@@ -1,6 +1,7 @@
 //! The grammar of scripts: which bytes are a script, its trees, and the line that makes bytes none.
 #![tactic(auto)]
 
+mod comment;
 mod fault;
 mod forms;
 mod line;

@@ -11,10 +11,16 @@ use py_code::PyText;
 pub enum Line {
     /// `end`.
     End,
-    /// `return a`.
-    Return(Atom),
+    /// `x = a`.
+    Assign(PyText, Atom),
     /// `x = (op a ..)`.
     Operate(PyText, Operator, AtomList),
+    /// `show a`.
+    Show(Atom),
+    /// `return a`.
+    Return(Atom),
+    /// `pass`.
+    Pass,
     /// `def f p ..`.
     Def(PyText, ParamList),
     /// `call f a ..`.
@@ -28,8 +34,11 @@ impl Line {
     {
         match self {
             Line::End => true,
-            Line::Return(_) => false,
+            Line::Assign(_, _) => false,
             Line::Operate(_, _, _) => false,
+            Line::Show(_) => false,
+            Line::Return(_) => false,
+            Line::Pass => false,
             Line::Def(_, _) => false,
             Line::Call(_, _) => false,
         }
@@ -39,7 +48,7 @@ impl Line {
 /// How a line reads by itself.
 #[derive(Drop)]
 pub enum LineRead {
-    /// Nothing stands in the line.
+    /// Nothing stands in the line, or a comment.
     Blank,
     /// The line says this.
     Said(Line),

@@ -47,11 +47,11 @@ impl OpenBody {
         ensures no { IfOk result (λ ok. ok ≡ false → goes_on (open_of self.old) number line ≡ None) }
     {
         match line {
-            Line::Return(atom) => {
+            Line::Assign(target, atom) => {
                 if !is_known(&self.params, &self.done, &atom) {
                     return Ok(false);
                 }
-                self.push(number, StmtForm::Return(atom))?;
+                self.push(number, StmtForm::Assign(target, atom))?;
                 Ok(true)
             }
             Line::Operate(target, op, atoms) => {
@@ -59,6 +59,24 @@ impl OpenBody {
                     return Ok(false);
                 }
                 self.push(number, StmtForm::Operate(target, op, atoms))?;
+                Ok(true)
+            }
+            Line::Show(atom) => {
+                if !is_known(&self.params, &self.done, &atom) {
+                    return Ok(false);
+                }
+                self.push(number, StmtForm::Show(atom))?;
+                Ok(true)
+            }
+            Line::Return(atom) => {
+                if !is_known(&self.params, &self.done, &atom) {
+                    return Ok(false);
+                }
+                self.push(number, StmtForm::Return(atom))?;
+                Ok(true)
+            }
+            Line::Pass => {
+                self.push(number, StmtForm::Pass)?;
                 Ok(true)
             }
             Line::End => Ok(false),

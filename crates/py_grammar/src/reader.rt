@@ -68,15 +68,18 @@ impl Reader {
                 Ok(true)
             }
             Line::Call(function, args) => {
-                if !may_drive(&self.declarations, &self.drives, &function, &args) {
+                if !may_drive(&self.declarations, &function, &args) {
                     return Ok(false);
                 }
                 self.drives.push(DriveLine::Call(function, args))?;
                 Ok(true)
             }
             Line::End => Ok(false),
-            Line::Return(_) => Ok(false),
+            Line::Assign(_, _) => Ok(false),
             Line::Operate(_, _, _) => Ok(false),
+            Line::Show(_) => Ok(false),
+            Line::Return(_) => Ok(false),
+            Line::Pass => Ok(false),
         }
     }
 

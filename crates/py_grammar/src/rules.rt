@@ -3,13 +3,14 @@
 ghost use Rattle.std.specs.Prelude.{◌≡◌, map, bytes_eq};
 ghost use Rattle.std.specs.List.{list_any, list_all};
 ghost use Rattle.py_body.specs.Tree.{form_of, suite_of};
-ghost use Rattle.py_grammar.specs.Script.{declared_tree, drive_of};
+ghost use Rattle.py_grammar.specs.Script.{declared_tree};
 ghost use Rattle.py_grammar.specs.Rules.{declares, is_among as is_among_names, all_differ as do_all_differ, is_builtin_class as is_builtin};
-ghost use Rattle.py_grammar.specs.Rules.{takes as takes_count, is_number as is_number_atom, may_declare as may_be_declared, may_drive as may_be_driven};
+ghost use Rattle.py_grammar.specs.Rules.{takes as takes_count, is_literal as is_literal_atom, may_declare as may_be_declared, may_drive as may_be_driven};
 ghost use Rattle.py_grammar.specs.Rules.{binds as binds_name, is_known as is_known_atom};
-ghost use Rattle.py_grammar.specs.Rules.{is_operation as is_operation_form, arity_of as arity_in, may_operate as may_be_operated};
+ghost use Rattle.py_grammar.specs.Rules.{may_operate as may_be_operated};
+ghost use Rattle.py_body.specs.Binding.{arity_of as arity_in};
 
-use crate::script::{DeclList, Declaration, DriveList};
+use crate::script::{DeclList, Declaration};
 use py_body::{Atom, AtomList, Operator, ParamList, Stmt, StmtForm, StmtList};
 use py_code::{PyText, same_text};
 
@@ -62,14 +63,6 @@ fn is_builtin_class(name: &PyText) -> bool
         || is_word(name, b"RecursionError")
 }
 
-fn has_name(declaration: &Declaration, name: &PyText) -> bool
-    ensures { result ≡ bytes_eq name.now (declared_tree declaration.now).name }
-{
-    match declaration {
-        Declaration::Function(body) => same_text(name, &body.name),
-    }
-}
-
 #[tactic(auto, using(crate::proofs::Views::declares_map))]
 fn is_declared(declarations: &[Declaration], name: &PyText) -> bool
     ensures { result ≡ declares name.now (map declared_tree declarations.now) }
@@ -82,15 +75,14 @@ fn any_has_name(declarations: &[Declaration], name: &PyText) -> bool
 {
     declarations
         .iter()
-        .any(|declaration| has_name(declaration, name))
+        .any(|declaration| same_text(name, declaration.name()))
 }
 
 /// Whether a function may have this name and these parameters, behind these declarations.
 pub fn may_declare(declarations: &DeclList, name: &PyText, params: &ParamList) -> bool
     ensures { result ≡ may_be_declared (map declared_tree declarations.now) name.now params.now }
 {
-    declarations.as_slice().is_empty()
-        && !is_declared(declarations.as_slice(), name)
+    !is_declared(declarations.as_slice(), name)
         && !is_builtin_class(name)
         && all_differ(params.as_slice())
         && params.len() <= 255
@@ -119,41 +111,40 @@ fn any_takes(declarations: &[Declaration], name: &PyText, count: usize) -> bool
         .any(|declaration| takes(declaration, name, count))
 }
 
-fn is_number(atom: &Atom) -> bool
-    ensures { result ≡ is_number_atom atom.now }
+fn is_literal(atom: &Atom) -> bool
+    ensures { result ≡ is_literal_atom atom.now }
 {
     match atom {
+        Atom::None => true,
+        Atom::Bool(_) => true,
         Atom::Int(_) => true,
+        Atom::Str(_) => true,
         Atom::Name(_) => false,
     }
 }
 
-fn are_numbers(atoms: &[Atom]) -> bool
-    ensures { result ≡ list_all is_number_atom atoms.now }
+fn are_literals(atoms: &[Atom]) -> bool
+    ensures { result ≡ list_all is_literal_atom atoms.now }
 {
-    atoms.iter().all(is_number)
+    atoms.iter().all(is_literal)
 }
 
-/// Whether a drive may call this function with these arguments, behind these declarations and drives.
-pub fn may_drive(
-    declarations: &DeclList,
-    drives: &DriveList,
-    name: &PyText,
-    args: &AtomList,
-) -> bool
-    ensures { result ≡ may_be_driven (map declared_tree declarations.now) (map drive_of drives.now) name.now args.now }
+/// Whether a drive may call this function with these arguments, behind these declarations.
+pub fn may_drive(declarations: &DeclList, name: &PyText, args: &AtomList) -> bool
+    ensures { result ≡ may_be_driven (map declared_tree declarations.now) name.now args.now }
 {
-    drives.as_slice().is_empty()
-        && is_callable(declarations.as_slice(), name, args.len())
-        && are_numbers(args.as_slice())
+    is_callable(declarations.as_slice(), name, args.len()) && are_literals(args.as_slice())
 }
 
 fn binds(stmt: &Stmt, name: &PyText) -> bool
     ensures { result ≡ binds_name name.now (form_of stmt.now.form) }
 {
     match &stmt.form {
+        StmtForm::Assign(target, _) => same_text(name, target),
         StmtForm::Operate(target, _, _) => same_text(name, target),
+        StmtForm::Show(_) => false,
         StmtForm::Return(_) => false,
+        StmtForm::Pass => false,
     }
 }
 
@@ -163,13 +154,16 @@ fn any_binds(stmts: &[Stmt], name: &PyText) -> bool
     stmts.iter().any(|stmt| binds(stmt, name))
 }
 
-/// Whether an atom is a number, a parameter, or a name that one of these statements assigns to.
+/// Whether an atom is a literal, a parameter, or a name that one of these statements assigns to.
 #[tactic(auto, using(crate::proofs::Views::assigns_suite))]
 pub fn is_known(params: &ParamList, done: &StmtList, atom: &Atom) -> bool
     ensures { result ≡ is_known_atom params.now (suite_of done.now) atom.now }
 {
     match atom {
+        Atom::None => true,
+        Atom::Bool(_) => true,
         Atom::Int(_) => true,
+        Atom::Str(_) => true,
         Atom::Name(name) => is_among(name, params.as_slice()) || any_binds(done.as_slice(), name),
     }
 }
@@ -178,21 +172,6 @@ fn are_known(params: &ParamList, done: &StmtList, atoms: &[Atom]) -> bool
     ensures { result ≡ list_all (is_known_atom params.now (suite_of done.now)) atoms.now }
 {
     atoms.iter().all(|atom| is_known(params, done, atom))
-}
-
-fn is_operation(stmt: &Stmt) -> bool
-    ensures { result ≡ is_operation_form (form_of stmt.now.form) }
-{
-    match &stmt.form {
-        StmtForm::Operate(_, _, _) => true,
-        StmtForm::Return(_) => false,
-    }
-}
-
-fn any_operates(stmts: &[Stmt]) -> bool
-    ensures { result ≡ list_any (λ s. is_operation_form (form_of s.form)) stmts.now }
-{
-    stmts.iter().any(is_operation)
 }
 
 /// How many arguments an operator takes.
@@ -205,11 +184,8 @@ fn arity(op: Operator) -> usize
 }
 
 /// Whether an operator may take these atoms, in a function with these parameters and behind these statements.
-#[tactic(auto, using(crate::proofs::Views::has_operation_suite))]
 pub fn may_operate(params: &ParamList, done: &StmtList, op: Operator, atoms: &AtomList) -> bool
     ensures { result ≡ may_be_operated params.now (suite_of done.now) op atoms.now }
 {
-    !any_operates(done.as_slice())
-        && atoms.len() == arity(op)
-        && are_known(params, done, atoms.as_slice())
+    atoms.len() == arity(op) && are_known(params, done, atoms.as_slice())
 }

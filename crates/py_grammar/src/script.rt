@@ -1,5 +1,8 @@
 //! A script: what it declares, and what it drives.
 
+ghost use Rattle.std.specs.Prelude.{◌≡◌};
+ghost use Rattle.py_grammar.specs.Script.{declared_tree};
+
 use py_body::{AtomList, Body};
 use py_code::{ItemList, PyText};
 
@@ -8,6 +11,17 @@ use py_code::{ItemList, PyText};
 pub enum Declaration {
     /// `def f p ..`, its statements and `end`.
     Function(Body),
+}
+
+impl Declaration {
+    /// The name that is declared.
+    pub fn name(&self) -> &PyText
+        ensures { result.now ≡ (declared_tree self.now).name }
+    {
+        match self {
+            Declaration::Function(body) => &body.name,
+        }
+    }
 }
 
 /// Declarations in order.

@@ -62,7 +62,7 @@ fn quoted_len(bytes: &[u8]) -> usize
 }
 
 /// The bytes behind the blanks in front.
-fn behind_blanks(bytes: &[u8]) -> &[u8]
+pub fn behind_blanks(bytes: &[u8]) -> &[u8]
     ensures same { tokens_in result.now ≡ tokens_in bytes.now }
     ensures shorter { length result.now ≤ length bytes.now }
     ensures front { prefix_len is_blank_byte result.now ≡ 0 }

@@ -1,11 +1,11 @@
 //! The words of a script: names and numbers.
 
-ghost use Rattle.std.specs.Prelude.{◌≡◌, ◌<◌, IfSome};
+ghost use Rattle.std.specs.Prelude.{◌≡◌, option_copied};
 ghost use Rattle.std.specs.List.{list_all};
 ghost use Rattle.py_grammar.specs.Words.{starts_name as starts_name_byte, continues_name as continues_name_byte, is_spelled_as_name as is_spelled};
 ghost use Rattle.py_grammar.specs.Words.{is_constant_word as is_constant, is_declaring_word as is_declaring, is_block_word as is_block};
 ghost use Rattle.py_grammar.specs.Words.{is_jump_word as is_jump, is_statement_word as is_statement, is_inner_word as is_inner};
-ghost use Rattle.py_grammar.specs.Words.{is_reserved as is_reserved_word, is_name as is_name_word, digits_number as digits_number_in, number_of as number_in};
+ghost use Rattle.py_grammar.specs.Words.{is_reserved as is_reserved_word, is_name as is_name_word, number_of as number_in, quoted_text as quoted_text_in, stands_in_text as stands_in_text_byte};
 
 fn starts_name(byte: u8) -> bool
     ensures { result ≡ starts_name_byte byte }
@@ -117,40 +117,35 @@ pub fn is_name(word: &[u8]) -> bool
     is_spelled_as_name(word) && !is_reserved(word)
 }
 
-/// The number that 1 to 18 decimal digits spell.
-#[tactic(auto, using(crate::proofs::Digits::next_small))]
-fn digits_number(digits: &[u8]) -> Option<u64>
-    ensures is { result ≡ digits_number_in digits.now }
-    ensures small { IfSome result (λ n. n < 1000000000000000000) }
+
+/// The number that a word spells: digits, with a minus in front or without, of at most 128 bits.
+pub fn number_of(word: &[u8]) -> Option<i128>
+    ensures value { result ≡ number_in word.now }
 {
-    if digits.is_empty() || digits.len() > 18 {
+    if word.starts_with(b"+") {
         return None;
     }
-    let mut value: u64 = 0;
-    for digit in digits {
-        if !digit.is_ascii_digit() {
-            return None;
-        }
-        value = value * 10 + u64::from(*digit - b'0');
-    }
-    Some(value)
+    str::from_utf8(word).ok()?.parse().ok()
 }
 
-/// The number that a word spells: digits, with a minus in front or without.
-pub fn number_of(word: &[u8]) -> Option<i128>
-    ensures { result ≡ number_in word.now }
+/// The text that a word spells: its characters between two quotes.
+pub fn quoted_text(word: &[u8]) -> Option<&[u8]>
+    ensures { option_copied result ≡ quoted_text_in word.now }
 {
-    let Some((first, rest)) = word.split_first() else {
+    let (first, rest) = word.split_first()?;
+    if *first != b'\'' {
         return None;
-    };
-    if *first == b'-' {
-        let Some(size) = digits_number(rest) else {
-            return None;
-        };
-        return Some(-i128::from(size));
     }
-    let Some(size) = digits_number(word) else {
-        return None;
-    };
-    Some(i128::from(size))
+    let (last, text) = rest.split_last()?;
+    if *last == b'\'' && text.iter().all(|b| stands_in_text(*b)) {
+        Some(text)
+    } else {
+        None
+    }
+}
+
+fn stands_in_text(byte: u8) -> bool
+    ensures { result ≡ stands_in_text_byte byte }
+{
+    (b' '..=b'~').contains(&byte) && byte != b'\'' && byte != b'\\'
 }
