@@ -1,9 +1,8 @@
 -- The bodies of a script can be compiled: they keep the names' rules, and have no more statements than the script has bytes.
 use Rattle.std.proofs.Common.{◌≡◌, ◌≤◌, ℕ, zero, suc, List, [], ◌∷◌, ◌++◌, length, Bool, true, false, cond, Some, None, refl, sym, ap, ◌∙◌, arith, length-append}
 use Rattle.std.specs.Prelude.{Option, slice_get, ◌==◌, ◌&&◌}
-use Rattle.py_body.specs.declared.atom.Operator.TheVariants as operator
-use Rattle.py_body.specs.Tree.{Name, Form, operate, give, Suite, nothing, first, Tree}
-use Rattle.py_body.specs.Binding.{SuiteKnown, FormKnown, statements, IsClosed}
+use Rattle.py_body.specs.Tree.{Suite, nothing, first, Tree}
+use Rattle.py_body.specs.Binding.{statements, IsClosed}
 use Rattle.py_grammar.specs.declared.line.LineRead.{LineRead}
 use Rattle.py_grammar.specs.declared.line.LineRead.TheVariants.{Blank, Said, Malformed}
 use Rattle.py_grammar.specs.declared.script.Script.{Script}
@@ -11,7 +10,7 @@ use Rattle.py_grammar.specs.Lines.{lines, in_first, at_lf}
 use Rattle.py_grammar.specs.Says.{says}
 use Rattle.py_grammar.specs.Grammar.{Row, row, Item, Declares, Drives, suite_rows, end_row, item_rows, items_rows, trees_in}
 use Rattle.py_grammar.specs.Script.{Text, with_read, rows_from, IsScript, trees_of}
-use Rattle.py_grammar.specs.WellFormed.{NamesKnown, IsWellFormedIn, IsWellDeclared}
+use Rattle.py_grammar.specs.WellFormed.{IsWellDeclared}
 
 first_short : (b : ℕ) (ls : List (List ℕ)) → length (in_first b ls) ≤ suc (length ls)
 first_short b [] = omega arith
@@ -72,15 +71,6 @@ body_short bytes s i t spells is =
     let c = lines_short bytes in
     omega (arith, a, b, c)
 
-form_known : (names : List Name) (f : Form) → IsWellFormedIn names f → FormKnown names f
-form_known names (operate x operator.Add atoms) h = h
-form_known names (give a) h = h
-
-suite_known : (names : List Name) (s : Suite) → NamesKnown names s → SuiteKnown names s
-suite_known names nothing h = tt
-suite_known names (first n (operate x op atoms) more) h = (form_known names (operate x op atoms) h.0, suite_known (names ++ x ∷ []) more h.1)
-suite_known names (first n (give a) more) h = (form_known names (give a) h.0, suite_known names more h.1)
-
 -- a body of a script can be compiled
 pub body_closed : (t : Tree) → IsWellDeclared t → statements t.suite ≤ 1048576 → IsClosed t
-body_closed t w short = record { distinct = w.distinct; few = w.few; known = suite_known t.params t.suite w.known; short = short }
+body_closed t w short = record { distinct = w.distinct; few = w.few; known = w.known; short = short }

@@ -7,7 +7,7 @@ use Rattle.py_objects.specs.declared.payload.Payload.{Payload}
 use Rattle.py_objects.specs.declared.payload.Payload.TheVariants as payload
 use Rattle.py_objects.specs.Objects.{Obj, HasPayload, declared, numbers, AllBelow, AllFit, GrowsPlainly}
 use Rattle.py_frame.specs.RunOfRows.{IsSound}
-use Rattle.py_frame.proofs.PlainGrowth.{grows_plainly_refl, grows_plainly_trans}
+use Rattle.py_frame.proofs.PlainGrowth.{grows_plainly_trans}
 use Rattle.py_body.specs.Tree.{Tree}
 use Rattle.py_grammar.specs.Drive.{Drive}
 use Rattle.py_grammar.specs.Rules.{is_builtin_class}
@@ -27,9 +27,6 @@ use Rattle.py_script.specs.Session.{IsLoaded, InRun, IsInRun, IsNamedAt, IsReady
 use Rattle.py_script.proofs.Loading.{ref_at}
 use Rattle.py_script.proofs.Objects.{functions_are, loaded_objects, objects_grow, asked_grow, asked_more}
 use Rattle.py_script.proofs.Traced.{function_of, tells_traces}
-
-pub grew_not : (s : Session) → Stands s.vm → OnlyGrew s s
-grew_not s stands = record { stands = stands; grows = grows_plainly_refl (objects_of s.vm); events = refl; codes = refl; functions = refl }
 
 pub grew_more : (a b c : Session) → OnlyGrew a b → OnlyGrew b c → OnlyGrew a c
 grew_more a b c p q = record {

@@ -165,7 +165,10 @@ objects_grow ts objects objects' grows are = record {
 }
 
 of_grows : (objects objects' : List Payload) (a : Atom) (v : Obj) → GrowsPlainly objects objects' → IsOf objects a v → IsOf objects' a v
+of_grows objects objects' atom.None v grows is = payload_grown objects objects' v _ (plainly_grows objects objects' grows) is
+of_grows objects objects' (atom.Bool b) v grows is = payload_grown objects objects' v _ (plainly_grows objects objects' grows) is
 of_grows objects objects' (atom.Int n) v grows is = payload_grown objects objects' v _ (plainly_grows objects objects' grows) is
+of_grows objects objects' (atom.Str s) v grows is = payload_grown objects objects' v _ (plainly_grows objects objects' grows) is
 of_grows objects objects' (atom.Name x) v grows is = declared_stays objects objects' x grows ∙ is
 
 pub are_of_grow : (objects objects' : List Payload) (atoms : List Atom) (vs : List Obj) → GrowsPlainly objects objects' → AreOf objects atoms vs → AreOf objects' atoms vs

@@ -1,8 +1,10 @@
--- The text of a journal: a line for each result of a drive, in order.
+-- The text of a journal: a line for each value that is shown and for each result of a drive, in order.
 use Rattle.std.specs.Prelude.{ℕ, zero, suc, Option, Some, None, List, [], ◌∷◌, ◌++◌, Bool, true, false, ◌||◌, ◌==◌, slice_get, codes, decimal, flat_map, encode_utf8, if◌then◌else◌}
 use Rattle.std.specs.Fmt.{signed_decimal}
 use Rattle.py_objects.specs.declared.payload.Payload.{Payload}
 use Rattle.py_objects.specs.declared.payload.Payload.TheVariants as payload
+use Rattle.py_objects.specs.declared.request.Request.{Request}
+use Rattle.py_objects.specs.declared.request.Request.TheVariants as request
 use Rattle.py_objects.specs.declared.event.DriveAnswer.{DriveAnswer}
 use Rattle.py_objects.specs.declared.event.DriveAnswer.TheVariants as answer
 use Rattle.py_objects.specs.declared.event.Event.{Event}
@@ -164,13 +166,30 @@ result_text objects d answer.Closes = numbered d (codes " closes")
 result_text objects d (answer.Raises e) = numbered d (codes " raises " ++ raised objects (payload_of objects (as_object e)))
 result_text objects d (answer.Reported text) = bytes_of text
 
+-- whether what is there is None
+abbrev pub is_none : Option Payload → Bool
+is_none None = false
+is_none (Some payload.None) = true
+is_none (Some (payload.Bool b)) = false
+is_none (Some (payload.Int n)) = false
+is_none (Some (payload.Str s)) = false
+is_none (Some (payload.Tuple vs)) = false
+is_none (Some (payload.Class c)) = false
+is_none (Some (payload.Function f)) = false
+is_none (Some (payload.Exception e)) = false
+
+-- what is written of a request: a line for a value that is shown, unless it is None
+abbrev pub request_text : List Payload → Request → List ℕ
+request_text objects (request.Binary op a b) = []
+request_text objects (request.Show v) = if is_none (payload_of objects v) then [] else repr objects v ++ codes "\n"
+
 -- what is written of an event
 abbrev pub event_text : List Payload → Event → List ℕ
 event_text objects (event.Drive d) = []
 event_text objects (event.Result d w) = result_text objects d w
 event_text objects (event.Make a f vs) = []
 event_text objects (event.Resume a h) = []
-event_text objects (event.Ask a r own at) = []
+event_text objects (event.Ask a r own at) = request_text objects r
 event_text objects (event.Got a w) = []
 event_text objects (event.Round a at) = []
 event_text objects (event.Yield a v at) = []

@@ -21,9 +21,12 @@ use Rattle.py_vm.specs.Run.{May, EachTells, IsRunBy, IsDone}
 use Rattle.py_vm.specs.RowsOf.{RowsOf}
 use Rattle.py_script.specs.Loaded.{AreCompiled}
 
--- an object of an atom of a drive: any one of a number's value, the declared one of a name
+-- an object of an atom of a drive: any one of a literal's value, the declared one of a name
 abbrev pub IsOf : List Payload → Atom → Obj → Type 0
+IsOf objects atom.None v = HasPayload objects v payload.None
+IsOf objects (atom.Bool b) v = HasPayload objects v (payload.Bool b)
 IsOf objects (atom.Int n) v = HasPayload objects v (payload.Int n)
+IsOf objects (atom.Str s) v = HasPayload objects v (payload.Str s)
 IsOf objects (atom.Name x) v = declared objects x ≡ Some v
 
 abbrev pub AreOf : List Payload → List Atom → List Obj → Type 0

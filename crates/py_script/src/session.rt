@@ -5,7 +5,7 @@ ghost use Rattle.py_objects.specs.Objects.{numbers, AllBelow};
 ghost use Rattle.py_body.specs.Binding.{IsClosed};
 ghost use Rattle.py_body.specs.Fits.{Fits};
 ghost use Rattle.py_grammar.specs.Script.{declared_tree, drive_of, trees_of, drives_of};
-ghost use Rattle.py_grammar.specs.WellFormed.{IsNumber, IsWellDriven};
+ghost use Rattle.py_grammar.specs.WellFormed.{IsLiteral, IsWellDriven};
 ghost use Rattle.py_vm.specs.Machine.{events_of, objects_of, codes_of, done_of};
 ghost use Rattle.py_vm.specs.Run.{IsDone};
 ghost use Rattle.py_vm.specs.Stands.{Stands};
@@ -131,22 +131,13 @@ fn load_script(alloc: Global, script: &Script) -> Result<Session, NoMemory>
     })
 }
 
-/// Whether a declaration has a name.
-fn has_name(declaration: &Declaration, name: &PyText) -> bool
-    ensures { result ≡ bytes_eq name.now (declared_tree declaration.now).name }
-{
-    match declaration {
-        Declaration::Function(body) => same_text(name, &body.name),
-    }
-}
-
 /// The place of the declaration that has a name.
 fn place_of(declarations: &[Declaration], name: &PyText) -> usize
     requires { Any (λ t. t.name ≡ name.now) (map declared_tree declarations.now) }
     ensures { IsNamedAt (map declared_tree declarations.now) name.now result }
 {
     for (place, declaration) in declarations.iter().enumerate() {
-        if has_name(declaration, name) {
+        if same_text(name, declaration.name()) {
             return place;
         }
     }
@@ -157,13 +148,19 @@ impl Session {
     /// The object of an argument of a drive, made anew.
     fn argument(&mut self, atom: &Atom) -> Result<PyObjectRef, NoMemory>
         requires stands { Stands self.old.vm }
-        requires number { IsNumber atom.now }
+        requires literal { IsLiteral atom.now }
         ensures is { IfOk result (λ value. IsOf (objects_of self.new.vm) atom.now value) }
         ensures below { IfOk result (λ value. value.number < length (objects_of self.new.vm)) }
         ensures grew { OnlyGrew self.old self.new }
     {
         match atom {
+            Atom::None => self.vm.add_object(Payload::None),
+            Atom::Bool(truth) => self.vm.add_object(Payload::Bool(*truth)),
             Atom::Int(number) => self.vm.add_object(Payload::Int(*number)),
+            Atom::Str(text) => {
+                let text = text.copy(self.alloc)?;
+                self.vm.add_object(Payload::Str(text))
+            }
             Atom::Name(_) => unreachable!(),
         }
     }
@@ -171,7 +168,7 @@ impl Session {
     /// The objects of the arguments of a drive, in order.
     fn arguments(&mut self, atoms: &[Atom]) -> Result<ObjList, NoMemory>
         requires stands { Stands self.old.vm }
-        requires numbers { All IsNumber atoms.now }
+        requires literals { All IsLiteral atoms.now }
         ensures are { IfOk result (λ values. AreOf (objects_of self.new.vm) atoms.now values) }
         ensures below { IfOk result (λ values. AllBelow (length (objects_of self.new.vm)) (numbers values)) }
         ensures grew { OnlyGrew self.old self.new }

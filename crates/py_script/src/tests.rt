@@ -1,6 +1,7 @@
 //! Texts and notes at worked values; representations are those that Python prints.
 
 mod runs;
+mod scripts;
 
 use crate::notes::write_note;
 use crate::*;

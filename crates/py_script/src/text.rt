@@ -2,17 +2,21 @@
 
 ghost use Rattle.std.specs.Prelude.{◌≡◌, ◌++◌, OnOk, IfOk, string_bytes, codes};
 ghost use Rattle.py_objects.specs.Objects.{as_object};
-ghost use Rattle.py_script.specs.Text.{payload_of, repr, details, raised, numbered, result_text, event_text, text_of};
+ghost use Rattle.py_objects.specs.declared.request.Request.TheVariants.{Show};
+ghost use Rattle.py_script.specs.Text.{payload_of, repr, details, raised, numbered, request_text, result_text, event_text, text_of};
 
 use crate::quoted::push_text;
 use crate::repr::{push_class_name, tuple_items};
 use crate::str_of::{DEPTH, push_said, push_whole_repr};
 use py_code::NoMemory;
-use py_objects::{DriveAnswer, Event, Payload, PayloadList, PyBaseExceptionRef, PyObjectRef};
+use py_objects::{
+    DriveAnswer, Event, Payload, PayloadList, PyBaseExceptionRef, PyObjectRef, Request,
+};
 use py_vm::Journal;
 use std::alloc::Global;
 
-/// The text of a journal: a line for each result of a drive, in order, and each report as it is.
+/// The text of a journal: a line for each value that is shown and for each result of a drive, in order, and each report as
+/// it is.
 pub fn journal_text(alloc: Global, journal: &Journal) -> Result<Vec<u8>, NoMemory>
     ensures { IfOk result (λ bytes. bytes.items ≡ text_of journal.now) }
 {
@@ -28,15 +32,44 @@ fn push_event(out: &mut String, objects: &PayloadList, event: &Event) -> Result<
 {
     match event {
         Event::Result { drive, answer } => push_result(out, objects, *drive, answer),
+        Event::Ask { request, .. } => push_request(out, objects, *request),
         Event::Drive { .. }
         | Event::Make { .. }
         | Event::Resume { .. }
-        | Event::Ask { .. }
         | Event::Got { .. }
         | Event::Round { .. }
         | Event::Yield { .. }
         | Event::End { .. } => Ok(()),
     }
+}
+
+fn push_request(
+    out: &mut String,
+    objects: &PayloadList,
+    request: Request,
+) -> Result<(), NoMemory>
+    ensures { OnOk result (string_bytes out.new ≡ string_bytes out.old ++ request_text objects.now request) }
+{
+    match request {
+        Request::Binary(_, _, _) => Ok(()),
+        Request::Show(value) => push_shown(out, objects, value),
+    }
+}
+
+/// Puts a line for a value that is shown behind the text, unless it is None.
+fn push_shown(
+    out: &mut String,
+    objects: &PayloadList,
+    value: PyObjectRef,
+) -> Result<(), NoMemory>
+    ensures { OnOk result (string_bytes out.new ≡ string_bytes out.old ++ request_text objects.now (Show value)) }
+{
+    if matches!(objects.get(value.number as usize), Some(Payload::None)) {
+        return Ok(());
+    }
+    push_whole_repr(out, objects, value)?;
+    out.push_str("\n")?;
+    Ok(())
 }
 
 fn push_result(

@@ -5,7 +5,6 @@ ghost use Rattle.std.specs.Prelude.{◌≤◌};
 use crate::*;
 use py_code::NoMemory;
 use std::alloc::Global;
-use std::process::Abort;
 use std::test::Fail;
 
 // A script of one drive, whose run has seven events and whose text has thirteen bytes.
@@ -15,10 +14,10 @@ const USAGE: &[u8] = b"usage: pyrun run [TURNS] or make SEED COUNT\n";
 
 /// What a command came to, and what its sinks have taken.
 #[derive(Drop)]
-struct Outcome {
-    status: u8,
-    text: SinkMemory,
-    notes: SinkMemory,
+pub(super) struct Outcome {
+    pub status: u8,
+    pub text: SinkMemory,
+    pub notes: SinkMemory,
 }
 
 fn source(alloc: Global, bytes: &[u8], fails: &[u64], most: usize) -> Result<SourceMemory, NoMemory>
@@ -30,7 +29,7 @@ fn source(alloc: Global, bytes: &[u8], fails: &[u64], most: usize) -> Result<Sou
 fn sink(alloc: Global, fails: &[u64], most: usize) -> Result<SinkMemory, NoMemory>
     requires { 1 ≤ most }
 {
-    SinkMemory::new(alloc, fails.to_vec(alloc)?, most, 100)
+    SinkMemory::new(alloc, fails.to_vec(alloc)?, most, 4000)
 }
 
 /// What the words come to over a source and a sink.
@@ -55,6 +54,17 @@ fn command_over(
     })
 }
 
+/// What a run of a script in so many turns comes to, with no fault.
+pub(super) fn run_in_turns(
+    alloc: Global,
+    script: &[u8],
+    turns: &str,
+) -> Result<Outcome, NoMemory> {
+    let mut source = source(alloc, script, &[], 100)?;
+    let text = sink(alloc, &[], 100)?;
+    command_over(alloc, &["run", turns], &mut source, text)
+}
+
 /// What `run` alone comes to over a source and a sink.
 fn run_over(
     alloc: Global,
@@ -65,115 +75,10 @@ fn run_over(
 }
 
 /// What a run of a script comes to, with no fault.
-fn run(alloc: Global, script: &[u8]) -> Result<Outcome, NoMemory> {
+pub(super) fn run(alloc: Global, script: &[u8]) -> Result<Outcome, NoMemory> {
     let mut source = source(alloc, script, &[], 5)?;
     let text = sink(alloc, &[], 5)?;
     run_over(alloc, &mut source, text)
-}
-
-/// A run of the script has to be whole, with this text.
-fn assert_writes(
-    rt: &impl Abort,
-    alloc: Global,
-    script: &[u8],
-    text: &str,
-) -> Result<(), NoMemory> {
-    let outcome = run(alloc, script)?;
-    assert_eq!(rt; outcome.status, 0);
-    assert_eq!(rt; outcome.text.bytes(), text.as_bytes());
-    assert_eq!(rt; outcome.notes.bytes(), b"".as_slice());
-    Ok(())
-}
-
-#[test]
-fn a_script_is_run_and_its_text_is_written(rt: HostRuntime) -> Result<(), Fail> {
-    let rows: [(&[u8], &str); 11] = [
-        (SUM, "1 returns 45\n"),
-        (b"def f\nreturn 7\nend\n", ""),
-        (b"def f\nreturn 7\nend\ncall f\n", "1 returns 7\n"),
-        (b"def f\nend\ncall f\n", "1 returns None\n"),
-        (
-            b"def f a b c\nx = (add a c)\nreturn x\nend\ncall f 1 2 3\n",
-            "1 returns 4\n",
-        ),
-        (
-            b"def f a\nreturn a\nend\ncall f 999999999999999999\n",
-            "1 returns 999999999999999999\n",
-        ),
-        (
-            b"def f a\nx = (add a a)\nreturn x\nend\ncall f -999999999999999999\n",
-            "1 returns -1999999999999999998\n",
-        ),
-        (b"def f a\nreturn a\nend\ncall f -0\n", "1 returns 0\n"),
-        (b"def f a\nreturn a\nend\ncall f 007\n", "1 returns 7\n"),
-        (
-            b"def _f9 a_1 B2\nreturn B2\nend\ncall _f9 1 2\n",
-            "1 returns 2\n",
-        ),
-        (
-            b"def f a\nreturn 1\nreturn a\nend\ncall f 2\n",
-            "1 returns 1\n",
-        ),
-    ];
-    for (script, text) in rows {
-        assert_writes(&rt, rt.alloc(), script, text)?;
-    }
-    Ok(())
-}
-
-#[test]
-fn blanks_and_line_ends_change_nothing(rt: HostRuntime) -> Result<(), Fail> {
-    let rows: [(&[u8], &str); 5] = [
-        (b"", ""),
-        (b"\n \t\n\r\n", ""),
-        (
-            b"def f a\r\n\r\nreturn a\r\nend\r\ncall f 5\r\n",
-            "1 returns 5\n",
-        ),
-        (
-            b"\tdef\tf  a \n\treturn\ta\t\n end\t\n\tcall\tf\t6\n",
-            "1 returns 6\n",
-        ),
-        (b"def f\nreturn 8\nend\ncall f", "1 returns 8\n"),
-    ];
-    for (script, text) in rows {
-        assert_writes(&rt, rt.alloc(), script, text)?;
-    }
-    Ok(())
-}
-
-#[test]
-fn what_is_no_script_is_noted_with_its_line(rt: HostRuntime) -> Result<(), Fail> {
-    let alloc = rt.alloc();
-    let rows: [(&[u8], &str); 14] = [
-        (
-            b"def f a\nreturn a\nend\ncall f 1000000000000000000\n",
-            "malformed: line 4\n",
-        ),
-        (
-            b"def f a\nreturn a\nend\ncall f 0000000000000000007\n",
-            "malformed: line 4\n",
-        ),
-        (b"def 1f\nend\n", "malformed: line 1\n"),
-        (b"def f 1a\nend\n", "malformed: line 1\n"),
-        (b"def f end\nend\n", "malformed: line 1\n"),
-        (b"def f a a\nend\n", "malformed: line 1\n"),
-        (b"def TypeError\nend\n", "malformed: line 1\n"),
-        (b"def f\nreturn 1\n", "malformed: line 3\n"),
-        (b"def f", "malformed: line 2\n"),
-        (b"def f a\nend\n\ncall f 1 2\n", "malformed: line 4\n"),
-        (b"def f a\nend\ncall f\n", "malformed: line 3\n"),
-        (b"def f\nend\ndef g\nend\n", "malformed: line 3\n"),
-        (b"def f\nend\ncall g\n", "malformed: line 3\n"),
-        (b"def f\nend\ncall f\ncall f\n", "malformed: line 4\n"),
-    ];
-    for (script, note) in rows {
-        let outcome = run(alloc, script)?;
-        assert_eq!(rt; outcome.status, 2);
-        assert_eq!(rt; outcome.text.bytes(), b"".as_slice());
-        assert_eq!(rt; outcome.notes.bytes(), note.as_bytes());
-    }
-    Ok(())
 }
 
 #[test]
@@ -218,9 +123,7 @@ fn a_command_may_say_its_turns(rt: HostRuntime) -> Result<(), Fail> {
         (SUM, "18446744073709551615", 0, "1 returns 45\n", ""),
     ];
     for (script, turns, status, text, note) in rows {
-        let mut source = source(alloc, script, &[], 100)?;
-        let taken = sink(alloc, &[], 5)?;
-        let outcome = command_over(alloc, &["run", turns], &mut source, taken)?;
+        let outcome = run_in_turns(alloc, script, turns)?;
         assert_eq!(rt; outcome.status, status, "in {turns}");
         assert_eq!(rt; outcome.text.bytes(), text.as_bytes());
         assert_eq!(rt; outcome.notes.bytes(), note.as_bytes());

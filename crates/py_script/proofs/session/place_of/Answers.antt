@@ -4,17 +4,17 @@ use Rattle.py_grammar.specs.Script.{declared_tree}
 use Rattle.py_script.proofs.Loading.{entry_read, named_at, none_more, found_none}
 use Rattle.py_script.proofs.session.place_of.Goals as goal
 
-pub returns-then-has_name : goal.returns-then-has_name
-returns-then-has_name c =
+pub returns-then-same_text : goal.returns-then-same_text
+returns-then-same_text c =
     named_at c.args.name.now (map declared_tree c.args.declarations.now) c.loop-place.place _
     (entry_read declared_tree c.args.declarations.now c.loop-place.place c.index-declarations-place.result c.loop-place-test.true c.index-declarations-place.is)
-    (sym c.has_name.ensures ∙ c.if-has_name.true)
+    (sym c.same_text.ensures ∙ c.if-same_text.true)
 
 pub loop-place-preserved : goal.loop-place-preserved
 loop-place-preserved c =
     none_more c.args.name.now (map declared_tree c.args.declarations.now) c.loop-place.place _
     (entry_read declared_tree c.args.declarations.now c.loop-place.place c.index-declarations-place.result c.loop-place-test.true c.index-declarations-place.is)
-    (sym c.has_name.ensures ∙ c.if-has_name.false)
+    (sym c.same_text.ensures ∙ c.if-same_text.false)
     c.loop-place.invariant
 
 pub unreachable-requires : goal.unreachable-requires
