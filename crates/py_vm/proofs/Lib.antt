@@ -15,5 +15,5 @@ mod JournalLemmas
 mod TurnsLemmas
 -- machines between drives, and what a drive adds
 pub mod StandsLemmas
--- the code by which drives are tested
-mod SumCodeLemmas
+-- codes without jumps, by which drives are tested
+mod StraightCodes

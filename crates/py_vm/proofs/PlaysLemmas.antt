@@ -1,7 +1,10 @@
 -- An activation that plays, as its frame hears and tells events.
 use Rattle.std.proofs.Common.{◌≡◌, ◌≤◌, ◌-◌, ◌++◌, ℕ, List, [], ◌∷◌, Some, inl, inr, refl, sym, ap, subst, ◌∙◌, length, append_assoc, append-nil}
-use Rattle.std.specs.Prelude.{slice_get}
+use Rattle.std.specs.Prelude.{Option, None, slice_get}
 use Rattle.py_code.specs.declared.code.PyCode.{PyCode}
+use Rattle.py_code.specs.declared.unit.CodeUnit.{CodeUnit}
+use Rattle.py_code.specs.declared.instruction.Instruction.{Instruction}
+use Rattle.py_code.specs.declared.instruction.Instruction.TheVariants.{BinaryOperation, PrintExpr}
 use Rattle.py_objects.specs.declared.payload.Payload.{Payload}
 use Rattle.py_objects.specs.declared.event.Event.{Event}
 use Rattle.py_objects.specs.declared.event.GotAnswer.TheVariants as got
@@ -15,8 +18,8 @@ use Rattle.py_frame.specs.declared.input.Input.{Input}
 use Rattle.py_frame.specs.declared.input.Input.TheVariants as input
 use Rattle.py_frame.specs.declared.input.FrameStep.{FrameStep}
 use Rattle.py_frame.specs.declared.input.FrameStep.TheVariants as step
-use Rattle.py_frame.specs.Rows.{State, waiting, pushed}
-use Rattle.py_frame.specs.RunOfRows.{Steps, Reaches, IsAt}
+use Rattle.py_frame.specs.Rows.{State, Goes, waiting, pushed, answered, unit_answered, receive}
+use Rattle.py_frame.specs.RunOfRows.{ByStep, Steps, Reaches, IsAt, IsFree, IsFreeAt}
 use Rattle.py_frame.specs.Steps.{Expects, heard, told, Extends}
 use Rattle.py_frame.specs.Laws.{heard_numbers, HearsBelow, TellsBelow}
 use Rattle.py_frame.proofs.Growing.{payload_grown, runs_grow}
@@ -34,29 +37,42 @@ one_step : (objects : List Payload) (code : PyCode) (x : Expect) (s t : State) (
     → Steps objects code x s ts (λ s1 mid. (mid ≡ []) × (t ≡ s1)) → Reaches objects code 1 s ts t
 one_step objects code x s t ts wants steps = subst (λ y. Steps objects code y s ts (λ s1 mid. (mid ≡ []) × (t ≡ s1))) (sym wants) steps
 
+-- a value that the unit that asked has a meaning for is taken silently
+value_taken : (code : PyCode) (v : Obj) (s : State) → IsFree (receive code (got.Value v) s) → (t : State) × (receive code (got.Value v) s ≡ Goes t)
+value_taken code v s free = by_unit (slice_get code.code.instructions.items (s.at - 1)) (waiting expect.Go s) free
+  where
+    by_op : (op : Instruction) (u : State) → IsFree (answered op v u) → (t : State) × (answered op v u ≡ Goes t)
+    by_op BinaryOperation u free = (pushed v u, refl)
+    by_op PrintExpr u free = (u, refl)
+    by_op _ u free = absurd free
+    by_unit : (unit : Option CodeUnit) (u : State) → IsFree (unit_answered unit v u) → (t : State) × (unit_answered unit v u ≡ Goes t)
+    by_unit None u free = absurd free
+    by_unit (Some unit) u free = by_op unit.op u free
+
 -- a run that is to hear what it expects tells what the rows may
 heard_tells : (objects : List Payload) (code : PyCode) (args : List Obj) (before : List Own) (x : Expect) (s : State) (i : Input)
-    → s.wants ≡ x → Expects x i → IsAt objects code args before s → RowsTell objects code args (before ++ heard i)
-heard_tells objects code args before expect.Start s input.Start wants expects at =
+    → s.wants ≡ x → IsFreeAt code x s → Expects x i → IsAt objects code args before s → RowsTell objects code args (before ++ heard i)
+heard_tells objects code args before expect.Start s input.Start wants free expects at =
     let t : State = waiting expect.Go s in
     inl (t, run_extended objects code args 1 before (Resumes how.Start ∷ []) s t at (one_step objects code expect.Start s t (Resumes how.Start ∷ []) wants ([], refl, (refl, refl))))
-heard_tells objects code args before expect.Start s input.Go wants expects at = absurd expects
-heard_tells objects code args before expect.Start s (input.Answer w) wants expects at = absurd expects
-heard_tells objects code args before expect.Go s input.Start wants expects at = absurd expects
-heard_tells objects code args before expect.Go s input.Go wants expects at = inl (s, subst (λ ts. IsAt objects code args ts s) (sym (append-nil before)) at)
-heard_tells objects code args before expect.Go s (input.Answer w) wants expects at = absurd expects
-heard_tells objects code args before expect.Answer s input.Start wants expects at = absurd expects
-heard_tells objects code args before expect.Answer s input.Go wants expects at = absurd expects
-heard_tells objects code args before expect.Answer s (input.Answer (got.Value v)) wants expects at =
-    let t : State = waiting expect.Go (pushed v s) in
-    inl (t, run_extended objects code args 1 before (Gets (got.Value v) ∷ []) s t at (one_step objects code expect.Answer s t (Gets (got.Value v) ∷ []) wants (got.Value v, [], refl, (refl, refl))))
-heard_tells objects code args before expect.Answer s (input.Answer (got.Raise e)) wants expects at =
+heard_tells objects code args before expect.Start s input.Go wants free expects at = absurd expects
+heard_tells objects code args before expect.Start s (input.Answer w) wants free expects at = absurd expects
+heard_tells objects code args before expect.Go s input.Start wants free expects at = absurd expects
+heard_tells objects code args before expect.Go s input.Go wants free expects at = inl (s, subst (λ ts. IsAt objects code args ts s) (sym (append-nil before)) at)
+heard_tells objects code args before expect.Go s (input.Answer w) wants free expects at = absurd expects
+heard_tells objects code args before expect.Answer s input.Start wants free expects at = absurd expects
+heard_tells objects code args before expect.Answer s input.Go wants free expects at = absurd expects
+heard_tells objects code args before expect.Answer s (input.Answer (got.Value v)) wants free expects at =
+    let (t, goes) = value_taken code v s (free v) in
+    let step : ByStep (receive code (got.Value v) s) [] (λ s1 mid. (mid ≡ []) × (t ≡ s1)) = subst (λ step. ByStep step [] (λ s1 mid. (mid ≡ []) × (t ≡ s1))) (sym goes) (refl, refl) in
+    inl (t, run_extended objects code args 1 before (Gets (got.Value v) ∷ []) s t at (one_step objects code expect.Answer s t (Gets (got.Value v) ∷ []) wants (got.Value v, [], refl, step)))
+heard_tells objects code args before expect.Answer s (input.Answer (got.Raise e)) wants free expects at =
     let t : State = waiting expect.Ended s in
     let end : List Own = Ends (s.at - 1) (ending.Raise e) ∷ [] in
     let run = run_extended objects code args 1 before (Gets (got.Raise e) ∷ end) s t at (one_step objects code expect.Answer s t (Gets (got.Raise e) ∷ end) wants (got.Raise e, end, refl, ([], refl, (refl, refl)))) in
     inr (before, e, s.at - 1, refl, (t, subst (λ ts. IsAt objects code args ts t) (sym (append_assoc before (Gets (got.Raise e) ∷ []) end)) run))
-heard_tells objects code args before expect.Answer s (input.Answer (got.Stop v)) wants expects at = absurd expects
-heard_tells objects code args before expect.Ended s i wants expects at = absurd expects
+heard_tells objects code args before expect.Answer s (input.Answer (got.Stop v)) wants free expects at = absurd expects
+heard_tells objects code args before expect.Ended s i wants free expects at = absurd expects
 
 -- an activation that goes on by what its frame expects has told what the rows may
 pub goes_tells : (codes : List PyCode) (objects : List Payload) (events : List Event) (r : Running) (i : Input)
@@ -66,7 +82,7 @@ goes_tells codes objects events r i p expects = (
   p.is_function,
   p.code,
   p.is_code,
-  subst (λ own. RowsTell objects p.code p.activation.args own) (sym p.whole) (heard_tells objects p.code p.activation.args p.before r.frame.wants r.frame i refl expects p.is_at),
+  subst (λ own. RowsTell objects p.code p.activation.args own) (sym p.whole) (heard_tells objects p.code p.activation.args p.before r.frame.wants r.frame i refl (p.sound.free objects p.activation.args p.before r.frame refl p.is_at) expects p.is_at),
 )
 
 -- so has one that has nothing to hear

@@ -65,6 +65,7 @@ replies_grow objects objects' (request.Binary op a b) reply grows (p, q, left, r
   type_name_grows objects objects' q right grows is_right,
   is,
 )
+replies_grow objects objects' (request.Show v) reply grows is = is
 
 pub raised_grows : (objects objects' : List Payload) (before : List Event) (kind : ErrorKind) (text : Name) (e : PyBaseExceptionRef)
     → GrowsPlainly objects objects' → IsRaised objects before kind text e → IsRaised objects' before kind text e

@@ -1,5 +1,5 @@
 -- Machines between drives, and what a drive adds.
-use Rattle.std.proofs.Common.{◌≡◌, ◌≤◌, ◌+◌, ◌++◌, ℕ, zero, suc, List, [], ◌∷◌, Some, inl, inr, refl, sym, ap, subst, ◌∙◌, length, length-append, append_assoc, append-nil, add-one, arith}
+use Rattle.std.proofs.Common.{◌≡◌, ◌≤◌, ◌+◌, ◌++◌, ℕ, zero, suc, List, [], ◌∷◌, Some, inl, inr, refl, sym, ap, subst, ◌∙◌, length, length-append, append_assoc, append-nil, add-one}
 use Rattle.std.specs.Prelude.{Option, None, slice_get}
 use Rattle.py_code.specs.declared.code.PyCode.{PyCode}
 use Rattle.py_code.specs.Codes.{Codes}
@@ -15,7 +15,7 @@ use Rattle.py_vm.specs.declared.drive.Drive.TheVariants.{Call}
 use Rattle.py_vm.specs.declared.stage.Stage.{Stage}
 use Rattle.py_vm.specs.declared.stage.Stage.TheVariants as stage
 use Rattle.py_vm.specs.declared.vm.VirtualMachine.{VirtualMachine}
-use Rattle.py_vm.specs.Run.{State, Idle, start, state_after, EachTells, Comes, IsDone, IsRunBy}
+use Rattle.py_vm.specs.Run.{State, start, state_after, EachTells, Comes}
 use Rattle.py_vm.specs.RowsOf.{RowsOf}
 use Rattle.py_vm.specs.Classes.{class_payload, first_objects, first_classes, HaveClasses}
 use Rattle.py_vm.specs.Machine.{events_of, objects_of, codes_of, done_of}
@@ -33,14 +33,6 @@ use Rattle.py_vm.proofs.TurnsLemmas.{classes_stay}
 pub stands_fit : (m : VirtualMachine) → Stands m → AllFit (objects_of m)
 stands_fit m stands = stands.keeps.fit
 
--- so many drives are done as it counts
-pub stands_done : (m : VirtualMachine) → Stands m → done_of m ≡ m.done
-stands_done m stands = stands.keeps.done
-
--- nothing runs
-pub stands_idle : (m : VirtualMachine) → Stands m → (state_after start (events_of m)).phase ≡ Idle
-stands_idle m stands = stands.keeps.phase ∙ ap phase_of stands.idle
-
 -- its activations told what the rows may, and its events name objects
 pub stands_tells : (m : VirtualMachine) → Stands m → EachTells (RowsOf (codes_of m).codes (objects_of m)) (events_of m)
 stands_tells m stands = stands.keeps.tells
@@ -48,25 +40,8 @@ stands_tells m stands = stands.keeps.tells
 pub stands_named : (m : VirtualMachine) → Stands m → AreNamed (objects_of m) (events_of m)
 stands_named m stands = stands.keeps.named
 
--- all its drives are done
-pub stands_is_done : (m : VirtualMachine) → Stands m → IsDone (done_of m) (events_of m)
-stands_is_done m stands = record { done = refl; idle = stands_idle m stands }
-
--- a machine without events has made a run of no drives
-pub nothing_runs : (m : VirtualMachine) → Stands m → events_of m ≡ [] → IsRunBy (RowsOf (codes_of m).codes (objects_of m)) [] (objects_of m) (events_of m)
-nothing_runs m stands none = record {
-  comes = subst (Comes [] m.store [] start) (sym none) tt;
-  tells = stands_tells m stands;
-  named = stands_named m stands;
-}
-
--- a drive makes a run of one drive more, whole or not
-pub adds_run : (drive : Drive) (old new : VirtualMachine) (asked : List Drive) → length asked ≡ done_of old → Comes asked (objects_of old) [] start (events_of old) → Adds drive old new
-    → IsRunBy (RowsOf (codes_of new).codes (objects_of new)) (asked ++ drive ∷ []) (objects_of new) (events_of new)
-adds_run drive old new asked same comes adds = record { comes = adds.runs asked same comes; tells = adds.tells; named = adds.named }
-
--- the objects that a machine begins with
-first_fit : AllFit first_objects
+-- the objects that a machine begins with fit
+pub first_fit : AllFit first_objects
 first_fit zero p is = subst (λ q. AllBelow (length first_objects) (payload_numbers q) × IsMade first_objects q) (let same : payload.None ≡ p = cc in same) (tt, tt)
 first_fit (suc zero) p is = subst (λ q. AllBelow (length first_objects) (payload_numbers q) × IsMade first_objects q) (let same : class_payload NameError ≡ p = cc in same) (tt, tt)
 first_fit (suc (suc zero)) p is = subst (λ q. AllBelow (length first_objects) (payload_numbers q) × IsMade first_objects q) (let same : class_payload OverflowError ≡ p = cc in same) (tt, tt)
@@ -221,24 +196,6 @@ drove_on m0 m m' d n drove turns = record {
   runs = runs_on m0 m m' d n None drove turns;
 }
 
--- what was added, where the turns are spent
-pub drove_adds : (m0 m : VirtualMachine) (d : Drive) (n : ℕ) → Drove m0 d n m → Adds d m0 m
-drove_adds m0 m d n drove = record {
-  part = drove.part;
-  events = drove.events;
-  grows = drove.grows;
-  codes = drove.codes;
-  runs = drove.runs;
-  tells = drove.keeps.tells;
-  named = drove.keeps.named;
-}
-
-pub drove_count : (m0 m : VirtualMachine) (d : Drive) (n : ℕ) → Drove m0 d n m → length m.events ≡ length m0.events + n
-drove_count m0 m d n drove = ap length drove.events ∙ length-append m0.events drove.part ∙ ap (λ k. length m0.events + k) drove.count
-
-pub drove_done : (m0 m : VirtualMachine) (d : Drive) (n : ℕ) → Drove m0 d n m → done_of m ≡ done_of m0
-drove_done m0 m d n drove = drove.keeps.done ∙ drove.done
-
 -- where the drive has its result
 pub last_adds : (m0 m m' : VirtualMachine) (d : Drive) (n : ℕ) (a : Option DriveAnswer) → Drove m0 d n m → Turns m m.stage a m' → Adds d m0 m'
 last_adds m0 m m' d n a drove turns = record {
@@ -250,16 +207,6 @@ last_adds m0 m m' d n a drove turns = record {
   tells = turns.keeps.tells;
   named = turns.keeps.named;
 }
-
-pub last_count : (m0 m m' : VirtualMachine) (d : Drive) (n : ℕ) (a : Option DriveAnswer) → Drove m0 d n m → Turns m m.stage a m' → length m'.events ≡ length m0.events + (n + 1)
-last_count m0 m m' d n a drove turns =
-    let so_far = drove_count m0 m d n drove in
-    let one : length m'.events ≡ length m.events + 1 = ap length turns.events ∙ length-append m.events (turns.added ∷ []) in
-    omega (arith, so_far, one)
-
-pub last_stands : (m0 m m' : VirtualMachine) (d : Drive) (n : ℕ) (w : DriveAnswer) → Drove m0 d n m → Turns m m.stage (Some w) m' → Stands m' × (done_of m' ≡ suc (done_of m0))
-last_stands m0 m m' d n w drove turns =
-    (record { keeps = turns.keeps; idle = turns.ends.2 }, turns.keeps.done ∙ turns.ends.1 ∙ add-one m.done ∙ ap suc drove.done)
 
 pub last_answer : (m0 m m' : VirtualMachine) (d : Drive) (n : ℕ) (w : DriveAnswer) → Drove m0 d n m → Turns m m.stage (Some w) m' → EndsBy (events_of m') (suc (done_of m0)) w
 last_answer m0 m m' d n w drove turns =

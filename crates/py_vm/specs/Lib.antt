@@ -12,5 +12,3 @@ pub mod Stands
 -- what the functions inside the crate promise each other
 pub mod Turns
 pub mod Replying
--- a code by which drives are tested
-pub mod SumCode

@@ -2,12 +2,15 @@
 #![tactic(auto)]
 
 mod answer;
+mod arithmetic;
 mod drive;
 mod exceptions;
 mod fault;
 mod journal;
 mod stage;
+mod text;
 mod turn;
+mod type_names;
 mod vm;
 
 pub use drive::Drive;

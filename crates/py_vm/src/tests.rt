@@ -1,9 +1,10 @@
 //! What a reader can work out by hand.
 
-ghost use Rattle.std.specs.Prelude.{IfOk};
-ghost use Rattle.py_vm.specs.SumCode.{IsSumCode};
+ghost use Rattle.std.specs.Prelude.{◌≡◌, [], ◌∷◌, ◌++◌, length, IfOk, OnOk};
+ghost use Rattle.py_frame.specs.RunOfRows.{IsSound};
 
-use crate::answer::{Reply, give, operate};
+use crate::answer::{Reply, give, reply_to};
+use crate::arithmetic::operate;
 use crate::exceptions::ExceptionZoo;
 use crate::*;
 use py_code::{
@@ -11,8 +12,8 @@ use py_code::{
     same_text, text_of,
 };
 use py_objects::{
-    Arithmetic, DriveAnswer, ErrorKind, FunctionBody, GotAnswer, ObjList, Payload,
-    PyBaseExceptionRef, PyObjectRef, Store,
+    Arithmetic, DriveAnswer, ErrorKind, Event, FunctionBody, GotAnswer, ObjList, Payload,
+    PyBaseExceptionRef, PyObjectRef, Request, Store,
 };
 use std::alloc::Global;
 use std::test::Fail;
@@ -43,6 +44,7 @@ fn some_code(alloc: Global) -> PyCode {
 fn is_text(alloc: Global, reply: &Reply, expected: &[u8]) -> Result<bool, NoMemory> {
     match reply {
         Reply::Str(text) => Ok(same_text(text, &text_of(alloc, expected)?)),
+        Reply::None => Ok(false),
         Reply::Int(_) => Ok(false),
         Reply::Fails(_, _) => Ok(false),
     }
@@ -54,32 +56,17 @@ fn fails(alloc: Global, reply: &Reply, kind: ErrorKind, reason: &[u8]) -> Result
         Reply::Fails(raised, text) => {
             Ok(*raised == kind && same_text(text, &text_of(alloc, reason)?))
         }
+        Reply::None => Ok(false),
         Reply::Int(_) => Ok(false),
         Reply::Str(_) => Ok(false),
     }
 }
 
-/// A code that returns the sum of its two arguments.
-fn sum_code(alloc: Global) -> Result<PyCode, NoMemory>
-    ensures { IfOk result IsSumCode }
+/// A code of these units with two locals.
+fn code_of(alloc: Global, instructions: Vec<CodeUnit>) -> Result<PyCode, NoMemory>
+    ensures units { IfOk result (λ code. code.code.instructions.items ≡ instructions.items) }
+    ensures locals { IfOk result (λ code. length code.code.varnames.items ≡ 2) }
 {
-    let mut instructions = Vec::new(alloc);
-    instructions.push(CodeUnit {
-        op: Instruction::LoadFast,
-        arg: 0,
-    })?;
-    instructions.push(CodeUnit {
-        op: Instruction::LoadFast,
-        arg: 1,
-    })?;
-    instructions.push(CodeUnit {
-        op: Instruction::BinaryOperation,
-        arg: 6,
-    })?;
-    instructions.push(CodeUnit {
-        op: Instruction::ReturnValue,
-        arg: 0,
-    })?;
     let mut varnames = Vec::new(alloc);
     varnames.push(NameId { index: 0 })?;
     varnames.push(NameId { index: 1 })?;
@@ -89,11 +76,67 @@ fn sum_code(alloc: Global) -> Result<PyCode, NoMemory>
     Ok(code)
 }
 
-/// What the sum of 40 and 2 comes to in so many turns, and how many events there are.
-fn driven(alloc: Global, turns: u64) -> Result<(u64, Result<DriveAnswer, VmFault>), NoMemory> {
+/// Puts a unit behind others.
+fn put(units: &mut Vec<CodeUnit>, op: Instruction, arg: u8) -> Result<(), NoMemory>
+    ensures { OnOk result (units.new.items ≡ units.old.items ++ record { op = op; arg = arg } ∷ []) }
+{
+    units.push(CodeUnit { op, arg })?;
+    Ok(())
+}
+
+/// A code that returns the sum of its two arguments.
+fn sum_code(alloc: Global) -> Result<PyCode, NoMemory>
+    ensures { IfOk result (λ code. IsSound code 2) }
+{
+    let mut units = Vec::new(alloc);
+    put(&mut units, Instruction::LoadFast, 0)?;
+    put(&mut units, Instruction::LoadFast, 1)?;
+    put(&mut units, Instruction::BinaryOperation, 6)?;
+    put(&mut units, Instruction::ReturnValue, 0)?;
+    let code = code_of(alloc, units)?;
+    Ok(code)
+}
+
+/// A code that shows the first of its two arguments, and returns it.
+fn shown_code(alloc: Global) -> Result<PyCode, NoMemory>
+    ensures { IfOk result (λ code. IsSound code 2) }
+{
+    let mut units = Vec::new(alloc);
+    put(&mut units, Instruction::LoadFast, 0)?;
+    put(&mut units, Instruction::PrintExpr, 0)?;
+    put(&mut units, Instruction::LoadFast, 0)?;
+    put(&mut units, Instruction::ReturnValue, 0)?;
+    let code = code_of(alloc, units)?;
+    Ok(code)
+}
+
+/// Whether an event asks for a value to be shown.
+fn shows(event: Option<&Event>, value: PyObjectRef) -> bool {
+    match event {
+        Some(Event::Ask { request, .. }) => *request == Request::Show(value),
+        _ => false,
+    }
+}
+
+/// Whether an event gives this answer.
+fn is_answered(event: Option<&Event>, expected: GotAnswer) -> bool {
+    match event {
+        Some(Event::Got { answer, .. }) => *answer == expected,
+        _ => false,
+    }
+}
+
+/// What a code comes to from 40 and 2 in so many turns, and what happened.
+fn driven(
+    alloc: Global,
+    code: PyCode,
+    turns: u64,
+) -> Result<(Journal, Result<DriveAnswer, VmFault>), NoMemory>
+    requires { IsSound code 2 }
+{
     let mut vm = VirtualMachine::new(alloc, Names::new(alloc))?;
-    let code = vm.add_code(sum_code(alloc)?)?;
-    let name = text_of(alloc, b"sum")?;
+    let code = vm.add_code(code)?;
+    let name = text_of(alloc, b"f")?;
     let function = vm.add_object(Payload::Function(FunctionBody { name, code }))?;
     let left = vm.add_object(Payload::Int(40))?;
     let right = vm.add_object(Payload::Int(2))?;
@@ -101,21 +144,42 @@ fn driven(alloc: Global, turns: u64) -> Result<(u64, Result<DriveAnswer, VmFault
     args.push(left)?;
     args.push(right)?;
     let answer = vm.drive(Drive::Call(function, args), turns);
-    Ok((vm.events(), answer))
+    Ok((vm.journal(), answer))
 }
 
 #[test]
 fn a_call_is_done_in_seven_turns(rt: HostRuntime) -> Result<(), Fail> {
     let alloc = rt.alloc();
     for turns in 0..7 {
-        let (events, answer) = driven(alloc, turns)?;
-        assert!(rt; events == turns);
+        let (journal, answer) = driven(alloc, sum_code(alloc)?, turns)?;
+        assert!(rt; journal.events.len() as u64 == turns);
         assert!(rt; matches!(answer, Err(VmFault::OutOfTurns)));
     }
-    let (events, answer) = driven(alloc, 8)?;
-    assert!(rt; events == 7);
-    // The sum stands behind the function and the operands.
-    assert!(rt; matches!(answer, Ok(DriveAnswer::Returns(PyObjectRef { number: 9 }))));
+    for turns in 7..9 {
+        let (journal, answer) = driven(alloc, sum_code(alloc)?, turns)?;
+        assert!(rt; journal.events.len() == 7);
+        // The sum stands behind the function and the operands.
+        assert!(rt; matches!(answer, Ok(DriveAnswer::Returns(PyObjectRef { number: 9 }))));
+    }
+    Ok(())
+}
+
+#[test]
+fn a_shown_value_is_answered_by_none(rt: HostRuntime) -> Result<(), Fail> {
+    let alloc = rt.alloc();
+    for turns in 0..7 {
+        let (journal, answer) = driven(alloc, shown_code(alloc)?, turns)?;
+        assert!(rt; journal.events.len() as u64 == turns);
+        assert!(rt; matches!(answer, Err(VmFault::OutOfTurns)));
+    }
+    let (journal, answer) = driven(alloc, shown_code(alloc)?, 7)?;
+    assert!(rt; journal.events.len() == 7);
+    assert!(rt; shows(journal.events.get(3), PyObjectRef { number: 7 }));
+    let none = GotAnswer::Value(PyObjectRef { number: 0 });
+    assert!(rt; is_answered(journal.events.get(4), none));
+    // The first operand stands behind None, five classes and the function; nothing stands behind the second.
+    assert!(rt; matches!(answer, Ok(DriveAnswer::Returns(PyObjectRef { number: 7 }))));
+    assert!(rt; journal.objects.len() == 9);
     Ok(())
 }
 
@@ -160,6 +224,20 @@ fn an_addition_is_answered_by_the_types_of_its_operands(rt: HostRuntime) -> Resu
     let mixed = operate(alloc, &store, Arithmetic::Add, &text, &Payload::None)?;
     let refusal = b"'+' not supported between instances of 'str' and 'NoneType'";
     assert!(rt; fails(alloc, &mixed, ErrorKind::TypeError, refusal)?);
+    Ok(())
+}
+
+#[test]
+fn a_show_is_answered_by_the_none_that_is_there(rt: HostRuntime) -> Result<(), Fail> {
+    let alloc = rt.alloc();
+    let mut store = Store::new(alloc)?;
+    let exceptions = ExceptionZoo::new(alloc, &mut store)?;
+    let shown = Request::Show(PyObjectRef { number: 3 });
+    let reply = reply_to(alloc, &store, shown)?;
+    assert!(rt; matches!(reply, Reply::None));
+    let answer = give(alloc, &mut store, exceptions, reply)?;
+    assert!(rt; answer == GotAnswer::Value(PyObjectRef { number: 0 }));
+    assert!(rt; store.len() == 6);
     Ok(())
 }
 

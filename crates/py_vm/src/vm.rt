@@ -6,7 +6,6 @@ ghost use Rattle.py_vm.specs.Classes.{first_objects};
 ghost use Rattle.py_vm.specs.Machine.{events_of, objects_of, codes_of, done_of};
 ghost use Rattle.py_vm.specs.Stands.{IsCallable, Stands, Adds, EndsBy};
 ghost use Rattle.py_vm.specs.Turns.{first_stage};
-ghost use Rattle.py_vm.specs.declared.fault.VmFault.TheVariants.{OutOfTurns};
 
 use crate::drive::Drive;
 use crate::exceptions::ExceptionZoo;
@@ -92,10 +91,12 @@ impl VirtualMachine {
         // Whatever comes of it, the journal is one of the drives so far and this one.
         ensures adds { Adds drive self.old self.new }
         ensures turns { length (events_of self.new) ≤ length (events_of self.old) + turns }
-
+        // An answer is that of the last event, the drive's result; without an answer there is no result, and where memory
+        // didn't run out the turns are spent.
         ensures done { OnOk result (Stands self.new × (done_of self.new ≡ suc (done_of self.old))) }
         ensures answer { IfOk result (λ answer. EndsBy (events_of self.new) (suc (done_of self.old)) answer) }
-        ensures out_of_turns { result ≡ Err OutOfTurns → (length (events_of self.new) ≡ length (events_of self.old) + turns) × (done_of self.new ≡ done_of self.old) }
+        ensures out_of_memory { result ≡ Err VmFault.NoMemory → done_of self.new ≡ done_of self.old }
+        ensures out_of_turns { result ≡ Err VmFault.OutOfTurns → (length (events_of self.new) ≡ length (events_of self.old) + turns) × (done_of self.new ≡ done_of self.old) }
     {
         self.stage = first_stage(drive);
         'turns: for _turn in 0..turns {

@@ -2,7 +2,7 @@ use Rattle.std.proofs.Common.{◌∙◌, sym}
 use Rattle.std.proofs.lemmas.Int.{to_z-of_z}
 use Rattle.std.specs.Int.{w128}
 use Rattle.py_vm.proofs.AnswersLemmas.{texts_joined, numbers_computed}
-use Rattle.py_vm.proofs.answer.operate.Goals as goal
+use Rattle.py_vm.proofs.arithmetic.operate.Goals as goal
 
 pub returns-in-Some-clause-reply : goal.returns-in-Some-clause-reply
 returns-in-Some-clause-reply c =

@@ -1,4 +1,4 @@
-use Rattle.py_vm.proofs.answer.binary.Goals as goal
+use Rattle.py_vm.proofs.arithmetic.binary.Goals as goal
 
 pub operate-requires-clause-left_made : goal.operate-requires-clause-left_made
 operate-requires-clause-left_made c = (c.requires.fit c.args.left.number c.get-first.result.now c.get-first.ensures).1
