@@ -15,8 +15,8 @@ use Rattle.py_body.specs.Code.{Parts, LaidSuite, parts_with, IsLaid}
 use Rattle.py_body.specs.Emitting.{IsEmitted}
 use Rattle.py_body.specs.Fits.{Fits}
 use Rattle.py_body.proofs.Bound.{GoesOn-bound_by, AllBound-bound_by}
-use Rattle.py_body.proofs.Env.{env_of, AreSet, AreSet-begun, begun-env_of, length-filled}
-use Rattle.py_body.proofs.Running.{Holds, suite_run}
+use Rattle.py_body.proofs.Env.{env_of, AreSet, Holds, AreSet-begun, begun-env_of, length-filled}
+use Rattle.py_body.proofs.Running.{suite_run}
 
 module _ (code : PyCode) (t : Tree) (closed : IsClosed t) (is_laid : IsLaid code t) where
   args_set : (args : List Obj) → length args ≡ length t.params → AreSet t.params (begun (locals_of t) args)

@@ -4,8 +4,8 @@ use Rattle.std.specs.Prelude.{Option, None, Some, slice_get, slice_set, nat_lt}
 use Rattle.std.proofs.lemmas.Bool.{lt-ltb}
 use Rattle.py_code.specs.declared.code.PyCode.{PyCode}
 use Rattle.py_code.specs.declared.instruction.Instruction.{Instruction}
-use Rattle.py_code.specs.declared.instruction.Instruction.TheVariants.{LoadConst, LoadFast, StoreFast, BinaryOperation, PrintExpr, ReturnValue, ReturnConst}
-use Rattle.py_code.specs.declared.literal.Literal.{Literal, None as NoneLiteral, Bool as BoolLiteral, Int as IntLiteral, Str as StrLiteral}
+use Rattle.py_code.specs.declared.instruction.Instruction.TheVariants.{StoreFast, BinaryOperation, PrintExpr, ReturnValue, ReturnConst}
+use Rattle.py_code.specs.declared.literal.Literal.{None as NoneLiteral}
 use Rattle.py_code.specs.declared.unit.CodeUnit.{CodeUnit}
 use Rattle.py_objects.specs.declared.payload.Payload.{Payload}
 use Rattle.py_objects.specs.declared.payload.Payload.TheVariants as payload
@@ -13,38 +13,24 @@ use Rattle.py_objects.specs.declared.event.GotAnswer.TheVariants as got
 use Rattle.py_objects.specs.declared.event.Ending.TheVariants as ending
 use Rattle.py_objects.specs.declared.request.Request.{Request}
 use Rattle.py_objects.specs.declared.request.Request.TheVariants.{Show}
-use Rattle.py_objects.specs.Objects.{Obj, HasPayload}
+use Rattle.py_objects.specs.Objects.{Obj}
 use Rattle.py_objects.specs.Own.{Own, Asks, Ends}
-use Rattle.py_objects.specs.Telling.{Given, AfterValue, IsLiteral, Answered, Asked}
+use Rattle.py_objects.specs.Telling.{Answered, Asked}
 use Rattle.py_frame.specs.declared.input.Expect.TheVariants as expect
-use Rattle.py_frame.specs.Rows.{State, Step, Goes, Tells, Stuck, Move, Plainly, next as behind, with_stack, with_locals, waiting, pushed, payload_of, or_stuck, loads as load_move, set_in, load_fast, returns, act, answered, unit_answered, receive}
+use Rattle.py_frame.specs.Rows.{State, Step, Goes, Tells, Stuck, Move, Plainly, next as behind, with_stack, with_locals, waiting, returns, act, answered, unit_answered, receive}
 use Rattle.py_frame.specs.RunOfRows.{ByMove, ByStep, Reaches, IsFree, IsFreeMove, IsFreeAt}
 use Rattle.py_body.specs.declared.atom.Atom.{Atom}
-use Rattle.py_body.specs.declared.atom.Atom.TheVariants as atom
 use Rattle.py_body.specs.declared.atom.Operator.{Operator}
 use Rattle.py_body.specs.declared.atom.Operator.TheVariants as operator
 use Rattle.py_body.specs.Tree.{Name, Form, assign, operate, show, give, pass, target_of, Suite, nothing, first}
-use Rattle.py_body.specs.Binding.{Env, find_local, set_local, IsKnown, FormKnown, names_behind, SuiteKnown}
-use Rattle.py_body.specs.Outcome.{After, Use, Named, Loads, Normal, On_normal, RunsSuite}
+use Rattle.py_body.specs.Binding.{Env, set_local, FormKnown, names_behind, SuiteKnown}
+use Rattle.py_body.specs.Outcome.{After, Use, Normal, On_normal, RunsSuite}
 use Rattle.py_body.specs.Trace.{EndsBy}
-use Rattle.py_body.specs.Code.{Parts, place, Stands, StandsConst, LaidAtom, LaidForm, LaidSuite, parts_with}
+use Rattle.py_body.specs.Code.{Parts, place, Stands, StandsConst, LaidForm, LaidSuite, parts_with}
 use Rattle.py_body.proofs.Bound.{IsBound, AllBound}
 use Rattle.py_body.proofs.Decoding.{running, HasOp, EndsFree, decoded_run}
-use Rattle.py_body.proofs.Env.{env_of, AreSet, AreSet-more, slice_get-place, set_local-env_of, length-slice_set}
-
--- the locals of a frame are those of a body, with these names set
-pub record Holds (vars names : List Name) (locals : List (Option Obj)) (env : Env) : Type 0 where
-  pub same : env ≡ env_of vars locals
-  pub long : length locals ≡ length vars
-  pub set : AreSet names env
-
-Holds-stored : (vars names : List Name) (locals : List (Option Obj)) (env : Env) (x : Name) (v : Obj) → place vars x < length vars → Holds vars names locals env
-    → Holds vars (names ++ x ∷ []) (slice_set locals (place vars x) (Some v)) (set_local x (Some v) env)
-Holds-stored vars names locals env x v below holds = record {
-  same = ap (set_local x (Some v)) holds.same ∙ set_local-env_of vars locals x (Some v) below holds.long;
-  long = length-slice_set locals (place vars x) (Some v) ∙ holds.long;
-  set = AreSet-more names env x v holds.set;
-}
+use Rattle.py_body.proofs.Env.{Holds, Holds-stored}
+use Rattle.py_body.proofs.Loads.{const_run, atom_run}
 
 module _ (objects : List Payload) (code : PyCode) (vars : List Name) (final : State) where
   abbrev units : List CodeUnit
@@ -60,67 +46,6 @@ module _ (objects : List Payload) (code : PyCode) (vars : List Name) (final : St
   ended_run : (n : ℕ) (s : State) (ts : List Own) → Reaches objects code n (waiting expect.Ended s) ts final → (ts ≡ []) × IsFinal
   ended_run zero s ts (none, here) = (none, subst (λ (t : State). IsFreeAt code t.wants t) (sym here) tt)
   ended_run (suc n) s ts run = absurd run
-
-  -- ---- atoms
-
-  -- a unit that takes a constant of this payload
-  const_run : {Q : Type 0} (line : ℕ) (op : Instruction) (literal : Literal) (p : Payload) (f : State → Obj → Step) (at to : ℕ) (stack : List Obj) (locals : List (Option Obj)) (n : ℕ) (ts : List Own)
-      → payload_of literal ≡ Some p → ((s : State) (v : Obj) → IsFree (f s v))
-      → ((i : ℕ) (s : State) → act code op i s ≡ load_move (slice_get (parts.constants) i) (f s))
-      → StandsConst parts line at op literal to
-      → Reaches objects code n (running at 0 stack locals) ts final
-      → (ts ≡ [] → IsFinal → Q)
-      → ((v : Obj) (k prefix m : ℕ) → suc k ≡ to → HasPayload objects v p → ByStep (f (running k prefix stack locals) v) ts (λ s mid. Reaches objects code m s mid final) → Q)
-      → Q
-  const_run line op literal p f at to stack locals n ts is_payload free is_move (i, stands, is_constant) run cut go =
-      let move : (k prefix : ℕ) → act code op i (running k prefix stack locals) ≡ or_stuck (Some p) (f (running k prefix stack locals)) = λ k prefix.
-      is_move i (running k prefix stack locals) ∙ ap (λ (o : Option Literal). load_move o (f (running k prefix stack locals))) is_constant
-      ∙ ap (λ (o : Option Payload). or_stuck o (f (running k prefix stack locals))) is_payload in
-      decoded_run objects code final (drop at units) at 0 op i to stack locals n ts refl stands.0
-      (λ k prefix. subst IsFreeMove (sym (move k prefix)) (free (running k prefix stack locals))) run cut
-      (λ k prefix m is_next here more.
-      let step = subst (λ (w : Move). ByMove objects w ts (λ s mid. Reaches objects code m s mid final)) (move k prefix) more in
-      go step.0 k prefix m is_next step.1 step.2)
-
-  literal_run : {Q : Type 0} (line : ℕ) (literal : Literal) (p : Payload) (at to : ℕ) (stack : List Obj) (locals : List (Option Obj)) (n : ℕ) (ts : List Own)
-      → payload_of literal ≡ Some p → StandsConst parts line at LoadConst literal to
-      → Reaches objects code n (running at 0 stack locals) ts final
-      → (ts ≡ [] → IsFinal → Q)
-      → ((v : Obj) (m : ℕ) → ((us : List Own) (K : AfterValue) → K (Given v) us → IsLiteral objects p us K) → Reaches objects code m (running to 0 (v ∷ stack) locals) ts final → Q)
-      → Q
-  literal_run line literal p at to stack locals n ts is_payload stands run cut go =
-      const_run line LoadConst literal p (λ s v. Goes (pushed v (behind s))) at to stack locals n ts is_payload (λ s v. tt) (λ i s. refl) stands run cut
-      (λ v k prefix m is_next has more. go v m (λ us K after. inr (v, has, after)) (subst (λ (b : ℕ). Reaches objects code m (running b 0 (v ∷ stack) locals) ts final) is_next more))
-
-  local_run : {Q : Type 0} (line : ℕ) (x : Name) (at to : ℕ) (stack : List Obj) (locals : List (Option Obj)) (v : Obj) (n : ℕ) (ts : List Own)
-      → Stands parts line at LoadFast (place vars x) to → slice_get locals (place vars x) ≡ Some (Some v)
-      → Reaches objects code n (running at 0 stack locals) ts final
-      → (ts ≡ [] → IsFinal → Q)
-      → ((m : ℕ) → Reaches objects code m (running to 0 (v ∷ stack) locals) ts final → Q)
-      → Q
-  local_run line x at to stack locals v n ts stands here run cut go =
-      decoded_run objects code final (drop at units) at 0 LoadFast (place vars x) to stack locals n ts refl stands.0
-      (λ k p. subst (λ (o : Option (Option Obj)). IsFree (load_fast (set_in o) (running k p stack locals))) (sym here) tt) run cut
-      (λ k p m is_next op more.
-      let step = subst (λ (o : Option (Option Obj)). ByStep (load_fast (set_in o) (running k p stack locals)) ts (λ s mid. Reaches objects code m s mid final)) here more in
-      go m (subst (λ (b : ℕ). Reaches objects code m (running b 0 (v ∷ stack) locals) ts final) is_next step))
-
-  -- the load of an atom pushes a value that the atom may have
-  atom_run : {Q : Type 0} (line : ℕ) (a : Atom) (names : List Name) (at to : ℕ) (stack : List Obj) (locals : List (Option Obj)) (env : Env) (n : ℕ) (ts : List Own)
-      → LaidAtom parts line a at to → Holds vars names locals env → IsKnown names a
-      → Reaches objects code n (running at 0 stack locals) ts final
-      → (ts ≡ [] → IsFinal → Q)
-      → ((v : Obj) (m : ℕ) → ((us : List Own) (K : AfterValue) → K (Given v) us → Loads objects env a us K) → Reaches objects code m (running to 0 (v ∷ stack) locals) ts final → Q)
-      → Q
-  atom_run line atom.None names at to stack locals env n ts laid holds known run cut go = literal_run line NoneLiteral payload.None at to stack locals n ts refl laid run cut go
-  atom_run line (atom.Bool b) names at to stack locals env n ts laid holds known run cut go = literal_run line (BoolLiteral b) (payload.Bool b) at to stack locals n ts refl laid run cut go
-  atom_run line (atom.Int i) names at to stack locals env n ts laid holds known run cut go = literal_run line (IntLiteral i) (payload.Int i) at to stack locals n ts refl laid run cut go
-  atom_run line (atom.Str s) names at to stack locals env n ts laid holds known run cut go = literal_run line (StrLiteral s) (payload.Str s) at to stack locals n ts refl laid run cut go
-  atom_run line (atom.Name x) names at to stack locals env n ts laid holds known run cut go =
-      let (v, found) = holds.set x known in
-      let here : slice_get locals (place vars x) ≡ Some (Some v) = slice_get-place vars locals x v (subst (λ (e : Env). find_local x e ≡ Some (Some v)) holds.same found) in
-      local_run line x at to stack locals v n ts laid here run cut
-      (λ m more. go v m (λ us K after. subst (λ (o : Option (Option Obj)). Named o us K) (sym found) after) more)
 
   -- ---- what follows
 
@@ -205,7 +130,7 @@ module _ (objects : List Payload) (code : PyCode) (vars : List Name) (final : St
       → LaidForm parts i (assign x a) at to → Holds vars names locals env → FormKnown names (assign x a) → place vars x < length vars
       → Reaches objects code n (running at 0 [] locals) ts final → TellsFrom more (names ++ x ∷ []) to → TellsSuite (first i (assign x a) more) env ts
   assign_run i x a more names at to locals env n ts (stores, laid, stands) holds known below run later =
-      atom_run i a names at stores [] locals env n ts laid holds known run (cut_suite (first i (assign x a) more) env ts)
+      atom_run objects code vars final i a names at stores [] locals env n ts laid holds known run (cut_suite (first i (assign x a) more) env ts)
       (λ v m load run1.
       let told = store_run i x more names stores to v locals env m ts stands holds below run1 later in
       (told.0, inr (load ts _ told.1)))
@@ -218,8 +143,8 @@ module _ (objects : List Payload) (code : PyCode) (vars : List Name) (final : St
   operate_run i x operator.Add (a ∷ b ∷ c ∷ atoms) more names at to locals env n ts laid holds (arity, known) below run later = absurd (omega (arith, arity))
   operate_run i x operator.Add (a ∷ b ∷ []) more names at to locals env n ts (asks, stores, (mid, laid_a, (end, laid_b, is_asks)), stands_ask, stands_store) holds (arity, known) below run later =
       let cut : ts ≡ [] → IsFinal → TellsSuite (first i (operate x operator.Add (a ∷ b ∷ [])) more) env ts = cut_suite (first i (operate x operator.Add (a ∷ b ∷ [])) more) env ts in
-      atom_run i a names at mid [] locals env n ts laid_a holds (known 0 a (omega arith)) run cut
-      (λ v m load_a run1. atom_run i b names mid end (v ∷ []) locals env m ts laid_b holds (known 1 b (omega arith)) run1 cut
+      atom_run objects code vars final i a names at mid [] locals env n ts laid_a holds (known 0 a (omega arith)) run cut
+      (λ v m load_a run1. atom_run objects code vars final i b names mid end (v ∷ []) locals env m ts laid_b holds (known 1 b (omega arith)) run1 cut
       (λ w j load_b run2.
       let told = asked_run more env i asks stores BinaryOperation 6 _ (w ∷ v ∷ []) (λ u. u ∷ []) _ locals j ts stands_ask (λ k p. refl) (λ k u. refl)
       (subst (λ (p : ℕ). Reaches objects code j (running p 0 (w ∷ v ∷ []) locals) ts final) (sym is_asks) run2)
@@ -230,7 +155,7 @@ module _ (objects : List Payload) (code : PyCode) (vars : List Name) (final : St
       → LaidForm parts i (show a) at to → Holds vars names locals env → FormKnown names (show a)
       → Reaches objects code n (running at 0 [] locals) ts final → TellsFrom more names to → TellsSuite (first i (show a) more) env ts
   show_run i a more names at to locals env n ts (asks, laid, stands) holds known run later =
-      atom_run i a names at asks [] locals env n ts laid holds known run (cut_suite (first i (show a) more) env ts)
+      atom_run objects code vars final i a names at asks [] locals env n ts laid holds known run (cut_suite (first i (show a) more) env ts)
       (λ v m load run1.
       let told = asked_run more env i asks to PrintExpr 0 (Show v) (v ∷ []) (λ u. []) (λ u. Follows more env Normal) locals m ts stands (λ k p. refl) (λ k u. refl) run1
       (λ u k us run2. later locals env k us holds run2) in
@@ -241,7 +166,7 @@ module _ (objects : List Payload) (code : PyCode) (vars : List Name) (final : St
       → Reaches objects code n (running at 0 [] locals) ts final → TellsSuite (first i (give a) more) env ts
   give_run i a more names at to locals env n ts (ends, laid, stands) holds known run =
       let cut : ts ≡ [] → IsFinal → TellsSuite (first i (give a) more) env ts = cut_suite (first i (give a) more) env ts in
-      atom_run i a names at ends [] locals env n ts laid holds known run cut
+      atom_run objects code vars final i a names at ends [] locals env n ts laid holds known run cut
       (λ v m load run1. decoded_run objects code final (drop ends units) ends 0 ReturnValue 0 to (v ∷ []) locals m ts refl stands.0 (λ k p. tt) run1 cut
       (λ k p j is_next op (mid, is, run2).
       let end = ended_run j (behind (running k p [] locals)) mid run2 in
@@ -264,7 +189,7 @@ module _ (objects : List Payload) (code : PyCode) (vars : List Name) (final : St
   end_run : (header at to : ℕ) (locals : List (Option Obj)) (env : Env) (n : ℕ) (ts : List Own)
       → StandsConst parts header at ReturnConst NoneLiteral to → Reaches objects code n (running at 0 [] locals) ts final → TellsSuite nothing env ts
   end_run header at to locals env n ts stands run =
-      const_run header ReturnConst NoneLiteral payload.None (λ s v. returns v s) at to [] locals n ts refl (λ s v. tt) (λ i s. refl) stands run (cut_suite nothing env ts)
+      const_run objects code vars final header ReturnConst NoneLiteral payload.None (λ s v. returns v s) at to [] locals n ts refl (λ s v. tt) (λ i s. refl) stands run (cut_suite nothing env ts)
       (λ v k prefix m is_next has (rest, is, later).
       let end = ended_run m (behind (running k prefix [] locals)) rest later in
       (end.1, inr (inr (v, has, inr (k, is ∙ ap (λ (us : List Own). Ends k (ending.Return v) ∷ us) end.0)))))
