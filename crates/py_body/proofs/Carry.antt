@@ -1,10 +1,11 @@
 -- What a body may tell goes over to any front of its events, to what follows more weakly, and to more objects.
-use Rattle.std.proofs.Common.{◌≡◌, List, [], ◌∷◌, ◌++◌, Some, None, refl, sym, ap, subst, ◌∙◌, ◌⊎◌, inl, inr, length}
-use Rattle.std.specs.Prelude.{ℕ, Option}
+use Rattle.std.proofs.Common.{◌≡◌, List, [], ◌∷◌, ◌++◌, Some, None, refl, ap, subst, ◌∙◌, inl, inr}
+use Rattle.std.specs.Prelude.{Option}
 use Rattle.py_objects.specs.declared.refs.PyBaseExceptionRef.{PyBaseExceptionRef}
 use Rattle.py_objects.specs.declared.payload.Payload.{Payload}
 use Rattle.py_objects.specs.declared.payload.Payload.TheVariants as payload
 use Rattle.py_objects.specs.declared.request.Request.{Request}
+use Rattle.py_objects.specs.declared.request.Request.TheVariants.{Show}
 use Rattle.py_objects.specs.declared.event.GotAnswer.{GotAnswer}
 use Rattle.py_objects.specs.declared.event.GotAnswer.TheVariants as got
 use Rattle.py_objects.specs.declared.event.Ending.{Ending}
@@ -14,7 +15,7 @@ use Rattle.py_objects.specs.Telling.{Value, Given, Failed, Stopped, AfterValue, 
 use Rattle.py_frame.proofs.Growing.{payload_grown}
 use Rattle.py_body.specs.declared.atom.Atom.{Atom}
 use Rattle.py_body.specs.declared.atom.Atom.TheVariants as atom
-use Rattle.py_body.specs.Tree.{Form, operate, give, Suite, nothing, first, Tree}
+use Rattle.py_body.specs.Tree.{Form, assign, operate, show, give, pass, Suite, nothing, first, Tree}
 use Rattle.py_body.specs.Binding.{Env, find_local, set_local}
 use Rattle.py_body.specs.Outcome.{Outcome, Normal, Breaks, Continues, Returns, Raises, Cut, After, Use, Named, Loads, LoadsAll, request_of, Asked_if, Runs, On_normal, RunsSuite}
 use Rattle.py_body.specs.Trace.{Ended, EndsBy, IsBegun, IsTrace}
@@ -61,7 +62,10 @@ named_goes (Some None) ts more K K' goes k = k
 named_goes (Some (Some v)) ts more K K' goes k = goes (Given v) ts k
 
 loads_go : (objects objects' : List Payload) (env : Env) (a : Atom) (ts more : List Own) (K K' : AfterValue) → Grows objects objects' → ValueGoes more K K' → K' Stopped [] → Loads objects env a (ts ++ more) K → Loads objects' env a ts K'
+loads_go objects objects' env atom.None ts more K K' grows goes cut k = literal_goes objects objects' payload.None ts more K K' grows goes cut k
+loads_go objects objects' env (atom.Bool b) ts more K K' grows goes cut k = literal_goes objects objects' (payload.Bool b) ts more K K' grows goes cut k
 loads_go objects objects' env (atom.Int n) ts more K K' grows goes cut k = literal_goes objects objects' (payload.Int n) ts more K K' grows goes cut k
+loads_go objects objects' env (atom.Str s) ts more K K' grows goes cut k = literal_goes objects objects' (payload.Str s) ts more K K' grows goes cut k
 loads_go objects objects' env (atom.Name x) ts more K K' grows goes cut k = named_goes (find_local x env) ts more K K' goes k
 
 use_goes : (env : Env) (more : List Own) (K K' : After) (next next' : Obj → List Own → Type 0) → Goes more K K' → ((v : Obj) (rest : List Own) → next v (rest ++ more) → next' v rest) → ValueGoes more (Use env K next) (Use env K' next')
@@ -81,11 +85,17 @@ asked_if_goes None h ts more K K' goes cut k = k
 asked_if_goes (Some r) h ts more K K' goes cut k = asked_goes r h ts more K K' goes cut k
 
 pub runs_go : (objects objects' : List Payload) (f : Form) (env : Env) (h : Option PyBaseExceptionRef) (ts more : List Own) (K K' : After) → Grows objects objects' → Goes more K K' → K' env Cut [] → Runs objects f env h (ts ++ more) K → Runs objects' f env h ts K'
+runs_go objects objects' (assign x a) env h ts more K K' grows goes cut k =
+    loads_go objects objects' env a ts more _ _ grows (use_goes env more K K' _ _ goes (λ v rest done. goes (set_local x (Some v) env) Normal rest done)) cut k
 runs_go objects objects' (operate x op atoms) env h ts more K K' grows goes cut k =
     all_go objects objects' env atoms ts more K K' _ _ grows goes cut
     (λ vs rest told. asked_if_goes (request_of op vs) h rest more _ _ (use_goes env more K K' _ _ goes (λ v left done. goes (set_local x (Some v) env) Normal left done)) cut told) k
+runs_go objects objects' (show a) env h ts more K K' grows goes cut k =
+    loads_go objects objects' env a ts more _ _ grows
+    (use_goes env more K K' _ _ goes (λ v rest told. asked_goes (Show v) h rest more _ _ (use_goes env more K K' _ _ goes (λ u left done. goes env Normal left done)) cut told)) cut k
 runs_go objects objects' (give a) env h ts more K K' grows goes cut k =
     loads_go objects objects' env a ts more _ _ grows (use_goes env more K K' _ _ goes (λ v rest done. goes env (Returns v) rest done)) cut k
+runs_go objects objects' pass env h ts more K K' grows goes cut k = goes env Normal ts k
 
 normal_goes : (more : List Own) (K K' : After) (next next' : Env → List Own → Type 0) → Goes more K K' → ((env : Env) (rest : List Own) → next env (rest ++ more) → next' env rest) → Goes more (On_normal K next) (On_normal K' next')
 normal_goes more K K' next next' goes on env Normal rest k = on env rest k

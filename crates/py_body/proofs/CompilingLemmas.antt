@@ -1,14 +1,13 @@
 -- What is emitted for a form.
 use Rattle.std.proofs.Common.{◌≡◌, ◌<◌, ◌≤◌, ◌+◌, ◌*◌, ℕ, suc, List, [], ◌∷◌, ◌++◌, refl, sym, ap, ◌∙◌, subst, length, take, drop, get_or, arith, length-append, drop-cons, add-one, drop_of_length-le}
 use Rattle.std.proofs.lemmas.List.{take_more}
-use Rattle.py_code.specs.declared.instruction.Instruction.TheVariants.{LoadConst, LoadFast, StoreFast, BinaryOperation, ReturnValue, ReturnConst}
-use Rattle.py_code.specs.declared.literal.Literal.{None as NoneLiteral, Int as IntLiteral}
+use Rattle.py_code.specs.declared.instruction.Instruction.TheVariants.{StoreFast, BinaryOperation, ReturnConst}
+use Rattle.py_code.specs.declared.literal.Literal.{None as NoneLiteral}
 use Rattle.py_code.specs.Operators.{binary_number}
 use Rattle.py_body.specs.declared.atom.Atom.{Atom}
-use Rattle.py_body.specs.declared.atom.Atom.TheVariants as atom
 use Rattle.py_body.specs.declared.atom.Operator.{Operator}
 use Rattle.py_body.specs.declared.stmt.Stmt.{Stmt}
-use Rattle.py_body.specs.Tree.{Name, Form, operate, give, Suite, nothing, first, form_of, suite_of, Tree}
+use Rattle.py_body.specs.Tree.{Name, Form, assign, operate, Suite, nothing, first, form_of, suite_of, Tree}
 use Rattle.py_body.specs.Binding.{locals_of, IsClosed}
 use Rattle.py_body.specs.Code.{Parts, place, binary_of, Stands, LaidAtom, LaidAtoms, LaidSuite}
 use Rattle.py_body.specs.Emitting.{IsMatched, HasRoom, Begins, EmitsUnit, EmitsConst, EmitsAtom, EmitsAtoms, EmitsForm, EmitsSuite, IsEmitted, size_of}
@@ -16,24 +15,6 @@ use Rattle.py_body.proofs.Bound.{length-bound_by, size_of-known}
 use Rattle.py_body.proofs.EmittingLemmas.{Begins-refl, Begins-trans, joined, reworded}
 
 -- ---- atoms
-
-pub int_emitted : (old new : Parts) (a : Atom) (line : ℕ) (n : _) → a ≡ atom.Int n → EmitsConst old new LoadConst (IntLiteral n) line → EmitsAtom old new a line
-int_emitted old new a line n is emits = subst (λ (b : Atom). EmitsAtom old new b line) (sym is) emits
-
-pub name_emitted : (old new : Parts) (a : Atom) (line : ℕ) (x : Name) → a ≡ atom.Name x → EmitsUnit old new LoadFast (place old.vars x) line → EmitsAtom old new a line
-name_emitted old new a line x is emits =
-    subst (λ (b : Atom). EmitsAtom old new b line) (sym is)
-    (reworded old new 4 4 _ _ (omega arith) emits
-    (λ whole at next same stands. subst (λ (vars : List Name). Stands whole line at LoadFast (place vars x) next) (sym same) stands))
-
-pub atoms_none : (old : Parts) (line : ℕ) → IsMatched old → EmitsAtoms old old [] line
-atoms_none old line matched = record {
-  grown = Begins-refl old;
-  matched = matched;
-  few_units = omega arith;
-  few_constants = omega arith;
-  laid = λ whole begins. refl;
-}
 
 LaidAtoms-last : (parts : Parts) (line : ℕ) (atoms : List Atom) (a : Atom) (at mid next : ℕ) → LaidAtoms parts line atoms at mid → LaidAtom parts line a mid next → LaidAtoms parts line (atoms ++ a ∷ []) at next
 LaidAtoms-last parts line [] a at mid next same laid = (next, subst (λ (k : ℕ). LaidAtom parts line a k next) same laid, refl)
@@ -50,6 +31,13 @@ atoms_more old mid new atoms i a line low is so_far one =
 
 -- ---- statements
 
+pub assignment_emitted : (old mid new : Parts) (x : Name) (a : Atom) (line : ℕ) → EmitsAtom old mid a line → EmitsUnit mid new StoreFast (place mid.vars x) line → EmitsForm old new (assign x a) line
+assignment_emitted old mid new x a line loads stores =
+    reworded old new (4 + 4) 8 _ _ (omega arith)
+    (joined old mid new 4 4 _ _ loads stores)
+    (λ whole at next same (k, load, store).
+    (k, load, subst (λ (names : List Name). Stands whole line k StoreFast (place names x) next) (loads.grown.vars ∙ sym same) store))
+
 pub operation_emitted : (old one two new : Parts) (x : Name) (op : Operator) (atoms : List Atom) (line : ℕ) → EmitsAtoms old one atoms line
     → EmitsUnit one two BinaryOperation (binary_number (binary_of op)) line → EmitsUnit two new StoreFast (place two.vars x) line → EmitsForm old new (operate x op atoms) line
 operation_emitted old one two new x op atoms line loads asks stores =
@@ -59,32 +47,20 @@ operation_emitted old one two new x op atoms line loads asks stores =
     (λ whole at next same (k, front, (m, ask, store)).
     (k, m, front, ask, subst (λ (names : List Name). Stands whole line m StoreFast (place names x) next) (vars ∙ sym same) store))
 
-pub return_emitted : (old mid new : Parts) (a : Atom) (line : ℕ) → EmitsAtom old mid a line → EmitsUnit mid new ReturnValue 0 line → EmitsForm old new (give a) line
-return_emitted old mid new a line loads ends = joined old mid new 4 4 _ _ loads ends
-
 -- ---- suites
 
--- what of a suite is emitted, where these statements are left behind a last line
-pub record SoFar (old new : Parts) (line last : ℕ) (all left : Suite) : Type 0 where
+-- what of a suite is emitted, where these statements are left
+pub record SoFar (old new : Parts) (header : ℕ) (all left : Suite) : Type 0 where
   pub grown : Begins old new
   pub matched : IsMatched new
   pub few_units : length new.units + size_of left ≤ length old.units + size_of all
   pub few_constants : length new.constants + size_of left ≤ length old.constants + size_of all
-  pub laid : (whole : Parts) → Begins new whole → LaidSuite whole last left (length new.units) → LaidSuite whole line all (length old.units)
+  pub laid : (whole : Parts) → Begins new whole → LaidSuite whole header left (length new.units) → LaidSuite whole header all (length old.units)
 
-pub suite_none : (old : Parts) (line : ℕ) (all : Suite) → IsMatched old → SoFar old old line line all all
-suite_none old line all matched = record {
-  grown = Begins-refl old;
-  matched = matched;
-  few_units = omega arith;
-  few_constants = omega arith;
-  laid = λ whole begins laid. laid;
-}
-
-statement_more : (old mid new : Parts) (line last n : ℕ) (all left more : Suite) (f : Form) → left ≡ first n f more
-    → SoFar old mid line last all left → EmitsForm mid new f n → SoFar old new line n all more
-statement_more old mid new line last n all left more f is before form =
-    let so_far : SoFar old mid line last all (first n f more) = subst (SoFar old mid line last all) is before in
+statement_more : (old mid new : Parts) (header n : ℕ) (all left more : Suite) (f : Form) → left ≡ first n f more
+    → SoFar old mid header all left → EmitsForm mid new f n → SoFar old new header all more
+statement_more old mid new header n all left more f is before form =
+    let so_far : SoFar old mid header all (first n f more) = subst (SoFar old mid header all) is before in
     record {
       grown = Begins-trans old mid new so_far.grown form.grown;
       matched = form.matched;
@@ -99,16 +75,16 @@ suite_of-drop stmts i s low is =
     ap suite_of (drop-cons stmts i s low) ∙ ap (λ (t : Stmt). first t.line (form_of t.form) (suite_of (drop (suc i) stmts))) (sym is)
     ∙ ap (λ (k : ℕ). first s.line (form_of s.form) (suite_of (drop k stmts))) (sym (add-one i))
 
-pub suite_more : (old mid new : Parts) (line last : ℕ) (stmts : List Stmt) (i : ℕ) (s : Stmt) → i < length stmts → s ≡ get_or stmts i s
-    → SoFar old mid line last (suite_of stmts) (suite_of (drop i stmts)) → EmitsForm mid new (form_of s.form) s.line
-    → SoFar old new line s.line (suite_of stmts) (suite_of (drop (i + 1) stmts))
-suite_more old mid new line last stmts i s low is so_far form =
-    statement_more old mid new line last s.line (suite_of stmts) (suite_of (drop i stmts)) (suite_of (drop (i + 1) stmts)) (form_of s.form) (suite_of-drop stmts i s low is) so_far form
+pub suite_more : (old mid new : Parts) (header : ℕ) (stmts : List Stmt) (i : ℕ) (s : Stmt) → i < length stmts → s ≡ get_or stmts i s
+    → SoFar old mid header (suite_of stmts) (suite_of (drop i stmts)) → EmitsForm mid new (form_of s.form) s.line
+    → SoFar old new header (suite_of stmts) (suite_of (drop (i + 1) stmts))
+suite_more old mid new header stmts i s low is so_far form =
+    statement_more old mid new header s.line (suite_of stmts) (suite_of (drop i stmts)) (suite_of (drop (i + 1) stmts)) (form_of s.form) (suite_of-drop stmts i s low is) so_far form
 
-pub suite_ends : (old mid new : Parts) (line last : ℕ) (stmts : List Stmt) (i : ℕ) → length stmts ≤ i
-    → SoFar old mid line last (suite_of stmts) (suite_of (drop i stmts)) → EmitsConst mid new ReturnConst NoneLiteral last → EmitsSuite old new (suite_of stmts) line
-suite_ends old mid new line last stmts i high before end =
-    let so_far : SoFar old mid line last (suite_of stmts) nothing = subst (SoFar old mid line last (suite_of stmts)) (ap suite_of (drop_of_length-le stmts high)) before in
+pub suite_ends : (old mid new : Parts) (header : ℕ) (stmts : List Stmt) (i : ℕ) → length stmts ≤ i
+    → SoFar old mid header (suite_of stmts) (suite_of (drop i stmts)) → EmitsConst mid new ReturnConst NoneLiteral header → EmitsSuite old new (suite_of stmts) header
+suite_ends old mid new header stmts i high before end =
+    let so_far : SoFar old mid header (suite_of stmts) nothing = subst (SoFar old mid header (suite_of stmts)) (ap suite_of (drop_of_length-le stmts high)) before in
     record {
       grown = Begins-trans old mid new so_far.grown end.grown;
       matched = end.matched;

@@ -32,6 +32,10 @@ prefix_is _ is = absurd (cc)
 abbrev pub running : ℕ → ℕ → List Obj → List (Option Obj) → State
 running at prefix stack locals = record { at = at; prefix = prefix; stack = stack; locals = locals; wants = expect.Go }
 
+-- the unit at a place has this instruction
+abbrev pub HasOp : PyCode → ℕ → Instruction → Type 0
+HasOp code k op = (u : CodeUnit) × (slice_get code.code.instructions.items k ≡ Some u) × (u.op ≡ op)
+
 module _ (objects : List Payload) (code : PyCode) (final : State) where
   -- the state that a run comes to has a meaning
   abbrev pub EndsFree : Type 0
@@ -64,7 +68,7 @@ module _ (objects : List Payload) (code : PyCode) (final : State) where
       → ((k p : ℕ) → IsFreeMove (act code op arg (running k p stack locals)))
       → Reaches objects code n (running at prefix stack locals) ts final
       → (ts ≡ [] → EndsFree → Q)
-      → ((k p m : ℕ) → suc k ≡ next → ByMove objects (act code op arg (running k p stack locals)) ts (λ s mid. Reaches objects code m s mid final) → Q)
+      → ((k p m : ℕ) → suc k ≡ next → HasOp code k op → ByMove objects (act code op arg (running k p stack locals)) ts (λ s mid. Reaches objects code m s mid final) → Q)
       → Q
   decoded_run [] at prefix op arg next stack locals n ts here is free run cut go = absurd (cc)
   decoded_run {Q} (u ∷ us) at prefix op arg next stack locals n ts here is free run cut go =
@@ -78,7 +82,7 @@ module _ (objects : List Payload) (code : PyCode) (final : State) where
           → ((m : ℕ) → decoded_from (with_byte prefix u.arg) (suc at) us ≡ Some (record { op = op; arg = record { 0 = arg }; next = next })
           → Reaches objects code m (running (suc at) (with_byte prefix u.arg) stack locals) ts final
           → (ts ≡ [] → EndsFree → Q)
-          → ((k p m : ℕ) → suc k ≡ next → ByMove objects (act code op arg (running k p stack locals)) ts (λ s mid. Reaches objects code m s mid final) → Q) → Q)
+          → ((k p m : ℕ) → suc k ≡ next → HasOp code k op → ByMove objects (act code op arg (running k p stack locals)) ts (λ s mid. Reaches objects code m s mid final) → Q) → Q)
           → Q
       by true prefixed d later =
           let is_move : advance code (running at prefix stack locals) ≡ Plainly (Goes (running (suc at) (with_byte prefix u.arg) stack locals)) =
@@ -96,4 +100,4 @@ module _ (objects : List Payload) (code : PyCode) (final : State) where
           ∙ ap (λ (o : Instruction). act code o (with_byte prefix u.arg) (running at prefix stack locals)) is_op
           ∙ ap (λ (i : ℕ). act code op i (running at prefix stack locals)) is_arg in
           either_left n _ ts (left_of n at prefix stack locals ts _ is_move (free at prefix) run) cut
-          (λ m more. go at prefix m (sym (add-one at) ∙ is_next) more)
+          (λ m more. go at prefix m (sym (add-one at) ∙ is_next) (u, first.0, is_op) more)

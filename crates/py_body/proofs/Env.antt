@@ -35,7 +35,7 @@ slice_get-place (y ∷ ys) (w ∷ locals) x v found = by (bytes_eq x y) (slice_g
     by false later is = later is
 
 -- a store at the place of a name sets its local
-pub set_local-env_of : (vars : List Name) (locals : List (Option Obj)) (x : Name) (v : Option Obj) → place vars x < length vars → length locals ≡ length vars
+set_local-env_of : (vars : List Name) (locals : List (Option Obj)) (x : Name) (v : Option Obj) → place vars x < length vars → length locals ≡ length vars
     → set_local x v (env_of vars locals) ≡ env_of vars (slice_set locals (place vars x) v)
 set_local-env_of [] locals x v below same = absurd (omega arith)
 set_local-env_of (y ∷ ys) [] x v below same = absurd (omega arith)
@@ -57,13 +57,13 @@ length-filled zero vs = refl
 length-filled (suc n) [] = ap suc (length-filled n [])
 length-filled (suc n) (v ∷ vs) = ap suc (length-filled n vs)
 
-pub length-slice_set : {X : Type 0} (xs : List X) (i : ℕ) (x : X) → length (slice_set xs i x) ≡ length xs
+length-slice_set : {X : Type 0} (xs : List X) (i : ℕ) (x : X) → length (slice_set xs i x) ≡ length xs
 length-slice_set [] i x = refl
 length-slice_set (y ∷ ys) zero x = refl
 length-slice_set (y ∷ ys) (suc i) x = ap suc (length-slice_set ys i x)
 
 -- a name that is set stays so as another is
-pub stays_set : (env : Env) (x y : Name) (v : Obj) → IsSet y env → IsSet y (set_local x (Some v) env)
+stays_set : (env : Env) (x y : Name) (v : Obj) → IsSet y env → IsSet y (set_local x (Some v) env)
 stays_set [] x y v (w, found) = absurd (cc)
 stays_set (p ∷ env) x y v (w, found) = by (bytes_eq x p.0) (bytes_eq y p.0) (λ is. stays_set env x y v (w, is)) found
   where
@@ -82,7 +82,7 @@ stays_set (p ∷ env) x y v (w, found) = by (bytes_eq x p.0) (bytes_eq y p.0) (�
     by false c later is = passed (bytes_eq y p.0) later found
 
 -- the name that is set is so
-pub becomes_set : (env : Env) (x : Name) (v : Obj) → IsSet x (set_local x (Some v) env)
+becomes_set : (env : Env) (x : Name) (v : Obj) → IsSet x (set_local x (Some v) env)
 becomes_set [] x v = (v, rw (bytes_eq-refl x) refl)
 becomes_set (p ∷ env) x v = by (bytes_eq x p.0) refl (becomes_set env x v)
   where
@@ -94,11 +94,25 @@ becomes_set (p ∷ env) x v = by (bytes_eq x p.0) refl (becomes_set env x v)
 abbrev pub AreSet : List Name → Env → Type 0
 AreSet names env = (x : Name) → Contains names x → IsSet x env
 
-pub AreSet-more : (names : List Name) (env : Env) (x : Name) (v : Obj) → AreSet names env → AreSet (names ++ x ∷ []) (set_local x (Some v) env)
+AreSet-more : (names : List Name) (env : Env) (x : Name) (v : Obj) → AreSet names env → AreSet (names ++ x ∷ []) (set_local x (Some v) env)
 AreSet-more names env x v set y known = elim (Contains-push_cases names x y known) [
   | inl earlier ↦ stays_set env x y v (set y earlier)
   | inr same ↦ subst (λ (z : Name). IsSet z (set_local x (Some v) env)) same (becomes_set env x v)
 ]
+
+-- the locals of a frame are those of a body, with these names set
+pub record Holds (vars names : List Name) (locals : List (Option Obj)) (env : Env) : Type 0 where
+  pub same : env ≡ env_of vars locals
+  pub long : length locals ≡ length vars
+  pub set : AreSet names env
+
+pub Holds-stored : (vars names : List Name) (locals : List (Option Obj)) (env : Env) (x : Name) (v : Obj) → place vars x < length vars → Holds vars names locals env
+    → Holds vars (names ++ x ∷ []) (slice_set locals (place vars x) (Some v)) (set_local x (Some v) env)
+Holds-stored vars names locals env x v below holds = record {
+  same = ap (set_local x (Some v)) holds.same ∙ set_local-env_of vars locals x (Some v) below holds.long;
+  long = length-slice_set locals (place vars x) (Some v) ∙ holds.long;
+  set = AreSet-more names env x v holds.set;
+}
 
 -- the names that have arguments are set at the entry
 pub AreSet-begun : (names more : List Name) (vs : List Obj) → length vs ≡ length names → AreSet names (begun (names ++ more) vs)

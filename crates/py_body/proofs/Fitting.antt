@@ -15,7 +15,7 @@ use Rattle.py_body.specs.Code.{Parts, LaidSuite, parts_with, IsLaid}
 use Rattle.py_body.specs.Emitting.{IsEmitted}
 use Rattle.py_body.specs.Fits.{Fits}
 use Rattle.py_body.proofs.Bound.{GoesOn-bound_by, AllBound-bound_by}
-use Rattle.py_body.proofs.Env.{env_of, AreSet, AreSet-begun, begun-env_of, length-filled}
+use Rattle.py_body.proofs.Env.{env_of, AreSet, Holds, AreSet-begun, begun-env_of, length-filled}
 use Rattle.py_body.proofs.Running.{suite_run}
 
 module _ (code : PyCode) (t : Tree) (closed : IsClosed t) (is_laid : IsLaid code t) where
@@ -32,8 +32,9 @@ module _ (code : PyCode) (t : Tree) (closed : IsClosed t) (is_laid : IsLaid code
   begun_run objects args (suc n) ts s same (mid, is, run) =
       let env : begun (locals_of t) args ≡ env_of (locals_of t) (filled (length code.code.varnames.items) args) =
       begun-env_of (locals_of t) args ∙ ap (λ (k : ℕ). env_of (locals_of t) (filled k args)) (sym is_laid.locals) in
-      let told = suite_run objects code (locals_of t) s t.suite t.line t.params 0 (filled (length code.code.varnames.items) args) (begun (locals_of t) args) n mid
-      is_laid.laid env (length-filled (length code.code.varnames.items) args ∙ is_laid.locals) closed.known (AllBound-bound_by t.suite t.params) (args_set args same) run in
+      let holds : Holds (locals_of t) t.params (filled (length code.code.varnames.items) args) (begun (locals_of t) args) =
+      record { same = env; long = length-filled (length code.code.varnames.items) args ∙ is_laid.locals; set = args_set args same } in
+      let told = suite_run objects code (locals_of t) s t.suite t.line t.params 0 is_laid.laid closed.known (AllBound-bound_by t.suite t.params) _ _ n mid holds run in
       (told.0, subst (IsBegun objects t args) (sym is) (tt, told.1))
 
   pub fits_laid : Fits code t

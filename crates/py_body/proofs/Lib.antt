@@ -2,6 +2,8 @@
 pub mod Env
 -- runs over a unit and its prefixes
 pub mod Decoding
+-- laid loads run as those of the tree
+pub mod Loads
 -- laid code runs as its tree
 pub mod Running
 -- the names that a body binds

@@ -9,6 +9,7 @@ use Rattle.py_code.specs.declared.code.CodeObject.{CodeObject}
 use Rattle.py_code.specs.declared.code.PyCode.{PyCode}
 use Rattle.py_code.specs.declared.names.NameId.{NameId}
 use Rattle.py_code.specs.Names.{interned}
+use Rattle.py_frame.proofs.Growing.{slice_get_grown}
 use Rattle.py_body.specs.Tree.{Name, Tree}
 use Rattle.py_body.specs.Binding.{locals_of}
 use Rattle.py_body.specs.Naming.{Continues, IsNameOf, NamesAll, IsNamed}
@@ -29,14 +30,9 @@ Continues-interned table text = by (list_any (bytes_eq text) table)
 pub is_name_of : (table : List (List ℕ)) (id : NameId) (text : List ℕ) → slice_get table id.index ≡ Some text → IsNameOf table id text
 is_name_of table id text here = (slice_get_within table id.index text here, here)
 
-slice_get-append : {A : Type 0} (xs ys : List A) (i : ℕ) (x : A) → slice_get xs i ≡ Some x → slice_get (xs ++ ys) i ≡ Some x
-slice_get-append [] ys i x here = absurd (cc)
-slice_get-append (z ∷ zs) ys zero x here = here
-slice_get-append (z ∷ zs) ys (suc i) x here = slice_get-append zs ys i x here
-
 -- a name stays one as the table grows
 pub IsNameOf-grown : (old new : List (List ℕ)) (id : NameId) (text : List ℕ) → Continues old new → IsNameOf old id text → IsNameOf new id text
-IsNameOf-grown old new id text (more, is) (low, here) = (omega (arith, low, ap length is, length-append old more), rw is (slice_get-append old more id.index text here))
+IsNameOf-grown old new id text (more, is) (low, here) = (omega (arith, low, ap length is, length-append old more), rw is (slice_get_grown old more id.index text here))
 
 pub NamesAll-grown : (old new : List (List ℕ)) (ids : List NameId) (xs : List Name) → Continues old new → NamesAll old ids xs → NamesAll new ids xs
 NamesAll-grown old new [] [] grows named = tt

@@ -20,8 +20,8 @@ use py_code::{
 };
 use std::alloc::Global;
 
-/// The code of a body, whose names go into the table. Its locals are known by their places, and each number that it
-/// names is a constant of its own. It fails only where memory runs out; the table may then have some of the names.
+/// The code of a body, whose names go into the table. Its locals are known by their places, and each literal that
+/// it names is a constant of its own. It fails only where memory runs out; the table may then have some of the names.
 pub fn compile_body(alloc: Global, names: &mut Names, body: &Body) -> Result<PyCode, NoMemory>
     requires { IsClosed (tree_of body.now) }
     ensures fits { IfOk result (λ code. Fits code (tree_of body.now)) }

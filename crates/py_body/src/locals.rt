@@ -7,7 +7,6 @@ ghost use Rattle.py_body.specs.Code.{place};
 
 use crate::body::{Body, ParamList};
 use crate::naming::utf8_of;
-use crate::stmt::StmtForm;
 use py_code::{Names, NoMemory, PyText};
 use std::alloc::Global;
 use std::marker::Model;
@@ -40,12 +39,8 @@ impl Locals {
     {
         let mut locals = Locals::of_params(alloc, body.params.as_slice())?;
         for stmt in body.suite.as_slice() {
-            match &stmt.form {
-                StmtForm::Assign(name, _atom) => locals = locals.with(name)?,
-                StmtForm::Operate(name, _operator, _atoms) => locals = locals.with(name)?,
-                StmtForm::Show(_atom) => {}
-                StmtForm::Return(_atom) => {}
-                StmtForm::Pass => {}
+            if let Some(name) = stmt.form.target() {
+                locals = locals.with(name)?;
             }
         }
         Ok(locals)

@@ -1,5 +1,8 @@
 //! Statements, each with the line that it stands in.
 
+ghost use Rattle.std.specs.Prelude.{◌≡◌, option_copied};
+ghost use Rattle.py_body.specs.Tree.{form_of, target_of};
+
 use crate::atom::{Atom, AtomList, Operator};
 use py_code::{ItemList, PyText};
 
@@ -23,6 +26,21 @@ pub enum StmtForm {
     Return(Atom),
     /// `pass`, which does nothing.
     Pass,
+}
+
+impl StmtForm {
+    /// The name that the statement binds, where it binds one.
+    pub fn target(&self) -> Option<&PyText>
+        ensures { option_copied result ≡ target_of (form_of self.now) }
+    {
+        match self {
+            StmtForm::Assign(name, _atom) => Some(name),
+            StmtForm::Operate(name, _operator, _atoms) => Some(name),
+            StmtForm::Show(_atom) => None,
+            StmtForm::Return(_atom) => None,
+            StmtForm::Pass => None,
+        }
+    }
 }
 
 /// Statements in order.

@@ -1,18 +1,27 @@
-use Rattle.std.proofs.Common.{ℤ, subst, rules}
+use Rattle.std.proofs.Common.{ℤ, List, ℕ, subst, rules}
 use Rattle.std.specs.Int.{w128}
 use Rattle.std.specs.Prelude.{FitsSigned, OnOk}
 use Rattle.std.proofs.lemmas.Int.{to_z-of_z}
-use Rattle.std.proofs.lemmas.Result.{on_ok_weaker}
 use Rattle.py_code.specs.declared.instruction.Instruction.TheVariants.{LoadConst}
-use Rattle.py_code.specs.declared.literal.Literal.{Int as IntLiteral}
+use Rattle.py_code.specs.declared.literal.Literal.{Int as IntLiteral, Str as StrLiteral}
 use Rattle.py_body.specs.Emitting.{parts_of, EmitsConst}
-use Rattle.py_body.proofs.CompilingLemmas.{int_emitted}
 use Rattle.py_body.proofs.emit.Emitter.compile_atom.Goals as goal
+
+pub returns-in-None : goal.returns-in-None
+returns-in-None c = rw c.in-None.is c.load_literal.ensures
+
+pub returns-in-Bool : goal.returns-in-Bool
+returns-in-Bool c = rw c.in-Bool.is c.load_literal-in-Bool.ensures
 
 pub returns-in-Int : goal.returns-in-Int
 returns-in-Int c =
     let fits : FitsSigned w128 c.in-Int.number = search rules in
-    on_ok_weaker c.emit_with_const.result
-    (int_emitted (parts_of c.args.self.now) (parts_of c.emit_with_const.new.self) c.args.atom.now c.args.line c.in-Int.number c.in-Int.is)
-    (subst (λ (n : ℤ). OnOk c.emit_with_const.result (EmitsConst (parts_of c.args.self.now) (parts_of c.emit_with_const.new.self) LoadConst (IntLiteral n) c.args.line))
-    (to_z-of_z w128 c.in-Int.number fits) c.emit_with_const.ensures)
+    rw c.in-Int.is
+    (subst (λ (n : ℤ). OnOk c.load_literal-in-Int.result (EmitsConst (parts_of c.args.self.now) (parts_of c.load_literal-in-Int.new.self) LoadConst (IntLiteral n) c.args.line))
+    (to_z-of_z w128 c.in-Int.number fits) c.load_literal-in-Int.ensures)
+
+pub returns-in_ok-text-in-Str : goal.returns-in_ok-text-in-Str
+returns-in_ok-text-in-Str c =
+    rw c.in-Str.is
+    (subst (λ (text : List ℕ). OnOk c.load_literal-in-Str.result (EmitsConst (parts_of c.args.self.now) (parts_of c.load_literal-in-Str.new.self) LoadConst (StrLiteral text) c.args.line))
+    c.in_ok-text-in-Str.ensures c.load_literal-in-Str.ensures)
