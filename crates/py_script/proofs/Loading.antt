@@ -20,7 +20,7 @@ use Rattle.py_grammar.specs.Script.{declared_tree}
 use Rattle.py_vm.specs.declared.vm.VirtualMachine.{VirtualMachine}
 use Rattle.py_vm.specs.Machine.{objects_of}
 use Rattle.py_script.specs.Loaded.{AreCompiled, function_entries}
-use Rattle.py_script.specs.Session.{refs_from}
+use Rattle.py_script.specs.Session.{refs_from, IsValue}
 
 -- the entry of a list that is mapped
 pub entry_mapped : {A B : Type 0} (f : A → B) (xs : List A) (i : ℕ) (x : A) → slice_get xs i ≡ Some x → slice_get (map f xs) i ≡ Some (f x)
@@ -85,11 +85,22 @@ entries_more_from i (s ∷ ts) t =
 pub entries_more : (ts : List Tree) (t : Tree) (n : ℕ) → n ≡ length ts → function_entries 0 (ts ++ t ∷ []) ≡ function_entries 0 ts ++ payload.Function (record { name = t.name; code = n }) ∷ []
 entries_more ts t n same = entries_more_from 0 ts t ∙ ap (λ k. function_entries 0 ts ++ payload.Function (record { name = t.name; code = k }) ∷ []) (let e : 0 + length ts ≡ n = omega (arith, same) in e)
 
--- an object that declares nothing and names none was added, or nothing
-pub grown_by : (old new : VirtualMachine) (p : Payload) (r : Result PyObjectRef NoMemory) → declares p ≡ None → AllBelow (length (objects_of old)) (payload_numbers p) → IsMade (objects_of old) p
+-- what an object that names none and declares nothing keeps
+value_grows : (objects : List Payload) (p : Payload) → IsValue p → GrowsPlainly objects (objects ++ p ∷ [])
+value_grows objects payload.None is = grows_plainly_by objects payload.None refl (λ _. tt) (λ _. tt)
+value_grows objects (payload.Bool b) is = grows_plainly_by objects (payload.Bool b) refl (λ _. tt) (λ _. tt)
+value_grows objects (payload.Int n) is = grows_plainly_by objects (payload.Int n) refl (λ _. tt) (λ _. tt)
+value_grows objects (payload.Str s) is = grows_plainly_by objects (payload.Str s) refl (λ _. tt) (λ _. tt)
+value_grows objects (payload.Tuple vs) is = absurd is
+value_grows objects (payload.Class c) is = absurd is
+value_grows objects (payload.Function f) is = absurd is
+value_grows objects (payload.Exception e) is = absurd is
+
+-- a value was added, or nothing
+pub grown_by : (old new : VirtualMachine) (p : Payload) (r : Result PyObjectRef NoMemory) → IsValue p
     → OnOk r (objects_of new ≡ objects_of old ++ p ∷ []) → OnErr r (new ≡ old) → GrowsPlainly (objects_of old) (objects_of new)
-grown_by old new p (Ok v) plain below made added same = subst (GrowsPlainly (objects_of old)) (sym added) (grows_plainly_by (objects_of old) p plain (λ _. below) (λ _. made))
-grown_by old new p (Err e) plain below made added same = subst (λ (m : VirtualMachine). GrowsPlainly (objects_of old) (objects_of m)) (sym same) (grows_plainly_refl (objects_of old))
+grown_by old new p (Ok v) is added same = subst (GrowsPlainly (objects_of old)) (sym added) (value_grows (objects_of old) p is)
+grown_by old new p (Err e) is added same = subst (λ (m : VirtualMachine). GrowsPlainly (objects_of old) (objects_of m)) (sym same) (grows_plainly_refl (objects_of old))
 
 -- the newest object has its payload
 pub newest : (old new : List Payload) (p : Payload) (v : Obj) → new ≡ old ++ p ∷ [] → v.number ≡ length old → HasPayload new v p

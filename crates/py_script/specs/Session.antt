@@ -1,6 +1,7 @@
 -- A script in a machine: what holds between its drives, and what each call keeps.
 use Rattle.std.specs.Prelude.{ℕ, zero, suc, Some, List, [], ◌∷◌, ◌≡◌, slice_get, length}
 use Rattle.py_objects.specs.declared.payload.Payload.{Payload}
+use Rattle.py_objects.specs.declared.payload.Payload.TheVariants as payload
 use Rattle.py_objects.specs.Objects.{Obj, declared, AreNamed, GrowsPlainly}
 use Rattle.py_body.specs.Tree.{Name, Tree}
 use Rattle.py_grammar.specs.Drive.{Drive}
@@ -54,6 +55,17 @@ pub record IsReady (trees : List Tree) (drives : List Drive) (s : Session) : Typ
   pub asked : List Question
   pub count : length asked ≡ done_of s.vm
   pub run : InRun trees drives s.vm asked
+
+-- a value that declares nothing and names no object
+abbrev pub IsValue : Payload → Type 0
+IsValue payload.None = Unit {0}
+IsValue (payload.Bool b) = Unit {0}
+IsValue (payload.Int n) = Unit {0}
+IsValue (payload.Str s) = Unit {0}
+IsValue (payload.Tuple vs) = ⊥
+IsValue (payload.Class c) = ⊥
+IsValue (payload.Function f) = ⊥
+IsValue (payload.Exception e) = ⊥
 
 -- objects were added that declare nothing, and no more
 pub record OnlyGrew (old new : Session) : Type 0 where

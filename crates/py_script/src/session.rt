@@ -1,7 +1,7 @@
 //! A script in a machine: its declarations are loaded, and its drives are made one after another.
 
 ghost use Rattle.std.specs.Prelude.{◌≡◌, ◌≤◌, ◌<◌, ◌+◌, ◌++◌, Err, [], IfOk, OnOk, suc, map, length, slice_get, Some, All, Any, bytes_eq};
-ghost use Rattle.py_objects.specs.Objects.{numbers, AllBelow};
+ghost use Rattle.py_objects.specs.Objects.{HasPayload, numbers, AllBelow};
 ghost use Rattle.py_body.specs.Binding.{IsClosed};
 ghost use Rattle.py_body.specs.Fits.{Fits};
 ghost use Rattle.py_grammar.specs.Script.{declared_tree, drive_of, trees_of, drives_of};
@@ -13,7 +13,7 @@ ghost use Rattle.py_vm.specs.declared.fault.VmFault.TheVariants.{OutOfTurns};
 ghost use Rattle.py_script.specs.Whole.{IsOf, AreOf};
 ghost use Rattle.py_script.specs.Loaded.{AreCompiled, function_entries};
 ghost use Rattle.py_script.specs.Steps.{AllClosed, IsRunnable, HasRun};
-ghost use Rattle.py_script.specs.Session.{refs_from, IsLoaded, IsInRun, IsNamedAt, IsReady, OnlyGrew};
+ghost use Rattle.py_script.specs.Session.{refs_from, IsLoaded, IsInRun, IsNamedAt, IsReady, IsValue, OnlyGrew};
 
 use crate::read::empty_journal;
 use py_body::{Atom, AtomList, compile_body};
@@ -154,15 +154,26 @@ impl Session {
         ensures grew { OnlyGrew self.old self.new }
     {
         match atom {
-            Atom::None => self.vm.add_object(Payload::None),
-            Atom::Bool(truth) => self.vm.add_object(Payload::Bool(*truth)),
-            Atom::Int(number) => self.vm.add_object(Payload::Int(*number)),
+            Atom::None => self.add(Payload::None),
+            Atom::Bool(truth) => self.add(Payload::Bool(*truth)),
+            Atom::Int(number) => self.add(Payload::Int(*number)),
             Atom::Str(text) => {
                 let text = text.copy(self.alloc)?;
-                self.vm.add_object(Payload::Str(text))
+                self.add(Payload::Str(text))
             }
             Atom::Name(_) => unreachable!(),
         }
+    }
+
+    /// A new object of a value that names no other.
+    fn add(&mut self, value: Payload) -> Result<PyObjectRef, NoMemory>
+        requires stands { Stands self.old.vm }
+        requires value { IsValue value }
+        ensures is { IfOk result (λ object. HasPayload (objects_of self.new.vm) object value) }
+        ensures below { IfOk result (λ object. object.number < length (objects_of self.new.vm)) }
+        ensures grew { OnlyGrew self.old self.new }
+    {
+        self.vm.add_object(value)
     }
 
     /// The objects of the arguments of a drive, in order.
