@@ -1,5 +1,5 @@
 -- The bodies of a script can be compiled: they keep the names' rules, and have no more statements than the script has bytes.
-use Rattle.std.proofs.Common.{◌≡◌, ◌≤◌, ℕ, zero, suc, List, [], ◌∷◌, ◌++◌, length, Bool, true, false, cond, Some, None, refl, sym, ap, ◌∙◌, arith, length-append}
+use Rattle.std.proofs.Common.{◌≡◌, ◌≤◌, ℕ, zero, suc, List, [], ◌∷◌, length, Bool, true, false, cond, Some, None, refl, sym, ap, ◌∙◌, arith, length-append}
 use Rattle.std.specs.Prelude.{Option, slice_get, ◌==◌, ◌&&◌}
 use Rattle.py_body.specs.Tree.{Suite, nothing, first, Tree}
 use Rattle.py_body.specs.Binding.{statements, IsClosed}

@@ -1,5 +1,5 @@
 -- How a machine is loaded, declaration by declaration.
-use Rattle.std.proofs.Common.{◌≡◌, ◌<◌, ◌≤◌, ◌+◌, ℕ, zero, suc, List, [], ◌∷◌, ◌++◌, length, true, false, Some, None, refl, sym, ap, ◌∙◌, subst, arith, length-append, append_assoc, ◌⊎◌, inl, inr, get_or, take}
+use Rattle.std.proofs.Common.{◌≡◌, ◌<◌, ◌≤◌, ◌+◌, ℕ, zero, suc, List, [], ◌∷◌, ◌++◌, length, true, false, Some, refl, sym, ap, ◌∙◌, subst, arith, length-append, append_assoc, ◌⊎◌, inl, inr, get_or, take}
 use Rattle.std.specs.Prelude.{option_map, slice_get, map, Any, Result, Ok, Err, OnOk, OnErr, bytes_eq}
 use Rattle.std.proofs.lemmas.List.{map-append, length-map, length-take-le, take_all}
 use Rattle.std.proofs.lemmas.Grind.{take_at_read}
@@ -11,7 +11,8 @@ use Rattle.py_code.specs.declared.list.NoMemory.{NoMemory}
 use Rattle.py_objects.specs.declared.payload.Payload.{Payload}
 use Rattle.py_objects.specs.declared.payload.Payload.TheVariants as payload
 use Rattle.py_objects.specs.declared.refs.PyObjectRef.{PyObjectRef}
-use Rattle.py_objects.specs.Objects.{Obj, Name, HasPayload, numbers, payload_numbers, AllBelow, IsMade, declares, GrowsPlainly}
+use Rattle.py_objects.specs.Objects.{Obj, Name, numbers, AllBelow, GrowsPlainly}
+use Rattle.py_frame.proofs.Growing.{slice_get_grown}
 use Rattle.py_frame.proofs.PlainGrowth.{grows_plainly_refl, grows_plainly_by}
 use Rattle.py_body.specs.Tree.{Tree}
 use Rattle.py_body.specs.Fits.{Fits}
@@ -19,6 +20,7 @@ use Rattle.py_grammar.specs.declared.script.Declaration.{Declaration}
 use Rattle.py_grammar.specs.Script.{declared_tree}
 use Rattle.py_vm.specs.declared.vm.VirtualMachine.{VirtualMachine}
 use Rattle.py_vm.specs.Machine.{objects_of}
+use Rattle.py_vm.proofs.ReplyingLemmas.{newest}
 use Rattle.py_script.specs.Loaded.{AreCompiled, function_entries}
 use Rattle.py_script.specs.Session.{refs_from, IsValue}
 
@@ -40,28 +42,20 @@ front_length f xs i low = length-map (take i xs) f ∙ length-take-le i xs (omeg
 pub front_whole : {A B : Type 0} (f : A → B) (xs : List A) (i : ℕ) → length xs ≤ i → map f (take i xs) ≡ map f xs
 front_whole f xs i high = ap (map f) (take_all i xs high)
 
-one_more : {X : Type 0} (xs : List X) (y x : X) (i : ℕ) → slice_get (xs ++ y ∷ []) i ≡ Some x → (slice_get xs i ≡ Some x) ⊎ ((i ≡ length xs) × (y ≡ x))
+-- an entry of a list with one more is one of the list, or that one
+pub one_more : {X : Type 0} (xs : List X) (y x : X) (i : ℕ) → slice_get (xs ++ y ∷ []) i ≡ Some x → (slice_get xs i ≡ Some x) ⊎ ((i ≡ length xs) × (y ≡ x))
 one_more [] y x zero h = inr (refl, cc h)
 one_more [] y x (suc i) h = absurd (cc h)
 one_more (z ∷ xs) y x zero h = inl h
 one_more (z ∷ xs) y x (suc i) h = elim (one_more xs y x i h) [ inl old ↦ inl old | inr new ↦ inr (ap suc new.0, new.1) ]
-
-here : {X : Type 0} (xs : List X) (y : X) → slice_get (xs ++ y ∷ []) (length xs) ≡ Some y
-here [] y = refl
-here (x ∷ xs) y = here xs y
-
-still : {X : Type 0} (xs : List X) (y x : X) (i : ℕ) → slice_get xs i ≡ Some x → slice_get (xs ++ y ∷ []) i ≡ Some x
-still [] y x i h = absurd (cc h)
-still (z ∷ xs) y x zero h = h
-still (z ∷ xs) y x (suc i) h = still xs y x i h
 
 -- one more body is compiled
 pub compiled_more : (ts : List Tree) (cs : List PyCode) (t : Tree) (c : PyCode) → AreCompiled ts cs → length cs ≡ length ts → Fits c t → AreCompiled (ts ++ t ∷ []) (cs ++ c ∷ [])
 compiled_more ts cs t c all same fits i u is = go (one_more ts t u i is)
   where
     go : (slice_get ts i ≡ Some u) ⊎ ((i ≡ length ts) × (t ≡ u)) → (d : PyCode) × (slice_get (cs ++ c ∷ []) i ≡ Some d) × Fits d u
-    go (inl old) = let k = all i u old in (k.0, still cs c k.0 i k.1, k.2)
-    go (inr (at, new)) = (c, ap (slice_get (cs ++ c ∷ [])) (at ∙ sym same) ∙ here cs c, subst (Fits c) new fits)
+    go (inl old) = let k = all i u old in (k.0, slice_get_grown cs (c ∷ []) i k.0 k.1, k.2)
+    go (inr (at, new)) = (c, ap (slice_get (cs ++ c ∷ [])) (at ∙ sym same) ∙ newest cs c, subst (Fits c) new fits)
 
 refs_suc : (k n : ℕ) → refs_from k n ++ record { number = k + n } ∷ [] ≡ refs_from k (suc n)
 refs_suc k zero = ap (λ m. record { number = m } ∷ []) (let e : k + 0 ≡ k = omega arith in e)
@@ -101,10 +95,6 @@ pub grown_by : (old new : VirtualMachine) (p : Payload) (r : Result PyObjectRef 
     → OnOk r (objects_of new ≡ objects_of old ++ p ∷ []) → OnErr r (new ≡ old) → GrowsPlainly (objects_of old) (objects_of new)
 grown_by old new p (Ok v) is added same = subst (GrowsPlainly (objects_of old)) (sym added) (value_grows (objects_of old) p is)
 grown_by old new p (Err e) is added same = subst (λ (m : VirtualMachine). GrowsPlainly (objects_of old) (objects_of m)) (sym same) (grows_plainly_refl (objects_of old))
-
--- the newest object has its payload
-pub newest : (old new : List Payload) (p : Payload) (v : Obj) → new ≡ old ++ p ∷ [] → v.number ≡ length old → HasPayload new v p
-newest old new p v grown number = ap (λ os. slice_get os v.number) grown ∙ ap (slice_get (old ++ p ∷ [])) number ∙ here old p
 
 pub numbers_more : (n : ℕ) (vs : List Obj) (v : Obj) → AllBelow n (numbers vs) → v.number < n → AllBelow n (numbers (vs ++ v ∷ []))
 numbers_more n [] v below low = (low, tt)

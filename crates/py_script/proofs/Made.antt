@@ -1,5 +1,5 @@
 -- The activations of a run: each is asked by a drive, and has own events.
-use Rattle.std.proofs.Common.{◌≡◌, ◌<◌, ◌≤◌, ◌+◌, ℕ, zero, suc, List, [], ◌∷◌, ◌++◌, length, Bool, true, false, Some, refl, sym, ap, ◌∙◌, subst, arith, length-append, ◌⊎◌, inl, inr, eqb, eq-eqb}
+use Rattle.std.proofs.Common.{◌≡◌, ◌<◌, ◌≤◌, ◌+◌, ℕ, suc, List, [], ◌∷◌, ◌++◌, length, Bool, true, false, Some, refl, sym, ap, ◌∙◌, subst, arith, length-append, ◌⊎◌, inl, inr, eqb, eq-eqb}
 use Rattle.std.specs.Prelude.{slice_get}
 use Rattle.std.proofs.lemmas.Bool.Decides.{eqb_tells}
 use Rattle.std.proofs.lemmas.Option.{slice_get_within}
@@ -11,24 +11,18 @@ use Rattle.py_objects.specs.Own.{Own, Makes, own_if, told_by, own_events}
 use Rattle.py_vm.specs.declared.drive.Drive.{Drive as Question}
 use Rattle.py_vm.specs.declared.drive.Drive.TheVariants as question
 use Rattle.py_vm.specs.Run.{Activation, State, start, after, state_after, Comes}
+use Rattle.py_script.proofs.Loading.{one_more}
 
 -- each activation is one that a drive asked for
 abbrev pub AllAsked : List Question → List Activation → Type 0
 AllAsked asked made = (i : ℕ) (a : Activation) → slice_get made i ≡ Some a → (k : ℕ) × (slice_get asked k ≡ Some (question.Call a.function a.args))
 
--- an entry of a list with one more is one of the list, or that one
-one_more : {X : Type 0} (xs : List X) (x y : X) (i : ℕ) → slice_get (xs ++ y ∷ []) i ≡ Some x → (slice_get xs i ≡ Some x) ⊎ (y ≡ x)
-one_more [] x y zero h = inr (cc h)
-one_more [] x y (suc i) h = absurd (cc h)
-one_more (z ∷ xs) x y zero h = inl h
-one_more (z ∷ xs) x y (suc i) h = one_more xs x y i h
-
 asked_more : (asked : List Question) (made : List Activation) (f : Obj) (vs : List Obj) (k : ℕ) → slice_get asked k ≡ Some (question.Call f vs) → AllAsked asked made → AllAsked asked (made ++ record { function = f; args = vs } ∷ [])
-asked_more asked made f vs k h all i a is = go (one_more made a (record { function = f; args = vs }) i is)
+asked_more asked made f vs k h all i a is = go (one_more made (record { function = f; args = vs }) a i is)
   where
-    go : (slice_get made i ≡ Some a) ⊎ (record { function = f; args = vs } ≡ a) → (j : ℕ) × (slice_get asked j ≡ Some (question.Call a.function a.args))
+    go : (slice_get made i ≡ Some a) ⊎ ((i ≡ length made) × (record { function = f; args = vs } ≡ a)) → (j : ℕ) × (slice_get asked j ≡ Some (question.Call a.function a.args))
     go (inl old) = all i a old
-    go (inr new) = (k, subst (λ (x : Activation). slice_get asked k ≡ Some (question.Call x.function x.args)) new h)
+    go (inr (at, new)) = (k, subst (λ (x : Activation). slice_get asked k ≡ Some (question.Call x.function x.args)) new h)
 
 pub made_asked : (asked : List Question) (objects : List Payload) (before : List Event) (s : State) (es : List Event) → Comes asked objects before s es → AllAsked asked s.made → AllAsked asked (state_after s es).made
 made_asked asked objects before s [] comes all = all

@@ -43,11 +43,7 @@ fn push_event(out: &mut String, objects: &PayloadList, event: &Event) -> Result<
     }
 }
 
-fn push_request(
-    out: &mut String,
-    objects: &PayloadList,
-    request: Request,
-) -> Result<(), NoMemory>
+fn push_request(out: &mut String, objects: &PayloadList, request: Request) -> Result<(), NoMemory>
     ensures { OnOk result (string_bytes out.new ≡ string_bytes out.old ++ request_text objects.now request) }
 {
     match request {
@@ -57,11 +53,7 @@ fn push_request(
 }
 
 /// Puts a line for a value that is shown behind the text, unless it is None.
-fn push_shown(
-    out: &mut String,
-    objects: &PayloadList,
-    value: PyObjectRef,
-) -> Result<(), NoMemory>
+fn push_shown(out: &mut String, objects: &PayloadList, value: PyObjectRef) -> Result<(), NoMemory>
     ensures { OnOk result (string_bytes out.new ≡ string_bytes out.old ++ request_text objects.now (Show value)) }
 {
     if matches!(objects.get(value.number as usize), Some(Payload::None)) {

@@ -55,11 +55,7 @@ fn command_over(
 }
 
 /// What a run of a script in so many turns comes to, with no fault.
-pub(super) fn run_in_turns(
-    alloc: Global,
-    script: &[u8],
-    turns: &str,
-) -> Result<Outcome, NoMemory> {
+pub(super) fn run_in_turns(alloc: Global, script: &[u8], turns: &str) -> Result<Outcome, NoMemory> {
     let mut source = source(alloc, script, &[], 100)?;
     let text = sink(alloc, &[], 100)?;
     command_over(alloc, &["run", turns], &mut source, text)

@@ -21,7 +21,11 @@ fn assert_writes(
 }
 
 /// Each of these scripts has to have a whole run, with its text.
-fn assert_all_write(rt: &impl Abort, alloc: Global, rows: &[(&[u8], &str)]) -> Result<(), NoMemory> {
+fn assert_all_write(
+    rt: &impl Abort,
+    alloc: Global,
+    rows: &[(&[u8], &str)],
+) -> Result<(), NoMemory> {
     for (script, text) in rows {
         assert_writes(rt, alloc, script, text)?;
     }
@@ -109,10 +113,7 @@ fn a_name_has_the_value_that_it_was_given_last(rt: HostRuntime) -> Result<(), Fa
             b"def f a\nx = a\na = (add a a)\nshow a\nreturn x\nend\ncall f 3\n",
             "6\n1 returns 3\n",
         ),
-        (
-            b"def f f\nreturn f\nend\ncall f 5\n",
-            "1 returns 5\n",
-        ),
+        (b"def f f\nreturn f\nend\ncall f 5\n", "1 returns 5\n"),
         (
             b"def f call\ncall = (add call 1)\nreturn call\nend\ncall f 1\n",
             "1 returns 2\n",
@@ -198,14 +199,18 @@ fn drives_are_numbered_in_order(rt: HostRuntime) -> Result<(), Fail> {
 #[test]
 fn a_run_stops_where_its_turns_end(rt: HostRuntime) -> Result<(), Fail> {
     // Eleven events of a drive that returns, then nine of one that raises.
-    const SCRIPT: &[u8] = b"def f a b\nshow a\nx = (add a b)\nshow x\nend\ncall f 1 2\ncall f 170141183460469231731687303715884105727 1\n";
+    const SCRIPT: &[u8] =
+        b"def f a b\nshow a\nx = (add a b)\nshow x\nend\ncall f 1 2\ncall f 170141183460469231731687303715884105727 1\n";
     // How many events a run has at least whose text is this.
     let rows: [(u64, &str); 6] = [
         (0, ""),
         (4, "1\n"),
         (8, "1\n3\n"),
         (11, "1\n3\n1 returns None\n"),
-        (15, "1\n3\n1 returns None\n170141183460469231731687303715884105727\n"),
+        (
+            15,
+            "1\n3\n1 returns None\n170141183460469231731687303715884105727\n",
+        ),
         (
             20,
             "1\n3\n1 returns None\n170141183460469231731687303715884105727\n2 raises OverflowError: integer out of range\n",
@@ -219,7 +224,11 @@ fn a_run_stops_where_its_turns_end(rt: HostRuntime) -> Result<(), Fail> {
                 written = text;
             }
         }
-        let (status, note) = if turns < 20 { (4, "out of turns\n") } else { (0, "") };
+        let (status, note) = if turns < 20 {
+            (4, "out of turns\n")
+        } else {
+            (0, "")
+        };
         let mut word = String::new(alloc);
         write!(word, "{turns}")?;
         let outcome = run_in_turns(alloc, SCRIPT, word.as_str())?;
