@@ -67,7 +67,7 @@ word_front b bs h k = go (is_quote b) refl
     go true q = ap (λ c. c.behind) (between_quoted b bs h k q) ∙ ap (λ c. (started b c).behind) (quoted_cut bs) ∙ sym (ap (λ n. Word (b ∷ take n bs) ∷ tokens_of (drop n bs)) (quoted_size q))
     go false q = ap (λ c. c.behind) (between_word b bs h k q) ∙ ap (λ c. (started b c).behind) (inside_cut bs) ∙ sym (ap (λ n. Word (b ∷ take n bs) ∷ tokens_of (drop n bs)) (plain_word_size q))
 
-not_blank : (b : ℕ) (bs : List ℕ) → prefix_len is_blank (b ∷ bs) ≡ 0 → is_blank b ≡ false
+pub not_blank : (b : ℕ) (bs : List ℕ) → prefix_len is_blank (b ∷ bs) ≡ 0 → is_blank b ≡ false
 not_blank b bs h = go (is_blank b) h
   where
     go : (p : Bool) → cond p (1 + prefix_len is_blank bs) 0 ≡ 0 → p ≡ false

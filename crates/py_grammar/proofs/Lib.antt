@@ -1,7 +1,9 @@
 -- how bytes are cut into lines, tokens and words
 pub mod Cuts
 pub mod Lexing
-pub mod Digits
+pub mod Numbers
+pub mod Texts
+pub mod Comments
 pub mod Eachs
 -- the program's lists by their trees
 pub mod Views

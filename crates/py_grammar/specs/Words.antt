@@ -1,4 +1,4 @@
--- The words of a script: names and numbers.
+-- The words of a script: names, numbers and texts.
 use Rattle.std.specs.Prelude.{ℕ, ◌+◌, ◌-◌, ◌*◌, List, [], ◌∷◌, Bool, false, not, ◌||◌, ◌&&◌, if◌then◌else◌, ◌==◌, ◌^◌, nat_le, length, bytes_eq, codes, fold, Option, Some, None, ℤ, pos, negsuc, neg_ℤ, int_le, option_map}
 use Rattle.std.specs.List.{list_all}
 

@@ -2,6 +2,7 @@
 
 ghost use Rattle.std.specs.Prelude.{◌≡◌, ◌<◌, ◌≤◌, ◌∷◌, [], length, map, IfOk, MatchOption, true, false};
 ghost use Rattle.std.specs.List.{prefix_len};
+ghost use Rattle.py_grammar.specs.Says.{is_comment};
 ghost use Rattle.py_grammar.specs.Tokens.{is_blank as is_blank_byte, is_mark as is_mark_byte, is_plain, tokens_of as tokens_in, lexeme_of, mark_of as mark_at, quoted_len as quoted_len_in, word_size};
 
 use py_code::NoMemory;
@@ -64,6 +65,7 @@ fn quoted_len(bytes: &[u8]) -> usize
 /// The bytes behind the blanks in front.
 pub fn behind_blanks(bytes: &[u8]) -> &[u8]
     ensures same { tokens_in result.now ≡ tokens_in bytes.now }
+    ensures comment { is_comment result.now ≡ is_comment bytes.now }
     ensures shorter { length result.now ≤ length bytes.now }
     ensures front { prefix_len is_blank_byte result.now ≡ 0 }
 {

@@ -1,4 +1,4 @@
-//! The words of a script: names and numbers.
+//! The words of a script: names, numbers and texts.
 
 ghost use Rattle.std.specs.Prelude.{◌≡◌, option_copied};
 ghost use Rattle.std.specs.List.{list_all};
@@ -117,15 +117,29 @@ pub fn is_name(word: &[u8]) -> bool
     is_spelled_as_name(word) && !is_reserved(word)
 }
 
-
 /// The number that a word spells: digits, with a minus in front or without, of at most 128 bits.
 pub fn number_of(word: &[u8]) -> Option<i128>
-    ensures value { result ≡ number_in word.now }
+    ensures { result ≡ number_in word.now }
 {
     if word.starts_with(b"+") {
         return None;
     }
-    str::from_utf8(word).ok()?.parse().ok()
+    let Ok(text) = str::from_utf8(word) else {
+        return None;
+    };
+    text.parse().ok()
+}
+
+fn stands_in_text(byte: u8) -> bool
+    ensures { result ≡ stands_in_text_byte byte }
+{
+    (b' '..=b'~').contains(&byte) && byte != b'\'' && byte != b'\\'
+}
+
+fn all_stand_in_text(bytes: &[u8]) -> bool
+    ensures { result ≡ list_all stands_in_text_byte bytes.now }
+{
+    bytes.iter().all(|b| stands_in_text(*b))
 }
 
 /// The text that a word spells: its characters between two quotes.
@@ -137,15 +151,9 @@ pub fn quoted_text(word: &[u8]) -> Option<&[u8]>
         return None;
     }
     let (last, text) = rest.split_last()?;
-    if *last == b'\'' && text.iter().all(|b| stands_in_text(*b)) {
+    if *last == b'\'' && all_stand_in_text(text) {
         Some(text)
     } else {
         None
     }
-}
-
-fn stands_in_text(byte: u8) -> bool
-    ensures { result ≡ stands_in_text_byte byte }
-{
-    (b' '..=b'~').contains(&byte) && byte != b'\'' && byte != b'\\'
 }
