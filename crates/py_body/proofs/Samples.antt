@@ -1,14 +1,16 @@
 -- The bodies of the tests can be compiled.
-use Rattle.std.proofs.Common.{◌≡◌, ◌≢◌, ◌+◌, ℕ, zero, suc, List, [], ◌∷◌, ◌++◌, refl, sym, ap, ◌∙◌, subst, arith, true≢false}
+use Rattle.std.proofs.Common.{◌≡◌, ◌≢◌, ◌<◌, ◌+◌, ℕ, zero, suc, List, [], ◌∷◌, ◌++◌, refl, sym, ap, ◌∙◌, subst, get_or, arith, true≢false}
 use Rattle.std.proofs.lemmas.Slice.Eq.{bytes_eq-Decides}
-use Rattle.std.specs.Prelude.{ℤ, All, AllPairs, codes}
+use Rattle.std.proofs.lemmas.List.Elements.{Contains-append_left}
+use Rattle.std.specs.Prelude.{Option, Some, None, All, AllPairs, codes}
 use Rattle.py_body.specs.declared.atom.Atom.{Atom}
 use Rattle.py_body.specs.declared.atom.Atom.TheVariants as atom
 use Rattle.py_body.specs.declared.atom.Operator.TheVariants as operator
+use Rattle.py_body.specs.declared.body.Body.{Body}
 use Rattle.py_body.specs.declared.stmt.Stmt.{Stmt}
 use Rattle.py_body.specs.declared.stmt.StmtForm.TheVariants.{Operate, Return}
-use Rattle.py_body.specs.Tree.{Name, operate, give, nothing, first, suite_of, Tree}
-use Rattle.py_body.specs.Binding.{IsKnown, SuiteKnown, statements, IsClosed}
+use Rattle.py_body.specs.Tree.{Name, Form, assign, operate, show, give, pass, form_of, target_of, nothing, first, suite_of, tree_of, Tree}
+use Rattle.py_body.specs.Binding.{IsKnown, FormKnown, names_behind, SuiteKnown, statements, IsClosed}
 
 two_differ : (x y : Name) → x ≢ y → AllPairs (λ a b. a ≢ b) (x ∷ y ∷ [])
 two_differ x y differ zero zero d less low = absurd (omega (arith, less))
@@ -53,12 +55,40 @@ sum_closed_as name bound returned params atoms stmts one line p a b r first_is i
     sym (λ k. record { name = name; params = p k; suite = suite k; line = line }) in
     subst IsClosed tree (sum_closed name line)
 
--- returns of numbers
-pub returns_known : (stmts : List Stmt) (names : List Name) (line : ℕ) (n : ℤ) → SuiteKnown names (suite_of stmts)
-    → SuiteKnown names (suite_of (stmts ++ record { line = line; form = Return (atom.Int n) } ∷ []))
-returns_known [] names line n known = (tt, tt)
-returns_known (s ∷ stmts) names line n (one, rest) = (one, returns_known stmts _ line n rest)
+-- ---- lines behind others
 
-pub returns_count : (stmts : List Stmt) (s : Stmt) → statements (suite_of (stmts ++ s ∷ [])) ≡ statements (suite_of stmts) + 1
-returns_count [] s = refl
-returns_count (t ∷ stmts) s = let rest = returns_count stmts s in omega (arith, rest)
+-- what is known stays so behind one more name
+atom_known : (a : Atom) (names : List Name) (y : Name) → IsKnown names a → IsKnown (names ++ y ∷ []) a
+atom_known atom.None names y known = known
+atom_known (atom.Bool b) names y known = known
+atom_known (atom.Int n) names y known = known
+atom_known (atom.Str s) names y known = known
+atom_known (atom.Name x) names y known = Contains-append_left names (y ∷ []) x known
+
+known_behind : (f : Form) (names : List Name) (target : Option Name) → FormKnown names f → FormKnown (names_behind names target) f
+known_behind f names None known = known
+known_behind (assign x a) names (Some y) known = atom_known a names y known
+known_behind (operate x op atoms) names (Some y) (arity, known) = (arity, λ k d low. atom_known (get_or atoms k d) names y (known k d low))
+known_behind (show a) names (Some y) known = atom_known a names y known
+known_behind (give a) names (Some y) known = atom_known a names y known
+known_behind pass names (Some y) known = known
+
+suite_known : (stmts : List Stmt) (names : List Name) (s : Stmt) → SuiteKnown names (suite_of stmts) → FormKnown names (form_of s.form) → SuiteKnown names (suite_of (stmts ++ s ∷ []))
+suite_known [] names s known one = (one, tt)
+suite_known (t ∷ stmts) names s (here, rest) one = (here, suite_known stmts _ s rest (known_behind (form_of s.form) names (target_of (form_of t.form)) one))
+
+pub one_more_line : (stmts : List Stmt) (s : Stmt) → statements (suite_of (stmts ++ s ∷ [])) ≡ statements (suite_of stmts) + 1
+one_more_line [] s = refl
+one_more_line (t ∷ stmts) s = let rest = one_more_line stmts s in omega (arith, rest)
+
+-- a closed body stays so behind a statement that takes parameters alone
+pub closed_more : (body : Body) (s : Stmt) (suite : List Stmt) → IsClosed (tree_of body) → FormKnown body.params (form_of s.form) → statements (suite_of body.suite) < 1000 → suite ≡ body.suite ++ s ∷ []
+    → IsClosed (tree_of (record body { suite = suite }))
+closed_more body s suite closed known short is =
+    let count = one_more_line body.suite s in
+    record {
+      distinct = closed.distinct;
+      few = closed.few;
+      known = rw is (suite_known body.suite body.params s closed.known known);
+      short = rw is (omega (arith, count));
+    }

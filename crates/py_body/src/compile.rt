@@ -106,8 +106,7 @@ impl Emitter {
         ensures { OnOk result (EmitsForm (parts_of self.old) (parts_of self.new) (assign name.now atom.now) line) }
     {
         self.compile_atom(atom, line)?;
-        let place = self.locals.place(name)? as u32;
-        self.emit(Instruction::StoreFast, place, line)
+        self.emit_with_local(Instruction::StoreFast, name, line)
     }
 
     /// Adds what binds an operator's value to a name.
@@ -127,8 +126,7 @@ impl Emitter {
             binary_operator(operator).number(),
             line,
         )?;
-        let place = self.locals.place(name)? as u32;
-        self.emit(Instruction::StoreFast, place, line)
+        self.emit_with_local(Instruction::StoreFast, name, line)
     }
 
     /// Adds the loads of atoms in order.
@@ -155,10 +153,7 @@ impl Emitter {
                 let text = text.copy(self.alloc)?;
                 self.load_literal(Literal::Str(text), line)
             }
-            Atom::Name(name) => {
-                let place = self.locals.place(name)? as u32;
-                self.emit(Instruction::LoadFast, place, line)
-            }
+            Atom::Name(name) => self.emit_with_local(Instruction::LoadFast, name, line),
         }
     }
 

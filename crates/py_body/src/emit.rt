@@ -4,10 +4,11 @@ ghost use Rattle.std.specs.Prelude.{◌≡◌, ◌+◌, ◌<◌, ◌≤◌, ◌^
 ghost use Rattle.py_code.specs.declared.instruction.Instruction.TheVariants.{ExtendedArg, LoadConst, ReturnConst};
 ghost use Rattle.py_code.specs.Literals.{literals_of};
 ghost use Rattle.py_code.specs.Units.{is_prefix};
+ghost use Rattle.py_body.specs.Code.{place};
 ghost use Rattle.py_body.specs.Emitting.{parts_of, Spells, located, IsMatched, EmitsUnit, EmitsConst};
 
 use crate::locals::Locals;
-use py_code::{CodeUnit, Instruction, Literal, LiteralList, NoMemory};
+use py_code::{CodeUnit, Instruction, Literal, LiteralList, NoMemory, PyText};
 use std::alloc::Global;
 
 /// What the code of a body is put together from.
@@ -73,6 +74,22 @@ impl Emitter {
         let place = self.constants.len() as u32;
         self.constants.push(literal)?;
         self.emit(op, place, line)
+    }
+
+    /// Adds an instruction whose operand is the place of a local.
+    pub fn emit_with_local(
+        &mut self,
+        op: Instruction,
+        name: &PyText,
+        line: u32,
+    ) -> Result<(), NoMemory>
+        requires plain { is_prefix op ≡ false }
+        requires matched { IsMatched (parts_of self.old) }
+        requires few { length self.old.locals < 2 ^ 32 }
+        ensures { OnOk result (EmitsUnit (parts_of self.old) (parts_of self.new) op (place self.old.locals name.now) line) }
+    {
+        let local = self.locals.place(name)? as u32;
+        self.emit(op, local, line)
     }
 }
 

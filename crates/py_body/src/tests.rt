@@ -1,12 +1,13 @@
 //! Bodies whose code a reader can work out by hand.
 
-ghost use Rattle.std.specs.Prelude.{◌≡◌, ◌≤◌, [], ◌∷◌, IfOk, codes};
-ghost use Rattle.py_body.specs.Binding.{IsClosed};
-ghost use Rattle.py_body.specs.Tree.{tree_of};
+ghost use Rattle.std.specs.Prelude.{◌≡◌, ◌+◌, ◌<◌, ◌≤◌, [], ◌∷◌, IfOk, OnOk, codes};
+ghost use Rattle.py_body.specs.Binding.{FormKnown, IsClosed, statements};
+ghost use Rattle.py_body.specs.Tree.{form_of, suite_of, tree_of};
 
 use super::*;
-use py_code::{CodeFlags, Instruction, NameId, Names, text_of};
+use py_code::{CodeFlags, CodeObject, Instruction, Literal, NameId, Names, same_text, text_of};
 use std::alloc::Global;
+use std::process::Abort;
 use std::test::Fail;
 
 /// The names `a` and `b`.
@@ -55,26 +56,111 @@ fn sum_body(alloc: Global) -> Result<Body, Fail>
     })
 }
 
-/// `def f` in line 7, and as many `return` lines, each of its own number from 0 and in line 8.
+/// `def f a` in a line, without statements.
+fn header(alloc: Global, line: u32) -> Result<Body, Fail>
+    ensures closed { IfOk result (λ body. IsClosed (tree_of body)) }
+    ensures params { IfOk result (λ body. body.params ≡ codes "a" ∷ []) }
+    ensures counted { IfOk result (λ body. statements (suite_of body.suite) ≡ 0) }
+{
+    let name = text_of(alloc, b"f")?;
+    let mut params = ParamList::new(alloc);
+    params.push(text_of(alloc, b"a")?)?;
+    Ok(Body {
+        name,
+        params,
+        suite: StmtList::new(alloc),
+        line,
+    })
+}
+
+/// Puts a statement that reads no names but parameters behind a body.
+fn add_line(body: &mut Body, line: u32, form: StmtForm) -> Result<(), Fail>
+    requires closed { IsClosed (tree_of body.old) }
+    requires known { FormKnown body.old.params (form_of form) }
+    requires short { statements (suite_of body.old.suite) < 1000 }
+    ensures closed { OnOk result (IsClosed (tree_of body.new)) }
+    ensures params { OnOk result (body.new.params ≡ body.old.params) }
+    ensures counted { OnOk result (statements (suite_of body.new.suite) ≡ statements (suite_of body.old.suite) + 1) }
+{
+    body.suite.push(Stmt { line, form })?;
+    Ok(())
+}
+
+/// The atom `a`.
+fn atom_a(alloc: Global) -> Result<Atom, Fail>
+    ensures { IfOk result (λ atom. atom ≡ Atom.Name (codes "a")) }
+{
+    Ok(Atom::Name(text_of(alloc, b"a")?))
+}
+
+/// Binds each literal to a name, in the lines 2 to 5.
+fn add_literals(alloc: Global, body: &mut Body) -> Result<(), Fail>
+    requires closed { IsClosed (tree_of body.old) }
+    requires short { statements (suite_of body.old.suite) ≡ 0 }
+    ensures closed { OnOk result (IsClosed (tree_of body.new)) }
+    ensures params { OnOk result (body.new.params ≡ body.old.params) }
+    ensures counted { OnOk result (statements (suite_of body.new.suite) ≡ 4) }
+{
+    let text = text_of(alloc, b"hi")?;
+    add_line(body, 2, StmtForm::Assign(text_of(alloc, b"x")?, Atom::None))?;
+    add_line(
+        body,
+        3,
+        StmtForm::Assign(text_of(alloc, b"y")?, Atom::Bool(true)),
+    )?;
+    add_line(
+        body,
+        4,
+        StmtForm::Assign(text_of(alloc, b"x")?, Atom::Int(-7)),
+    )?;
+    add_line(
+        body,
+        5,
+        StmtForm::Assign(text_of(alloc, b"y")?, Atom::Str(text)),
+    )
+}
+
+/// `def f a` in line 1 with each literal and, from line 6 on, each other form.
+fn each_form(alloc: Global) -> Result<Body, Fail>
+    ensures { IfOk result (λ body. IsClosed (tree_of body)) }
+{
+    let mut body = header(alloc, 1)?;
+    add_literals(alloc, &mut body)?;
+    let mut atoms = AtomList::new(alloc);
+    atoms.push(atom_a(alloc)?)?;
+    atoms.push(Atom::Int(1))?;
+    let sum = StmtForm::Operate(text_of(alloc, b"z")?, Operator::Add, atoms);
+    add_line(&mut body, 6, sum)?;
+    add_line(&mut body, 7, StmtForm::Show(atom_a(alloc)?))?;
+    add_line(&mut body, 8, StmtForm::Pass)?;
+    add_line(&mut body, 9, StmtForm::Return(atom_a(alloc)?))?;
+    Ok(body)
+}
+
+/// `def f a` in line 7, and as many `return` lines, each of its own number from 0 and in line 8.
 fn returns_body(alloc: Global, count: u32) -> Result<Body, Fail>
     requires { count ≤ 1000 }
     ensures { IfOk result (λ body. IsClosed (tree_of body)) }
 {
-    let mut suite = StmtList::new(alloc);
+    let mut body = header(alloc, 7)?;
     for number in 0..count {
-        suite.push(Stmt {
-            line: 8,
-            form: StmtForm::Return(Atom::Int(i128::from(number))),
-        })?;
+        add_line(
+            &mut body,
+            8,
+            StmtForm::Return(Atom::Int(i128::from(number))),
+        )?;
     }
-    let name = text_of(alloc, b"f")?;
-    let params = ParamList::new(alloc);
-    Ok(Body {
-        name,
-        params,
-        suite,
-        line: 7,
-    })
+    Ok(body)
+}
+
+/// The units of a code are these, each with its operand and its line.
+fn has_units(rt: &impl Abort, code: &CodeObject, want: &[(Instruction, u8, u32)]) {
+    assert_eq!(rt; code.instructions.len(), want.len());
+    for (at, (op, arg, line)) in want.iter().enumerate() {
+        let unit = code.instructions.get(at).map(|unit| (unit.op, unit.arg));
+        assert_eq!(rt; unit, Some((*op, *arg)), "at {at}");
+        assert_eq!(rt; code.locations.get(at), Some(line), "at {at}");
+    }
 }
 
 #[test]
@@ -89,14 +175,82 @@ fn a_sum_that_is_returned_takes_six_units_before_the_end(rt: HostRuntime) -> Res
         (Instruction::StoreFast, 2, 2),
         (Instruction::LoadFast, 2, 3),
         (Instruction::ReturnValue, 0, 3),
-        (Instruction::ReturnConst, 0, 3),
+        (Instruction::ReturnConst, 0, 1),
     ];
-    assert_eq!(rt; code.instructions.len(), want.len());
-    for (at, (op, arg, line)) in want.iter().enumerate() {
-        let unit = code.instructions.get(at).map(|unit| (unit.op, unit.arg));
-        assert_eq!(rt; unit, Some((*op, *arg)), "at {at}");
-        assert_eq!(rt; code.locations.get(at), Some(line), "at {at}");
+    has_units(&rt, &code, &want);
+    Ok(())
+}
+
+#[test]
+fn each_form_has_its_units(rt: HostRuntime) -> Result<(), Fail> {
+    let body = each_form(rt.alloc())?;
+    let mut names = Names::new(rt.alloc());
+    let code = compile_body(rt.alloc(), &mut names, &body)?.code;
+    let want = [
+        (Instruction::LoadConst, 0, 2),
+        (Instruction::StoreFast, 1, 2),
+        (Instruction::LoadConst, 1, 3),
+        (Instruction::StoreFast, 2, 3),
+        (Instruction::LoadConst, 2, 4),
+        (Instruction::StoreFast, 1, 4),
+        (Instruction::LoadConst, 3, 5),
+        (Instruction::StoreFast, 2, 5),
+        (Instruction::LoadFast, 0, 6),
+        (Instruction::LoadConst, 4, 6),
+        (Instruction::BinaryOperation, 6, 6),
+        (Instruction::StoreFast, 3, 6),
+        (Instruction::LoadFast, 0, 7),
+        (Instruction::PrintExpr, 0, 7),
+        (Instruction::LoadFast, 0, 9),
+        (Instruction::ReturnValue, 0, 9),
+        (Instruction::ReturnConst, 5, 1),
+    ];
+    has_units(&rt, &code, &want);
+    Ok(())
+}
+
+#[test]
+fn each_literal_is_a_constant(rt: HostRuntime) -> Result<(), Fail> {
+    let body = each_form(rt.alloc())?;
+    let mut names = Names::new(rt.alloc());
+    let constants = compile_body(rt.alloc(), &mut names, &body)?.code.constants;
+    assert_eq!(rt; constants.len(), 6);
+    assert!(rt; matches!(constants.get(0), Some(Literal::None)));
+    assert!(rt; matches!(constants.get(1), Some(Literal::Bool(true))));
+    assert!(rt; matches!(constants.get(2), Some(Literal::Int(-7))));
+    let hi = text_of(rt.alloc(), b"hi")?;
+    match constants.get(3) {
+        Some(Literal::Str(text)) => assert!(rt; same_text(text, &hi)),
+        _ => panic!(rt; "no text"),
     }
+    assert!(rt; matches!(constants.get(4), Some(Literal::Int(1))));
+    assert!(rt; matches!(constants.get(5), Some(Literal::None)));
+    Ok(())
+}
+
+#[test]
+fn a_show_alone_takes_two_units(rt: HostRuntime) -> Result<(), Fail> {
+    let mut body = header(rt.alloc(), 4)?;
+    add_line(&mut body, 5, StmtForm::Show(Atom::Bool(false)))?;
+    let mut names = Names::new(rt.alloc());
+    let code = compile_body(rt.alloc(), &mut names, &body)?.code;
+    let want = [
+        (Instruction::LoadConst, 0, 5),
+        (Instruction::PrintExpr, 0, 5),
+        (Instruction::ReturnConst, 1, 4),
+    ];
+    has_units(&rt, &code, &want);
+    Ok(())
+}
+
+#[test]
+fn a_pass_alone_takes_no_unit(rt: HostRuntime) -> Result<(), Fail> {
+    let mut body = header(rt.alloc(), 4)?;
+    add_line(&mut body, 5, StmtForm::Pass)?;
+    let mut names = Names::new(rt.alloc());
+    let code = compile_body(rt.alloc(), &mut names, &body)?.code;
+    has_units(&rt, &code, &[(Instruction::ReturnConst, 0, 4)]);
+    assert_eq!(rt; code.constants.len(), 1);
     Ok(())
 }
 
@@ -152,8 +306,8 @@ fn a_body_without_statements_returns_none(rt: HostRuntime) -> Result<(), Fail> {
     let unit = code.decoded(0).map(|unit| (unit.op, unit.arg.0, unit.next));
     assert_eq!(rt; unit, Some((Instruction::ReturnConst, 0, 1)));
     assert_eq!(rt; code.code.locations.get(0), Some(&7));
-    assert_eq!(rt; code.co_nlocals(), 0);
-    assert_eq!(rt; code.co_argcount(), 0);
+    assert_eq!(rt; code.co_nlocals(), 1);
+    assert_eq!(rt; code.co_argcount(), 1);
     assert_eq!(rt; code.co_firstlineno(), 7);
     assert_eq!(rt; code.co_stacksize(), 2);
     assert_eq!(rt;
