@@ -57,15 +57,21 @@ rows_from-append n (l ∷ front) back = ap (with_read n (says l)) (rows_from-app
 -- the reader looks at no number that trees don't keep
 outside-kept : (ts : List Tree) (ds : List Drive) (n : ℕ) (l : Line) → outside ts ds (kept_number n l) l ≡ outside ts ds n l
 outside-kept ts ds n line.End = refl
-outside-kept ts ds n (line.Return a) = refl
+outside-kept ts ds n (line.Assign x a) = refl
 outside-kept ts ds n (line.Operate x op atoms) = refl
+outside-kept ts ds n (line.Show a) = refl
+outside-kept ts ds n (line.Return a) = refl
+outside-kept ts ds n line.Pass = refl
 outside-kept ts ds n (line.Def f ps) = refl
 outside-kept ts ds n (line.Call f args) = refl
 
 in_body-kept : (ts : List Tree) (ds : List Drive) (o : Open) (n : ℕ) (l : Line) → in_body ts ds o (kept_number n l) l ≡ in_body ts ds o n l
 in_body-kept ts ds o n line.End = refl
-in_body-kept ts ds o n (line.Return a) = refl
+in_body-kept ts ds o n (line.Assign x a) = refl
 in_body-kept ts ds o n (line.Operate x op atoms) = refl
+in_body-kept ts ds o n (line.Show a) = refl
+in_body-kept ts ds o n (line.Return a) = refl
+in_body-kept ts ds o n line.Pass = refl
 in_body-kept ts ds o n (line.Def f ps) = refl
 in_body-kept ts ds o n (line.Call f args) = refl
 

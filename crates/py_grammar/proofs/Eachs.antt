@@ -1,10 +1,10 @@
 -- What a list of tokens says, one token after another.
-use Rattle.std.proofs.Common.{◌≡◌, ◌<◌, ◌+◌, ℕ, Bool, true, false, cond, List, [], ◌∷◌, ◌++◌, Some, None, refl, sym, ap, ◌∙◌, length, take, drop, map, get_or, arith, take-append-drop, drop-cons, add-one}
+use Rattle.std.proofs.Common.{◌≡◌, ◌<◌, ◌≤◌, ◌+◌, ℕ, Bool, true, false, cond, List, [], ◌∷◌, ◌++◌, Some, None, refl, sym, ap, ◌∙◌, length, take, drop, map, get_or, arith, take-append-drop, drop-cons, add-one}
 use Rattle.std.proofs.lemmas.List.{map-append}
 use Rattle.std.specs.Prelude.{Option}
 use Rattle.std.proofs.lemmas.Grind.{take_at_read}
 use Rattle.py_grammar.specs.Tokens.{Lexeme}
-use Rattle.py_grammar.specs.Says.{each, both, before_close, is_close}
+use Rattle.py_grammar.specs.Says.{each, both, only_atom, before_close, is_close}
 use Rattle.std.specs.Prelude.{option_map}
 use Rattle.py_grammar.specs.declared.token.Token.{Token}
 use Rattle.py_grammar.specs.Tokens.{lexeme_of}
@@ -58,6 +58,12 @@ none_at f view toks i d r low is k =
     let cut : toks ≡ take i toks ++ get_or toks i d ∷ drop (i + 1) toks = cut_at toks i d low in
     sym (ap (λ l. each f (map view l)) cut ∙ ap (each f) (map-append view (take i toks) (get_or toks i d ∷ drop (i + 1) toks))
     ∙ each-none f (map view (take i toks)) (view (get_or toks i d)) (map view (drop (i + 1) toks)) (sym k ∙ is))
+
+-- none of two tokens is the only one
+pub only_none : (tokens : List Token) → 2 ≤ length tokens → only_atom (map lexeme_of tokens) ≡ None
+only_none [] h = absurd (omega arith)
+only_none (t ∷ []) h = absurd (omega arith)
+only_none (t ∷ u ∷ tokens) h = refl
 
 -- the tokens before a last )
 before_last : (front : List Lexeme) (t : Lexeme) → before_close (front ++ t ∷ []) ≡ cond (is_close t) (Some front) None

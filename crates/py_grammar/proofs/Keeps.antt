@@ -1,5 +1,5 @@
 -- What the rules on scripts keep for the layers above.
-use Rattle.std.proofs.Common.{◌≡◌, ◌≢◌, ◌<◌, ◌≤◌, ℕ, List, [], ◌∷◌, ◌++◌, length, Bool, true, false, ◌&&◌, ◌||◌, not, refl, sym, ap, ◌∙◌, append_assoc, append-nil, subst, arith, map, get_or, suc, zero}
+use Rattle.std.proofs.Common.{◌≡◌, ◌≢◌, ◌<◌, ◌≤◌, ℕ, List, [], ◌∷◌, ◌++◌, length, Bool, true, false, Option, Some, None, ◌&&◌, ◌||◌, not, refl, sym, ap, ◌∙◌, append_assoc, append-nil, subst, arith, map, get_or, suc, zero}
 use Rattle.std.proofs.lemmas.List.{map-append}
 use Rattle.std.proofs.lemmas.List.Elements.{All-nil, All-cons, Contains-append_left, Contains-append_right}
 use Rattle.std.proofs.lemmas.List.Kept.{AllPairs-cons}
@@ -11,15 +11,14 @@ use Rattle.std.specs.Prelude.{All, Any, Contains, bytes_eq, nat_le, ◌==◌}
 use Rattle.std.specs.List.{list_any, list_all}
 use Rattle.py_body.specs.declared.atom.Atom.{Atom}
 use Rattle.py_body.specs.declared.atom.Atom.TheVariants as atom
-use Rattle.py_body.specs.declared.atom.Operator.{Operator}
-use Rattle.py_body.specs.declared.atom.Operator.TheVariants as operator
-use Rattle.py_body.specs.Tree.{Name, Form, operate, give, Suite, nothing, first, Tree}
+use Rattle.py_body.specs.Tree.{Name, Form, assign, operate, show, give, pass, target_of, Suite, nothing, first, Tree}
+use Rattle.py_body.specs.Binding.{IsKnown, FormKnown, names_behind, SuiteKnown, arity_of}
 use Rattle.py_grammar.specs.declared.script.Script.{Script}
 use Rattle.py_grammar.specs.Drive.{Drive}
-use Rattle.py_grammar.specs.Rules.{is_among, all_differ, is_none_yet, declares, is_builtin_class, may_declare, takes, is_number, may_drive, binds, assigns, is_known, has_operation, arity_of}
+use Rattle.py_grammar.specs.Rules.{is_among, all_differ, declares, is_builtin_class, may_declare, takes, is_literal, may_drive, is_target, binds, assigns, is_known}
 use Rattle.py_grammar.specs.Grammar.{Item, Declares, Drives, add, WellForm, WellSuite, WellItems, trees_in, drives_in}
 use Rattle.py_grammar.specs.Script.{Text, Spells, IsScript}
-use Rattle.py_grammar.specs.WellFormed.{IsKnown, IsNumber, IsWellFormedIn, names_behind, NamesKnown, AreDistinct, IsWellDeclared, Calls, IsWellDriven, AreWellFormed, IsWellFormed}
+use Rattle.py_grammar.specs.WellFormed.{IsLiteral, AreDistinct, IsWellDeclared, Calls, IsWellDriven, AreWellFormed, IsWellFormed}
 
 -- the parts of a test
 and_left : (a b : Bool) → (a && b) ≡ true → a ≡ true
@@ -106,71 +105,71 @@ covers_start ps x h = contains_by_test x ps (one (is_among x ps) h)
     one true k = refl
     one false k = cc
 
-covers_more : (ps : List Name) (before : Suite) (names : List Name) (n : ℕ) (f : Form) → Covers ps before names → Covers ps (add before n f) (names_behind names f)
-covers_more ps before names n (give a) c x h = c x (split (is_among x ps) (assigns x before) (sym (ap (λ b. is_among x ps || b) (assigns-add x before n (give a))) ∙ h))
+covers_more : (ps : List Name) (before : Suite) (names : List Name) (n : ℕ) (f : Form) → Covers ps before names → Covers ps (add before n f) (names_behind names (target_of f))
+covers_more ps before names n f c x h = go (is_among x ps || assigns x before) refl
   where
-    split : (a b : Bool) → (a || (b || false)) ≡ true → (a || b) ≡ true
-    split true b k = refl
-    split false true k = refl
-    split false false k = cc
-covers_more ps before names n (operate y op atoms) c x h = go (is_among x ps || assigns x before) refl (bytes_eq x y) refl
-  where
-    split : (a b c d : Bool) → (a || b) ≡ false → c ≡ d → (a || (b || c)) ≡ true → d ≡ true
-    split true b c d e k m = cc
-    split false true c d e k m = cc
-    split false false c d e k m = sym k ∙ m
+    earlier : (t : Option Name) → Contains names x → Contains (names_behind names t) x
+    earlier None k = k
+    earlier (Some y) k = Contains-append_left names (y ∷ []) x k
 
-    go : (p : Bool) → (is_among x ps || assigns x before) ≡ p → (q : Bool) → bytes_eq x y ≡ q → Contains (names ++ y ∷ []) x
-    go true e q k = Contains-append_left names (y ∷ []) x (c x e)
-    go false e q k =
-        let same : bytes_eq x y ≡ true = split (is_among x ps) (assigns x before) (bytes_eq x y) (bytes_eq x y) e refl (sym (ap (λ b. is_among x ps || b) (assigns-add x before n (operate y op atoms))) ∙ h) in
-        Contains-append_right names (y ∷ []) x (contains_first x y [] ((bytes_eq-Decides x y).0 same))
+    here : (t : Option Name) → is_target x t ≡ true → Contains (names_behind names t) x
+    here None k = cc
+    here (Some y) k = Contains-append_right names (y ∷ []) x (contains_first x y [] ((bytes_eq-Decides x y).0 k))
+
+    last : (a b d : Bool) → (a || b) ≡ false → (a || (b || d)) ≡ true → d ≡ true
+    last true b d e k = cc
+    last false true d e k = cc
+    last false false d e k = k
+
+    go : (p : Bool) → (is_among x ps || assigns x before) ≡ p → Contains (names_behind names (target_of f)) x
+    go true e = earlier (target_of f) (c x e)
+    go false e = here (target_of f) (last (is_among x ps) (assigns x before) (binds x f) e (sym (ap (λ b. is_among x ps || b) (assigns-add x before n f)) ∙ h))
 
 known_by_test : (ps : List Name) (before : Suite) (names : List Name) → Covers ps before names → (a : Atom) → is_known ps before a ≡ true → IsKnown names a
+known_by_test ps before names c atom.None h = tt
+known_by_test ps before names c (atom.Bool b) h = tt
 known_by_test ps before names c (atom.Int n) h = tt
+known_by_test ps before names c (atom.Str s) h = tt
 known_by_test ps before names c (atom.Name x) h = c x h
 
-arity_two : (op : Operator) → arity_of op ≡ 2
-arity_two operator.Add = refl
-
 -- statements, behind these
-form_keeps : (ps : List Name) (before : Suite) (names : List Name) (f : Form) → Covers ps before names → WellForm ps before f → IsWellFormedIn names f
+form_keeps : (ps : List Name) (before : Suite) (names : List Name) (f : Form) → Covers ps before names → WellForm ps before f → FormKnown names f
+form_keeps ps before names (assign x a) c w = known_by_test ps before names c a w
+form_keeps ps before names (operate x op atoms) c w = (
+  same_by_test (length atoms) (arity_of op) (and_left (length atoms == arity_of op) (list_all (is_known ps before) atoms) w),
+  all_by_test (is_known ps before) (IsKnown names) (known_by_test ps before names c) atoms (and_right (length atoms == arity_of op) (list_all (is_known ps before) atoms) w),
+)
+form_keeps ps before names (show a) c w = known_by_test ps before names c a w
 form_keeps ps before names (give a) c w = known_by_test ps before names c a w
-form_keeps ps before names (operate x op atoms) c w =
-    let count : (length atoms == arity_of op) ≡ true = and_right (not (has_operation before)) _ (and_left (not (has_operation before) && (length atoms == arity_of op)) (list_all (is_known ps before) atoms) w) in (
-      same_by_test (length atoms) (arity_of op) count ∙ arity_two op,
-      all_by_test (is_known ps before) (IsKnown names) (known_by_test ps before names c) atoms (and_right (not (has_operation before) && (length atoms == arity_of op)) (list_all (is_known ps before) atoms) w),
-    )
+form_keeps ps before names pass c w = tt
 
-suite_keeps : (ps : List Name) (s before : Suite) (names : List Name) → Covers ps before names → WellSuite ps before s → NamesKnown names s
+suite_keeps : (ps : List Name) (s before : Suite) (names : List Name) → Covers ps before names → WellSuite ps before s → SuiteKnown names s
 suite_keeps ps nothing before names c w = tt
 suite_keeps ps (first n f more) before names c w =
-    (form_keeps ps before names f c w.0, suite_keeps ps more (add before n f) (names_behind names f) (covers_more ps before names n f c) w.1)
+    (form_keeps ps before names f c w.0, suite_keeps ps more (add before n f) (names_behind names (target_of f)) (covers_more ps before names n f c) w.1)
 
 -- a declaration, behind these
 declared_keeps : (ts : List Tree) (t : Tree) → may_declare ts t.name t.params ≡ true → WellSuite t.params nothing t.suite → IsWellDeclared t
 declared_keeps ts t h w =
-    let none : Bool = is_none_yet ts in
     let new : Bool = not (declares t.name ts) in
     let free : Bool = not (is_builtin_class t.name) in
     let differ : Bool = all_differ t.params in
     let few : Bool = nat_le (length t.params) 255 in
-    let front : (none && new && free && differ) ≡ true = and_left (none && new && free && differ) few h in
+    let front : (new && free && differ) ≡ true = and_left (new && free && differ) few h in
     record {
-      no_class = not_false (is_builtin_class t.name) (and_right (none && new) free (and_left (none && new && free) differ front));
-      distinct = distinct_by_test t.params (and_right (none && new && free) differ front);
-      few = le_by_test (length t.params) 255 (and_right (none && new && free && differ) few h);
+      no_class = not_false (is_builtin_class t.name) (and_right new free (and_left (new && free) differ front));
+      distinct = distinct_by_test t.params (and_right (new && free) differ front);
+      few = le_by_test (length t.params) 255 (and_right (new && free && differ) few h);
       known = suite_keeps t.params t.suite nothing t.params (covers_start t.params) w;
     }
 
 new_by_test : (ts : List Tree) (t : Tree) → may_declare ts t.name t.params ≡ true → declares t.name ts ≡ false
 new_by_test ts t h =
-    let none : Bool = is_none_yet ts in
     let new : Bool = not (declares t.name ts) in
     let free : Bool = not (is_builtin_class t.name) in
     let differ : Bool = all_differ t.params in
     let few : Bool = nat_le (length t.params) 255 in
-    not_false (declares t.name ts) (and_right none new (and_left (none && new) free (and_left (none && new && free) differ (and_left (none && new && free && differ) few h))))
+    not_false (declares t.name ts) (and_left new free (and_left (new && free) differ (and_left (new && free && differ) few h)))
 
 not_declared : (f : Name) (ts : List Tree) → declares f ts ≡ false → (k : ℕ) (d : Name) → k < length (map (λ t. t.name) ts) → get_or (map (λ t. t.name) ts) k d ≢ f
 not_declared f [] h k d low e = absurd (omega arith)
@@ -182,17 +181,17 @@ names_push ts t h w =
     subst AreDistinct (sym (map-append (λ t. t.name) ts (t ∷ []))) (all_pairs_push (λ x y. x ≢ y) (map (λ t. t.name) ts) t.name w (not_declared t.name ts h))
 
 -- the names of all declarations, behind those that are there
-names_keep : (is : List Item) (ts : List Tree) (ds : List Drive) → WellItems ts ds is → AreDistinct (map (λ t. t.name) ts) → AreDistinct (map (λ t. t.name) (ts ++ trees_in is))
-names_keep [] ts ds w v = subst (λ x. AreDistinct (map (λ t. t.name) x)) (sym (append-nil ts)) v
-names_keep (Declares t ∷ is) ts ds w v =
-    subst (λ x. AreDistinct (map (λ t. t.name) x)) (append_assoc ts (t ∷ []) (trees_in is)) (names_keep is (ts ++ t ∷ []) ds w.1.1 (names_push ts t (new_by_test ts t w.0) v))
-names_keep (Drives d ∷ is) ts ds w v = names_keep is ts (ds ++ d ∷ []) w.1 v
+names_keep : (is : List Item) (ts : List Tree) → WellItems ts is → AreDistinct (map (λ t. t.name) ts) → AreDistinct (map (λ t. t.name) (ts ++ trees_in is))
+names_keep [] ts w v = subst (λ x. AreDistinct (map (λ t. t.name) x)) (sym (append-nil ts)) v
+names_keep (Declares t ∷ is) ts w v =
+    subst (λ x. AreDistinct (map (λ t. t.name) x)) (append_assoc ts (t ∷ []) (trees_in is)) (names_keep is (ts ++ t ∷ []) w.1.1 (names_push ts t (new_by_test ts t w.0) v))
+names_keep (Drives d ∷ is) ts w v = names_keep is ts w.1 v
 
 -- all declarations of the items
-trees_keep : (is : List Item) (ts : List Tree) (ds : List Drive) → WellItems ts ds is → All IsWellDeclared (trees_in is)
-trees_keep [] ts ds w = All-nil IsWellDeclared
-trees_keep (Declares t ∷ is) ts ds w = All-cons IsWellDeclared t (trees_in is) (declared_keeps ts t w.0 w.1.0) (trees_keep is (ts ++ t ∷ []) ds w.1.1)
-trees_keep (Drives d ∷ is) ts ds w = trees_keep is ts (ds ++ d ∷ []) w.1
+trees_keep : (is : List Item) (ts : List Tree) → WellItems ts is → All IsWellDeclared (trees_in is)
+trees_keep [] ts w = All-nil IsWellDeclared
+trees_keep (Declares t ∷ is) ts w = All-cons IsWellDeclared t (trees_in is) (declared_keeps ts t w.0 w.1.0) (trees_keep is (ts ++ t ∷ []) w.1.1)
+trees_keep (Drives d ∷ is) ts w = trees_keep is ts w.1
 
 -- what takes these arguments is called by the drive
 calls_by_test : (d : Drive) (t : Tree) → takes d.function (length d.args) t ≡ true → Calls d t
@@ -204,35 +203,36 @@ calls_by_test d t h = record {
 any_calls : (d : Drive) (ts : List Tree) → list_any (takes d.function (length d.args)) ts ≡ true → Any (Calls d) ts
 any_calls d ts h = let a = Any-from_list_any (takes d.function (length d.args)) ts h in (a.0, a.1, a.2, a.3, calls_by_test d a.1 a.4)
 
-number_by_test : (a : Atom) → is_number a ≡ true → IsNumber a
-number_by_test (atom.Int n) h = tt
-number_by_test (atom.Name x) h = cc
+literal_by_test : (a : Atom) → is_literal a ≡ true → IsLiteral a
+literal_by_test atom.None h = tt
+literal_by_test (atom.Bool b) h = tt
+literal_by_test (atom.Int n) h = tt
+literal_by_test (atom.Str s) h = tt
+literal_by_test (atom.Name x) h = cc
 
 -- a drive, behind these declarations and with others to follow
-drive_keeps : (ts more : List Tree) (ds : List Drive) (d : Drive) → may_drive ts ds d.function d.args ≡ true → IsWellDriven (ts ++ more) d
-drive_keeps ts more ds d h =
-    let none : Bool = is_none_yet ds in
+drive_keeps : (ts more : List Tree) (d : Drive) → may_drive ts d.function d.args ≡ true → IsWellDriven (ts ++ more) d
+drive_keeps ts more d h =
     let called : Bool = list_any (takes d.function (length d.args)) ts in
-    let numbers : Bool = list_all is_number d.args in
-    let here : called ≡ true = and_right none called (and_left (none && called) numbers h) in
+    let literals : Bool = list_all is_literal d.args in
     record {
-      calls = any_calls d (ts ++ more) (list_any-append (takes d.function (length d.args)) ts more ∙ true_or called (list_any (takes d.function (length d.args)) more) here);
-      numbers = all_by_test is_number IsNumber number_by_test d.args (and_right (none && called) numbers h);
+      calls = any_calls d (ts ++ more) (list_any-append (takes d.function (length d.args)) ts more ∙ true_or called (list_any (takes d.function (length d.args)) more) (and_left called literals h));
+      literals = all_by_test is_literal IsLiteral literal_by_test d.args (and_right called literals h);
     }
 
 -- all drives of the items
-drives_keep : (is : List Item) (ts : List Tree) (ds : List Drive) → WellItems ts ds is → All (IsWellDriven (ts ++ trees_in is)) (drives_in is)
-drives_keep [] ts ds w = All-nil (IsWellDriven (ts ++ []))
-drives_keep (Declares t ∷ is) ts ds w = subst (λ x. All (IsWellDriven x) (drives_in is)) (append_assoc ts (t ∷ []) (trees_in is)) (drives_keep is (ts ++ t ∷ []) ds w.1.1)
-drives_keep (Drives d ∷ is) ts ds w = All-cons (IsWellDriven (ts ++ trees_in is)) d (drives_in is) (drive_keeps ts (trees_in is) ds d w.0) (drives_keep is ts (ds ++ d ∷ []) w.1)
+drives_keep : (is : List Item) (ts : List Tree) → WellItems ts is → All (IsWellDriven (ts ++ trees_in is)) (drives_in is)
+drives_keep [] ts w = All-nil (IsWellDriven (ts ++ []))
+drives_keep (Declares t ∷ is) ts w = subst (λ x. All (IsWellDriven x) (drives_in is)) (append_assoc ts (t ∷ []) (trees_in is)) (drives_keep is (ts ++ t ∷ []) w.1.1)
+drives_keep (Drives d ∷ is) ts w = All-cons (IsWellDriven (ts ++ trees_in is)) d (drives_in is) (drive_keeps ts (trees_in is) d w.0) (drives_keep is ts w.1)
 
 -- what is spelled by lines keeps it
 pub spelled_keeps : (text : Text) (ts : List Tree) (ds : List Drive) → Spells text ts ds → AreWellFormed ts ds
 spelled_keeps text ts ds s =
     let w : AreWellFormed (trees_in s.items) (drives_in s.items) = record {
-      declared = trees_keep s.items [] [] s.well;
-      distinct = names_keep s.items [] [] s.well (distinct_by_test [] refl);
-      driven = drives_keep s.items [] [] s.well;
+      declared = trees_keep s.items [] s.well;
+      distinct = names_keep s.items [] s.well (distinct_by_test [] refl);
+      driven = drives_keep s.items [] s.well;
     } in
     subst (λ x. AreWellFormed x ds) (sym s.declared) (subst (λ x. AreWellFormed (trees_in s.items) x) (sym s.driven) w)
 

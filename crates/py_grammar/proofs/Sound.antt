@@ -1,6 +1,6 @@
 -- What the reader has is what it has read.
 use Rattle.std.proofs.Common.{◌≡◌, ℕ, List, [], ◌∷◌, ◌++◌, Option, Some, None, Bool, true, false, refl, sym, ap, ◌∙◌, append_assoc, append-nil, subst}
-use Rattle.py_body.specs.Tree.{Name, Form, operate, give, Suite, nothing, first, joined, Tree}
+use Rattle.py_body.specs.Tree.{Name, Form, assign, operate, show, give, pass, Suite, nothing, first, joined, Tree}
 use Rattle.py_grammar.specs.declared.line.Line.{Line}
 use Rattle.py_grammar.specs.declared.line.Line.TheVariants as line
 use Rattle.py_grammar.specs.Drive.{Drive}
@@ -44,6 +44,9 @@ grows_by ts o n f w v = (
 
 goes_on_sound : (ts : List Tree) (o : Open) (n : ℕ) (l : Line) → WellOpen ts o → Grows ts o (row n l) (goes_on o n l)
 goes_on_sound ts o n line.End w = tt
+goes_on_sound ts o n (line.Assign x a) w = grows_if ts o _ _ _ (λ e. grows_by ts o n (assign x a) w e)
+goes_on_sound ts o n (line.Show a) w = grows_if ts o _ _ _ (λ e. grows_by ts o n (show a) w e)
+goes_on_sound ts o n line.Pass w = grows_by ts o n pass w tt
 goes_on_sound ts o n (line.Return a) w = grows_if ts o _ _ _ (λ e. grows_by ts o n (give a) w e)
 goes_on_sound ts o n (line.Operate x op atoms) w = grows_if ts o _ _ _ (λ e. grows_by ts o n (operate x op atoms) w e)
 goes_on_sound ts o n (line.Def f ps) w = tt
@@ -63,7 +66,7 @@ pub record Came (rows : List Row) (ts : List Tree) (ds : List Drive) (i : Option
   pub spelled : rows ≡ items_rows items ++ inside_rows i
   pub declared : ts ≡ trees_in items
   pub driven : ds ≡ drives_in items
-  pub well : WellItems [] [] items
+  pub well : WellItems [] items
   pub well_open : WellInside ts i
 
 -- what one list of items behind another has
@@ -81,12 +84,10 @@ drives_in-append [] js = refl
 drives_in-append (Declares t ∷ is) js = drives_in-append is js
 drives_in-append (Drives d ∷ is) js = ap (λ r. d ∷ r) (drives_in-append is js)
 
-well_append : (is js : List Item) (ts : List Tree) (ds : List Drive) → WellItems ts ds is → WellItems (ts ++ trees_in is) (ds ++ drives_in is) js → WellItems ts ds (is ++ js)
-well_append [] js ts ds w v = subst (λ x. WellItems x ds js) (append-nil ts) (subst (λ x. WellItems (ts ++ []) x js) (append-nil ds) v)
-well_append (Declares t ∷ is) js ts ds w v =
-    (w.0, (w.1.0, well_append is js (ts ++ t ∷ []) ds w.1.1 (subst (λ x. WellItems x (ds ++ drives_in is) js) (sym (append_assoc ts (t ∷ []) (trees_in is))) v)))
-well_append (Drives d ∷ is) js ts ds w v =
-    (w.0, well_append is js ts (ds ++ d ∷ []) w.1 (subst (λ x. WellItems (ts ++ trees_in is) x js) (sym (append_assoc ds (d ∷ []) (drives_in is))) v))
+well_append : (is js : List Item) (ts : List Tree) → WellItems ts is → WellItems (ts ++ trees_in is) js → WellItems ts (is ++ js)
+well_append [] js ts w v = subst (λ x. WellItems x js) (append-nil ts) v
+well_append (Declares t ∷ is) js ts w v = (w.0, (w.1.0, well_append is js (ts ++ t ∷ []) w.1.1 (subst (λ x. WellItems x js) (sym (append_assoc ts (t ∷ []) (trees_in is))) v)))
+well_append (Drives d ∷ is) js ts w v = (w.0, well_append is js ts w.1 v)
 
 abbrev pub CameTo : List Row → Option State → Type 0
 CameTo rows None = Unit {0}
@@ -94,13 +95,13 @@ CameTo rows (Some s) = Came rows s.trees s.drives s.inside
 
 -- one more item
 one_item : (rows all : List Row) (ts : List Tree) (ds : List Drive) (i : Option Open) (it : Item) (c : Came rows ts ds i)
-    → all ≡ items_rows c.items ++ item_rows it → WellItems ts ds (it ∷ []) → Came all (ts ++ trees_in (it ∷ [])) (ds ++ drives_in (it ∷ [])) None
+    → all ≡ items_rows c.items ++ item_rows it → WellItems ts (it ∷ []) → Came all (ts ++ trees_in (it ∷ [])) (ds ++ drives_in (it ∷ [])) None
 one_item rows all ts ds i it c e w = record {
   items = c.items ++ it ∷ [];
   spelled = e ∙ ap (λ r. items_rows c.items ++ r) (sym (append-nil (item_rows it))) ∙ sym (items_rows-append c.items (it ∷ [])) ∙ sym (append-nil _);
   declared = ap (λ x. x ++ trees_in (it ∷ [])) c.declared ∙ sym (trees_in-append c.items (it ∷ []));
   driven = ap (λ x. x ++ drives_in (it ∷ [])) c.driven ∙ sym (drives_in-append c.items (it ∷ []));
-  well = well_append c.items (it ∷ []) [] [] c.well (subst (λ x. WellItems x (drives_in c.items) (it ∷ [])) c.declared (subst (λ x. WellItems ts x (it ∷ [])) c.driven w));
+  well = well_append c.items (it ∷ []) [] c.well (subst (λ x. WellItems x (it ∷ [])) c.declared w);
   well_open = tt;
 }
 
@@ -122,8 +123,11 @@ outside_sound rows ts ds n (line.Call f args) c = came_if _ _ _ (λ e.
     subst (λ x. Came (rows ++ row n (line.Call f args) ∷ []) x (ds ++ record { function = f; args = args } ∷ []) None) (append-nil ts)
     (one_item rows _ ts ds None (Drives (record { function = f; args = args })) c (ap (λ r. r ++ row n (line.Call f args) ∷ []) (c.spelled ∙ append-nil _)) (e, tt)))
 outside_sound rows ts ds n line.End c = tt
-outside_sound rows ts ds n (line.Return a) c = tt
+outside_sound rows ts ds n (line.Assign x a) c = tt
 outside_sound rows ts ds n (line.Operate x op atoms) c = tt
+outside_sound rows ts ds n (line.Show a) c = tt
+outside_sound rows ts ds n (line.Return a) c = tt
+outside_sound rows ts ds n line.Pass c = tt
 
 still_sound : (rows : List Row) (ts : List Tree) (ds : List Drive) (o : Open) (r : Row) (p : Option Open) → Came rows ts ds (Some o) → Grows ts o r p → CameTo (rows ++ r ∷ []) (still_inside ts ds p)
 still_sound rows ts ds o r None c g = tt
@@ -150,8 +154,11 @@ goes_sound rows ts ds o n l c = still_sound rows ts ds o (row n l) (goes_on o n 
 -- a line where a body is open
 inside_sound : (rows : List Row) (ts : List Tree) (ds : List Drive) (o : Open) (n : ℕ) (l : Line) → Came rows ts ds (Some o) → CameTo (rows ++ row n l ∷ []) (in_body ts ds o n l)
 inside_sound rows ts ds o n line.End c = end_sound rows ts ds o c
-inside_sound rows ts ds o n (line.Return a) c = goes_sound rows ts ds o n (line.Return a) c
+inside_sound rows ts ds o n (line.Assign x a) c = goes_sound rows ts ds o n (line.Assign x a) c
 inside_sound rows ts ds o n (line.Operate x op atoms) c = goes_sound rows ts ds o n (line.Operate x op atoms) c
+inside_sound rows ts ds o n (line.Show a) c = goes_sound rows ts ds o n (line.Show a) c
+inside_sound rows ts ds o n (line.Return a) c = goes_sound rows ts ds o n (line.Return a) c
+inside_sound rows ts ds o n line.Pass c = goes_sound rows ts ds o n line.Pass c
 inside_sound rows ts ds o n (line.Def f ps) c = tt
 inside_sound rows ts ds o n (line.Call f args) c = tt
 

@@ -13,7 +13,7 @@ use Rattle.py_grammar.specs.declared.script.Declaration.{Declaration}
 use Rattle.py_grammar.specs.declared.script.DriveLine.{DriveLine}
 use Rattle.py_grammar.specs.declared.script.DriveLine.TheVariants as drive
 use Rattle.py_grammar.specs.Drive.{Drive}
-use Rattle.py_grammar.specs.Rules.{declares, takes, binds, assigns, is_operation, has_operation, may_drive}
+use Rattle.py_grammar.specs.Rules.{declares, takes, binds, assigns, may_drive}
 use Rattle.py_grammar.specs.Grammar.{add}
 use Rattle.py_grammar.specs.Script.{declared_tree, drive_of}
 use Rattle.py_grammar.specs.Reader.{outside, only_if, state}
@@ -33,22 +33,18 @@ pub assigns_suite : (x : Name) (ss : List Stmt) → assigns x (suite_of ss) ≡ 
 assigns_suite x [] = refl
 assigns_suite x (s ∷ ss) = ap (λ b. binds x (form_of s.form) || b) (assigns_suite x ss)
 
-pub has_operation_suite : (ss : List Stmt) → has_operation (suite_of ss) ≡ list_any (λ s. is_operation (form_of s.form)) ss
-has_operation_suite [] = refl
-has_operation_suite (s ∷ ss) = ap (λ b. is_operation (form_of s.form) || b) (has_operation_suite ss)
-
 -- a statement behind others
 pub suite_push : (ss : List Stmt) (s : Stmt) → suite_of (ss ++ s ∷ []) ≡ add (suite_of ss) s.line (form_of s.form)
 suite_push [] s = refl
 suite_push (t ∷ ss) s = ap (first t.line (form_of t.form)) (suite_push ss s)
 
 -- a drive that may not stand here
-pub drive_refused : (ts : List Tree) (ds : List Drive) (n : ℕ) (l : Line) (f : Name) (args : List Atom) → l ≡ Call f args → may_drive ts ds f args ≡ false → outside ts ds n l ≡ None
+pub drive_refused : (ts : List Tree) (ds : List Drive) (n : ℕ) (l : Line) (f : Name) (args : List Atom) → l ≡ Call f args → may_drive ts f args ≡ false → outside ts ds n l ≡ None
 drive_refused ts ds n l f args e w = ap (outside ts ds n) e ∙ ap (λ b. only_if b (state ts (ds ++ record { function = f; args = args } ∷ []) None)) w
 
 -- a drive that may, in the program's list
 pub drive_taken : (ts : List Tree) (old new : List DriveLine) (n : ℕ) (l : Line) (f : Name) (args : List Atom) (i : Option OpenBody)
-    → l ≡ Call f args → may_drive ts (map drive_of old) f args ≡ true → new ≡ old ++ drive.Call f args ∷ [] → i ≡ None
+    → l ≡ Call f args → may_drive ts f args ≡ true → new ≡ old ++ drive.Call f args ∷ [] → i ≡ None
     → outside ts (map drive_of old) n l ≡ Some (state ts (map drive_of new) (inside_of i))
 drive_taken ts old new n l f args i e w g h =
     ap (outside ts (map drive_of old) n) e ∙ ap (λ b. only_if b (state ts (map drive_of old ++ record { function = f; args = args } ∷ []) None)) w

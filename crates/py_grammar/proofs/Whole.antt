@@ -1,6 +1,6 @@
 -- The reader takes the rows of every script.
 use Rattle.std.proofs.Common.{◌≡◌, ℕ, List, [], ◌∷◌, ◌++◌, Option, Some, None, refl, sym, ap, ◌∙◌, append_assoc, append-nil}
-use Rattle.py_body.specs.Tree.{Name, Form, operate, give, Suite, nothing, first, joined, Tree}
+use Rattle.py_body.specs.Tree.{Name, Form, assign, operate, show, give, pass, Suite, nothing, first, joined, Tree}
 use Rattle.py_grammar.specs.Drive.{Drive}
 use Rattle.py_grammar.specs.Grammar.{Row, Item, Declares, Drives, add, suite_rows, form_row, end_row, items_rows, trees_in, drives_in, WellForm, WellSuite, WellItems}
 use Rattle.py_grammar.specs.Reader.{State, state, accept}
@@ -37,8 +37,11 @@ module _ (ts : List Tree) (ds : List Drive) (line : ℕ) (name : Name) (params :
   within done = state ts ds (Some (record { line = line; name = name; params = params; done = done }))
 
   form_read : (f : Form) (n : ℕ) (done : Suite) (rest : List Row) → WellForm params done f → run (within done) (form_row n f ∷ rest) ≡ run (within (add done n f)) rest
+  form_read (assign x a) n done rest w = rw w refl
   form_read (operate x op atoms) n done rest w = rw w refl
+  form_read (show a) n done rest w = rw w refl
   form_read (give a) n done rest w = rw w refl
+  form_read pass n done rest w = refl
 
   pub suite_read : (s done : Suite) (rest : List Row) → WellSuite params done s → run (within done) (suite_rows s ++ rest) ≡ run (within (joined done s)) rest
   suite_read nothing done rest w = ap (λ c. run (within c) rest) (sym (joined-nothing done))
@@ -47,7 +50,7 @@ module _ (ts : List Tree) (ds : List Drive) (line : ℕ) (name : Name) (params :
       ∙ ap (λ c. run (within c) rest) (joined_assoc done (first n f nothing) more)
 
 -- every script is read
-pub items_read : (is : List Item) (ts : List Tree) (ds : List Drive) → WellItems ts ds is → run (state ts ds None) (items_rows is) ≡ Some (state (ts ++ trees_in is) (ds ++ drives_in is) None)
+pub items_read : (is : List Item) (ts : List Tree) (ds : List Drive) → WellItems ts is → run (state ts ds None) (items_rows is) ≡ Some (state (ts ++ trees_in is) (ds ++ drives_in is) None)
 items_read [] ts ds w = rw (append-nil ts, append-nil ds) refl
 items_read (Declares t ∷ is) ts ds w =
     rw w.0 (ap (run (within ts ds t.line t.name t.params nothing)) (append_assoc (suite_rows t.suite) (end_row ∷ []) (items_rows is))

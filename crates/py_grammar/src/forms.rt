@@ -116,12 +116,14 @@ fn lone(line: Line, tokens: &[Token<'_>]) -> Option<Line>
 }
 
 /// The atom that is the only token.
+#[tactic(auto, using(crate::proofs::Eachs::only_none))]
 fn lone_atom(alloc: Global, tokens: &[Token<'_>]) -> Result<Option<Atom>, NoMemory>
     ensures { IfOk result (λ atom. atom ≡ only_atom (map lexeme_of tokens.now)) }
 {
     match tokens {
+        [] => Ok(None),
         [atom] => atom_of(alloc, atom),
-        _ => Ok(None),
+        [_, _, ..] => Ok(None),
     }
 }
 
