@@ -41,7 +41,7 @@ pub stands_named : (m : VirtualMachine) → Stands m → AreNamed (objects_of m)
 stands_named m stands = stands.keeps.named
 
 -- the objects that a machine begins with fit
-pub first_fit : AllFit first_objects
+first_fit : AllFit first_objects
 first_fit zero p is = subst (λ q. AllBelow (length first_objects) (payload_numbers q) × IsMade first_objects q) (let same : payload.None ≡ p = cc in same) (tt, tt)
 first_fit (suc zero) p is = subst (λ q. AllBelow (length first_objects) (payload_numbers q) × IsMade first_objects q) (let same : class_payload NameError ≡ p = cc in same) (tt, tt)
 first_fit (suc (suc zero)) p is = subst (λ q. AllBelow (length first_objects) (payload_numbers q) × IsMade first_objects q) (let same : class_payload OverflowError ≡ p = cc in same) (tt, tt)

@@ -59,9 +59,11 @@ text_of (payload.Exception e) = None
 abbrev pub in_range : ℤ → Bool
 in_range n = int_le (negsuc (2 ^ 127 - 1)) n && int_le n (pos (2 ^ 127 - 1))
 
+-- a whole number, where it fits those bits
 abbrev pub whole : ℤ → Reply
 whole n = if in_range n then Has (payload.Int n) else Fails OverflowError (codes "integer out of range")
 
+-- an operator as it is written
 abbrev pub sign_of : Arithmetic → List ℕ
 sign_of arithmetic.Add = codes "+"
 
@@ -69,9 +71,11 @@ sign_of arithmetic.Add = codes "+"
 abbrev pub not_supported : Arithmetic → Name → Name → Reply
 not_supported op left right = Fails TypeError (codes "'" ++ (sign_of op ++ (codes "' not supported between instances of '" ++ (left ++ (codes "' and '" ++ (right ++ codes "'"))))))
 
+-- an operator at two numbers
 abbrev pub computed : Arithmetic → ℤ → ℤ → ℤ
 computed arithmetic.Add m n = m +ℤ n
 
+-- a function's reply where both values are there, else the other one
 abbrev pub on_both : {A : Type 0} → Option A → Option A → (A → A → Reply) → Reply → Reply
 on_both None b f other = other
 on_both (Some x) None f other = other
@@ -83,7 +87,7 @@ abbrev pub binary : Arithmetic → Payload → Payload → Name → Name → Rep
 binary arithmetic.Add p q left right =
     on_both (text_of p) (text_of q) (λ s t. Has (payload.Str (s ++ t))) (on_both (number_of p) (number_of q) (λ m n. whole (computed arithmetic.Add m n)) (not_supported arithmetic.Add left right))
 
--- the reply to a request
+-- the reply to a request: an operator's by its operands, and None to what is shown
 abbrev pub Replies : List Payload → Request → Reply → Type 0
 Replies objects (request.Binary op a b) reply =
     (p : Payload) × (q : Payload) × (left : Name) × (right : Name) × HasPayload objects a p × HasPayload objects b q

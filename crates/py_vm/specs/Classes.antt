@@ -8,6 +8,7 @@ use Rattle.py_objects.specs.declared.payload.ErrorKind.TheVariants.{NameError, O
 use Rattle.py_objects.specs.Objects.{HasPayload, class_object, declared, name_of, error_kinds}
 use Rattle.py_vm.specs.declared.exceptions.ExceptionZoo.{ExceptionZoo}
 
+-- the class of the exceptions of a kind
 abbrev pub class_of : ExceptionZoo → ErrorKind → PyTypeRef
 class_of zoo NameError = zoo.name_error
 class_of zoo OverflowError = zoo.overflow_error
