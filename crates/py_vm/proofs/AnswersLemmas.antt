@@ -7,7 +7,7 @@ use Rattle.py_objects.specs.declared.request.Arithmetic.{Arithmetic}
 use Rattle.py_objects.specs.declared.request.Arithmetic.TheVariants as arithmetic
 use Rattle.py_objects.specs.Objects.{Name, IsMade}
 use Rattle.py_vm.specs.Answers.{Reply, Has, IsTypeName, number_of, text_of, whole, not_supported, computed, on_both, binary}
-use Rattle.py_vm.specs.Replying.{joined, IsBinary, IsRefused}
+use Rattle.py_vm.specs.Replying.{joined, IsBinary}
 
 -- each payload that is made of what it needs has a type with a name
 pub has_type_name : (objects : List Payload) (p : Payload) → IsMade objects p → (n : Name) × IsTypeName objects p n
@@ -53,17 +53,3 @@ numbers_computed objects op p q m n m' n' reply made_p made_q none first second 
     let one = ap (λ a. on_both a (number_of q) (λ m n. whole (computed op m n)) (not_supported op left.0 right.0)) first in
     let two = ap (λ b. on_both (Some m) b (λ m n. whole (computed op m n)) (not_supported op left.0 right.0)) second in
     (left.0, right.0, left.1, right.1, is ∙ ap (λ k. whole (computed op k n')) same_m ∙ ap (λ k. whole (computed op m k)) same_n ∙ sym (all ∙ one ∙ two))
-
--- all else is refused
-pub first_refused : (objects : List Payload) (op : Arithmetic) (p q : Payload) (reply : Reply)
-    → joined (text_of p) (text_of q) ≡ None → number_of p ≡ None → IsRefused objects op p q reply → IsBinary objects op p q reply
-first_refused objects op p q reply none first (left, right, is_left, is_right, is) =
-    let one = ap (λ a. on_both a (number_of q) (λ m n. whole (computed op m n)) (not_supported op left right)) first in
-    (left, right, is_left, is_right, is ∙ sym (numbers_or_refused op p q left right none ∙ one))
-
-pub second_refused : (objects : List Payload) (op : Arithmetic) (p q : Payload) (m : ℤ) (reply : Reply)
-    → joined (text_of p) (text_of q) ≡ None → number_of p ≡ Some m → number_of q ≡ None → IsRefused objects op p q reply → IsBinary objects op p q reply
-second_refused objects op p q m reply none first second (left, right, is_left, is_right, is) =
-    let one = ap (λ a. on_both a (number_of q) (λ m n. whole (computed op m n)) (not_supported op left right)) first in
-    let two = ap (λ b. on_both (Some m) b (λ m n. whole (computed op m n)) (not_supported op left right)) second in
-    (left, right, is_left, is_right, is ∙ sym (numbers_or_refused op p q left right none ∙ one ∙ two))

@@ -45,6 +45,7 @@ value_taken code v s free = by_unit (slice_get code.code.instructions.items (s.a
     by_op BinaryOperation u free = (pushed v u, refl)
     by_op PrintExpr u free = (u, refl)
     by_op _ u free = absurd free
+
     by_unit : (unit : Option CodeUnit) (u : State) → IsFree (unit_answered unit v u) → (t : State) × (unit_answered unit v u ≡ Goes t)
     by_unit None u free = absurd free
     by_unit (Some unit) u free = by_op unit.op u free

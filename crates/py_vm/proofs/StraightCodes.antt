@@ -92,12 +92,15 @@ free_answered objects code line at stack locals n ts t is free more run = by n r
   where
     s : State
     s = at_unit (suc at) stack locals expect.Answer
+
     asked : slice_get code.code.instructions.items (suc at - 1) ≡ Some (unit_of line)
     asked = let same : suc at - 1 ≡ at = omega arith in ap (slice_get code.code.instructions.items) same ∙ is
+
     hears : (m : ℕ) (w : GotAnswer) (us : List Own) → ByStep (receive code w s) us (λ s1 mid. Reaches objects code m s1 mid t) → IsFreeAt code t.wants t
     hears m (got.Value v) us step = more v m us (subst (λ u. ByStep (unit_answered u v (waiting expect.Go s)) us (λ s1 mid. Reaches objects code m s1 mid t)) asked step)
     hears m (got.Raise e) us step = free_ended objects code m s step.0 t step.2
     hears m (got.Stop v) us step = absurd step
+
     by : (m : ℕ) → Reaches objects code m s ts t → IsFreeAt code t.wants t
     by zero run = free_at code s t run.1 (λ v. subst (λ u. IsFree (unit_answered u v (waiting expect.Go s))) (sym asked) (free v))
     by (suc m) run = hears m run.0 run.1 run.3

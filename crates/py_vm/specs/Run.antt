@@ -50,6 +50,7 @@ pub record State : Type 0 where
   pub stack : List Act  -- the running activations, the innermost first
   pub made : List Activation  -- those that were made, the first of which has number 1
 
+-- before the first event
 abbrev pub start : State
 start = record { done = 0; phase = Idle; stack = []; made = [] }
 
@@ -58,10 +59,12 @@ abbrev pub top_asks : Option Request → Option PyBaseExceptionRef → List Act 
 top_asks r own [] = []
 top_asks r own (a ∷ stack) = record { number = a.number; asks = r; own = own } ∷ stack
 
+-- the running activations around the innermost one
 abbrev pub rest_of : List Act → List Act
 rest_of [] = []
 rest_of (a ∷ stack) = stack
 
+-- how an activation was left that ended like this
 abbrev pub left_by : Ending → Left
 left_by (ending.Return v) = By_return v
 left_by (ending.Raise e) = By_raise e
@@ -78,6 +81,7 @@ after s (event.Round a at) = s
 after s (event.Yield a v at) = record { done = s.done; phase = Due (By_yield v); stack = rest_of s.stack; made = s.made }
 after s (event.End a e at) = record { done = s.done; phase = Due (left_by e); stack = rest_of s.stack; made = s.made }
 
+-- the state behind a list of events
 abbrev pub state_after : State → List Event → State
 state_after s [] = s
 state_after s (e ∷ es) = state_after (after s e) es

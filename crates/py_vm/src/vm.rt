@@ -91,11 +91,11 @@ impl VirtualMachine {
         // Whatever comes of it, the journal is one of the drives so far and this one.
         ensures adds { Adds drive self.old self.new }
         ensures turns { length (events_of self.new) ≤ length (events_of self.old) + turns }
-        // An answer is that of the last event, the drive's result; without an answer there is no result, and where memory
-        // didn't run out the turns are spent.
+        // An answer is that of the last event, the drive's result. Without an answer there is no result: turns are left
+        // where memory ran out, else they are spent.
         ensures done { OnOk result (Stands self.new × (done_of self.new ≡ suc (done_of self.old))) }
         ensures answer { IfOk result (λ answer. EndsBy (events_of self.new) (suc (done_of self.old)) answer) }
-        ensures out_of_memory { result ≡ Err VmFault.NoMemory → done_of self.new ≡ done_of self.old }
+        ensures out_of_memory { result ≡ Err VmFault.NoMemory → (length (events_of self.new) < length (events_of self.old) + turns) × (done_of self.new ≡ done_of self.old) }
         ensures out_of_turns { result ≡ Err VmFault.OutOfTurns → (length (events_of self.new) ≡ length (events_of self.old) + turns) × (done_of self.new ≡ done_of self.old) }
     {
         self.stage = first_stage(drive);
