@@ -59,7 +59,7 @@ none_at f view toks i d r low is k =
     sym (ap (λ l. each f (map view l)) cut ∙ ap (each f) (map-append view (take i toks) (get_or toks i d ∷ drop (i + 1) toks))
     ∙ each-none f (map view (take i toks)) (view (get_or toks i d)) (map view (drop (i + 1) toks)) (sym k ∙ is))
 
--- none of two tokens is the only one
+-- of two tokens or more, none is the only one
 pub only_none : (tokens : List Token) → 2 ≤ length tokens → only_atom (map lexeme_of tokens) ≡ None
 only_none [] h = absurd (omega arith)
 only_none (t ∷ []) h = absurd (omega arith)

@@ -5,7 +5,7 @@ use py_body::{Atom, AtomList, Body, Operator, Stmt, StmtForm};
 
 const SCRIPT: &[u8] =
     b"\n# two functions\ndef f a b\nx = (add a -007)\n\ny = 'c d'\nshow y\npass\nreturn None\nend
-call f 33 True\ndef g\nend\ncall g\ncall f '' False\n";
+call f 33 False\ndef g\nend\ncall g\ncall f '' True\n";
 
 /// A function of a script.
 fn function(script: &Script, place: usize) -> Option<&Body> {
@@ -106,7 +106,7 @@ fn a_drive_keeps_its_function_and_its_literals(rt: HostRuntime) {
     match script.drives.get(2) {
         Some(DriveLine::Call(name, args)) => {
             assert_eq!(rt; name.as_slice(), ['f'].as_slice());
-            assert!(rt; are(args, &[("Str", 0, &[]), ("Bool", 0, &[])]));
+            assert!(rt; are(args, &[("Str", 0, &[]), ("Bool", 1, &[])]));
         }
         None => assert!(rt; false),
     }
