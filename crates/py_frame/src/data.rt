@@ -1,8 +1,8 @@
 //! Instructions on the stack, and operators.
 
-ghost use Rattle.std.specs.Prelude.{◌≡◌, ◌+◌, ◌^◌, ◌<◌, slice_get, IfOk};
+ghost use Rattle.std.specs.Prelude.{◌≡◌, ◌+◌, ◌^◌, ◌<◌, None, slice_get, IfOk};
 ghost use Rattle.py_code.specs.Operators.{binary_operators};
-ghost use Rattle.py_frame.specs.Rows.{pop, arithmetic_of, binary_operation, print_expr, return_value};
+ghost use Rattle.py_frame.specs.Rows.{pop, arithmetic_of, binary_operation, next, print_expr, return_value, waiting};
 ghost use Rattle.py_frame.specs.UnitSteps.{effect};
 
 use crate::execute::UnitStep;
@@ -38,9 +38,7 @@ impl Frame {
         let Some(left) = self.pop() else {
             return UnitStep::Stuck;
         };
-        self.goes_on();
-        self.waits(Expect::Answer);
-        UnitStep::Tells(FrameStep::Ask(Request::Binary(operator, left, right), None))
+        self.asks(Request::Binary(operator, left, right))
     }
 
     /// Asks for the top to be shown.
@@ -51,9 +49,18 @@ impl Frame {
         let Some(value) = self.pop() else {
             return UnitStep::Stuck;
         };
+        self.asks(Request::Show(value))
+    }
+
+    /// Asks from the unit that runs.
+    fn asks(&mut self, request: Request) -> UnitStep
+        requires { self.old.at + 1 < 2 ^ 32 }
+        ensures told { result ≡ UnitStep.Tells (FrameStep.Ask request None) }
+        ensures waits { self.new ≡ waiting Expect.Answer (next self.old) }
+    {
         self.goes_on();
         self.waits(Expect::Answer);
-        UnitStep::Tells(FrameStep::Ask(Request::Show(value), None))
+        UnitStep::Tells(FrameStep::Ask(request, None))
     }
 
     /// Ends by the top.

@@ -12,11 +12,7 @@ use py_objects::{GotAnswer, PyObjectRef};
 
 impl Frame {
     /// Takes an answer: a value goes to the unit that asked, a raise ends the frame there.
-    pub(crate) fn receive(
-        &mut self,
-        code: &PyCode,
-        answer: GotAnswer,
-    ) -> Result<UnitStep, NoMemory>
+    pub(crate) fn receive(&mut self, code: &PyCode, answer: GotAnswer) -> Result<UnitStep, NoMemory>
         ensures { IfOk result (λ step. receive code.now answer self.old ≡ effect (self.old.at - 1) step self.new) }
     {
         match answer {

@@ -96,6 +96,44 @@ fn an_addition_asks_for_its_operands_in_order(rt: HostRuntime) -> Result<(), Fai
 }
 
 #[test]
+fn a_value_that_is_shown_leaves_nothing_on_the_stack(rt: HostRuntime) -> Result<(), Fail> {
+    let alloc = rt.alloc();
+    let units = [
+        (Instruction::LoadFast, 0),
+        (Instruction::LoadFast, 1),
+        (Instruction::PrintExpr, 0),
+        (Instruction::ReturnValue, 0),
+    ];
+    let code = code_of(alloc, &units, LiteralList::new(alloc))?;
+    let mut store = Store::new(alloc)?;
+    let mut frame = frame_of(alloc, &code)?;
+    let asks = FrameStep::Ask(Request::Show(object(8)), None);
+    let step = last_of(&rt, 3, &mut frame, &code, &mut store)?;
+    assert!(rt; step == UnitStep::Tells(asks));
+    frame.receive(&code, GotAnswer::Value(object(0)))?;
+    let returns = FrameStep::Return(object(7));
+    let step = last_of(&rt, 1, &mut frame, &code, &mut store)?;
+    assert!(rt; step == UnitStep::Tells(returns));
+    Ok(())
+}
+
+#[test]
+fn an_answer_to_no_question_is_stuck(rt: HostRuntime) -> Result<(), Fail> {
+    let alloc = rt.alloc();
+    let code = code_of(
+        alloc,
+        &[(Instruction::LoadFast, 0)],
+        LiteralList::new(alloc),
+    )?;
+    let mut store = Store::new(alloc)?;
+    let mut frame = frame_of(alloc, &code)?;
+    last_of(&rt, 1, &mut frame, &code, &mut store)?;
+    let step = frame.receive(&code, GotAnswer::Value(object(15)))?;
+    assert!(rt; step == UnitStep::Stuck);
+    Ok(())
+}
+
+#[test]
 fn a_constant_stands_behind_its_prefixes(rt: HostRuntime) -> Result<(), Fail> {
     let alloc = rt.alloc();
     let units = [
@@ -131,6 +169,7 @@ fn what_has_no_meaning_is_stuck(rt: HostRuntime) -> Result<(), Fail> {
         (Instruction::LoadConst, 0),
         (Instruction::StoreFast, 0),
         (Instruction::BinaryOperation, 6),
+        (Instruction::PrintExpr, 0),
         (Instruction::Jump, 0),
     ];
     for (op, arg) in cases {

@@ -83,6 +83,7 @@ impl Store {
     pub fn into_payloads(self) -> PayloadList
         ensures { result ≡ self }
     {
-        self.payloads
+        let Store { payloads, none: _ } = self;
+        payloads
     }
 }

@@ -29,6 +29,7 @@ fn new_int(rt: &impl Abort, store: &mut Store, value: i128) -> Result<PyObjectRe
 fn a_new_object_has_the_next_number(rt: HostRuntime) -> Result<(), Fail> {
     let mut store = Store::new(rt.alloc())?;
     assert_eq!(rt; store.len(), 1);
+    assert_eq!(rt; store.none(), object(0));
     // Objects of one value are different objects.
     let objects: [(i128, u64, u64); 4] = [(42, 1, 2), (-7, 2, 3), (42, 3, 4), (i128::MIN, 4, 5)];
     for (value, number, len) in objects {
