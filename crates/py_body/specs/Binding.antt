@@ -16,6 +16,7 @@ arity_of operator.Add = 2
 abbrev pub bound : List Name → Name → List Name
 bound names x = if list_any (bytes_eq x) names then names else names ++ x ∷ []
 
+-- the same of a name that there may be
 abbrev pub bound_if : List Name → Option Name → List Name
 bound_if names None = names
 bound_if names (Some x) = bound names x

@@ -229,21 +229,6 @@ fn each_literal_is_a_constant(rt: HostRuntime) -> Result<(), Fail> {
 }
 
 #[test]
-fn a_show_alone_takes_two_units(rt: HostRuntime) -> Result<(), Fail> {
-    let mut body = header(rt.alloc(), 4)?;
-    add_line(&mut body, 5, StmtForm::Show(Atom::Bool(false)))?;
-    let mut names = Names::new(rt.alloc());
-    let code = compile_body(rt.alloc(), &mut names, &body)?.code;
-    let want = [
-        (Instruction::LoadConst, 0, 5),
-        (Instruction::PrintExpr, 0, 5),
-        (Instruction::ReturnConst, 1, 4),
-    ];
-    has_units(&rt, &code, &want);
-    Ok(())
-}
-
-#[test]
 fn a_pass_alone_takes_no_unit(rt: HostRuntime) -> Result<(), Fail> {
     let mut body = header(rt.alloc(), 4)?;
     add_line(&mut body, 5, StmtForm::Pass)?;
