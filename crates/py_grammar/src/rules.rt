@@ -11,7 +11,7 @@ ghost use Rattle.py_grammar.specs.Rules.{may_operate as may_be_operated};
 ghost use Rattle.py_body.specs.Binding.{arity_of as arity_in};
 
 use crate::script::{DeclList, Declaration};
-use py_body::{Atom, AtomList, Operator, ParamList, Stmt, StmtForm, StmtList};
+use py_body::{Atom, AtomList, Operator, ParamList, Stmt, StmtList};
 use py_code::{PyText, same_text};
 
 fn is_among(name: &PyText, names: &[PyText]) -> bool
@@ -139,12 +139,9 @@ pub fn may_drive(declarations: &DeclList, name: &PyText, args: &AtomList) -> boo
 fn binds(stmt: &Stmt, name: &PyText) -> bool
     ensures { result ≡ binds_name name.now (form_of stmt.now.form) }
 {
-    match &stmt.form {
-        StmtForm::Assign(target, _) => same_text(name, target),
-        StmtForm::Operate(target, _, _) => same_text(name, target),
-        StmtForm::Show(_) => false,
-        StmtForm::Return(_) => false,
-        StmtForm::Pass => false,
+    match stmt.form.target() {
+        Some(target) => same_text(name, target),
+        None => false,
     }
 }
 
