@@ -17,5 +17,7 @@ pub mod Answering
 mod NoteLemmas
 mod ReprLemmas
 -- journals worked by hand
+mod Journals
 mod WorkedLemmas
+mod WorkedShowLemmas
 mod OneText

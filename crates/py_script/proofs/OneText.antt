@@ -1,5 +1,5 @@
 -- Each whole run of one call of the worked function writes the same text.
-use Rattle.std.proofs.Common.{◌≡◌, ℕ, suc, List, [], ◌∷◌, ◌++◌, Option, Some, None, ◌<◌, ◌≤◌, refl, sym, ap, subst, inl, inr, ◌∙◌, ⊎_elim, arith, length, append-nil}
+use Rattle.std.proofs.Common.{◌≡◌, ℕ, suc, List, [], ◌∷◌, ◌++◌, Option, Some, None, ◌<◌, ◌≤◌, refl, sym, ap, subst, inl, ◌∙◌, ⊎_elim, arith, length, append-nil}
 use Rattle.std.specs.Prelude.{ℤ, pos, ◌+ℤ◌, Bool, true, false, if◌then◌else◌, codes, slice_get}
 use Rattle.std.specs.Fmt.{signed_decimal}
 use Rattle.py_objects.specs.declared.refs.PyBaseExceptionRef.{PyBaseExceptionRef}
@@ -21,15 +21,17 @@ use Rattle.py_objects.specs.declared.event.Event.TheVariants as event
 use Rattle.py_objects.specs.Objects.{Obj, HasPayload, class_object, declared}
 use Rattle.py_objects.specs.Own.{Own, Asks, Gets, Ends, whose, own_of, own_events, told_by}
 use Rattle.py_objects.specs.Telling.{Given, Failed, AfterValue, Asked, Answered, Answers}
+use Rattle.py_body.specs.Tree.{Tree}
 use Rattle.py_body.specs.Trace.{IsBegun, Ended}
 use Rattle.py_vm.specs.declared.drive.Drive.{Drive as Question}
 use Rattle.py_vm.specs.declared.drive.Drive.TheVariants.{Call}
-use Rattle.py_vm.specs.Answers.{Reply, Has, Fails, Replies, Gives, whole, in_range}
+use Rattle.py_vm.specs.Answers.{Reply, Has, Fails, Replies, Gives, IsRaised, whole, in_range}
 use Rattle.py_vm.specs.Run.{Left, left_by, Phase, Idle, Asking, Going, Made, Due, Act, Activation, State, start, after, state_after, question, IsTop, MayCome, Comes, Answers_call}
 use Rattle.py_script.specs.Whole.{AreAsked, Asks as IsAsked, AreObjects, Traces}
 use Rattle.py_script.specs.Text.{bytes_of, class_name, details, events_text, items_of, numbered, payload_of, raised, repr_within, result_text, shown, str_by, str_within}
 use Rattle.py_script.specs.Worked.{Writes, call_of, class_entry, events, exception, function, greatest, objects, overflow_by, overflow_objects, trees}
-use Rattle.py_script.proofs.WorkedLemmas.{ascii_bytes, begun, decimal_1, decimal_45, entry_of_f, few_asked, gives_sum, is_run, overflow_is_run, some_is, traced_by}
+use Rattle.py_script.proofs.Journals.{ascii_bytes, begun, decimal_1, decimal_45, entry_of, few_asked, gives_sum, gotten, some_is, traced_by}
+use Rattle.py_script.proofs.WorkedLemmas.{is_run, overflow_is_run}
 
 -- how a drive's answer tells an ending
 abbrev answer_of : Ending → DriveAnswer
@@ -226,11 +228,7 @@ module _ (store : List Payload) (qs : List Question) (m n : ℤ) (line : List �
   ends_it K k (got.Raise e) ts h = k.1 e ts h
 
   got_it : (K : AfterValue) → EndsIt K → (w : GotAnswer) (ts : List Own) → Answered (Gets w ∷ ts) K → EndedBy w ts
-  got_it K k w ts (inl none) = absurd (cc none.0)
-  got_it K k w ts (inr some) =
-      let same : w ≡ some.0 = cc some.2 in
-      let rest : ts ≡ some.1 = cc some.2 in
-      ends_it K k w ts (subst (λ (xs : List Own). Answers w xs K) (sym rest) (subst (λ (w : GotAnswer). Answers w some.1 K) (sym same) some.3))
+  got_it K k w ts h = ends_it K k w ts (gotten K w ts h)
 
   -- the operands of the sum
   abbrev AreNumbers : Obj → Obj → Type 0
@@ -284,7 +282,7 @@ module _ (store : List Payload) (qs : List Question) (m n : ℤ) (line : List �
   making f (a ∷ b ∷ c ∷ vs) before es o few q t h = absurd q.1.1.1
   making f (a ∷ b ∷ []) before es o few q t h =
       let made : Activation = record { function = f; args = a ∷ b ∷ [] } in
-      let trace = traced_by store f (a ∷ b ∷ []) _ (entry_of_f store f o q.0) (t made (kept (at 0 (Made f) [] (made ∷ [])) es made refl)) in
+      let trace = traced_by function store f (a ∷ b ∷ []) _ (entry_of function store f o q.0) (t made (kept (at 0 (Made f) [] (made ∷ [])) es made refl)) in
       entry_behind f a b _ es (q.1.0, q.1.1.0) few (begun store function (a ∷ b ∷ []) (own_events 1 es) trace) (h.0.1, h.1)
 
   making_behind : (before es : List Event) → AreObjects trees store → AreAsked store (call_of m n ∷ []) qs → Tells (at 0 Asking [] []) es → Follows before (at 0 Asking [] []) es → events_text store es ≡ line
@@ -324,26 +322,27 @@ text_of_sum m n i store es r d =
     es r.are_objects r.are_asked (r.run.tells 0) (r.run.comes, d.done)
 
 -- the class of the exception, by the name under which it is declared
-class_of : (store : List Payload) (c : Obj) → AreObjects trees store → declared store (codes "OverflowError") ≡ Some c → HasPayload store c (class_entry OverflowError)
-class_of store c o e =
+class_of : (ts : List Tree) (store : List Payload) (c : Obj) → AreObjects ts store → declared store (codes "OverflowError") ≡ Some c → HasPayload store c (class_entry OverflowError)
+class_of ts store c o e =
     let entry = o.classes 1 OverflowError refl in
     subst (λ (c : Obj). HasPayload store c (class_entry OverflowError)) (some_is _ _ (sym entry.1 ∙ e)) entry.2
 
 -- the exception is written
+pub raise_line : (ts : List Tree) (store : List Payload) → AreObjects ts store → (before : List Event) (e : PyBaseExceptionRef) → IsRaised store before OverflowError (codes "integer out of range") e → result_text store 1 (answer.Raises e) ≡ codes "1 raises OverflowError: integer out of range\n"
+raise_line ts store o before e h =
+    ap (λ (p : Option Payload). numbered 1 (codes " raises " ++ raised store p)) h.entry
+    ∙ (ap (λ (p : Option Payload). numbered 1 (codes " raises " ++ (bytes_of (class_name p) ++ details store (items_of (payload_of store h.body.args))))) (class_of ts store (class_object h.body.class) o h.class)
+    ∙ (ap (λ (p : Option Payload). numbered 1 (codes " raises " ++ (bytes_of (codes "OverflowError") ++ details store (items_of p)))) h.args
+    ∙ (ap (λ (p : Option Payload). numbered 1 (codes " raises " ++ (bytes_of (codes "OverflowError") ++ (codes ": " ++ str_by (str_within 999 store) store h.argument p)))) h.message
+    ∙ (first_line (codes " raises " ++ (bytes_of (codes "OverflowError") ++ (codes ": " ++ bytes_of (codes "integer out of range"))))
+    ∙ (ap (λ (name : List ℕ). codes "1" ++ ((codes " raises " ++ (name ++ (codes ": " ++ bytes_of (codes "integer out of range")))) ++ codes "\n")) (ascii_bytes (codes "OverflowError") refl)
+    ∙ ap (λ (text : List ℕ). codes "1" ++ ((codes " raises " ++ (codes "OverflowError" ++ (codes ": " ++ text))) ++ codes "\n")) (ascii_bytes (codes "integer out of range") refl))))))
+
+-- so is what a raise ends
 of_raise : (store : List Payload) → AreObjects trees store → (before : List Event) (w : GotAnswer) → Gives store before (Fails OverflowError (codes "integer out of range")) w → WritesAt store (codes "1 raises OverflowError: integer out of range\n") w
 of_raise store o before (got.Value v) h = absurd h
 of_raise store o before (got.Stop v) h = absurd h
-of_raise store o before (got.Raise e) h = (
-  ending.Raise e,
-  λ ts t. t,
-  ap (λ (p : Option Payload). numbered 1 (codes " raises " ++ raised store p)) h.entry
-      ∙ (ap (λ (p : Option Payload). numbered 1 (codes " raises " ++ (bytes_of (class_name p) ++ details store (items_of (payload_of store h.body.args))))) (class_of store (class_object h.body.class) o h.class)
-      ∙ (ap (λ (p : Option Payload). numbered 1 (codes " raises " ++ (bytes_of (codes "OverflowError") ++ details store (items_of p)))) h.args
-      ∙ (ap (λ (p : Option Payload). numbered 1 (codes " raises " ++ (bytes_of (codes "OverflowError") ++ (codes ": " ++ str_by (str_within 999 store) store h.argument p)))) h.message
-      ∙ (first_line (codes " raises " ++ (bytes_of (codes "OverflowError") ++ (codes ": " ++ bytes_of (codes "integer out of range"))))
-      ∙ (ap (λ (name : List ℕ). codes "1" ++ ((codes " raises " ++ (name ++ (codes ": " ++ bytes_of (codes "integer out of range")))) ++ codes "\n")) (ascii_bytes (codes "OverflowError") refl)
-      ∙ ap (λ (text : List ℕ). codes "1" ++ ((codes " raises " ++ (codes "OverflowError" ++ (codes ": " ++ text))) ++ codes "\n")) (ascii_bytes (codes "integer out of range") refl)))))),
-)
+of_raise store o before (got.Raise e) h = (ending.Raise e, λ ts t. t, raise_line trees store o before e h)
 
 -- the text of each sum out of range
 pub text_of_overflow : (m n : ℤ) → in_range (m +ℤ n) ≡ false → Writes m n (codes "1 raises OverflowError: integer out of range\n")

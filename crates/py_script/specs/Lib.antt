@@ -6,8 +6,9 @@ pub mod Text
 pub mod Words
 -- when each answer of the top call comes
 pub mod Causes
--- a script worked by hand
+-- scripts worked by hand
 pub mod Worked
+pub mod WorkedShow
 -- what functions inside the crate promise each other
 pub mod Steps
 pub mod Loaded

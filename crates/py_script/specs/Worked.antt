@@ -78,7 +78,7 @@ objects_by f = objects_of f (pos 33) (pos 12) (payload.Int (pos 45) ∷ [])
 abbrev pub objects : List Payload
 objects = objects_by (function_entry (codes "f") 0)
 
--- the n-th drive calls f, whose n-th activation is entered; these events follow
+-- the n-th drive calls the function, whose n-th activation is entered; these events follow
 abbrev pub entered : ℕ → List Event → List Event
 entered n events = event.Drive n ∷ event.Make n (object 6) (object 7 ∷ object 8 ∷ []) ∷ event.Resume n Start ∷ events
 
@@ -135,10 +135,12 @@ abbrev pub error_entry : ℕ → Payload
 error_entry class = payload.Exception (record { class = record { number = class }; args = object 10 })
 
 -- the objects of a run that raises: the text 9, a tuple of it, 10, and an exception of the class with this number, 11
+abbrev pub raising_by : Payload → ℕ → List Payload → List Payload
+raising_by f class more = objects_of f greatest (pos 1) (payload.Str (codes "integer out of range") ∷ payload.Tuple (object 9 ∷ []) ∷ error_entry class ∷ more)
+
+-- the same of the script's function
 abbrev pub raising_objects : ℕ → List Payload → List Payload
-raising_objects class more =
-    objects_of (function_entry (codes "f") 0) greatest (pos 1)
-    (payload.Str (codes "integer out of range") ∷ payload.Tuple (object 9 ∷ []) ∷ error_entry class ∷ more)
+raising_objects class more = raising_by (function_entry (codes "f") 0) class more
 
 -- the objects where OverflowError is raised
 abbrev pub overflow_objects : List Payload

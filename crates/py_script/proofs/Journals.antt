@@ -1,0 +1,314 @@
+-- What is said of every journal worked by hand, whose script has one function.
+use Rattle.std.proofs.Common.{◌≡◌, ℕ, zero, suc, List, [], ◌∷◌, ◌++◌, Option, Some, None, Bool, true, false, ◌&&◌, ◌<◌, ◌≤◌, refl, sym, ap, subst, inl, inr, lit<, lit≤, ◌∙◌, arith, length}
+use Rattle.std.proofs.lemmas.Fmt.{decimal_digit, decimal_step}
+use Rattle.std.proofs.lemmas.Bool.{ltb-true}
+use Rattle.std.proofs.lemmas.Str.{encode_ascii}
+use Rattle.std.specs.Prelude.{ℤ, pos, ◌+ℤ◌, codes, decimal, slice_get, Contains, map, nat_lt, eqb, if◌then◌else◌}
+use Rattle.std.specs.List.{list_all}
+use Rattle.py_objects.specs.declared.refs.PyBaseExceptionRef.{PyBaseExceptionRef}
+use Rattle.py_objects.specs.declared.payload.Payload.{Payload}
+use Rattle.py_objects.specs.declared.payload.Payload.TheVariants as payload
+use Rattle.py_objects.specs.declared.payload.ClassBody.{ClassBody}
+use Rattle.py_objects.specs.declared.payload.FunctionBody.{FunctionBody}
+use Rattle.py_objects.specs.declared.payload.ErrorKind.{ErrorKind}
+use Rattle.py_objects.specs.declared.payload.ErrorKind.TheVariants as kind
+use Rattle.py_objects.specs.declared.request.Arithmetic.TheVariants.{Add}
+use Rattle.py_objects.specs.declared.request.Request.{Request}
+use Rattle.py_objects.specs.declared.request.Request.TheVariants.{Binary}
+use Rattle.py_objects.specs.declared.event.ResumeHow.TheVariants.{Start}
+use Rattle.py_objects.specs.declared.event.GotAnswer.{GotAnswer}
+use Rattle.py_objects.specs.declared.event.GotAnswer.TheVariants as got
+use Rattle.py_objects.specs.declared.event.Ending.TheVariants as ending
+use Rattle.py_objects.specs.declared.event.Event.{Event}
+use Rattle.py_objects.specs.declared.event.Event.TheVariants as event
+use Rattle.py_objects.specs.Objects.{Obj, Name, HasPayload, declares, declared, declared_from, name_of, error_kinds, payload_numbers, event_numbers, AllBelow, IsMade, AllFit, AreNamed, is_among, IsNew}
+use Rattle.py_objects.specs.Own.{Own, Makes, Resumes, Asks, Gets, Ends, own_events, told_by}
+use Rattle.py_objects.specs.Telling.{AfterValue, Answered, Answers}
+use Rattle.py_body.specs.Tree.{Tree}
+use Rattle.py_body.specs.Trace.{IsTrace, IsBegun}
+use Rattle.py_grammar.specs.Drive.{Drive}
+use Rattle.py_vm.specs.declared.drive.Drive.{Drive as Question}
+use Rattle.py_vm.specs.declared.drive.Drive.TheVariants.{Call}
+use Rattle.py_vm.specs.Answers.{Reply, Replies, Gives, IsRaised, binary, whole}
+use Rattle.py_vm.specs.Run.{By_raise, Activation, Asking, IsTop, MayCome, State, question, start, state_after, Comes, EachTells}
+use Rattle.py_script.specs.Whole.{AreAsked, AreObjects, Traces, IsRunOf}
+use Rattle.py_script.specs.Text.{bytes_of}
+use Rattle.py_script.specs.Worked.{object, exception, class_entry, function_entry, objects_of, entered, asked, greatest, overflowing, error_entry, raising_by, raised, raises, overflow_by}
+
+pub decimal_1 : decimal 1 ≡ codes "1"
+decimal_1 = decimal_digit 1 (lit< tt)
+
+pub decimal_45 : decimal 45 ≡ codes "45"
+decimal_45 = decimal_step 45 (lit≤ tt) (lit< tt) ∙ ap (λ ds. ds ++ 53 ∷ []) (decimal_digit 4 (lit< tt))
+
+-- what is there is one thing
+pub some_is : {X : Type 0} (x y : X) → Some x ≡ Some y → x ≡ y
+some_is x y e = cc
+
+-- P holds of each element
+abbrev pub Each : {X : Type 0} → (X → Type 0) → List X → Type 0
+Each P [] = Unit {0}
+Each P (x ∷ xs) = P x × Each P xs
+
+pub each_at : {X : Type 0} (P : X → Type 0) (xs : List X) → Each P xs → (i : ℕ) (x : X) → slice_get xs i ≡ Some x → P x
+each_at P [] h i x e = absurd cc
+each_at P (y ∷ ys) h zero x e = subst P (some_is y x e) h.0
+each_at P (y ∷ ys) h (suc i) x e = each_at P ys h.1 i x e
+
+-- AllBelow as a test
+abbrev pub are_below : ℕ → List ℕ → Bool
+are_below n [] = true
+are_below n (m ∷ ms) = nat_lt m n && are_below n ms
+
+and_left : (a b : Bool) → (a && b) ≡ true → a ≡ true
+and_left true b h = refl
+and_left false b h = cc
+
+and_right : (a b : Bool) → (a && b) ≡ true → b ≡ true
+and_right true b h = h
+and_right false b h = cc
+
+-- a text of ASCII has the bytes of its characters
+pub ascii_bytes : (s : Name) → list_all (λ c. nat_lt c 128) s ≡ true → bytes_of s ≡ s
+ascii_bytes [] h = refl
+ascii_bytes (c ∷ s) h =
+    let first = encode_ascii c (ltb-true c 128 (and_left (nat_lt c 128) _ h)) in
+    let more = ascii_bytes s (and_right (nat_lt c 128) _ h) in
+    cc
+
+all_below : (n : ℕ) (ms : List ℕ) → are_below n ms ≡ true → AllBelow n ms
+all_below n [] h = tt
+all_below n (m ∷ ms) h = (ltb-true m n (and_left (nat_lt m n) _ h), all_below n ms (and_right (nat_lt m n) _ h))
+
+each_below : {X : Type 0} (f : X → List ℕ) (n : ℕ) (xs : List X) → list_all (λ x. are_below n (f x)) xs ≡ true → (i : ℕ) (x : X) → slice_get xs i ≡ Some x → AllBelow n (f x)
+each_below f n [] h i x e = absurd cc
+each_below f n (y ∷ ys) h zero x e = subst (λ z. AllBelow n (f z)) (some_is y x e) (all_below n (f y) (and_left (are_below n (f y)) _ h))
+each_below f n (y ∷ ys) h (suc i) x e = each_below f n ys (and_right (are_below n (f y)) _ h) i x e
+
+pub all_fit : (store : List Payload) → list_all (λ p. are_below (length store) (payload_numbers p)) store ≡ true → Each (IsMade store) store → AllFit store
+all_fit store b m i p e = (each_below payload_numbers (length store) store b i p e, each_at (IsMade store) store m i p e)
+
+pub are_named : (store : List Payload) (events : List Event) → AllFit store → list_all (λ e. are_below (length store) (event_numbers e)) events ≡ true → AreNamed store events
+are_named store events fit h = record { in_events = each_below event_numbers (length store) events h; in_payloads = λ i p e. (fit i p e).0 }
+
+-- a class is a built-in one
+abbrev IsBuiltIn : Payload → Type 0
+IsBuiltIn p = (b : ClassBody) → p ≡ payload.Class b → Contains (map name_of error_kinds) b.name
+
+body_of : (a b : FunctionBody) → payload.Function a ≡ payload.Function b → a ≡ b
+body_of a b e = cc
+
+pub code_of : (a b : Name) (i j : ℕ) → Some (function_entry a i) ≡ Some (function_entry b j) → i ≡ j
+code_of a b i j e = ap (λ (b : FunctionBody). b.code) (body_of _ _ (some_is _ _ e))
+
+class_of : (a b : ClassBody) → payload.Class a ≡ payload.Class b → a ≡ b
+class_of a b e = cc
+
+built_in : (kind : ErrorKind) → Contains (map name_of error_kinds) (name_of kind) → IsBuiltIn (class_entry kind)
+built_in kind h b e = subst (λ (b : ClassBody). Contains (map name_of error_kinds) b.name) (class_of _ b e) h
+
+abbrev HasClass : List Payload → ErrorKind → Type 0
+HasClass store k = (c : Obj) × (declared store (name_of k) ≡ Some c) × HasPayload store c (class_entry k)
+
+-- the question of a drive of the function with the two numbers
+abbrev pub call : Question
+call = Call (object 6) (object 7 ∷ object 8 ∷ [])
+
+-- the one activation tells what it may
+pub one_tells : (may : Obj → List Obj → List Own → Type 0) (f : Obj) (vs : List Obj) (events : List Event) → (state_after start events).made ≡ record { function = f; args = vs } ∷ [] → may f vs (own_events 1 events) → EachTells may events
+one_tells may f vs events made t zero a e =
+    let same : record { function = f; args = vs } ≡ a = some_is _ a (subst (λ (xs : List Activation). slice_get xs 0 ≡ Some a) made e) in
+    subst (λ (a : Activation). may a.function a.args (own_events 1 events)) same t
+one_tells may f vs events made t (suc i) a e =
+    let none : slice_get (record { function = f; args = vs } ∷ []) (suc i) ≡ Some a = subst (λ (xs : List Activation). slice_get xs (suc i) ≡ Some a) made e in
+    absurd cc
+
+behind : (x : Own) (ts us : List Own) → x ∷ ts ≡ x ∷ us → ts ≡ us
+behind x ts us e = cc
+
+-- what follows the making
+pub begun : (store : List Payload) (t : Tree) (vs : List Obj) (ts : List Own) → IsTrace store t vs (Makes ∷ ts) → IsBegun store t vs ts
+begun store t vs ts h = subst (IsBegun store t vs) (sym (behind Makes ts _ h.1.1)) h.1.2
+
+-- an answer that was got goes on
+pub gotten : (K : AfterValue) (w : GotAnswer) (ts : List Own) → Answered (Gets w ∷ ts) K → Answers w ts K
+gotten K w ts (inl none) = absurd (cc none.0)
+gotten K w ts (inr some) =
+    let same : w ≡ some.0 = cc some.2 in
+    let rest : ts ≡ some.1 = cc some.2 in
+    subst (λ (xs : List Own). Answers w xs K) (sym rest) (subst (λ (w : GotAnswer). Answers w some.1 K) (sym same) some.3)
+
+-- no more drives are begun than the script has
+pub few_asked : (store : List Payload) (ds : List Drive) (qs : List Question) → AreAsked store ds qs → length qs ≤ length ds
+few_asked store ds [] h = omega arith
+few_asked store [] (q ∷ qs) h = absurd h
+few_asked store (d ∷ ds) (q ∷ qs) h = let few = few_asked store ds qs h.1 in omega arith
+
+-- a choice of an object that isn't this one
+not_chosen : (n i : ℕ) (b : Bool) (rest : Option Obj) → eqb n i ≡ false → ((v : Obj) → rest ≡ Some v → eqb n v.number ≡ false) → (v : Obj) → (if b then Some (object i) else rest) ≡ Some v → eqb n v.number ≡ false
+not_chosen n i true rest h k v e = subst (λ (v : Obj). eqb n v.number ≡ false) (some_is (object i) v e) h
+not_chosen n i false rest h k v e = k v e
+
+-- nothing is chosen
+none_chosen : (n : ℕ) (rest : Option Obj) → rest ≡ None → (v : Obj) → rest ≡ Some v → eqb n v.number ≡ false
+none_chosen n rest h v e = absurd cc
+
+-- the number is none of the classes' and the function's
+abbrev pub IsNoDeclaration : ℕ → Type 0
+IsNoDeclaration n = (eqb n 1 ≡ false) × (eqb n 2 ≡ false) × (eqb n 3 ≡ false) × (eqb n 4 ≡ false) × (eqb n 5 ≡ false) × (eqb n 6 ≡ false)
+
+-- the text, the arguments and the first exception, which are no declarations
+abbrev pub raising_more : List Payload → List Payload
+raising_more more = payload.Str (codes "integer out of range") ∷ payload.Tuple (object 9 ∷ []) ∷ error_entry 2 ∷ more
+
+-- the reply to the sum of two numbers
+reply_of_sum : (store : List Payload) (a b : Obj) (i j : ℤ) (reply : Reply) → HasPayload store a (payload.Int i) → HasPayload store b (payload.Int j) → Replies store (Binary Add a b) reply → reply ≡ whole (i +ℤ j)
+reply_of_sum store a b i j reply p q r =
+    let left : r.0 ≡ payload.Int i = some_is _ _ (sym r.4 ∙ p) in
+    let right : r.1 ≡ payload.Int j = some_is _ _ (sym r.5 ∙ q) in
+    r.8 ∙ (ap (λ (x : Payload). binary Add x r.1 r.2 r.3) left ∙ ap (λ (x : Payload). binary Add (payload.Int i) x r.2 r.3) right)
+
+pub gives_sum : (store : List Payload) (before : List Event) (a b : Obj) (i j : ℤ) (w : GotAnswer) → HasPayload store a (payload.Int i) → HasPayload store b (payload.Int j) → ((r : Request) × (reply : Reply) × (Some (Binary Add a b) ≡ Some r) × Replies store r reply × Gives store before reply w) → Gives store before (whole (i +ℤ j)) w
+gives_sum store before a b i j w p q h =
+    subst (λ (reply : Reply). Gives store before reply w)
+    (reply_of_sum store a b i j h.1 p q (subst (λ (r : Request). Replies store r h.1) (sym (some_is _ _ h.2)) h.3)) h.4
+
+-- the script's only function
+module _ (t : Tree) where
+  -- a function is the script's
+  abbrev IsOwn : Payload → Type 0
+  IsOwn p = (b : FunctionBody) → p ≡ payload.Function b → (u : Tree) × (slice_get (t ∷ []) b.code ≡ Some u) × (b.name ≡ u.name)
+
+  own_function : IsOwn (function_entry t.name 0)
+  own_function b e = subst (λ (b : FunctionBody). (u : Tree) × (slice_get (t ∷ []) b.code ≡ Some u) × (b.name ≡ u.name)) (body_of _ b e) (t, refl, refl)
+
+  -- the script declares what an entry does
+  abbrev pub IsKnown : Payload → Type 0
+  IsKnown p = IsOwn p × IsBuiltIn p
+
+  pub plain : (p : Payload) → declares p ≡ None → IsKnown p
+  plain p h = (λ b e. let d = ap declares e in absurd cc, λ b e. let d = ap declares e in absurd cc)
+
+  known_class : (kind : ErrorKind) → Contains (map name_of error_kinds) (name_of kind) → IsKnown (class_entry kind)
+  known_class kind h = (λ b e. absurd cc, built_in kind h)
+
+  known_function : IsKnown (function_entry t.name 0)
+  known_function = (own_function, λ b e. absurd cc)
+
+  -- the entry of a tree of the script
+  abbrev HasEntry : List Payload → ℕ → Tree → Type 0
+  HasEntry store i u = (f : Obj) × (declared store u.name ≡ Some f) × HasPayload store f (payload.Function (record { name = u.name; code = i }))
+
+  -- the objects of the script with two numbers, and more
+  abbrev pub with_more : ℤ → ℤ → List Payload → List Payload
+  with_more m n more = objects_of (function_entry t.name 0) m n more
+
+  -- the function is declared under its name
+  abbrev pub IsDeclared : List Payload → Type 0
+  IsDeclared store = declared store t.name ≡ Some (object 6)
+
+  has_entry : (m n : ℤ) (more : List Payload) → IsDeclared (with_more m n more) → (i : ℕ) (u : Tree) → slice_get (t ∷ []) i ≡ Some u → HasEntry (with_more m n more) i u
+  has_entry m n more d zero u e = subst (λ (u : Tree). HasEntry (with_more m n more) 0 u) (some_is t u e) (object 6, d, refl)
+  has_entry m n more d (suc i) u e = absurd cc
+
+  all_known : (m n : ℤ) (more : List Payload) → Each IsKnown more → Each IsKnown (with_more m n more)
+  all_known m n more h = (
+    plain payload.None refl,
+    (
+      known_class kind.NameError (0, lit< tt, refl),
+      (
+        known_class kind.OverflowError (1, lit< tt, refl),
+        (
+          known_class kind.RecursionError (2, lit< tt, refl),
+          (known_class kind.TypeError (3, lit< tt, refl), (known_class kind.UnboundLocalError (4, lit< tt, refl), (known_function, (plain (payload.Int m) refl, (plain (payload.Int n) refl, h))))),
+        ),
+      ),
+    ),
+  )
+
+  pub are_objects : (m n : ℤ) (more : List Payload) → IsDeclared (with_more m n more) → Each IsKnown more → AllFit (with_more m n more) → AreObjects (t ∷ []) (with_more m n more)
+  are_objects m n more d known fit =
+      record {
+        functions = has_entry m n more d;
+        classes =
+            each_at (HasClass (with_more m n more)) error_kinds ((object 1, refl, refl), ((object 2, refl, refl), ((object 3, refl, refl), ((object 4, refl, refl), ((object 5, refl, refl), tt)))));
+        only_functions = λ f b e. (each_at IsKnown (with_more m n more) (all_known m n more known) f.number (payload.Function b) e).0 b refl;
+        only_classes = λ c b e. (each_at IsKnown (with_more m n more) (all_known m n more known) c.number (payload.Class b) e).1 b refl;
+        fit = fit;
+      }
+
+  -- up to the question for the sum
+  pub asking_comes : (qs : List Question) (m n : ℤ) (more : List Payload) (rest : List Event) → slice_get qs 0 ≡ Some call → 0 < length qs → Comes qs (with_more m n more) (entered 1 (asked 1 (object 7) (object 8) [])) (state_after start (entered 1 (asked 1 (object 7) (object 8) []))) rest → Comes qs (with_more m n more) [] start (entered 1 (asked 1 (object 7) (object 8) rest))
+  asking_comes qs m n more rest q few k = ((refl, refl, few), ((refl, refl, refl, q, (_, refl)), ((object 6, refl, refl), ((refl, refl), k))))
+
+  -- what gives the sum may answer that question
+  pub sum_comes : (qs : List Question) (m n : ℤ) (more : List Payload) (before : List Event) (s : State) (a : ℕ) (w : GotAnswer) → s.phase ≡ Asking → IsTop a s.stack → question s.stack ≡ Some (Binary Add (object 7) (object 8)) → Gives (with_more m n more) before (whole (m +ℤ n)) w → MayCome qs (with_more m n more) before s (event.Got a w)
+  sum_comes qs m n more before s a w phase top asks given = (phase, top, (_, whole (m +ℤ n), asks, (_, _, codes "int", codes "int", refl, refl, refl, refl, refl), given))
+
+  -- an activation of the script's function tells what that may
+  pub traced_by : (store : List Payload) (f : Obj) (vs : List Obj) (ts : List Own) → HasPayload store f (function_entry t.name 0) → Traces (t ∷ []) store f vs ts → IsTrace store t vs ts
+  traced_by store f vs ts p h =
+      let code : 0 ≡ h.0.code = code_of t.name h.0.name 0 h.0.code (sym p ∙ h.1) in
+      let same : t ≡ h.2.0 = some_is _ _ (subst (λ (i : ℕ). slice_get (t ∷ []) i ≡ Some h.2.0) (sym code) h.2.1) in
+      subst (λ (u : Tree). IsTrace store u vs ts) (sym same) h.2.2
+
+  -- what a run of the script says of its activation
+  pub traced : (store : List Payload) (drives : List Drive) (events : List Event) → HasPayload store (object 6) (function_entry t.name 0) → slice_get (state_after start events).made 0 ≡ Some (record { function = object 6; args = object 7 ∷ object 8 ∷ [] }) → IsRunOf (t ∷ []) drives store events → IsTrace store t (object 7 ∷ object 8 ∷ []) (own_events 1 events)
+  traced store drives events p e r = traced_by store (object 6) (object 7 ∷ object 8 ∷ []) (own_events 1 events) p (r.run.tells 0 (record { function = object 6; args = object 7 ∷ object 8 ∷ [] }) e)
+
+  -- the entry of the function, where it is the script's
+  pub entry_of : (store : List Payload) (f : Obj) → AreObjects (t ∷ []) store → declared store t.name ≡ Some f → HasPayload store f (function_entry t.name 0)
+  entry_of store f h e =
+      let entry = h.functions 0 t refl in
+      subst (λ (f : Obj). HasPayload store f (function_entry t.name 0)) (some_is _ _ (sym entry.1 ∙ e)) entry.2
+
+  -- nothing is declared under another number
+  undeclared : (n : ℕ) (m k : ℤ) (more : List Payload) (x : Name) → IsNoDeclaration n → declared_from 9 more x ≡ None → (v : Obj) → declared (with_more m k more) x ≡ Some v → eqb n v.number ≡ false
+  undeclared n m k more x past none =
+      not_chosen n 1 _ _ past.0 (not_chosen n 2 _ _ past.1 (not_chosen n 3 _ _ past.2 (not_chosen n 4 _ _ past.3 (not_chosen n 5 _ _ past.4 (not_chosen n 6 _ _ past.5 (none_chosen n (declared_from 9 more x) none))))))
+
+  -- the objects of drives that overflow, and more
+  abbrev pub overflow_with : List Payload → List Payload
+  overflow_with more = raising_by (function_entry t.name 0) 2 more
+
+  pub new_in : (n : ℕ) (more : List Payload) (before : List Event) → ((x : Name) → declared_from 12 more x ≡ None) → Each (λ e. is_among n (event_numbers e) ≡ false) before → IsNoDeclaration n → IsNew (overflow_with more) before n
+  new_in n more before none h past =
+      record { unnamed = each_at (λ e. is_among n (event_numbers e) ≡ false) before h; undeclared = λ x. undeclared n greatest (pos 1) (raising_more more) x past (none x) }
+
+  -- what is raised
+  pub is_raised : (n : ℕ) (more : List Payload) (before : List Event) → IsNew (overflow_with more) before n → HasPayload (overflow_with more) (object n) (error_entry 2) → IsRaised (overflow_with more) before kind.OverflowError (codes "integer out of range") (exception n)
+  is_raised n more before new entry = record { new = new; body = record { class = record { number = 2 }; args = object 10 }; entry = entry; class = refl; argument = object 9; args = refl; message = refl }
+
+  -- the first of the drives
+  pub first_raises : (qs : List Question) (more : List Payload) (rest : List Event) → slice_get qs 0 ≡ Some call → 0 < length qs → ((x : Name) → declared_from 12 more x ≡ None) → Comes qs (overflow_with more) (overflow_by (exception 11)) (state_after start (overflow_by (exception 11))) rest → Comes qs (overflow_with more) [] start (raises 1 (exception 11) rest)
+  first_raises qs more rest q few none k =
+      let asking = entered 1 (asked 1 (object 7) (object 8) []) in
+      let new = new_in 11 more asking none (refl, (refl, (refl, (refl, tt)))) (refl, refl, refl, refl, refl, refl) in
+      asking_comes qs greatest (pos 1) (raising_more more) (raised 1 (exception 11) rest) q few
+      (sum_comes qs greatest (pos 1) (raising_more more) asking (state_after start asking) 1 (got.Raise (exception 11)) refl refl refl (is_raised 11 more asking new refl), ((refl, refl), ((refl, refl, (By_raise (exception 11), refl, refl)), k)))
+
+  -- what the activation of a drive that raises tells
+  abbrev pub RaiseIsTraced : List Payload → PyBaseExceptionRef → Type 0
+  RaiseIsTraced more e = IsTrace (overflow_with more) t (object 7 ∷ object 8 ∷ []) (Makes ∷ Resumes Start ∷ Asks 2 (Binary Add (object 7) (object 8)) None ∷ Gets (got.Raise e) ∷ Ends 2 (ending.Raise e) ∷ [])
+
+  overflow_fits : AllFit (overflow_with [])
+  overflow_fits = all_fit (overflow_with []) refl (tt, (tt, (tt, (tt, (tt, (tt, (tt, (tt, (tt, (tt, (tt, ((_, _, refl, refl, refl), tt))))))))))))
+
+  overflow_tells : RaiseIsTraced [] (exception 11) → EachTells (Traces (t ∷ []) (overflow_with [])) (overflow_by (exception 11))
+  unfolding own_events told_by
+  overflow_tells h = one_tells (Traces (t ∷ []) (overflow_with [])) (object 6) (object 7 ∷ object 8 ∷ []) (overflow_by (exception 11)) refl (_, refl, (t, refl, h))
+
+  -- the run of one drive that overflows
+  pub overflow_is_run : IsDeclared (overflow_with []) → RaiseIsTraced [] (exception 11) → IsRunOf (t ∷ []) (record overflowing { function = t.name } ∷ []) (overflow_with []) (overflow_by (exception 11))
+  overflow_is_run d h =
+      record {
+        asked = call ∷ [];
+        are_asked = ((d, (refl, (refl, tt))), tt);
+        run =
+            record {
+              comes = first_raises (call ∷ []) [] [] refl (lit< tt) (λ x. refl) tt;
+              tells = overflow_tells h;
+              named = are_named (overflow_with []) (overflow_by (exception 11)) overflow_fits refl;
+            };
+        are_objects = are_objects greatest (pos 1) (raising_more []) d (plain _ refl, (plain _ refl, (plain _ refl, tt))) overflow_fits;
+      }
