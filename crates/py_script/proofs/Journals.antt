@@ -33,7 +33,7 @@ use Rattle.py_vm.specs.Answers.{Reply, Replies, Gives, IsRaised, binary, whole}
 use Rattle.py_vm.specs.Run.{By_raise, Activation, Asking, IsTop, MayCome, State, question, start, state_after, Comes, EachTells}
 use Rattle.py_script.specs.Whole.{AreAsked, AreObjects, Traces, IsRunOf}
 use Rattle.py_script.specs.Text.{bytes_of}
-use Rattle.py_script.specs.Worked.{object, exception, class_entry, function_entry, objects_of, entered, asked, greatest, overflowing, error_entry, raising_by, raised, raises, overflow_by}
+use Rattle.py_script.specs.Worked.{object, exception, class_entry, function_entry, objects_of, entered, asked, greatest, overflowing, error_entry, error_objects, raising_by, raised, raises, overflow_by}
 
 pub decimal_1 : decimal 1 ≡ codes "1"
 decimal_1 = decimal_digit 1 (lit< tt)
@@ -157,10 +157,6 @@ none_chosen n rest h v e = absurd cc
 abbrev pub IsNoDeclaration : ℕ → Type 0
 IsNoDeclaration n = (eqb n 1 ≡ false) × (eqb n 2 ≡ false) × (eqb n 3 ≡ false) × (eqb n 4 ≡ false) × (eqb n 5 ≡ false) × (eqb n 6 ≡ false)
 
--- the text, the arguments and the first exception, which are no declarations
-abbrev pub raising_more : List Payload → List Payload
-raising_more more = payload.Str (codes "integer out of range") ∷ payload.Tuple (object 9 ∷ []) ∷ error_entry 2 ∷ more
-
 -- the reply to the sum of two numbers
 reply_of_sum : (store : List Payload) (a b : Obj) (i j : ℤ) (reply : Reply) → HasPayload store a (payload.Int i) → HasPayload store b (payload.Int j) → Replies store (Binary Add a b) reply → reply ≡ whole (i +ℤ j)
 reply_of_sum store a b i j reply p q r =
@@ -273,7 +269,7 @@ module _ (t : Tree) where
 
   pub new_in : (n : ℕ) (more : List Payload) (before : List Event) → ((x : Name) → declared_from 12 more x ≡ None) → Each (λ e. is_among n (event_numbers e) ≡ false) before → IsNoDeclaration n → IsNew (overflow_with more) before n
   new_in n more before none h past =
-      record { unnamed = each_at (λ e. is_among n (event_numbers e) ≡ false) before h; undeclared = λ x. undeclared n greatest (pos 1) (raising_more more) x past (none x) }
+      record { unnamed = each_at (λ e. is_among n (event_numbers e) ≡ false) before h; undeclared = λ x. undeclared n greatest (pos 1) (error_objects 2 more) x past (none x) }
 
   -- what is raised
   pub is_raised : (n : ℕ) (more : List Payload) (before : List Event) → IsNew (overflow_with more) before n → HasPayload (overflow_with more) (object n) (error_entry 2) → IsRaised (overflow_with more) before kind.OverflowError (codes "integer out of range") (exception n)
@@ -284,8 +280,8 @@ module _ (t : Tree) where
   first_raises qs more rest q few none k =
       let asking = entered 1 (asked 1 (object 7) (object 8) []) in
       let new = new_in 11 more asking none (refl, (refl, (refl, (refl, tt)))) (refl, refl, refl, refl, refl, refl) in
-      asking_comes qs greatest (pos 1) (raising_more more) (raised 1 (exception 11) rest) q few
-      (sum_comes qs greatest (pos 1) (raising_more more) asking (state_after start asking) 1 (got.Raise (exception 11)) refl refl refl (is_raised 11 more asking new refl), ((refl, refl), ((refl, refl, (By_raise (exception 11), refl, refl)), k)))
+      asking_comes qs greatest (pos 1) (error_objects 2 more) (raised 1 (exception 11) rest) q few
+      (sum_comes qs greatest (pos 1) (error_objects 2 more) asking (state_after start asking) 1 (got.Raise (exception 11)) refl refl refl (is_raised 11 more asking new refl), ((refl, refl), ((refl, refl, (By_raise (exception 11), refl, refl)), k)))
 
   -- what the activation of a drive that raises tells
   abbrev pub RaiseIsTraced : List Payload → PyBaseExceptionRef → Type 0
@@ -310,5 +306,5 @@ module _ (t : Tree) where
               tells = overflow_tells h;
               named = are_named (overflow_with []) (overflow_by (exception 11)) overflow_fits refl;
             };
-        are_objects = are_objects greatest (pos 1) (raising_more []) d (plain _ refl, (plain _ refl, (plain _ refl, tt))) overflow_fits;
+        are_objects = are_objects greatest (pos 1) (error_objects 2 []) d (plain _ refl, (plain _ refl, (plain _ refl, tt))) overflow_fits;
       }

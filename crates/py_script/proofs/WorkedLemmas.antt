@@ -21,8 +21,8 @@ use Rattle.py_grammar.specs.Script.{Spells}
 use Rattle.py_vm.specs.declared.drive.Drive.{Drive as Question}
 use Rattle.py_vm.specs.Run.{By_return, By_raise, Activation, start, state_after, Comes, EachTells}
 use Rattle.py_script.specs.Whole.{AreObjects, Traces, IsRunOf}
-use Rattle.py_script.specs.Worked.{script, function, trees, call_of, drives, object, exception, function_entry, objects_by, objects, entered, asked, events, unfinished, with_round, swapped, driven_twice, greatest, overflowing, error_entry, raising_objects, overflow_objects, raises, overflow_by}
-use Rattle.py_script.proofs.Journals.{RaiseIsTraced, all_fit, are_named, are_objects, asking_comes, begun, call, code_of, entry_of, few_asked, first_raises, gives_sum, is_raised, new_in, one_tells, plain, raising_more, some_is, sum_comes, traced}
+use Rattle.py_script.specs.Worked.{script, function, trees, call_of, drives, object, exception, function_entry, objects_by, objects, entered, asked, events, unfinished, with_round, swapped, driven_twice, greatest, overflowing, error_entry, error_objects, raising_objects, overflow_objects, raises, overflow_by}
+use Rattle.py_script.proofs.Journals.{RaiseIsTraced, all_fit, are_named, are_objects, asking_comes, begun, call, code_of, entry_of, few_asked, first_raises, gives_sum, is_raised, new_in, one_tells, plain, some_is, sum_comes, traced}
 use Rattle.py_script.proofs.Journals.{overflow_is_run as overflow_run}
 
 pub spelled : Spells (lines script) trees drives
@@ -141,7 +141,7 @@ second_raises = (
       (
         (refl, refl),
         (
-          sum_comes function both_asked greatest (pos 1) (raising_more (error_entry 2 ∷ [])) second_asks (state_after start second_asks) 2 (got.Raise (exception 12)) refl refl refl
+          sum_comes function both_asked greatest (pos 1) (error_objects 2 (error_entry 2 ∷ [])) second_asks (state_after start second_asks) 2 (got.Raise (exception 12)) refl refl refl
               (is_raised function 12 (error_entry 2 ∷ []) second_asks second_new refl),
           ((refl, refl), ((refl, refl, (By_raise (exception 12), refl, refl)), tt)),
         ),
@@ -161,7 +161,7 @@ errors_are_run =
             tells = both_tell;
             named = are_named both_objects both_raise both_fit refl;
           };
-      are_objects = are_objects function greatest (pos 1) (raising_more (error_entry 2 ∷ [])) refl (plain function _ refl, (plain function _ refl, (plain function _ refl, (plain function _ refl, tt)))) both_fit;
+      are_objects = are_objects function greatest (pos 1) (error_objects 2 (error_entry 2 ∷ [])) refl (plain function _ refl, (plain function _ refl, (plain function _ refl, (plain function _ refl, tt)))) both_fit;
     }
 
 pub no_error_twice : IsRunOf trees (overflowing ∷ overflowing ∷ []) both_objects (raises 1 (exception 11) (raises 2 (exception 11) [])) → ⊥

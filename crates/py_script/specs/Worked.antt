@@ -134,9 +134,13 @@ overflowing = call_of greatest (pos 1)
 abbrev pub error_entry : ℕ → Payload
 error_entry class = payload.Exception (record { class = record { number = class }; args = object 10 })
 
--- the objects of a run that raises: the text 9, a tuple of it, 10, and an exception of the class with this number, 11
+-- the objects that a raise adds: the text 9, a tuple of it, 10, and an exception of the class with this number, 11
+abbrev pub error_objects : ℕ → List Payload → List Payload
+error_objects class more = payload.Str (codes "integer out of range") ∷ payload.Tuple (object 9 ∷ []) ∷ error_entry class ∷ more
+
+-- the objects of a run that raises, where the function has this entry
 abbrev pub raising_by : Payload → ℕ → List Payload → List Payload
-raising_by f class more = objects_of f greatest (pos 1) (payload.Str (codes "integer out of range") ∷ payload.Tuple (object 9 ∷ []) ∷ error_entry class ∷ more)
+raising_by f class more = objects_of f greatest (pos 1) (error_objects class more)
 
 -- the same of the script's function
 abbrev pub raising_objects : ℕ → List Payload → List Payload
