@@ -1,0 +1,1 @@
+//! An own stack at worked values.
