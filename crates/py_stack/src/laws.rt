@@ -1,6 +1,6 @@
 //! What holds of every stack.
 
-ghost use Rattle.std.specs.Prelude.{◌≡◌, ◌≢◌, ◌+◌, ◌<◌, ◌≤◌, ◌++◌, length, reverse, slice_get, Some};
+ghost use Rattle.std.specs.Prelude.{◌≡◌, ◌≢◌, ◌+◌, ◌<◌, ◌≤◌, ◌∷◌, ◌++◌, length, reverse, slice_get, Some};
 ghost use Rattle.py_stack.specs.Stacks.{from_bottom};
 
 use crate::stack::ValueStack;
@@ -22,7 +22,9 @@ pub fn push_pop<S: ValueStack>(stack: &mut S, value: PyObjectRef) -> PyObjectRef
 /// Pushes a value and finds it above all that lay there.
 pub fn push_at<S: ValueStack>(stack: &mut S, value: PyObjectRef) -> PyObjectRef
     requires { 0 < S.room stack.old }
-    ensures { result ≡ value }
+    ensures value { result ≡ value }
+    ensures list { S.list stack.new ≡ value ∷ S.list stack.old }
+    ensures room { S.room stack.new + 1 ≡ S.room stack.old }
 {
     let index = stack.len();
     stack.push(value);
@@ -32,7 +34,9 @@ pub fn push_at<S: ValueStack>(stack: &mut S, value: PyObjectRef) -> PyObjectRef
 /// Puts a value in a place and finds it there.
 pub fn put_at<S: ValueStack>(stack: &mut S, index: usize, value: PyObjectRef) -> PyObjectRef
     requires { index < length (S.list stack.old) }
-    ensures { result ≡ value }
+    ensures value { result ≡ value }
+    ensures len { length (S.list stack.new) ≡ length (S.list stack.old) }
+    ensures room { S.room stack.new ≡ S.room stack.old }
 {
     stack.put(index, value);
     stack.at(index)
@@ -48,7 +52,9 @@ pub fn put_beside<S: ValueStack>(
     requires place { index < length (S.list stack.old) }
     requires other { other < length (S.list stack.old) }
     requires beside { other ≢ index }
-    ensures { slice_get (S.list stack.old) (from_bottom other (S.list stack.old)) ≡ Some result }
+    ensures entry { slice_get (S.list stack.old) (from_bottom other (S.list stack.old)) ≡ Some result }
+    ensures len { length (S.list stack.new) ≡ length (S.list stack.old) }
+    ensures room { S.room stack.new ≡ S.room stack.old }
 {
     stack.put(index, value);
     stack.at(other)
