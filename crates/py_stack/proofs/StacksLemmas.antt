@@ -7,9 +7,11 @@ use Rattle.std.proofs.Math.Seq.{drop-append_seam, take-append_seam}
 use Rattle.py_objects.specs.Objects.{Obj}
 use Rattle.py_stack.specs.Stacks.{above, bottom, from_bottom}
 
+-- a list turned round, in two parts
 reverse_parts : (n : ℕ) (xs : List Obj) → reverse xs ≡ reverse (drop n xs) ++ reverse (take n xs)
 reverse_parts n xs = ap reverse (sym (take-append-drop n xs)) ∙ reverse-append (take n xs) (drop n xs)
 
+-- how many entries lie above the lowest n
 length_above : (n : ℕ) (xs : List Obj) → length (reverse xs) - n ≡ length (reverse (drop n xs))
 length_above n xs = omega (arith, length-reverse xs, length-reverse (drop n xs), length-drop n xs)
 

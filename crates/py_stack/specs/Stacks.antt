@@ -19,6 +19,6 @@ bottom n list = drop (length list - n) list
 abbrev pub above : ℕ → List Obj → List Obj
 above n list = reverse (take (length list - n) list)
 
--- the place, from the top, of the entry that has n others below it
+-- the place, from the top, of the entry that has n others below it, in a list of more than n
 abbrev pub from_bottom : ℕ → List Obj → ℕ
 from_bottom n list = length list - 1 - n

@@ -1,6 +1,6 @@
 //! What holds of every stack.
 
-ghost use Rattle.std.specs.Prelude.{◌≡◌, ◌≢◌, ◌+◌, ◌<◌, ◌≤◌, ◌∷◌, ◌++◌, length, reverse, slice_get, Some};
+ghost use Rattle.std.specs.Prelude.{◌≡◌, ◌≢◌, ◌+◌, ◌<◌, ◌≤◌, ◌∷◌, ◌++◌, length, reverse, slice_get, slice_set, Some};
 ghost use Rattle.py_stack.specs.Stacks.{from_bottom};
 
 use crate::stack::ValueStack;
@@ -35,7 +35,7 @@ pub fn push_at<S: ValueStack>(stack: &mut S, value: PyObjectRef) -> PyObjectRef
 pub fn put_at<S: ValueStack>(stack: &mut S, index: usize, value: PyObjectRef) -> PyObjectRef
     requires { index < length (S.list stack.old) }
     ensures value { result ≡ value }
-    ensures len { length (S.list stack.new) ≡ length (S.list stack.old) }
+    ensures list { S.list stack.new ≡ slice_set (S.list stack.old) (from_bottom index (S.list stack.old)) value }
     ensures room { S.room stack.new ≡ S.room stack.old }
 {
     stack.put(index, value);
@@ -53,7 +53,7 @@ pub fn put_beside<S: ValueStack>(
     requires other { other < length (S.list stack.old) }
     requires beside { other ≢ index }
     ensures entry { slice_get (S.list stack.old) (from_bottom other (S.list stack.old)) ≡ Some result }
-    ensures len { length (S.list stack.new) ≡ length (S.list stack.old) }
+    ensures list { S.list stack.new ≡ slice_set (S.list stack.old) (from_bottom index (S.list stack.old)) value }
     ensures room { S.room stack.new ≡ S.room stack.old }
 {
     stack.put(index, value);

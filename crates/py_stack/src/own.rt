@@ -1,6 +1,6 @@
 //! A stack that owns its memory.
 
-ghost use Rattle.std.specs.Prelude.{◌≡◌, ◌+◌, ◌<◌, ◌≤◌, List, [], ◌∷◌, length, IfOk};
+ghost use Rattle.std.specs.Prelude.{◌≡◌, IfOk};
 ghost use Rattle.py_stack.specs.Stacks.{empty};
 
 use crate::stack::ValueStack;

@@ -1,6 +1,6 @@
 //! What frames ask of a stack.
 
-ghost use Rattle.std.specs.Prelude.{◌≡◌, ℕ, ◌+◌, ◌<◌, ◌≤◌, List, [], ◌∷◌, length, slice_get, slice_set, Some, IfOk, OnOk, OnErr};
+ghost use Rattle.std.specs.Prelude.{◌≡◌, ℕ, ◌+◌, ◌<◌, ◌≤◌, List, ◌∷◌, length, slice_get, slice_set, Some, IfOk, OnOk, OnErr};
 ghost use Rattle.py_objects.specs.Objects.{Obj};
 ghost use Rattle.py_stack.specs.Stacks.{above, bottom, from_bottom};
 
