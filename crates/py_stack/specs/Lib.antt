@@ -1,0 +1,2 @@
+-- stacks as lists, and their entries counted from the bottom
+pub mod Stacks
