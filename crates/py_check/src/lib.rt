@@ -1,0 +1,17 @@
+//! Codes with notes on what their stack holds, and the rules that such notes keep.
+#![tactic(auto)]
+
+mod annotated;
+mod checked;
+mod laws;
+mod note;
+mod worked;
+
+pub use annotated::Annotated;
+pub use checked::CheckedCode;
+pub use laws::laws_of_rules;
+pub use note::{BlockList, BlockNote, Kind, KindList, Note, NoteList, Pending, PendingSet};
+pub use worked::{worked_blocks, worked_codes, worked_notes};
+
+#[cfg(test)]
+mod tests;

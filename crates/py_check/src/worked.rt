@@ -1,0 +1,78 @@
+//! Codes that were worked by hand, and what the rules say of them.
+
+ghost use Rattle.std.specs.Prelude.{◌≡◌, ℕ, ℤ, pos, negsuc, List, [], ◌∷◌};
+ghost use Rattle.py_code.specs.declared.literal.Literal.{Code, Int, Str};
+ghost use Rattle.py_code.specs.declared.instruction.Instruction.TheVariants as op;
+ghost use Rattle.py_check.specs.declared.note.Kind.TheVariants as kind;
+ghost use Rattle.py_check.specs.declared.note.Pending.TheVariants as pending;
+ghost use Rattle.py_check.specs.declared.note.BlockNote.TheVariants as block;
+ghost use Rattle.py_check.specs.declared.note.Note.TheVariants as note;
+ghost use Rattle.py_check.specs.Constants.{tuple_kind};
+ghost use Rattle.py_check.specs.Worked.{Typed, Breaks, unit, sheet, holds, nothing, one, two, sum, sum_notes, prefixed, loaded, behind_the_end, guarded, handles};
+
+/// The code of a small function keeps the rules on units, and others break them, each first at a certain unit.
+pub fn worked_notes()
+    ensures sum_keeps { Typed sum }
+    // The stack is too small, or a note is missing, says too much, or is dead.
+    ensures too_deep { Breaks (record sum { max_stackdepth = 1 }) 1 }
+    ensures missing_note { Breaks (record sum { notes = nothing ∷ one ∷ two ∷ [] }) 0 }
+    ensures wrong_kind { Breaks (record sum { notes = nothing ∷ holds (kind.Str ∷ []) ∷ two ∷ one ∷ [] }) 0 }
+    ensures dead_note { Breaks (record sum { notes = nothing ∷ one ∷ note.Dead ∷ one ∷ [] }) 1 }
+    // A local, an operator, a constant or a value on the stack isn't there.
+    ensures no_local { Breaks (record sum { varnames = 1; arg_count = 1 }) 1 }
+    ensures no_operator { Breaks (sheet (unit op.LoadFast 0 ∷ unit op.LoadFast 1 ∷ unit op.BinaryOperation 13 ∷ unit op.ReturnValue 0 ∷ []) sum_notes) 2 }
+    ensures no_constant { Breaks (sheet (unit op.ReturnConst 1 ∷ []) (nothing ∷ [])) 0 }
+    ensures no_value { Breaks (sheet (unit op.LoadFast 0 ∷ unit op.BinaryOperation 6 ∷ unit op.ReturnValue 0 ∷ []) (nothing ∷ one ∷ one ∷ [])) 1 }
+    // The units end, and an instruction doesn't run yet.
+    ensures no_end { Breaks (sheet (unit op.LoadFast 0 ∷ unit op.Pop 0 ∷ []) (nothing ∷ one ∷ [])) 1 }
+    ensures unknown { Breaks (sheet (unit op.Jump 0 ∷ []) (nothing ∷ [])) 0 }
+    // A prefix counts for the unit behind it, and three may stand in a row.
+    ensures three_prefixes { Typed (prefixed 0 (prefixed 0 (prefixed 0 sum))) }
+    ensures four_prefixes { Breaks (prefixed 0 (prefixed 0 (prefixed 0 (prefixed 0 sum)))) 3 }
+    ensures prefix_counts { Breaks (prefixed 1 sum) 1 }
+    // What is known of a constant.
+    ensures text { (text : List ℕ) → Typed (loaded (Str text) kind.Str) }
+    ensures number { (n : ℤ) → Breaks (loaded (Int n) kind.Str) 0 }
+    ensures texts { (text : List ℕ) → tuple_kind (Str text ∷ Str text ∷ []) ≡ kind.Names 2 }
+    ensures other_tuple { (text : List ℕ) → (n : ℤ) → tuple_kind (Str text ∷ Int n ∷ []) ≡ kind.Tuple }
+{}
+
+/// Codes that keep the rules on the whole code, and others that break them, which counts as unit 0.
+pub fn worked_codes()
+    ensures no_unit { Breaks (sheet [] []) 0 }
+    ensures no_location { Breaks (record sum { locations = 3 }) 0 }
+    ensures wrong_start { Breaks (record sum { notes = one ∷ one ∷ two ∷ one ∷ [] }) 0 }
+    ensures stack_too_large { Breaks (record sum { max_stackdepth = 65536 }) 0 }
+    ensures no_such_code { Breaks (record sum { constants = Code 0 ∷ [] }) 0 }
+    // Parameters are among the locals, and those by position alone are among those by position.
+    ensures var_args { Typed (record sum { arg_count = 1; flags = 8 }) }
+    ensures too_many_parameters { Breaks (record sum { arg_count = 1; flags = 24 }) 0 }
+    ensures by_position_alone { Breaks (record sum { posonlyarg_count = 3 }) 0 }
+    // A cell takes over a parameter, or none.
+    ensures cells { Typed (record sum { cellvars = 2; cell2arg = negsuc 0 ∷ pos 1 ∷ [] }) }
+    ensures cells_of_no_parameter { Breaks (record sum { cellvars = 2; cell2arg = negsuc 0 ∷ pos 2 ∷ [] }) 0 }
+    ensures cells_below { Breaks (record sum { cellvars = 2; cell2arg = negsuc 1 ∷ pos 1 ∷ [] }) 0 }
+    ensures too_few_cells { Breaks (record sum { cellvars = 2; cell2arg = pos 1 ∷ [] }) 0 }
+{}
+
+/// Codes whose notes have blocks keep the rules, and others break them, each first at a certain unit.
+pub fn worked_blocks()
+    // The handler of a block is a unit that may be reached from it, with the entries under the block.
+    ensures handled { Typed (guarded [] (block.TryExcept 0 2) handles) }
+    ensures handled_above { Typed (guarded (kind.Any ∷ kind.Str ∷ []) (block.TryExcept 1 2) (note.Live (kind.Exc ∷ kind.Str ∷ []) (block.ExceptHandler 1 ∷ []))) }
+    ensures finally_handled { Typed (guarded [] (block.Finally 0 2) (note.Live [] (block.FinallyHandler 0 (pending.Break 0 ∷ []) ∷ []))) }
+    ensures dead_handler { Breaks (guarded [] (block.TryExcept 0 2) note.Dead) 1 }
+    ensures no_exception { Breaks (guarded [] (block.TryExcept 0 2) (note.Live [] (block.ExceptHandler 0 ∷ []))) 1 }
+    ensures another_block { Breaks (guarded [] (block.Finally 0 2) handles) 1 }
+    // A label is a unit without a prefix in front of it.
+    ensures no_label { Breaks (guarded [] (block.TryExcept 0 3) handles) 1 }
+    ensures label_of_prefix { Typed (behind_the_end (unit op.ReturnConst 0 ∷ unit op.ExtendedArg 0 ∷ unit op.ReturnConst 0 ∷ []) (note.Live [] (block.TryExcept 0 2 ∷ []) ∷ handles ∷ handles ∷ [])) }
+    ensures label_behind_prefix { Breaks (behind_the_end (unit op.ReturnConst 0 ∷ unit op.ExtendedArg 0 ∷ unit op.ReturnConst 0 ∷ []) (note.Live [] (block.TryExcept 0 3 ∷ []) ∷ handles ∷ handles ∷ [])) 1 }
+    // A level is within the stack and not below that of the block around, and nothing under it is popped.
+    ensures level_too_high { Breaks (guarded [] (block.Loop 1) note.Dead) 1 }
+    ensures falling_level { Breaks (behind_the_end (unit op.ReturnConst 0 ∷ []) (note.Live (kind.Any ∷ []) (block.Loop 0 ∷ block.Loop 1 ∷ []) ∷ [])) 1 }
+    ensures popped_below { Breaks (behind_the_end (unit op.Pop 0 ∷ unit op.ReturnConst 0 ∷ []) (note.Live (kind.Any ∷ []) (block.Loop 1 ∷ []) ∷ note.Live [] (block.Loop 1 ∷ []) ∷ [])) 1 }
+    // What may wait in a handler goes over to a note in which more may.
+    ensures more_pending { Typed (behind_the_end (unit op.LoadFast 0 ∷ unit op.ReturnValue 0 ∷ []) (note.Live [] (block.FinallyHandler 0 (pending.Break 1 ∷ []) ∷ []) ∷ note.Live (kind.Any ∷ []) (block.FinallyHandler 0 (pending.Continue 1 ∷ pending.Break 1 ∷ []) ∷ []) ∷ [])) }
+    ensures less_pending { Breaks (behind_the_end (unit op.LoadFast 0 ∷ unit op.ReturnValue 0 ∷ []) (note.Live [] (block.FinallyHandler 0 (pending.Break 1 ∷ []) ∷ []) ∷ note.Live (kind.Any ∷ []) (block.FinallyHandler 0 (pending.Continue 1 ∷ []) ∷ []) ∷ [])) 1 }
+{}
