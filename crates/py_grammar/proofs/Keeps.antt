@@ -16,6 +16,7 @@ use Rattle.py_body.specs.Binding.{IsKnown, FormKnown, names_behind, SuiteKnown, 
 use Rattle.py_grammar.specs.declared.script.Script.{Script}
 use Rattle.py_grammar.specs.Drive.{Drive}
 use Rattle.py_grammar.specs.Rules.{is_among, all_differ, declares, is_builtin_class, may_declare, takes, is_literal, may_drive, is_target, binds, assigns, is_known}
+use Rattle.py_grammar.proofs.Tables.{assigns-add}
 use Rattle.py_grammar.specs.Grammar.{Item, Declares, Drives, add, WellForm, WellSuite, WellItems, trees_in, drives_in}
 use Rattle.py_grammar.specs.Script.{Text, Spells, IsScript}
 use Rattle.py_grammar.specs.WellFormed.{IsLiteral, AreDistinct, IsWellDeclared, Calls, IsWellDriven, AreWellFormed, IsWellFormed}
@@ -83,19 +84,6 @@ all_by_test p P f (x ∷ xs) h = All-cons P x xs (f x (and_left (p x) (list_all 
 -- these names are all that are known behind these statements
 abbrev Covers : List Name → Suite → List Name → Type 0
 Covers ps before names = (x : Name) → (is_among x ps || assigns x before) ≡ true → Contains names x
-
--- what a statement behind others assigns to
-assigns-add : (x : Name) (s : Suite) (n : ℕ) (f : Form) → assigns x (add s n f) ≡ (assigns x s || binds x f)
-assigns-add x nothing n f = or_none (binds x f)
-  where
-    or_none : (b : Bool) → (b || false) ≡ b
-    or_none true = refl
-    or_none false = refl
-assigns-add x (first m g more) n f = ap (λ b. binds x g || b) (assigns-add x more n f) ∙ or_assoc (binds x g) (assigns x more) (binds x f)
-  where
-    or_assoc : (a b c : Bool) → (a || (b || c)) ≡ ((a || b) || c)
-    or_assoc true b c = refl
-    or_assoc false b c = refl
 
 -- the parameters cover what is known at the start; a statement adds its target
 covers_start : (ps : List Name) → Covers ps nothing ps

@@ -5,6 +5,8 @@ pub mod Numbers
 pub mod Texts
 pub mod Comments
 pub mod Eachs
+-- what tables of names have
+pub mod Tables
 -- the program's lists by their trees
 pub mod Views
 -- the reader against the grammar

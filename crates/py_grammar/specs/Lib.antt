@@ -11,4 +11,5 @@ pub mod Lines
 pub mod WellFormed
 -- what the functions inside the crate promise each other
 pub mod Reader
+pub mod Tables
 pub mod Reading

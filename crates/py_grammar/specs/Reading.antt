@@ -1,25 +1,20 @@
 -- The program's reader and answers as the definitions see them.
-use Rattle.std.specs.Prelude.{◌≡◌, Option, Some, None, map}
+use Rattle.std.specs.Prelude.{◌≡◌, option_map}
 use Rattle.std.specs.declared.result.Result.{Result}
 use Rattle.std.specs.declared.result.Result.TheVariants.{Ok, Err}
 use Rattle.py_body.specs.Tree.{suite_of}
 use Rattle.py_grammar.specs.declared.fault.ParseFault.{ParseFault}
 use Rattle.py_grammar.specs.declared.fault.ParseFault.TheVariants.{Malformed, NoMemory}
-use Rattle.py_grammar.specs.declared.open_body.OpenBody.{OpenBody}
-use Rattle.py_grammar.specs.declared.reader.Reader.{Reader}
 use Rattle.py_grammar.specs.declared.script.Script.{Script}
-use Rattle.py_grammar.specs.Script.{declared_tree, drive_of, trees_of, drives_of}
+use Rattle.py_grammar.specs.Script.{trees_of, drives_of}
 use Rattle.py_grammar.specs.Reader.{Open, State, state, Verdict, Good, Bad}
+use Rattle.py_grammar.specs.Tables.{Partial, SoFar}
 
-abbrev pub open_of : OpenBody → Open
+abbrev pub open_of : Partial → Open
 open_of o = record { line = o.line; name = o.name; params = o.params; done = suite_of o.done }
 
-abbrev pub inside_of : Option OpenBody → Option Open
-inside_of None = None
-inside_of (Some o) = Some (open_of o)
-
-abbrev pub state_of : Reader → State
-state_of r = state (map declared_tree r.declarations) (map drive_of r.drives) (inside_of r.inside)
+abbrev pub state_of : SoFar → State
+state_of r = state (trees_of r.whole) (drives_of r.whole) (option_map open_of r.inside)
 
 abbrev pub IsFaultOf : Verdict → ParseFault → Type 0
 IsFaultOf v (Malformed k) = v ≡ Bad k

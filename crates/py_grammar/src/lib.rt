@@ -6,6 +6,7 @@ mod fault;
 mod forms;
 mod line;
 mod lines;
+mod name_table;
 mod open_body;
 mod parse;
 mod reader;
@@ -17,5 +18,6 @@ mod token;
 mod words;
 
 pub use fault::ParseFault;
+pub use name_table::NameTable;
 pub use parse::{one_script, parse_script};
 pub use script::{DeclList, Declaration, DriveLine, DriveList, Script};

@@ -1,6 +1,6 @@
 //! Bytes to scripts.
 
-ghost use Rattle.std.specs.Prelude.{◌≡◌, ◌≤◌, ◌⊎◌, IfOk, IsOk, Some, None, Err, true, false, length, [], ℕ};
+ghost use Rattle.std.specs.Prelude.{◌≡◌, ◌≤◌, ◌⊎◌, IfOk, IsOk, Some, None, Err, true, false, length, ℕ, option_map};
 ghost use Rattle.py_grammar.specs.Script.{IsScript, IsBadLine, trees_of, drives_of};
 ghost use Rattle.py_grammar.specs.WellFormed.{IsWellFormed};
 ghost use Rattle.py_grammar.specs.Lines.{lines};
@@ -19,34 +19,19 @@ use crate::script::Script;
 use py_code::NoMemory;
 use std::alloc::Global;
 
-/// A line of the text: whether it may stand here.
-fn push_bytes(reader: &mut Reader, number: u32, line: &[u8]) -> Result<bool, NoMemory>
-    ensures yes { IfOk result (λ ok. ok ≡ true → takes_line (state_of reader.old) number (says line.now) ≡ Some (state_of reader.new)) }
-    ensures no { IfOk result (λ ok. ok ≡ false → takes_line (state_of reader.old) number (says line.now) ≡ None) }
+/// The reader behind one more line of the text, where that may stand here.
+fn push_bytes(
+    reader: Reader,
+    alloc: Global,
+    number: u32,
+    line: &[u8],
+) -> Result<Option<Reader>, NoMemory>
+    ensures { IfOk result (λ next. option_map state_of next ≡ takes_line (state_of reader) number (says line.now)) }
 {
-    match line_of(reader.alloc, line)? {
-        LineRead::Blank => Ok(true),
-        LineRead::Said(line) => reader.push_line(number, line),
-        LineRead::Malformed => Ok(false),
-    }
-}
-
-/// The script at the end of the lines, of which this would be the number of the next.
-fn script_of(reader: Reader, number: u32) -> Result<Script, ParseFault>
-    ensures { IsAnswerOf (walk (state_of reader) number []) result }
-{
-    let Reader {
-        alloc: _,
-        declarations,
-        drives,
-        inside,
-    } = reader;
-    match inside {
-        None => Ok(Script {
-            declarations,
-            drives,
-        }),
-        Some(_) => Err(ParseFault::Malformed(u64::from(number))),
+    match line_of(alloc, line)? {
+        LineRead::Blank => Ok(Some(reader)),
+        LineRead::Said(line) => reader.push_line(alloc, number, line),
+        LineRead::Malformed => Ok(None),
     }
 }
 
@@ -59,13 +44,14 @@ fn read_lines(alloc: Global, bytes: &[u8]) -> Result<Script, ParseFault>
     let mut rest = bytes;
     let mut number: u32 = 1;
     while let Some((line, more)) = first_line(rest) {
-        if !push_bytes(&mut reader, number, line)? {
-            return Err(ParseFault::Malformed(u64::from(number)));
+        match push_bytes(reader, alloc, number, line)? {
+            Some(next) => reader = next,
+            None => return Err(ParseFault::Malformed(u64::from(number))),
         }
         rest = more;
         number += 1;
     }
-    script_of(reader, number)
+    reader.finish(number)
 }
 
 /// The script that bytes are, or the line that makes them none.

@@ -1,24 +1,40 @@
 //! A reader of lines: what was read so far, and whether one more line may stand behind it.
 
-ghost use Rattle.std.specs.Prelude.{◌≡◌, IfOk, Some, None, true, false, map};
-ghost use Rattle.py_grammar.specs.Script.{declared_tree, drive_of};
-ghost use Rattle.py_grammar.specs.Reader.{accept, start, in_body, outside};
-ghost use Rattle.py_grammar.specs.Reading.{open_of, state_of};
+ghost use Rattle.std.specs.Prelude.{◌≡◌, IfOk, Some, None, [], option_map};
+ghost use Rattle.py_grammar.specs.Script.{trees_of, drives_of};
+ghost use Rattle.py_grammar.specs.Reader.{accept, start, in_body, outside, walk};
+ghost use Rattle.py_grammar.specs.Reading.{open_of, state_of, IsAnswerOf};
+ghost use Rattle.py_grammar.specs.Tables.{taken_names};
 
+use crate::fault::ParseFault;
 use crate::line::Line;
+use crate::name_table::NameTable;
 use crate::open_body::OpenBody;
 use crate::rules::{may_declare, may_drive};
-use crate::script::{DeclList, Declaration, DriveLine, DriveList};
+use crate::script::{DeclList, Declaration, DriveLine, DriveList, Script};
 use py_code::NoMemory;
 use std::alloc::Global;
+use std::marker::Model;
 
 /// What was read so far.
 #[derive(Drop)]
 pub struct Reader {
-    pub alloc: Global,
-    pub declarations: DeclList,
-    pub drives: DriveList,
-    pub inside: Option<OpenBody>,
+    whole: Script,
+    inside: Option<OpenBody>,
+    /// The names of the declarations in order, and behind them that of the open body.
+    names: NameTable,
+}
+
+impl Model for Reader {
+    ghost use Rattle.std.specs.Prelude.{◌≡◌};
+    ghost use Rattle.py_grammar.specs.Script.{trees_of};
+    ghost use Rattle.py_grammar.specs.Tables.{SoFar, taken_names};
+
+    ghost Value = { SoFar };
+
+    ghost view = { λ r. record { whole = r.whole; inside = r.inside } };
+
+    ghost invariant = { λ r. r.names ≡ taken_names (trees_of r.whole) r.inside };
 }
 
 impl Reader {
@@ -27,70 +43,135 @@ impl Reader {
         ensures { state_of result ≡ start }
     {
         Reader {
-            alloc,
-            declarations: DeclList::new(alloc),
-            drives: DriveList::new(alloc),
+            whole: Script {
+                declarations: DeclList::new(alloc),
+                drives: DriveList::new(alloc),
+            },
             inside: None,
+            names: NameTable::new(alloc),
         }
     }
 
-    /// A line where a body is open, which was taken out of the reader.
-    fn push_inside(&mut self, open: OpenBody, number: u32, line: Line) -> Result<bool, NoMemory>
-        requires { self.old.inside ≡ None }
-        ensures yes { IfOk result (λ ok. ok ≡ true → in_body (map declared_tree self.old.declarations) (map drive_of self.old.drives) (open_of «open») number line ≡ Some (state_of self.new)) }
-        ensures no { IfOk result (λ ok. ok ≡ false → in_body (map declared_tree self.old.declarations) (map drive_of self.old.drives) (open_of «open») number line ≡ None) }
+    /// A line where this body is open.
+    fn push_inside(
+        whole: Script,
+        names: NameTable,
+        body: OpenBody,
+        number: u32,
+        line: Line,
+    ) -> Result<Option<Reader>, NoMemory>
+        requires { names ≡ taken_names (trees_of whole) (Some body) }
+        ensures { IfOk result (λ next. option_map state_of next ≡ in_body (trees_of whole) (drives_of whole) (open_of body) number line) }
     {
         if line.is_end() {
-            self.declarations.push(Declaration::Function(open.close()))?;
-            return Ok(true);
+            let Script {
+                mut declarations,
+                drives,
+            } = whole;
+            declarations.push(Declaration::Function(body.close()))?;
+            return Ok(Some(Reader {
+                whole: Script {
+                    declarations,
+                    drives,
+                },
+                inside: None,
+                names,
+            }));
         }
-        let mut open = open;
-        if !open.push_line(number, line)? {
-            return Ok(false);
+        match body.push_line(number, line)? {
+            Some(body) => Ok(Some(Reader {
+                whole,
+                inside: Some(body),
+                names,
+            })),
+            None => Ok(None),
         }
-        self.inside = Some(open);
-        Ok(true)
     }
 
     /// A line where no body is open.
-    #[tactic(auto, using(crate::proofs::Views::drive_refused, crate::proofs::Views::drive_taken))]
-    fn push_outside(&mut self, number: u32, line: Line) -> Result<bool, NoMemory>
-        requires { self.old.inside ≡ None }
-        ensures yes { IfOk result (λ ok. ok ≡ true → outside (map declared_tree self.old.declarations) (map drive_of self.old.drives) number line ≡ Some (state_of self.new)) }
-        ensures no { IfOk result (λ ok. ok ≡ false → outside (map declared_tree self.old.declarations) (map drive_of self.old.drives) number line ≡ None) }
+    fn push_outside(
+        alloc: Global,
+        whole: Script,
+        names: NameTable,
+        number: u32,
+        line: Line,
+    ) -> Result<Option<Reader>, NoMemory>
+        requires { names ≡ taken_names (trees_of whole) None }
+        ensures { IfOk result (λ next. option_map state_of next ≡ outside (trees_of whole) (drives_of whole) number line) }
     {
         match line {
             Line::Def(name, params) => {
-                if !may_declare(&self.declarations, &name, &params) {
-                    return Ok(false);
+                if !may_declare(&names, &name, &params) {
+                    return Ok(None);
                 }
-                self.inside = Some(OpenBody::new(self.alloc, number, name, params));
-                Ok(true)
+                let mut names = names;
+                names.insert(&name)?;
+                let body = OpenBody::new(alloc, number, name, params)?;
+                Ok(Some(Reader {
+                    whole,
+                    inside: Some(body),
+                    names,
+                }))
             }
             Line::Call(function, args) => {
-                if !may_drive(&self.declarations, &function, &args) {
-                    return Ok(false);
+                if !may_drive(&names, &whole.declarations, &function, &args) {
+                    return Ok(None);
                 }
-                self.drives.push(DriveLine::Call(function, args))?;
-                Ok(true)
+                let Script {
+                    declarations,
+                    mut drives,
+                } = whole;
+                drives.push(DriveLine::Call(function, args))?;
+                Ok(Some(Reader {
+                    whole: Script {
+                        declarations,
+                        drives,
+                    },
+                    inside: None,
+                    names,
+                }))
             }
-            Line::End => Ok(false),
-            Line::Assign(_, _) => Ok(false),
-            Line::Operate(_, _, _) => Ok(false),
-            Line::Show(_) => Ok(false),
-            Line::Return(_) => Ok(false),
-            Line::Pass => Ok(false),
+            Line::End => Ok(None),
+            Line::Assign(_, _) => Ok(None),
+            Line::Operate(_, _, _) => Ok(None),
+            Line::Show(_) => Ok(None),
+            Line::Return(_) => Ok(None),
+            Line::Pass => Ok(None),
         }
     }
 
-    /// A line that says something: whether it may stand here.
-    pub fn push_line(&mut self, number: u32, line: Line) -> Result<bool, NoMemory>
-        ensures yes { IfOk result (λ ok. ok ≡ true → accept (state_of self.old) number line ≡ Some (state_of self.new)) }
-        ensures no { IfOk result (λ ok. ok ≡ false → accept (state_of self.old) number line ≡ None) }
+    /// The reader behind one more line that says something, where that may stand here.
+    pub fn push_line(
+        self,
+        alloc: Global,
+        number: u32,
+        line: Line,
+    ) -> Result<Option<Reader>, NoMemory>
+        ensures { IfOk result (λ next. option_map state_of next ≡ accept (state_of self) number line) }
     {
-        match self.inside.take() {
-            Some(open) => self.push_inside(open, number, line),
-            None => self.push_outside(number, line),
+        let Reader {
+            whole,
+            inside,
+            names,
+        } = self;
+        match inside {
+            Some(body) => Reader::push_inside(whole, names, body, number, line),
+            None => Reader::push_outside(alloc, whole, names, number, line),
+        }
+    }
+
+    /// The script at the end of the lines, of which this would be the number of the next.
+    pub fn finish(self, number: u32) -> Result<Script, ParseFault>
+        ensures { IsAnswerOf (walk (state_of self) number []) result }
+    {
+        let Reader {
+            whole,
+            inside,
+            names: _,
+        } = self;
+        match inside {
+            None => Ok(whole),
+            Some(_) => Err(ParseFault::Malformed(u64::from(number))),
         }
     }
 }

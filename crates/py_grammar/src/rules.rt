@@ -1,17 +1,16 @@
 //! The rules on lines that look at what stands before them.
 
-ghost use Rattle.std.specs.Prelude.{◌≡◌, map, bytes_eq};
+ghost use Rattle.std.specs.Prelude.{◌≡◌, map, length, bytes_eq};
 ghost use Rattle.std.specs.List.{list_any, list_all};
-ghost use Rattle.py_body.specs.Tree.{form_of, suite_of};
-ghost use Rattle.py_grammar.specs.Script.{declared_tree};
-ghost use Rattle.py_grammar.specs.Rules.{declares, is_among as is_among_names, all_differ as do_all_differ, is_builtin_class as is_builtin};
-ghost use Rattle.py_grammar.specs.Rules.{takes as takes_count, is_literal as is_literal_atom, may_declare as may_be_declared, may_drive as may_be_driven};
-ghost use Rattle.py_grammar.specs.Rules.{binds as binds_name, is_known as is_known_atom};
-ghost use Rattle.py_grammar.specs.Rules.{may_operate as may_be_operated};
 ghost use Rattle.py_body.specs.Binding.{arity_of as arity_in};
+ghost use Rattle.py_grammar.specs.Script.{declared_tree};
+ghost use Rattle.py_grammar.specs.Rules.{is_among as is_among_names, all_differ as do_all_differ, is_builtin_class as is_builtin};
+ghost use Rattle.py_grammar.specs.Rules.{takes as takes_count, is_literal as is_literal_atom, may_drive as may_be_driven};
+ghost use Rattle.py_grammar.specs.Tables.{may_head, names_of};
 
+use crate::name_table::NameTable;
 use crate::script::{DeclList, Declaration};
-use py_body::{Atom, AtomList, Operator, ParamList, Stmt, StmtList};
+use py_body::{Atom, AtomList, Operator, ParamList};
 use py_code::{PyText, same_text};
 
 fn is_among(name: &PyText, names: &[PyText]) -> bool
@@ -63,52 +62,38 @@ fn is_builtin_class(name: &PyText) -> bool
         || is_word(name, b"RecursionError")
 }
 
-#[tactic(auto, using(crate::proofs::Views::declares_map))]
-fn is_declared(declarations: &[Declaration], name: &PyText) -> bool
-    ensures { result ≡ declares name.now (map declared_tree declarations.now) }
+/// Whether a function may have this name and these parameters, behind declarations with the names of the table.
+pub fn may_declare(names: &NameTable, name: &PyText, params: &ParamList) -> bool
+    ensures { result ≡ may_head names.now name.now params.now }
 {
-    any_has_name(declarations, name)
-}
-
-fn any_has_name(declarations: &[Declaration], name: &PyText) -> bool
-    ensures { result ≡ list_any (λ d. bytes_eq name.now (declared_tree d).name) declarations.now }
-{
-    declarations
-        .iter()
-        .any(|declaration| same_text(name, declaration.name()))
-}
-
-/// Whether a function may have this name and these parameters, behind these declarations.
-pub fn may_declare(declarations: &DeclList, name: &PyText, params: &ParamList) -> bool
-    ensures { result ≡ may_be_declared (map declared_tree declarations.now) name.now params.now }
-{
-    !is_declared(declarations.as_slice(), name)
+    // The count comes first, since to compare names in pairs takes long where there are many.
+    params.len() <= 255
+        && !names.contains(name)
         && !is_builtin_class(name)
         && all_differ(params.as_slice())
-        && params.len() <= 255
 }
 
-fn takes(declaration: &Declaration, name: &PyText, count: usize) -> bool
-    ensures { result ≡ takes_count name.now count (declared_tree declaration.now) }
+/// How many arguments a function takes.
+fn takes(declaration: &Declaration) -> usize
+    ensures { result ≡ length (declared_tree declaration.now).params }
 {
     match declaration {
-        Declaration::Function(body) => same_text(name, &body.name) && body.params.len() == count,
+        Declaration::Function(body) => body.params.len(),
     }
 }
 
-#[tactic(auto, using(crate::proofs::Views::takes_map))]
-fn is_callable(declarations: &[Declaration], name: &PyText, count: usize) -> bool
+/// Whether one of these declarations, of which the table has the names, is a function of this name with so many parameters.
+fn is_callable(names: &NameTable, declarations: &DeclList, name: &PyText, count: usize) -> bool
+    requires { names.now ≡ names_of (map declared_tree declarations.now) }
     ensures { result ≡ list_any (takes_count name.now count) (map declared_tree declarations.now) }
 {
-    any_takes(declarations, name, count)
-}
-
-fn any_takes(declarations: &[Declaration], name: &PyText, count: usize) -> bool
-    ensures { result ≡ list_any (λ d. takes_count name.now count (declared_tree d)) declarations.now }
-{
-    declarations
-        .iter()
-        .any(|declaration| takes(declaration, name, count))
+    let Some(place) = names.place(name) else {
+        return false;
+    };
+    match declarations.get(place) {
+        Some(declaration) => takes(declaration) == count,
+        None => false,
+    }
 }
 
 fn is_literal(atom: &Atom) -> bool
@@ -129,60 +114,19 @@ fn are_literals(atoms: &[Atom]) -> bool
     atoms.iter().all(is_literal)
 }
 
-/// Whether a drive may call this function with these arguments, behind these declarations.
-pub fn may_drive(declarations: &DeclList, name: &PyText, args: &AtomList) -> bool
+/// Whether a drive may call this function with these arguments, behind these declarations, of which the table has the names.
+pub fn may_drive(names: &NameTable, declarations: &DeclList, name: &PyText, args: &AtomList) -> bool
+    requires { names.now ≡ names_of (map declared_tree declarations.now) }
     ensures { result ≡ may_be_driven (map declared_tree declarations.now) name.now args.now }
 {
-    is_callable(declarations.as_slice(), name, args.len()) && are_literals(args.as_slice())
-}
-
-fn binds(stmt: &Stmt, name: &PyText) -> bool
-    ensures { result ≡ binds_name name.now (form_of stmt.now.form) }
-{
-    match stmt.form.target() {
-        Some(target) => same_text(name, target),
-        None => false,
-    }
-}
-
-fn any_binds(stmts: &[Stmt], name: &PyText) -> bool
-    ensures { result ≡ list_any (λ s. binds_name name.now (form_of s.form)) stmts.now }
-{
-    stmts.iter().any(|stmt| binds(stmt, name))
-}
-
-/// Whether an atom is a literal, a parameter, or a name that one of these statements assigns to.
-#[tactic(auto, using(crate::proofs::Views::assigns_suite))]
-pub fn is_known(params: &ParamList, done: &StmtList, atom: &Atom) -> bool
-    ensures { result ≡ is_known_atom params.now (suite_of done.now) atom.now }
-{
-    match atom {
-        Atom::None => true,
-        Atom::Bool(_) => true,
-        Atom::Int(_) => true,
-        Atom::Str(_) => true,
-        Atom::Name(name) => is_among(name, params.as_slice()) || any_binds(done.as_slice(), name),
-    }
-}
-
-fn are_known(params: &ParamList, done: &StmtList, atoms: &[Atom]) -> bool
-    ensures { result ≡ list_all (is_known_atom params.now (suite_of done.now)) atoms.now }
-{
-    atoms.iter().all(|atom| is_known(params, done, atom))
+    is_callable(names, declarations, name, args.len()) && are_literals(args.as_slice())
 }
 
 /// How many arguments an operator takes.
-fn arity(op: Operator) -> usize
+pub fn arity(op: Operator) -> usize
     ensures { result ≡ arity_in op }
 {
     match op {
         Operator::Add => 2,
     }
-}
-
-/// Whether an operator may take these atoms, in a function with these parameters and behind these statements.
-pub fn may_operate(params: &ParamList, done: &StmtList, op: Operator, atoms: &AtomList) -> bool
-    ensures { result ≡ may_be_operated params.now (suite_of done.now) op atoms.now }
-{
-    atoms.len() == arity(op) && are_known(params, done, atoms.as_slice())
 }

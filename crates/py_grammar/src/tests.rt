@@ -2,6 +2,7 @@
 
 mod forms;
 mod lines;
+mod names;
 mod rules;
 mod trees;
 mod words;
