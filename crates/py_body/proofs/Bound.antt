@@ -1,6 +1,6 @@
 -- The names that a body binds.
-use Rattle.std.proofs.Common.{◌≡◌, ◌<◌, ◌≤◌, ◌+◌, ◌*◌, suc, List, [], ◌∷◌, ◌++◌, Bool, true, false, cond, ◌||◌, Some, None, refl, sym, ap, ◌∙◌, length, length-append, append_assoc, append-nil, arith}
-use Rattle.std.specs.Prelude.{Option, bytes_eq}
+use Rattle.std.proofs.Common.{◌≡◌, ◌<◌, ◌≤◌, ◌+◌, ◌*◌, zero, suc, List, [], ◌∷◌, ◌++◌, Bool, true, false, cond, ◌||◌, Some, None, refl, sym, ap, ◌∙◌, length, length-append, append_assoc, append-nil, arith, true≢false}
+use Rattle.std.specs.Prelude.{Option, bytes_eq, Contains}
 use Rattle.std.specs.List.{list_any}
 use Rattle.std.proofs.lemmas.Slice.Eq.{bytes_eq-Decides}
 use Rattle.py_body.specs.Tree.{Name, Form, assign, operate, show, give, pass, target_of, Suite, nothing, first}
@@ -38,13 +38,23 @@ GoesOn-bound_by (first n f more) names =
     let all = GoesOn-bound_by more (bound_if names (target_of f)) in
     (one.0 ++ all.0, all.1 ∙ ap (λ (l : List Name). l ++ all.0) one.1 ∙ append_assoc names one.0 all.0)
 
-place-append : (names more : List Name) (x : Name) → place names x < length names → place (names ++ more) x < length (names ++ more)
+pub place-append : (names more : List Name) (x : Name) → place names x < length names → place (names ++ more) x < length (names ++ more)
 place-append [] more x below = absurd (omega arith)
 place-append (y ∷ ys) more x below = by (bytes_eq x y) (place-append ys more x) below
   where
     by : (b : Bool) → (place ys x < length ys → place (ys ++ more) x < length (ys ++ more)) → cond b 0 (suc (place ys x)) < suc (length ys) → cond b 0 (suc (place (ys ++ more) x)) < suc (length (ys ++ more))
     by true later low = omega arith
     by false later low = omega (arith, later (omega (arith, low)))
+
+-- a name that is there has a place
+pub place-known : (names : List Name) (x : Name) → Contains names x → place names x < length names
+place-known [] x (k, low, at) = absurd (omega (arith, low))
+place-known (y ∷ ys) x known = by (bytes_eq x y) refl known (place-known ys x)
+  where
+    by : (b : Bool) → bytes_eq x y ≡ b → Contains (y ∷ ys) x → (Contains ys x → place ys x < length ys) → cond b 0 (suc (place ys x)) < suc (length ys)
+    by true is found later = omega arith
+    by false is (zero, low, at) later = absurd (true≢false (sym ((bytes_eq-Decides x y).1 (sym at)) ∙ is))
+    by false is (suc k, low, at) later = omega (arith, later (k, omega (arith, low), at))
 
 IsBound-goes_on : (names vars : List Name) (target : Option Name) → GoesOn names vars → IsBound names target → IsBound vars target
 IsBound-goes_on names vars None goes_on bound = tt

@@ -4,13 +4,14 @@ use Rattle.std.proofs.lemmas.List.{take_more}
 use Rattle.py_code.specs.declared.instruction.Instruction.TheVariants.{StoreFast, BinaryOperation, ReturnConst}
 use Rattle.py_code.specs.declared.literal.Literal.{None as NoneLiteral}
 use Rattle.py_code.specs.Operators.{binary_number}
+use Rattle.py_check.specs.Operands.{prefixes}
 use Rattle.py_body.specs.declared.atom.Atom.{Atom}
 use Rattle.py_body.specs.declared.atom.Operator.{Operator}
 use Rattle.py_body.specs.declared.stmt.Stmt.{Stmt}
 use Rattle.py_body.specs.Tree.{Name, Form, assign, operate, Suite, nothing, first, form_of, suite_of, Tree}
 use Rattle.py_body.specs.Binding.{locals_of, IsClosed}
-use Rattle.py_body.specs.Code.{Parts, place, binary_of, Stands, LaidAtom, LaidAtoms, LaidSuite}
-use Rattle.py_body.specs.Emitting.{IsMatched, HasRoom, Begins, EmitsUnit, EmitsConst, EmitsAtom, EmitsAtoms, EmitsForm, EmitsSuite, IsEmitted, size_of}
+use Rattle.py_body.specs.Code.{Parts, place, binary_of, Stands, LaidAtom, LaidAtoms}
+use Rattle.py_body.specs.Emitting.{IsMatched, HasRoom, Begins, EmitsUnit, EmitsConst, EmitsAtom, EmitsAtoms, EmitsForm, EmitsSuite, LaidTo, IsEmitted, size_of}
 use Rattle.py_body.proofs.Bound.{length-bound_by, size_of-known}
 use Rattle.py_body.proofs.EmittingLemmas.{Begins-refl, Begins-trans, joined, reworded}
 
@@ -55,7 +56,7 @@ pub record SoFar (old new : Parts) (header : ℕ) (all left : Suite) : Type 0 wh
   pub matched : IsMatched new
   pub few_units : length new.units + size_of left ≤ length old.units + size_of all
   pub few_constants : length new.constants + size_of left ≤ length old.constants + size_of all
-  pub laid : (whole : Parts) → Begins new whole → LaidSuite whole header left (length new.units) → LaidSuite whole header all (length old.units)
+  pub laid : (whole : Parts) (end : ℕ) → Begins new whole → LaidTo whole header left (length new.units) end → LaidTo whole header all (length old.units) end
 
 statement_more : (old mid new : Parts) (header n : ℕ) (all left more : Suite) (f : Form) → left ≡ first n f more
     → SoFar old mid header all left → EmitsForm mid new f n → SoFar old new header all more
@@ -66,7 +67,7 @@ statement_more old mid new header n all left more f is before form =
       matched = form.matched;
       few_units = omega (arith, so_far.few_units, form.few_units);
       few_constants = omega (arith, so_far.few_constants, form.few_constants);
-      laid = λ whole begins rest. so_far.laid whole (Begins-trans mid new whole form.grown begins) (length new.units, form.laid whole begins, rest);
+      laid = λ whole end begins rest. so_far.laid whole end (Begins-trans mid new whole form.grown begins) (length new.units, form.laid whole begins, rest);
     }
 
 -- the statement at a place and those behind it
@@ -90,10 +91,14 @@ suite_ends old mid new header stmts i high before end =
       matched = end.matched;
       few_units = omega (arith, so_far.few_units, end.few_units);
       few_constants = omega (arith, so_far.few_constants, end.few_constants);
-      laid = λ whole begins. so_far.laid whole (Begins-trans mid new whole end.grown begins) (length new.units, end.laid whole begins);
+      laid = λ whole begins. so_far.laid whole (length new.units) (Begins-trans mid new whole end.grown begins) (end.laid whole begins);
     }
 
 -- ---- bodies
+
+-- nothing matches
+pub matched_none : (vars : List Name) → IsMatched (record { units = []; locations = []; constants = []; vars = vars })
+matched_none vars = (refl, record { few = λ at low. let same : at ≡ 0 = omega (arith, low) in omega (arith, ap (prefixes []) same); ends = refl }, refl)
 
 -- a body that can be compiled needs no more than fits 32 bits
 pub body_has_room : (old : Parts) (t : Tree) → IsClosed t → IsMatched old → length old.constants ≡ 0 → old.vars ≡ locals_of t → HasRoom old (size_of t.suite)
@@ -106,12 +111,12 @@ body_has_room old t closed matched none vars =
       vars = omega (arith, ap length vars, many, closed.few, closed.short);
     }
 
-pub body_emitted : (old new : Parts) (t : Tree) → IsClosed t → IsMatched old → length old.units ≡ 0 → old.vars ≡ locals_of t → EmitsSuite old new t.suite t.line → IsEmitted new t
-body_emitted old new t closed matched none vars emits =
+pub body_emitted : (old new : Parts) (t : Tree) → IsClosed t → length old.units ≡ 0 → old.vars ≡ locals_of t → EmitsSuite old new t.suite t.line → IsEmitted new t
+body_emitted old new t closed none vars emits =
     let size = size_of-known t.suite t.params closed.known in
     record {
       vars = emits.grown.vars ∙ vars;
-      laid = subst (λ (at : ℕ). LaidSuite new t.line t.suite at) none (emits.laid new (Begins-refl new));
+      laid = subst (λ (at : ℕ). LaidTo new t.line t.suite at (length new.units)) none (emits.laid new (Begins-refl new));
       short = omega (arith, emits.few_units, none, size, closed.short);
       matched = emits.matched;
     }

@@ -11,7 +11,8 @@ use Rattle.py_code.specs.Units.{decoded_from}
 use Rattle.py_body.specs.Tree.{Name}
 use Rattle.py_body.specs.Naming.{Continues}
 use Rattle.py_body.specs.Code.{Parts, place, Stands}
-use Rattle.py_body.specs.Emitting.{IsMatched, located, Spells, Begins, Emits, EmitsUnit, EmitsConst}
+use Rattle.py_body.specs.Emitting.{AreSpelled, HaveNoCode, IsMatched, located, Spells, Begins, Emits, EmitsUnit, EmitsConst}
+use Rattle.py_body.proofs.Spelling.{spelled_more}
 
 -- ---- lists that go on
 
@@ -78,7 +79,7 @@ unit_emitted old mid new op arg line matched spells same_locations same_constant
     let units : new.units ≡ old.units ++ spells.added = ap (λ (p : Parts). p.units) is ∙ spells.grown in
     let long : length new.units ≡ length old.units + length spells.added = ap length units ∙ length-append old.units spells.added in
     let count : length mid.units - length mid.locations ≡ length spells.added =
-    omega (arith, matched, ap length same_locations, ap length spells.grown, length-append old.units spells.added) in
+    omega (arith, matched.0, ap length same_locations, ap length spells.grown, length-append old.units spells.added) in
     let locations : new.locations ≡ old.locations ++ replicate (length spells.added) line =
     ap (λ (p : Parts). p.locations) is ∙ ap (λ (l : List ℕ). l ++ replicate (length mid.units - length mid.locations) line) same_locations
     ∙ ap (λ (n : ℕ). old.locations ++ replicate n line) count in
@@ -90,7 +91,11 @@ unit_emitted old mid new op arg line matched spells same_locations same_constant
         constants = ([], constants ∙ sym (append-nil old.constants));
         vars = ap (λ (p : Parts). p.vars) is ∙ same_vars;
       };
-      matched = omega (arith, ap length locations, length-append old.locations (replicate (length spells.added) line), length-replicate (length spells.added) line, long, matched);
+      matched = (
+        omega (arith, ap length locations, length-append old.locations (replicate (length spells.added) line), length-replicate (length spells.added) line, long, matched.0),
+        subst AreSpelled (sym units) (spelled_more old.units spells.added op arg matched.1 spells.few spells.decoded),
+        subst HaveNoCode (sym constants) matched.2,
+      );
       few_units = omega (arith, long, spells.few);
       few_constants = omega (arith, ap length constants);
       laid = λ whole begins.
@@ -102,7 +107,7 @@ unit_emitted old mid new op arg line matched spells same_locations same_constant
           let left : drop (length old.units) whole.units ≡ spells.added ++ more = ap (drop (length old.units)) front ∙ drop-append old.units (spells.added ++ more) in (
             ap (decoded_from 0 (length old.units)) left ∙ spells.decoded (length old.units) more
                 ∙ ap (λ (n : ℕ). Some (record { op = op; arg = record { 0 = arg }; next = n })) (sym long),
-            λ k low high. rw lines (slice_get-replicate old.locations rest (length spells.added) k line (omega (arith, matched, low)) (omega (arith, matched, long, high))),
+            λ k low high. rw lines (slice_get-replicate old.locations rest (length spells.added) k line (omega (arith, matched.0, low)) (omega (arith, matched.0, long, high))),
           );
     }
 

@@ -2,6 +2,10 @@
 pub mod Env
 -- runs over a unit and its prefixes
 pub mod Decoding
+-- units that are spelled
+pub mod Spelling
+-- the notes of laid code
+pub mod Typing
 -- laid loads run as those of the tree
 pub mod Loads
 -- laid code runs as its tree

@@ -1,6 +1,6 @@
 -- Names in a table that grows.
 use Rattle.std.proofs.Common.{◌≡◌, ◌<◌, ◌+◌, ℕ, zero, suc, List, [], ◌∷◌, ◌++◌, Bool, true, false, cond, Some, refl, sym, ap, ◌∙◌, subst, length, take, get_or, arith, length-append, append-nil}
-use Rattle.std.specs.Prelude.{All, slice_get, bytes_eq, codes, encode_utf8, encode_utf8_all}
+use Rattle.std.specs.Prelude.{slice_get, bytes_eq, codes, encode_utf8, encode_utf8_all}
 use Rattle.std.specs.List.{list_any}
 use Rattle.std.proofs.lemmas.List.{take_more}
 use Rattle.std.proofs.lemmas.Option.{slice_get_within}
@@ -53,11 +53,11 @@ names_more old new ids texts i id x low is grows named one =
     rw more (NamesAll-last new ids (take i texts) id x (NamesAll-grown old new ids (take i texts) grows named) one)
 
 -- each is a place in the table
-pub NamesAll-below : (table : List (List ℕ)) (ids : List NameId) (xs : List Name) → NamesAll table ids xs → All (λ id. id.index < length table) ids
-NamesAll-below table [] xs named k d low = absurd (omega arith)
-NamesAll-below table (id ∷ ids) [] named k d low = absurd named
-NamesAll-below table (id ∷ ids) (x ∷ xs) (one, rest) zero d low = one.0
-NamesAll-below table (id ∷ ids) (x ∷ xs) (one, rest) (suc k) d low = NamesAll-below table ids xs rest k d (omega arith)
+pub NamesAll-below : (table : List (List ℕ)) (ids : List NameId) (xs : List Name) (i : ℕ) (id : NameId) → NamesAll table ids xs → slice_get ids i ≡ Some id → id.index < length table
+NamesAll-below table [] xs i id named here = absurd (cc)
+NamesAll-below table (a ∷ ids) [] i id named here = absurd named
+NamesAll-below table (a ∷ ids) (x ∷ xs) zero id (one, rest) here = let same : a ≡ id = cc in subst (λ (n : NameId). n.index < length table) same one.0
+NamesAll-below table (a ∷ ids) (x ∷ xs) (suc i) id (one, rest) here = NamesAll-below table ids xs i id rest here
 
 pub length-NamesAll : (table : List (List ℕ)) (ids : List NameId) (xs : List Name) → NamesAll table ids xs → length ids ≡ length xs
 length-NamesAll table [] [] named = refl

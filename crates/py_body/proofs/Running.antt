@@ -1,8 +1,7 @@
--- Laid code runs as its tree, and comes to no state without a meaning.
+-- Laid code runs as its tree.
 use Rattle.std.proofs.Common.{◌≡◌, ◌<◌, ◌-◌, ℕ, zero, suc, List, [], ◌∷◌, ◌++◌, Bool, true, cond, refl, sym, ap, ◌∙◌, subst, length, drop, arith, inl, inr}
 use Rattle.std.specs.Prelude.{Option, None, Some, slice_get, slice_set, nat_lt}
 use Rattle.std.proofs.lemmas.Bool.{lt-ltb}
-use Rattle.py_code.specs.declared.code.PyCode.{PyCode}
 use Rattle.py_code.specs.declared.instruction.Instruction.{Instruction}
 use Rattle.py_code.specs.declared.instruction.Instruction.TheVariants.{StoreFast, BinaryOperation, PrintExpr, ReturnValue, ReturnConst}
 use Rattle.py_code.specs.declared.literal.Literal.{None as NoneLiteral}
@@ -17,8 +16,8 @@ use Rattle.py_objects.specs.Objects.{Obj}
 use Rattle.py_objects.specs.Own.{Own, Asks, Ends}
 use Rattle.py_objects.specs.Telling.{Answered, Asked}
 use Rattle.py_frame.specs.declared.input.Expect.TheVariants as expect
-use Rattle.py_frame.specs.Rows.{State, Step, Goes, Tells, Stuck, Move, Plainly, next as behind, with_stack, with_locals, waiting, returns, act, answered, unit_answered, receive}
-use Rattle.py_frame.specs.RunOfRows.{ByMove, ByStep, Reaches, IsFree, IsFreeMove, IsFreeAt}
+use Rattle.py_frame.specs.Rows.{NamedCode, State, Step, Goes, Tells, Stuck, Move, Plainly, next as behind, with_stack, with_locals, waiting, returns, act, answered, unit_answered, receive}
+use Rattle.py_frame.specs.RunOfRows.{ByMove, ByStep, Reaches}
 use Rattle.py_body.specs.declared.atom.Atom.{Atom}
 use Rattle.py_body.specs.declared.atom.Operator.{Operator}
 use Rattle.py_body.specs.declared.atom.Operator.TheVariants as operator
@@ -28,34 +27,31 @@ use Rattle.py_body.specs.Outcome.{After, Use, Normal, On_normal, RunsSuite}
 use Rattle.py_body.specs.Trace.{EndsBy}
 use Rattle.py_body.specs.Code.{Parts, place, Stands, StandsConst, LaidForm, LaidSuite, parts_with}
 use Rattle.py_body.proofs.Bound.{IsBound, AllBound}
-use Rattle.py_body.proofs.Decoding.{running, HasOp, EndsFree, decoded_run}
+use Rattle.py_body.proofs.Decoding.{running, HasOp, decoded_run}
 use Rattle.py_body.proofs.Env.{Holds, Holds-stored}
 use Rattle.py_body.proofs.Loads.{const_run, atom_run}
 
-module _ (objects : List Payload) (code : PyCode) (vars : List Name) (final : State) where
+module _ (objects : List Payload) (code : NamedCode) (vars : List Name) (final : State) where
   abbrev units : List CodeUnit
-  units = code.code.instructions.items
+  units = code.code.code.instructions.items
 
   abbrev parts : Parts
-  parts = parts_with vars code
-
-  abbrev IsFinal : Type 0
-  IsFinal = EndsFree objects code final
+  parts = parts_with vars code.code
 
   -- a frame that has ended tells no more
-  ended_run : (n : ℕ) (s : State) (ts : List Own) → Reaches objects code n (waiting expect.Ended s) ts final → (ts ≡ []) × IsFinal
-  ended_run zero s ts (none, here) = (none, subst (λ (t : State). IsFreeAt code t.wants t) (sym here) tt)
+  ended_run : (n : ℕ) (s : State) (ts : List Own) → Reaches objects code n (waiting expect.Ended s) ts final → ts ≡ []
+  ended_run zero s ts run = run.0
   ended_run (suc n) s ts run = absurd run
 
   -- ---- what follows
 
-  -- a suite, begun with these locals, may tell the events, and the run that tells them comes to a state with a meaning
+  -- a suite, begun with these locals, may tell the events
   abbrev TellsSuite : Suite → Env → List Own → Type 0
-  TellsSuite s env ts = IsFinal × RunsSuite objects s env None ts (EndsBy objects)
+  TellsSuite s env ts = RunsSuite objects s env None ts (EndsBy objects)
 
-  cut_suite : (s : Suite) (env : Env) (ts : List Own) → ts ≡ [] → IsFinal → TellsSuite s env ts
-  cut_suite nothing env ts none free = (free, inl (none, refl))
-  cut_suite (first n f more) env ts none free = (free, inl (none, refl))
+  cut_suite : (s : Suite) (env : Env) (ts : List Own) → ts ≡ [] → TellsSuite s env ts
+  cut_suite nothing env ts none = inl (none, refl)
+  cut_suite (first n f more) env ts none = inl (none, refl)
 
   -- what follows a statement of a body
   abbrev Follows : Suite → After
@@ -70,9 +66,8 @@ module _ (objects : List Payload) (code : PyCode) (vars : List Name) (final : St
       → Reaches objects code n (running at 0 (v ∷ []) locals) ts final → TellsFrom more (names ++ x ∷ []) to → TellsSuite more (set_local x (Some v) env) ts
   store_run line x more names at to v locals env n ts stands holds below run later =
       let within : nat_lt (place vars x) (length locals) ≡ true = lt-ltb (place vars x) (length locals) (omega (arith, holds.long)) in
-      decoded_run objects code final (drop at units) at 0 StoreFast (place vars x) to (v ∷ []) locals n ts refl stands.0
-      (λ k p. subst (λ (b : Bool). IsFree (cond b (Goes (with_locals (slice_set locals (place vars x) (Some v)) (with_stack [] (behind (running k p (v ∷ []) locals))))) Stuck)) (sym within) tt) run
-      (λ none free. cut_suite more _ ts none free)
+      decoded_run objects code final (drop at units) at 0 StoreFast (place vars x) to (v ∷ []) locals n ts refl stands.0 run
+      (cut_suite more _ ts)
       (λ k p m is_next op left.
       let step = subst (λ (b : Bool). ByStep (cond b (Goes (with_locals (slice_set locals (place vars x) (Some v)) (with_stack [] (behind (running k p (v ∷ []) locals))))) Stuck) ts (λ s mid. Reaches objects code m s mid final)) within left in
       later _ _ m ts (Holds-stored vars names locals env x v below holds) (subst (λ (b : ℕ). Reaches objects code m (running b 0 [] (slice_set locals (place vars x) (Some v))) ts final) is_next step))
@@ -94,16 +89,14 @@ module _ (objects : List Payload) (code : PyCode) (vars : List Name) (final : St
   answered_run : (more : Suite) (env : Env) (op : Instruction) (left : Obj → List Obj) (then : Obj → List Own → Type 0) (k : ℕ) (locals : List (Option Obj)) (n : ℕ) (ts : List Own)
       → HasOp code k op → ((v : Obj) → answered op v (running (suc k) 0 [] locals) ≡ Goes (running (suc k) 0 (left v) locals))
       → Reaches objects code n (asking (suc k) locals) ts final
-      → ((v : Obj) (m : ℕ) (us : List Own) → Reaches objects code m (running (suc k) 0 (left v) locals) us final → IsFinal × then v us)
-      → IsFinal × Answered ts (Use env (Follows more) then)
-  answered_run more env op left then k locals zero ts has_op goes (none, here) later =
-      (subst (λ (t : State). IsFreeAt code t.wants t) (sym here) (λ v. subst IsFree (sym (received op k locals v has_op ∙ goes v)) tt), inl (none, refl))
+      → ((v : Obj) (m : ℕ) (us : List Own) → Reaches objects code m (running (suc k) 0 (left v) locals) us final → then v us)
+      → Answered ts (Use env (Follows more) then)
+  answered_run more env op left then k locals zero ts has_op goes run later = inl (run.0, refl)
   answered_run more env op left then k locals (suc n) ts has_op goes (got.Value v, mid, is, run) later =
-      let told = later v n mid (subst (λ (s : Step). ByStep s mid (λ t us. Reaches objects code n t us final)) (received op k locals v has_op ∙ goes v) run) in
-      (told.0, inr (got.Value v, mid, is, told.1))
+      inr (got.Value v, mid, is, later v n mid (subst (λ (s : Step). ByStep s mid (λ t us. Reaches objects code n t us final)) (received op k locals v has_op ∙ goes v) run))
   answered_run more env op left then k locals (suc n) ts has_op goes (got.Raise e, mid, is, (rest, ends, run)) later =
       let end = ended_run n (asking (suc k) locals) rest run in
-      (end.1, inr (got.Raise e, mid, is, inr (suc k - 1, ends ∙ ap (λ (us : List Own). Ends (suc k - 1) (ending.Raise e) ∷ us) end.0)))
+      inr (got.Raise e, mid, is, inr (suc k - 1, ends ∙ ap (λ (us : List Own). Ends (suc k - 1) (ending.Raise e) ∷ us) end))
   answered_run more env op left then k locals (suc n) ts has_op goes (got.Stop v, mid, is, never) later = absurd never
 
   -- a unit that asks
@@ -113,16 +106,20 @@ module _ (objects : List Payload) (code : PyCode) (vars : List Name) (final : St
       → ((k p : ℕ) → act code op arg (running k p stack locals) ≡ Plainly (Tells (Asks k r None) (asking (suc k) locals)))
       → ((k : ℕ) (v : Obj) → answered op v (running k 0 [] locals) ≡ Goes (running k 0 (left v) locals))
       → Reaches objects code n (running at 0 stack locals) ts final
-      → ((v : Obj) (m : ℕ) (us : List Own) → Reaches objects code m (running to 0 (left v) locals) us final → IsFinal × then v us)
-      → IsFinal × Asked r None ts (Use env (Follows more) then)
+      → ((v : Obj) (m : ℕ) (us : List Own) → Reaches objects code m (running to 0 (left v) locals) us final → then v us)
+      → Asked r None ts (Use env (Follows more) then)
   asked_run more env line at to op arg r stack left then locals n ts stands asks goes run later =
-      decoded_run objects code final (drop at units) at 0 op arg to stack locals n ts refl stands.0 (λ k p. subst IsFreeMove (sym (asks k p)) tt) run
-      (λ none free. (free, inl (none, refl)))
+      decoded_run objects code final (drop at units) at 0 op arg to stack locals n ts refl stands.0 run
+      (λ none. inl (none, refl))
       (λ k p m is_next has_op moved.
       let (mid, is, waits) = subst (λ (w : Move). ByMove objects w ts (λ s us. Reaches objects code m s us final)) (asks k p) moved in
-      let answer = answered_run more env op left then k locals m mid has_op (goes (suc k)) waits
-      (λ v j us gone. later v j us (subst (λ (b : ℕ). Reaches objects code j (running b 0 (left v) locals) us final) is_next gone)) in
-      (answer.0, inr (k, mid, is, answer.1)))
+      inr (
+        k,
+        mid,
+        is,
+        answered_run more env op left then k locals m mid has_op (goes (suc k)) waits
+            (λ v j us gone. later v j us (subst (λ (b : ℕ). Reaches objects code j (running b 0 (left v) locals) us final) is_next gone)),
+      ))
 
   -- ---- statements, each in front of what tells the rest
 
@@ -131,9 +128,7 @@ module _ (objects : List Payload) (code : PyCode) (vars : List Name) (final : St
       → Reaches objects code n (running at 0 [] locals) ts final → TellsFrom more (names ++ x ∷ []) to → TellsSuite (first i (assign x a) more) env ts
   assign_run i x a more names at to locals env n ts (stores, laid, stands) holds known below run later =
       atom_run objects code vars final i a names at stores [] locals env n ts laid holds known run (cut_suite (first i (assign x a) more) env ts)
-      (λ v m load run1.
-      let told = store_run i x more names stores to v locals env m ts stands holds below run1 later in
-      (told.0, inr (load ts _ told.1)))
+      (λ v m load run1. inr (load ts _ (store_run i x more names stores to v locals env m ts stands holds below run1 later)))
 
   operate_run : (i : ℕ) (x : Name) (op : Operator) (atoms : List Atom) (more : Suite) (names : List Name) (at to : ℕ) (locals : List (Option Obj)) (env : Env) (n : ℕ) (ts : List Own)
       → LaidForm parts i (operate x op atoms) at to → Holds vars names locals env → FormKnown names (operate x op atoms) → place vars x < length vars
@@ -142,35 +137,33 @@ module _ (objects : List Payload) (code : PyCode) (vars : List Name) (final : St
   operate_run i x operator.Add (a ∷ []) more names at to locals env n ts laid holds (arity, known) below run later = absurd (omega (arith, arity))
   operate_run i x operator.Add (a ∷ b ∷ c ∷ atoms) more names at to locals env n ts laid holds (arity, known) below run later = absurd (omega (arith, arity))
   operate_run i x operator.Add (a ∷ b ∷ []) more names at to locals env n ts (asks, stores, (mid, laid_a, (end, laid_b, is_asks)), stands_ask, stands_store) holds (arity, known) below run later =
-      let cut : ts ≡ [] → IsFinal → TellsSuite (first i (operate x operator.Add (a ∷ b ∷ [])) more) env ts = cut_suite (first i (operate x operator.Add (a ∷ b ∷ [])) more) env ts in
+      let cut : ts ≡ [] → TellsSuite (first i (operate x operator.Add (a ∷ b ∷ [])) more) env ts = cut_suite (first i (operate x operator.Add (a ∷ b ∷ [])) more) env ts in
       atom_run objects code vars final i a names at mid [] locals env n ts laid_a holds (known 0 a (omega arith)) run cut
       (λ v m load_a run1. atom_run objects code vars final i b names mid end (v ∷ []) locals env m ts laid_b holds (known 1 b (omega arith)) run1 cut
       (λ w j load_b run2.
-      let told = asked_run more env i asks stores BinaryOperation 6 _ (w ∷ v ∷ []) (λ u. u ∷ []) _ locals j ts stands_ask (λ k p. refl) (λ k u. refl)
+      inr (load_a ts _ (load_b ts _ (asked_run more env i asks stores BinaryOperation 6 _ (w ∷ v ∷ []) (λ u. u ∷ []) _ locals j ts stands_ask (λ k p. refl) (λ k u. refl)
       (subst (λ (p : ℕ). Reaches objects code j (running p 0 (w ∷ v ∷ []) locals) ts final) (sym is_asks) run2)
-      (λ u k us run3. store_run i x more names stores to u locals env k us stands_store holds below run3 later) in
-      (told.0, inr (load_a ts _ (load_b ts _ told.1)))))
+      (λ u k us run3. store_run i x more names stores to u locals env k us stands_store holds below run3 later))))))
 
   show_run : (i : ℕ) (a : Atom) (more : Suite) (names : List Name) (at to : ℕ) (locals : List (Option Obj)) (env : Env) (n : ℕ) (ts : List Own)
       → LaidForm parts i (show a) at to → Holds vars names locals env → FormKnown names (show a)
       → Reaches objects code n (running at 0 [] locals) ts final → TellsFrom more names to → TellsSuite (first i (show a) more) env ts
   show_run i a more names at to locals env n ts (asks, laid, stands) holds known run later =
       atom_run objects code vars final i a names at asks [] locals env n ts laid holds known run (cut_suite (first i (show a) more) env ts)
-      (λ v m load run1.
-      let told = asked_run more env i asks to PrintExpr 0 (Show v) (v ∷ []) (λ u. []) (λ u. Follows more env Normal) locals m ts stands (λ k p. refl) (λ k u. refl) run1
-      (λ u k us run2. later locals env k us holds run2) in
-      (told.0, inr (load ts _ told.1)))
+      (λ v m load run1. inr (load ts _
+      (asked_run more env i asks to PrintExpr 0 (Show v) (v ∷ []) (λ u. []) (λ u. Follows more env Normal) locals m ts stands (λ k p. refl) (λ k u. refl) run1
+      (λ u k us run2. later locals env k us holds run2))))
 
   give_run : (i : ℕ) (a : Atom) (more : Suite) (names : List Name) (at to : ℕ) (locals : List (Option Obj)) (env : Env) (n : ℕ) (ts : List Own)
       → LaidForm parts i (give a) at to → Holds vars names locals env → FormKnown names (give a)
       → Reaches objects code n (running at 0 [] locals) ts final → TellsSuite (first i (give a) more) env ts
   give_run i a more names at to locals env n ts (ends, laid, stands) holds known run =
-      let cut : ts ≡ [] → IsFinal → TellsSuite (first i (give a) more) env ts = cut_suite (first i (give a) more) env ts in
+      let cut : ts ≡ [] → TellsSuite (first i (give a) more) env ts = cut_suite (first i (give a) more) env ts in
       atom_run objects code vars final i a names at ends [] locals env n ts laid holds known run cut
-      (λ v m load run1. decoded_run objects code final (drop ends units) ends 0 ReturnValue 0 to (v ∷ []) locals m ts refl stands.0 (λ k p. tt) run1 cut
+      (λ v m load run1. decoded_run objects code final (drop ends units) ends 0 ReturnValue 0 to (v ∷ []) locals m ts refl stands.0 run1 cut
       (λ k p j is_next op (mid, is, run2).
       let end = ended_run j (behind (running k p [] locals)) mid run2 in
-      (end.1, inr (load ts _ (inr (k, is ∙ ap (λ (us : List Own). Ends k (ending.Return v) ∷ us) end.0))))))
+      inr (load ts _ (inr (k, is ∙ ap (λ (us : List Own). Ends k (ending.Return v) ∷ us) end)))))
 
   form_run : (f : Form) (i : ℕ) (more : Suite) (names : List Name) (at to : ℕ) (locals : List (Option Obj)) (env : Env) (n : ℕ) (ts : List Own)
       → LaidForm parts i f at to → Holds vars names locals env → FormKnown names f → IsBound vars (target_of f)
@@ -180,8 +173,7 @@ module _ (objects : List Payload) (code : PyCode) (vars : List Name) (final : St
   form_run (show a) i more names at to locals env n ts laid holds known bound run later = show_run i a more names at to locals env n ts laid holds known run later
   form_run (give a) i more names at to locals env n ts laid holds known bound run later = give_run i a more names at to locals env n ts laid holds known run
   form_run pass i more names at to locals env n ts is_at holds known bound run later =
-      let told = later locals env n ts holds (subst (λ (b : ℕ). Reaches objects code n (running b 0 [] locals) ts final) (sym is_at) run) in
-      (told.0, inr told.1)
+      inr (later locals env n ts holds (subst (λ (b : ℕ). Reaches objects code n (running b 0 [] locals) ts final) (sym is_at) run))
 
   -- ---- suites
 
@@ -189,10 +181,10 @@ module _ (objects : List Payload) (code : PyCode) (vars : List Name) (final : St
   end_run : (header at to : ℕ) (locals : List (Option Obj)) (env : Env) (n : ℕ) (ts : List Own)
       → StandsConst parts header at ReturnConst NoneLiteral to → Reaches objects code n (running at 0 [] locals) ts final → TellsSuite nothing env ts
   end_run header at to locals env n ts stands run =
-      const_run objects code vars final header ReturnConst NoneLiteral payload.None (λ s v. returns v s) at to [] locals n ts refl (λ s v. tt) (λ i s. refl) stands run (cut_suite nothing env ts)
+      const_run objects code vars final header ReturnConst NoneLiteral payload.None (λ s v. returns v s) at to [] locals n ts refl (λ i s. refl) stands run (cut_suite nothing env ts)
       (λ v k prefix m is_next has (rest, is, later).
       let end = ended_run m (behind (running k prefix [] locals)) rest later in
-      (end.1, inr (inr (v, has, inr (k, is ∙ ap (λ (us : List Own). Ends k (ending.Return v) ∷ us) end.0)))))
+      inr (inr (v, has, inr (k, is ∙ ap (λ (us : List Own). Ends k (ending.Return v) ∷ us) end))))
 
   pub suite_run : (s : Suite) (header : ℕ) (names : List Name) (at : ℕ) → LaidSuite parts header s at → SuiteKnown names s → AllBound vars s → TellsFrom s names at
   suite_run nothing header names at (to, stands) known bound locals env n ts holds run = end_run header at to locals env n ts stands run

@@ -1,26 +1,39 @@
 -- What is emitted.
-use Rattle.std.specs.Prelude.{ℕ, ◌+◌, ◌*◌, ◌-◌, ◌≤◌, ◌<◌, ◌^◌, Some, List, ◌++◌, ◌≡◌, length, replicate}
+use Rattle.std.specs.Prelude.{ℕ, ◌+◌, ◌*◌, ◌-◌, ◌≤◌, ◌<◌, ◌^◌, Some, List, ◌++◌, ◌≡◌, true, not, length, replicate}
+use Rattle.std.specs.List.{list_all}
 use Rattle.py_code.specs.declared.unit.CodeUnit.{CodeUnit}
 use Rattle.py_code.specs.declared.instruction.Instruction.{Instruction}
-use Rattle.py_code.specs.declared.literal.Literal.{Literal}
+use Rattle.py_code.specs.declared.instruction.Instruction.TheVariants.{ReturnConst}
+use Rattle.py_code.specs.declared.literal.Literal.{Literal, None as NoneLiteral}
 use Rattle.py_code.specs.Literals.{literals_of}
 use Rattle.py_code.specs.Units.{decoded_from}
+use Rattle.py_check.specs.Constants.{has_code}
+use Rattle.py_check.specs.Operands.{prefixes}
 use Rattle.py_body.specs.declared.atom.Atom.{Atom}
 use Rattle.py_body.specs.declared.emit.Emitter.{Emitter}
 use Rattle.py_body.specs.Tree.{Form, assign, operate, show, give, pass, Suite, nothing, first, Tree}
 use Rattle.py_body.specs.Binding.{locals_of}
 use Rattle.py_body.specs.Naming.{Continues}
-use Rattle.py_body.specs.Code.{Parts, Stands, StandsConst, LaidAtom, LaidAtoms, LaidForm, LaidSuite}
+use Rattle.py_body.specs.Code.{Parts, Stands, StandsConst, LaidAtom, LaidAtoms, LaidForm}
 
 -- what an emitter has so far
 abbrev pub parts_of : Emitter → Parts
 parts_of e = record { units = e.units.items; locations = e.locations.items; constants = literals_of e.constants; vars = e.locals }
 
--- each unit has its line
-abbrev pub IsMatched : Parts → Type 0
-IsMatched parts = length parts.locations ≡ length parts.units
+-- at most three prefixes stand in a row, and none at the end
+pub record AreSpelled (units : List CodeUnit) : Type 0 where
+  pub few : (at : ℕ) → at ≤ length units → prefixes units at ≤ 3
+  pub ends : prefixes units (length units) ≡ 0
 
--- each unit has its line, the locals' places fit 32 bits, and so do those of as many more constants
+-- none is a code or holds one
+abbrev pub HaveNoCode : List Literal → Type 0
+HaveNoCode literals = list_all (λ literal. not (has_code literal)) literals ≡ true
+
+-- each unit has its line, is spelled as it should be, and no constant is a code
+abbrev pub IsMatched : Parts → Type 0
+IsMatched parts = (length parts.locations ≡ length parts.units) × AreSpelled parts.units × HaveNoCode parts.constants
+
+-- the parts match, the locals' places fit 32 bits, and so do those of as many more constants
 pub record HasRoom (parts : Parts) (more : ℕ) : Type 0 where
   pub matched : IsMatched parts
   pub constants : length parts.constants + more < 2 ^ 32
@@ -86,12 +99,17 @@ abbrev pub size_of : Suite → ℕ
 size_of nothing = 0
 size_of (first n f more) = size_of_form f + size_of more
 
+-- the code of statements, with the return at its end, and the place behind it
+abbrev pub LaidTo : Parts → ℕ → Suite → ℕ → ℕ → Type 0
+LaidTo parts header nothing at end = StandsConst parts header at ReturnConst NoneLiteral end
+LaidTo parts header (first n f more) at end = (next : ℕ) × LaidForm parts n f at next × LaidTo parts header more next end
+
 abbrev pub EmitsSuite : Parts → Parts → Suite → ℕ → Type 0
-EmitsSuite old new s line = Emits old new (size_of s + 4) (λ whole at next. LaidSuite whole line s at)
+EmitsSuite old new s line = Emits old new (size_of s + 4) (λ whole at next. LaidTo whole line s at next)
 
 -- all of a body is emitted
 pub record IsEmitted (parts : Parts) (t : Tree) : Type 0 where
   pub vars : parts.vars ≡ locals_of t
-  pub laid : LaidSuite parts t.line t.suite 0
+  pub laid : LaidTo parts t.line t.suite 0 (length parts.units)
   pub short : length parts.units < 2 ^ 32
   pub matched : IsMatched parts

@@ -1,15 +1,18 @@
 -- Code that does what a body does.
-use Rattle.std.specs.Prelude.{List, ◌≡◌, length}
-use Rattle.py_code.specs.declared.code.PyCode.{PyCode}
+use Rattle.std.specs.Prelude.{ℕ, List, ◌≡◌, length}
 use Rattle.py_objects.specs.declared.payload.Payload.{Payload}
 use Rattle.py_objects.specs.Objects.{Obj}
 use Rattle.py_objects.specs.Own.{Own}
-use Rattle.py_frame.specs.RunOfRows.{IsSound, RowsRun}
+use Rattle.py_check.specs.declared.annotated.Annotated.{Annotated}
+use Rattle.py_frame.specs.RunOfRows.{RowsRun}
+use Rattle.py_frame.specs.Fitting.{IsSound}
 use Rattle.py_body.specs.Tree.{Tree}
 use Rattle.py_body.specs.Trace.{IsTrace}
 
--- the code has a meaning wherever it comes to, and each run of its rows, whole or cut, is a trace of the body
-pub record Fits (code : PyCode) (t : Tree) : Type 0 where
-  pub arity : code.code.arg_count ≡ length t.params
-  pub sound : IsSound code (length t.params)
-  pub traces : (objects : List Payload) (args : List Obj) (ts : List Own) → length args ≡ length t.params → RowsRun objects code args ts → IsTrace objects t args ts
+-- the code keeps the typing rules with its notes, its names are in the table, and each run of its rows, whole or cut, whatever
+-- its names are, is a trace of the body
+pub record Fits (names : List (List ℕ)) (code : Annotated) (t : Tree) : Type 0 where
+  pub arity : code.code.code.arg_count ≡ length t.params
+  pub sound : IsSound names code
+  pub traces : (table : List (List ℕ)) (objects : List Payload) (args : List Obj) (ts : List Own) → length args ≡ length t.params
+      → RowsRun objects (record { code = code.code; names = table }) args ts → IsTrace objects t args ts

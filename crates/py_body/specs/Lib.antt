@@ -11,5 +11,7 @@ pub mod Fits
 pub mod Code
 -- the names of a code
 pub mod Naming
+-- how many values lie in front of each unit
+pub mod Depths
 -- what the functions of the compiler promise each other
 pub mod Emitting

@@ -6,7 +6,7 @@ use Rattle.std.specs.Prelude.{Option, Some, None, List, [], ◌∷◌, ◌≡◌
 use Rattle.py_objects.specs.declared.refs.PyBaseExceptionRef.{PyBaseExceptionRef}
 use Rattle.py_objects.specs.declared.payload.Payload.{Payload}
 use Rattle.py_objects.specs.declared.payload.Payload.TheVariants as payload
-use Rattle.py_objects.specs.declared.request.Arithmetic.TheVariants as arithmetic
+use Rattle.py_code.specs.declared.operator.BinaryOperator.TheVariants as binary
 use Rattle.py_objects.specs.declared.request.Request.{Request}
 use Rattle.py_objects.specs.declared.request.Request.TheVariants.{Binary, Show}
 use Rattle.py_objects.specs.Objects.{Obj}
@@ -59,7 +59,7 @@ LoadsAll objects env (a ∷ atoms) ts K next =
 abbrev pub request_of : Operator → List Obj → Option Request
 request_of operator.Add [] = None
 request_of operator.Add (a ∷ []) = None
-request_of operator.Add (a ∷ b ∷ []) = Some (Binary arithmetic.Add a b)
+request_of operator.Add (a ∷ b ∷ []) = Some (Binary binary.Add a b)
 request_of operator.Add (a ∷ b ∷ c ∷ vs) = None
 
 abbrev pub Asked_if : Option Request → Option PyBaseExceptionRef → List Own → AfterValue → Type 0

@@ -1,7 +1,8 @@
 //! The compiler: the code of a body.
 
-ghost use Rattle.std.specs.Prelude.{◌≡◌, ◌*◌, length, IfOk, OnOk};
+ghost use Rattle.std.specs.Prelude.{◌≡◌, ◌*◌, length, false, IfOk, OnOk};
 ghost use Rattle.py_code.specs.declared.instruction.Instruction.TheVariants.{LoadConst};
+ghost use Rattle.py_check.specs.Constants.{has_code};
 ghost use Rattle.py_body.specs.Tree.{form_of, assign, operate, suite_of, tree_of};
 ghost use Rattle.py_body.specs.Binding.{IsClosed};
 ghost use Rattle.py_body.specs.Code.{binary_of, IsLaid, IsPlain};
@@ -14,23 +15,26 @@ use crate::body::Body;
 use crate::emit::Emitter;
 use crate::locals::Locals;
 use crate::naming::{intern_all, intern_text};
+use crate::notes::notes_of;
 use crate::stmt::{Stmt, StmtForm, StmtList};
+use py_check::Annotated;
 use py_code::{
     BinaryOperator, CodeFlags, CodeObject, Instruction, Literal, Names, NoMemory, PyCode, PyText,
 };
 use std::alloc::Global;
 
-/// The code of a body, whose names go into the table. Its locals are known by their places, and each literal that
-/// it names is a constant of its own. It fails only where memory runs out; the table may then have some of the names.
-pub fn compile_body(alloc: Global, names: &mut Names, body: &Body) -> Result<PyCode, NoMemory>
+/// The code of a body with its notes; its names go into the table. Its locals are known by their places, and each literal
+/// that it names is a constant of its own. It fails only where memory runs out; the table may then have some of the names.
+pub fn compile_body(alloc: Global, names: &mut Names, body: &Body) -> Result<Annotated, NoMemory>
     requires { IsClosed (tree_of body.now) }
-    ensures fits { IfOk result (λ code. Fits code (tree_of body.now)) }
-    ensures laid { IfOk result (λ code. IsLaid code (tree_of body.now)) }
-    ensures plain { IfOk result (λ code. IsPlain code (tree_of body.now)) }
-    ensures named { IfOk result (λ code. IsNamed names.new code (tree_of body.now)) }
+    ensures fits { IfOk result (λ code. Fits names.new code (tree_of body.now)) }
+    ensures laid { IfOk result (λ code. IsLaid code.code (tree_of body.now)) }
+    ensures plain { IfOk result (λ code. IsPlain code.code (tree_of body.now)) }
+    ensures named { IfOk result (λ code. IsNamed names.new code.code (tree_of body.now)) }
     ensures grows { Continues names.old names.new }
 {
     let emitter = emit_body(alloc, body)?;
+    let notes = notes_of(alloc, emitter.units.as_slice())?;
     let source_path = names.intern("<script>")?;
     let obj_name = intern_text(alloc, names, &body.name)?;
     let varnames = intern_all(alloc, names, emitter.locals.as_slice())?;
@@ -52,7 +56,7 @@ pub fn compile_body(alloc: Global, names: &mut Names, body: &Body) -> Result<PyC
         cellvars: Vec::new(alloc),
         freevars: Vec::new(alloc),
     });
-    Ok(code)
+    Ok(Annotated { code, notes })
 }
 
 /// The units of a body with all that they refer to.
@@ -159,7 +163,8 @@ impl Emitter {
 
     /// Adds the load of a constant.
     fn load_literal(&mut self, literal: Literal, line: u32) -> Result<(), NoMemory>
-        requires { HasRoom (parts_of self.old) 1 }
+        requires room { HasRoom (parts_of self.old) 1 }
+        requires no_code { has_code literal ≡ false }
         ensures { OnOk result (EmitsConst (parts_of self.old) (parts_of self.new) LoadConst literal line) }
     {
         self.emit_with_const(Instruction::LoadConst, literal, line)

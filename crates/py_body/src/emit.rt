@@ -4,6 +4,7 @@ ghost use Rattle.std.specs.Prelude.{◌≡◌, ◌+◌, ◌<◌, ◌≤◌, ◌^
 ghost use Rattle.py_code.specs.declared.instruction.Instruction.TheVariants.{ExtendedArg, LoadConst, ReturnConst};
 ghost use Rattle.py_code.specs.Literals.{literals_of};
 ghost use Rattle.py_code.specs.Units.{is_prefix};
+ghost use Rattle.py_check.specs.Constants.{has_code};
 ghost use Rattle.py_body.specs.Code.{place};
 ghost use Rattle.py_body.specs.Emitting.{parts_of, Spells, located, IsMatched, EmitsUnit, EmitsConst};
 
@@ -69,6 +70,7 @@ impl Emitter {
         requires plain { is_prefix op ≡ false }
         requires matched { IsMatched (parts_of self.old) }
         requires few { length (literals_of self.old.constants) < 2 ^ 32 }
+        requires no_code { has_code literal ≡ false }
         ensures { OnOk result (EmitsConst (parts_of self.old) (parts_of self.new) op literal line) }
     {
         let place = self.constants.len() as u32;

@@ -7,6 +7,7 @@ mod compile;
 mod emit;
 mod locals;
 mod naming;
+mod notes;
 mod stmt;
 
 pub use atom::{Atom, AtomList, Operator};

@@ -5,6 +5,7 @@ ghost use Rattle.py_body.specs.Binding.{FormKnown, IsClosed, statements};
 ghost use Rattle.py_body.specs.Tree.{form_of, suite_of, tree_of};
 
 use super::*;
+use py_check::{CheckedCode, Kind, Note, NoteList};
 use py_code::{CodeFlags, CodeObject, Instruction, Literal, NameId, Names, same_text, text_of};
 use std::alloc::Global;
 use std::process::Abort;
@@ -163,11 +164,34 @@ fn has_units(rt: &impl Abort, code: &CodeObject, want: &[(Instruction, u8, u32)]
     }
 }
 
+/// The notes say that so many values lie in front of each unit, and that no block is open.
+fn has_depths(rt: &impl Abort, notes: &NoteList, want: &[usize]) {
+    assert_eq!(rt; notes.len(), want.len());
+    for (at, depth) in want.iter().enumerate() {
+        has_depth(rt, notes, at, *depth);
+    }
+}
+
+/// The same of one unit.
+fn has_depth(rt: &impl Abort, notes: &NoteList, at: usize, depth: usize) {
+    match notes.get(at) {
+        Some(Note::Live { kinds, blocks }) => {
+            assert_eq!(rt; kinds.len(), depth, "at {at}");
+            for kind in kinds.as_slice() {
+                assert_eq!(rt; *kind, Kind::Any, "at {at}");
+            }
+            assert_eq!(rt; blocks.len(), 0, "at {at}");
+        }
+        Some(Note::Dead) => panic!(rt; "dead at {at}"),
+        None => panic!(rt; "no note at {at}"),
+    }
+}
+
 #[test]
 fn a_sum_that_is_returned_takes_six_units_before_the_end(rt: HostRuntime) -> Result<(), Fail> {
     let body = sum_body(rt.alloc())?;
     let mut names = Names::new(rt.alloc());
-    let code = compile_body(rt.alloc(), &mut names, &body)?.code;
+    let code = compile_body(rt.alloc(), &mut names, &body)?.code.code;
     let want = [
         (Instruction::LoadFast, 0, 2),
         (Instruction::LoadFast, 1, 2),
@@ -185,7 +209,7 @@ fn a_sum_that_is_returned_takes_six_units_before_the_end(rt: HostRuntime) -> Res
 fn each_form_has_its_units(rt: HostRuntime) -> Result<(), Fail> {
     let body = each_form(rt.alloc())?;
     let mut names = Names::new(rt.alloc());
-    let code = compile_body(rt.alloc(), &mut names, &body)?.code;
+    let code = compile_body(rt.alloc(), &mut names, &body)?.code.code;
     let want = [
         (Instruction::LoadConst, 0, 2),
         (Instruction::StoreFast, 1, 2),
@@ -213,7 +237,10 @@ fn each_form_has_its_units(rt: HostRuntime) -> Result<(), Fail> {
 fn each_literal_is_a_constant(rt: HostRuntime) -> Result<(), Fail> {
     let body = each_form(rt.alloc())?;
     let mut names = Names::new(rt.alloc());
-    let constants = compile_body(rt.alloc(), &mut names, &body)?.code.constants;
+    let constants = compile_body(rt.alloc(), &mut names, &body)?
+        .code
+        .code
+        .constants;
     assert_eq!(rt; constants.len(), 6);
     assert!(rt; matches!(constants.get(0), Some(Literal::None)));
     assert!(rt; matches!(constants.get(1), Some(Literal::Bool(true))));
@@ -233,7 +260,7 @@ fn a_pass_alone_takes_no_unit(rt: HostRuntime) -> Result<(), Fail> {
     let mut body = header(rt.alloc(), 4)?;
     add_line(&mut body, 5, StmtForm::Pass)?;
     let mut names = Names::new(rt.alloc());
-    let code = compile_body(rt.alloc(), &mut names, &body)?.code;
+    let code = compile_body(rt.alloc(), &mut names, &body)?.code.code;
     has_units(&rt, &code, &[(Instruction::ReturnConst, 0, 4)]);
     assert_eq!(rt; code.constants.len(), 1);
     Ok(())
@@ -243,7 +270,7 @@ fn a_pass_alone_takes_no_unit(rt: HostRuntime) -> Result<(), Fail> {
 fn names_are_interned_in_the_order_of_their_use(rt: HostRuntime) -> Result<(), Fail> {
     let body = sum_body(rt.alloc())?;
     let mut names = Names::new(rt.alloc());
-    let code = compile_body(rt.alloc(), &mut names, &body)?.code;
+    let code = compile_body(rt.alloc(), &mut names, &body)?.code.code;
     for (index, text) in ["<script>", "f", "a", "b", "x"].iter().enumerate() {
         assert_eq!(rt; names.get(text), Some(NameId { index }), "of {text}");
     }
@@ -263,7 +290,7 @@ fn names_are_interned_in_the_order_of_their_use(rt: HostRuntime) -> Result<(), F
 fn a_place_above_a_byte_has_a_prefix(rt: HostRuntime) -> Result<(), Fail> {
     let body = returns_body(rt.alloc(), 300)?;
     let mut names = Names::new(rt.alloc());
-    let code = compile_body(rt.alloc(), &mut names, &body)?;
+    let code = compile_body(rt.alloc(), &mut names, &body)?.code;
     let cases = [
         (0, Instruction::LoadConst, 0, 1),
         (510, Instruction::LoadConst, 255, 511),
@@ -284,10 +311,58 @@ fn a_place_above_a_byte_has_a_prefix(rt: HostRuntime) -> Result<(), Fail> {
 }
 
 #[test]
+fn each_unit_has_a_note_of_the_values_in_front_of_it(rt: HostRuntime) -> Result<(), Fail> {
+    let mut names = Names::new(rt.alloc());
+    let sum = compile_body(rt.alloc(), &mut names, &sum_body(rt.alloc())?)?;
+    has_depths(&rt, &sum.notes, &[0, 1, 2, 1, 0, 1, 0]);
+    let forms = compile_body(rt.alloc(), &mut names, &each_form(rt.alloc())?)?;
+    let want = [0, 1, 0, 1, 0, 1, 0, 1, 0, 1, 2, 1, 0, 1, 0, 1, 0];
+    has_depths(&rt, &forms.notes, &want);
+    let none = compile_body(rt.alloc(), &mut names, &returns_body(rt.alloc(), 0)?)?;
+    has_depths(&rt, &none.notes, &[0]);
+    Ok(())
+}
+
+#[test]
+fn a_prefix_has_the_note_of_its_unit(rt: HostRuntime) -> Result<(), Fail> {
+    let body = returns_body(rt.alloc(), 300)?;
+    let mut names = Names::new(rt.alloc());
+    let notes = compile_body(rt.alloc(), &mut names, &body)?.notes;
+    let cases = [
+        (0, 0),
+        (1, 1),
+        (510, 0),
+        (511, 1),
+        (512, 0),
+        (513, 0),
+        (514, 1),
+        (515, 0),
+        (644, 0),
+        (645, 0),
+    ];
+    for (at, depth) in cases {
+        has_depth(&rt, &notes, at, depth);
+    }
+    assert_eq!(rt; notes.len(), 646);
+    Ok(())
+}
+
+#[test]
+fn compiled_code_is_checked_code(rt: HostRuntime) -> Result<(), Fail> {
+    let body = sum_body(rt.alloc())?;
+    let mut names = Names::new(rt.alloc());
+    let code = CheckedCode::of(compile_body(rt.alloc(), &mut names, &body)?);
+    assert_eq!(rt; code.block_depth(), 0);
+    assert_eq!(rt; code.code().code.instructions.len(), 7);
+    assert!(rt; code.note(7).is_none());
+    Ok(())
+}
+
+#[test]
 fn a_body_without_statements_returns_none(rt: HostRuntime) -> Result<(), Fail> {
     let body = returns_body(rt.alloc(), 0)?;
     let mut names = Names::new(rt.alloc());
-    let code = compile_body(rt.alloc(), &mut names, &body)?;
+    let code = compile_body(rt.alloc(), &mut names, &body)?.code;
     let unit = code.decoded(0).map(|unit| (unit.op, unit.arg.0, unit.next));
     assert_eq!(rt; unit, Some((Instruction::ReturnConst, 0, 1)));
     assert_eq!(rt; code.code.locations.get(0), Some(&7));

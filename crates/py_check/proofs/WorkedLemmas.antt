@@ -42,3 +42,11 @@ breaks_whole sheet here code same = record {
   breaks = ap (λ (s : Sheet). keeps_all_at s 0) same ∙ here;
   before = λ k below. absurd (omega arith);
 }
+
+-- the first unit breaks the rules on units, whether or not the whole code keeps its own
+pub breaks_first : (sheet : Sheet) → keeps_at sheet 0 ≡ false → Breaks sheet 0
+breaks_first sheet here = breaks_whole sheet (by_whole (keeps_whole sheet) (keeps_at sheet 0) here)
+  where
+    by_whole : (b c : Bool) → c ≡ false → (b && c) ≡ false
+    by_whole true c is = is
+    by_whole false c is = refl

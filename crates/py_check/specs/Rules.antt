@@ -5,6 +5,8 @@ use Rattle.py_code.specs.declared.unit.CodeUnit.{CodeUnit}
 use Rattle.py_code.specs.declared.instruction.Instruction.{Instruction}
 use Rattle.py_code.specs.declared.instruction.Instruction.TheVariants.{LoadConst, LoadFast, StoreFast, Pop, BinaryOperation, PrintExpr, ReturnValue, ReturnConst, ExtendedArg}
 use Rattle.py_code.specs.declared.flags.TheConstants.CodeFlags.{HAS_VARARGS, HAS_VARKEYWORDS}
+use Rattle.py_code.specs.declared.operator.BinaryOperator.{BinaryOperator}
+use Rattle.py_code.specs.declared.operator.BinaryOperator.TheVariants as binary
 use Rattle.py_code.specs.Operators.{binary_operators}
 use Rattle.py_code.specs.declared.literal.Literal.{Literal}
 use Rattle.py_check.specs.declared.note.Kind.{Kind}
@@ -15,7 +17,7 @@ use Rattle.py_check.specs.declared.note.Note.{Note}
 use Rattle.py_check.specs.declared.note.Note.TheVariants.{Dead, Live}
 use Rattle.py_check.specs.declared.annotated.Annotated.{Annotated}
 use Rattle.py_check.specs.Notes.{level_of, note_fits}
-use Rattle.py_check.specs.Constants.{kind_of, has_code}
+use Rattle.py_check.specs.Constants.{kind_of, has_code, is_loaded}
 use Rattle.py_check.specs.Operands.{prefixes, operand, is_label}
 use Rattle.py_check.specs.Sheet.{Sheet, sheet_of}
 
@@ -73,22 +75,32 @@ takes_two [] blocks rest = false
 takes_two (k ∷ []) blocks rest = false
 takes_two (k ∷ l ∷ kinds) blocks rest = nat_le (top_level blocks) (length kinds) && rest kinds
 
--- a constant is there, and its kind is as it should be
+-- a constant is there that is loaded so far, and its kind is as it should be
 abbrev pub loads : Option Literal → (Kind → Bool) → Bool
 loads None rest = false
-loads (Some literal) rest = rest (kind_of literal)
+loads (Some literal) rest = is_loaded literal && rest (kind_of literal)
 
--- what an instruction with its operand asks of the kinds and blocks in front of it; the instructions that don't run yet break the rules
+-- the operators of two operands that run so far
+abbrev pub is_asked : BinaryOperator → Bool
+is_asked binary.Add = true
+is_asked _ = false
+
+abbrev pub asks_operator : Option BinaryOperator → Bool
+asks_operator None = false
+asks_operator (Some op) = is_asked op
+
+-- what an instruction with its operand asks of the kinds and blocks in front of it; the instructions, operators and
+-- constants that don't run yet break the rules
 abbrev pub keeps_op : Sheet → ℕ → Instruction → ℕ → List Kind → List BlockNote → Bool
 keeps_op sheet at LoadConst i kinds blocks = loads (slice_get sheet.constants i) (λ k. goes_on sheet (at + 1) (k ∷ kinds) blocks)
 keeps_op sheet at LoadFast i kinds blocks = nat_lt i sheet.varnames && goes_on sheet (at + 1) (Any ∷ kinds) blocks
 keeps_op sheet at StoreFast i kinds blocks = nat_lt i sheet.varnames && takes_one kinds blocks (λ rest. goes_on sheet (at + 1) rest blocks)
 keeps_op sheet at Pop i kinds blocks = takes_one kinds blocks (λ rest. goes_on sheet (at + 1) rest blocks)
 keeps_op sheet at BinaryOperation i kinds blocks =
-    nat_lt i (length binary_operators) && takes_two kinds blocks (λ rest. goes_on sheet (at + 1) (Any ∷ rest) blocks)
+    asks_operator (slice_get binary_operators i) && takes_two kinds blocks (λ rest. goes_on sheet (at + 1) (Any ∷ rest) blocks)
 keeps_op sheet at PrintExpr i kinds blocks = takes_one kinds blocks (λ rest. goes_on sheet (at + 1) rest blocks)
 keeps_op sheet at ReturnValue i kinds blocks = takes_one kinds blocks (λ rest. true)
-keeps_op sheet at ReturnConst i kinds blocks = nat_lt i (length sheet.constants)
+keeps_op sheet at ReturnConst i kinds blocks = loads (slice_get sheet.constants i) (λ k. true)
 keeps_op sheet at ExtendedArg i kinds blocks = nat_lt (prefixes sheet.units at) 3 && goes_on sheet (at + 1) kinds blocks
 keeps_op sheet at _ i kinds blocks = false
 

@@ -2,7 +2,7 @@
 use Rattle.std.specs.Prelude.{◌≡◌, ℕ, List, [], ◌∷◌, length}
 use Rattle.py_code.specs.declared.unit.CodeUnit.{CodeUnit}
 use Rattle.py_code.specs.declared.instruction.Instruction.{Instruction}
-use Rattle.py_code.specs.declared.instruction.Instruction.TheVariants.{LoadConst, LoadFast, BinaryOperation, ReturnValue, ReturnConst, ExtendedArg}
+use Rattle.py_code.specs.declared.instruction.Instruction.TheVariants.{LoadConst, LoadFast, Pop, BinaryOperation, ReturnValue, ReturnConst, ExtendedArg}
 use Rattle.py_code.specs.declared.literal.Literal.{Literal, None as NoneLiteral}
 use Rattle.py_check.specs.declared.note.Kind.{Kind}
 use Rattle.py_check.specs.declared.note.Kind.TheVariants.{Any, Exc}
@@ -73,6 +73,15 @@ prefixed byte s = sheet (unit ExtendedArg byte ∷ s.units) (nothing ∷ s.notes
 -- a constant is loaded and returned, and the note behind the load says this
 abbrev pub loaded : Literal → Kind → Sheet
 loaded literal kind = record (sheet (unit LoadConst 0 ∷ unit ReturnValue 0 ∷ []) (nothing ∷ holds (kind ∷ []) ∷ [])) { constants = literal ∷ [] }
+
+-- the same, where None is loaded and dropped in front
+abbrev pub loaded_later : Literal → Kind → Sheet
+loaded_later literal kind =
+    record (sheet (unit LoadConst 0 ∷ unit Pop 0 ∷ unit LoadConst 1 ∷ unit ReturnValue 0 ∷ []) (nothing ∷ one ∷ nothing ∷ holds (kind ∷ []) ∷ [])) { constants = NoneLiteral ∷ literal ∷ [] }
+
+-- a constant is returned in the place of None, behind a local that is loaded and dropped
+abbrev pub returned_later : Literal → Sheet
+returned_later literal = record (sheet (unit LoadFast 0 ∷ unit Pop 0 ∷ unit ReturnConst 0 ∷ []) (nothing ∷ one ∷ nothing ∷ [])) { constants = literal ∷ [] }
 
 -- None is returned at once, and other units stand behind that, where control never gets
 abbrev pub behind_the_end : List CodeUnit → List Note → Sheet

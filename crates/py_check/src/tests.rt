@@ -140,6 +140,7 @@ fn a_checked_code_is_what_was_handed_in(rt: HostRuntime) -> Result<(), Fail> {
         assert_eq!(rt; note, Some((depth, 0)), "at {at}");
     }
     assert!(rt; checked.note(4).is_none());
+    assert_eq!(rt; checked.into_code().co_argcount(), 2);
     worked_notes();
     Ok(())
 }

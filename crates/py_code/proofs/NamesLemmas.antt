@@ -49,12 +49,12 @@ is_length p (x ∷ xs) none = by (p x) (is_length p xs) none
 
 -- ---- one more element
 
-slice_get-append_before : {X : Type 0} (xs : List X) (y : X) (i : ℕ) → i < length xs → slice_get (xs ++ y ∷ []) i ≡ slice_get xs i
+pub slice_get-append_before : {X : Type 0} (xs : List X) (y : X) (i : ℕ) → i < length xs → slice_get (xs ++ y ∷ []) i ≡ slice_get xs i
 slice_get-append_before [] y i below = absurd (omega arith)
 slice_get-append_before (x ∷ xs) y zero below = refl
 slice_get-append_before (x ∷ xs) y (suc i) below = slice_get-append_before xs y i (omega arith)
 
-slice_get-append_last : {X : Type 0} (xs : List X) (y : X) → slice_get (xs ++ y ∷ []) (length xs) ≡ Some y
+pub slice_get-append_last : {X : Type 0} (xs : List X) (y : X) → slice_get (xs ++ y ∷ []) (length xs) ≡ Some y
 slice_get-append_last [] y = refl
 slice_get-append_last (x ∷ xs) y = slice_get-append_last xs y
 

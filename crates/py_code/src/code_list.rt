@@ -40,6 +40,13 @@ impl CodeList {
         }
     }
 
+    /// The list of these codes.
+    pub fn of(names: Names, items: Vec<PyCode>) -> CodeList
+        ensures { result ≡ record { names = names; codes = items.items } }
+    {
+        CodeList { names, items }
+    }
+
     /// Puts a code behind the others.
     pub fn push(&mut self, code: PyCode) -> Result<(), NoMemory>
         ensures added { OnOk result (self.new ≡ record self.old { codes = self.old.codes ++ code ∷ [] }) }

@@ -1,4 +1,4 @@
-//! The marks of a code.
+//! The marks of a code, and of what makes a function.
 
 ghost use Rattle.std.specs.Prelude.{◌≡◌, ℕ};
 
@@ -43,6 +43,47 @@ impl CodeFlags {
 
     /// The number that stands for the marks.
     pub fn bits(self) -> u16
+        ensures { result ≡ self }
+    {
+        self.bits
+    }
+}
+
+/// Which parts a new function has, each a bit of one number.
+#[derive(Clone, Copy, Debug, PartialEq, Eq)]
+pub struct MakeFunctionFlags {
+    bits: u8,
+}
+
+impl Model for MakeFunctionFlags {
+    ghost use Rattle.std.specs.Prelude.{ℕ};
+
+    ghost Value = { ℕ };
+
+    ghost view = { λ f. f.bits };
+
+    ghost inverse = { λ n. record { bits = n } };
+}
+
+impl MakeFunctionFlags {
+    /// It has cells of bodies around.
+    pub const CLOSURE: u8 = 1;
+    /// It has annotations.
+    pub const ANNOTATIONS: u8 = 2;
+    /// It has defaults of parameters that are passed by name alone.
+    pub const KW_ONLY_DEFAULTS: u8 = 4;
+    /// It has defaults of parameters that are passed by position.
+    pub const DEFAULTS: u8 = 8;
+
+    /// The parts that a number stands for.
+    pub fn new(bits: u8) -> MakeFunctionFlags
+        ensures { result ≡ bits }
+    {
+        MakeFunctionFlags { bits }
+    }
+
+    /// The number that stands for the parts.
+    pub fn bits(self) -> u8
         ensures { result ≡ self }
     {
         self.bits

@@ -14,7 +14,7 @@ mod unit;
 
 pub use code::{CodeObject, Decoded, PyCode};
 pub use code_list::CodeList;
-pub use flags::CodeFlags;
+pub use flags::{CodeFlags, MakeFunctionFlags};
 pub use instruction::Instruction;
 pub use list::{ItemList, NoMemory};
 pub use literal::{BuiltinFn, Literal, LiteralList};
@@ -22,7 +22,7 @@ pub use names::{NameId, Names};
 pub use operator::{
     BinaryOperator, ComparisonOperator, ConversionFlag, RaiseKind, TestOperator, UnaryOperator,
 };
-pub use text::{PyText, same_text, text_of};
+pub use text::{PyText, same_text, text_of, text_of_str};
 pub use unit::{CodeUnit, Label, OpArg, OpArgState};
 
 #[cfg(test)]

@@ -48,6 +48,21 @@ impl<T> ItemList<T> {
         }
     }
 
+    /// The list of these items.
+    pub fn of(items: Vec<T>) -> ItemList<T>
+        ensures { result ≡ items.items }
+    {
+        ItemList { items }
+    }
+
+    /// The items, the list of which ends.
+    pub fn into_vec(self) -> Vec<T>
+        ensures { result.items ≡ self }
+    {
+        let ItemList { items } = self;
+        items
+    }
+
     /// How many items there are.
     pub fn len(&self) -> usize
         ensures { result ≡ length self.now }

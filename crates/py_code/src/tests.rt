@@ -149,6 +149,10 @@ fn a_code_has_its_place_in_the_list(rt: HostRuntime) -> Result<(), Fail> {
     assert_eq!(rt; codes.names().len(), 1);
     assert_eq!(rt; codes.get(0).map(|code| code.co_argcount()), Some(2));
     assert!(rt; codes.get(1).is_none());
+    let mut items = Vec::new(alloc);
+    items.push(PyCode::new(some_code(alloc)))?;
+    let codes = CodeList::of(Names::new(alloc), items);
+    assert_eq!(rt; (codes.len(), codes.names().len()), (1, 0));
     Ok(())
 }
 
@@ -161,5 +165,15 @@ fn a_text_is_a_list_of_characters(rt: HostRuntime) -> Result<(), Fail> {
     assert!(rt; !same_text(&text, &PyText::new(alloc)));
     assert_eq!(rt; text.get(1), Some(&'b'));
     assert_eq!(rt; text.len(), 2);
+    assert!(rt; same_text(&text, &text_of_str(alloc, "ab")?));
+    let mut characters = text.into_vec();
+    characters.push('c')?;
+    assert!(rt; same_text(&PyText::of(characters), &text_of(alloc, b"abc")?));
     Ok(())
+}
+
+#[test]
+fn a_new_function_has_the_parts_that_its_number_stands_for(rt: HostRuntime) {
+    let flags = MakeFunctionFlags::CLOSURE | MakeFunctionFlags::DEFAULTS;
+    assert_eq!(rt; MakeFunctionFlags::new(flags).bits(), 9);
 }

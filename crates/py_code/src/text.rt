@@ -1,6 +1,6 @@
 //! Texts: lists of characters.
 
-ghost use Rattle.std.specs.Prelude.{◌≡◌, IfOk, bytes_eq};
+ghost use Rattle.std.specs.Prelude.{◌≡◌, IfOk, bytes_eq, chars};
 
 use crate::list::{ItemList, NoMemory};
 use std::alloc::Global;
@@ -24,4 +24,12 @@ pub fn text_of(alloc: Global, bytes: &[u8]) -> Result<PyText, NoMemory>
         text.push(char::from(*byte))?;
     }
     Ok(text)
+}
+
+/// The text of a string's characters.
+pub fn text_of_str(alloc: Global, string: &str) -> Result<PyText, NoMemory>
+    ensures { IfOk result (λ text. text ≡ chars string.now) }
+{
+    let characters: Vec<char> = string.chars().collect(alloc)?;
+    Ok(PyText::of(characters))
 }

@@ -1,13 +1,12 @@
 -- A run of the rows goes over to more objects.
 use Rattle.std.proofs.Common.{◌≡◌, ◌++◌, ℕ, zero, suc, List, [], ◌∷◌, Some}
 use Rattle.std.specs.Prelude.{slice_get}
-use Rattle.py_code.specs.declared.code.PyCode.{PyCode}
 use Rattle.py_objects.specs.declared.payload.Payload.{Payload}
 use Rattle.py_objects.specs.Objects.{Obj, HasPayload, Grows}
 use Rattle.py_objects.specs.Own.{Own}
 use Rattle.py_frame.specs.declared.input.Expect.{Expect}
 use Rattle.py_frame.specs.declared.input.Expect.TheVariants as expect
-use Rattle.py_frame.specs.Rows.{State, Step, Goes, Tells, Stuck, Move, Plainly, Loads, advance, receive}
+use Rattle.py_frame.specs.Rows.{NamedCode, State, Step, Goes, Tells, Stuck, Move, Plainly, Loads, advance, receive}
 use Rattle.py_frame.specs.RunOfRows.{Behind, ByStep, ByMove, Steps, Reaches}
 use Rattle.py_frame.specs.Laws.{RunsGrow}
 
@@ -34,7 +33,7 @@ by_move_mapped objects objects' (Plainly step) ts K K' grows f behind = by_step_
 by_move_mapped objects objects' (Loads p g) ts K K' grows f (v, has, behind) = (v, payload_grown objects objects' v p grows has, by_step_mapped (g v) ts K K' f behind)
 
 -- the same of a step by what the frame waits for
-pub steps_mapped : (objects objects' : List Payload) (code : PyCode) (x : Expect) (s : State) (ts : List Own) (K K' : Behind) → Grows objects objects'
+pub steps_mapped : (objects objects' : List Payload) (code : NamedCode) (x : Expect) (s : State) (ts : List Own) (K K' : Behind) → Grows objects objects'
     → ((s1 : State) (us : List Own) → K s1 us → K' s1 us) → Steps objects code x s ts K → Steps objects' code x s ts K'
 steps_mapped objects objects' code expect.Start s ts K K' grows f (mid, is, behind) = (mid, is, f _ mid behind)
 steps_mapped objects objects' code expect.Go s ts K K' grows f behind = by_move_mapped objects objects' (advance code s) ts K K' grows f behind
@@ -42,7 +41,7 @@ steps_mapped objects objects' code expect.Answer s ts K K' grows f (w, mid, is, 
 steps_mapped objects objects' code expect.Ended s ts K K' grows f behind = behind
 
 -- n steps go over to more objects
-pub reaches_grow : (objects objects' : List Payload) (code : PyCode) (n : ℕ) (s : State) (ts : List Own) (t : State)
+pub reaches_grow : (objects objects' : List Payload) (code : NamedCode) (n : ℕ) (s : State) (ts : List Own) (t : State)
     → Grows objects objects' → Reaches objects code n s ts t → Reaches objects' code n s ts t
 reaches_grow objects objects' code zero s ts t grows run = run
 reaches_grow objects objects' code (suc n) s ts t grows run =

@@ -1,12 +1,11 @@
 -- A run of n steps and one of m steps from where it came to are one run of n + m steps.
 use Rattle.std.proofs.Common.{◌≡◌, ◌+◌, ◌++◌, ℕ, zero, suc, List, ap, subst, arith}
-use Rattle.py_code.specs.declared.code.PyCode.{PyCode}
 use Rattle.py_objects.specs.declared.payload.Payload.{Payload}
 use Rattle.py_objects.specs.Objects.{Obj}
 use Rattle.py_objects.specs.Own.{Own}
 use Rattle.py_frame.specs.declared.input.Expect.{Expect}
 use Rattle.py_frame.specs.declared.input.Expect.TheVariants as expect
-use Rattle.py_frame.specs.Rows.{State, Step, Goes, Tells, Stuck, Move, Plainly, Loads, advance, receive}
+use Rattle.py_frame.specs.Rows.{NamedCode, State, Step, Goes, Tells, Stuck, Move, Plainly, Loads, advance, receive}
 use Rattle.py_frame.specs.RunOfRows.{Behind, ByStep, ByMove, Steps, Reaches, IsAt}
 
 -- more events may follow those of a step
@@ -22,7 +21,7 @@ by_move_followed objects (Plainly step) ts more K K' f behind = by_step_followed
 by_move_followed objects (Loads p g) ts more K K' f (v, has, behind) = (v, has, by_step_followed (g v) ts more K K' f behind)
 
 -- the same of a step by what the frame waits for
-steps_followed : (objects : List Payload) (code : PyCode) (x : Expect) (s : State) (ts more : List Own) (K K' : Behind) → ((s1 : State) (us : List Own) → K s1 us → K' s1 (us ++ more))
+steps_followed : (objects : List Payload) (code : NamedCode) (x : Expect) (s : State) (ts more : List Own) (K K' : Behind) → ((s1 : State) (us : List Own) → K s1 us → K' s1 (us ++ more))
     → Steps objects code x s ts K → Steps objects code x s (ts ++ more) K'
 steps_followed objects code expect.Start s ts more K K' f (mid, is, behind) = (mid ++ more, ap (λ us. us ++ more) is, f _ mid behind)
 steps_followed objects code expect.Go s ts more K K' f behind = by_move_followed objects (advance code s) ts more K K' f behind
@@ -30,7 +29,7 @@ steps_followed objects code expect.Answer s ts more K K' f (w, mid, is, behind) 
 steps_followed objects code expect.Ended s ts more K K' f behind = behind
 
 -- n steps and then m steps are n + m steps
-pub reaches_join : (objects : List Payload) (code : PyCode) (n m : ℕ) (s : State) (ts : List Own) (t : State) (us : List Own) (u : State)
+pub reaches_join : (objects : List Payload) (code : NamedCode) (n m : ℕ) (s : State) (ts : List Own) (t : State) (us : List Own) (u : State)
     → Reaches objects code n s ts t → Reaches objects code m t us u → Reaches objects code (n + m) s (ts ++ us) u
 reaches_join objects code zero m s ts t us u (none, same) more =
     let count : 0 + m ≡ m = omega arith in
@@ -43,6 +42,6 @@ reaches_join objects code (suc n) m s ts t us u run more =
     rw count joined
 
 -- a run that has come somewhere is extended by steps from there
-pub run_extended : (objects : List Payload) (code : PyCode) (args : List Obj) (n : ℕ) (ts us : List Own) (s t : State)
+pub run_extended : (objects : List Payload) (code : NamedCode) (args : List Obj) (n : ℕ) (ts us : List Own) (s t : State)
     → IsAt objects code args ts s → Reaches objects code n s us t → IsAt objects code args (ts ++ us) t
 run_extended objects code args n ts us s t (m, vs, is, run) more = (m + n, vs ++ us, ap (λ ws. ws ++ us) is, reaches_join objects code m n _ vs s us t run more)

@@ -6,6 +6,14 @@ pub mod Joining
 pub mod Staying
 -- growth by payloads that declare nothing
 pub mod PlainGrowth
+-- kinds of objects
+mod KindLemmas
+-- what the rules say of units
+mod TypingLemmas
+-- frames that fit their notes
+mod FittingLemmas
+-- frames that run go on to run
+pub mod RunningLemmas
 -- locals that are filled one by one
 mod Filling
 -- what loads a constant
@@ -13,4 +21,6 @@ mod Loading
 -- a unit leads behind itself
 mod Later
 -- steps of the code as steps of a run
-mod Stepping
+pub mod Stepping
+-- small codes that frames can run
+mod WorkedLemmas

@@ -1,6 +1,7 @@
 -- What loads a constant.
-use Rattle.std.proofs.Common.{◌≡◌, ◌++◌, List, [], ◌∷◌, Some, refl, subst, length}
-use Rattle.std.specs.Prelude.{Option, slice_get}
+use Rattle.std.proofs.Common.{◌≡◌, ◌++◌, List, [], ◌∷◌, Some, refl, ap, subst, length}
+use Rattle.std.specs.Prelude.{Option, slice_get, Result, Ok, Err, OnOk, OnErr}
+use Rattle.py_objects.specs.Edits.{Kept}
 use Rattle.py_code.specs.declared.literal.Literal.{Literal, None as NoneLiteral, Bool as BoolLiteral, Int as IntLiteral, Str as StrLiteral, Tuple' as TupleLiteral, Code as CodeLiteral, Builtin as BuiltinLiteral}
 use Rattle.py_objects.specs.declared.payload.Payload.{Payload}
 use Rattle.py_objects.specs.declared.payload.Payload.TheVariants as payload
@@ -39,3 +40,9 @@ load_grows objects objects' l p is added = rw added (literal_grows objects l p i
 -- the same objects are plain growth
 pub unchanged_grows : (objects objects' : List Payload) → objects' ≡ objects → GrowsPlainly objects objects'
 unchanged_grows objects objects' same = rw same (grows_plainly_refl objects)
+
+-- what adds such a payload, or wants memory and adds none, is plain growth
+pub add_grows : {A E : Type 0} (r : Result A E) (old new : Kept) (l : Literal) (p : Payload) → payload_of l ≡ Some p → OnOk r (new ≡ record old { made = old.made ++ p ∷ [] }) → OnErr r (new ≡ old)
+    → GrowsPlainly old.made new.made
+add_grows (Ok v) old new l p is added err = load_grows old.made new.made l p is (ap (λ (s : Kept). s.made) added)
+add_grows (Err e) old new l p is added err = unchanged_grows old.made new.made (ap (λ (s : Kept). s.made) err)

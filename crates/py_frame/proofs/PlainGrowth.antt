@@ -1,9 +1,9 @@
 -- Growth by payloads that declare nothing.
 use Rattle.std.proofs.Common.{◌≡◌, ◌<◌, ◌≤◌, ◌-◌, ◌++◌, ℕ, zero, suc, List, [], ◌∷◌, Bool, true, false, cond, Some, refl, sym, ap, subst, ◌∙◌, length, length-append, append_assoc, append-nil, arith, ◌⊎◌, inl, inr}
-use Rattle.std.specs.Prelude.{None, slice_get}
+use Rattle.std.specs.Prelude.{Option, None, slice_get}
 use Rattle.py_objects.specs.declared.payload.Payload.{Payload}
 use Rattle.py_objects.specs.declared.payload.Payload.TheVariants as payload
-use Rattle.py_objects.specs.Objects.{Obj, Name, Grows, declares, is_name, declared_from, declared, payload_numbers, AllBelow, IsMade, AllFit, GrowsPlainly}
+use Rattle.py_objects.specs.Objects.{Obj, Name, Grows, declares, is_name, declared_from, declared, payload_numbers, AllBelow, IsMade, AllFit, GrowsPlainly, IfThere}
 use Rattle.py_frame.proofs.Growing.{payload_grown}
 
 -- what is below stays below more
@@ -35,6 +35,11 @@ declared_from_grown i (p ∷ ps) more n v is =
 pub declared_grown : (objects objects' : List Payload) (n : Name) (v : Obj) → Grows objects objects' → declared objects n ≡ Some v → declared objects' n ≡ Some v
 declared_grown objects objects' n v (more, same) is = rw same (declared_from_grown 0 objects more n v is)
 
+-- what holds of an object, where there is one, may be weakened
+there_grown : {P Q : Obj → Type 0} (v : Option Obj) → ((w : Obj) → P w → Q w) → IfThere P v → IfThere Q v
+there_grown None f there = tt
+there_grown (Some v) f there = f v there
+
 -- an entry's objects are of their kinds also among more objects
 pub made_grown : (objects objects' : List Payload) (p : Payload) → Grows objects objects' → IsMade objects p → IsMade objects' p
 made_grown objects objects' payload.None grows made = tt
@@ -42,10 +47,25 @@ made_grown objects objects' (payload.Bool b) grows made = tt
 made_grown objects objects' (payload.Int n) grows made = tt
 made_grown objects objects' (payload.Str s) grows made = tt
 made_grown objects objects' (payload.Tuple vs) grows made = tt
+made_grown objects objects' (payload.Dict ps) grows made = tt
 made_grown objects objects' (payload.Class c) grows made = tt
 made_grown objects objects' (payload.Function f) grows made = tt
-made_grown objects objects' (payload.Exception e) grows (c, vs, is_class, is_declared, is_tuple) =
-    (c, vs, payload_grown objects objects' _ _ grows is_class, declared_grown objects objects' _ _ grows is_declared, payload_grown objects objects' _ _ grows is_tuple)
+made_grown objects objects' (payload.Manager m) grows ((f, is_enter), (g, is_exit)) =
+    ((f, payload_grown objects objects' _ _ grows is_enter), (g, payload_grown objects objects' _ _ grows is_exit))
+made_grown objects objects' (payload.Frame c) grows made = tt
+made_grown objects objects' (payload.Generator g) grows made = tt
+made_grown objects objects' (payload.Exception e) grows made = record {
+  class = made.class;
+  is_class = payload_grown objects objects' _ _ grows made.is_class;
+  is_declared = declared_grown objects objects' _ _ grows made.is_declared;
+  arguments = made.arguments;
+  are_arguments = payload_grown objects objects' _ _ grows made.are_arguments;
+  cause = there_grown e.cause (λ v (b, is). (b, payload_grown objects objects' _ _ grows is)) made.cause;
+  context = there_grown e.context (λ v (b, is). (b, payload_grown objects objects' _ _ grows is)) made.context;
+  traceback = there_grown e.traceback (λ v (b, is). (b, payload_grown objects objects' _ _ grows is)) made.traceback;
+}
+made_grown objects objects' (payload.Traceback t) grows (is_next, (c, is_frame)) =
+    (there_grown t.next (λ v (b, is). (b, payload_grown objects objects' _ _ grows is)) is_next, (c, payload_grown objects objects' _ _ grows is_frame))
 
 -- plain growth is growth
 pub plainly_grows : (old new : List Payload) → GrowsPlainly old new → Grows old new

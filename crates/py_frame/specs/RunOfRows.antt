@@ -1,6 +1,5 @@
 -- A run of the rows of a code: which own events an activation may tell, step by step, and where it has come to.
-use Rattle.std.specs.Prelude.{ℕ, zero, suc, ◌<◌, ◌^◌, Option, Some, None, List, [], ◌∷◌, ◌≡◌, length}
-use Rattle.py_code.specs.declared.code.PyCode.{PyCode}
+use Rattle.std.specs.Prelude.{ℕ, zero, suc, Option, Some, None, List, [], ◌∷◌, ◌≡◌, length}
 use Rattle.py_objects.specs.declared.payload.Payload.{Payload}
 use Rattle.py_objects.specs.declared.event.GotAnswer.{GotAnswer}
 use Rattle.py_objects.specs.declared.event.GotAnswer.TheVariants as got
@@ -9,7 +8,7 @@ use Rattle.py_objects.specs.Objects.{Obj, HasPayload}
 use Rattle.py_objects.specs.Own.{Own, Makes, Resumes, Gets}
 use Rattle.py_frame.specs.declared.input.Expect.{Expect}
 use Rattle.py_frame.specs.declared.input.Expect.TheVariants as expect
-use Rattle.py_frame.specs.Rows.{State, Step, Goes, Tells, Stuck, Move, Plainly, Loads, waiting, advance, receive}
+use Rattle.py_frame.specs.Rows.{NamedCode, State, Step, Goes, Tells, Stuck, Move, Plainly, Loads, waiting, advance, receive}
 
 -- what holds of a state and of the events behind it
 abbrev pub Behind : Type 1
@@ -26,14 +25,14 @@ ByMove objects (Plainly step) ts K = ByStep step ts K
 ByMove objects (Loads p f) ts K = (v : Obj) × HasPayload objects v p × ByStep (f v) ts K
 
 -- one step from a state, by what it waits for
-abbrev pub Steps : List Payload → PyCode → Expect → State → List Own → Behind → Type 0
+abbrev pub Steps : List Payload → NamedCode → Expect → State → List Own → Behind → Type 0
 Steps objects code expect.Start s ts K = (mid : List Own) × (ts ≡ Resumes how.Start ∷ mid) × K (waiting expect.Go s) mid
 Steps objects code expect.Go s ts K = ByMove objects (advance code s) ts K
 Steps objects code expect.Answer s ts K = (w : GotAnswer) × (mid : List Own) × (ts ≡ Gets w ∷ mid) × ByStep (receive code w s) mid K
 Steps objects code expect.Ended s ts K = ⊥
 
 -- n steps from one state to another, which tell these events
-abbrev pub Reaches : List Payload → PyCode → ℕ → State → List Own → State → Type 0
+abbrev pub Reaches : List Payload → NamedCode → ℕ → State → List Own → State → Type 0
 Reaches objects code zero s ts t = (ts ≡ []) × (t ≡ s)
 Reaches objects code (suc n) s ts t = Steps objects code s.wants s ts (λ s1 mid. Reaches objects code n s1 mid t)
 
@@ -43,16 +42,16 @@ filled zero vs = []
 filled (suc n) [] = None ∷ filled n []
 filled (suc n) (v ∷ vs) = Some v ∷ filled n vs
 
--- a frame that hasn't begun
-abbrev pub started : PyCode → List Obj → State
-started code args = record { at = 0; prefix = 0; stack = []; locals = filled (length code.code.varnames.items) args; wants = expect.Start }
+-- where a frame begins, with these arguments
+abbrev pub started : NamedCode → List Obj → State
+started code args = record { at = 0; prefix = 0; stack = []; locals = filled (length code.code.code.varnames.items) args; wants = expect.Start }
 
 -- a run of the rows of the code from these arguments has told these events, and has come to this state
-abbrev pub IsAt : List Payload → PyCode → List Obj → List Own → State → Type 0
+abbrev pub IsAt : List Payload → NamedCode → List Obj → List Own → State → Type 0
 IsAt objects code args ts s = (n : ℕ) × (us : List Own) × (ts ≡ Makes ∷ us) × Reaches objects code n (started code args) us s
 
 -- the events are a run of the rows of the code, whole or cut
-abbrev pub RowsRun : List Payload → PyCode → List Obj → List Own → Type 0
+abbrev pub RowsRun : List Payload → NamedCode → List Obj → List Own → Type 0
 RowsRun objects code args ts = (s : State) × IsAt objects code args ts s
 
 -- a step that has a meaning
@@ -67,20 +66,8 @@ IsFreeMove (Plainly step) = IsFree step
 IsFreeMove (Loads p f) = (v : Obj) → IsFree (f v)
 
 -- a state whose next unit has a meaning, or any value that answers it
-abbrev pub IsFreeAt : PyCode → Expect → State → Type 0
+abbrev pub IsFreeAt : NamedCode → Expect → State → Type 0
 IsFreeAt code expect.Start s = Unit {0}
 IsFreeAt code expect.Go s = IsFreeMove (advance code s)
 IsFreeAt code expect.Answer s = (v : Obj) → IsFree (receive code (got.Value v) s)
 IsFreeAt code expect.Ended s = Unit {0}
-
--- a code that has a meaning from any so many arguments, wherever a run of its rows comes to, and whose places fit 32 bits
-pub record IsSound (code : PyCode) (args : ℕ) : Type 0 where
-  pub short : length code.code.instructions.items < 2 ^ 32
-  pub free : (objects : List Payload) (vs : List Obj) (ts : List Own) (s : State) → length vs ≡ args → IsAt objects code vs ts s → IsFreeAt code s.wants s
-
--- a frame of sound code, somewhere in a run of its rows
-pub record IsRunning (objects : List Payload) (code : PyCode) (s : State) : Type 0 where
-  pub args : List Obj
-  pub told : List Own
-  pub sound : IsSound code (length args)
-  pub is_at : IsAt objects code args told s

@@ -1,88 +1,97 @@
 //! Instructions on the stack, and operators.
 
-ghost use Rattle.std.specs.Prelude.{◌≡◌, ◌+◌, ◌^◌, ◌<◌, None, slice_get, IfOk};
+ghost use Rattle.std.specs.Prelude.{◌≡◌, ◌+◌, ◌^◌, ◌<◌, length, slice_get, Some, true};
 ghost use Rattle.py_code.specs.Operators.{binary_operators};
-ghost use Rattle.py_frame.specs.Rows.{pop, arithmetic_of, binary_operation, next, print_expr, return_value, waiting};
-ghost use Rattle.py_frame.specs.UnitSteps.{effect};
+ghost use Rattle.py_check.specs.Rules.{asks_operator};
+ghost use Rattle.py_frame.specs.Rows.{asked_operator, asks, binary_operation, pop, print_expr, return_value, returns};
+ghost use Rattle.py_frame.specs.UnitSteps.{IsSame, effect};
 
 use crate::execute::UnitStep;
 use crate::frame::Frame;
-use crate::input::{Expect, FrameStep};
+use crate::input::Expect;
 use py_code::BinaryOperator;
-use py_objects::{Arithmetic, Request};
+use py_objects::{PyObjectRef, Request};
+use py_stack::ValueStack;
 
-impl Frame {
+impl<S: ValueStack + Drop> Frame<S> {
     /// Drops the top.
     pub(crate) fn pop_top(&mut self) -> UnitStep
-        requires { self.old.at + 1 < 2 ^ 32 }
-        ensures { pop self.old.stack self.old ≡ effect self.old.at result self.new }
+        requires next { self.old.state.at + 1 < 2 ^ 32 }
+        requires operand { 0 < length self.old.state.stack }
+        ensures row { pop self.old.state.stack self.old.state ≡ effect self.old.state.at result self.new.state }
+        ensures same { IsSame self.old self.new }
     {
-        if self.pop().is_none() {
-            return UnitStep::Stuck;
-        }
+        self.pop();
         self.goes_on();
         UnitStep::Goes
     }
 
     /// Asks for an operator of the top two values, the left one of which lies lower.
     pub(crate) fn binary_operation(&mut self, operator: u32) -> UnitStep
-        requires { self.old.at + 1 < 2 ^ 32 }
-        ensures { binary_operation (arithmetic_of (slice_get binary_operators operator)) self.old.stack self.old ≡ effect self.old.at result self.new }
+        requires next { self.old.state.at + 1 < 2 ^ 32 }
+        requires operator { asks_operator (slice_get binary_operators operator) ≡ true }
+        requires operands { 1 < length self.old.state.stack }
+        ensures row { binary_operation (asked_operator (slice_get binary_operators operator)) self.old.state.stack self.old.state ≡ effect self.old.state.at result self.new.state }
+        ensures same { IsSame self.old self.new }
     {
-        let Some(operator) = arithmetic_of(operator) else {
-            return UnitStep::Stuck;
-        };
-        let Some(right) = self.pop() else {
-            return UnitStep::Stuck;
-        };
-        let Some(left) = self.pop() else {
-            return UnitStep::Stuck;
-        };
+        let operator = asked_operator(operator);
+        let right = self.pop();
+        let left = self.pop();
         self.asks(Request::Binary(operator, left, right))
     }
 
     /// Asks for the top to be shown.
     pub(crate) fn print_expr(&mut self) -> UnitStep
-        requires { self.old.at + 1 < 2 ^ 32 }
-        ensures { print_expr self.old.stack self.old ≡ effect self.old.at result self.new }
+        requires next { self.old.state.at + 1 < 2 ^ 32 }
+        requires operand { 0 < length self.old.state.stack }
+        ensures row { print_expr self.old.state.stack self.old.state ≡ effect self.old.state.at result self.new.state }
+        ensures same { IsSame self.old self.new }
     {
-        let Some(value) = self.pop() else {
-            return UnitStep::Stuck;
-        };
+        let value = self.pop();
         self.asks(Request::Show(value))
-    }
-
-    /// Asks from the unit that runs.
-    fn asks(&mut self, request: Request) -> UnitStep
-        requires { self.old.at + 1 < 2 ^ 32 }
-        ensures told { result ≡ UnitStep.Tells (FrameStep.Ask request None) }
-        ensures waits { self.new ≡ waiting Expect.Answer (next self.old) }
-    {
-        self.goes_on();
-        self.waits(Expect::Answer);
-        UnitStep::Tells(FrameStep::Ask(request, None))
     }
 
     /// Ends by the top.
     pub(crate) fn return_value(&mut self) -> UnitStep
-        requires { self.old.at + 1 < 2 ^ 32 }
-        ensures { return_value self.old.stack self.old ≡ effect self.old.at result self.new }
+        requires next { self.old.state.at + 1 < 2 ^ 32 }
+        requires operand { 0 < length self.old.state.stack }
+        ensures row { return_value self.old.state.stack self.old.state ≡ effect self.old.state.at result self.new.state }
+        ensures same { IsSame self.old self.new }
     {
-        let Some(value) = self.pop() else {
-            return UnitStep::Stuck;
-        };
+        let value = self.pop();
+        self.returns(value)
+    }
+
+    /// Asks from the unit that runs.
+    pub(crate) fn asks(&mut self, request: Request) -> UnitStep
+        requires { self.old.state.at + 1 < 2 ^ 32 }
+        ensures row { asks request self.old.state ≡ effect self.old.state.at result self.new.state }
+        ensures same { IsSame self.old self.new }
+    {
+        self.goes_on();
+        self.waits(Expect::Answer);
+        UnitStep::Asks(request)
+    }
+
+    /// Ends by a value.
+    pub(crate) fn returns(&mut self, value: PyObjectRef) -> UnitStep
+        requires { self.old.state.at + 1 < 2 ^ 32 }
+        ensures row { returns value self.old.state ≡ effect self.old.state.at result self.new.state }
+        ensures same { IsSame self.old self.new }
+    {
         self.goes_on();
         self.waits(Expect::Ended);
-        UnitStep::Tells(FrameStep::Return(value))
+        UnitStep::Returns(value)
     }
 }
 
-/// The operator of a number, where it is asked so far.
-fn arithmetic_of(number: u32) -> Option<Arithmetic>
-    ensures { result ≡ arithmetic_of (slice_get binary_operators number) }
+/// The operator of a number that is asked so far.
+fn asked_operator(number: u32) -> BinaryOperator
+    requires { asks_operator (slice_get binary_operators number) ≡ true }
+    ensures { asked_operator (slice_get binary_operators number) ≡ Some result }
 {
-    match BinaryOperator::of_number(number)? {
-        BinaryOperator::Add => Some(Arithmetic::Add),
-        _ => None,
+    match BinaryOperator::of_number(number) {
+        Some(operator) => operator,
+        None => unreachable!(),
     }
 }

@@ -1,5 +1,8 @@
 //! What a frame is told and what it tells.
 
+ghost use Rattle.std.specs.Prelude.{◌≡◌};
+ghost use Rattle.py_frame.specs.Steps.{got_of};
+
 use py_objects::{GotAnswer, PyBaseExceptionRef, PyObjectRef, Request};
 
 /// What a frame is told.
@@ -10,7 +13,33 @@ pub enum Input {
     /// It goes on.
     Go,
     /// What it asked is answered.
-    Answer(GotAnswer),
+    Answer(Answer),
+}
+
+/// An answer to what a frame asked.
+#[derive(Clone, Copy, Debug, PartialEq, Eq)]
+pub enum Answer {
+    Value(PyObjectRef),
+    /// There is nothing more.
+    Stop(Option<PyObjectRef>),
+    /// The raise of an exception that the answer made.
+    Fresh(PyBaseExceptionRef),
+    /// The raise of an exception that came from elsewhere.
+    Passed(PyBaseExceptionRef),
+}
+
+impl Answer {
+    /// The answer as an event names it.
+    pub fn got(self) -> GotAnswer
+        ensures { result ≡ got_of self }
+    {
+        match self {
+            Answer::Value(value) => GotAnswer::Value(value),
+            Answer::Stop(value) => GotAnswer::Stop(value),
+            Answer::Fresh(exception) => GotAnswer::Raise(exception),
+            Answer::Passed(exception) => GotAnswer::Raise(exception),
+        }
+    }
 }
 
 /// Which input a frame expects.
@@ -23,8 +52,8 @@ pub enum Expect {
     Ended,
 }
 
-/// What a frame tells: the next event of its activation.
-#[derive(Clone, Copy, Debug, PartialEq, Eq)]
+/// What a frame tells: the next event of its activation, or that memory ran out.
+#[derive(Drop)]
 pub enum FrameStep {
     /// It asks, while it handles this exception.
     Ask(Request, Option<PyBaseExceptionRef>),
@@ -32,4 +61,12 @@ pub enum FrameStep {
     Return(PyObjectRef),
     /// It ends by an exception.
     Raise(PyBaseExceptionRef),
+    NoMemory,
+}
+
+/// What a frame that ran to its end or to a yield gives.
+#[derive(Clone, Copy, Debug, PartialEq, Eq)]
+pub enum ExecutionResult {
+    Return(PyObjectRef),
+    Yield(PyObjectRef),
 }

@@ -4,6 +4,7 @@
 mod constants;
 mod data;
 mod execute;
+mod filled;
 mod frame;
 mod input;
 mod laws;
@@ -11,9 +12,11 @@ mod locals;
 mod pending;
 mod step;
 
+pub use filled::{Filled, positional};
 pub use frame::Frame;
-pub use input::{Expect, FrameStep, Input};
+pub use input::{Answer, ExecutionResult, Expect, FrameStep, Input};
 pub use laws::runs_of_rows;
+pub use py_stack::{OwnStack, ValueStack};
 
 #[cfg(test)]
 mod tests;

@@ -1,40 +1,74 @@
 //! Instructions on locals.
 
-ghost use Rattle.std.specs.Prelude.{◌≡◌, ◌+◌, ◌^◌, ◌<◌, slice_get, IfOk};
-ghost use Rattle.py_frame.specs.Rows.{load_fast, store_fast, set_in};
-ghost use Rattle.py_frame.specs.UnitSteps.{effect};
+ghost use Rattle.std.specs.Prelude.{◌≡◌, ◌+◌, ◌^◌, ◌<◌, length, slice_get, Some, IfOk, OnErr};
+ghost use Rattle.py_frame.specs.Fitting.{AreNames};
+ghost use Rattle.py_frame.specs.Rows.{load_fast, name_of_local, set_in, store_fast};
+ghost use Rattle.py_frame.specs.UnitSteps.{IsSame, effect};
 
 use crate::execute::UnitStep;
 use crate::frame::Frame;
-use py_code::NoMemory;
+use py_code::{Names, NoMemory, PyCode, PyText, text_of_str};
+use py_objects::Request;
+use py_stack::ValueStack;
+use std::alloc::Global;
 
-impl Frame {
-    /// Pushes a local.
-    pub(crate) fn load_fast(&mut self, place: usize) -> Result<UnitStep, NoMemory>
-        requires { self.old.at + 1 < 2 ^ 32 }
-        ensures { IfOk result (λ step. load_fast (set_in (slice_get self.old.locals place)) self.old ≡ effect self.old.at step self.new) }
+impl<S: ValueStack + Drop> Frame<S> {
+    /// Pushes a local. One that is unset is asked for by its name.
+    pub(crate) fn load_fast(
+        &mut self,
+        alloc: Global,
+        code: &PyCode,
+        names: &Names,
+        place: usize,
+    ) -> Result<UnitStep, NoMemory>
+        requires next { self.old.state.at + 1 < 2 ^ 32 }
+        requires named { AreNames names.now code.now }
+        requires name { place < length code.now.code.varnames.items }
+        requires local { place < length self.old.state.locals }
+        requires room { 0 < self.old.room }
+        ensures row { IfOk result (λ step. load_fast (name_of_local (record { code = code.now; names = names.now }) place) (set_in (slice_get self.old.state.locals place)) self.old.state ≡ effect self.old.state.at step self.new.state) }
+        ensures same { IsSame self.old self.new }
+        ensures err { OnErr result (self.new ≡ self.old) }
     {
-        let Some(value) = self.local(place) else {
-            return Ok(UnitStep::Stuck);
-        };
-        self.goes_on();
-        self.push(value)?;
-        Ok(UnitStep::Goes)
+        match self.local(place) {
+            Some(value) => {
+                self.goes_on();
+                self.push(value);
+                Ok(UnitStep::Goes)
+            }
+            None => {
+                let name = name_of_local(alloc, code, names, place)?;
+                Ok(self.asks(Request::Unbound(name)))
+            }
+        }
     }
 
     /// Moves the top into a local.
     pub(crate) fn store_fast(&mut self, place: usize) -> UnitStep
-        requires { self.old.at + 1 < 2 ^ 32 }
-        ensures { store_fast place self.old.stack self.old ≡ effect self.old.at result self.new }
+        requires next { self.old.state.at + 1 < 2 ^ 32 }
+        requires local { place < length self.old.state.locals }
+        requires operand { 0 < length self.old.state.stack }
+        ensures row { store_fast place self.old.state.stack self.old.state ≡ effect self.old.state.at result self.new.state }
+        ensures same { IsSame self.old self.new }
     {
-        let Some(value) = self.pop() else {
-            return UnitStep::Stuck;
-        };
-        if place >= self.local_count() {
-            return UnitStep::Stuck;
-        }
+        let value = self.pop();
         self.goes_on();
         self.set_local(place, value);
         UnitStep::Goes
     }
+}
+
+/// The name of a local.
+fn name_of_local(
+    alloc: Global,
+    code: &PyCode,
+    names: &Names,
+    place: usize,
+) -> Result<PyText, NoMemory>
+    requires named { AreNames names.now code.now }
+    requires name { place < length code.now.code.varnames.items }
+    ensures { IfOk result (λ name. name_of_local (record { code = code.now; names = names.now }) place ≡ Some name) }
+{
+    let id = code.code.varnames[place];
+    text_of_str(alloc, names.text(id))
 }

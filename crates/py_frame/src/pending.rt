@@ -1,48 +1,38 @@
 //! What an answer does in a frame that waits for it.
 
-ghost use Rattle.std.specs.Prelude.{◌≡◌, ◌-◌, IfOk};
-ghost use Rattle.py_frame.specs.Rows.{answered, receive};
-ghost use Rattle.py_frame.specs.UnitSteps.{effect};
+ghost use Rattle.std.specs.Prelude.{◌≡◌, ◌-◌, [], slice_get};
+ghost use Rattle.py_objects.specs.declared.event.GotAnswer.TheVariants as got;
+ghost use Rattle.py_frame.specs.Rows.{Goes, answered, receive};
+ghost use Rattle.py_frame.specs.UnitSteps.{IsSame, Takes, UnitTakes};
 
-use crate::execute::UnitStep;
 use crate::frame::Frame;
-use crate::input::{Expect, FrameStep};
-use py_code::{Instruction, NoMemory, PyCode};
-use py_objects::{GotAnswer, PyObjectRef};
+use crate::input::Expect;
+use py_code::{Instruction, PyCode};
+use py_objects::PyObjectRef;
+use py_stack::ValueStack;
 
-impl Frame {
-    /// Takes an answer: a value goes to the unit that asked, a raise ends the frame there.
-    pub(crate) fn receive(&mut self, code: &PyCode, answer: GotAnswer) -> Result<UnitStep, NoMemory>
-        ensures { IfOk result (λ step. receive code.now answer self.old ≡ effect (self.old.at - 1) step self.new) }
+impl<S: ValueStack + Drop> Frame<S> {
+    /// Takes a value that answers the unit that asked, and goes on.
+    pub(crate) fn receive(&mut self, code: &PyCode, value: PyObjectRef)
+        requires { UnitTakes (slice_get code.now.code.instructions.items (self.old.state.at - 1)) self.old }
+        ensures row { receive (record { code = code.now; names = [] }) (got.Value value) self.old.state ≡ Goes self.new.state }
+        ensures same { IsSame self.old self.new }
     {
-        match answer {
-            GotAnswer::Value(value) => {
-                let asked = self.lasti().saturating_sub(1) as usize;
-                self.waits(Expect::Go);
-                let Some(unit) = code.code.instructions.get(asked) else {
-                    return Ok(UnitStep::Stuck);
-                };
-                self.take(unit.op, value)
-            }
-            GotAnswer::Raise(exception) => {
-                self.waits(Expect::Ended);
-                Ok(UnitStep::Tells(FrameStep::Raise(exception)))
-            }
-            GotAnswer::Stop(_) => Ok(UnitStep::Stuck),
-        }
+        let asked = code.code.instructions[self.lasti().saturating_sub(1) as usize];
+        self.waits(Expect::Go);
+        self.take(asked.op, value);
     }
 
     /// Takes a value that answers an instruction.
-    fn take(&mut self, op: Instruction, value: PyObjectRef) -> Result<UnitStep, NoMemory>
-        ensures { IfOk result (λ step. answered op value self.old ≡ effect (self.old.at - 1) step self.new) }
+    fn take(&mut self, op: Instruction, value: PyObjectRef)
+        requires { Takes op self.old }
+        ensures row { answered op value self.old.state ≡ Goes self.new.state }
+        ensures same { IsSame self.old self.new }
     {
         match op {
-            Instruction::BinaryOperation => {
-                self.push(value)?;
-                Ok(UnitStep::Goes)
-            }
-            Instruction::PrintExpr => Ok(UnitStep::Goes),
-            _ => Ok(UnitStep::Stuck),
+            Instruction::LoadFast | Instruction::BinaryOperation => self.push(value),
+            Instruction::PrintExpr => {}
+            _ => unreachable!(),
         }
     }
 }

@@ -2,77 +2,134 @@
 
 ghost use Rattle.std.specs.Prelude.{◌≡◌, ◌-◌, ◌++◌, IfOk};
 ghost use Rattle.py_objects.specs.Objects.{GrowsPlainly};
-ghost use Rattle.py_frame.specs.RunOfRows.{IsRunning};
-ghost use Rattle.py_frame.specs.Steps.{Expects, Extends, expected, heard, told};
-ghost use Rattle.py_frame.specs.UnitSteps.{Leads};
+ghost use Rattle.py_frame.specs.Fitting.{IsRunning};
+ghost use Rattle.py_frame.specs.Steps.{AsksKnown, Expects, Extends, IfTold, expected, heard, told};
+ghost use Rattle.py_frame.specs.UnitSteps.{IsSame, Leads};
 ghost use Rattle.py_frame.specs.declared.input.Expect.TheVariants as expect;
 
 use crate::execute::UnitStep;
 use crate::frame::Frame;
-use crate::input::{Expect, FrameStep, Input};
-use py_code::{NoMemory, PyCode};
+use crate::input::{Answer, Expect, FrameStep, Input};
+use py_check::CheckedCode;
+use py_code::{Names, NoMemory};
 use py_objects::{GotAnswer, Store};
+use py_stack::ValueStack;
+use std::alloc::Global;
 
-impl Frame {
-    /// Takes an input, and runs units until one tells an event. A constant that is loaded is a new object. Behind an
-    /// error, which is the want of memory, the frame is not to be stepped again.
+impl<S: ValueStack + Drop> Frame<S> {
+    /// Takes an input, and runs units until one tells an event. A constant that is loaded is a new object. Where memory
+    /// runs out the frame has ended.
     pub fn step(
         &mut self,
-        code: &PyCode,
+        alloc: Global,
+        code: &CheckedCode,
+        names: &Names,
+        store: &mut Store,
+        input: Input,
+    ) -> FrameStep
+        requires running { IsRunning store.old.made names.now code.now self.old }
+        requires expected { Expects self.old.state.wants input }
+        // The run so far goes on, by what was heard and what is told.
+        ensures extends { IfTold result (Extends store.old.made store.new.made (record { code = code.now.code; names = names.now }) self.old.state input result self.new.state) }
+        ensures expects { self.new.state.wants ≡ expected result }
+        ensures asks { AsksKnown result }
+        // The frame fits its notes as before.
+        ensures running { IsRunning store.new.made names.now code.now self.new }
+        ensures same { (self.new.code ≡ self.old.code) × (self.new.scope ≡ self.old.scope) }
+        // Also where memory ran out, nothing was declared, and nothing changed.
+        ensures objects { GrowsPlainly store.old.made store.new.made }
+        ensures unchanged { store.new ≡ record store.old { made = store.new.made } }
+    {
+        match self.hear(alloc, code, names, store, input) {
+            Ok(step) => step,
+            Err(NoMemory) => {
+                self.waits(Expect::Ended);
+                FrameStep::NoMemory
+            }
+        }
+    }
+
+    /// Takes an input, and runs units where the frame goes on. Where memory runs out the frame is where it was then.
+    fn hear(
+        &mut self,
+        alloc: Global,
+        code: &CheckedCode,
+        names: &Names,
         store: &mut Store,
         input: Input,
     ) -> Result<FrameStep, NoMemory>
-        requires running { IsRunning store.old code.now self.old }
-        requires expected { Expects self.old.wants input }
-        // The run so far goes on, by what was heard and what is told.
-        ensures extends { IfOk result (λ step. Extends store.old store.new code.now self.old input step self.new) }
-        ensures expects { IfOk result (λ step. self.new.wants ≡ expected step) }
-        // Also behind an error, nothing was declared.
-        ensures objects { GrowsPlainly store.old store.new }
+        requires running { IsRunning store.old.made names.now code.now self.old }
+        requires expected { Expects self.old.state.wants input }
+        ensures leads { IfOk result (λ step. Leads store.new.made (record { code = code.now.code; names = names.now }) self.old.state (heard input ++ told (self.new.state.at - 1) step) self.new.state) }
+        ensures told { IfOk result (λ step. (self.new.state.wants ≡ expected step) × AsksKnown step) }
+        ensures running { IsRunning store.new.made names.now code.now self.new }
+        ensures same { IsSame self.old self.new }
+        ensures objects { GrowsPlainly store.old.made store.new.made }
+        ensures unchanged { store.new ≡ record store.old { made = store.new.made } }
     {
         match input {
             Input::Start => {
                 self.waits(Expect::Go);
-                self.run(code, store)
+                self.run(alloc, code, names, store)
             }
-            Input::Go => self.run(code, store),
-            Input::Answer(answer) => self.answer(code, store, answer),
+            Input::Go => self.run(alloc, code, names, store),
+            Input::Answer(answer) => self.answer(alloc, code, names, store, answer),
         }
     }
 
-    /// Takes an answer, and runs units where the frame goes on.
+    /// Takes an answer: a value goes to the unit that asked, a raise ends the frame there.
     fn answer(
         &mut self,
-        code: &PyCode,
+        alloc: Global,
+        code: &CheckedCode,
+        names: &Names,
         store: &mut Store,
-        answer: GotAnswer,
+        answer: Answer,
     ) -> Result<FrameStep, NoMemory>
-        requires running { IsRunning store.old code.now self.old }
-        requires expected { Expects self.old.wants (Input.Answer answer) }
-        ensures leads { IfOk result (λ step. Leads store.new code.now self.old (heard (Input.Answer answer) ++ told (self.new.at - 1) step) self.new) }
-        ensures expects { IfOk result (λ step. self.new.wants ≡ expected step) }
-        ensures objects { GrowsPlainly store.old store.new }
+        requires running { IsRunning store.old.made names.now code.now self.old }
+        requires expected { Expects self.old.state.wants (Input.Answer answer) }
+        ensures leads { IfOk result (λ step. Leads store.new.made (record { code = code.now.code; names = names.now }) self.old.state (heard (Input.Answer answer) ++ told (self.new.state.at - 1) step) self.new.state) }
+        ensures told { IfOk result (λ step. (self.new.state.wants ≡ expected step) × AsksKnown step) }
+        ensures running { IsRunning store.new.made names.now code.now self.new }
+        ensures same { IsSame self.old self.new }
+        ensures objects { GrowsPlainly store.old.made store.new.made }
+        ensures unchanged { store.new ≡ record store.old { made = store.new.made } }
     {
-        match self.receive(code, answer)? {
-            UnitStep::Goes => self.run(code, store),
-            UnitStep::Tells(step) => Ok(step),
-            UnitStep::Stuck => unreachable!(),
+        match answer.got() {
+            GotAnswer::Value(value) => {
+                self.receive(code.code(), value);
+                self.run(alloc, code, names, store)
+            }
+            GotAnswer::Raise(exception) => {
+                self.waits(Expect::Ended);
+                Ok(FrameStep::Raise(exception))
+            }
+            GotAnswer::Stop(_) => unreachable!(),
         }
     }
 
-    /// Runs units until one tells an event.
-    fn run(&mut self, code: &PyCode, store: &mut Store) -> Result<FrameStep, NoMemory>
-        requires running { IsRunning store.old code.now self.old }
-        requires goes { self.old.wants ≡ expect.Go }
-        ensures leads { IfOk result (λ step. Leads store.new code.now self.old (told (self.new.at - 1) step) self.new) }
-        ensures expects { IfOk result (λ step. self.new.wants ≡ expected step) }
-        ensures objects { GrowsPlainly store.old store.new }
+    /// Runs units until one tells an event. Where memory runs out the frame is in front of the unit that wanted it.
+    fn run(
+        &mut self,
+        alloc: Global,
+        code: &CheckedCode,
+        names: &Names,
+        store: &mut Store,
+    ) -> Result<FrameStep, NoMemory>
+        requires running { IsRunning store.old.made names.now code.now self.old }
+        requires goes { self.old.state.wants ≡ expect.Go }
+        ensures leads { IfOk result (λ step. Leads store.new.made (record { code = code.now.code; names = names.now }) self.old.state (told (self.new.state.at - 1) step) self.new.state) }
+        ensures told { IfOk result (λ step. (self.new.state.wants ≡ expected step) × AsksKnown step) }
+        ensures running { IsRunning store.new.made names.now code.now self.new }
+        ensures same { IsSame self.old self.new }
+        ensures objects { GrowsPlainly store.old.made store.new.made }
+        ensures unchanged { store.new ≡ record store.old { made = store.new.made } }
     {
         'silent: loop {
-            match self.execute(code, store)? {
+            match self.execute(alloc, code.code(), names, store)? {
                 UnitStep::Goes => {}
-                UnitStep::Tells(step) => return Ok(step),
-                UnitStep::Stuck => unreachable!(),
+                UnitStep::Asks(request) => return Ok(FrameStep::Ask(request, None)),
+                UnitStep::Returns(value) => return Ok(FrameStep::Return(value)),
             }
         }
     }

@@ -1,32 +1,87 @@
-//! What hand-made units do, one by one.
+//! Small codes, run from event to event.
 
-use crate::execute::UnitStep;
+ghost use Rattle.std.specs.Prelude.{◌≡◌, ◌≤◌, [], ◌∷◌, length, vec_len, map, IfOk};
+ghost use Rattle.py_code.specs.Literals.{literals_of};
+ghost use Rattle.py_code.specs.declared.literal.Literal.{None as NoneLiteral};
+ghost use Rattle.py_check.specs.Sheet.{sheet_of};
+ghost use Rattle.py_check.specs.Worked.{holds, nothing, one, sheet, two, unit};
+ghost use Rattle.py_frame.specs.Worked.{HasTwoNames, IsSoundByTwo, RunsIfSound, shown, sum};
+ghost use Rattle.py_frame.specs.declared.input.Expect.TheVariants as expect;
+
 use crate::*;
+use py_check::{Annotated, BlockList, CheckedCode, Kind, KindList, Note, NoteList};
 use py_code::{
-    CodeFlags, CodeObject, CodeUnit, Instruction, Literal, LiteralList, NameId, NoMemory, PyCode,
+    BinaryOperator, CodeFlags, CodeObject, CodeUnit, Instruction, ItemList, Literal, LiteralList,
+    NameId, Names, NoMemory, PyCode,
 };
-use py_objects::{Arithmetic, GotAnswer, ObjList, Payload, PyObjectRef, Request, Store};
+use py_objects::{ObjList, Payload, PyBaseExceptionRef, PyObjectRef, Request, Scope, Store};
 use std::alloc::Global;
 use std::process::Abort;
 use std::test::Fail;
 
-/// A code of these units with two locals.
+fn object(number: u64) -> PyObjectRef {
+    PyObjectRef { number }
+}
+
+/// The units of a code.
+fn units_of(alloc: Global, units: &[(Instruction, u8)]) -> Result<Vec<CodeUnit>, NoMemory>
+    ensures { IfOk result (λ made. made.items ≡ map (λ u. unit u.0 u.1) units.now) }
+{
+    let mut made = Vec::new(alloc);
+    for (op, arg) in units {
+        made.push(CodeUnit { op: *op, arg: *arg })?;
+    }
+    Ok(made)
+}
+
+/// A note of so many entries of which nothing is known.
+fn note_of(alloc: Global, entries: &[Kind]) -> Result<Note, NoMemory>
+    ensures { IfOk result (λ note. note ≡ holds entries.now) }
+{
+    let mut kinds = KindList::new(alloc);
+    for kind in entries {
+        kinds.push(*kind)?;
+    }
+    Ok(Note::Live {
+        kinds,
+        blocks: BlockList::new(alloc),
+    })
+}
+
+/// The notes of a code whose stack grows to one entry, to two, and falls to one.
+fn notes_of(alloc: Global) -> Result<NoteList, NoMemory>
+    ensures { IfOk result (λ notes. notes ≡ nothing ∷ one ∷ two ∷ one ∷ []) }
+{
+    let mut notes = NoteList::new(alloc);
+    notes.push(note_of(alloc, &[])?)?;
+    notes.push(note_of(alloc, &[Kind::Any])?)?;
+    notes.push(note_of(alloc, &[Kind::Any, Kind::Any])?)?;
+    notes.push(note_of(alloc, &[Kind::Any])?)?;
+    Ok(notes)
+}
+
+/// A code of two parameters, whose units are on lines 10, 11 and so on.
 fn code_of(
     alloc: Global,
-    units: &[(Instruction, u8)],
+    instructions: Vec<CodeUnit>,
     constants: LiteralList,
-) -> Result<PyCode, NoMemory> {
-    let mut instructions = Vec::new(alloc);
-    for (op, arg) in units {
-        instructions.push(CodeUnit { op: *op, arg: *arg })?;
+    notes: NoteList,
+) -> Result<Annotated, NoMemory>
+    requires { vec_len instructions ≤ 100 }
+    ensures sheet { IfOk result (λ code. sheet_of code ≡ record (sheet instructions.items notes) { constants = literals_of constants }) }
+    ensures names { IfOk result (λ code. HasTwoNames code.code) }
+{
+    let mut locations = Vec::new(alloc);
+    for place in 0..instructions.len() {
+        locations.push(10 + place as u32)?;
     }
     let mut varnames = Vec::new(alloc);
     varnames.push(NameId { index: 0 })?;
     varnames.push(NameId { index: 1 })?;
-    Ok(PyCode::new(CodeObject {
+    let code = PyCode::new(CodeObject {
         instructions,
-        locations: Vec::new(alloc),
-        flags: CodeFlags::new(0),
+        locations,
+        flags: CodeFlags::new(CodeFlags::NEW_LOCALS | CodeFlags::IS_OPTIMIZED),
         posonlyarg_count: 0,
         arg_count: 2,
         kwonlyarg_count: 0,
@@ -40,57 +95,155 @@ fn code_of(
         varnames,
         cellvars: Vec::new(alloc),
         freevars: Vec::new(alloc),
-    }))
+    });
+    Ok(Annotated { code, notes })
 }
 
-fn object(number: u64) -> PyObjectRef {
-    PyObjectRef { number }
+/// The constant None.
+fn none_alone(alloc: Global) -> Result<LiteralList, NoMemory>
+    ensures { IfOk result (λ constants. literals_of constants ≡ NoneLiteral ∷ []) }
+{
+    let mut constants = LiteralList::new(alloc);
+    constants.push(Literal::None)?;
+    Ok(constants)
 }
 
-/// A frame whose locals are the objects 7 and 8.
-fn frame_of(alloc: Global, code: &PyCode) -> Result<Frame, NoMemory> {
-    let mut args = ObjList::new(alloc);
-    args.push(object(7))?;
-    args.push(object(8))?;
-    Frame::new(alloc, code, &args)
+/// The names of two locals.
+fn two_names(rt: &impl Abort, alloc: Global) -> Result<Names, NoMemory>
+    ensures { IfOk result (λ names. length names ≡ 2) }
+{
+    let mut names = Names::new(alloc);
+    names.intern("left")?;
+    names.intern("right")?;
+    assert!(rt; names.len() == 2);
+    Ok(names)
 }
 
-/// What the last of so many units does.
-fn last_of(
-    rt: &impl Abort,
-    count: u32,
-    frame: &mut Frame,
-    code: &PyCode,
-    store: &mut Store,
-) -> Result<UnitStep, NoMemory> {
-    assert!(rt; code.code.instructions.len() < 100);
-    let mut step = UnitStep::Goes;
-    for _ in 0..count {
-        step = frame.execute(code, store)?;
+/// A frame of a code whose arguments are the objects 7 and so on.
+fn frame_of(alloc: Global, code: &CheckedCode, args: &[u64]) -> Result<Frame<OwnStack>, NoMemory>
+    requires { code.now.code.code.max_stackdepth ≤ 2 }
+    ensures running { IfOk result (λ frame. RunsIfSound code.now frame) }
+    ensures start { IfOk result (λ frame. (frame.state.wants ≡ expect.Start) × (frame.state.at ≡ 0)) }
+{
+    let mut values = ObjList::new(alloc);
+    for number in args {
+        values.push(object(*number))?;
     }
-    Ok(step)
+    let scope = Scope {
+        locals: object(5),
+        globals: object(6),
+    };
+    let stack = OwnStack::new(alloc, 2)?;
+    let mut frame = Frame::new(alloc, code, 3, scope, stack)?;
+    let locals = positional(alloc, code, &values)?;
+    frame.fill(locals);
+    Ok(frame)
 }
 
-#[test]
-fn an_addition_asks_for_its_operands_in_order(rt: HostRuntime) -> Result<(), Fail> {
-    let alloc = rt.alloc();
+/// The sum of the two parameters.
+fn sum_code(alloc: Global) -> Result<Annotated, NoMemory>
+    ensures sheet { IfOk result (λ code. sheet_of code ≡ sum) }
+    ensures names { IfOk result (λ code. HasTwoNames code.code) }
+{
     let units = [
         (Instruction::LoadFast, 0),
         (Instruction::LoadFast, 1),
         (Instruction::BinaryOperation, 6),
         (Instruction::ReturnValue, 0),
     ];
-    let code = code_of(alloc, &units, LiteralList::new(alloc))?;
+    let notes = notes_of(alloc)?;
+    code_of(alloc, units_of(alloc, &units)?, none_alone(alloc)?, notes)
+}
+
+/// The same, checked.
+fn sum(alloc: Global) -> Result<CheckedCode, NoMemory>
+    ensures sound { IfOk result (λ code. IsSoundByTwo code) }
+    ensures depth { IfOk result (λ code. code.code.code.max_stackdepth ≡ 2) }
+{
+    let code = sum_code(alloc)?;
+    Ok(CheckedCode::of(code))
+}
+
+/// The second parameter is shown, and the first one returned.
+fn show_code(alloc: Global) -> Result<Annotated, NoMemory>
+    ensures sheet { IfOk result (λ code. sheet_of code ≡ shown) }
+    ensures names { IfOk result (λ code. HasTwoNames code.code) }
+{
+    let units = [
+        (Instruction::LoadFast, 0),
+        (Instruction::LoadFast, 1),
+        (Instruction::PrintExpr, 0),
+        (Instruction::ReturnValue, 0),
+    ];
+    let notes = notes_of(alloc)?;
+    code_of(alloc, units_of(alloc, &units)?, none_alone(alloc)?, notes)
+}
+
+/// The same, checked.
+fn show(alloc: Global) -> Result<CheckedCode, NoMemory>
+    ensures sound { IfOk result (λ code. IsSoundByTwo code) }
+    ensures depth { IfOk result (λ code. code.code.code.max_stackdepth ≡ 2) }
+{
+    let code = show_code(alloc)?;
+    Ok(CheckedCode::of(code))
+}
+
+/// A step that told something. Where memory ran out, the frame has to have ended.
+fn told(rt: &impl Abort, frame: &Frame<OwnStack>, step: FrameStep) -> Result<FrameStep, NoMemory> {
+    if let FrameStep::NoMemory = step {
+        assert!(rt; frame.expects() == Expect::Ended);
+        return Err(NoMemory);
+    }
+    Ok(step)
+}
+
+/// The operands of an addition that is asked for.
+fn operands(step: &FrameStep) -> Option<(PyObjectRef, PyObjectRef)> {
+    match step {
+        FrameStep::Ask(Request::Binary(BinaryOperator::Add, left, right), None) => {
+            Some((*left, *right))
+        }
+        _ => None,
+    }
+}
+
+/// Whether an unset local of this name is asked for.
+fn is_unbound(step: &FrameStep, characters: &[char]) -> bool {
+    match step {
+        FrameStep::Ask(Request::Unbound(name), None) => name.as_slice() == characters,
+        _ => false,
+    }
+}
+
+/// The value that is asked to be shown.
+fn asked_to_show(step: &FrameStep) -> Option<PyObjectRef> {
+    match step {
+        FrameStep::Ask(Request::Show(value), None) => Some(*value),
+        _ => None,
+    }
+}
+
+/// The value that is returned.
+fn returned(step: &FrameStep) -> Option<PyObjectRef> {
+    match step {
+        FrameStep::Return(value) => Some(*value),
+        _ => None,
+    }
+}
+
+#[test]
+fn an_addition_asks_for_its_operands_in_order(rt: HostRuntime) -> Result<(), Fail> {
+    let alloc = rt.alloc();
+    let code = sum(alloc)?;
+    let names = two_names(&rt, alloc)?;
     let mut store = Store::new(alloc)?;
-    let mut frame = frame_of(alloc, &code)?;
-    let asks = FrameStep::Ask(Request::Binary(Arithmetic::Add, object(7), object(8)), None);
-    let step = last_of(&rt, 3, &mut frame, &code, &mut store)?;
-    assert!(rt; step == UnitStep::Tells(asks));
-    frame.receive(&code, GotAnswer::Value(object(15)))?;
-    assert!(rt; frame.lasti() == 3);
-    let returns = FrameStep::Return(object(15));
-    let step = last_of(&rt, 1, &mut frame, &code, &mut store)?;
-    assert!(rt; step == UnitStep::Tells(returns));
+    let mut frame = frame_of(alloc, &code, &[7, 8])?;
+    let step = frame.step(alloc, &code, &names, &mut store, Input::Start);
+    assert!(rt; operands(&step) == Some((object(7), object(8))));
+    assert!(rt; frame.expects() == Expect::Answer);
+    let answer = Input::Answer(Answer::Value(object(15)));
+    let step = frame.step(alloc, &code, &names, &mut store, answer);
+    assert!(rt; returned(&step) == Some(object(15)));
     assert!(rt; frame.expects() == Expect::Ended);
     Ok(())
 }
@@ -98,86 +251,54 @@ fn an_addition_asks_for_its_operands_in_order(rt: HostRuntime) -> Result<(), Fai
 #[test]
 fn a_value_that_is_shown_leaves_nothing_on_the_stack(rt: HostRuntime) -> Result<(), Fail> {
     let alloc = rt.alloc();
-    let units = [
-        (Instruction::LoadFast, 0),
-        (Instruction::LoadFast, 1),
-        (Instruction::PrintExpr, 0),
-        (Instruction::ReturnValue, 0),
-    ];
-    let code = code_of(alloc, &units, LiteralList::new(alloc))?;
+    let code = show(alloc)?;
+    let names = two_names(&rt, alloc)?;
     let mut store = Store::new(alloc)?;
-    let mut frame = frame_of(alloc, &code)?;
-    let asks = FrameStep::Ask(Request::Show(object(8)), None);
-    let step = last_of(&rt, 3, &mut frame, &code, &mut store)?;
-    assert!(rt; step == UnitStep::Tells(asks));
-    frame.receive(&code, GotAnswer::Value(object(0)))?;
-    let returns = FrameStep::Return(object(7));
-    let step = last_of(&rt, 1, &mut frame, &code, &mut store)?;
-    assert!(rt; step == UnitStep::Tells(returns));
+    let mut frame = frame_of(alloc, &code, &[7, 8])?;
+    let step = frame.step(alloc, &code, &names, &mut store, Input::Start);
+    assert!(rt; asked_to_show(&step) == Some(object(8)));
+    assert!(rt; frame.expects() == Expect::Answer);
+    let answer = Input::Answer(Answer::Value(object(0)));
+    let step = frame.step(alloc, &code, &names, &mut store, answer);
+    assert!(rt; returned(&step) == Some(object(7)));
     Ok(())
 }
 
 #[test]
-fn an_answer_to_no_question_is_stuck(rt: HostRuntime) -> Result<(), Fail> {
+fn an_unset_local_is_asked_for_by_its_name(rt: HostRuntime) -> Result<(), Fail> {
     let alloc = rt.alloc();
-    let code = code_of(
-        alloc,
-        &[(Instruction::LoadFast, 0)],
-        LiteralList::new(alloc),
-    )?;
+    let code = sum(alloc)?;
+    let names = two_names(&rt, alloc)?;
     let mut store = Store::new(alloc)?;
-    let mut frame = frame_of(alloc, &code)?;
-    last_of(&rt, 1, &mut frame, &code, &mut store)?;
-    let step = frame.receive(&code, GotAnswer::Value(object(15)))?;
-    assert!(rt; step == UnitStep::Stuck);
+    let mut frame = frame_of(alloc, &code, &[7])?;
+    let step = frame.step(alloc, &code, &names, &mut store, Input::Start);
+    let step = told(&rt, &frame, step)?;
+    assert!(rt; is_unbound(&step, &['r', 'i', 'g', 'h', 't']));
+    assert!(rt; frame.expects() == Expect::Answer);
+    let answer = Input::Answer(Answer::Value(object(9)));
+    let step = frame.step(alloc, &code, &names, &mut store, answer);
+    assert!(rt; operands(&step) == Some((object(7), object(9))));
     Ok(())
 }
 
 #[test]
-fn a_constant_stands_behind_its_prefixes(rt: HostRuntime) -> Result<(), Fail> {
+fn an_exception_ends_a_frame_on_its_line(rt: HostRuntime) -> Result<(), Fail> {
     let alloc = rt.alloc();
-    let units = [
-        (Instruction::ExtendedArg, 1),
-        (Instruction::LoadConst, 2),
-        (Instruction::StoreFast, 1),
-        (Instruction::LoadConst, 2),
-        (Instruction::Pop, 0),
-        (Instruction::LoadFast, 1),
-        (Instruction::ReturnValue, 0),
-    ];
-    let mut constants = LiteralList::new(alloc);
-    for number in 0..300u16 {
-        constants.push(Literal::Int(i128::from(number)))?;
-    }
-    let code = code_of(alloc, &units, constants)?;
+    let code = sum(alloc)?;
+    let names = two_names(&rt, alloc)?;
     let mut store = Store::new(alloc)?;
-    let mut frame = frame_of(alloc, &code)?;
-    let returns = UnitStep::Tells(FrameStep::Return(object(1)));
-    let step = last_of(&rt, 7, &mut frame, &code, &mut store)?;
-    assert!(rt; step == returns);
-    let payloads = store.into_payloads();
-    assert!(rt; matches!(payloads.get(1), Some(Payload::Int(258))));
-    assert!(rt; matches!(payloads.get(2), Some(Payload::Int(2))));
-    Ok(())
-}
-
-#[test]
-fn what_has_no_meaning_is_stuck(rt: HostRuntime) -> Result<(), Fail> {
-    let alloc = rt.alloc();
-    let cases = [
-        (Instruction::LoadFast, 2),
-        (Instruction::LoadConst, 0),
-        (Instruction::StoreFast, 0),
-        (Instruction::BinaryOperation, 6),
-        (Instruction::PrintExpr, 0),
-        (Instruction::Jump, 0),
-    ];
-    for (op, arg) in cases {
-        let code = code_of(alloc, &[(op, arg)], LiteralList::new(alloc))?;
-        let mut store = Store::new(alloc)?;
-        let mut frame = frame_of(alloc, &code)?;
-        let step = last_of(&rt, 1, &mut frame, &code, &mut store)?;
-        assert!(rt; step == UnitStep::Stuck, "at {op:?}");
-    }
+    let mut frame = frame_of(alloc, &code, &[7, 8])?;
+    assert!(rt; frame.f_lineno(&code) == 10);
+    assert!(rt; frame.f_code() == 3);
+    assert!(rt; frame.f_globals() == object(6));
+    let step = frame.step(alloc, &code, &names, &mut store, Input::Start);
+    told(&rt, &frame, step)?;
+    assert!(rt; frame.lasti() == 3);
+    assert!(rt; frame.current_location(&code) == 12);
+    assert!(rt; frame.expects() == Expect::Answer);
+    let answer = Input::Answer(Answer::Fresh(PyBaseExceptionRef { number: 4 }));
+    let step = frame.step(alloc, &code, &names, &mut store, answer);
+    assert!(rt; matches!(step, FrameStep::Raise(exception) if exception.number == 4));
+    assert!(rt; frame.f_lineno(&code) == 12);
     Ok(())
 }

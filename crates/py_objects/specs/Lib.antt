@@ -1,5 +1,17 @@
+-- numbers of objects
+pub mod Refs
 -- what objects are, and which are new
 pub mod Objects
 -- an activation's own events, and the words in which bodies tell them
 pub mod Own
 pub mod Telling
+-- scopes, attributes and the pairs of dicts
+pub mod Scopes
+pub mod Attrs
+pub mod Pairs
+-- what can be read off payloads, which keys are one, and what changes do to payloads
+pub mod Values
+pub mod Keys
+pub mod Edits
+-- how a store keeps what its objects were made as
+pub mod Originals

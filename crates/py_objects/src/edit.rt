@@ -1,5 +1,6 @@
 //! Changes of objects after they were made.
 
+use crate::payload::PayloadList;
 use crate::refs::PyObjectRef;
 use py_code::{ItemList, PyText};
 
@@ -13,6 +14,13 @@ pub struct Change {
 
 /// Changes in the order in which they were made.
 pub type ChangeList = ItemList<Change>;
+
+/// A store's end: each object's payload as it was made, and the changes in order.
+#[derive(Drop)]
+pub struct History {
+    pub objects: PayloadList,
+    pub changes: ChangeList,
+}
 
 /// What a change does to its object.
 #[derive(Drop)]

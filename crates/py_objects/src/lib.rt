@@ -1,18 +1,29 @@
 //! Objects by number, what bodies ask, and the events of a run.
 #![tactic(auto)]
 
+mod attr_map;
 mod edit;
+mod editing;
 mod event;
+mod keys;
+mod pair_list;
 mod payload;
 mod refs;
 mod request;
+mod scope;
 mod store;
 
-pub use edit::{AwaitState, Change, ChangeList, Edit, LinkField};
+pub use attr_map::AttrMap;
+pub use edit::{AwaitState, Change, ChangeList, Edit, History, LinkField};
 pub use event::{DriveAnswer, Ending, Event, EventList, GotAnswer, ResumeHow};
-pub use payload::{ClassBody, ErrorKind, ExceptionBody, FunctionBody, Payload, PayloadList};
-pub use refs::{ObjList, PyBaseExceptionRef, PyObjectRef, PyTypeRef};
-pub use request::{Arithmetic, Request};
+pub use pair_list::PairList;
+pub use payload::{
+    ClassBody, CoroBody, CoroKind, ErrorKind, ExceptionBody, Fault, FunctionBody, ManagerBody,
+    Payload, PayloadList, TracebackBody,
+};
+pub use refs::{FrameRef, ObjList, PyBaseExceptionRef, PyObjectRef, PyTracebackRef, PyTypeRef};
+pub use request::{BuildKind, Keywords, Request};
+pub use scope::Scope;
 pub use store::Store;
 
 #[cfg(test)]

@@ -20,5 +20,17 @@ pub struct PyBaseExceptionRef {
     pub number: u64,
 }
 
+/// A traceback, by its number.
+#[derive(Clone, Copy, Debug, PartialEq, Eq)]
+pub struct PyTracebackRef {
+    pub number: u64,
+}
+
+/// A frame, by its number.
+#[derive(Clone, Copy, Debug, PartialEq, Eq)]
+pub struct FrameRef {
+    pub number: u64,
+}
+
 /// Objects in order.
 pub type ObjList = ItemList<PyObjectRef>;

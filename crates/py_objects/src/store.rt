@@ -1,89 +1,201 @@
-//! The store: the objects of a run, which only grows.
+//! The store: the objects of a run, as they were made and as they are.
 
-ghost use Rattle.std.specs.Prelude.{◌≡◌, ◌<◌, [], ◌∷◌, ◌++◌, length, slice_get, Some, IfOk, OnOk, OnErr};
-ghost use Rattle.py_objects.specs.Objects.{HasPayload};
+ghost use Rattle.std.specs.Prelude.{◌≡◌, ◌<◌, ◌≤◌, ◌+◌, ℕ, [], ◌∷◌, ◌++◌, length, slice_get, slice_set, Some, IfOk, OnOk, OnErr};
+ghost use Rattle.py_objects.specs.Objects.{HasPayload, AllBelow, payload_numbers};
+ghost use Rattle.py_objects.specs.Edits.{objects_of, store_at, edit_numbers, EditFits, IsInPlace, IsAsBefore, IsEdited};
+ghost use Rattle.py_objects.specs.declared.payload.Payload.{Payload as PayloadOf};
 ghost use Rattle.py_objects.specs.declared.payload.Payload.TheVariants.{None as NonePayload};
 
+use crate::edit::{Change, ChangeList, Edit, History};
+use crate::editing::{edit_any, edit_in_place};
 use crate::payload::{Payload, PayloadList};
 use crate::refs::PyObjectRef;
 use py_code::NoMemory;
 use std::alloc::Global;
 use std::marker::Model;
 
-/// Objects by number, seen as the list of their payloads.
+/// How an object was made that may change, with its number.
+#[derive(Drop)]
+pub(crate) struct Original {
+    pub(crate) number: usize,
+    pub(crate) payload: Payload,
+}
+
+/// Objects by number, which are never taken off, seen as how they were made and what was changed since.
 #[derive(Drop)]
 pub struct Store {
-    payloads: PayloadList,
+    alloc: Global,
+    /// The objects as they are.
+    payloads: Vec<Payload>,
+    /// The objects that may change, as they were made.
+    originals: Vec<Original>,
+    changes: Vec<Change>,
+    mark: u64,
     none: PyObjectRef,
 }
 
 impl Model for Store {
-    ghost use Rattle.std.specs.Prelude.{List};
+    ghost use Rattle.std.specs.Prelude.{◌-◌, vec_len, vec_capacity};
     ghost use Rattle.py_objects.specs.Objects.{HasPayload};
-    ghost use Rattle.py_objects.specs.declared.payload.Payload.{Payload};
+    ghost use Rattle.py_objects.specs.Edits.{Kept};
+    ghost use Rattle.py_objects.specs.Originals.{restored, IsKept};
     ghost use Rattle.py_objects.specs.declared.payload.Payload.TheVariants.{None as NonePayload};
 
-    ghost Value = { List Payload };
+    ghost Value = { Kept };
 
-    ghost view = { λ s. s.payloads };
+    ghost view = { λ s. record { made = restored s.originals.items s.payloads.items; changes = s.changes.items; mark = s.mark; spare = vec_capacity s.changes - vec_len s.changes } };
 
-    ghost invariant = { λ s. HasPayload s.payloads s.none NonePayload };
+    ghost invariant = { λ s. IsKept s.originals.items s.payloads.items s.changes.items s.mark × HasPayload (restored s.originals.items s.payloads.items) s.none NonePayload };
 }
 
 impl Store {
     /// A store of one object, `None`.
     pub fn new(alloc: Global) -> Result<Store, NoMemory>
-        ensures { IfOk result (λ store. store ≡ NonePayload ∷ []) }
+        ensures made { IfOk result (λ store. store.made ≡ NonePayload ∷ []) }
+        ensures changes { IfOk result (λ store. store.changes ≡ []) }
+        ensures mark { IfOk result (λ store. store.mark ≡ 0) }
     {
-        let mut payloads = PayloadList::new(alloc);
+        let mut payloads = Vec::new(alloc);
         payloads.push(Payload::None)?;
         Ok(Store {
+            alloc,
             payloads,
+            originals: Vec::new(alloc),
+            changes: Vec::new(alloc),
+            mark: 0,
             none: PyObjectRef { number: 0 },
         })
     }
 
     /// The object that was there first: `None`.
     pub fn none(&self) -> PyObjectRef
-        ensures { HasPayload self.now result NonePayload }
+        ensures { HasPayload self.now.made result NonePayload }
     {
         self.none
     }
 
     /// How many objects there are.
     pub fn len(&self) -> u64
-        ensures { result ≡ length self.now }
+        ensures { result ≡ length self.now.made }
     {
         self.payloads.len() as u64
     }
 
-    /// What an object is.
+    /// What an object is now: at any event behind the last change.
     pub fn get(&self, object: PyObjectRef) -> &Payload
-        requires { object.number < length self.now }
-        ensures { slice_get self.now object.number ≡ Some result.now }
+        requires { object.number < length self.now.made }
+        ensures now { slice_get (objects_of self.now) object.number ≡ Some result.now }
+        ensures at { (k : ℕ) → self.now.mark ≤ k → slice_get (store_at self.now.made self.now.changes k) object.number ≡ Some result.now }
     {
-        match self.payloads.get(object.number as usize) {
-            Some(payload) => payload,
-            None => unreachable!(),
-        }
+        &self.payloads[object.number as usize]
     }
 
-    /// A new object, whose number is that of the objects before.
+    /// A new object, whose number is that of the objects before. It names objects that are there, or itself.
     pub fn add(&mut self, payload: Payload) -> Result<PyObjectRef, NoMemory>
-        ensures number { IfOk result (λ object. object.number ≡ length self.old) }
-        ensures added { OnOk result (self.new ≡ self.old ++ payload ∷ []) }
+        requires { AllBelow (length self.old.made + 1) (payload_numbers payload) }
+        ensures number { IfOk result (λ object. object.number ≡ length self.old.made) }
+        ensures added { OnOk result (self.new ≡ record self.old { made = self.old.made ++ payload ∷ [] }) }
         ensures err { OnErr result (self.new ≡ self.old) }
     {
-        let number = self.len();
+        let number = self.payloads.len();
+        let original = payload.original(self.alloc)?;
+        self.originals.reserve(1)?;
         self.payloads.push(payload)?;
-        Ok(PyObjectRef { number })
+        if let Some(payload) = original {
+            self.originals.push_reserved(Original { number, payload });
+        }
+        Ok(PyObjectRef {
+            number: number as u64,
+        })
     }
 
-    /// The payloads, in the order of their numbers.
-    pub fn into_payloads(self) -> PayloadList
-        ensures { result ≡ self }
+    /// Takes memory for so many changes.
+    pub fn reserve_changes(&mut self, n: usize) -> Result<(), NoMemory>
+        ensures spare { OnOk result (n ≤ self.new.spare) }
+        ensures kept { IsAsBefore self.old self.new }
     {
-        let Store { payloads, none: _ } = self;
-        payloads
+        self.changes.reserve(n)?;
+        Ok(())
     }
+
+    /// How many changes can be made without memory.
+    pub fn spare(&self) -> usize
+        ensures { result ≡ self.now.spare }
+    {
+        self.changes.capacity() - self.changes.len()
+    }
+
+    /// Makes an edit that takes no memory, and notes it under the last mark.
+    pub fn change(&mut self, object: PyObjectRef, edit: Edit)
+        requires spare { 0 < self.old.spare }
+        requires within { object.number < length self.old.made }
+        requires named { AllBelow (length self.old.made) (edit_numbers edit) }
+        requires fits { (p : PayloadOf) → slice_get (objects_of self.old) object.number ≡ Some p → EditFits edit p }
+        requires in_place { IsInPlace edit }
+        ensures edited { IsEdited self.old self.new object edit }
+        ensures spare { self.old.spare ≤ self.new.spare + 1 }
+    {
+        edit_in_place(self.payloads.as_mut_slice(), object, &edit);
+        self.changes.push_reserved(Change {
+            after: self.mark,
+            object,
+            edit,
+        });
+    }
+
+    /// Makes any edit, and notes it under the last mark.
+    pub fn grow(&mut self, object: PyObjectRef, edit: Edit) -> Result<(), NoMemory>
+        requires within { object.number < length self.old.made }
+        requires named { AllBelow (length self.old.made) (edit_numbers edit) }
+        requires fits { (p : PayloadOf) → slice_get (objects_of self.old) object.number ≡ Some p → EditFits edit p }
+        ensures edited { OnOk result (IsEdited self.old self.new object edit) }
+        ensures err { OnErr result (IsAsBefore self.old self.new) }
+    {
+        self.changes.reserve(1)?;
+        edit_any(self.alloc, self.payloads.as_mut_slice(), object, &edit)?;
+        self.changes.push_reserved(Change {
+            after: self.mark,
+            object,
+            edit,
+        });
+        Ok(())
+    }
+
+    /// Notes how many events there are, for the changes to come.
+    pub fn mark(&mut self, after: u64)
+        requires { self.old.mark ≤ after }
+        ensures { self.new ≡ record self.old { mark = after } }
+    {
+        self.mark = after;
+    }
+
+    /// Each object as it was made, and the changes in order.
+    pub fn into_history(self) -> History
+        ensures objects { result.objects ≡ self.made }
+        ensures changes { result.changes ≡ self.changes }
+    {
+        let Store {
+            alloc: _,
+            mut payloads,
+            originals,
+            changes,
+            mark: _,
+            none: _,
+        } = self;
+        for original in originals {
+            put_back(payloads.as_mut_slice(), original);
+        }
+        History {
+            objects: PayloadList::of(payloads),
+            changes: ChangeList::of(changes),
+        }
+    }
+}
+
+/// Makes an object what it was made as.
+fn put_back(payloads: &mut [Payload], original: Original)
+    requires { original.number < length payloads.old }
+    ensures { payloads.new ≡ slice_set payloads.old original.number original.payload }
+{
+    payloads[original.number] = original.payload;
 }

@@ -1,9 +1,12 @@
-//! A small store worked by hand: which object has which number, and what it is.
+//! Small stores worked by hand: which object has which number, what it is, and what changes make of it.
 
-ghost use Rattle.std.specs.Prelude.{◌≡◌};
+ghost use Rattle.std.specs.Prelude.{◌≡◌, IfOk};
+ghost use Rattle.py_objects.specs.Objects.{AllBelow};
+ghost use Rattle.py_objects.specs.Edits.{edit_numbers, FitsException, IsInPlace};
 
 use crate::*;
-use py_code::{NoMemory, same_text, text_of};
+use py_code::{NoMemory, PyText, same_text, text_of};
+use std::alloc::Global;
 use std::process::Abort;
 use std::test::Fail;
 
@@ -42,10 +45,11 @@ fn a_new_object_has_the_next_number(rt: HostRuntime) -> Result<(), Fail> {
     }
     assert!(rt; 0 < store.len());
     assert!(rt; matches!(store.get(object(0)), Payload::None));
-    let payloads = store.into_payloads();
-    assert_eq!(rt; payloads.len(), 5);
-    assert!(rt; matches!(payloads.get(0), Some(Payload::None)));
-    assert!(rt; matches!(payloads.get(2), Some(Payload::Int(-7))));
+    let History { objects, changes } = store.into_history();
+    assert_eq!(rt; objects.len(), 5);
+    assert!(rt; matches!(objects.get(0), Some(Payload::None)));
+    assert!(rt; matches!(objects.get(2), Some(Payload::Int(-7))));
+    assert_eq!(rt; changes.len(), 0);
     Ok(())
 }
 
@@ -64,13 +68,6 @@ fn an_object_is_what_it_was_made_as(rt: HostRuntime) -> Result<(), Fail> {
     let class = store.add(Payload::Class(ClassBody { name }))?;
     let name = text_of(alloc, b"main")?;
     let function = store.add(Payload::Function(FunctionBody { name, code: 9 }))?;
-    let body = ExceptionBody {
-        class: PyTypeRef {
-            number: class.number,
-        },
-        args,
-    };
-    let exception = store.add(Payload::Exception(body))?;
     assert!(rt; matches!(store.get(flag), Payload::Bool(true)));
     assert!(rt; matches!(store.get(text), Payload::Str(s) if same_text(s, &spam)));
     assert!(rt;
@@ -78,6 +75,174 @@ fn an_object_is_what_it_was_made_as(rt: HostRuntime) -> Result<(), Fail> {
     );
     assert!(rt; matches!(store.get(class), Payload::Class(c) if c.name.len() == 10));
     assert!(rt; matches!(store.get(function), Payload::Function(f) if f.code == 9));
-    assert!(rt; matches!(store.get(exception), Payload::Exception(e) if *e == body));
+    Ok(())
+}
+
+#[test]
+fn a_name_has_the_value_that_it_was_given_last(rt: HostRuntime) -> Result<(), Fail> {
+    let alloc = rt.alloc();
+    let mut attrs = AttrMap::new(alloc);
+    for (name, value) in [(b"value", 7), (b"errno", 2), (b"value", 9)] {
+        attrs.insert(text_of(alloc, name)?, object(value))?;
+    }
+    assert_eq!(rt; attrs.len(), 2);
+    assert_eq!(rt; attrs.get(&text_of(alloc, b"value")?), Some(object(9)));
+    assert_eq!(rt; attrs.get(&text_of(alloc, b"errno")?), Some(object(2)));
+    assert_eq!(rt; attrs.get(&text_of(alloc, b"valu")?), None);
+    Ok(())
+}
+
+#[test]
+fn a_scope_without_locals_has_the_globals_twice(rt: HostRuntime) {
+    let scope = Scope::new(None, object(3));
+    assert_eq!(rt; (scope.locals, scope.globals), (object(3), object(3)));
+    let scope = Scope::new(Some(object(4)), object(3));
+    assert_eq!(rt; (scope.locals, scope.globals), (object(4), object(3)));
+}
+
+/// Sets a key of a dict, or deletes it where there is no value.
+fn edit_key(
+    rt: &impl Abort,
+    store: &mut Store,
+    dict: PyObjectRef,
+    key: PyObjectRef,
+    value: Option<PyObjectRef>,
+) -> Result<(), NoMemory> {
+    let len = store.len();
+    assert!(rt; dict.number < len);
+    assert!(rt; key.number < len);
+    assert!(rt; matches!(store.get(dict), Payload::Dict(_)));
+    match value {
+        Some(value) => {
+            assert!(rt; value.number < len);
+            store.grow(dict, Edit::Put(key, value))
+        }
+        None => store.grow(dict, Edit::Drop(key)),
+    }
+}
+
+#[test]
+fn keys_of_one_value_are_one_key(rt: HostRuntime) -> Result<(), Fail> {
+    let alloc = rt.alloc();
+    let mut store = Store::new(alloc)?;
+    let yes = store.add(Payload::Bool(true))?;
+    let one = store.add(Payload::Int(1))?;
+    let two = store.add(Payload::Int(2))?;
+    let spam = store.add(Payload::Str(text_of(alloc, b"spam")?))?;
+    let same = store.add(Payload::Str(text_of(alloc, b"spam")?))?;
+    let dict = store.add(Payload::Dict(PairList::new(alloc)))?;
+    let edits = [
+        (yes, Some(two)),
+        (spam, Some(one)),
+        // The key that came first stays, with the value that came last.
+        (one, Some(spam)),
+        (two, Some(two)),
+        (same, None),
+        (same, None),
+    ];
+    for (key, value) in edits {
+        edit_key(&rt, &mut store, dict, key, value)?;
+    }
+    let want = [(yes, spam), (two, two)];
+    assert!(rt; dict.number < store.len());
+    assert!(rt; matches!(store.get(dict), Payload::Dict(ps) if ps.as_slice() == want.as_slice()));
+    let History { objects, changes } = store.into_history();
+    assert!(rt; matches!(objects.get(6), Some(Payload::Dict(ps)) if ps.len() == 0));
+    assert_eq!(rt; changes.len(), 6);
+    Ok(())
+}
+
+/// Makes an edit of the exception 3.
+fn edit_exception(rt: &impl Abort, store: &mut Store, edit: Edit) -> Result<(), NoMemory>
+    requires fits { FitsException edit }
+    requires named { AllBelow 4 (edit_numbers edit) }
+    ensures { store.new.mark ≡ store.old.mark }
+{
+    assert!(rt; 4 <= store.len());
+    assert!(rt; matches!(store.get(object(3)), Payload::Exception(_)));
+    store.grow(object(3), edit)
+}
+
+/// The same of an edit that takes no memory.
+fn change_exception(rt: &impl Abort, store: &mut Store, edit: Edit)
+    requires fits { FitsException edit }
+    requires in_place { IsInPlace edit }
+    requires named { AllBelow 4 (edit_numbers edit) }
+    ensures { store.new.mark ≡ store.old.mark }
+{
+    assert!(rt; 4 <= store.len());
+    assert!(rt; 0 < store.spare());
+    assert!(rt; matches!(store.get(object(3)), Payload::Exception(_)));
+    store.change(object(3), edit);
+}
+
+/// A store whose object 3 is an exception.
+fn store_of_exception(rt: &impl Abort, alloc: Global) -> Result<Store, NoMemory>
+    ensures { IfOk result (λ store. store.mark ≡ 0) }
+{
+    let mut store = Store::new(alloc)?;
+    let name = text_of(alloc, b"ValueError")?;
+    let class = store.add(Payload::Class(ClassBody { name }))?;
+    let args = store.add(Payload::Tuple(ObjList::new(alloc)))?;
+    assert_eq!(rt; (class, args), (object(1), object(2)));
+    assert!(rt; 3 <= store.len());
+    let attrs = AttrMap::new(alloc);
+    let body = ExceptionBody {
+        class: PyTypeRef { number: 1 },
+        args: object(2),
+        cause: None,
+        context: None,
+        suppress: false,
+        traceback: None,
+        attrs,
+    };
+    let exception = store.add(Payload::Exception(body))?;
+    assert_eq!(rt; exception, object(3));
+    Ok(store)
+}
+
+#[test]
+fn an_exception_is_kept_as_it_was_made(rt: HostRuntime) -> Result<(), Fail> {
+    let alloc = rt.alloc();
+    let value = text_of(alloc, b"value")?;
+    let mut store = store_of_exception(&rt, alloc)?;
+    store.reserve_changes(5)?;
+    change_exception(&rt, &mut store, Edit::Flag(true));
+    store.mark(2);
+    let cause = Edit::Link(LinkField::Cause, Some(object(0)));
+    change_exception(&rt, &mut store, cause);
+    change_exception(&rt, &mut store, Edit::Args(object(1)));
+    store.mark(5);
+    let set = Edit::Attr(value.copy(alloc)?, Some(object(2)));
+    edit_exception(&rt, &mut store, set)?;
+    let context = Edit::Link(LinkField::Context, Some(object(3)));
+    change_exception(&rt, &mut store, context);
+    assert!(rt; 3 < store.len());
+    let Payload::Exception(now) = store.get(object(3)) else {
+        panic!(rt; "not an exception")
+    };
+    assert_eq!(rt;
+        (now.cause, now.context, now.traceback),
+        (Some(object(0)), Some(object(3)), None)
+    );
+    assert_eq!(rt; (now.args, now.suppress), (object(1), true));
+    assert_eq!(rt; now.attrs.get(&value), Some(object(2)));
+    let History { objects, changes } = store.into_history();
+    let Some(Payload::Exception(made)) = objects.get(3) else {
+        panic!(rt; "not an exception")
+    };
+    assert_eq!(rt;
+        (made.cause, made.context, made.args),
+        (None, None, object(2))
+    );
+    assert_eq!(rt; (made.suppress, made.attrs.len()), (false, 0));
+    let marks = [0, 2, 2, 5, 5];
+    assert_eq!(rt; changes.len(), marks.len());
+    for (change, mark) in changes.as_slice().iter().zip(marks) {
+        assert_eq!(rt; (change.object, change.after), (object(3), mark));
+    }
+    assert!(rt;
+        matches!(changes.get(2), Some(Change { edit: Edit::Args(v), .. }) if *v == object(1))
+    );
     Ok(())
 }

@@ -2,11 +2,12 @@
 use Rattle.std.proofs.Common.{◌≡◌, ◌+◌, ℕ, suc, List, [], ◌∷◌, ◌++◌, length, Some, refl, sym, ap, ◌∙◌, subst, arith, length-append}
 use Rattle.std.specs.Prelude.{false, slice_get, All, AllPairs, map}
 use Rattle.std.proofs.lemmas.Option.{slice_get_within}
-use Rattle.py_code.specs.Codes.{Codes}
 use Rattle.py_objects.specs.declared.payload.Payload.{Payload}
 use Rattle.py_objects.specs.declared.payload.Payload.TheVariants as payload
+use Rattle.py_objects.specs.declared.event.DriveAnswer.{DriveAnswer}
+use Rattle.py_objects.specs.declared.event.Event.{Event}
+use Rattle.py_objects.specs.declared.event.Event.TheVariants as event
 use Rattle.py_objects.specs.Objects.{Obj, HasPayload, declared, numbers, AllBelow, AllFit, GrowsPlainly}
-use Rattle.py_frame.specs.RunOfRows.{IsSound}
 use Rattle.py_frame.proofs.PlainGrowth.{grows_plainly_trans}
 use Rattle.py_body.specs.Tree.{Tree}
 use Rattle.py_grammar.specs.Drive.{Drive}
@@ -15,16 +16,17 @@ use Rattle.py_grammar.specs.WellFormed.{IsWellDriven}
 use Rattle.py_vm.specs.declared.drive.Drive.{Drive as Question}
 use Rattle.py_vm.specs.declared.drive.Drive.TheVariants as question
 use Rattle.py_vm.specs.declared.vm.VirtualMachine.{VirtualMachine}
-use Rattle.py_vm.specs.Run.{start, state_after, Comes}
-use Rattle.py_vm.specs.Machine.{events_of, objects_of, codes_of, done_of}
-use Rattle.py_vm.specs.Stands.{IsCallable, Stands, Adds}
+use Rattle.py_vm.specs.Run.{Idle, State, start, after, state_after, Comes}
+use Rattle.py_vm.specs.Codes.{Checked}
+use Rattle.py_vm.specs.Machine.{events_of, objects_of, checked_of, codes_of, done_of}
+use Rattle.py_vm.specs.Stands.{IsCallable, Stands, Adds, EndsBy}
 use Rattle.py_vm.proofs.RunLemmas.{declared_stays, comes_grow}
-use Rattle.py_vm.proofs.StandsLemmas.{stands_fit, stands_tells, stands_named}
+use Rattle.py_vm.proofs.StandsLemmas.{stands_fit, stands_tells, stands_named, stands_unchanged}
 use Rattle.py_script.specs.declared.session.Session.{Session}
 use Rattle.py_script.specs.Whole.{AreOf, Asks, AreObjects, IsRunOf}
-use Rattle.py_script.specs.Loaded.{AreCompiled, script_objects}
+use Rattle.py_script.specs.Loaded.{AreChecked, script_objects}
 use Rattle.py_script.specs.Session.{IsLoaded, InRun, IsInRun, IsNamedAt, IsReady, OnlyGrew}
-use Rattle.py_script.proofs.Loading.{ref_at}
+use Rattle.py_script.proofs.Loading.{ref_at, checked_compiled}
 use Rattle.py_script.proofs.Objects.{functions_are, loaded_objects, objects_grow, asked_grow, asked_more}
 use Rattle.py_script.proofs.Traced.{function_of, tells_traces}
 
@@ -44,10 +46,11 @@ loaded_ready trees drives s l differ no_class =
     let objects : AreObjects trees (script_objects trees) = loaded_objects trees differ no_class (subst AllFit l.objects (stands_fit s.vm l.stands)) in
     record {
       stands = l.stands;
+      idle = ap (λ es. (state_after start es).phase) l.events;
       functions = λ i t is.
           let at = functions_are trees differ i t is (no_class i t is) in (
-            record { number = 6 + i },
-            ap (λ fs. slice_get fs i) l.functions ∙ ref_at 6 (length trees) i (slice_get_within trees i t is),
+            record { number = 7 + i },
+            ap (λ fs. slice_get fs i) l.functions ∙ ref_at 7 (length trees) i (slice_get_within trees i t is),
             ap (λ os. declared os t.name) l.objects ∙ at.0,
           );
       asked = [];
@@ -58,7 +61,8 @@ loaded_ready trees drives s l differ no_class =
         tells = stands_tells s.vm l.stands;
         named = stands_named s.vm l.stands;
         are_objects = subst (AreObjects trees) (sym l.objects) objects;
-        compiled = l.compiled;
+        checked = l.checked;
+        unchanged = stands_unchanged s.vm l.stands;
       };
     }
 
@@ -70,12 +74,14 @@ run_grows trees drives asked old new g r = record {
   tells = stands_tells new.vm g.stands;
   named = stands_named new.vm g.stands;
   are_objects = objects_grow trees (objects_of old.vm) (objects_of new.vm) g.grows r.are_objects;
-  compiled = subst (λ (c : Codes). AreCompiled trees c.codes) (sym g.codes) r.compiled;
+  checked = subst (λ (c : Checked). AreChecked trees c) (sym g.codes) r.checked;
+  unchanged = stands_unchanged new.vm g.stands;
 }
 
 pub ready_grows : (trees : List Tree) (drives : List Drive) (old new : Session) → OnlyGrew old new → IsReady trees drives old → IsReady trees drives new
 ready_grows trees drives old new g r = record {
   stands = g.stands;
+  idle = ap (λ es. (state_after start es).phase) g.events ∙ r.idle;
   functions = λ i t is. let h = r.functions i t is in (h.0, ap (λ fs. slice_get fs i) g.functions ∙ h.1, declared_stays (objects_of old.vm) (objects_of new.vm) t.name g.grows ∙ h.2);
   asked = r.asked;
   count = r.count ∙ sym (ap (λ es. (state_after start es).done) g.events);
@@ -97,8 +103,8 @@ can_call trees drives s d f vs r well asks below = go (function_of trees (object
   where
     go : (j : ℕ) × (t : Tree) × (slice_get trees j ≡ Some t) × HasPayload (objects_of s.vm) f (payload.Function (record { name = t.name; code = j })) × (length vs ≡ length t.params) → IsCallable s.vm (question.Call f vs)
     go (j, t, at, entry, arity) =
-        let k = r.run.compiled j t at in
-        (_, entry, k.0, k.1, subst (IsSound k.0) (sym arity) k.2.sound, below)
+        let k = r.run.checked j t at in
+        (_, entry, k.0, k.1, k.2.sound, below)
 
 -- a drive that was begun goes on with the run
 pub run_driven : (trees : List Tree) (drives : List Drive) (s : Session) (vm : VirtualMachine) (d : Drive) (q : Question) → slice_get drives (done_of s.vm) ≡ Some d → Asks (objects_of s.vm) d q → Adds q s.vm vm
@@ -110,14 +116,24 @@ run_driven trees drives s vm d q next asks adds r = record {
   tells = adds.tells;
   named = adds.named;
   are_objects = objects_grow trees (objects_of s.vm) (objects_of vm) adds.grows r.run.are_objects;
-  compiled = subst (λ (c : Codes). AreCompiled trees c.codes) (sym adds.codes) r.run.compiled;
+  checked = subst (λ (c : Checked). AreChecked trees c) (sym adds.codes) r.run.checked;
+  unchanged = adds.changes ∙ r.run.unchanged;
 }
+
+-- nothing runs behind the result of a drive
+idle_behind : (s : State) (front : List Event) (d : ℕ) (w : DriveAnswer) → (state_after s (front ++ event.Result d w ∷ [])).phase ≡ Idle
+idle_behind s [] d w = refl
+idle_behind s (e ∷ front) d w = idle_behind (after s e) front d w
+
+idle_answered : (events : List Event) (d : ℕ) (w : DriveAnswer) → EndsBy events d w → (state_after start events).phase ≡ Idle
+idle_answered events d w (front, is) = ap (λ es. (state_after start es).phase) is ∙ idle_behind start front d w
 
 -- and the next one can be made where it is done
 pub ready_driven : (trees : List Tree) (drives : List Drive) (s new : Session) (d : Drive) (q : Question) → IsReady trees drives s → slice_get drives (done_of s.vm) ≡ Some d → Asks (objects_of s.vm) d q → Adds q s.vm new.vm
-    → new.functions ≡ s.functions → Stands new.vm → done_of new.vm ≡ suc (done_of s.vm) → IsReady trees drives new
-ready_driven trees drives s new d q r next asks adds same stands done = record {
+    → new.functions ≡ s.functions → Stands new.vm → (state_after start (events_of new.vm)).phase ≡ Idle → done_of new.vm ≡ suc (done_of s.vm) → IsReady trees drives new
+ready_driven trees drives s new d q r next asks adds same stands idle done = record {
   stands = stands;
+  idle = idle;
   functions = λ i t is. let h = r.functions i t is in (h.0, ap (λ fs. slice_get fs i) same ∙ h.1, declared_stays (objects_of s.vm) (objects_of new.vm) t.name adds.grows ∙ h.2);
   asked = r.asked ++ q ∷ [];
   count = length-append r.asked (q ∷ []) ∙ (let one : length r.asked ≡ done_of s.vm = r.count in let e : length r.asked + 1 ≡ done_of new.vm = omega (arith, one, done) in e);
@@ -138,11 +154,12 @@ called_run trees drives old new vm d i f vs r g next place at of adds =
 -- and where it is done, the next one can be made
 pub called_ready : (trees : List Tree) (drives : List Drive) (old new : Session) (vm : VirtualMachine) (d : Drive) (i : ℕ) (f : Obj) (vs : List Obj) → IsReady trees drives old → OnlyGrew old new → slice_get drives (done_of old.vm) ≡ Some d
     → IsNamedAt trees d.function i → slice_get old.functions i ≡ Some f → AreOf (objects_of new.vm) d.args vs → Adds (question.Call f vs) new.vm vm
-    → Stands vm × (done_of vm ≡ suc (done_of new.vm)) → IsReady trees drives (record new { vm = vm }) × (done_of vm ≡ suc (done_of old.vm))
-called_ready trees drives old new vm d i f vs r g next place at of adds (stands, done) =
+    → Stands vm × (done_of vm ≡ suc (done_of new.vm)) → (w : DriveAnswer) → EndsBy (events_of vm) (suc (done_of new.vm)) w
+    → IsReady trees drives (record new { vm = vm }) × (done_of vm ≡ suc (done_of old.vm))
+called_ready trees drives old new vm d i f vs r g next place at of adds (stands, done) w ends =
     let ready = ready_grows trees drives old new g r in
     let asks = asks_for trees drives old (objects_of new.vm) d i f vs r g.grows place at of in (
-      ready_driven trees drives new (record new { vm = vm }) d (question.Call f vs) ready (next_grows drives d old new g next) asks adds refl stands done,
+      ready_driven trees drives new (record new { vm = vm }) d (question.Call f vs) ready (next_grows drives d old new g next) asks adds refl stands (idle_answered (events_of vm) (suc (done_of new.vm)) w ends) done,
       done ∙ ap (λ es. suc (state_after start es).done) g.events,
     )
 
@@ -153,7 +170,7 @@ is_run_of trees drives vm well (asked, r) = record {
   are_asked = r.are_asked;
   run = record {
     comes = r.comes;
-    tells = tells_traces trees drives asked (objects_of vm) (codes_of vm).codes (events_of vm) r.are_objects r.compiled well r.are_asked r.comes r.tells;
+    tells = tells_traces trees drives asked (objects_of vm) (codes_of vm) (events_of vm) r.are_objects (checked_compiled trees (checked_of vm) r.checked) well r.are_asked r.comes r.tells;
     named = r.named;
   };
   are_objects = r.are_objects;

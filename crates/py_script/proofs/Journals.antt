@@ -10,9 +10,10 @@ use Rattle.py_objects.specs.declared.payload.Payload.{Payload}
 use Rattle.py_objects.specs.declared.payload.Payload.TheVariants as payload
 use Rattle.py_objects.specs.declared.payload.ClassBody.{ClassBody}
 use Rattle.py_objects.specs.declared.payload.FunctionBody.{FunctionBody}
+use Rattle.py_objects.specs.declared.payload.ManagerBody.{ManagerBody}
 use Rattle.py_objects.specs.declared.payload.ErrorKind.{ErrorKind}
 use Rattle.py_objects.specs.declared.payload.ErrorKind.TheVariants as kind
-use Rattle.py_objects.specs.declared.request.Arithmetic.TheVariants.{Add}
+use Rattle.py_code.specs.declared.operator.BinaryOperator.TheVariants as binary
 use Rattle.py_objects.specs.declared.request.Request.{Request}
 use Rattle.py_objects.specs.declared.request.Request.TheVariants.{Binary}
 use Rattle.py_objects.specs.declared.event.ResumeHow.TheVariants.{Start}
@@ -29,11 +30,11 @@ use Rattle.py_body.specs.Trace.{IsTrace, IsBegun}
 use Rattle.py_grammar.specs.Drive.{Drive}
 use Rattle.py_vm.specs.declared.drive.Drive.{Drive as Question}
 use Rattle.py_vm.specs.declared.drive.Drive.TheVariants.{Call}
-use Rattle.py_vm.specs.Answers.{Reply, Replies, Gives, IsRaised, binary, whole}
+use Rattle.py_vm.specs.Answers.{Reply, Replies, Gives, IsRaised, sum, whole}
 use Rattle.py_vm.specs.Run.{By_raise, Activation, Asking, IsTop, MayCome, State, question, start, state_after, Comes, EachTells}
 use Rattle.py_script.specs.Whole.{AreAsked, AreObjects, Traces, IsRunOf}
 use Rattle.py_script.specs.Text.{bytes_of}
-use Rattle.py_script.specs.Worked.{object, exception, class_entry, function_entry, objects_of, entered, asked, greatest, overflowing, error_entry, error_objects, raising_by, raised, raises, overflow_by}
+use Rattle.py_script.specs.Worked.{object, exception, class_entry, function_entry, objects_of, entered, asked, greatest, overflowing, error_body, error_entry, error_objects, raising_by, raised, raises, overflow_by}
 
 pub decimal_1 : decimal 1 ≡ codes "1"
 decimal_1 = decimal_digit 1 (lit< tt)
@@ -112,7 +113,7 @@ HasClass store k = (c : Obj) × (declared store (name_of k) ≡ Some c) × HasPa
 
 -- the question of a drive of the function with the two numbers
 abbrev pub call : Question
-call = Call (object 6) (object 7 ∷ object 8 ∷ [])
+call = Call (object 7) (object 8 ∷ object 9 ∷ [])
 
 -- the one activation tells what it may
 pub one_tells : (may : Obj → List Obj → List Own → Type 0) (f : Obj) (vs : List Obj) (events : List Event) → (state_after start events).made ≡ record { function = f; args = vs } ∷ [] → may f vs (own_events 1 events) → EachTells may events
@@ -155,16 +156,16 @@ none_chosen n rest h v e = absurd cc
 
 -- the number is none of the classes' and the function's
 abbrev pub IsNoDeclaration : ℕ → Type 0
-IsNoDeclaration n = (eqb n 1 ≡ false) × (eqb n 2 ≡ false) × (eqb n 3 ≡ false) × (eqb n 4 ≡ false) × (eqb n 5 ≡ false) × (eqb n 6 ≡ false)
+IsNoDeclaration n = (eqb n 1 ≡ false) × (eqb n 2 ≡ false) × (eqb n 3 ≡ false) × (eqb n 4 ≡ false) × (eqb n 5 ≡ false) × (eqb n 7 ≡ false)
 
 -- the reply to the sum of two numbers
-reply_of_sum : (store : List Payload) (a b : Obj) (i j : ℤ) (reply : Reply) → HasPayload store a (payload.Int i) → HasPayload store b (payload.Int j) → Replies store (Binary Add a b) reply → reply ≡ whole (i +ℤ j)
+reply_of_sum : (store : List Payload) (a b : Obj) (i j : ℤ) (reply : Reply) → HasPayload store a (payload.Int i) → HasPayload store b (payload.Int j) → Replies store (Binary binary.Add a b) reply → reply ≡ whole (i +ℤ j)
 reply_of_sum store a b i j reply p q r =
     let left : r.0 ≡ payload.Int i = some_is _ _ (sym r.4 ∙ p) in
     let right : r.1 ≡ payload.Int j = some_is _ _ (sym r.5 ∙ q) in
-    r.8 ∙ (ap (λ (x : Payload). binary Add x r.1 r.2 r.3) left ∙ ap (λ (x : Payload). binary Add (payload.Int i) x r.2 r.3) right)
+    sym (some_is _ _ r.8) ∙ (ap (λ (x : Payload). sum x r.1 r.2 r.3) left ∙ ap (λ (x : Payload). sum (payload.Int i) x r.2 r.3) right)
 
-pub gives_sum : (store : List Payload) (before : List Event) (a b : Obj) (i j : ℤ) (w : GotAnswer) → HasPayload store a (payload.Int i) → HasPayload store b (payload.Int j) → ((r : Request) × (reply : Reply) × (Some (Binary Add a b) ≡ Some r) × Replies store r reply × Gives store before reply w) → Gives store before (whole (i +ℤ j)) w
+pub gives_sum : (store : List Payload) (before : List Event) (a b : Obj) (i j : ℤ) (w : GotAnswer) → HasPayload store a (payload.Int i) → HasPayload store b (payload.Int j) → ((r : Request) × (reply : Reply) × (Some (Binary binary.Add a b) ≡ Some r) × Replies store r reply × Gives store before reply w) → Gives store before (whole (i +ℤ j)) w
 gives_sum store before a b i j w p q h =
     subst (λ (reply : Reply). Gives store before reply w)
     (reply_of_sum store a b i j h.1 p q (subst (λ (r : Request). Replies store r h.1) (sym (some_is _ _ h.2)) h.3)) h.4
@@ -178,18 +179,18 @@ module _ (t : Tree) where
   own_function : IsOwn (function_entry t.name 0)
   own_function b e = subst (λ (b : FunctionBody). (u : Tree) × (slice_get (t ∷ []) b.code ≡ Some u) × (b.name ≡ u.name)) (body_of _ b e) (t, refl, refl)
 
-  -- the script declares what an entry does
+  -- the script declares what an entry does, which is no manager
   abbrev pub IsKnown : Payload → Type 0
-  IsKnown p = IsOwn p × IsBuiltIn p
+  IsKnown p = IsOwn p × IsBuiltIn p × ((b : ManagerBody) → p ≡ payload.Manager b → ⊥)
 
   pub plain : (p : Payload) → declares p ≡ None → IsKnown p
-  plain p h = (λ b e. let d = ap declares e in absurd cc, λ b e. let d = ap declares e in absurd cc)
+  plain p h = (λ b e. let d = ap declares e in absurd cc, λ b e. let d = ap declares e in absurd cc, λ b e. let d = ap declares e in cc)
 
   known_class : (kind : ErrorKind) → Contains (map name_of error_kinds) (name_of kind) → IsKnown (class_entry kind)
-  known_class kind h = (λ b e. absurd cc, built_in kind h)
+  known_class kind h = (λ b e. absurd cc, built_in kind h, λ b e. cc)
 
   known_function : IsKnown (function_entry t.name 0)
-  known_function = (own_function, λ b e. absurd cc)
+  known_function = (own_function, λ b e. absurd cc, λ b e. cc)
 
   -- the entry of a tree of the script
   abbrev HasEntry : List Payload → ℕ → Tree → Type 0
@@ -201,10 +202,10 @@ module _ (t : Tree) where
 
   -- the function is declared under its name
   abbrev pub IsDeclared : List Payload → Type 0
-  IsDeclared store = declared store t.name ≡ Some (object 6)
+  IsDeclared store = declared store t.name ≡ Some (object 7)
 
   has_entry : (m n : ℤ) (more : List Payload) → IsDeclared (with_more m n more) → (i : ℕ) (u : Tree) → slice_get (t ∷ []) i ≡ Some u → HasEntry (with_more m n more) i u
-  has_entry m n more d zero u e = subst (λ (u : Tree). HasEntry (with_more m n more) 0 u) (some_is t u e) (object 6, d, refl)
+  has_entry m n more d zero u e = subst (λ (u : Tree). HasEntry (with_more m n more) 0 u) (some_is t u e) (object 7, d, refl)
   has_entry m n more d (suc i) u e = absurd cc
 
   all_known : (m n : ℤ) (more : List Payload) → Each IsKnown more → Each IsKnown (with_more m n more)
@@ -216,7 +217,7 @@ module _ (t : Tree) where
         known_class kind.OverflowError (1, lit< tt, refl),
         (
           known_class kind.RecursionError (2, lit< tt, refl),
-          (known_class kind.TypeError (3, lit< tt, refl), (known_class kind.UnboundLocalError (4, lit< tt, refl), (known_function, (plain (payload.Int m) refl, (plain (payload.Int n) refl, h))))),
+          (known_class kind.TypeError (3, lit< tt, refl), (known_class kind.UnboundLocalError (4, lit< tt, refl), (plain (payload.Dict []) refl, (known_function, (plain (payload.Int m) refl, (plain (payload.Int n) refl, h)))))),
         ),
       ),
     ),
@@ -230,15 +231,16 @@ module _ (t : Tree) where
             each_at (HasClass (with_more m n more)) error_kinds ((object 1, refl, refl), ((object 2, refl, refl), ((object 3, refl, refl), ((object 4, refl, refl), ((object 5, refl, refl), tt)))));
         only_functions = λ f b e. (each_at IsKnown (with_more m n more) (all_known m n more known) f.number (payload.Function b) e).0 b refl;
         only_classes = λ c b e. (each_at IsKnown (with_more m n more) (all_known m n more known) c.number (payload.Class b) e).1 b refl;
+        no_managers = λ v b e. (each_at IsKnown (with_more m n more) (all_known m n more known) v.number (payload.Manager b) e).2 b refl;
         fit = fit;
       }
 
   -- up to the question for the sum
-  pub asking_comes : (qs : List Question) (m n : ℤ) (more : List Payload) (rest : List Event) → slice_get qs 0 ≡ Some call → 0 < length qs → Comes qs (with_more m n more) (entered 1 (asked 1 (object 7) (object 8) [])) (state_after start (entered 1 (asked 1 (object 7) (object 8) []))) rest → Comes qs (with_more m n more) [] start (entered 1 (asked 1 (object 7) (object 8) rest))
-  asking_comes qs m n more rest q few k = ((refl, refl, few), ((refl, refl, refl, q, (_, refl)), ((object 6, refl, refl), ((refl, refl), k))))
+  pub asking_comes : (qs : List Question) (m n : ℤ) (more : List Payload) (rest : List Event) → slice_get qs 0 ≡ Some call → 0 < length qs → Comes qs (with_more m n more) (entered 1 (asked 1 (object 8) (object 9) [])) (state_after start (entered 1 (asked 1 (object 8) (object 9) []))) rest → Comes qs (with_more m n more) [] start (entered 1 (asked 1 (object 8) (object 9) rest))
+  asking_comes qs m n more rest q few k = ((refl, refl, few), ((refl, refl, refl, q, (_, refl)), ((object 7, refl, refl), ((refl, refl), k))))
 
   -- what gives the sum may answer that question
-  pub sum_comes : (qs : List Question) (m n : ℤ) (more : List Payload) (before : List Event) (s : State) (a : ℕ) (w : GotAnswer) → s.phase ≡ Asking → IsTop a s.stack → question s.stack ≡ Some (Binary Add (object 7) (object 8)) → Gives (with_more m n more) before (whole (m +ℤ n)) w → MayCome qs (with_more m n more) before s (event.Got a w)
+  pub sum_comes : (qs : List Question) (m n : ℤ) (more : List Payload) (before : List Event) (s : State) (a : ℕ) (w : GotAnswer) → s.phase ≡ Asking → IsTop a s.stack → question s.stack ≡ Some (Binary binary.Add (object 8) (object 9)) → Gives (with_more m n more) before (whole (m +ℤ n)) w → MayCome qs (with_more m n more) before s (event.Got a w)
   sum_comes qs m n more before s a w phase top asks given = (phase, top, (_, whole (m +ℤ n), asks, (_, _, codes "int", codes "int", refl, refl, refl, refl, refl), given))
 
   -- an activation of the script's function tells what that may
@@ -249,8 +251,8 @@ module _ (t : Tree) where
       subst (λ (u : Tree). IsTrace store u vs ts) (sym same) h.2.2
 
   -- what a run of the script says of its activation
-  pub traced : (store : List Payload) (drives : List Drive) (events : List Event) → HasPayload store (object 6) (function_entry t.name 0) → slice_get (state_after start events).made 0 ≡ Some (record { function = object 6; args = object 7 ∷ object 8 ∷ [] }) → IsRunOf (t ∷ []) drives store events → IsTrace store t (object 7 ∷ object 8 ∷ []) (own_events 1 events)
-  traced store drives events p e r = traced_by store (object 6) (object 7 ∷ object 8 ∷ []) (own_events 1 events) p (r.run.tells 0 (record { function = object 6; args = object 7 ∷ object 8 ∷ [] }) e)
+  pub traced : (store : List Payload) (drives : List Drive) (events : List Event) → HasPayload store (object 7) (function_entry t.name 0) → slice_get (state_after start events).made 0 ≡ Some (record { function = object 7; args = object 8 ∷ object 9 ∷ [] }) → IsRunOf (t ∷ []) drives store events → IsTrace store t (object 8 ∷ object 9 ∷ []) (own_events 1 events)
+  traced store drives events p e r = traced_by store (object 7) (object 8 ∷ object 9 ∷ []) (own_events 1 events) p (r.run.tells 0 (record { function = object 7; args = object 8 ∷ object 9 ∷ [] }) e)
 
   -- the entry of the function, where it is the script's
   pub entry_of : (store : List Payload) (f : Obj) → AreObjects (t ∷ []) store → declared store t.name ≡ Some f → HasPayload store f (function_entry t.name 0)
@@ -259,43 +261,56 @@ module _ (t : Tree) where
       subst (λ (f : Obj). HasPayload store f (function_entry t.name 0)) (some_is _ _ (sym entry.1 ∙ e)) entry.2
 
   -- nothing is declared under another number
-  undeclared : (n : ℕ) (m k : ℤ) (more : List Payload) (x : Name) → IsNoDeclaration n → declared_from 9 more x ≡ None → (v : Obj) → declared (with_more m k more) x ≡ Some v → eqb n v.number ≡ false
+  undeclared : (n : ℕ) (m k : ℤ) (more : List Payload) (x : Name) → IsNoDeclaration n → declared_from 10 more x ≡ None → (v : Obj) → declared (with_more m k more) x ≡ Some v → eqb n v.number ≡ false
   undeclared n m k more x past none =
-      not_chosen n 1 _ _ past.0 (not_chosen n 2 _ _ past.1 (not_chosen n 3 _ _ past.2 (not_chosen n 4 _ _ past.3 (not_chosen n 5 _ _ past.4 (not_chosen n 6 _ _ past.5 (none_chosen n (declared_from 9 more x) none))))))
+      not_chosen n 1 _ _ past.0 (not_chosen n 2 _ _ past.1 (not_chosen n 3 _ _ past.2 (not_chosen n 4 _ _ past.3 (not_chosen n 5 _ _ past.4 (not_chosen n 7 _ _ past.5 (none_chosen n (declared_from 10 more x) none))))))
 
   -- the objects of drives that overflow, and more
   abbrev pub overflow_with : List Payload → List Payload
   overflow_with more = raising_by (function_entry t.name 0) 2 more
 
-  pub new_in : (n : ℕ) (more : List Payload) (before : List Event) → ((x : Name) → declared_from 12 more x ≡ None) → Each (λ e. is_among n (event_numbers e) ≡ false) before → IsNoDeclaration n → IsNew (overflow_with more) before n
+  pub new_in : (n : ℕ) (more : List Payload) (before : List Event) → ((x : Name) → declared_from 13 more x ≡ None) → Each (λ e. is_among n (event_numbers e) ≡ false) before → IsNoDeclaration n → IsNew (overflow_with more) before n
   new_in n more before none h past =
       record { unnamed = each_at (λ e. is_among n (event_numbers e) ≡ false) before h; undeclared = λ x. undeclared n greatest (pos 1) (error_objects 2 more) x past (none x) }
 
   -- what is raised
   pub is_raised : (n : ℕ) (more : List Payload) (before : List Event) → IsNew (overflow_with more) before n → HasPayload (overflow_with more) (object n) (error_entry 2) → IsRaised (overflow_with more) before kind.OverflowError (codes "integer out of range") (exception n)
-  is_raised n more before new entry = record { new = new; body = record { class = record { number = 2 }; args = object 10 }; entry = entry; class = refl; argument = object 9; args = refl; message = refl }
+  is_raised n more before new entry = record { new = new; body = error_body 2; entry = entry; class = refl; argument = object 10; args = refl; message = refl }
 
   -- the first of the drives
-  pub first_raises : (qs : List Question) (more : List Payload) (rest : List Event) → slice_get qs 0 ≡ Some call → 0 < length qs → ((x : Name) → declared_from 12 more x ≡ None) → Comes qs (overflow_with more) (overflow_by (exception 11)) (state_after start (overflow_by (exception 11))) rest → Comes qs (overflow_with more) [] start (raises 1 (exception 11) rest)
+  pub first_raises : (qs : List Question) (more : List Payload) (rest : List Event) → slice_get qs 0 ≡ Some call → 0 < length qs → ((x : Name) → declared_from 13 more x ≡ None) → Comes qs (overflow_with more) (overflow_by (exception 12)) (state_after start (overflow_by (exception 12))) rest → Comes qs (overflow_with more) [] start (raises 1 (exception 12) rest)
   first_raises qs more rest q few none k =
-      let asking = entered 1 (asked 1 (object 7) (object 8) []) in
-      let new = new_in 11 more asking none (refl, (refl, (refl, (refl, tt)))) (refl, refl, refl, refl, refl, refl) in
-      asking_comes qs greatest (pos 1) (error_objects 2 more) (raised 1 (exception 11) rest) q few
-      (sum_comes qs greatest (pos 1) (error_objects 2 more) asking (state_after start asking) 1 (got.Raise (exception 11)) refl refl refl (is_raised 11 more asking new refl), ((refl, refl), ((refl, refl, (By_raise (exception 11), refl, refl)), k)))
+      let asking = entered 1 (asked 1 (object 8) (object 9) []) in
+      let new = new_in 12 more asking none (refl, (refl, (refl, (refl, tt)))) (refl, refl, refl, refl, refl, refl) in
+      asking_comes qs greatest (pos 1) (error_objects 2 more) (raised 1 (exception 12) rest) q few
+      (sum_comes qs greatest (pos 1) (error_objects 2 more) asking (state_after start asking) 1 (got.Raise (exception 12)) refl refl refl (is_raised 12 more asking new refl), ((refl, refl), ((refl, refl, (By_raise (exception 12), refl, refl)), k)))
 
   -- what the activation of a drive that raises tells
   abbrev pub RaiseIsTraced : List Payload → PyBaseExceptionRef → Type 0
-  RaiseIsTraced more e = IsTrace (overflow_with more) t (object 7 ∷ object 8 ∷ []) (Makes ∷ Resumes Start ∷ Asks 2 (Binary Add (object 7) (object 8)) None ∷ Gets (got.Raise e) ∷ Ends 2 (ending.Raise e) ∷ [])
+  RaiseIsTraced more e = IsTrace (overflow_with more) t (object 8 ∷ object 9 ∷ []) (Makes ∷ Resumes Start ∷ Asks 2 (Binary binary.Add (object 8) (object 9)) None ∷ Gets (got.Raise e) ∷ Ends 2 (ending.Raise e) ∷ [])
+
+  -- its entry names what it should
+  pub made_error : (more : List Payload) → IsMade (overflow_with more) (error_entry 2)
+  made_error more = record {
+    class = record { name = name_of kind.OverflowError };
+    is_class = refl;
+    is_declared = refl;
+    arguments = object 10 ∷ [];
+    are_arguments = refl;
+    cause = tt;
+    context = tt;
+    traceback = tt;
+  }
 
   overflow_fits : AllFit (overflow_with [])
-  overflow_fits = all_fit (overflow_with []) refl (tt, (tt, (tt, (tt, (tt, (tt, (tt, (tt, (tt, (tt, (tt, ((_, _, refl, refl, refl), tt))))))))))))
+  overflow_fits = all_fit (overflow_with []) refl (tt, (tt, (tt, (tt, (tt, (tt, (tt, (tt, (tt, (tt, (tt, (tt, (made_error [], tt)))))))))))))
 
-  overflow_tells : RaiseIsTraced [] (exception 11) → EachTells (Traces (t ∷ []) (overflow_with [])) (overflow_by (exception 11))
+  overflow_tells : RaiseIsTraced [] (exception 12) → EachTells (Traces (t ∷ []) (overflow_with [])) (overflow_by (exception 12))
   unfolding own_events told_by
-  overflow_tells h = one_tells (Traces (t ∷ []) (overflow_with [])) (object 6) (object 7 ∷ object 8 ∷ []) (overflow_by (exception 11)) refl (_, refl, (t, refl, h))
+  overflow_tells h = one_tells (Traces (t ∷ []) (overflow_with [])) (object 7) (object 8 ∷ object 9 ∷ []) (overflow_by (exception 12)) refl (_, refl, (t, refl, h))
 
   -- the run of one drive that overflows
-  pub overflow_is_run : IsDeclared (overflow_with []) → RaiseIsTraced [] (exception 11) → IsRunOf (t ∷ []) (record overflowing { function = t.name } ∷ []) (overflow_with []) (overflow_by (exception 11))
+  pub overflow_is_run : IsDeclared (overflow_with []) → RaiseIsTraced [] (exception 12) → IsRunOf (t ∷ []) (record overflowing { function = t.name } ∷ []) (overflow_with []) (overflow_by (exception 12))
   overflow_is_run d h =
       record {
         asked = call ∷ [];
@@ -304,7 +319,7 @@ module _ (t : Tree) where
             record {
               comes = first_raises (call ∷ []) [] [] refl (lit< tt) (λ x. refl) tt;
               tells = overflow_tells h;
-              named = are_named (overflow_with []) (overflow_by (exception 11)) overflow_fits refl;
+              named = are_named (overflow_with []) (overflow_by (exception 12)) overflow_fits refl;
             };
         are_objects = are_objects greatest (pos 1) (error_objects 2 []) d (plain _ refl, (plain _ refl, (plain _ refl, tt))) overflow_fits;
       }

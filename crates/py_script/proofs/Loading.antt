@@ -6,22 +6,25 @@ use Rattle.std.proofs.lemmas.Grind.{take_at_read}
 use Rattle.std.proofs.lemmas.Option.{slice_get-map, slice_get-get_or, slice_get_read}
 use Rattle.std.proofs.lemmas.Slice.Eq.{bytes_eq-Decides}
 use Rattle.std.proofs.lemmas.Bool.Decides.{eqb_tells}
-use Rattle.py_code.specs.declared.code.PyCode.{PyCode}
 use Rattle.py_code.specs.declared.list.NoMemory.{NoMemory}
+use Rattle.py_check.specs.declared.annotated.Annotated.{Annotated}
 use Rattle.py_objects.specs.declared.payload.Payload.{Payload}
 use Rattle.py_objects.specs.declared.payload.Payload.TheVariants as payload
 use Rattle.py_objects.specs.declared.refs.PyObjectRef.{PyObjectRef}
 use Rattle.py_objects.specs.Objects.{Obj, Name, numbers, AllBelow, GrowsPlainly}
+use Rattle.py_frame.specs.Fitting.{IsSound}
 use Rattle.py_frame.proofs.Growing.{slice_get_grown}
 use Rattle.py_frame.proofs.PlainGrowth.{grows_plainly_refl, grows_plainly_by}
 use Rattle.py_body.specs.Tree.{Tree}
 use Rattle.py_body.specs.Fits.{Fits}
+use Rattle.py_body.specs.Naming.{Continues}
 use Rattle.py_grammar.specs.declared.script.Declaration.{Declaration}
 use Rattle.py_grammar.specs.Script.{declared_tree}
 use Rattle.py_vm.specs.declared.vm.VirtualMachine.{VirtualMachine}
+use Rattle.py_vm.specs.Codes.{Checked, plain_codes}
 use Rattle.py_vm.specs.Machine.{objects_of}
 use Rattle.py_vm.proofs.ReplyingLemmas.{newest}
-use Rattle.py_script.specs.Loaded.{AreCompiled, function_entries}
+use Rattle.py_script.specs.Loaded.{AreCompiled, AreChecked, function_entries}
 use Rattle.py_script.specs.Session.{refs_from, IsValue}
 
 -- the entry of a list that is mapped
@@ -49,13 +52,30 @@ one_more [] y x (suc i) h = absurd (cc h)
 one_more (z ∷ xs) y x zero h = inl h
 one_more (z ∷ xs) y x (suc i) h = elim (one_more xs y x i h) [ inl old ↦ inl old | inr new ↦ inr (ap suc new.0, new.1) ]
 
--- one more body is compiled
-pub compiled_more : (ts : List Tree) (cs : List PyCode) (t : Tree) (c : PyCode) → AreCompiled ts cs → length cs ≡ length ts → Fits c t → AreCompiled (ts ++ t ∷ []) (cs ++ c ∷ [])
-compiled_more ts cs t c all same fits i u is = go (one_more ts t u i is)
+-- a code that is sound for a table is so for one that goes on
+sound_continues : (names names' : List (List ℕ)) (c : Annotated) → Continues names names' → IsSound names c → IsSound names' c
+sound_continues names names' c (more, is) sound =
+    let size : length names' ≡ length names + length more = ap length is ∙ length-append names more in
+    record { typed = sound.typed; named = λ i id at. let low = sound.named i id at in omega (arith, low, size) }
+
+-- so it fits its tree
+fits_continues : (names names' : List (List ℕ)) (c : Annotated) (t : Tree) → Continues names names' → Fits names c t → Fits names' c t
+fits_continues names names' c t grows fits = record { arity = fits.arity; sound = sound_continues names names' c grows fits.sound; traces = fits.traces }
+
+-- one more body is compiled, as the table goes on
+pub checked_more : (ts : List Tree) (names names' : List (List ℕ)) (cs : List Annotated) (t : Tree) (c : Annotated) → AreChecked ts (record { names = names; codes = cs }) → length cs ≡ length ts
+    → Continues names names' → Fits names' c t → AreChecked (ts ++ t ∷ []) (record { names = names'; codes = cs ++ c ∷ [] })
+checked_more ts names names' cs t c all same grows fits i u is = go (one_more ts t u i is)
   where
-    go : (slice_get ts i ≡ Some u) ⊎ ((i ≡ length ts) × (t ≡ u)) → (d : PyCode) × (slice_get (cs ++ c ∷ []) i ≡ Some d) × Fits d u
-    go (inl old) = let k = all i u old in (k.0, slice_get_grown cs (c ∷ []) i k.0 k.1, k.2)
-    go (inr (at, new)) = (c, ap (slice_get (cs ++ c ∷ [])) (at ∙ sym same) ∙ newest cs c, subst (Fits c) new fits)
+    go : (slice_get ts i ≡ Some u) ⊎ ((i ≡ length ts) × (t ≡ u)) → (d : Annotated) × (slice_get (cs ++ c ∷ []) i ≡ Some d) × Fits names' d u
+    go (inl old) = let k = all i u old in (k.0, slice_get_grown cs (c ∷ []) i k.0 k.1, fits_continues names names' k.0 u grows k.2)
+    go (inr (at, new)) = (c, ap (slice_get (cs ++ c ∷ [])) (at ∙ sym same) ∙ newest cs c, subst (Fits names' c) new fits)
+
+-- codes that fit with their notes are compiled
+pub checked_compiled : (ts : List Tree) (cs : Checked) → AreChecked ts cs → AreCompiled ts (plain_codes cs)
+checked_compiled ts cs all i t at =
+    let k = all i t at in
+    (k.0.code, entry_mapped (λ (a : Annotated). a.code) cs.codes i k.0 k.1, (k.0.notes, k.2))
 
 refs_suc : (k n : ℕ) → refs_from k n ++ record { number = k + n } ∷ [] ≡ refs_from k (suc n)
 refs_suc k zero = ap (λ m. record { number = m } ∷ []) (let e : k + 0 ≡ k = omega arith in e)
@@ -86,9 +106,14 @@ value_grows objects (payload.Bool b) is = grows_plainly_by objects (payload.Bool
 value_grows objects (payload.Int n) is = grows_plainly_by objects (payload.Int n) refl (λ _. tt) (λ _. tt)
 value_grows objects (payload.Str s) is = grows_plainly_by objects (payload.Str s) refl (λ _. tt) (λ _. tt)
 value_grows objects (payload.Tuple vs) is = absurd is
+value_grows objects (payload.Dict ps) is = absurd is
 value_grows objects (payload.Class c) is = absurd is
 value_grows objects (payload.Function f) is = absurd is
+value_grows objects (payload.Manager m) is = absurd is
+value_grows objects (payload.Frame c) is = absurd is
+value_grows objects (payload.Generator g) is = absurd is
 value_grows objects (payload.Exception e) is = absurd is
+value_grows objects (payload.Traceback t) is = absurd is
 
 -- a value was added, or nothing
 pub grown_by : (old new : VirtualMachine) (p : Payload) (r : Result PyObjectRef NoMemory) → IsValue p

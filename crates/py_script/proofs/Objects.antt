@@ -7,6 +7,7 @@ use Rattle.py_objects.specs.declared.payload.Payload.{Payload}
 use Rattle.py_objects.specs.declared.payload.Payload.TheVariants as payload
 use Rattle.py_objects.specs.declared.payload.ClassBody.{ClassBody}
 use Rattle.py_objects.specs.declared.payload.FunctionBody.{FunctionBody}
+use Rattle.py_objects.specs.declared.payload.ManagerBody.{ManagerBody}
 use Rattle.py_objects.specs.declared.payload.ErrorKind.{ErrorKind}
 use Rattle.py_objects.specs.declared.payload.ErrorKind.TheVariants.{NameError, OverflowError, RecursionError, TypeError, UnboundLocalError}
 use Rattle.py_objects.specs.Objects.{Obj, Name, HasPayload, declares, declared, declared_from, name_of, error_kinds, AllFit, GrowsPlainly}
@@ -74,7 +75,7 @@ both_false true b h = absurd (let e : true ≡ false = h in cc e)
 both_false false b h = (refl, h)
 
 -- what is no class is declared behind the classes
-behind_classes : (n : Name) (ts : List Tree) → is_builtin_class n ≡ false → declared (script_objects ts) n ≡ declared_from 6 (function_entries 0 ts) n
+behind_classes : (n : Name) (ts : List Tree) → is_builtin_class n ≡ false → declared (script_objects ts) n ≡ declared_from 7 (function_entries 0 ts) n
 behind_classes n ts none =
     let a = both_false _ (bytes_eq n (codes "RecursionError")) none in
     let b = both_false _ (bytes_eq n (codes "UnboundLocalError")) a.0 in
@@ -82,15 +83,15 @@ behind_classes n ts none =
     let d = both_false (bytes_eq n (codes "OverflowError")) (bytes_eq n (codes "TypeError")) c.0 in
     rw (c.1, d.0, a.1, d.1, b.1) refl
 
--- entries behind the first six
-entry_behind : (ts : List Tree) (j : ℕ) → slice_get (script_objects ts) (6 + j) ≡ slice_get (function_entries 0 ts) j
-entry_behind ts j = ap (slice_get (script_objects ts)) (let e : 6 + j ≡ suc (suc (suc (suc (suc (suc j))))) = omega arith in e)
+-- entries behind the first seven
+entry_behind : (ts : List Tree) (j : ℕ) → slice_get (script_objects ts) (7 + j) ≡ slice_get (function_entries 0 ts) j
+entry_behind ts j = ap (slice_get (script_objects ts)) (let e : 7 + j ≡ suc (suc (suc (suc (suc (suc (suc j)))))) = omega arith in e)
 
 -- the functions that are loaded are declared, in order
 pub functions_are : (ts : List Tree) → AllPairs (λ x y. x ≢ y) (map (λ s. s.name) ts) → (j : ℕ) (t : Tree) → slice_get ts j ≡ Some t → is_builtin_class t.name ≡ false
-    → (declared (script_objects ts) t.name ≡ Some (record { number = 6 + j })) × HasPayload (script_objects ts) (record { number = 6 + j }) (payload.Function (record { name = t.name; code = j }))
+    → (declared (script_objects ts) t.name ≡ Some (record { number = 7 + j })) × HasPayload (script_objects ts) (record { number = 7 + j }) (payload.Function (record { name = t.name; code = j }))
 functions_are ts differ j t is none = (
-  behind_classes t.name ts none ∙ found_from 6 0 ts j t differ is,
+  behind_classes t.name ts none ∙ found_from 7 0 ts j t differ is,
   entry_behind ts j ∙ entry_at 0 ts j t is ∙ ap (λ n. Some (payload.Function (record { name = t.name; code = n }))) (let e : 0 + j ≡ j = omega arith in e),
 )
 
@@ -111,7 +112,8 @@ only_functions_at ts (suc (suc zero)) b is = no_function _ b is
 only_functions_at ts (suc (suc (suc zero))) b is = no_function _ b is
 only_functions_at ts (suc (suc (suc (suc zero)))) b is = no_function _ b is
 only_functions_at ts (suc (suc (suc (suc (suc zero))))) b is = no_function _ b is
-only_functions_at ts (suc (suc (suc (suc (suc (suc j)))))) b is =
+only_functions_at ts (suc (suc (suc (suc (suc (suc zero)))))) b is = absurd (let d : payload.Dict [] ≡ payload.Function b = cc is in cc d)
+only_functions_at ts (suc (suc (suc (suc (suc (suc (suc j))))))) b is =
     let h = entry_of 0 ts j (payload.Function b) is in
     let body : b ≡ record { name = h.0.name; code = 0 + j } = cc h.2 in
     let place : b.code ≡ j = ap (λ (x : FunctionBody). x.code) body ∙ (let e : 0 + j ≡ j = omega arith in e) in
@@ -132,9 +134,25 @@ only_classes_at ts (suc (suc zero)) b is = class_named OverflowError 1 b refl is
 only_classes_at ts (suc (suc (suc zero))) b is = class_named RecursionError 2 b refl is
 only_classes_at ts (suc (suc (suc (suc zero)))) b is = class_named TypeError 3 b refl is
 only_classes_at ts (suc (suc (suc (suc (suc zero))))) b is = class_named UnboundLocalError 4 b refl is
-only_classes_at ts (suc (suc (suc (suc (suc (suc j)))))) b is =
+only_classes_at ts (suc (suc (suc (suc (suc (suc zero)))))) b is = absurd (let d : payload.Dict [] ≡ payload.Class b = cc is in cc d)
+only_classes_at ts (suc (suc (suc (suc (suc (suc (suc j))))))) b is =
     let h = entry_of 0 ts j (payload.Class b) is in
     absurd (cc h.2)
+
+class_manages_none : (c : ClassBody) (b : ManagerBody) → Some (payload.Class c) ≡ Some (payload.Manager b) → ⊥
+class_manages_none c b e = let d : payload.Class c ≡ payload.Manager b = cc e in cc d
+
+no_managers_at : (ts : List Tree) (n : ℕ) (b : ManagerBody) → slice_get (script_objects ts) n ≡ Some (payload.Manager b) → ⊥
+no_managers_at ts zero b is = let d : payload.None ≡ payload.Manager b = cc is in cc d
+no_managers_at ts (suc zero) b is = class_manages_none _ b is
+no_managers_at ts (suc (suc zero)) b is = class_manages_none _ b is
+no_managers_at ts (suc (suc (suc zero))) b is = class_manages_none _ b is
+no_managers_at ts (suc (suc (suc (suc zero)))) b is = class_manages_none _ b is
+no_managers_at ts (suc (suc (suc (suc (suc zero))))) b is = class_manages_none _ b is
+no_managers_at ts (suc (suc (suc (suc (suc (suc zero)))))) b is = let d : payload.Dict [] ≡ payload.Manager b = cc is in cc d
+no_managers_at ts (suc (suc (suc (suc (suc (suc (suc j))))))) b is =
+    let h = entry_of 0 ts j (payload.Manager b) is in
+    cc h.2
 
 -- the objects that are loaded are a script's
 pub loaded_objects : (ts : List Tree) → AllPairs (λ x y. x ≢ y) (map (λ s. s.name) ts) → ((j : ℕ) (t : Tree) → slice_get ts j ≡ Some t → is_builtin_class t.name ≡ false) → AllFit (script_objects ts) → AreObjects ts (script_objects ts)
@@ -143,6 +161,7 @@ loaded_objects ts differ no_class fit = record {
   classes = λ i k is. classes_are ts k;
   only_functions = λ f b is. only_functions_at ts f.number b is;
   only_classes = λ c b is. only_classes_at ts c.number b is;
+  no_managers = λ m b is. no_managers_at ts m.number b is;
   fit = fit;
 }
 
@@ -161,6 +180,7 @@ objects_grow ts objects objects' grows are = record {
   classes = λ i k is. let h = are.classes i k is in (h.0, declared_stays objects objects' (name_of k) grows ∙ h.1, payload_grown objects objects' h.0 _ (plainly_grows objects objects' grows) h.2);
   only_functions = λ f b is. are.only_functions f b (declared_before objects objects' f (payload.Function b) b.name grows refl is);
   only_classes = λ c b is. are.only_classes c b (declared_before objects objects' c (payload.Class b) b.name grows refl is);
+  no_managers = λ m b is. are.no_managers m b (declared_before objects objects' m (payload.Manager b) b.name grows refl is);
   fit = grows.fit are.fit;
 }
 

@@ -6,7 +6,7 @@ use Rattle.py_objects.specs.declared.refs.PyBaseExceptionRef.{PyBaseExceptionRef
 use Rattle.py_objects.specs.declared.payload.Payload.{Payload}
 use Rattle.py_objects.specs.declared.payload.Payload.TheVariants as payload
 use Rattle.py_objects.specs.declared.payload.ErrorKind.TheVariants.{OverflowError}
-use Rattle.py_objects.specs.declared.request.Arithmetic.TheVariants.{Add}
+use Rattle.py_code.specs.declared.operator.BinaryOperator.TheVariants as binary
 use Rattle.py_objects.specs.declared.request.Request.{Request}
 use Rattle.py_objects.specs.declared.request.Request.TheVariants.{Binary}
 use Rattle.py_objects.specs.declared.event.ResumeHow.TheVariants as how
@@ -234,26 +234,26 @@ module _ (store : List Payload) (qs : List Question) (m n : ℤ) (line : List �
   abbrev AreNumbers : Obj → Obj → Type 0
   AreNumbers a b = HasPayload store a (payload.Int m) × HasPayload store b (payload.Int n)
 
-  answer_behind : (a b : Obj) (K : AfterValue) (made : List Activation) (before es : List Event) → AreNumbers a b → length qs ≤ 1 → EndsIt K → Answered (own_events 1 es) K → Follows before (at 0 Asking (act (Some (Binary Add a b)) ∷ []) made) es → events_text store es ≡ line
+  answer_behind : (a b : Obj) (K : AfterValue) (made : List Activation) (before es : List Event) → AreNumbers a b → length qs ≤ 1 → EndsIt K → Answered (own_events 1 es) K → Follows before (at 0 Asking (act (Some (Binary binary.Add a b)) ∷ []) made) es → events_text store es ≡ line
   unfolding own_events told_by
   answer_behind a b K made before [] ab few k t h = absurd (cc h.1)
   answer_behind a b K made before (e ∷ es) ab few k t h =
-      let c = got_next before (at 0 Asking (act (Some (Binary Add a b)) ∷ []) made) e (act (Some (Binary Add a b))) refl refl h.0.0 in
+      let c = got_next before (at 0 Asking (act (Some (Binary binary.Add a b)) ∷ []) made) e (act (Some (Binary binary.Add a b))) refl refl h.0.0 in
       let sum = given before c.0 (gives_sum store before a b m n c.0 ab.0 ab.1 c.3) in
       let is : e ≡ event.Got 1 c.0 = c.1 ∙ ap (λ (k : ℕ). event.Got k c.0) (sym c.2) in
-      subst (λ (x : Event). Answered (own_events 1 (x ∷ es)) K → Follows before (at 0 Asking (act (Some (Binary Add a b)) ∷ []) made) (x ∷ es) → events_text store (x ∷ es) ≡ line) (sym is)
+      subst (λ (x : Event). Answered (own_events 1 (x ∷ es)) K → Follows before (at 0 Asking (act (Some (Binary binary.Add a b)) ∷ []) made) (x ∷ es) → events_text store (x ∷ es) ≡ line) (sym is)
       (λ u l. end_behind sum.0 made _ es few (sum.1 (own_events 1 es) (got_it K k c.0 (own_events 1 es) u)) (l.0.1, l.1) ∙ sum.2) t h
 
-  question_behind : (a b : Obj) (K : AfterValue) (made : List Activation) (before es : List Event) → AreNumbers a b → length qs ≤ 1 → EndsIt K → Asked (Binary Add a b) None (own_events 1 es) K → Follows before (at 0 Going (act None ∷ []) made) es → events_text store es ≡ line
+  question_behind : (a b : Obj) (K : AfterValue) (made : List Activation) (before es : List Event) → AreNumbers a b → length qs ≤ 1 → EndsIt K → Asked (Binary binary.Add a b) None (own_events 1 es) K → Follows before (at 0 Going (act None ∷ []) made) es → events_text store es ≡ line
   question_behind a b K made before [] ab few k t h = absurd (cc h.1)
   question_behind a b K made before (e ∷ es) ab few k t h =
       let c = going_next before (at 0 Going (act None ∷ []) made) e refl h.0.0 in
       let own = told e c.1.0 es c.0 c.1.1 in
       ⊎_elim (λ none. let empty = none.0 in absurd cc)
       (λ some.
-      let which : own_of e ≡ Asks some.0 (Binary Add a b) None ∷ [] = cc in
+      let which : own_of e ≡ Asks some.0 (Binary binary.Add a b) None ∷ [] = cc in
       let rest : some.1 ≡ own_events 1 es = cc in
-      let is : e ≡ event.Ask 1 (Binary Add a b) None some.0 = asks_of e some.0 (Binary Add a b) None which ∙ ap (λ (k : ℕ). event.Ask k (Binary Add a b) None some.0) (sym c.0) in
+      let is : e ≡ event.Ask 1 (Binary binary.Add a b) None some.0 = asks_of e some.0 (Binary binary.Add a b) None which ∙ ap (λ (k : ℕ). event.Ask k (Binary binary.Add a b) None some.0) (sym c.0) in
       subst (λ (x : Event). Follows before (at 0 Going (act None ∷ []) made) (x ∷ es) → events_text store (x ∷ es) ≡ line) (sym is)
       (λ l. answer_behind a b K made _ es ab few k (subst (λ (xs : List Own). Answered xs K) rest some.3) (l.0.1, l.1)) h)
       t
@@ -355,5 +355,5 @@ text_of_overflow m n i store es r d =
 pub text : events_text objects events ≡ codes "1 returns 45\n"
 text = text_of_sum (pos 33) (pos 12) refl objects events is_run (record { done = refl; idle = refl }) ∙ ap (λ (ds : List ℕ). codes "1 returns " ++ (ds ++ codes "\n")) decimal_45
 
-pub overflow_text : events_text overflow_objects (overflow_by (exception 11)) ≡ codes "1 raises OverflowError: integer out of range\n"
-overflow_text = text_of_overflow greatest (pos 1) refl overflow_objects (overflow_by (exception 11)) overflow_is_run (record { done = refl; idle = refl })
+pub overflow_text : events_text overflow_objects (overflow_by (exception 12)) ≡ codes "1 raises OverflowError: integer out of range\n"
+overflow_text = text_of_overflow greatest (pos 1) refl overflow_objects (overflow_by (exception 12)) overflow_is_run (record { done = refl; idle = refl })

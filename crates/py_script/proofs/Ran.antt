@@ -1,6 +1,6 @@
 -- What a session's run comes to, in the words of its script.
 use Rattle.std.proofs.Common.{◌≡◌, ◌≤◌, ◌<◌, ℕ, List, length, refl, sym, ap, ◌∙◌, subst, arith, inr}
-use Rattle.std.specs.Prelude.{[], Result, Ok, Err, OnOk}
+use Rattle.std.specs.Prelude.{Result, Ok, Err, OnOk}
 use Rattle.py_code.specs.Codes.{Codes}
 use Rattle.py_objects.specs.declared.payload.Payload.{Payload}
 use Rattle.py_objects.specs.declared.event.Event.{Event}
@@ -13,13 +13,14 @@ use Rattle.py_vm.specs.declared.journal.Journal.{Journal}
 use Rattle.py_vm.specs.declared.vm.VirtualMachine.{VirtualMachine}
 use Rattle.py_vm.specs.Run.{start, state_after, EachTells, IsDone}
 use Rattle.py_vm.specs.RowsOf.{RowsOf}
-use Rattle.py_vm.specs.Machine.{events_of, objects_of, codes_of, done_of}
+use Rattle.py_vm.specs.Machine.{events_of, objects_of, changes_of, checked_of, codes_of, done_of}
 use Rattle.py_script.specs.declared.session.Session.{Session}
 use Rattle.py_script.specs.Whole.{IsRunOf, IsRun, RunsItsCodes}
 use Rattle.py_script.specs.Loaded.{AreCompiled}
 use Rattle.py_script.specs.Steps.{IsRunnable, HasRun}
 use Rattle.py_script.specs.Session.{IsLoaded, IsInRun, IsReady}
 use Rattle.py_script.proofs.Driven.{loaded_ready, is_run_of}
+use Rattle.py_script.proofs.Loading.{checked_compiled}
 use Rattle.py_script.proofs.Traced.{one_of_all}
 
 -- a script that can be run is ready once it is loaded
@@ -30,22 +31,22 @@ runnable_ready s n r l = loaded_ready (trees_of s) (drives_of s) n l r.well.dist
 record Holds (j : Journal) (vm : VirtualMachine) : Type 0 where
   events : j.events ≡ events_of vm
   objects : j.objects ≡ objects_of vm
-  changes : j.changes ≡ []
+  changes : j.changes ≡ changes_of vm
   codes : j.codes ≡ codes_of vm
 
 is_run : (s : Script) (j : Journal) (vm : VirtualMachine) → IsRunnable s → IsInRun (trees_of s) (drives_of s) vm → Holds j vm → IsRun s j
 is_run s j vm r run h = record {
   run = subst (λ (es : List Event). IsRunOf (trees_of s) (drives_of s) j.objects es) (sym h.events)
       (subst (λ (os : List Payload). IsRunOf (trees_of s) (drives_of s) os (events_of vm)) (sym h.objects) (is_run_of (trees_of s) (drives_of s) vm r.well.driven run));
-  unchanged = h.changes;
+  unchanged = h.changes ∙ run.1.unchanged;
 }
 
 runs_its_codes : (s : Script) (j : Journal) (vm : VirtualMachine) → IsInRun (trees_of s) (drives_of s) vm → Holds j vm → RunsItsCodes s j
 runs_its_codes s j vm (asked, run) h = record {
-  compiled = subst (λ (k : Codes). AreCompiled (trees_of s) k.codes) (sym h.codes) run.compiled;
-  tells = subst (λ (es : List Event). EachTells (RowsOf j.codes.codes j.objects) es) (sym h.events)
-      (subst (λ (os : List Payload). EachTells (RowsOf j.codes.codes os) (events_of vm)) (sym h.objects)
-      (subst (λ (k : Codes). EachTells (RowsOf k.codes (objects_of vm)) (events_of vm)) (sym h.codes) run.tells));
+  compiled = subst (λ (k : Codes). AreCompiled (trees_of s) k) (sym h.codes) (checked_compiled (trees_of s) (checked_of vm) run.checked);
+  tells = subst (λ (es : List Event). EachTells (RowsOf j.codes j.objects) es) (sym h.events)
+      (subst (λ (os : List Payload). EachTells (RowsOf j.codes os) (events_of vm)) (sym h.objects)
+      (subst (λ (k : Codes). EachTells (RowsOf k (objects_of vm)) (events_of vm)) (sym h.codes) run.tells));
 }
 
 comes_to : (s : Script) (turns : ℕ) (vm : VirtualMachine) (j : Journal) (r : Result Unit VmFault) → IsRun s j → RunsItsCodes s j → Holds j vm → length (events_of vm) ≤ turns → OnOk r (IsDone (length (drives_of s)) (events_of vm))
@@ -64,7 +65,7 @@ comes_to s turns vm j (Err vm_fault.NoMemory) run codes h short whole cut = inr 
 -- what a session's run comes to, with the journal that it leaves
 pub has_run : (s : Script) (turns : ℕ) (vm : VirtualMachine) (j : Journal) (r : Result Unit VmFault) → IsRunnable s → IsInRun (trees_of s) (drives_of s) vm → length (events_of vm) ≤ turns
     → OnOk r (IsDone (length (drives_of s)) (events_of vm)) → (r ≡ Err vm_fault.OutOfTurns → (length (events_of vm) ≡ turns) × (done_of vm < length (drives_of s)))
-    → j.events ≡ events_of vm → j.objects ≡ objects_of vm → j.changes ≡ [] → j.codes ≡ codes_of vm → HasRun s turns j r
+    → j.events ≡ events_of vm → j.objects ≡ objects_of vm → j.changes ≡ changes_of vm → j.codes ≡ codes_of vm → HasRun s turns j r
 has_run s turns vm j r runnable run short whole cut events objects changes codes =
     let holds : Holds j vm = record { events = events; objects = objects; changes = changes; codes = codes } in
     comes_to s turns vm j r (is_run s j vm runnable run holds) (runs_its_codes s j vm run holds) holds short whole cut

@@ -2,7 +2,9 @@
 use Rattle.std.proofs.Common.{◌≡◌, ℕ, zero, suc, List, [], ◌∷◌, ◌++◌, length, Some, refl, sym, ap, ◌∙◌, subst, append-nil, inl, inr}
 use Rattle.std.specs.Prelude.{slice_get, All, Any}
 use Rattle.std.proofs.lemmas.Option.{slice_get_within, get_or_from_slice_get, slice_get_read}
+use Rattle.py_code.specs.Codes.{Codes}
 use Rattle.py_code.specs.declared.code.PyCode.{PyCode}
+use Rattle.py_check.specs.declared.note.Note.{Note}
 use Rattle.py_objects.specs.declared.payload.Payload.{Payload}
 use Rattle.py_objects.specs.declared.payload.Payload.TheVariants as payload
 use Rattle.py_objects.specs.declared.payload.FunctionBody.{FunctionBody}
@@ -10,6 +12,7 @@ use Rattle.py_objects.specs.declared.event.Event.{Event}
 use Rattle.py_objects.specs.Objects.{Obj, HasPayload, declared}
 use Rattle.py_objects.specs.declared.event.Ending.TheVariants as ending
 use Rattle.py_objects.specs.Own.{Own, Ends, own_events}
+use Rattle.py_frame.specs.Rows.{NamedCode}
 use Rattle.py_frame.specs.RunOfRows.{RowsRun}
 use Rattle.py_body.specs.declared.atom.Atom.{Atom}
 use Rattle.py_body.specs.Tree.{Tree}
@@ -68,12 +71,12 @@ function_of trees objects d f vs are well asks = go (called trees d well.calls)
         )
 
 -- what rows tell goes on to a run of them
-goes_on : (objects : List Payload) (c : PyCode) (vs : List Obj) (own : List Own) → RowsTell objects c vs own → (more : List Own) × RowsRun objects c vs (own ++ more)
+goes_on : (objects : List Payload) (c : NamedCode) (vs : List Obj) (own : List Own) → RowsTell objects c vs own → (more : List Own) × RowsRun objects c vs (own ++ more)
 goes_on objects c vs own (inl rows) = ([], subst (λ (l : List Own). RowsRun objects c vs l) (sym (append-nil own)) rows)
 goes_on objects c vs own (inr (front, e, at, is, rows)) = (Ends at (ending.Raise e) ∷ [], rows)
 
 -- an activation of a function that was asked for has a tree's trace where its code's rows tell it
-traced : (trees : List Tree) (objects : List Payload) (codes : List PyCode) (d : Drive) (f : Obj) (vs : List Obj) (own : List Own) → AreObjects trees objects → AreCompiled trees codes → IsWellDriven trees d
+traced : (trees : List Tree) (objects : List Payload) (codes : Codes) (d : Drive) (f : Obj) (vs : List Obj) (own : List Own) → AreObjects trees objects → AreCompiled trees codes → IsWellDriven trees d
     → Asks objects d (question.Call f vs) → HasTold own → RowsOf codes objects f vs own → Traces trees objects f vs own
 traced trees objects codes d f vs own are compiled well asks told (b, has, c, is, tells) = go (function_of trees objects d f vs are well asks)
   where
@@ -84,17 +87,17 @@ traced trees objects codes d f vs own are compiled well asks told (b, has, c, is
         let same_body : b ≡ record { name = t.name; code = j } = cc inside in
         let place : b.code ≡ j = ap (λ (x : FunctionBody). x.code) same_body in
         let k = compiled j t at in
-        let same_code : Some k.0 ≡ Some c = sym k.1 ∙ ap (slice_get codes) (sym place) ∙ is in
-        let fits = subst (λ (x : PyCode). Fits x t) (let e : k.0 ≡ c = cc same_code in e) k.2 in
-        let on = goes_on objects c vs own tells in
+        let same_code : Some k.0 ≡ Some c = sym k.1 ∙ ap (slice_get codes.codes) (sym place) ∙ is in
+        let fits = subst (λ (x : PyCode). (notes : List Note) × Fits codes.names (record { code = x; notes = notes }) t) (let e : k.0 ≡ c = cc same_code in e) k.2 in
+        let on = goes_on objects (record { code = c; names = codes.names }) vs own tells in
         let more = on.0 in
-        let whole : IsTrace objects t vs (own ++ more) = fits.traces objects vs (own ++ more) arity on.1 in
+        let whole : IsTrace objects t vs (own ++ more) = fits.1.traces codes.names objects vs (own ++ more) arity on.1 in
         let split : IsTrace objects t vs ((told.front ∷ told.behind) ++ more) = subst (λ (l : List Own). IsTrace objects t vs (l ++ more)) told.is whole in
         let front : IsTrace objects t vs (told.front ∷ told.behind) = trace_goes objects objects t vs told.front told.behind more ([], sym (append-nil objects)) split in
         (b, has, (t, ap (slice_get trees) place ∙ at, subst (IsTrace objects t vs) (sym told.is) front))
 
 -- what activations tell by their rows they tell by their bodies
-pub tells_traces : (trees : List Tree) (drives : List Drive) (asked : List Question) (objects : List Payload) (codes : List PyCode) (events : List Event) → AreObjects trees objects → AreCompiled trees codes → All (IsWellDriven trees) drives
+pub tells_traces : (trees : List Tree) (drives : List Drive) (asked : List Question) (objects : List Payload) (codes : Codes) (events : List Event) → AreObjects trees objects → AreCompiled trees codes → All (IsWellDriven trees) drives
     → AreAsked objects drives asked → Comes asked objects [] start events → EachTells (RowsOf codes objects) events → EachTells (Traces trees objects) events
 tells_traces trees drives asked objects codes events are compiled well are_asked comes tells i a made =
     let q = made_asked asked objects [] start events comes (λ j b is. absurd (cc is)) i a made in

@@ -5,7 +5,7 @@ use Rattle.std.specs.Prelude.{pos, codes}
 use Rattle.py_objects.specs.declared.refs.PyBaseExceptionRef.{PyBaseExceptionRef}
 use Rattle.py_objects.specs.declared.payload.Payload.{Payload}
 use Rattle.py_objects.specs.declared.payload.Payload.TheVariants as payload
-use Rattle.py_objects.specs.declared.request.Arithmetic.TheVariants.{Add}
+use Rattle.py_code.specs.declared.operator.BinaryOperator.TheVariants as binary
 use Rattle.py_objects.specs.declared.request.Request.{Request}
 use Rattle.py_objects.specs.declared.request.Request.TheVariants.{Binary, Show}
 use Rattle.py_objects.specs.declared.event.ResumeHow.TheVariants.{Start}
@@ -40,38 +40,38 @@ pub spelled : Spells (lines script) trees drives
 spelled = record { items = Declares function ∷ Drives drive ∷ []; spelled = refl; well = (refl, ((refl, (refl, tt)), (refl, tt))); declared = refl; driven = refl }
 
 fits : AllFit objects
-fits = all_fit objects refl (tt, (tt, (tt, (tt, (tt, (tt, (tt, (tt, (tt, (tt, (tt, tt)))))))))))
+fits = all_fit objects refl (tt, (tt, (tt, (tt, (tt, (tt, (tt, (tt, (tt, (tt, (tt, (tt, tt))))))))))))
 
 -- an object that is None
 abbrev IsNone : Obj → Type 0
 IsNone v = HasPayload objects v payload.None
 
-comes : (a r : Obj) → IsNone a → IsNone r → Comes (call ∷ []) objects [] start (events_by (object 9) a r)
+comes : (a r : Obj) → IsNone a → IsNone r → Comes (call ∷ []) objects [] start (events_by (object 10) a r)
 comes a r n m =
-    let asking = entered 1 (asked 1 (object 7) (object 8) []) in
+    let asking = entered 1 (asked 1 (object 8) (object 9) []) in
     let more = payload.Int (pos 45) ∷ payload.None ∷ [] in
-    asking_comes function (call ∷ []) (pos 33) (pos 12) more (event.Got 1 (got.Value (object 9)) ∷ shows (object 9) (answered a (ended r))) refl (lit< tt) (
-      sum_comes function (call ∷ []) (pos 33) (pos 12) more asking (state_after start asking) 1 (got.Value (object 9)) refl refl refl refl,
-      ((refl, refl), ((refl, refl, (Show (object 9), Has payload.None, refl, refl, n)), ((refl, refl), ((refl, refl, (By_return r, refl, refl)), tt)))),
+    asking_comes function (call ∷ []) (pos 33) (pos 12) more (event.Got 1 (got.Value (object 10)) ∷ shows (object 10) (answered a (ended r))) refl (lit< tt) (
+      sum_comes function (call ∷ []) (pos 33) (pos 12) more asking (state_after start asking) 1 (got.Value (object 10)) refl refl refl refl,
+      ((refl, refl), ((refl, refl, (Show (object 10), Has payload.None, refl, refl, n)), ((refl, refl), ((refl, refl, (By_return r, refl, refl)), tt)))),
     )
 
-shown_traced : (a r : Obj) → IsNone r → IsTrace objects function (object 7 ∷ object 8 ∷ []) (own_events 1 (events_by (object 9) a r))
+shown_traced : (a r : Obj) → IsNone r → IsTrace objects function (object 8 ∷ object 9 ∷ []) (own_events 1 (events_by (object 10) a r))
 unfolding own_events told_by
-shown_traced a r m = (refl, (_, refl, (tt, inr (inr (2, _, refl, inr (got.Value (object 9), _, refl, inr (inr (5, _, refl, inr (got.Value a, _, refl, inr (inr (r, m, inr (6, refl))))))))))))
+shown_traced a r m = (refl, (_, refl, (tt, inr (inr (2, _, refl, inr (got.Value (object 10), _, refl, inr (inr (5, _, refl, inr (got.Value a, _, refl, inr (inr (r, m, inr (6, refl))))))))))))
 
-named : (a r : Obj) → IsNone a → IsNone r → AreNamed objects (events_by (object 9) a r)
+named : (a r : Obj) → IsNone a → IsNone r → AreNamed objects (events_by (object 10) a r)
 named a r n m =
     let below : a.number < length objects = slice_get_within objects a.number payload.None n in
     let returned : r.number < length objects = slice_get_within objects r.number payload.None m in
     record {
       in_events =
-          each_at (λ (e : Event). AllBelow (length objects) (event_numbers e)) (events_by (object 9) a r)
+          each_at (λ (e : Event). AllBelow (length objects) (event_numbers e)) (events_by (object 10) a r)
           (tt, ((lit< tt, (lit< tt, (lit< tt, tt))), (tt, ((lit< tt, (lit< tt, tt)), ((lit< tt, tt), ((lit< tt, tt), ((below, tt), ((returned, tt), ((returned, tt), tt)))))))));
       in_payloads = λ i p e. (fits i p e).0;
     }
 
 -- any None answers the show, and any None is returned
-pub any_none : (a r : Obj) → IsNone a → IsNone r → IsRunOf trees drives objects (events_by (object 9) a r)
+pub any_none : (a r : Obj) → IsNone a → IsNone r → IsRunOf trees drives objects (events_by (object 10) a r)
 any_none a r n m =
     record {
       asked = call ∷ [];
@@ -79,7 +79,7 @@ any_none a r n m =
       run =
           record {
             comes = comes a r n m;
-            tells = one_tells (Traces trees objects) (object 6) (object 7 ∷ object 8 ∷ []) (events_by (object 9) a r) refl (_, refl, (function, refl, shown_traced a r m));
+            tells = one_tells (Traces trees objects) (object 7) (object 8 ∷ object 9 ∷ []) (events_by (object 10) a r) refl (_, refl, (function, refl, shown_traced a r m));
             named = named a r n m;
           };
       are_objects = are_objects function (pos 33) (pos 12) (payload.Int (pos 45) ∷ payload.None ∷ []) refl (plain function _ refl, (plain function _ refl, tt)) fits;
@@ -97,7 +97,7 @@ asked_so r q at w ts K (inr more) =
 
 -- the locals where the sum is this
 abbrev locals : Obj → Env
-locals v = set_local (codes "x") (Some v) (start_env function (object 7 ∷ object 8 ∷ []))
+locals v = set_local (codes "x") (Some v) (start_env function (object 8 ∷ object 9 ∷ []))
 
 -- what follows the sum, and what follows what is shown
 abbrev Shows : List Payload → Env → List Own → Type 0
@@ -108,12 +108,12 @@ Finishes store env ts = RunsSuite store nothing env None ts (EndsBy store)
 
 -- what follows the answer to the sum
 abbrev AfterSum : List Payload → AfterValue
-AfterSum store = Use (start_env function (object 7 ∷ object 8 ∷ [])) (On_normal (EndsBy store) (Shows store)) (λ v. On_normal (EndsBy store) (Shows store) (locals v) Normal)
+AfterSum store = Use (start_env function (object 8 ∷ object 9 ∷ [])) (On_normal (EndsBy store) (Shows store)) (λ v. On_normal (EndsBy store) (Shows store) (locals v) Normal)
 
-behind_sum : (store : List Payload) (w : GotAnswer) (ts : List Own) → IsTrace store function (object 7 ∷ object 8 ∷ []) (Makes ∷ Resumes Start ∷ Asks 2 (Binary Add (object 7) (object 8)) None ∷ Gets w ∷ ts) → Answers w ts (AfterSum store)
+behind_sum : (store : List Payload) (w : GotAnswer) (ts : List Own) → IsTrace store function (object 8 ∷ object 9 ∷ []) (Makes ∷ Resumes Start ∷ Asks 2 (Binary binary.Add (object 8) (object 9)) None ∷ Gets w ∷ ts) → Answers w ts (AfterSum store)
 behind_sum store w ts h =
-    let b = begun store function (object 7 ∷ object 8 ∷ []) _ h in
-    ⊎_elim (λ cut. cc cut.0) (λ more. asked_so (Binary Add (object 7) (object 8)) (Binary Add (object 7) (object 8)) 2 w ts (AfterSum store) more) b.1
+    let b = begun store function (object 8 ∷ object 9 ∷ []) _ h in
+    ⊎_elim (λ cut. cc cut.0) (λ more. asked_so (Binary binary.Add (object 8) (object 9)) (Binary binary.Add (object 8) (object 9)) 2 w ts (AfterSum store) more) b.1
 
 -- the sum is shown first
 first_shown : (v : Obj) (o : Own) (ts : List Own) → Shows objects (locals v) (o ∷ ts) → (at : ℕ) × (o ≡ Asks at (Show v) None)
@@ -133,55 +133,55 @@ shown_number at at' v w own own' e = let same : v ≡ w = cc in ap (λ (v : Obj)
 pub no_show_dropped : IsRunOf trees drives objects without_show → ⊥
 unfolding own_events told_by
 no_show_dropped r =
-    let e = first_shown (object 9) _ _ (behind_sum objects (got.Value (object 9)) _ (traced function objects drives without_show refl refl r)) in
+    let e = first_shown (object 10) _ _ (behind_sum objects (got.Value (object 10)) _ (traced function objects drives without_show refl refl r)) in
     cc e.1
 
-pub no_other_value : IsRunOf trees drives objects (events_by (object 7) (object 0) (object 10)) → ⊥
+pub no_other_value : IsRunOf trees drives objects (events_by (object 8) (object 0) (object 11)) → ⊥
 unfolding own_events told_by
 no_other_value r =
-    let e = first_shown (object 9) _ _ (behind_sum objects (got.Value (object 9)) _ (traced function objects drives (events_by (object 7) (object 0) (object 10)) refl refl r)) in
-    let n = shown_number 5 e.0 (object 7) (object 9) None None e.1 in
+    let e = first_shown (object 10) _ _ (behind_sum objects (got.Value (object 10)) _ (traced function objects drives (events_by (object 8) (object 0) (object 11)) refl refl r)) in
+    let n = shown_number 5 e.0 (object 8) (object 10) None None e.1 in
     cc
 
 pub no_show_twice : IsRunOf trees drives objects shown_twice → ⊥
 unfolding own_events told_by
 no_show_twice r =
-    let e = last_told (object 9) _ _ (behind_show (object 9) (object 9) (object 0) _ (behind_sum objects (got.Value (object 9)) _ (traced function objects drives shown_twice refl refl r))) in
+    let e = last_told (object 10) _ _ (behind_show (object 10) (object 10) (object 0) _ (behind_sum objects (got.Value (object 10)) _ (traced function objects drives shown_twice refl refl r))) in
     cc e.3
 
 -- what is shown is answered by None
 gives_none : (store : List Payload) (before : List Event) (v : Obj) (w : GotAnswer) → ((r : Request) × (reply : Reply) × (Some (Show v) ≡ Some r) × Replies store r reply × Gives store before reply w) → Gives store before (Has payload.None) w
 gives_none store before v w h = subst (λ (reply : Reply). Gives store before reply w) (subst (λ (r : Request). Replies store r h.1) (sym (some_is _ _ h.2)) h.3) h.4
 
-pub no_other_answer : IsRunOf trees drives objects (events_by (object 9) (object 9) (object 10)) → ⊥
+pub no_other_answer : IsRunOf trees drives objects (events_by (object 10) (object 10) (object 11)) → ⊥
 no_other_answer r =
-    let e = gives_none objects (summed (shows (object 9) [])) (object 9) (got.Value (object 9)) r.run.comes.1.1.1.1.1.1.0.2 in
+    let e = gives_none objects (summed (shows (object 10) [])) (object 10) (got.Value (object 10)) r.run.comes.1.1.1.1.1.1.0.2 in
     cc
 
 returned_one : (at at' : ℕ) (v w : Obj) → Ends at (ending.Return v) ≡ Ends at' (ending.Return w) → v ≡ w
 returned_one at at' v w e = cc
 
-pub no_other_end : IsRunOf trees drives objects (events_by (object 9) (object 0) (object 9)) → ⊥
+pub no_other_end : IsRunOf trees drives objects (events_by (object 10) (object 0) (object 10)) → ⊥
 unfolding own_events told_by
 no_other_end r =
-    let e = last_told (object 9) _ _ (behind_show (object 9) (object 9) (object 0) _ (behind_sum objects (got.Value (object 9)) _ (traced function objects drives (events_by (object 9) (object 0) (object 9)) refl refl r))) in
-    let none = subst IsNone (sym (returned_one 6 e.0 (object 9) e.1 e.3)) e.2 in
+    let e = last_told (object 10) _ _ (behind_show (object 10) (object 10) (object 0) _ (behind_sum objects (got.Value (object 10)) _ (traced function objects drives (events_by (object 10) (object 0) (object 10)) refl refl r))) in
+    let none = subst IsNone (sym (returned_one 6 e.0 (object 10) e.1 e.3)) e.2 in
     cc
 
-raise_traced : RaiseIsTraced function [] (exception 11)
-raise_traced = (refl, (_, refl, (tt, inr (inr (2, _, refl, inr (got.Raise (exception 11), _, refl, inr (2, refl)))))))
+raise_traced : RaiseIsTraced function [] (exception 12)
+raise_traced = (refl, (_, refl, (tt, inr (inr (2, _, refl, inr (got.Raise (exception 12), _, refl, inr (2, refl)))))))
 
-pub raise_ends : IsRunOf trees (overflowing ∷ []) overflow_objects (overflow_by (exception 11))
+pub raise_ends : IsRunOf trees (overflowing ∷ []) overflow_objects (overflow_by (exception 12))
 raise_ends = overflow_run function refl raise_traced
 
-pub raise_text : events_text overflow_objects (overflow_by (exception 11)) ≡ codes "1 raises OverflowError: integer out of range\n"
+pub raise_text : events_text overflow_objects (overflow_by (exception 12)) ≡ codes "1 raises OverflowError: integer out of range\n"
 raise_text =
-    let asking = entered 1 (asked 1 (object 7) (object 8) []) in
-    append-nil (result_text overflow_objects 1 (answer.Raises (exception 11)))
-    ∙ raise_line trees overflow_objects raise_ends.are_objects asking (exception 11)
-    (gives_sum overflow_objects asking (object 7) (object 8) greatest (pos 1) (got.Raise (exception 11)) refl refl raise_ends.run.comes.1.1.1.1.0.2)
+    let asking = entered 1 (asked 1 (object 8) (object 9) []) in
+    append-nil (result_text overflow_objects 1 (answer.Raises (exception 12)))
+    ∙ raise_line trees overflow_objects raise_ends.are_objects asking (exception 12)
+    (gives_sum overflow_objects asking (object 8) (object 9) greatest (pos 1) (got.Raise (exception 12)) refl refl raise_ends.run.comes.1.1.1.1.0.2)
 
 pub no_show_behind_a_raise : IsRunOf trees (overflowing ∷ []) overflow_objects shown_behind_raise → ⊥
 unfolding own_events told_by
 no_show_behind_a_raise r =
-    ⊎_elim (λ cut. cc cut) (λ end. cc end.1) (behind_sum overflow_objects (got.Raise (exception 11)) _ (traced function overflow_objects (overflowing ∷ []) shown_behind_raise refl refl r))
+    ⊎_elim (λ cut. cc cut) (λ end. cc end.1) (behind_sum overflow_objects (got.Raise (exception 12)) _ (traced function overflow_objects (overflowing ∷ []) shown_behind_raise refl refl r))

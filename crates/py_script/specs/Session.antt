@@ -7,13 +7,13 @@ use Rattle.py_body.specs.Tree.{Name, Tree}
 use Rattle.py_grammar.specs.Drive.{Drive}
 use Rattle.py_vm.specs.declared.drive.Drive.{Drive as Question}
 use Rattle.py_vm.specs.declared.vm.VirtualMachine.{VirtualMachine}
-use Rattle.py_vm.specs.Run.{start, Comes, EachTells}
+use Rattle.py_vm.specs.Run.{Idle, start, state_after, Comes, EachTells}
 use Rattle.py_vm.specs.RowsOf.{RowsOf}
-use Rattle.py_vm.specs.Machine.{events_of, objects_of, codes_of, done_of}
+use Rattle.py_vm.specs.Machine.{events_of, objects_of, changes_of, checked_of, codes_of, done_of}
 use Rattle.py_vm.specs.Stands.{Stands}
 use Rattle.py_script.specs.declared.session.Session.{Session}
 use Rattle.py_script.specs.Whole.{AreAsked, AreObjects}
-use Rattle.py_script.specs.Loaded.{AreCompiled, script_objects}
+use Rattle.py_script.specs.Loaded.{AreChecked, script_objects}
 
 -- so many objects in a row, from this number on
 abbrev pub refs_from : ℕ → ℕ → List Obj
@@ -25,17 +25,18 @@ pub record IsLoaded (trees : List Tree) (s : Session) : Type 0 where
   pub stands : Stands s.vm
   pub events : events_of s.vm ≡ []
   pub objects : objects_of s.vm ≡ script_objects trees
-  pub compiled : AreCompiled trees (codes_of s.vm).codes
-  pub functions : s.functions ≡ refs_from 6 (length trees)
+  pub checked : AreChecked trees (checked_of s.vm)
+  pub functions : s.functions ≡ refs_from 7 (length trees)
 
 -- what the machine has is a run of the drives that asked this
 pub record InRun (trees : List Tree) (drives : List Drive) (vm : VirtualMachine) (asked : List Question) : Type 0 where
   pub are_asked : AreAsked (objects_of vm) drives asked
   pub comes : Comes asked (objects_of vm) [] start (events_of vm)
-  pub tells : EachTells (RowsOf (codes_of vm).codes (objects_of vm)) (events_of vm)
+  pub tells : EachTells (RowsOf (codes_of vm) (objects_of vm)) (events_of vm)
   pub named : AreNamed (objects_of vm) (events_of vm)
   pub are_objects : AreObjects trees (objects_of vm)
-  pub compiled : AreCompiled trees (codes_of vm).codes
+  pub checked : AreChecked trees (checked_of vm)
+  pub unchanged : changes_of vm ≡ []
 
 abbrev pub IsInRun : List Tree → List Drive → VirtualMachine → Type 0
 IsInRun trees drives vm = (asked : List Question) × InRun trees drives vm asked
@@ -48,9 +49,10 @@ IsNamedAt trees name i = (t : Tree) × (slice_get trees i ≡ Some t) × (t.name
 abbrev pub AreFunctions : List Tree → List Payload → List Obj → Type 0
 AreFunctions trees objects functions = (i : ℕ) (t : Tree) → slice_get trees i ≡ Some t → (f : Obj) × (slice_get functions i ≡ Some f) × (declared objects t.name ≡ Some f)
 
--- the next drive can be made: the machine stands where its drives so far have led
+-- the next drive can be made: the machine stands where its drives so far have led, and nothing runs
 pub record IsReady (trees : List Tree) (drives : List Drive) (s : Session) : Type 0 where
   pub stands : Stands s.vm
+  pub idle : (state_after start (events_of s.vm)).phase ≡ Idle
   pub functions : AreFunctions trees (objects_of s.vm) s.functions
   pub asked : List Question
   pub count : length asked ≡ done_of s.vm
@@ -63,14 +65,19 @@ IsValue (payload.Bool b) = Unit {0}
 IsValue (payload.Int n) = Unit {0}
 IsValue (payload.Str s) = Unit {0}
 IsValue (payload.Tuple vs) = ⊥
+IsValue (payload.Dict ps) = ⊥
 IsValue (payload.Class c) = ⊥
 IsValue (payload.Function f) = ⊥
+IsValue (payload.Manager m) = ⊥
+IsValue (payload.Frame c) = ⊥
+IsValue (payload.Generator g) = ⊥
 IsValue (payload.Exception e) = ⊥
+IsValue (payload.Traceback t) = ⊥
 
 -- objects were added that declare nothing, and no more
 pub record OnlyGrew (old new : Session) : Type 0 where
   pub stands : Stands new.vm
   pub grows : GrowsPlainly (objects_of old.vm) (objects_of new.vm)
   pub events : events_of new.vm ≡ events_of old.vm
-  pub codes : codes_of new.vm ≡ codes_of old.vm
+  pub codes : checked_of new.vm ≡ checked_of old.vm
   pub functions : new.functions ≡ old.functions

@@ -3,6 +3,9 @@ use Rattle.std.specs.Prelude.{ℕ, zero, suc, Option, Some, None, List, [], ◌�
 use Rattle.std.specs.Fmt.{signed_decimal}
 use Rattle.py_objects.specs.declared.payload.Payload.{Payload}
 use Rattle.py_objects.specs.declared.payload.Payload.TheVariants as payload
+use Rattle.py_objects.specs.declared.payload.CoroKind.{CoroKind}
+use Rattle.py_objects.specs.declared.payload.CoroKind.TheVariants as kind
+use Rattle.py_objects.specs.declared.payload.CoroBody.{CoroBody}
 use Rattle.py_objects.specs.declared.request.Request.{Request}
 use Rattle.py_objects.specs.declared.request.Request.TheVariants as request
 use Rattle.py_objects.specs.declared.event.DriveAnswer.{DriveAnswer}
@@ -40,8 +43,8 @@ quoted_by q s = bytes_of (q ∷ (escaped q s ++ q ∷ []))
 abbrev pub quoted : Name → List ℕ
 quoted s = quoted_by (quote_of s) s
 
--- what is shown of objects, with commas between
-abbrev pub joined : (Obj → List ℕ) → List Obj → List ℕ
+-- what is shown of each, with commas between
+abbrev pub joined : {A : Type 0} → (A → List ℕ) → List A → List ℕ
 joined f [] = []
 joined f (v ∷ []) = f v
 joined f (v ∷ w ∷ vs) = f v ++ (codes ", " ++ joined f (w ∷ vs))
@@ -54,9 +57,14 @@ class_name (Some (payload.Bool b)) = []
 class_name (Some (payload.Int n)) = []
 class_name (Some (payload.Str s)) = []
 class_name (Some (payload.Tuple vs)) = []
+class_name (Some (payload.Dict ps)) = []
 class_name (Some (payload.Class c)) = c.name
 class_name (Some (payload.Function f)) = []
+class_name (Some (payload.Manager m)) = []
+class_name (Some (payload.Frame c)) = []
+class_name (Some (payload.Generator g)) = []
 class_name (Some (payload.Exception e)) = []
+class_name (Some (payload.Traceback t)) = []
 
 -- the items of a tuple
 abbrev pub items_of : Option Payload → List Obj
@@ -66,9 +74,14 @@ items_of (Some (payload.Bool b)) = []
 items_of (Some (payload.Int n)) = []
 items_of (Some (payload.Str s)) = []
 items_of (Some (payload.Tuple vs)) = vs
+items_of (Some (payload.Dict ps)) = []
 items_of (Some (payload.Class c)) = []
 items_of (Some (payload.Function f)) = []
+items_of (Some (payload.Manager m)) = []
+items_of (Some (payload.Frame c)) = []
+items_of (Some (payload.Generator g)) = []
 items_of (Some (payload.Exception e)) = []
+items_of (Some (payload.Traceback t)) = []
 
 -- how the objects inside of one are shown, where they are not too deep
 abbrev pub Inner : Type 0
@@ -86,6 +99,26 @@ tuple_of (Some f) [] = codes "()"
 tuple_of (Some f) (v ∷ []) = codes "(" ++ (f v ++ codes ",)")
 tuple_of (Some f) (v ∷ w ∷ vs) = codes "(" ++ (joined f (v ∷ w ∷ vs) ++ codes ")")
 
+-- a pair of a dict
+abbrev pub pair_by : (Obj → List ℕ) → Obj × Obj → List ℕ
+pair_by f p = f p.0 ++ (codes ": " ++ f p.1)
+
+-- a dict: its pairs in order, in braces; three dots where they are too deep
+abbrev pub dict_of : Inner → List (Obj × Obj) → List ℕ
+dict_of None ps = codes "{...}"
+dict_of (Some f) ps = codes "{" ++ (joined (pair_by f) ps ++ codes "}")
+
+-- what stands in front of the name of a suspended activation
+abbrev pub coro_front : CoroKind → List ℕ
+coro_front kind.Generator = codes "<generator object "
+coro_front kind.Coroutine = codes "<coroutine object "
+coro_front kind.AsyncGenerator = codes "<async generator object "
+
+-- a suspended activation: its name, and its number
+abbrev pub coro_of : CoroBody → List ℕ
+coro_of g = coro_front g.kind ++ (bytes_of g.name ++ (codes " at " ++ (decimal g.activation ++ codes ">")))
+
+-- an object by its payload, where it is there; a frame has no more to show
 abbrev pub shown : Inner → List Payload → Option Payload → List ℕ
 shown inner objects None = []
 shown inner objects (Some payload.None) = codes "None"
@@ -94,10 +127,15 @@ shown inner objects (Some (payload.Bool false)) = codes "False"
 shown inner objects (Some (payload.Int n)) = signed_decimal n
 shown inner objects (Some (payload.Str s)) = quoted s
 shown inner objects (Some (payload.Tuple vs)) = tuple_of inner vs
+shown inner objects (Some (payload.Dict ps)) = dict_of inner ps
 shown inner objects (Some (payload.Class c)) = codes "<class '" ++ (bytes_of c.name ++ codes "'>")
 shown inner objects (Some (payload.Function f)) = codes "<function " ++ (bytes_of f.name ++ codes ">")
+shown inner objects (Some (payload.Manager m)) = codes "<manager " ++ (bytes_of m.name ++ codes ">")
+shown inner objects (Some (payload.Frame c)) = codes "<frame object>"
+shown inner objects (Some (payload.Generator g)) = coro_of g
 shown inner objects (Some (payload.Exception e)) =
     bytes_of (class_name (payload_of objects (class_object e.class))) ++ in_parentheses inner (items_of (payload_of objects e.args))
+shown inner objects (Some (payload.Traceback t)) = codes "<traceback>"
 
 -- an object that holds others, at most so deep
 abbrev pub repr_within : ℕ → List Payload → Obj → List ℕ
@@ -122,9 +160,14 @@ str_by f objects v (Some (payload.Bool b)) = repr objects v
 str_by f objects v (Some (payload.Int n)) = repr objects v
 str_by f objects v (Some (payload.Str s)) = bytes_of s
 str_by f objects v (Some (payload.Tuple vs)) = repr objects v
+str_by f objects v (Some (payload.Dict ps)) = repr objects v
 str_by f objects v (Some (payload.Class c)) = repr objects v
 str_by f objects v (Some (payload.Function b)) = repr objects v
+str_by f objects v (Some (payload.Manager m)) = repr objects v
+str_by f objects v (Some (payload.Frame c)) = repr objects v
+str_by f objects v (Some (payload.Generator g)) = repr objects v
 str_by f objects v (Some (payload.Exception e)) = said f objects (items_of (payload_of objects e.args))
+str_by f objects v (Some (payload.Traceback t)) = repr objects v
 
 abbrev pub str_within : ℕ → List Payload → Obj → List ℕ
 str_within zero objects v = repr objects v
@@ -147,10 +190,15 @@ raised objects (Some (payload.Bool b)) = []
 raised objects (Some (payload.Int n)) = []
 raised objects (Some (payload.Str s)) = []
 raised objects (Some (payload.Tuple vs)) = []
+raised objects (Some (payload.Dict ps)) = []
 raised objects (Some (payload.Class c)) = []
 raised objects (Some (payload.Function f)) = []
+raised objects (Some (payload.Manager m)) = []
+raised objects (Some (payload.Frame c)) = []
+raised objects (Some (payload.Generator g)) = []
 raised objects (Some (payload.Exception e)) =
     bytes_of (class_name (payload_of objects (class_object e.class))) ++ details objects (items_of (payload_of objects e.args))
+raised objects (Some (payload.Traceback t)) = []
 
 -- a line of a drive
 abbrev pub numbered : ℕ → List ℕ → List ℕ
@@ -174,14 +222,19 @@ is_none (Some (payload.Bool b)) = false
 is_none (Some (payload.Int n)) = false
 is_none (Some (payload.Str s)) = false
 is_none (Some (payload.Tuple vs)) = false
+is_none (Some (payload.Dict ps)) = false
 is_none (Some (payload.Class c)) = false
 is_none (Some (payload.Function f)) = false
+is_none (Some (payload.Manager m)) = false
+is_none (Some (payload.Frame c)) = false
+is_none (Some (payload.Generator g)) = false
 is_none (Some (payload.Exception e)) = false
+is_none (Some (payload.Traceback t)) = false
 
 -- what is written of a request: a line for a value that is shown, unless it is None
 abbrev pub request_text : List Payload → Request → List ℕ
-request_text objects (request.Binary op a b) = []
 request_text objects (request.Show v) = if is_none (payload_of objects v) then [] else repr objects v ++ codes "\n"
+request_text objects _ = []
 
 -- what is written of an event
 abbrev pub event_text : List Payload → Event → List ℕ

@@ -4,6 +4,7 @@ use Rattle.py_objects.specs.declared.payload.Payload.{Payload}
 use Rattle.py_objects.specs.declared.payload.Payload.TheVariants as payload
 use Rattle.py_objects.specs.declared.payload.ClassBody.{ClassBody}
 use Rattle.py_objects.specs.declared.payload.FunctionBody.{FunctionBody}
+use Rattle.py_objects.specs.declared.payload.ManagerBody.{ManagerBody}
 use Rattle.py_objects.specs.declared.payload.ErrorKind.{ErrorKind}
 use Rattle.py_objects.specs.declared.event.Event.{Event}
 use Rattle.py_objects.specs.Objects.{Obj, HasPayload, declared, name_of, error_kinds, AllFit}
@@ -45,13 +46,15 @@ AreAsked objects ds [] = Unit {0}
 AreAsked objects [] (q ∷ qs) = ⊥
 AreAsked objects (d ∷ ds) (q ∷ qs) = Asks objects d q × AreAsked objects ds qs
 
--- the objects of a script: each name that it declares, and each built-in class, has its entry; no other function or class
--- is there; a function's entry has the place of its body; each entry names objects that are there, of the kinds that it needs
+-- the objects of a script: each name that it declares, and each built-in class, has its entry; no other function or class is
+-- there, and no manager; a function's entry has the place of its body; each entry names objects that are there, of the kinds
+-- that it needs
 pub record AreObjects (trees : List Tree) (objects : List Payload) : Type 0 where
   pub functions : (i : ℕ) (t : Tree) → slice_get trees i ≡ Some t → (f : Obj) × (declared objects t.name ≡ Some f) × HasPayload objects f (payload.Function (record { name = t.name; code = i }))
   pub classes : (i : ℕ) (k : ErrorKind) → slice_get error_kinds i ≡ Some k → (c : Obj) × (declared objects (name_of k) ≡ Some c) × HasPayload objects c (payload.Class (record { name = name_of k }))
   pub only_functions : (f : Obj) (b : FunctionBody) → HasPayload objects f (payload.Function b) → (t : Tree) × (slice_get trees b.code ≡ Some t) × (b.name ≡ t.name)
   pub only_classes : (c : Obj) (b : ClassBody) → HasPayload objects c (payload.Class b) → Contains (map name_of error_kinds) b.name
+  pub no_managers : (m : Obj) (b : ManagerBody) → HasPayload objects m (payload.Manager b) → ⊥
   pub fit : AllFit objects
 
 -- an activation's own events are a trace of the body of its function
@@ -77,8 +80,8 @@ IsWhole s j = IsDone (length (drives_of s)) j.events
 -- the journal's codes are those of the script's bodies, which they fit, and each activation's own events, with their
 -- units, are a run of the rows of its code
 pub record RunsItsCodes (s : Script) (j : Journal) : Type 0 where
-  pub compiled : AreCompiled (trees_of s) j.codes.codes
-  pub tells : EachTells (RowsOf j.codes.codes j.objects) j.events
+  pub compiled : AreCompiled (trees_of s) j.codes
+  pub tells : EachTells (RowsOf j.codes j.objects) j.events
 
 -- the journal where nothing ran
 pub record IsEmpty (j : Journal) : Type 0 where

@@ -1,11 +1,12 @@
 -- A script worked by hand: its journal, and lists of events that look like one and are none.
-use Rattle.std.specs.Prelude.{ℕ, ◌-◌, ◌^◌, None, List, [], ◌∷◌, ℤ, pos, ◌≡◌, codes}
+use Rattle.std.specs.Prelude.{ℕ, ◌-◌, ◌^◌, None, List, [], ◌∷◌, false, ℤ, pos, ◌≡◌, codes}
 use Rattle.py_objects.specs.declared.refs.PyBaseExceptionRef.{PyBaseExceptionRef}
 use Rattle.py_objects.specs.declared.payload.Payload.{Payload}
 use Rattle.py_objects.specs.declared.payload.Payload.TheVariants as payload
+use Rattle.py_objects.specs.declared.payload.ExceptionBody.{ExceptionBody}
 use Rattle.py_objects.specs.declared.payload.ErrorKind.{ErrorKind}
 use Rattle.py_objects.specs.declared.payload.ErrorKind.TheVariants.{NameError, OverflowError, RecursionError, TypeError, UnboundLocalError}
-use Rattle.py_objects.specs.declared.request.Arithmetic.TheVariants.{Add}
+use Rattle.py_code.specs.declared.operator.BinaryOperator.TheVariants as binary
 use Rattle.py_objects.specs.declared.request.Request.TheVariants.{Binary}
 use Rattle.py_objects.specs.declared.event.ResumeHow.TheVariants.{Start}
 use Rattle.py_objects.specs.declared.event.GotAnswer.TheVariants as got
@@ -64,13 +65,14 @@ class_entry kind = payload.Class (record { name = name_of kind })
 abbrev pub function_entry : Name → ℕ → Payload
 function_entry name code = payload.Function (record { name = name; code = code })
 
--- None, the built-in classes, which have the numbers 1 to 5, a function with number 6, and its two arguments, 7 and 8
+-- None, the built-in classes, which have the numbers 1 to 5, the dict of the globals, 6, a function with number 7, and its
+-- two arguments, 8 and 9
 abbrev pub objects_of : Payload → ℤ → ℤ → List Payload → List Payload
 objects_of f m n more =
     payload.None ∷ class_entry NameError ∷ class_entry OverflowError ∷ class_entry RecursionError ∷ class_entry TypeError ∷ class_entry UnboundLocalError
-    ∷ f ∷ payload.Int m ∷ payload.Int n ∷ more
+    ∷ payload.Dict [] ∷ f ∷ payload.Int m ∷ payload.Int n ∷ more
 
--- the objects of the run, where the function has this entry; the sum has number 9
+-- the objects of the run, where the function has this entry; the sum has number 10
 abbrev pub objects_by : Payload → List Payload
 objects_by f = objects_of f (pos 33) (pos 12) (payload.Int (pos 45) ∷ [])
 
@@ -78,13 +80,19 @@ objects_by f = objects_of f (pos 33) (pos 12) (payload.Int (pos 45) ∷ [])
 abbrev pub objects : List Payload
 objects = objects_by (function_entry (codes "f") 0)
 
+-- the same with a manager, which the script doesn't declare
+abbrev pub objects_with_manager : List Payload
+objects_with_manager =
+    objects_of (function_entry (codes "f") 0) (pos 33) (pos 12)
+    (payload.Int (pos 45) ∷ payload.Manager (record { name = codes "m"; enter = object 7; exit = object 7 }) ∷ [])
+
 -- the n-th drive calls the function, whose n-th activation is entered; these events follow
 abbrev pub entered : ℕ → List Event → List Event
-entered n events = event.Drive n ∷ event.Make n (object 6) (object 7 ∷ object 8 ∷ []) ∷ event.Resume n Start ∷ events
+entered n events = event.Drive n ∷ event.Make n (object 7) (object 8 ∷ object 9 ∷ []) ∷ event.Resume n Start ∷ events
 
 -- its body asks for the sum of two objects, at its third unit
 abbrev pub asked : ℕ → Obj → Obj → List Event → List Event
-asked n a b events = event.Ask n (Binary Add a b) None 2 ∷ events
+asked n a b events = event.Ask n (Binary binary.Add a b) None 2 ∷ events
 
 -- it gets a value and returns it, at its sixth unit
 abbrev pub returned : ℕ → Obj → List Event → List Event
@@ -96,31 +104,31 @@ raised n e events = event.Got n (got.Raise e) ∷ event.End n (ending.Raise e) 2
 
 -- a run of the drive, in which this object is the sum
 abbrev pub events_by : Obj → List Event
-events_by v = entered 1 (asked 1 (object 7) (object 8) (returned 1 v []))
+events_by v = entered 1 (asked 1 (object 8) (object 9) (returned 1 v []))
 
 -- the run of the script
 abbrev pub events : List Event
-events = events_by (object 9)
+events = events_by (object 10)
 
 -- the same without its last event
 abbrev pub unfinished : List Event
-unfinished = entered 1 (asked 1 (object 7) (object 8) (event.Got 1 (got.Value (object 9)) ∷ event.End 1 (ending.Return (object 9)) 5 ∷ []))
+unfinished = entered 1 (asked 1 (object 8) (object 9) (event.Got 1 (got.Value (object 10)) ∷ event.End 1 (ending.Return (object 10)) 5 ∷ []))
 
 -- a loop goes round, where the body has none
 abbrev pub with_round : List Event
-with_round = entered 1 (event.Round 1 0 ∷ asked 1 (object 7) (object 8) (returned 1 (object 9) []))
+with_round = entered 1 (event.Round 1 0 ∷ asked 1 (object 8) (object 9) (returned 1 (object 10) []))
 
 -- the result stands where the activation's end is missing
 abbrev pub without_end : List Event
-without_end = entered 1 (asked 1 (object 7) (object 8) (event.Got 1 (got.Value (object 9)) ∷ event.Result 1 (answer.Returns (object 9)) ∷ []))
+without_end = entered 1 (asked 1 (object 8) (object 9) (event.Got 1 (got.Value (object 10)) ∷ event.Result 1 (answer.Returns (object 10)) ∷ []))
 
 -- the body asks for the sum of 12 and 33
 abbrev pub swapped : List Event
-swapped = entered 1 (asked 1 (object 8) (object 7) (returned 1 (object 9) []))
+swapped = entered 1 (asked 1 (object 9) (object 8) (returned 1 (object 10) []))
 
 -- a second drive begins, which the script hasn't
 abbrev pub driven_twice : List Event
-driven_twice = entered 1 (asked 1 (object 7) (object 8) (returned 1 (object 9) (event.Drive 2 ∷ [])))
+driven_twice = entered 1 (asked 1 (object 8) (object 9) (returned 1 (object 10) (event.Drive 2 ∷ [])))
 
 -- the greatest whole number
 abbrev pub greatest : ℤ
@@ -130,13 +138,17 @@ greatest = pos (2 ^ 127 - 1)
 abbrev pub overflowing : Drive
 overflowing = call_of greatest (pos 1)
 
--- the entry of an exception of the class with this number, with the arguments 10
-abbrev pub error_entry : ℕ → Payload
-error_entry class = payload.Exception (record { class = record { number = class }; args = object 10 })
+-- an exception of the class with this number, with the arguments 11 and no links
+abbrev pub error_body : ℕ → ExceptionBody
+error_body class = record { class = record { number = class }; args = object 11; cause = None; context = None; suppress = false; traceback = None; attrs = [] }
 
--- the objects that a raise adds: the text 9, a tuple of it, 10, and an exception of the class with this number, 11
+-- its entry
+abbrev pub error_entry : ℕ → Payload
+error_entry class = payload.Exception (error_body class)
+
+-- the objects that a raise adds: the text 10, a tuple of it, 11, and an exception of the class with this number, 12
 abbrev pub error_objects : ℕ → List Payload → List Payload
-error_objects class more = payload.Str (codes "integer out of range") ∷ payload.Tuple (object 9 ∷ []) ∷ error_entry class ∷ more
+error_objects class more = payload.Str (codes "integer out of range") ∷ payload.Tuple (object 10 ∷ []) ∷ error_entry class ∷ more
 
 -- the objects of a run that raises, where the function has this entry
 abbrev pub raising_by : Payload → ℕ → List Payload → List Payload
@@ -152,7 +164,7 @@ overflow_objects = raising_objects 2 []
 
 -- the n-th drive raises an exception, and these events follow
 abbrev pub raises : ℕ → PyBaseExceptionRef → List Event → List Event
-raises n e events = entered n (asked n (object 7) (object 8) (raised n e events))
+raises n e events = entered n (asked n (object 8) (object 9) (raised n e events))
 
 -- the run in which the drive raises this exception
 abbrev pub overflow_by : PyBaseExceptionRef → List Event

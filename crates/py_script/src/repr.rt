@@ -2,12 +2,12 @@
 
 ghost use Rattle.std.specs.Prelude.{◌≡◌, ◌++◌, Some, OnOk, string_bytes, codes, if◌then◌else◌};
 ghost use Rattle.py_objects.specs.Objects.{class_object};
-ghost use Rattle.py_script.specs.Text.{bytes_of, payload_of, class_name, items_of, joined, in_parentheses, tuple_of, shown, repr_within};
+ghost use Rattle.py_script.specs.Text.{bytes_of, payload_of, class_name, items_of, joined, in_parentheses, tuple_of, pair_by, dict_of, coro_front, coro_of, shown, repr_within};
 ghost use Rattle.py_script.specs.Depths.{inner_at};
 
 use crate::quoted::{push_quoted, push_text};
 use py_code::{NoMemory, PyText};
-use py_objects::{Payload, PayloadList, PyObjectRef, PyTypeRef};
+use py_objects::{CoroBody, CoroKind, Payload, PayloadList, PyObjectRef, PyTypeRef};
 
 /// Puts the representation of an object behind the text. It may hold others so deep; nothing
 /// stands for an object that isn't there.
@@ -41,13 +41,18 @@ fn push_payload(
         Payload::Int(number) => write!(out, "{number}")?,
         Payload::Str(text) => push_quoted(out, text)?,
         Payload::Tuple(items) => push_tuple(out, objects, items.as_slice(), depth)?,
+        Payload::Dict(pairs) => push_dict(out, objects, pairs.as_slice(), depth)?,
         Payload::Class(class) => push_named(out, "<class '", &class.name, "'>")?,
         Payload::Function(function) => push_named(out, "<function ", &function.name, ">")?,
+        Payload::Manager(manager) => push_named(out, "<manager ", &manager.name, ">")?,
+        Payload::Frame(_) => out.push_str("<frame object>")?,
+        Payload::Generator(coro) => push_coro(out, coro)?,
         Payload::Exception(exception) => {
             push_class_name(out, objects, exception.class)?;
             let items = tuple_items(objects, exception.args);
             push_in_parentheses(out, objects, items, depth)?;
         }
+        Payload::Traceback(_) => out.push_str("<traceback>")?,
     }
     Ok(())
 }
@@ -126,6 +131,80 @@ fn push_joined(
     Ok(())
 }
 
+#[cycle(repr)]
+fn push_dict(
+    out: &mut String,
+    objects: &PayloadList,
+    pairs: &[(PyObjectRef, PyObjectRef)],
+    depth: u32,
+) -> Result<(), NoMemory>
+    ensures { OnOk result (string_bytes out.new ≡ string_bytes out.old ++ dict_of (inner_at depth objects.now) pairs.now) }
+{
+    if depth == 0 {
+        out.push_str("{...}")?;
+        return Ok(());
+    }
+    out.push_str("{")?;
+    push_pairs(out, objects, pairs, depth - 1)?;
+    out.push_str("}")?;
+    Ok(())
+}
+
+#[cycle(repr)]
+fn push_pairs(
+    out: &mut String,
+    objects: &PayloadList,
+    pairs: &[(PyObjectRef, PyObjectRef)],
+    depth: u32,
+) -> Result<(), NoMemory>
+    ensures { OnOk result (string_bytes out.new ≡ string_bytes out.old ++ joined (pair_by (repr_within depth objects.now)) pairs.now) }
+{
+    let Some((first, rest)) = pairs.split_first() else {
+        return Ok(());
+    };
+    push_pair(out, objects, *first, depth)?;
+    for pair in rest {
+        out.push_str(", ")?;
+        push_pair(out, objects, *pair, depth)?;
+    }
+    Ok(())
+}
+
+#[cycle(repr)]
+fn push_pair(
+    out: &mut String,
+    objects: &PayloadList,
+    pair: (PyObjectRef, PyObjectRef),
+    depth: u32,
+) -> Result<(), NoMemory>
+    ensures { OnOk result (string_bytes out.new ≡ string_bytes out.old ++ pair_by (repr_within depth objects.now) pair) }
+{
+    let (key, value) = pair;
+    push_repr(out, objects, key, depth)?;
+    out.push_str(": ")?;
+    push_repr(out, objects, value, depth)?;
+    Ok(())
+}
+
+/// What stands in front of the name of a suspended activation.
+fn coro_front(kind: CoroKind) -> &'static str
+    ensures { result.now ≡ coro_front kind }
+{
+    match kind {
+        CoroKind::Generator => "<generator object ",
+        CoroKind::Coroutine => "<coroutine object ",
+        CoroKind::AsyncGenerator => "<async generator object ",
+    }
+}
+
+fn push_coro(out: &mut String, coro: &CoroBody) -> Result<(), NoMemory>
+    ensures { OnOk result (string_bytes out.new ≡ string_bytes out.old ++ coro_of coro.now) }
+{
+    push_named(out, coro_front(coro.kind), &coro.name, " at ")?;
+    write!(out, "{}>", coro.activation)?;
+    Ok(())
+}
+
 fn push_bool(out: &mut String, value: bool) -> Result<(), NoMemory>
     ensures { OnOk result (string_bytes out.new ≡ string_bytes out.old ++ (if value then codes "True" else codes "False")) }
 {
@@ -160,8 +239,13 @@ pub(crate) fn push_class_name(
         | Payload::Int(_)
         | Payload::Str(_)
         | Payload::Tuple(_)
+        | Payload::Dict(_)
         | Payload::Function(_)
-        | Payload::Exception(_) => Ok(()),
+        | Payload::Manager(_)
+        | Payload::Frame(_)
+        | Payload::Generator(_)
+        | Payload::Exception(_)
+        | Payload::Traceback(_) => Ok(()),
     }
 }
 
@@ -178,8 +262,13 @@ pub(crate) fn tuple_items(objects: &PayloadList, object: PyObjectRef) -> &[PyObj
         | Payload::Bool(_)
         | Payload::Int(_)
         | Payload::Str(_)
+        | Payload::Dict(_)
         | Payload::Class(_)
         | Payload::Function(_)
-        | Payload::Exception(_) => &[],
+        | Payload::Manager(_)
+        | Payload::Frame(_)
+        | Payload::Generator(_)
+        | Payload::Exception(_)
+        | Payload::Traceback(_) => &[],
     }
 }

@@ -4,20 +4,22 @@ ghost use Rattle.std.specs.Prelude.{◌≡◌, ◌≤◌, ◌<◌, ◌+◌, ◌+
 ghost use Rattle.py_objects.specs.Objects.{HasPayload, numbers, AllBelow};
 ghost use Rattle.py_body.specs.Binding.{IsClosed};
 ghost use Rattle.py_body.specs.Fits.{Fits};
+ghost use Rattle.py_body.specs.Naming.{Continues};
 ghost use Rattle.py_grammar.specs.Script.{declared_tree, drive_of, trees_of, drives_of};
 ghost use Rattle.py_grammar.specs.WellFormed.{IsLiteral, IsWellDriven};
-ghost use Rattle.py_vm.specs.Machine.{events_of, objects_of, codes_of, done_of};
+ghost use Rattle.py_vm.specs.Machine.{events_of, objects_of, checked_of, done_of};
 ghost use Rattle.py_vm.specs.Run.{IsDone};
 ghost use Rattle.py_vm.specs.Stands.{Stands};
 ghost use Rattle.py_vm.specs.declared.fault.VmFault.TheVariants.{OutOfTurns};
 ghost use Rattle.py_script.specs.Whole.{IsOf, AreOf};
-ghost use Rattle.py_script.specs.Loaded.{AreCompiled, function_entries};
+ghost use Rattle.py_script.specs.Loaded.{AreChecked, function_entries};
 ghost use Rattle.py_script.specs.Steps.{AllClosed, IsRunnable, HasRun};
 ghost use Rattle.py_script.specs.Session.{refs_from, IsLoaded, IsInRun, IsNamedAt, IsReady, IsValue, OnlyGrew};
 
 use crate::read::empty_journal;
 use py_body::{Atom, AtomList, compile_body};
-use py_code::{Names, NoMemory, PyCode, PyText, same_text};
+use py_check::CheckedCode;
+use py_code::{Names, NoMemory, PyText, same_text};
 use py_grammar::{Declaration, DriveLine, Script};
 use py_objects::{FunctionBody, ObjList, Payload, PyObjectRef};
 use py_vm::{Drive, Journal, VirtualMachine, VmFault};
@@ -31,28 +33,30 @@ pub(crate) struct Session {
     pub(crate) functions: ObjList,
 }
 
-/// The code of a declaration.
+/// The code of a declaration, whose names go into the table.
 fn compile_one(
     alloc: Global,
     names: &mut Names,
     declaration: &Declaration,
-) -> Result<PyCode, NoMemory>
+) -> Result<CheckedCode, NoMemory>
     requires { IsClosed (declared_tree declaration.now) }
-    ensures { IfOk result (λ code. Fits code (declared_tree declaration.now)) }
+    ensures fits { IfOk result (λ code. Fits names.new code (declared_tree declaration.now)) }
+    ensures grows { Continues names.old names.new }
 {
-    match declaration {
-        Declaration::Function(body) => compile_body(alloc, names, body),
-    }
+    let code = match declaration {
+        Declaration::Function(body) => compile_body(alloc, names, body)?,
+    };
+    Ok(CheckedCode::of(code))
 }
 
-/// The codes of the declarations, in order.
+/// The codes of the declarations, in order, whose names go into one table.
 fn compile_all(
     alloc: Global,
     names: &mut Names,
     declarations: &[Declaration],
-) -> Result<Vec<PyCode>, NoMemory>
+) -> Result<Vec<CheckedCode>, NoMemory>
     requires { AllClosed (map declared_tree declarations.now) }
-    ensures { IfOk result (λ codes. AreCompiled (map declared_tree declarations.now) codes.items) }
+    ensures { IfOk result (λ codes. AreChecked (map declared_tree declarations.now) (record { names = names.new; codes = codes.items })) }
 {
     let mut codes = Vec::new(alloc);
     for declaration in declarations {
@@ -63,9 +67,9 @@ fn compile_all(
 }
 
 /// Puts the codes behind those of the machine.
-fn add_codes(vm: &mut VirtualMachine, codes: Vec<PyCode>) -> Result<(), NoMemory>
+fn add_codes(vm: &mut VirtualMachine, codes: Vec<CheckedCode>) -> Result<(), NoMemory>
     requires { Stands vm.old }
-    ensures codes { OnOk result ((codes_of vm.new).codes ≡ (codes_of vm.old).codes ++ codes.items) }
+    ensures codes { OnOk result (checked_of vm.new ≡ record (checked_of vm.old) { codes = (checked_of vm.old).codes ++ codes.items }) }
     ensures events { events_of vm.new ≡ events_of vm.old }
     ensures objects { objects_of vm.new ≡ objects_of vm.old }
     ensures stands { Stands vm.new }
@@ -101,7 +105,7 @@ fn add_functions(
     requires { Stands vm.old }
     ensures functions { IfOk result (λ functions. functions ≡ refs_from (length (objects_of vm.old)) (length declarations.now)) }
     ensures objects { OnOk result (objects_of vm.new ≡ objects_of vm.old ++ function_entries 0 (map declared_tree declarations.now)) }
-    ensures codes { codes_of vm.new ≡ codes_of vm.old }
+    ensures codes { checked_of vm.new ≡ checked_of vm.old }
     ensures events { events_of vm.new ≡ events_of vm.old }
     ensures stands { Stands vm.new }
 {

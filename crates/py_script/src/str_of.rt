@@ -52,8 +52,13 @@ pub(crate) fn push_str(
         | Payload::Bool(_)
         | Payload::Int(_)
         | Payload::Tuple(_)
+        | Payload::Dict(_)
         | Payload::Class(_)
-        | Payload::Function(_) => push_whole_repr(out, objects, object),
+        | Payload::Function(_)
+        | Payload::Manager(_)
+        | Payload::Frame(_)
+        | Payload::Generator(_)
+        | Payload::Traceback(_) => push_whole_repr(out, objects, object),
     }
 }
 

@@ -7,8 +7,9 @@ use crate::notes::write_note;
 use crate::*;
 use py_code::{CodeList, Names, NoMemory, PyText, text_of};
 use py_objects::{
-    ChangeList, ClassBody, DriveAnswer, Event, EventList, ExceptionBody, FunctionBody, ObjList,
-    Payload, PayloadList, PyBaseExceptionRef, PyObjectRef, PyTypeRef,
+    AttrMap, ChangeList, ClassBody, CoroBody, CoroKind, DriveAnswer, Event, EventList,
+    ExceptionBody, FrameRef, FunctionBody, ManagerBody, ObjList, PairList, Payload, PayloadList,
+    PyBaseExceptionRef, PyObjectRef, PyTypeRef, TracebackBody,
 };
 use std::alloc::Global;
 use std::test::Fail;
@@ -29,12 +30,56 @@ fn tuple(alloc: Global, numbers: &[u64]) -> Result<Payload, NoMemory> {
     Ok(Payload::Tuple(items))
 }
 
+fn dict(alloc: Global, numbers: &[(u64, u64)]) -> Result<Payload, NoMemory> {
+    let mut pairs = PairList::new(alloc);
+    for (key, value) in numbers {
+        pairs.push((object(*key), object(*value)))?;
+    }
+    Ok(Payload::Dict(pairs))
+}
+
 // An exception of the class that stands at 12.
-fn exception(args: u64) -> Payload {
+fn exception(alloc: Global, args: u64) -> Payload {
     Payload::Exception(ExceptionBody {
         class: PyTypeRef { number: 12 },
         args: object(args),
+        cause: None,
+        context: None,
+        suppress: false,
+        traceback: None,
+        attrs: AttrMap::new(alloc),
     })
+}
+
+fn coro(alloc: Global, kind: CoroKind, name: &[u8], activation: u64) -> Result<Payload, NoMemory> {
+    Ok(Payload::Generator(CoroBody {
+        activation,
+        name: text_of(alloc, name)?,
+        kind,
+    }))
+}
+
+// Objects of the kinds that no script of this stage makes, behind those that it may make.
+fn push_later_kinds(alloc: Global, objects: &mut PayloadList) -> Result<(), NoMemory> {
+    objects.push(Payload::Manager(ManagerBody {
+        name: text_of(alloc, b"M")?,
+        enter: object(13),
+        exit: object(13),
+    }))?;
+    objects.push(Payload::Frame(0))?;
+    objects.push(Payload::Traceback(TracebackBody {
+        next: None,
+        frame: FrameRef { number: 23 },
+        lasti: 2,
+        lineno: 1,
+    }))?;
+    objects.push(coro(alloc, CoroKind::Generator, b"g", 12)?)?;
+    objects.push(coro(alloc, CoroKind::Coroutine, b"f", 1)?)?;
+    objects.push(coro(alloc, CoroKind::AsyncGenerator, b"ticks", 3)?)?;
+    objects.push(dict(alloc, &[])?)?;
+    objects.push(dict(alloc, &[(5, 3), (3, 10)])?)?;
+    objects.push(tuple(alloc, &[29, 28])?)?;
+    Ok(())
 }
 
 // Objects by number, from 0.
@@ -59,14 +104,15 @@ fn some_objects(alloc: Global) -> Result<PayloadList, NoMemory> {
         name: text_of(alloc, b"main")?,
         code: 0,
     }))?;
-    objects.push(exception(9))?;
+    objects.push(exception(alloc, 9))?;
     objects.push(tuple(alloc, &[6])?)?;
-    objects.push(exception(15))?;
+    objects.push(exception(alloc, 15))?;
     objects.push(tuple(alloc, &[16])?)?;
-    objects.push(exception(17))?;
-    objects.push(exception(11))?;
+    objects.push(exception(alloc, 17))?;
+    objects.push(exception(alloc, 11))?;
     objects.push(text(alloc, b"say \"ni\"")?)?;
     objects.push(Payload::Int(-170_141_183_460_469_231_731_687_303_715_884_105_728))?;
+    push_later_kinds(alloc, &mut objects)?;
     Ok(objects)
 }
 
@@ -90,7 +136,7 @@ fn journal(alloc: Global, answers: Vec<DriveAnswer>) -> Result<Journal, NoMemory
 #[test]
 fn an_object_is_shown_as_python_shows_it(rt: HostRuntime) -> Result<(), Fail> {
     let alloc = rt.alloc();
-    let rows: [(u64, &str); 21] = [
+    let rows: [(u64, &str); 30] = [
         (0, "None"),
         (1, "True"),
         (2, "False"),
@@ -111,6 +157,15 @@ fn an_object_is_shown_as_python_shows_it(rt: HostRuntime) -> Result<(), Fail> {
         (19, "ValueError(-7, (42,), 'spam')"),
         (20, "'say \"ni\"'"),
         (21, "-170141183460469231731687303715884105728"),
+        (22, "<manager M>"),
+        (23, "<frame object>"),
+        (24, "<traceback>"),
+        (25, "<generator object g at 12>"),
+        (26, "<coroutine object f at 1>"),
+        (27, "<async generator object ticks at 3>"),
+        (28, "{}"),
+        (29, "{'spam': 42, 42: (42,)}"),
+        (30, "({'spam': 42, 42: (42,)}, {})"),
         (99, ""),
     ];
     for (number, shown) in rows {

@@ -32,7 +32,7 @@ fn push_event(out: &mut String, objects: &PayloadList, event: &Event) -> Result<
 {
     match event {
         Event::Result { drive, answer } => push_result(out, objects, *drive, answer),
-        Event::Ask { request, .. } => push_request(out, objects, *request),
+        Event::Ask { request, .. } => push_request(out, objects, request),
         Event::Drive { .. }
         | Event::Make { .. }
         | Event::Resume { .. }
@@ -43,12 +43,12 @@ fn push_event(out: &mut String, objects: &PayloadList, event: &Event) -> Result<
     }
 }
 
-fn push_request(out: &mut String, objects: &PayloadList, request: Request) -> Result<(), NoMemory>
-    ensures { OnOk result (string_bytes out.new ≡ string_bytes out.old ++ request_text objects.now request) }
+fn push_request(out: &mut String, objects: &PayloadList, request: &Request) -> Result<(), NoMemory>
+    ensures { OnOk result (string_bytes out.new ≡ string_bytes out.old ++ request_text objects.now request.now) }
 {
     match request {
-        Request::Binary(_, _, _) => Ok(()),
-        Request::Show(value) => push_shown(out, objects, value),
+        Request::Show(value) => push_shown(out, objects, *value),
+        _ => Ok(()),
     }
 }
 
@@ -139,8 +139,13 @@ fn push_exception(
         | Payload::Int(_)
         | Payload::Str(_)
         | Payload::Tuple(_)
+        | Payload::Dict(_)
         | Payload::Class(_)
-        | Payload::Function(_) => Ok(()),
+        | Payload::Function(_)
+        | Payload::Manager(_)
+        | Payload::Frame(_)
+        | Payload::Generator(_)
+        | Payload::Traceback(_) => Ok(()),
     }
 }
 

@@ -8,7 +8,7 @@ ghost use Rattle.py_vm.specs.Answers.{in_range};
 ghost use Rattle.py_vm.specs.Run.{IsDone};
 ghost use Rattle.py_script.specs.Whole.{IsRunOf};
 ghost use Rattle.py_script.specs.Text.{events_text};
-ghost use Rattle.py_script.specs.Worked.{script, trees, drives, object, exception, function_entry, objects_by, objects, events_by, events, unfinished, with_round, without_end, swapped, driven_twice, overflowing, error_entry, raising_objects, overflow_objects, raises, overflow_by, Writes};
+ghost use Rattle.py_script.specs.Worked.{script, trees, drives, object, exception, function_entry, objects_by, objects, objects_with_manager, events_by, events, unfinished, with_round, without_end, swapped, driven_twice, overflowing, error_entry, raising_objects, overflow_objects, raises, overflow_by, Writes};
 
 /// The journal of `call f 33 12` is a whole run of its script, and so is that of a sum out of range. What differs from
 /// them in one thing is none, and no whole run of such a call writes another text.
@@ -29,18 +29,19 @@ pub fn worked_journals()
     ensures no_result_without_an_end { IsRunOf trees drives objects without_end → ⊥ }
     ensures no_swapped_operands { IsRunOf trees drives objects swapped → ⊥ }
     ensures no_drive_beyond_the_script { IsRunOf trees drives objects driven_twice → ⊥ }
-    ensures no_wrong_sum { IsRunOf trees drives objects (events_by (object 7)) → ⊥ }
-    ensures no_object_that_is_not_there { IsRunOf trees drives objects (events_by (object 10)) → ⊥ }
-    // Another function than the script's.
+    ensures no_wrong_sum { IsRunOf trees drives objects (events_by (object 8)) → ⊥ }
+    ensures no_object_that_is_not_there { IsRunOf trees drives objects (events_by (object 11)) → ⊥ }
+    // Another function than the script's, or a manager.
     ensures no_other_code { IsRunOf trees drives (objects_by (function_entry (codes "f") 1)) events → ⊥ }
     ensures no_other_name { IsRunOf trees drives (objects_by (function_entry (codes "g") 0)) events → ⊥ }
+    ensures no_manager { IsRunOf trees drives objects_with_manager events → ⊥ }
     // A sum out of range raises a new OverflowError.
-    ensures overflow_is_run { IsRunOf trees (overflowing ∷ []) overflow_objects (overflow_by (exception 11)) }
-    ensures overflow_is_whole { IsDone 1 (overflow_by (exception 11)) }
-    ensures overflow_text { events_text overflow_objects (overflow_by (exception 11)) ≡ codes "1 raises OverflowError: integer out of range\n" }
-    ensures no_other_error { IsRunOf trees (overflowing ∷ []) (raising_objects 4 []) (overflow_by (exception 11)) → ⊥ }
-    ensures no_object_as_error { IsRunOf trees (overflowing ∷ []) overflow_objects (overflow_by (exception 7)) → ⊥ }
+    ensures overflow_is_run { IsRunOf trees (overflowing ∷ []) overflow_objects (overflow_by (exception 12)) }
+    ensures overflow_is_whole { IsDone 1 (overflow_by (exception 12)) }
+    ensures overflow_text { events_text overflow_objects (overflow_by (exception 12)) ≡ codes "1 raises OverflowError: integer out of range\n" }
+    ensures no_other_error { IsRunOf trees (overflowing ∷ []) (raising_objects 4 []) (overflow_by (exception 12)) → ⊥ }
+    ensures no_object_as_error { IsRunOf trees (overflowing ∷ []) overflow_objects (overflow_by (exception 8)) → ⊥ }
     // Two drives raise two exceptions, and never the same one.
-    ensures errors_are_run { IsRunOf trees (overflowing ∷ overflowing ∷ []) (raising_objects 2 (error_entry 2 ∷ [])) (raises 1 (exception 11) (raises 2 (exception 12) [])) }
-    ensures no_error_twice { IsRunOf trees (overflowing ∷ overflowing ∷ []) (raising_objects 2 (error_entry 2 ∷ [])) (raises 1 (exception 11) (raises 2 (exception 11) [])) → ⊥ }
+    ensures errors_are_run { IsRunOf trees (overflowing ∷ overflowing ∷ []) (raising_objects 2 (error_entry 2 ∷ [])) (raises 1 (exception 12) (raises 2 (exception 13) [])) }
+    ensures no_error_twice { IsRunOf trees (overflowing ∷ overflowing ∷ []) (raising_objects 2 (error_entry 2 ∷ [])) (raises 1 (exception 12) (raises 2 (exception 12) [])) → ⊥ }
 {}

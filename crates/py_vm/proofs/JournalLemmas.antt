@@ -2,7 +2,7 @@
 use Rattle.std.proofs.Common.{◌≡◌, ◌<◌, ◌≤◌, ◌++◌, ℕ, zero, suc, List, [], ◌∷◌, Some, inl, inr, sym, ap, subst, ◌∙◌, length, ne_eqb, arith}
 use Rattle.std.specs.Prelude.{slice_get}
 use Rattle.std.proofs.lemmas.Bool.Decides.{eqb_tells}
-use Rattle.py_code.specs.declared.code.PyCode.{PyCode}
+use Rattle.py_code.specs.Codes.{Codes}
 use Rattle.py_objects.specs.declared.payload.Payload.{Payload}
 use Rattle.py_objects.specs.declared.event.Event.{Event}
 use Rattle.py_objects.specs.Objects.{Grows, event_numbers, AllBelow, AllFit, AreNamed}
@@ -41,7 +41,7 @@ pub later_on : (made : ℕ) (events : List Event) (e : Event) → whose e ≤ ma
 later_on made events e low later b past = own_events_other b events e (ne_eqb b (whose e) (λ same. omega (arith, same, low, past))) ∙ later b past
 
 -- each activation tells what it may, where the one whose event came does, and the others were made before
-pub tells_on : (codes : List PyCode) (objects objects' : List Payload) (events : List Event) (e : Event) → Grows objects objects'
+pub tells_on : (codes : Codes) (objects objects' : List Payload) (events : List Event) (e : Event) → Grows objects objects'
     → ((i : ℕ) (a : Activation) → (suc i ≡ whose e → ⊥) → slice_get (state_after start (events ++ e ∷ [])).made i ≡ Some a → slice_get (state_after start events).made i ≡ Some a)
     → ((i : ℕ) (a : Activation) → suc i ≡ whose e → slice_get (state_after start (events ++ e ∷ [])).made i ≡ Some a → RowsOf codes objects' a.function a.args (own_events (suc i) (events ++ e ∷ [])))
     → EachTells (RowsOf codes objects) events → EachTells (RowsOf codes objects') (events ++ e ∷ [])
@@ -53,7 +53,7 @@ tells_on codes objects objects' events e grows back here tells = λ i a made.
     ]
 
 -- the activation whose event came is the one that plays
-pub mine_tells : (codes : List PyCode) (objects : List Payload) (events : List Event) (r : Running) (at : ℕ) (activation : Activation)
+pub mine_tells : (codes : Codes) (objects : List Payload) (events : List Event) (r : Running) (at : ℕ) (activation : Activation)
     → r.act ≡ suc at → slice_get (state_after start events).made at ≡ Some activation → RowsOf codes objects activation.function activation.args (own_events r.act events)
     → (i : ℕ) (a : Activation) → suc i ≡ r.act → slice_get (state_after start events).made i ≡ Some a → RowsOf codes objects a.function a.args (own_events (suc i) events)
 mine_tells codes objects events r at activation numbered is_made tells i a mine made =

@@ -4,7 +4,8 @@ pub mod RunLemmas
 pub mod OwnLemmas
 -- what activations tell as objects and codes grow
 pub mod RowsOfLemmas
--- new objects that give replies
+-- stores that grew, and new objects that give replies
+mod GrownLemmas
 pub mod ReplyingLemmas
 -- replies by cases on the operands
 mod AnswersLemmas
@@ -15,5 +16,3 @@ mod JournalLemmas
 mod TurnsLemmas
 -- machines between drives, and what a drive adds
 pub mod StandsLemmas
--- codes without jumps, by which drives are tested
-mod StraightCodes

@@ -48,9 +48,14 @@ type_name_grows objects objects' (payload.Bool b) n grows is = is
 type_name_grows objects objects' (payload.Int i) n grows is = is
 type_name_grows objects objects' (payload.Str s) n grows is = is
 type_name_grows objects objects' (payload.Tuple vs) n grows is = is
+type_name_grows objects objects' (payload.Dict ps) n grows is = is
 type_name_grows objects objects' (payload.Class c) n grows is = is
 type_name_grows objects objects' (payload.Function f) n grows is = is
+type_name_grows objects objects' (payload.Manager m) n grows is = is
+type_name_grows objects objects' (payload.Frame c) n grows is = is
+type_name_grows objects objects' (payload.Generator g) n grows is = is
 type_name_grows objects objects' (payload.Exception e) n grows (c, has, is) = (c, payload_grown objects objects' _ _ grows has, is)
+type_name_grows objects objects' (payload.Traceback t) n grows is = is
 
 -- so do replies
 pub replies_grow : (objects objects' : List Payload) (r : Request) (reply : Reply) → Grows objects objects' → Replies objects r reply → Replies objects' r reply
@@ -66,6 +71,8 @@ replies_grow objects objects' (request.Binary op a b) reply grows (p, q, left, r
   is,
 )
 replies_grow objects objects' (request.Show v) reply grows is = is
+replies_grow objects objects' (request.Unbound x) reply grows is = is
+replies_grow objects objects' _ reply grows is = absurd is
 
 pub raised_grows : (objects objects' : List Payload) (before : List Event) (kind : ErrorKind) (text : Name) (e : PyBaseExceptionRef)
     → GrowsPlainly objects objects' → IsRaised objects before kind text e → IsRaised objects' before kind text e

@@ -1,5 +1,5 @@
 -- The built-in exception classes among the objects.
-use Rattle.std.specs.Prelude.{Some, List, ◌∷◌, ◌≡◌, map}
+use Rattle.std.specs.Prelude.{Some, List, [], ◌∷◌, ◌++◌, ◌≡◌, map}
 use Rattle.py_objects.specs.declared.refs.PyTypeRef.{PyTypeRef}
 use Rattle.py_objects.specs.declared.payload.Payload.{Payload}
 use Rattle.py_objects.specs.declared.payload.Payload.TheVariants as payload
@@ -20,9 +20,9 @@ class_of zoo UnboundLocalError = zoo.unbound_local_error
 abbrev pub class_payload : ErrorKind → Payload
 class_payload kind = payload.Class (record { name = name_of kind })
 
--- what a machine begins with: None, and the built-in exception classes
+-- what a machine begins with: None, the built-in exception classes, and the dict of the globals, which is empty
 abbrev pub first_objects : List Payload
-first_objects = payload.None ∷ map class_payload error_kinds
+first_objects = payload.None ∷ (map class_payload error_kinds ++ payload.Dict [] ∷ [])
 
 -- where the classes stand among those
 abbrev pub first_classes : ExceptionZoo

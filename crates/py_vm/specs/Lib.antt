@@ -6,6 +6,8 @@ pub mod Run
 pub mod RowsOf
 -- the built-in classes among the objects
 pub mod Classes
+-- the codes of a machine
+pub mod Codes
 -- a machine as callers see it, what it keeps between drives, and what a drive adds
 pub mod Machine
 pub mod Stands

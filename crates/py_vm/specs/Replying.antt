@@ -7,11 +7,11 @@ use Rattle.py_objects.specs.declared.payload.Payload.{Payload}
 use Rattle.py_objects.specs.declared.payload.Payload.TheVariants as payload
 use Rattle.py_objects.specs.declared.payload.ClassBody.{ClassBody}
 use Rattle.py_objects.specs.declared.payload.ExceptionBody.{ExceptionBody}
-use Rattle.py_objects.specs.declared.request.Arithmetic.{Arithmetic}
+use Rattle.py_code.specs.declared.operator.BinaryOperator.{BinaryOperator}
 use Rattle.py_objects.specs.Objects.{Obj, Name, HasPayload, as_object, class_object, declared}
 use Rattle.py_vm.specs.declared.answer.Reply.{Reply as MadeReply}
 use Rattle.py_vm.specs.declared.answer.Reply.TheVariants as made
-use Rattle.py_vm.specs.Answers.{Reply, Has, Fails, IsTypeName, binary, not_supported}
+use Rattle.py_vm.specs.Answers.{Reply, Has, Fails, IsTypeName, operated, sum, not_supported}
 
 -- the reply that a made one is
 abbrev pub reply_of : MadeReply → Reply
@@ -37,12 +37,17 @@ joined (Some s) (Some t) = Some (s ++ t)
 abbrev pub IsClass : List Payload → PyTypeRef → Type 0
 IsClass objects class = (c : ClassBody) × HasPayload objects (class_object class) (payload.Class c) × (declared objects c.name ≡ Some (class_object class))
 
--- the reply of an operator at two payloads, whatever their types are called
-abbrev pub IsBinary : List Payload → Arithmetic → Payload → Payload → Reply → Type 0
-IsBinary objects op p q reply = (left : Name) × (right : Name) × IsTypeName objects p left × IsTypeName objects q right × (reply ≡ binary op p q left right)
+-- the sum of two payloads, whatever their types are called
+abbrev pub IsSum : List Payload → Payload → Payload → Reply → Type 0
+IsSum objects p q reply = (left : Name) × (right : Name) × IsTypeName objects p left × IsTypeName objects q right × (reply ≡ sum p q left right)
+
+-- the reply of an operator at two payloads
+abbrev pub IsOperated : List Payload → BinaryOperator → Payload → Payload → Reply → Type 0
+IsOperated objects op p q reply =
+    (left : Name) × (right : Name) × IsTypeName objects p left × IsTypeName objects q right × (operated op p q left right ≡ Some reply)
 
 -- the refusal of an operator
-abbrev pub IsRefused : List Payload → Arithmetic → Payload → Payload → Reply → Type 0
+abbrev pub IsRefused : List Payload → BinaryOperator → Payload → Payload → Reply → Type 0
 IsRefused objects op p q reply = (left : Name) × (right : Name) × IsTypeName objects p left × IsTypeName objects q right × (reply ≡ not_supported op left right)
 
 -- an exception of a class, with a text, that is none of the old objects

@@ -1,27 +1,30 @@
 -- What each turn changes, by the stage.
 use Rattle.std.specs.Prelude.{ℕ, ◌-◌, ◌+◌, ◌≤◌, Option, Some, None, List, [], ◌∷◌, ◌++◌, ◌≡◌, slice_get, length}
-use Rattle.py_code.specs.declared.code.PyCode.{PyCode}
 use Rattle.py_objects.specs.declared.payload.Payload.{Payload}
 use Rattle.py_objects.specs.declared.payload.Payload.TheVariants as payload
 use Rattle.py_objects.specs.declared.payload.FunctionBody.{FunctionBody}
+use Rattle.py_objects.specs.declared.refs.PyBaseExceptionRef.{PyBaseExceptionRef}
 use Rattle.py_objects.specs.declared.request.Request.{Request}
 use Rattle.py_objects.specs.declared.event.Event.{Event}
 use Rattle.py_objects.specs.declared.event.Event.TheVariants as event
 use Rattle.py_objects.specs.declared.event.ResumeHow.TheVariants as how
-use Rattle.py_objects.specs.declared.event.GotAnswer.{GotAnswer}
-use Rattle.py_objects.specs.declared.event.GotAnswer.TheVariants as got
 use Rattle.py_objects.specs.declared.event.Ending.{Ending}
 use Rattle.py_objects.specs.declared.event.Ending.TheVariants as ending
 use Rattle.py_objects.specs.declared.event.DriveAnswer.{DriveAnswer}
 use Rattle.py_objects.specs.declared.event.DriveAnswer.TheVariants as answer
-use Rattle.py_objects.specs.Objects.{Obj, HasPayload, request_numbers, got_numbers, AllBelow, AllFit, AreNamed, GrowsPlainly}
+use Rattle.py_objects.specs.Objects.{Obj, HasPayload, got_numbers, AllBelow, AllFit, AreNamed, GrowsPlainly}
+use Rattle.py_objects.specs.Edits.{Kept}
+use Rattle.py_objects.specs.Scopes.{scope_of}
+use Rattle.py_check.specs.declared.annotated.Annotated.{Annotated}
 use Rattle.py_frame.specs.declared.input.Input.{Input}
 use Rattle.py_frame.specs.declared.input.Input.TheVariants as input
+use Rattle.py_frame.specs.declared.input.Answer.{Answer}
+use Rattle.py_frame.specs.declared.input.Answer.TheVariants as given
 use Rattle.py_frame.specs.declared.input.FrameStep.{FrameStep}
 use Rattle.py_frame.specs.declared.input.FrameStep.TheVariants as step
-use Rattle.py_frame.specs.Rows.{State}
-use Rattle.py_frame.specs.RunOfRows.{started, IsRunning}
-use Rattle.py_frame.specs.Steps.{Expects, Extends, expected}
+use Rattle.py_frame.specs.RunOfRows.{started}
+use Rattle.py_frame.specs.Fitting.{Framed, IsRunning}
+use Rattle.py_frame.specs.Steps.{AsksKnown, Expects, Extends, IfTold, expected, got_of}
 use Rattle.py_vm.specs.declared.drive.Drive.{Drive}
 use Rattle.py_vm.specs.declared.drive.Drive.TheVariants.{Call}
 use Rattle.py_vm.specs.declared.stage.Running.{Running}
@@ -29,23 +32,32 @@ use Rattle.py_vm.specs.declared.stage.Stage.{Stage}
 use Rattle.py_vm.specs.declared.stage.Stage.TheVariants as stage
 use Rattle.py_vm.specs.declared.vm.VirtualMachine.{VirtualMachine}
 use Rattle.py_vm.specs.Answers.{Reply, Replies, Gives}
+use Rattle.py_vm.specs.Codes.{Checked}
 use Rattle.py_vm.specs.Run.{start, state_after, MayCome, Comes}
 use Rattle.py_vm.specs.Classes.{HaveClasses}
 use Rattle.py_vm.specs.Machine.{done_of}
-use Rattle.py_vm.specs.Stands.{CanCall, Keeps}
+use Rattle.py_vm.specs.Stands.{CanCall, IsQuestion, Keeps}
 
 -- the drive is told
 abbrev pub begun_by : VirtualMachine → Obj → List Obj → VirtualMachine
 begun_by m f vs = record m { events = m.events ++ event.Drive (m.done + 1) ∷ []; stage = stage.Asking f vs }
 
 -- an activation that hasn't begun
-abbrev pub fresh : ℕ → ℕ → PyCode → List Obj → Running
-fresh act place code vs = record { act = act; code = place; frame = started code vs }
+abbrev pub fresh : VirtualMachine → ℕ → ℕ → Annotated → List Obj → Running
+fresh m act place code vs = record {
+  act = act;
+  frame = record {
+    state = started (record { code = code.code; names = m.codes.names }) vs;
+    room = code.code.code.max_stackdepth;
+    code = place;
+    scope = scope_of None m.globals;
+  };
+}
 
 -- an activation of the function is made
-abbrev pub made_by : VirtualMachine → Obj → List Obj → ℕ → PyCode → VirtualMachine
+abbrev pub made_by : VirtualMachine → Obj → List Obj → ℕ → Annotated → VirtualMachine
 made_by m f vs place code =
-    record m { events = m.events ++ event.Make (m.made + 1) f vs ∷ []; made = m.made + 1; stage = stage.Made (fresh (m.made + 1) place code vs) f }
+    record m { events = m.events ++ event.Make (m.made + 1) f vs ∷ []; made = m.made + 1; stage = stage.Made (fresh m (m.made + 1) place code vs) f }
 
 -- it is entered
 abbrev pub entered_by : VirtualMachine → Running → VirtualMachine
@@ -53,17 +65,23 @@ entered_by m r = record m { events = m.events ++ event.Resume r.act how.Start �
 
 -- it ends
 abbrev pub ended_by : VirtualMachine → Running → Ending → VirtualMachine
-ended_by m r e = record m { events = m.events ++ event.End r.act e (r.frame.at - 1) ∷ []; stage = stage.Due e }
+ended_by m r e = record m { events = m.events ++ event.End r.act e (r.frame.state.at - 1) ∷ []; stage = stage.Due e }
+
+-- it asks
+abbrev pub asked_by : VirtualMachine → Running → Request → Option PyBaseExceptionRef → VirtualMachine
+asked_by m r q own =
+    record m { events = m.events ++ event.Ask r.act q own (r.frame.state.at - 1) ∷ []; stage = stage.Waiting r (length m.events) }
 
 -- its frame has made this step
-abbrev pub stepped_by : VirtualMachine → Running → FrameStep → VirtualMachine
-stepped_by m r (step.Ask q own) = record m { events = m.events ++ event.Ask r.act q own (r.frame.at - 1) ∷ []; stage = stage.Waiting r q own }
-stepped_by m r (step.Return v) = ended_by m r (ending.Return v)
-stepped_by m r (step.Raise e) = ended_by m r (ending.Raise e)
+abbrev pub IsStepped : VirtualMachine → Running → FrameStep → VirtualMachine → Type 0
+IsStepped m r (step.Ask q own) m' = m' ≡ asked_by m r q own
+IsStepped m r (step.Return v) m' = m' ≡ ended_by m r (ending.Return v)
+IsStepped m r (step.Raise e) m' = m' ≡ ended_by m r (ending.Raise e)
+IsStepped m r step.NoMemory m' = ⊥
 
 -- it gets the answer to what it asked
-abbrev pub got_by : VirtualMachine → Running → GotAnswer → VirtualMachine
-got_by m r w = record m { events = m.events ++ event.Got r.act w ∷ []; stage = stage.Going r (input.Answer w) }
+abbrev pub got_by : VirtualMachine → Running → Answer → VirtualMachine
+got_by m r w = record m { events = m.events ++ event.Got r.act (got_of w) ∷ []; stage = stage.Going r (input.Answer w) }
 
 -- what a call comes to that ends like this
 abbrev pub answer_by : Ending → DriveAnswer
@@ -74,59 +92,82 @@ answer_by (ending.Raise e) = answer.Raises e
 abbrev pub result_by : VirtualMachine → DriveAnswer → VirtualMachine
 result_by m w = record m { events = m.events ++ event.Result (m.done + 1) w ∷ []; done = m.done + 1; stage = stage.Idle }
 
+-- more objects came to a store, none of which is a declaration, and all else stayed
+pub record IsGrown (old new : Kept) : Type 0 where
+  pub objects : GrowsPlainly old.made new.made
+  pub others : new ≡ record old { made = new.made }
+
 -- an activation of a function was made
 abbrev pub Made_one : VirtualMachine → Obj → List Obj → VirtualMachine → Type 0
 Made_one m f vs m' =
-    (b : FunctionBody) × HasPayload m.store f (payload.Function b) × (c : PyCode) × (slice_get m.codes.codes b.code ≡ Some c) × (m' ≡ made_by m f vs b.code c)
+    (b : FunctionBody) × HasPayload m.store.made f (payload.Function b) × (c : Annotated) × (slice_get m.codes.codes b.code ≡ Some c) × (m' ≡ made_by m f vs b.code c)
+
+-- a step of a frame that told an event
+pub record IsTaken (codes : Checked) (old new : List Payload) (r : Running) (i : Input) (step : FrameStep) (f : Framed) : Type 0 where
+  pub code : Annotated
+  pub is_code : slice_get codes.codes r.frame.code ≡ Some code
+  pub extends : IfTold step (Extends old new (record { code = code.code; names = codes.names }) r.frame.state i step f.state)
+  pub wants : f.state.wants ≡ expected step
+  pub asks : AsksKnown step
+  pub running : IsRunning new codes.names code f
+  pub same : f.code ≡ r.frame.code
 
 -- an activation went on by an input
 abbrev pub Went_on : VirtualMachine → Running → Input → VirtualMachine → Type 0
 Went_on m r i m' =
-    (c : PyCode) × (slice_get m.codes.codes r.code ≡ Some c) × (objects : List Payload) × GrowsPlainly m.store objects × (step : FrameStep) × (t : State)
-    × Extends m.store objects c r.frame i step t × (t.wants ≡ expected step) × (m' ≡ stepped_by (record m { store = objects }) (record r { frame = t }) step)
+    (store : Kept) × IsGrown m.store store × (step : FrameStep) × (f : Framed) × IsTaken m.codes m.store.made store.made r i step f
+    × IsStepped (record m { store = store }) (record r { frame = f }) step m'
 
--- an answer that a frame may hear
-abbrev pub IsHeard : GotAnswer → Type 0
-IsHeard (got.Value v) = Unit {0}
-IsHeard (got.Stop v) = ⊥
-IsHeard (got.Raise e) = Unit {0}
+-- an answer that the machine makes: a value, or the raise of a new exception
+abbrev pub IsHeard : Answer → Type 0
+IsHeard (given.Value v) = Unit {0}
+IsHeard (given.Stop v) = ⊥
+IsHeard (given.Fresh e) = Unit {0}
+IsHeard (given.Passed e) = ⊥
 
 -- an answer gives the reply, whatever happened before, and names objects
-pub record IsGiven (old new : List Payload) (reply : Reply) (w : GotAnswer) : Type 0 where
-  pub gives : (before : List Event) → AreNamed old before → Gives new before reply w
-  pub below : AllBelow (length new) (got_numbers w)
+pub record IsGiven (old new : List Payload) (reply : Reply) (w : Answer) : Type 0 where
+  pub gives : (before : List Event) → AreNamed old before → Gives new before reply (got_of w)
+  pub below : AllBelow (length new) (got_numbers (got_of w))
   pub heard : IsHeard w
 
--- an activation was answered
-abbrev pub Answered : VirtualMachine → Running → Request → VirtualMachine → Type 0
-Answered m r q m' =
-    (reply : Reply) × Replies m.store q reply × (objects : List Payload) × GrowsPlainly m.store objects × (w : GotAnswer) × IsGiven m.store objects reply w
-    × (m' ≡ got_by (record m { store = objects }) r w)
+-- an activation was answered what it asked at this place of the journal
+abbrev pub Answered : VirtualMachine → Running → ℕ → VirtualMachine → Type 0
+Answered m r place m' =
+    (a : ℕ) × (q : Request) × (own : Option PyBaseExceptionRef) × (at : ℕ) × (slice_get m.events place ≡ Some (event.Ask a q own at))
+    × (reply : Reply) × Replies m.store.made q reply × (store : Kept) × IsGrown m.store store × (w : Answer) × IsGiven m.store.made store.made reply w
+    × (m' ≡ got_by (record m { store = store }) r w)
 
 -- an activation of the function that hasn't begun
 abbrev pub IsFreshFor : VirtualMachine → ℕ → Obj → List Obj → Running → Type 0
 IsFreshFor m act f vs r =
-    (b : FunctionBody) × HasPayload m.store f (payload.Function b) × (c : PyCode) × (slice_get m.codes.codes b.code ≡ Some c) × (r ≡ fresh act b.code c vs)
+    (b : FunctionBody) × HasPayload m.store.made f (payload.Function b) × (c : Annotated) × (slice_get m.codes.codes b.code ≡ Some c) × (r ≡ fresh m act b.code c vs)
 
 -- the stage in which a drive begins
 abbrev pub first_stage : Drive → Stage
 first_stage (Call f vs) = stage.Begins f vs
 
 -- a frame that goes on by what it expects
-pub record CanGo (codes : List PyCode) (objects : List Payload) (r : Running) (i : Input) : Type 0 where
-  pub code : PyCode
-  pub is_code : slice_get codes r.code ≡ Some code
-  pub running : IsRunning objects code r.frame
-  pub expects : Expects r.frame.wants i
+pub record CanGo (codes : Checked) (objects : List Payload) (r : Running) (i : Input) : Type 0 where
+  pub code : Annotated
+  pub is_code : slice_get codes.codes r.frame.code ≡ Some code
+  pub running : IsRunning objects codes.names code r.frame
+  pub expects : Expects r.frame.state.wants i
+
+-- what answers need: objects that fit and haven't changed, and the built-in classes among them
+pub record CanReply (m : VirtualMachine) : Type 0 where
+  pub unchanged : m.store.changes ≡ []
+  pub fit : AllFit m.store.made
+  pub classes : HaveClasses m.exceptions m.store.made
 
 -- what a turn needs
 abbrev pub IsReady : VirtualMachine → Stage → Type 0
 IsReady m stage.Idle = ⊥
 IsReady m (stage.Begins f vs) = m.done ≤ length m.events
-IsReady m (stage.Asking f vs) = (m.made ≤ length m.events) × CanCall m.codes.codes m.store f vs
+IsReady m (stage.Asking f vs) = (m.made ≤ length m.events) × (m.store.changes ≡ []) × CanCall m.codes m.store.made f vs
 IsReady m (stage.Made r f) = Unit {0}
-IsReady m (stage.Going r i) = CanGo m.codes.codes m.store r i
-IsReady m (stage.Waiting r q own) = AllFit m.store × HaveClasses m.exceptions m.store × AllBelow (length m.store) (request_numbers q)
+IsReady m (stage.Going r i) = CanGo m.codes m.store.made r i
+IsReady m (stage.Waiting r place) = CanReply m × IsQuestion m.store.made m.events place
 IsReady m (stage.Due e) = m.done ≤ length m.events
 
 -- one turn, and the answer of the drive where it came
@@ -136,13 +177,13 @@ Turned m (stage.Begins f vs) a m' = (a ≡ None) × (m' ≡ begun_by m f vs)
 Turned m (stage.Asking f vs) a m' = (a ≡ None) × Made_one m f vs m'
 Turned m (stage.Made r f) a m' = (a ≡ None) × (m' ≡ entered_by m r)
 Turned m (stage.Going r i) a m' = (a ≡ None) × Went_on m r i m'
-Turned m (stage.Waiting r q own) a m' = (a ≡ None) × Answered m r q m'
+Turned m (stage.Waiting r place) a m' = (a ≡ None) × Answered m r place m'
 Turned m (stage.Due e) a m' = (a ≡ Some (answer_by e)) × (m' ≡ result_by m (answer_by e))
 
 -- without memory no event is added
 pub record Halts (m m' : VirtualMachine) : Type 0 where
   pub events : m'.events ≡ m.events
-  pub grows : GrowsPlainly m.store m'.store
+  pub grows : IsGrown m.store m'.store
   pub codes : m'.codes ≡ m.codes
 
 -- a drive runs
@@ -152,7 +193,7 @@ IsBusy (stage.Begins f vs) = Unit {0}
 IsBusy (stage.Asking f vs) = Unit {0}
 IsBusy (stage.Made r f) = Unit {0}
 IsBusy (stage.Going r i) = Unit {0}
-IsBusy (stage.Waiting r q own) = Unit {0}
+IsBusy (stage.Waiting r place) = Unit {0}
 IsBusy (stage.Due e) = Unit {0}
 
 -- a stage that still has the drive's question has this one's
@@ -162,7 +203,7 @@ AsksFor d (stage.Begins f vs) = Call f vs ≡ d
 AsksFor d (stage.Asking f vs) = Call f vs ≡ d
 AsksFor d (stage.Made r f) = Unit {0}
 AsksFor d (stage.Going r i) = Unit {0}
-AsksFor d (stage.Waiting r q own) = Unit {0}
+AsksFor d (stage.Waiting r place) = Unit {0}
 AsksFor d (stage.Due e) = Unit {0}
 
 -- whether the drive has its result
@@ -175,11 +216,11 @@ pub record Turns (m : VirtualMachine) (s : Stage) (a : Option DriveAnswer) (m' :
   pub keeps : Keeps m' m'.stage
   pub added : Event
   pub events : m'.events ≡ m.events ++ added ∷ []
-  pub grows : GrowsPlainly m.store m'.store
+  pub grows : IsGrown m.store m'.store
   pub codes : m'.codes ≡ m.codes
   pub ends : AfterTurn m m' added a
   pub asks : (d : Drive) → AsksFor d s → AsksFor d m'.stage
-  pub comes : (asked : List Drive) (d : Drive) → AsksFor d s → slice_get asked m.done ≡ Some d → MayCome asked m'.store m.events (state_after start m.events) added
+  pub comes : (asked : List Drive) (d : Drive) → AsksFor d s → slice_get asked m.done ≡ Some d → MayCome asked m'.store.made m.events (state_after start m.events) added
 
 -- n turns of a drive, which isn't done
 pub record Drove (m : VirtualMachine) (d : Drive) (n : ℕ) (m' : VirtualMachine) : Type 0 where
@@ -187,9 +228,9 @@ pub record Drove (m : VirtualMachine) (d : Drive) (n : ℕ) (m' : VirtualMachine
   pub part : List Event
   pub count : length part ≡ n
   pub events : m'.events ≡ m.events ++ part
-  pub grows : GrowsPlainly m.store m'.store
+  pub grows : IsGrown m.store m'.store
   pub codes : m'.codes ≡ m.codes
   pub done : m'.done ≡ done_of m
   pub busy : IsBusy m'.stage
   pub asks : AsksFor d m'.stage
-  pub runs : (asked : List Drive) → length asked ≡ done_of m → Comes asked m.store [] start m.events → Comes (asked ++ d ∷ []) m'.store [] start m'.events
+  pub runs : (asked : List Drive) → length asked ≡ done_of m → Comes asked m.store.made [] start m.events → Comes (asked ++ d ∷ []) m'.store.made [] start m'.events

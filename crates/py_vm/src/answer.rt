@@ -1,17 +1,21 @@
 //! What questions are answered: replies, and the answers that give them.
 
-ghost use Rattle.std.specs.Prelude.{length, IfOk};
-ghost use Rattle.py_objects.specs.Objects.{request_numbers, AllBelow, AllFit, GrowsPlainly};
-ghost use Rattle.py_vm.specs.Answers.{Replies};
+ghost use Rattle.std.specs.Prelude.{◌≡◌, [], true, length, IfOk};
+ghost use Rattle.py_frame.specs.Rows.{may_ask};
+ghost use Rattle.py_objects.specs.Objects.{request_numbers, AllBelow, AllFit};
+ghost use Rattle.py_objects.specs.declared.payload.ErrorKind.TheVariants as kind;
+ghost use Rattle.py_vm.specs.Answers.{Fails, Replies, unbound_text};
 ghost use Rattle.py_vm.specs.Replying.{reply_of, IsSized, IsClass, IsNewException};
 ghost use Rattle.py_vm.specs.Classes.{HaveClasses};
-ghost use Rattle.py_vm.specs.Turns.{IsGiven};
+ghost use Rattle.py_vm.specs.Turns.{IsGiven, IsGrown};
 
 use crate::arithmetic::binary;
 use crate::exceptions::ExceptionZoo;
-use py_code::{NoMemory, PyText};
+use crate::text::{put_bytes, put_text};
+use py_code::{NoMemory, PyText, text_of};
+use py_frame::Answer;
 use py_objects::{
-    ErrorKind, ExceptionBody, GotAnswer, ObjList, Payload, PyBaseExceptionRef, PyTypeRef, Request,
+    AttrMap, ErrorKind, ExceptionBody, ObjList, Payload, PyBaseExceptionRef, PyTypeRef, Request,
     Store,
 };
 use std::alloc::Global;
@@ -25,17 +29,32 @@ pub(crate) enum Reply {
     Fails(ErrorKind, PyText),
 }
 
-/// The reply to a request.
-pub(crate) fn reply_to(alloc: Global, store: &Store, request: Request) -> Result<Reply, NoMemory>
-    requires fit { AllFit store.now }
-    requires below { AllBelow (length store.now) (request_numbers request) }
-    ensures reply { IfOk result (λ reply. Replies store.now request (reply_of reply)) }
+/// The reply to a request that frames make.
+pub(crate) fn reply_to(alloc: Global, store: &Store, request: &Request) -> Result<Reply, NoMemory>
+    requires known { may_ask request.now ≡ true }
+    requires unchanged { store.now.changes ≡ [] }
+    requires fit { AllFit store.now.made }
+    requires below { AllBelow (length store.now.made) (request_numbers request.now) }
+    ensures reply { IfOk result (λ reply. Replies store.now.made request.now (reply_of reply)) }
     ensures sized { IfOk result IsSized }
 {
     match request {
-        Request::Binary(op, left, right) => binary(alloc, store, op, left, right),
+        Request::Binary(op, left, right) => binary(alloc, store, *op, *left, *right),
         Request::Show(_) => Ok(Reply::None),
+        Request::Unbound(name) => unbound(alloc, name),
+        _ => unreachable!(),
     }
+}
+
+/// The raise to a local that is unset.
+fn unbound(alloc: Global, name: &PyText) -> Result<Reply, NoMemory>
+    ensures reply { IfOk result (λ reply. reply_of reply ≡ Fails kind.UnboundLocalError (unbound_text name.now)) }
+    ensures sized { IfOk result IsSized }
+{
+    let mut text = text_of(alloc, b"local variable '")?;
+    put_text(&mut text, name)?;
+    put_bytes(&mut text, b"' referenced before assignment")?;
+    Ok(Reply::Fails(ErrorKind::UnboundLocalError, text))
 }
 
 /// The answer that gives a reply. The objects that it needs are new.
@@ -44,19 +63,19 @@ pub(crate) fn give(
     store: &mut Store,
     exceptions: ExceptionZoo,
     reply: Reply,
-) -> Result<GotAnswer, NoMemory>
-    requires classes { HaveClasses exceptions store.old }
+) -> Result<Answer, NoMemory>
+    requires classes { HaveClasses exceptions store.old.made }
     requires sized { IsSized reply }
-    ensures grows { GrowsPlainly store.old store.new }
-    ensures given { IfOk result (λ answer. IsGiven store.old store.new (reply_of reply) answer) }
+    ensures grows { IsGrown store.old store.new }
+    ensures given { IfOk result (λ answer. IsGiven store.old.made store.new.made (reply_of reply) answer) }
 {
     match reply {
-        Reply::None => Ok(GotAnswer::Value(store.none())),
-        Reply::Int(number) => Ok(GotAnswer::Value(store.add(Payload::Int(number))?)),
-        Reply::Str(text) => Ok(GotAnswer::Value(store.add(Payload::Str(text))?)),
+        Reply::None => Ok(Answer::Value(store.none())),
+        Reply::Int(number) => Ok(Answer::Value(store.add(Payload::Int(number))?)),
+        Reply::Str(text) => Ok(Answer::Value(store.add(Payload::Str(text))?)),
         Reply::Fails(kind, text) => {
             let exception = new_exception(alloc, store, exceptions.class(kind), text)?;
-            Ok(GotAnswer::Raise(exception))
+            Ok(Answer::Fresh(exception))
         }
     }
 }
@@ -68,15 +87,23 @@ fn new_exception(
     class: PyTypeRef,
     text: PyText,
 ) -> Result<PyBaseExceptionRef, NoMemory>
-    requires { IsClass store.old class }
-    ensures grows { GrowsPlainly store.old store.new }
-    ensures made { IfOk result (λ e. IsNewException store.old store.new class text e) }
+    requires { IsClass store.old.made class }
+    ensures grows { IsGrown store.old store.new }
+    ensures made { IfOk result (λ e. IsNewException store.old.made store.new.made class text e) }
 {
     let argument = store.add(Payload::Str(text))?;
     let mut items = ObjList::new(alloc);
     items.push(argument)?;
     let args = store.add(Payload::Tuple(items))?;
-    let exception = store.add(Payload::Exception(ExceptionBody { class, args }))?;
+    let exception = store.add(Payload::Exception(ExceptionBody {
+        class,
+        args,
+        cause: None,
+        context: None,
+        suppress: false,
+        traceback: None,
+        attrs: AttrMap::new(alloc),
+    }))?;
     Ok(PyBaseExceptionRef {
         number: exception.number,
     })

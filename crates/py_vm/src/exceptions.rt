@@ -1,8 +1,9 @@
 //! The built-in exception classes, which each machine begins with.
 
-ghost use Rattle.std.specs.Prelude.{◌≡◌, [], ◌∷◌, ◌++◌, length, IfOk, OnOk};
+ghost use Rattle.std.specs.Prelude.{◌≡◌, [], ◌∷◌, ◌++◌, length, map, IfOk, OnOk};
 ghost use Rattle.py_objects.specs.declared.payload.Payload.TheVariants.{None as NonePayload, Class};
-ghost use Rattle.py_vm.specs.Classes.{class_of, first_classes, first_objects};
+ghost use Rattle.py_vm.specs.Classes.{class_of, class_payload, first_classes};
+ghost use Rattle.py_objects.specs.Objects.{error_kinds};
 
 use py_code::{NoMemory, text_of};
 use py_objects::{ClassBody, ErrorKind, Payload, PyTypeRef, Store};
@@ -21,8 +22,9 @@ pub(crate) struct ExceptionZoo {
 impl ExceptionZoo {
     /// Adds the classes to a store that has `None` alone.
     pub(crate) fn new(alloc: Global, store: &mut Store) -> Result<ExceptionZoo, NoMemory>
-        requires { store.old ≡ NonePayload ∷ [] }
-        ensures objects { OnOk result (store.new ≡ first_objects) }
+        requires { store.old.made ≡ NonePayload ∷ [] }
+        ensures objects { OnOk result (store.new.made ≡ NonePayload ∷ map class_payload error_kinds) }
+        ensures unchanged { OnOk result (store.new.changes ≡ store.old.changes) }
         ensures classes { IfOk result (λ zoo. zoo ≡ first_classes) }
     {
         let name_error = add_class(alloc, store, b"NameError")?;
@@ -55,8 +57,8 @@ impl ExceptionZoo {
 
 /// A class of this name goes behind the other objects.
 fn add_class(alloc: Global, store: &mut Store, name: &[u8]) -> Result<PyTypeRef, NoMemory>
-    ensures number { IfOk result (λ class. class.number ≡ length store.old) }
-    ensures added { OnOk result (store.new ≡ store.old ++ Class (record { name = name.now }) ∷ []) }
+    ensures number { IfOk result (λ class. class.number ≡ length store.old.made) }
+    ensures added { OnOk result (store.new ≡ record store.old { made = store.old.made ++ Class (record { name = name.now }) ∷ [] }) }
 {
     let name = text_of(alloc, name)?;
     let object = store.add(Payload::Class(ClassBody { name }))?;

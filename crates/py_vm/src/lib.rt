@@ -3,6 +3,7 @@
 
 mod answer;
 mod arithmetic;
+mod codes;
 mod drive;
 mod exceptions;
 mod fault;
@@ -11,6 +12,7 @@ mod stage;
 mod text;
 mod turn;
 mod type_names;
+mod values;
 mod vm;
 
 pub use drive::Drive;

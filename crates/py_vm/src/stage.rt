@@ -1,14 +1,13 @@
 //! Where a machine stands between two turns.
 
-use py_frame::{Frame, Input};
-use py_objects::{Ending, ObjList, PyBaseExceptionRef, PyObjectRef, Request};
+use py_frame::{Frame, Input, OwnStack};
+use py_objects::{Ending, ObjList, PyObjectRef};
 
-/// A running activation: its number, the place of its code, and its frame.
+/// A running activation: its number and its frame.
 #[derive(Drop)]
 pub(crate) struct Running {
     pub act: u64,
-    pub code: usize,
-    pub frame: Frame,
+    pub frame: Frame<OwnStack>,
 }
 
 /// What the next turn does.
@@ -24,8 +23,8 @@ pub(crate) enum Stage {
     Made(Running, PyObjectRef),
     /// The activation goes on by this input.
     Going(Running, Input),
-    /// What the activation asked, while it handles this exception, is answered.
-    Waiting(Running, Request, Option<PyBaseExceptionRef>),
+    /// What the activation asked by the event at this place of the journal is answered.
+    Waiting(Running, usize),
     /// The drive has its result, by how the activation was left.
     Due(Ending),
 }

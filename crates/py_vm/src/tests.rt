@@ -1,44 +1,30 @@
 //! What a reader can work out by hand.
 
-ghost use Rattle.std.specs.Prelude.{◌≡◌, [], ◌∷◌, ◌++◌, length, IfOk, OnOk};
-ghost use Rattle.py_frame.specs.RunOfRows.{IsSound};
+ghost use Rattle.std.specs.Prelude.{◌≡◌, ℕ, [], ◌∷◌, List, length, map, IfOk};
+ghost use Rattle.py_code.specs.declared.instruction.Instruction.TheVariants as op;
+ghost use Rattle.py_check.specs.declared.note.Note.TheVariants as note;
+ghost use Rattle.py_check.specs.Sheet.{sheet_of};
+ghost use Rattle.py_check.specs.Worked.{nothing, one, sheet, sum, unit};
+ghost use Rattle.py_frame.specs.Fitting.{AreNames, IsSound};
+ghost use Rattle.py_vm.specs.Machine.{checked_of};
+ghost use Rattle.py_vm.specs.Stands.{Stands};
 
 use crate::answer::{Reply, give, reply_to};
 use crate::arithmetic::operate;
 use crate::exceptions::ExceptionZoo;
 use crate::*;
+use py_check::{Annotated, BlockList, CheckedCode, Kind, KindList, Note, NoteList};
 use py_code::{
-    CodeFlags, CodeObject, CodeUnit, Instruction, LiteralList, NameId, Names, NoMemory, PyCode,
-    same_text, text_of,
+    BinaryOperator, CodeFlags, CodeObject, CodeUnit, Instruction, Literal, LiteralList, NameId,
+    Names, NoMemory, PyCode, same_text, text_of,
 };
+use py_frame::Answer;
 use py_objects::{
-    Arithmetic, DriveAnswer, ErrorKind, Event, FunctionBody, GotAnswer, ObjList, Payload,
-    PyBaseExceptionRef, PyObjectRef, Request, Store,
+    DriveAnswer, ErrorKind, Event, FunctionBody, GotAnswer, ObjList, Payload, PyBaseExceptionRef,
+    PyObjectRef, Request, Store,
 };
 use std::alloc::Global;
 use std::test::Fail;
-
-/// A code that does nothing.
-fn some_code(alloc: Global) -> PyCode {
-    PyCode::new(CodeObject {
-        instructions: Vec::new(alloc),
-        locations: Vec::new(alloc),
-        flags: CodeFlags::new(0),
-        posonlyarg_count: 0,
-        arg_count: 0,
-        kwonlyarg_count: 0,
-        source_path: NameId { index: 0 },
-        first_line_number: None,
-        max_stackdepth: 0,
-        obj_name: NameId { index: 0 },
-        cell2arg: Vec::new(alloc),
-        constants: LiteralList::new(alloc),
-        names: Vec::new(alloc),
-        varnames: Vec::new(alloc),
-        cellvars: Vec::new(alloc),
-        freevars: Vec::new(alloc),
-    })
-}
 
 /// Whether a reply is a text of these characters.
 fn is_text(alloc: Global, reply: &Reply, expected: &[u8]) -> Result<bool, NoMemory> {
@@ -62,58 +48,154 @@ fn fails(alloc: Global, reply: &Reply, kind: ErrorKind, reason: &[u8]) -> Result
     }
 }
 
-/// A code of these units with two locals.
-fn code_of(alloc: Global, instructions: Vec<CodeUnit>) -> Result<PyCode, NoMemory>
-    ensures units { IfOk result (λ code. code.code.instructions.items ≡ instructions.items) }
-    ensures locals { IfOk result (λ code. length code.code.varnames.items ≡ 2) }
+/// The units of a code.
+fn units_of(alloc: Global, units: &[(Instruction, u8)]) -> Result<Vec<CodeUnit>, NoMemory>
+    ensures { IfOk result (λ made. made.items ≡ map (λ u. unit u.0 u.1) units.now) }
 {
+    let mut made = Vec::new(alloc);
+    for (op, arg) in units {
+        made.push(CodeUnit { op: *op, arg: *arg })?;
+    }
+    Ok(made)
+}
+
+/// A note of these entries, without blocks.
+fn note_of(alloc: Global, entries: &[Kind]) -> Result<Note, NoMemory>
+    ensures { IfOk result (λ made. made ≡ note.Live entries.now []) }
+{
+    let mut kinds = KindList::new(alloc);
+    for kind in entries {
+        kinds.push(*kind)?;
+    }
+    Ok(Note::Live {
+        kinds,
+        blocks: BlockList::new(alloc),
+    })
+}
+
+/// A code of two parameters, a third local and the constant None, each unit on line 1.
+fn code_of(
+    alloc: Global,
+    instructions: Vec<CodeUnit>,
+    notes: NoteList,
+) -> Result<Annotated, NoMemory>
+    ensures sheet { IfOk result (λ code. sheet_of code ≡ record (sheet instructions.items notes) { varnames = 3 }) }
+    ensures names { IfOk result (λ code. (names : List (List ℕ)) → length names ≡ 3 → AreNames names code.code) }
+{
+    let mut locations = Vec::new(alloc);
+    for _ in 0..instructions.len() {
+        locations.push(1)?;
+    }
     let mut varnames = Vec::new(alloc);
     varnames.push(NameId { index: 0 })?;
     varnames.push(NameId { index: 1 })?;
-    let mut code = some_code(alloc);
-    code.code.instructions = instructions;
-    code.code.varnames = varnames;
-    Ok(code)
+    varnames.push(NameId { index: 2 })?;
+    let mut constants = LiteralList::new(alloc);
+    constants.push(Literal::None)?;
+    let code = PyCode::new(CodeObject {
+        instructions,
+        locations,
+        flags: CodeFlags::new(CodeFlags::NEW_LOCALS | CodeFlags::IS_OPTIMIZED),
+        posonlyarg_count: 0,
+        arg_count: 2,
+        kwonlyarg_count: 0,
+        source_path: NameId { index: 0 },
+        first_line_number: None,
+        max_stackdepth: 2,
+        obj_name: NameId { index: 0 },
+        cell2arg: Vec::new(alloc),
+        constants,
+        names: Vec::new(alloc),
+        varnames,
+        cellvars: Vec::new(alloc),
+        freevars: Vec::new(alloc),
+    });
+    Ok(Annotated { code, notes })
 }
 
-/// Puts a unit behind others.
-fn put(units: &mut Vec<CodeUnit>, op: Instruction, arg: u8) -> Result<(), NoMemory>
-    ensures { OnOk result (units.new.items ≡ units.old.items ++ record { op = op; arg = arg } ∷ []) }
+/// A code that returns the sum of its two parameters.
+fn sum(alloc: Global) -> Result<Annotated, NoMemory>
+    ensures sheet { IfOk result (λ code. sheet_of code ≡ record sum { varnames = 3 }) }
+    ensures names { IfOk result (λ code. (names : List (List ℕ)) → length names ≡ 3 → AreNames names code.code) }
 {
-    units.push(CodeUnit { op, arg })?;
-    Ok(())
+    let units = [
+        (Instruction::LoadFast, 0),
+        (Instruction::LoadFast, 1),
+        (Instruction::BinaryOperation, 6),
+        (Instruction::ReturnValue, 0),
+    ];
+    let mut notes = NoteList::new(alloc);
+    notes.push(note_of(alloc, &[])?)?;
+    notes.push(note_of(alloc, &[Kind::Any])?)?;
+    notes.push(note_of(alloc, &[Kind::Any, Kind::Any])?)?;
+    notes.push(note_of(alloc, &[Kind::Any])?)?;
+    code_of(alloc, units_of(alloc, &units)?, notes)
 }
 
-/// A code that returns the sum of its two arguments.
-fn sum_code(alloc: Global) -> Result<PyCode, NoMemory>
-    ensures { IfOk result (λ code. IsSound code 2) }
+/// The same, checked.
+fn sum_code(alloc: Global) -> Result<CheckedCode, NoMemory>
+    ensures { IfOk result (λ code. (names : List (List ℕ)) → length names ≡ 3 → IsSound names code) }
 {
-    let mut units = Vec::new(alloc);
-    put(&mut units, Instruction::LoadFast, 0)?;
-    put(&mut units, Instruction::LoadFast, 1)?;
-    put(&mut units, Instruction::BinaryOperation, 6)?;
-    put(&mut units, Instruction::ReturnValue, 0)?;
-    let code = code_of(alloc, units)?;
-    Ok(code)
+    let code = sum(alloc)?;
+    Ok(CheckedCode::of(code))
 }
 
-/// A code that shows the first of its two arguments, and returns it.
-fn shown_code(alloc: Global) -> Result<PyCode, NoMemory>
-    ensures { IfOk result (λ code. IsSound code 2) }
+/// A code that shows the first of its two parameters, and returns it.
+fn shown(alloc: Global) -> Result<Annotated, NoMemory>
+    ensures sheet { IfOk result (λ code. sheet_of code ≡ record (sheet (unit op.LoadFast 0 ∷ unit op.PrintExpr 0 ∷ unit op.LoadFast 0 ∷ unit op.ReturnValue 0 ∷ []) (nothing ∷ one ∷ nothing ∷ one ∷ [])) { varnames = 3 }) }
+    ensures names { IfOk result (λ code. (names : List (List ℕ)) → length names ≡ 3 → AreNames names code.code) }
 {
-    let mut units = Vec::new(alloc);
-    put(&mut units, Instruction::LoadFast, 0)?;
-    put(&mut units, Instruction::PrintExpr, 0)?;
-    put(&mut units, Instruction::LoadFast, 0)?;
-    put(&mut units, Instruction::ReturnValue, 0)?;
-    let code = code_of(alloc, units)?;
-    Ok(code)
+    let units = [
+        (Instruction::LoadFast, 0),
+        (Instruction::PrintExpr, 0),
+        (Instruction::LoadFast, 0),
+        (Instruction::ReturnValue, 0),
+    ];
+    let mut notes = NoteList::new(alloc);
+    notes.push(note_of(alloc, &[])?)?;
+    notes.push(note_of(alloc, &[Kind::Any])?)?;
+    notes.push(note_of(alloc, &[])?)?;
+    notes.push(note_of(alloc, &[Kind::Any])?)?;
+    code_of(alloc, units_of(alloc, &units)?, notes)
+}
+
+/// The same, checked.
+fn shown_code(alloc: Global) -> Result<CheckedCode, NoMemory>
+    ensures { IfOk result (λ code. (names : List (List ℕ)) → length names ≡ 3 → IsSound names code) }
+{
+    let code = shown(alloc)?;
+    Ok(CheckedCode::of(code))
+}
+
+/// A code that returns its third local, which nothing sets.
+fn unset(alloc: Global) -> Result<Annotated, NoMemory>
+    ensures sheet { IfOk result (λ code. sheet_of code ≡ record (sheet (unit op.LoadFast 2 ∷ unit op.ReturnValue 0 ∷ []) (nothing ∷ one ∷ [])) { varnames = 3 }) }
+    ensures names { IfOk result (λ code. (names : List (List ℕ)) → length names ≡ 3 → AreNames names code.code) }
+{
+    let units = [(Instruction::LoadFast, 2), (Instruction::ReturnValue, 0)];
+    let mut notes = NoteList::new(alloc);
+    notes.push(note_of(alloc, &[])?)?;
+    notes.push(note_of(alloc, &[Kind::Any])?)?;
+    code_of(alloc, units_of(alloc, &units)?, notes)
+}
+
+/// The same, checked.
+fn unset_code(alloc: Global) -> Result<CheckedCode, NoMemory>
+    ensures { IfOk result (λ code. (names : List (List ℕ)) → length names ≡ 3 → IsSound names code) }
+{
+    let code = unset(alloc)?;
+    Ok(CheckedCode::of(code))
 }
 
 /// Whether an event asks for a value to be shown.
 fn shows(event: Option<&Event>, value: PyObjectRef) -> bool {
     match event {
-        Some(Event::Ask { request, .. }) => *request == Request::Show(value),
+        Some(
+            Event::Ask {
+                request: Request::Show(shown),
+                ..
+            },
+        ) => *shown == value,
         _ => false,
     }
 }
@@ -126,15 +208,28 @@ fn is_answered(event: Option<&Event>, expected: GotAnswer) -> bool {
     }
 }
 
+/// A machine whose codes' locals are called `v`, `w` and `x`.
+fn machine(alloc: Global) -> Result<VirtualMachine, NoMemory>
+    ensures stands { IfOk result Stands }
+    ensures names { IfOk result (λ vm. length (checked_of vm).names ≡ 3) }
+{
+    let mut names = Names::new(alloc);
+    names.intern("v")?;
+    names.intern("w")?;
+    names.intern("x")?;
+    let vm = VirtualMachine::new(alloc, names)?;
+    Ok(vm)
+}
+
 /// What a code comes to from 40 and 2 in so many turns, and what happened.
 fn driven(
     alloc: Global,
-    code: PyCode,
+    code: CheckedCode,
     turns: u64,
 ) -> Result<(Journal, Result<DriveAnswer, VmFault>), NoMemory>
-    requires { IsSound code 2 }
+    requires { (names : List (List ℕ)) → length names ≡ 3 → IsSound names code }
 {
-    let mut vm = VirtualMachine::new(alloc, Names::new(alloc))?;
+    let mut vm = machine(alloc)?;
     let code = vm.add_code(code)?;
     let name = text_of(alloc, b"f")?;
     let function = vm.add_object(Payload::Function(FunctionBody { name, code }))?;
@@ -145,6 +240,31 @@ fn driven(
     args.push(right)?;
     let answer = vm.drive(Drive::Call(function, args), turns);
     Ok((vm.journal(), answer))
+}
+
+/// Whether an exception is of the class with this number, and this text is its one argument.
+fn is_raised(
+    alloc: Global,
+    journal: &Journal,
+    exception: PyBaseExceptionRef,
+    class: u64,
+    expected: &[u8],
+) -> Result<bool, NoMemory> {
+    let objects = &journal.objects;
+    let Some(Payload::Exception(body)) = objects.get(exception.number as usize) else {
+        return Ok(false);
+    };
+    let Some(Payload::Tuple(args)) = objects.get(body.args.number as usize) else {
+        return Ok(false);
+    };
+    let Some(argument) = args.get(0) else {
+        return Ok(false);
+    };
+    let Some(Payload::Str(text)) = objects.get(argument.number as usize) else {
+        return Ok(false);
+    };
+    let same = same_text(text, &text_of(alloc, expected)?);
+    Ok(same && args.len() == 1 && body.class.number == class)
 }
 
 #[test]
@@ -159,7 +279,7 @@ fn a_call_is_done_in_seven_turns(rt: HostRuntime) -> Result<(), Fail> {
         let (journal, answer) = driven(alloc, sum_code(alloc)?, turns)?;
         assert!(rt; journal.events.len() == 7);
         // The sum stands behind the function and the operands.
-        assert!(rt; matches!(answer, Ok(DriveAnswer::Returns(PyObjectRef { number: 9 }))));
+        assert!(rt; matches!(answer, Ok(DriveAnswer::Returns(PyObjectRef { number: 10 }))));
     }
     Ok(())
 }
@@ -174,28 +294,56 @@ fn a_shown_value_is_answered_by_none(rt: HostRuntime) -> Result<(), Fail> {
     }
     let (journal, answer) = driven(alloc, shown_code(alloc)?, 7)?;
     assert!(rt; journal.events.len() == 7);
-    assert!(rt; shows(journal.events.get(3), PyObjectRef { number: 7 }));
+    assert!(rt; shows(journal.events.get(3), PyObjectRef { number: 8 }));
     let none = GotAnswer::Value(PyObjectRef { number: 0 });
     assert!(rt; is_answered(journal.events.get(4), none));
-    // The first operand stands behind None, five classes and the function; nothing stands behind the second.
-    assert!(rt; matches!(answer, Ok(DriveAnswer::Returns(PyObjectRef { number: 7 }))));
-    assert!(rt; journal.objects.len() == 9);
+    // The first operand stands behind None, five classes, the globals and the function; nothing stands behind the second.
+    assert!(rt; matches!(answer, Ok(DriveAnswer::Returns(PyObjectRef { number: 8 }))));
+    assert!(rt; journal.objects.len() == 10);
+    Ok(())
+}
+
+#[test]
+fn an_unset_local_raises(rt: HostRuntime) -> Result<(), Fail> {
+    let alloc = rt.alloc();
+    let (journal, answer) = driven(alloc, unset_code(alloc)?, 7)?;
+    assert!(rt; journal.events.len() == 7);
+    // The exception stands behind the operands, its text and its arguments, and the fifth class is its own.
+    let raised = PyBaseExceptionRef { number: 12 };
+    assert!(rt; is_answered(journal.events.get(4), GotAnswer::Raise(raised)));
+    assert!(rt;
+        matches!(
+            answer,
+            Ok(DriveAnswer::Raises(PyBaseExceptionRef { number: 12 }))
+        )
+    );
+    let text = b"local variable 'x' referenced before assignment";
+    assert!(rt; is_raised(alloc, &journal, raised, 5, text)?);
+    assert!(rt; journal.objects.len() == 13);
     Ok(())
 }
 
 #[test]
 fn codes_and_objects_are_numbered_in_order(rt: HostRuntime) -> Result<(), Fail> {
     let alloc = rt.alloc();
-    let mut vm = VirtualMachine::new(alloc, Names::new(alloc))?;
-    assert!(rt; vm.add_code(some_code(alloc))? == 0);
-    assert!(rt; vm.add_code(some_code(alloc))? == 1);
-    // None and five classes stand in front.
-    assert!(rt; vm.store().len() == 6);
-    assert!(rt; vm.add_object(Payload::Int(7))?.number == 6);
+    let mut vm = machine(alloc)?;
+    assert!(rt; vm.names().len() == 3);
+    assert!(rt; vm.add_code(sum_code(alloc)?)? == 0);
+    assert!(rt; vm.add_code(unset_code(alloc)?)? == 1);
+    // None, five classes and the globals stand in front.
+    assert!(rt; vm.store().len() == 7);
+    assert!(rt; vm.add_object(Payload::Int(7))?.number == 7);
     assert!(rt; vm.events() == 0);
     let journal = vm.journal();
     assert!(rt; journal.codes.len() == 2);
-    assert!(rt; journal.objects.len() == 7);
+    assert!(rt; journal.codes.names().len() == 3);
+    let units = journal
+        .codes
+        .get(1)
+        .map(|code| code.code.instructions.len());
+    assert!(rt; units == Some(2));
+    assert!(rt; journal.objects.len() == 8);
+    assert!(rt; journal.changes.len() == 0);
     assert!(rt; journal.events.len() == 0);
     Ok(())
 }
@@ -204,15 +352,16 @@ fn codes_and_objects_are_numbered_in_order(rt: HostRuntime) -> Result<(), Fail> 
 fn an_addition_is_answered_by_the_types_of_its_operands(rt: HostRuntime) -> Result<(), Fail> {
     let alloc = rt.alloc();
     let store = Store::new(alloc)?;
+    let add = BinaryOperator::Add;
     let one = Payload::Int(1);
     let most = Payload::Int(i128::MAX);
     let yes = Payload::Bool(true);
     let text = Payload::Str(text_of(alloc, b"ab")?);
-    let sum = operate(alloc, &store, Arithmetic::Add, &one, &yes)?;
+    let sum = operate(alloc, &store, add, &one, &yes)?;
     assert!(rt; matches!(sum, Reply::Int(2)));
-    let joined = operate(alloc, &store, Arithmetic::Add, &text, &text)?;
+    let joined = operate(alloc, &store, add, &text, &text)?;
     assert!(rt; is_text(alloc, &joined, b"abab")?);
-    let over = operate(alloc, &store, Arithmetic::Add, &most, &one)?;
+    let over = operate(alloc, &store, add, &most, &one)?;
     assert!(rt;
         fails(
             alloc,
@@ -221,7 +370,7 @@ fn an_addition_is_answered_by_the_types_of_its_operands(rt: HostRuntime) -> Resu
             b"integer out of range"
         )?
     );
-    let mixed = operate(alloc, &store, Arithmetic::Add, &text, &Payload::None)?;
+    let mixed = operate(alloc, &store, add, &text, &Payload::None)?;
     let refusal = b"'+' not supported between instances of 'str' and 'NoneType'";
     assert!(rt; fails(alloc, &mixed, ErrorKind::TypeError, refusal)?);
     Ok(())
@@ -233,11 +382,23 @@ fn a_show_is_answered_by_the_none_that_is_there(rt: HostRuntime) -> Result<(), F
     let mut store = Store::new(alloc)?;
     let exceptions = ExceptionZoo::new(alloc, &mut store)?;
     let shown = Request::Show(PyObjectRef { number: 3 });
-    let reply = reply_to(alloc, &store, shown)?;
+    let reply = reply_to(alloc, &store, &shown)?;
     assert!(rt; matches!(reply, Reply::None));
     let answer = give(alloc, &mut store, exceptions, reply)?;
-    assert!(rt; answer == GotAnswer::Value(PyObjectRef { number: 0 }));
+    assert!(rt; answer == Answer::Value(PyObjectRef { number: 0 }));
     assert!(rt; store.len() == 6);
+    Ok(())
+}
+
+#[test]
+fn an_unset_local_is_answered_by_its_name(rt: HostRuntime) -> Result<(), Fail> {
+    let alloc = rt.alloc();
+    let mut store = Store::new(alloc)?;
+    let _exceptions = ExceptionZoo::new(alloc, &mut store)?;
+    let unset = Request::Unbound(text_of(alloc, b"ab")?);
+    let reply = reply_to(alloc, &store, &unset)?;
+    let text = b"local variable 'ab' referenced before assignment";
+    assert!(rt; fails(alloc, &reply, ErrorKind::UnboundLocalError, text)?);
     Ok(())
 }
 
@@ -248,7 +409,7 @@ fn an_exception_stands_behind_its_text_and_its_arguments(rt: HostRuntime) -> Res
     let exceptions = ExceptionZoo::new(alloc, &mut store)?;
     let reply = Reply::Fails(ErrorKind::TypeError, text_of(alloc, b"no")?);
     let answer = give(alloc, &mut store, exceptions, reply)?;
-    let raised = GotAnswer::Raise(PyBaseExceptionRef { number: 8 });
+    let raised = Answer::Fresh(PyBaseExceptionRef { number: 8 });
     assert!(rt; answer == raised);
     assert!(rt; store.len() == 9);
     Ok(())

@@ -1,20 +1,18 @@
 //! One turn of the machine: one event.
 
-ghost use Rattle.std.specs.Prelude.{◌≡◌, ◌≤◌, ◌-◌, length, Some, IfOk, OnOk, OnErr};
-ghost use Rattle.py_objects.specs.Objects.{request_numbers, AllBelow, AllFit};
-ghost use Rattle.py_vm.specs.Classes.{HaveClasses};
-ghost use Rattle.py_vm.specs.Stands.{CanCall, Keeps};
-ghost use Rattle.py_vm.specs.Turns.{begun_by, Made_one, IsFreshFor, entered_by, ended_by, stepped_by, Went_on, got_by, Answered, answer_by, result_by, CanGo, IsReady, Turned, Halts, IsBusy, Turns};
-ghost use Rattle.py_frame.specs.declared.input.FrameStep.TheVariants.{Ask};
+ghost use Rattle.std.specs.Prelude.{◌≡◌, ◌≤◌, [], length, IfOk, OnOk, OnErr};
+ghost use Rattle.py_vm.specs.Stands.{CanCall, IsQuestion, Keeps};
+ghost use Rattle.py_vm.specs.Turns.{begun_by, Made_one, IsFreshFor, entered_by, ended_by, asked_by, IsStepped, Went_on, got_by, Answered, answer_by, result_by, CanGo, CanReply, IsReady, Turned, Halts, IsBusy, Turns};
 
 use crate::answer::{give, reply_to};
 use crate::stage::{Running, Stage};
+use crate::values::entry;
 use crate::vm::VirtualMachine;
 use py_code::NoMemory;
-use py_frame::{Frame, FrameStep, Input};
+use py_frame::{Answer, Frame, FrameStep, Input, OwnStack, positional};
 use py_objects::{
-    DriveAnswer, Ending, Event, GotAnswer, ObjList, Payload, PyBaseExceptionRef, PyObjectRef,
-    Request, ResumeHow,
+    DriveAnswer, Ending, Event, ObjList, Payload, PyBaseExceptionRef, PyObjectRef, Request,
+    ResumeHow, Scope,
 };
 
 impl VirtualMachine {
@@ -53,8 +51,8 @@ impl VirtualMachine {
                 self.go(running, input)?;
                 Ok(None)
             }
-            Stage::Waiting(running, request, _) => {
-                self.answer(running, request)?;
+            Stage::Waiting(running, place) => {
+                self.answer(running, place)?;
                 Ok(None)
             }
             Stage::Due(ending) => {
@@ -82,7 +80,8 @@ impl VirtualMachine {
     /// An activation of the function is made.
     fn make(&mut self, function: PyObjectRef, args: ObjList) -> Result<(), NoMemory>
         requires counted { self.old.made ≤ length self.old.events }
-        requires callable { CanCall self.old.codes.codes self.old.store function args }
+        requires unchanged { self.old.store.changes ≡ [] }
+        requires callable { CanCall self.old.codes self.old.store.made function args }
         ensures ok { OnOk result (Made_one self.old function args self.new) }
         ensures err { OnErr result (Halts self.old self.new) }
     {
@@ -114,28 +113,32 @@ impl VirtualMachine {
 
     /// The activation goes on to its next event.
     fn go(&mut self, running: Running, input: Input) -> Result<(), NoMemory>
-        requires { CanGo self.old.codes.codes self.old.store running input }
+        requires { CanGo self.old.codes self.old.store.made running input }
         ensures ok { OnOk result (Went_on self.old running input self.new) }
         ensures err { OnErr result (Halts self.old self.new) }
     {
         let mut going = running;
-        let Some(code) = self.codes.get(going.code) else {
+        let Some(code) = self.codes.get(going.frame.f_code()) else {
             unreachable!();
         };
-        let step = going.frame.step(code, &mut self.store, input)?;
+        let names = self.codes.names();
+        let step = going
+            .frame
+            .step(self.alloc, code, names, &mut self.store, input);
         self.stepped(going, step)?;
         Ok(())
     }
 
     /// The activation's frame has made a step.
     fn stepped(&mut self, running: Running, step: FrameStep) -> Result<(), NoMemory>
-        ensures ok { OnOk result (self.new ≡ stepped_by self.old running step) }
+        ensures ok { OnOk result (IsStepped self.old running step self.new) }
         ensures err { OnErr result (Halts self.old self.new) }
     {
         match step {
             FrameStep::Ask(request, own) => self.asked(running, request, own),
             FrameStep::Return(value) => self.ended(running, Ending::Return(value)),
             FrameStep::Raise(exception) => self.ended(running, Ending::Raise(exception)),
+            FrameStep::NoMemory => Err(NoMemory),
         }
     }
 
@@ -146,16 +149,17 @@ impl VirtualMachine {
         request: Request,
         own: Option<PyBaseExceptionRef>,
     ) -> Result<(), NoMemory>
-        ensures ok { OnOk result (self.new ≡ stepped_by self.old running (Ask request own)) }
+        ensures ok { OnOk result (self.new ≡ asked_by self.old running request own) }
         ensures err { OnErr result (Halts self.old self.new) }
     {
+        let place = self.events.len();
         self.events.push(Event::Ask {
             act: running.act,
             request,
             own,
             at: running.frame.lasti().saturating_sub(1),
         })?;
-        self.stage = Stage::Waiting(running, request, own);
+        self.stage = Stage::Waiting(running, place);
         Ok(())
     }
 
@@ -173,14 +177,16 @@ impl VirtualMachine {
         Ok(())
     }
 
-    /// What the activation asked is answered.
-    fn answer(&mut self, running: Running, request: Request) -> Result<(), NoMemory>
-        requires fit { AllFit self.old.store }
-        requires classes { HaveClasses self.old.exceptions self.old.store }
-        requires below { AllBelow (length self.old.store) (request_numbers request) }
-        ensures ok { OnOk result (Answered self.old running request self.new) }
+    /// What the activation asked by the event at this place is answered.
+    fn answer(&mut self, running: Running, place: usize) -> Result<(), NoMemory>
+        requires can { CanReply self.old }
+        requires asked { IsQuestion self.old.store.made self.old.events place }
+        ensures ok { OnOk result (Answered self.old running place self.new) }
         ensures err { OnErr result (Halts self.old self.new) }
     {
+        let Some(Event::Ask { request, .. }) = self.events.get(place) else {
+            unreachable!();
+        };
         let reply = reply_to(self.alloc, &self.store, request)?;
         let answer = give(self.alloc, &mut self.store, self.exceptions, reply)?;
         self.got(running, answer)?;
@@ -188,13 +194,13 @@ impl VirtualMachine {
     }
 
     /// The activation gets an answer.
-    fn got(&mut self, running: Running, answer: GotAnswer) -> Result<(), NoMemory>
+    fn got(&mut self, running: Running, answer: Answer) -> Result<(), NoMemory>
         ensures ok { OnOk result (self.new ≡ got_by self.old running answer) }
         ensures err { OnErr result (Halts self.old self.new) }
     {
         self.events.push(Event::Got {
             act: running.act,
-            answer,
+            answer: answer.got(),
         })?;
         self.stage = Stage::Going(running, Input::Answer(answer));
         Ok(())
@@ -219,27 +225,22 @@ impl VirtualMachine {
 
     /// An activation of a function, which hasn't begun.
     fn fresh(&self, act: u64, function: PyObjectRef, args: &ObjList) -> Result<Running, NoMemory>
-        requires { CanCall self.now.codes.codes self.now.store function args.now }
+        requires unchanged { self.now.store.changes ≡ [] }
+        requires callable { CanCall self.now.codes self.now.store.made function args.now }
         ensures { IfOk result (λ running. IsFreshFor self.now act function args.now running) }
     {
-        let place = match self.store.get(function) {
-            Payload::Function(body) => body.code,
-            Payload::None => unreachable!(),
-            Payload::Bool(_) => unreachable!(),
-            Payload::Int(_) => unreachable!(),
-            Payload::Str(_) => unreachable!(),
-            Payload::Tuple(_) => unreachable!(),
-            Payload::Class(_) => unreachable!(),
-            Payload::Exception(_) => unreachable!(),
-        };
-        let Some(code) = self.codes.get(place) else {
+        let Payload::Function(body) = entry(&self.store, function) else {
             unreachable!();
         };
-        Ok(Running {
-            act,
-            code: place,
-            frame: Frame::new(self.alloc, code, args)?,
-        })
+        let Some(code) = self.codes.get(body.code) else {
+            unreachable!();
+        };
+        let size = code.code().co_stacksize() as usize;
+        let stack = OwnStack::new(self.alloc, size)?;
+        let scope = Scope::new(None, self.globals);
+        let mut frame = Frame::new(self.alloc, code, body.code, scope, stack)?;
+        frame.fill(positional(self.alloc, code, args)?);
+        Ok(Running { act, frame })
     }
 }
 

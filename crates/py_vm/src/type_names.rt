@@ -1,29 +1,31 @@
 //! The names of types, and the refusals that name them.
 
-ghost use Rattle.std.specs.Prelude.{◌≡◌, ◌++◌, IfOk, OnOk};
+ghost use Rattle.std.specs.Prelude.{◌≡◌, ◌++◌, [], IfOk, OnOk};
 ghost use Rattle.py_objects.specs.Objects.{HasPayload, class_object, IsMade};
 ghost use Rattle.py_objects.specs.declared.payload.ClassBody.{ClassBody as ClassOf};
 ghost use Rattle.py_objects.specs.declared.payload.Payload.TheVariants.{Class};
-ghost use Rattle.py_vm.specs.Answers.{IsTypeName, sign_of, not_supported};
-ghost use Rattle.py_vm.specs.Replying.{reply_of, IsSized, IsClass, IsRefused};
+ghost use Rattle.py_vm.specs.Answers.{IsTypeName, kind_name, sign_of, not_supported};
+ghost use Rattle.py_vm.specs.Replying.{reply_of, IsSized, IsRefused};
 
 use crate::answer::Reply;
 use crate::text::{put_bytes, put_text};
-use py_code::{NoMemory, PyText, text_of};
-use py_objects::{Arithmetic, ErrorKind, Payload, PyObjectRef, PyTypeRef, Store};
+use crate::values::entry;
+use py_code::{BinaryOperator, NoMemory, PyText, text_of};
+use py_objects::{CoroKind, ErrorKind, Payload, PyObjectRef, PyTypeRef, Store};
 use std::alloc::Global;
 
 /// The refusal of an operator at two payloads.
 pub(crate) fn refused(
     alloc: Global,
     store: &Store,
-    op: Arithmetic,
+    op: BinaryOperator,
     left: &Payload,
     right: &Payload,
 ) -> Result<Reply, NoMemory>
-    requires left_made { IsMade store.now left.now }
-    requires right_made { IsMade store.now right.now }
-    ensures reply { IfOk result (λ reply. IsRefused store.now op left.now right.now (reply_of reply)) }
+    requires unchanged { store.now.changes ≡ [] }
+    requires left_made { IsMade store.now.made left.now }
+    requires right_made { IsMade store.now.made right.now }
+    ensures reply { IfOk result (λ reply. IsRefused store.now.made op left.now right.now (reply_of reply)) }
     ensures sized { IfOk result IsSized }
 {
     let left_type = type_name(alloc, store, left)?;
@@ -34,7 +36,7 @@ pub(crate) fn refused(
 /// The refusal of an operator at operands of types with these names.
 fn not_supported(
     alloc: Global,
-    op: Arithmetic,
+    op: BinaryOperator,
     left: &PyText,
     right: &PyText,
 ) -> Result<Reply, NoMemory>
@@ -52,18 +54,31 @@ fn not_supported(
 }
 
 /// Puts an operator's sign behind a text.
-fn put_sign(text: &mut PyText, op: Arithmetic) -> Result<(), NoMemory>
+fn put_sign(text: &mut PyText, op: BinaryOperator) -> Result<(), NoMemory>
     ensures { OnOk result (text.new ≡ text.old ++ sign_of op) }
 {
     match op {
-        Arithmetic::Add => put_bytes(text, b"+"),
+        BinaryOperator::Power => put_bytes(text, b"**"),
+        BinaryOperator::Multiply => put_bytes(text, b"*"),
+        BinaryOperator::MatrixMultiply => put_bytes(text, b"@"),
+        BinaryOperator::Divide => put_bytes(text, b"/"),
+        BinaryOperator::FloorDivide => put_bytes(text, b"//"),
+        BinaryOperator::Modulo => put_bytes(text, b"%"),
+        BinaryOperator::Add => put_bytes(text, b"+"),
+        BinaryOperator::Subtract => put_bytes(text, b"-"),
+        BinaryOperator::Lshift => put_bytes(text, b"<<"),
+        BinaryOperator::Rshift => put_bytes(text, b">>"),
+        BinaryOperator::And => put_bytes(text, b"&"),
+        BinaryOperator::Xor => put_bytes(text, b"^"),
+        BinaryOperator::Or => put_bytes(text, b"|"),
     }
 }
 
 /// The name of a payload's type.
 fn type_name(alloc: Global, store: &Store, payload: &Payload) -> Result<PyText, NoMemory>
-    requires { IsMade store.now payload.now }
-    ensures { IfOk result (λ name. IsTypeName store.now payload.now name) }
+    requires unchanged { store.now.changes ≡ [] }
+    requires made { IsMade store.now.made payload.now }
+    ensures { IfOk result (λ name. IsTypeName store.now.made payload.now name) }
 {
     match payload {
         Payload::None => text_of(alloc, b"NoneType"),
@@ -71,27 +86,41 @@ fn type_name(alloc: Global, store: &Store, payload: &Payload) -> Result<PyText, 
         Payload::Int(_) => text_of(alloc, b"int"),
         Payload::Str(_) => text_of(alloc, b"str"),
         Payload::Tuple(_) => text_of(alloc, b"tuple"),
+        Payload::Dict(_) => text_of(alloc, b"dict"),
         Payload::Class(_) => text_of(alloc, b"type"),
         Payload::Function(_) => text_of(alloc, b"function"),
+        Payload::Manager(_) => text_of(alloc, b"manager"),
+        Payload::Frame(_) => text_of(alloc, b"frame"),
+        Payload::Generator(body) => kind_name(alloc, body.kind),
         Payload::Exception(body) => class_name(alloc, store, body.class),
+        Payload::Traceback(_) => text_of(alloc, b"traceback"),
+    }
+}
+
+/// The name of a suspended activation's type.
+fn kind_name(alloc: Global, kind: CoroKind) -> Result<PyText, NoMemory>
+    ensures { IfOk result (λ name. name ≡ kind_name kind) }
+{
+    match kind {
+        CoroKind::Generator => text_of(alloc, b"generator"),
+        CoroKind::Coroutine => text_of(alloc, b"coroutine"),
+        CoroKind::AsyncGenerator => text_of(alloc, b"async_generator"),
     }
 }
 
 /// The name of a class.
 fn class_name(alloc: Global, store: &Store, class: PyTypeRef) -> Result<PyText, NoMemory>
-    requires { IsClass store.now class }
-    ensures { IfOk result (λ name. (c : ClassOf) × HasPayload store.now (class_object class) (Class c) × (name ≡ c.name)) }
+    requires unchanged { store.now.changes ≡ [] }
+    requires class { (c : ClassOf) × HasPayload store.now.made (class_object class) (Class c) }
+    ensures { IfOk result (λ name. (c : ClassOf) × HasPayload store.now.made (class_object class) (Class c) × (name ≡ c.name)) }
 {
-    match store.get(PyObjectRef {
-        number: class.number,
-    }) {
-        Payload::Class(body) => body.name.copy(alloc),
-        Payload::None => unreachable!(),
-        Payload::Bool(_) => unreachable!(),
-        Payload::Int(_) => unreachable!(),
-        Payload::Str(_) => unreachable!(),
-        Payload::Tuple(_) => unreachable!(),
-        Payload::Function(_) => unreachable!(),
-        Payload::Exception(_) => unreachable!(),
-    }
+    let Payload::Class(body) = entry(
+        store,
+        PyObjectRef {
+            number: class.number,
+        },
+    ) else {
+        unreachable!();
+    };
+    body.name.copy(alloc)
 }

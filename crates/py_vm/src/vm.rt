@@ -3,17 +3,19 @@
 ghost use Rattle.std.specs.Prelude.{◌≡◌, ◌≤◌, ◌<◌, ◌+◌, [], ◌∷◌, ◌++◌, suc, length, Err, IfOk, OnOk, OnErr};
 ghost use Rattle.py_objects.specs.Objects.{payload_numbers, AllBelow, IsMade};
 ghost use Rattle.py_vm.specs.Classes.{first_objects};
-ghost use Rattle.py_vm.specs.Machine.{events_of, objects_of, codes_of, done_of};
+ghost use Rattle.py_vm.specs.Machine.{events_of, objects_of, changes_of, checked_of, codes_of, done_of};
 ghost use Rattle.py_vm.specs.Stands.{IsCallable, Stands, Adds, EndsBy};
 ghost use Rattle.py_vm.specs.Turns.{first_stage};
 
+use crate::codes::CheckedCodes;
 use crate::drive::Drive;
 use crate::exceptions::ExceptionZoo;
 use crate::fault::VmFault;
 use crate::journal::Journal;
 use crate::stage::Stage;
-use py_code::{CodeList, Names, NoMemory, PyCode};
-use py_objects::{ChangeList, DriveAnswer, EventList, Payload, PyObjectRef, Store};
+use py_check::CheckedCode;
+use py_code::{Names, NoMemory};
+use py_objects::{DriveAnswer, EventList, PairList, Payload, PyObjectRef, Store};
 use std::alloc::Global;
 
 /// A machine that runs drives one behind the other, one event a turn.
@@ -21,9 +23,11 @@ use std::alloc::Global;
 pub struct VirtualMachine {
     pub(crate) alloc: Global,
     pub(crate) store: Store,
-    pub(crate) codes: CodeList,
+    pub(crate) codes: CheckedCodes,
     pub(crate) events: EventList,
     pub(crate) exceptions: ExceptionZoo,
+    /// The dict of the globals.
+    pub(crate) globals: PyObjectRef,
     /// How many drives have their result.
     pub(crate) done: u64,
     /// How many activations were made.
@@ -32,21 +36,25 @@ pub struct VirtualMachine {
 }
 
 impl VirtualMachine {
-    /// A machine whose codes' names are places in this table. Its objects are `None` and the built-in exception classes.
+    /// A machine whose codes' names are places in this table. Its objects are `None`, the built-in exception classes
+    /// and the dict of the globals.
     pub fn new(alloc: Global, names: Names) -> Result<VirtualMachine, NoMemory>
         ensures stands { IfOk result (λ vm. Stands vm) }
         ensures objects { IfOk result (λ vm. objects_of vm ≡ first_objects) }
+        ensures changes { IfOk result (λ vm. changes_of vm ≡ []) }
         ensures events { IfOk result (λ vm. events_of vm ≡ []) }
-        ensures codes { IfOk result (λ vm. codes_of vm ≡ record { names = names; codes = [] }) }
+        ensures codes { IfOk result (λ vm. checked_of vm ≡ record { names = names; codes = [] }) }
     {
         let mut store = Store::new(alloc)?;
         let exceptions = ExceptionZoo::new(alloc, &mut store)?;
+        let globals = store.add(Payload::Dict(PairList::new(alloc)))?;
         Ok(VirtualMachine {
             alloc,
             store,
-            codes: CodeList::new(alloc, names),
+            codes: CheckedCodes::new(alloc, names),
             events: EventList::new(alloc),
             exceptions,
+            globals,
             done: 0,
             made: 0,
             stage: Stage::Idle,
@@ -54,12 +62,13 @@ impl VirtualMachine {
     }
 
     /// Puts a code behind the others, and gives its place, by which functions name it.
-    pub fn add_code(&mut self, code: PyCode) -> Result<usize, NoMemory>
+    pub fn add_code(&mut self, code: CheckedCode) -> Result<usize, NoMemory>
         requires { Stands self.old }
-        ensures place { IfOk result (λ place. place ≡ length (codes_of self.old).codes) }
-        ensures added { OnOk result (codes_of self.new ≡ record (codes_of self.old) { codes = (codes_of self.old).codes ++ code ∷ [] }) }
+        ensures place { IfOk result (λ place. place ≡ length (checked_of self.old).codes) }
+        ensures added { OnOk result (checked_of self.new ≡ record (checked_of self.old) { codes = (checked_of self.old).codes ++ code ∷ [] }) }
         ensures events { events_of self.new ≡ events_of self.old }
         ensures objects { objects_of self.new ≡ objects_of self.old }
+        ensures changes { changes_of self.new ≡ changes_of self.old }
         ensures stands { Stands self.new }
         ensures err { OnErr result (self.new ≡ self.old) }
     {
@@ -75,8 +84,9 @@ impl VirtualMachine {
         requires made { IsMade (objects_of self.old) payload }
         ensures number { IfOk result (λ object. object.number ≡ length (objects_of self.old)) }
         ensures added { OnOk result (objects_of self.new ≡ objects_of self.old ++ payload ∷ []) }
+        ensures changes { changes_of self.new ≡ changes_of self.old }
         ensures events { events_of self.new ≡ events_of self.old }
-        ensures codes { codes_of self.new ≡ codes_of self.old }
+        ensures codes { checked_of self.new ≡ checked_of self.old }
         ensures stands { Stands self.new }
         ensures err { OnErr result (self.new ≡ self.old) }
     {
@@ -109,6 +119,13 @@ impl VirtualMachine {
         Err(VmFault::OutOfTurns)
     }
 
+    /// The table that the codes' names are places in.
+    pub fn names(&self) -> &Names
+        ensures { result.now ≡ (checked_of self.now).names }
+    {
+        self.codes.names()
+    }
+
     /// How many events there are.
     pub fn events(&self) -> u64
         ensures { result ≡ length (events_of self.now) }
@@ -118,23 +135,25 @@ impl VirtualMachine {
 
     /// The objects.
     pub fn store(&self) -> &Store
-        ensures { result.now ≡ objects_of self.now }
+        ensures objects { result.now.made ≡ objects_of self.now }
+        ensures changes { result.now.changes ≡ changes_of self.now }
     {
         &self.store
     }
 
-    /// All that happened. No object was changed.
+    /// All that happened.
     pub fn journal(self) -> Journal
         ensures events { result.events ≡ events_of self }
         ensures objects { result.objects ≡ objects_of self }
-        ensures changes { result.changes ≡ [] }
+        ensures changes { result.changes ≡ changes_of self }
         ensures codes { result.codes ≡ codes_of self }
     {
+        let history = self.store.into_history();
         Journal {
             events: self.events,
-            objects: self.store.into_payloads(),
-            changes: ChangeList::new(self.alloc),
-            codes: self.codes,
+            objects: history.objects,
+            changes: history.changes,
+            codes: self.codes.into_list(),
         }
     }
 }

@@ -1,5 +1,5 @@
 use Rattle.std.proofs.Common.{refl}
-use Rattle.py_check.proofs.WorkedLemmas.{typed, breaks, breaks_whole}
+use Rattle.py_check.proofs.WorkedLemmas.{typed, breaks, breaks_first, breaks_whole}
 use Rattle.py_check.proofs.worked.worked_notes.Goals as goal
 
 pub returns-clause-sum_keeps : goal.returns-clause-sum_keeps
@@ -34,6 +34,27 @@ returns-clause-no_end c = breaks _ _ refl refl refl
 
 pub returns-clause-unknown : goal.returns-clause-unknown
 returns-clause-unknown c = breaks_whole _ refl
+
+pub returns-clause-subtracts : goal.returns-clause-subtracts
+returns-clause-subtracts c = breaks _ _ refl refl refl
+
+pub returns-clause-loads_truth : goal.returns-clause-loads_truth
+returns-clause-loads_truth c truth = typed _ refl refl
+
+pub returns-clause-loads_tuple : goal.returns-clause-loads_tuple
+returns-clause-loads_tuple c items = breaks_first _ refl
+
+pub returns-clause-loads_builtin : goal.returns-clause-loads_builtin
+returns-clause-loads_builtin c f = breaks _ _ refl refl refl
+
+pub returns-clause-loads_code : goal.returns-clause-loads_code
+returns-clause-loads_code c n = breaks_whole _ refl
+
+pub returns-clause-returns_tuple : goal.returns-clause-returns_tuple
+returns-clause-returns_tuple c items = breaks_first _ refl
+
+pub returns-clause-returns_builtin : goal.returns-clause-returns_builtin
+returns-clause-returns_builtin c f = breaks _ _ refl refl refl
 
 pub returns-clause-three_prefixes : goal.returns-clause-three_prefixes
 returns-clause-three_prefixes c = typed _ refl refl

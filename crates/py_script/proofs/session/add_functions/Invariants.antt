@@ -1,6 +1,6 @@
 use Rattle.std.proofs.Common.{◌≡◌, ◌++◌, length, map, take}
 use Rattle.py_grammar.specs.Script.{declared_tree}
-use Rattle.py_vm.specs.Machine.{events_of, objects_of, codes_of}
+use Rattle.py_vm.specs.Machine.{events_of, objects_of, checked_of}
 use Rattle.py_vm.specs.Stands.{Stands}
 use Rattle.py_script.specs.Loaded.{function_entries}
 use Rattle.py_script.specs.Session.{refs_from}
@@ -10,7 +10,7 @@ abbrev pub invariant-loop-code : goal.invariant-loop-code
 invariant-loop-code l = record {
   functions : l.functions ≡ refs_from (length (objects_of l.fn.vm)) l.code;
   objects : objects_of l.vm ≡ objects_of l.fn.vm ++ function_entries 0 (map declared_tree (take l.code l.declarations));
-  codes : codes_of l.vm ≡ codes_of l.fn.vm;
+  codes : checked_of l.vm ≡ checked_of l.fn.vm;
   events : events_of l.vm ≡ events_of l.fn.vm;
   stands : Stands l.vm;
 }

@@ -1,9 +1,9 @@
-use Rattle.std.proofs.Common.{◌≡◌, ◌∙◌, ◌+◌, ◌++◌, ◌∷◌, [], List, length, map, take, ap, sym, subst, arith, length-append}
-use Rattle.py_code.specs.declared.code.PyCode.{PyCode}
+use Rattle.std.proofs.Common.{◌≡◌, ◌∙◌, ◌+◌, ◌++◌, ◌∷◌, [], ℕ, List, length, map, take, ap, sym, subst, arith, length-append}
+use Rattle.py_check.specs.declared.annotated.Annotated.{Annotated}
 use Rattle.py_body.specs.Tree.{Tree}
 use Rattle.py_grammar.specs.Script.{declared_tree}
-use Rattle.py_script.specs.Loaded.{AreCompiled}
-use Rattle.py_script.proofs.Loading.{entry_read, front_more, front_length, front_whole, compiled_more}
+use Rattle.py_script.specs.Loaded.{AreChecked}
+use Rattle.py_script.proofs.Loading.{entry_read, front_more, front_length, front_whole, checked_more}
 use Rattle.py_script.proofs.session.compile_all.Goals as goal
 
 pub compile_one-requires : goal.compile_one-requires
@@ -15,18 +15,19 @@ loop-declaration-preserved c =
     let i = c.loop-declaration.declaration-index in
     let ds = c.args.declarations.now in
     let front : List Tree = map declared_tree (take i ds) in
-    let codes : List PyCode = c.loop-declaration.codes.items in
+    let names : List (List ℕ) = c.compile_one.new.names in
+    let codes : List Annotated = c.loop-declaration.codes.items in
     let code = c.in_ok-code.code in
     let tree = declared_tree c.declaration-item.result in
     let size : length codes ≡ length front = c.loop-declaration.invariant.count ∙ sym (front_length declared_tree ds i c.loop-declaration-test.true) in
-    let more = compiled_more front codes tree code c.loop-declaration.invariant.compiled size c.in_ok-code.ensures in
+    let more = checked_more front c.loop-declaration.names names codes tree code c.loop-declaration.invariant.checked size c.compile_one.ensures.grows c.in_ok-code.ensures.fits in
     let count : length c.push.new.self.items ≡ i + 1 = ap length c.in_ok-push.ensures.items ∙ (length-append codes (code ∷ []) ∙ ap (λ n. n + 1) c.loop-declaration.invariant.count) in
     record {
-      compiled = subst (λ (cs : List PyCode). AreCompiled (map declared_tree (take (i + 1) ds)) cs) (sym c.in_ok-push.ensures.items)
-          (subst (λ (ts : List Tree). AreCompiled ts (codes ++ code ∷ [])) (sym (front_more declared_tree ds i c.declaration-item.result c.loop-declaration-test.true c.declaration-item.is)) more);
+      checked = subst (λ (cs : List Annotated). AreChecked (map declared_tree (take (i + 1) ds)) (record { names = names; codes = cs })) (sym c.in_ok-push.ensures.items)
+          (subst (λ (ts : List Tree). AreChecked ts (record { names = names; codes = codes ++ code ∷ [] })) (sym (front_more declared_tree ds i c.declaration-item.result c.loop-declaration-test.true c.declaration-item.is)) more);
       count = count;
     }
 
 pub returns : goal.returns
-returns c = subst (λ (ts : List Tree). AreCompiled ts c.loop-declaration.codes.items)
-    (front_whole declared_tree c.args.declarations.now c.loop-declaration.declaration-index (omega (arith, c.loop-declaration-test.false))) c.loop-declaration.invariant.compiled
+returns c = subst (λ (ts : List Tree). AreChecked ts (record { names = c.loop-declaration.names; codes = c.loop-declaration.codes.items }))
+    (front_whole declared_tree c.args.declarations.now c.loop-declaration.declaration-index (omega (arith, c.loop-declaration-test.false))) c.loop-declaration.invariant.checked

@@ -1,10 +1,10 @@
 use Rattle.std.proofs.Common.{◌≡◌, length, map, take}
 use Rattle.py_grammar.specs.Script.{declared_tree}
-use Rattle.py_script.specs.Loaded.{AreCompiled}
+use Rattle.py_script.specs.Loaded.{AreChecked}
 use Rattle.py_script.proofs.session.compile_all.Given as goal
 
 abbrev pub invariant-loop-declaration : goal.invariant-loop-declaration
 invariant-loop-declaration l = record {
-  compiled : AreCompiled (map declared_tree (take l.declaration-index l.declarations)) l.codes.items;
+  checked : AreChecked (map declared_tree (take l.declaration-index l.declarations)) (record { names = l.names; codes = l.codes.items });
   count : length l.codes.items ≡ l.declaration-index;
 }

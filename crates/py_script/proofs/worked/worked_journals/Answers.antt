@@ -1,4 +1,4 @@
-use Rattle.py_script.proofs.WorkedLemmas.{spelled, is_run, front_is_run, no_round, no_swapped_operands, no_drive_beyond, no_other_code, no_other_name, overflow_is_run, errors_are_run, no_error_twice}
+use Rattle.py_script.proofs.WorkedLemmas.{spelled, is_run, front_is_run, no_round, no_swapped_operands, no_drive_beyond, no_other_code, no_other_name, no_manager, overflow_is_run, errors_are_run, no_error_twice}
 use Rattle.py_script.proofs.OneText.{text, text_of_sum, overflow_text, text_of_overflow}
 use Rattle.py_script.proofs.worked.worked_journals.Goals as goal
 
@@ -28,6 +28,9 @@ returns-clause-no_other_code c = no_other_code
 
 pub returns-clause-no_other_name : goal.returns-clause-no_other_name
 returns-clause-no_other_name c = no_other_name
+
+pub returns-clause-no_manager : goal.returns-clause-no_manager
+returns-clause-no_manager c = no_manager
 
 pub returns-clause-overflow_text : goal.returns-clause-overflow_text
 returns-clause-overflow_text c = overflow_text

@@ -1,8 +1,17 @@
-use Rattle.py_vm.proofs.StraightCodes.{sum_sound}
+use Rattle.std.proofs.Common.{refl, sym, subst}
+use Rattle.py_check.specs.declared.annotated.Annotated.{Annotated}
+use Rattle.py_check.specs.Sheet.{Sheet}
+use Rattle.py_check.specs.Worked.{sum}
+use Rattle.py_check.proofs.WorkedLemmas.{typed}
+use Rattle.py_frame.specs.Fitting.{IsSound}
 use Rattle.py_vm.proofs.tests.sum_code.Goals as goal
 
+abbrev worked : Sheet
+worked = record sum { varnames = 3 }
+
+pub of-requires : goal.of-requires
+of-requires c = typed worked refl refl _ c.in_ok-code.ensures.sheet
+
 pub returns : goal.returns
-returns c =
-    sum_sound _
-    (rw (c.in_ok-code.ensures.units, c.in_ok-put-4.ensures, c.in_ok-put-3.ensures, c.in_ok-put-2.ensures, c.in_ok-put.ensures, c.new-units.ensures.items))
-    c.in_ok-code.ensures.locals
+returns c names three =
+    subst (λ (a : Annotated). IsSound names a) (sym c.of.ensures) (record { typed = typed worked refl refl _ c.in_ok-code.ensures.sheet; named = c.in_ok-code.ensures.names names three })

@@ -1,21 +1,22 @@
-use Rattle.std.proofs.Common.{[], ◌∷◌}
-use Rattle.py_objects.specs.Own.{Gets}
-use Rattle.py_frame.proofs.Stepping.{answer_leads, answer_moves, answer_told, done_goes, done_tells, expects_answer, if_ok_leads, running_there}
+use Rattle.std.proofs.Common.{◌-◌, sym, ap, subst}
+use Rattle.std.specs.Prelude.{slice_get}
+use Rattle.py_code.specs.declared.code.PyCode.{PyCode}
+use Rattle.py_frame.specs.declared.input.Input.TheVariants.{Answer}
+use Rattle.py_frame.specs.Fitting.{Framed}
+use Rattle.py_frame.specs.UnitSteps.{UnitTakes}
+use Rattle.py_frame.proofs.RunningLemmas.{answer_needs, expects_answer}
+use Rattle.py_frame.proofs.Stepping.{value_heard, raise_heard, heard_leads}
 use Rattle.py_frame.proofs.frame.Frame.answer.Goals as goal
 
-pub run-requires-clause-running : goal.run-requires-clause-running
-run-requires-clause-running c =
-    running_there _ _ _ _ _ c.requires.running
-    (answer_leads _ _ _ _ _ (expects_answer _ _ c.requires.expected) (done_goes _ _ _ _ c.in_ok-receive.ensures c.in-Goes.is))
+pub receive-requires : goal.receive-requires
+receive-requires g c =
+    subst (λ (k : PyCode). UnitTakes (slice_get k.code.instructions.items (c.args.self.now.state.at - 1)) c.args.self.now) (sym c.code.ensures.value)
+    (answer_needs _ _ _ _ c.in-Value.value c.requires.running (expects_answer _ _ c.requires.expected))
 
-pub returns-in-Goes-clause-leads : goal.returns-in-Goes-clause-leads
-returns-in-Goes-clause-leads c =
-    if_ok_leads c.args.store.now _ _ _ _ _ (Gets c.args.answer ∷ []) c.run.result c.run.ensures.objects
-    (answer_leads _ _ _ _ _ (expects_answer _ _ c.requires.expected) (done_goes _ _ _ _ c.in_ok-receive.ensures c.in-Goes.is)) c.run.ensures.leads
+pub returns-in-Value-clause-leads : goal.returns-in-Value-clause-leads
+returns-in-Value-clause-leads g c =
+    heard_leads c.args.store.now.made _ _ _ _ _ (Answer c.args.answer) c.run.result c.run.ensures.objects
+    (value_heard _ _ _ _ _ _ _ _ c.code.ensures.value c.in-Value.ensures c.requires.expected c.receive.ensures.row) c.run.ensures.leads
 
-pub returns-in-Tells-clause-leads : goal.returns-in-Tells-clause-leads
-returns-in-Tells-clause-leads c =
-    answer_told _ _ _ _ _ _ (expects_answer _ _ c.requires.expected) (done_tells _ _ _ _ _ c.in_ok-receive.ensures c.in-Tells.is)
-
-pub unreachable-requires : goal.unreachable-requires
-unreachable-requires c = answer_moves _ _ _ _ _ _ c.requires.running c.requires.expected c.in_ok-receive.ensures c.in-Stuck.is
+pub returns-in-Raise-clause-leads : goal.returns-in-Raise-clause-leads
+returns-in-Raise-clause-leads g c = raise_heard _ _ _ _ _ _ c.in-Raise.ensures c.requires.expected (ap (λ (f : Framed). f.state) c.waits.ensures)

@@ -49,4 +49,4 @@ pub returns-clause-ready : goal.returns-clause-ready
 returns-clause-ready c =
     called_ready (trees_of c.args.script.now) (drives_of c.args.script.now) c.args.self.now c.arguments.new.self c.drive.new.self (record { function = c.args.name.now; args = c.args.atoms.now }) c.place_of-place.result
     c.function_at-function.result c.in-Ok.args c.requires.ready c.in-Ok.ensures.grew c.requires.next (named _ _ _ _ c.as_slice.ensures c.place_of-place.ensures) c.function_at-function.ensures (given _ _ _ _ c.as_slice-2.ensures c.in-Ok.ensures.are) c.in_ok-_answer.ensures.adds
-    c.in_ok-_answer.ensures.done
+    c.in_ok-_answer.ensures.done c.in_ok-_answer._answer c.in_ok-_answer.ensures.answer

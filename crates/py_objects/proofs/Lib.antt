@@ -1,0 +1,7 @@
+pub mod AttrsLemmas
+pub mod PairsLemmas
+pub mod Slots
+pub mod BelowLemmas
+pub mod EditsLemmas
+pub mod OriginalsLemmas
+pub mod StoreLemmas

@@ -1,0 +1,106 @@
+//! What can be read off payloads, and the keys of dicts.
+
+ghost use Rattle.std.specs.Prelude.{◌≡◌, ◌<◌, length, IfSome, option_map, option_copied};
+ghost use Rattle.py_objects.specs.Keys.{place_of_key};
+ghost use Rattle.py_objects.specs.Values.{is_none_payload, number_of, text_of, same_key, same_value};
+
+use crate::payload::Payload;
+use crate::refs::PyObjectRef;
+use py_code::{PyText, same_text};
+
+impl Payload {
+    /// A number's value: True counts as 1 and False as 0.
+    pub(crate) fn number(&self) -> Option<i128>
+        ensures { result ≡ number_of self.now }
+    {
+        match self {
+            Payload::Bool(flag) => Some(i128::from(*flag)),
+            Payload::Int(number) => Some(*number),
+            Payload::None
+            | Payload::Str(_)
+            | Payload::Tuple(_)
+            | Payload::Dict(_)
+            | Payload::Class(_)
+            | Payload::Function(_)
+            | Payload::Manager(_)
+            | Payload::Frame(_)
+            | Payload::Generator(_)
+            | Payload::Exception(_)
+            | Payload::Traceback(_) => None,
+        }
+    }
+
+    /// The characters of a text.
+    pub(crate) fn text(&self) -> Option<&PyText>
+        ensures { option_copied result ≡ text_of self.now }
+    {
+        match self {
+            Payload::Str(text) => Some(text),
+            Payload::None
+            | Payload::Bool(_)
+            | Payload::Int(_)
+            | Payload::Tuple(_)
+            | Payload::Dict(_)
+            | Payload::Class(_)
+            | Payload::Function(_)
+            | Payload::Manager(_)
+            | Payload::Frame(_)
+            | Payload::Generator(_)
+            | Payload::Exception(_)
+            | Payload::Traceback(_) => None,
+        }
+    }
+
+    /// Whether it is `None`.
+    fn is_none(&self) -> bool
+        ensures { result ≡ is_none_payload self.now }
+    {
+        matches!(self, Payload::None)
+    }
+
+    /// Whether two values are one key, as values go.
+    pub(crate) fn same_value(&self, other: &Payload) -> bool
+        ensures { result ≡ same_value self.now other.now }
+    {
+        if self.is_none() && other.is_none() {
+            return true;
+        }
+        if let (Some(left), Some(right)) = (self.number(), other.number()) {
+            return left == right;
+        }
+        match (self.text(), other.text()) {
+            (Some(left), Some(right)) => same_text(left, right),
+            _ => false,
+        }
+    }
+}
+
+/// Whether two objects are one key.
+fn same_key(payloads: &[Payload], left: PyObjectRef, right: PyObjectRef) -> bool
+    ensures { result ≡ same_key payloads.now left right }
+{
+    if left.number == right.number {
+        return true;
+    }
+    match (
+        payloads.get(left.number as usize),
+        payloads.get(right.number as usize),
+    ) {
+        (Some(left), Some(right)) => left.same_value(right),
+        _ => false,
+    }
+}
+
+/// The place of a key among pairs.
+pub(crate) fn place_of_key(
+    payloads: &[Payload],
+    key: PyObjectRef,
+    pairs: &[(PyObjectRef, PyObjectRef)],
+) -> Option<usize>
+    ensures place { result ≡ place_of_key payloads.now key pairs.now }
+    ensures within { IfSome result (λ at. at < length pairs.now) }
+{
+    pairs
+        .iter()
+        .position(|pair| same_key(payloads, key, pair.0))
+}
