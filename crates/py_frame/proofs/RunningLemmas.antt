@@ -13,13 +13,12 @@ use Rattle.py_objects.specs.Objects.{Obj, Grows}
 use Rattle.py_objects.specs.Own.{Own}
 use Rattle.py_check.specs.declared.annotated.Annotated.{Annotated}
 use Rattle.py_frame.specs.declared.input.Answer.{Answer}
-use Rattle.py_frame.specs.declared.input.Answer.TheVariants as answer
 use Rattle.py_frame.specs.declared.input.Input.TheVariants as input
 use Rattle.py_frame.specs.declared.input.Expect.{Expect}
 use Rattle.py_frame.specs.declared.input.Expect.TheVariants as expect
 use Rattle.py_frame.specs.Rows.{State, Step, Goes, Tells, Stuck, Move, Plainly, Loads, waiting, advance, answered, unit_answered, receive}
-use Rattle.py_frame.specs.RunOfRows.{Behind, ByStep, ByMove, Steps, Reaches, filled, started, IsFree}
-use Rattle.py_frame.specs.Steps.{Expects, got_of}
+use Rattle.py_frame.specs.RunOfRows.{Behind, ByStep, ByMove, Steps, Reaches, filled, started}
+use Rattle.py_frame.specs.Steps.{Expects}
 use Rattle.py_frame.specs.UnitSteps.{Takes, UnitTakes, IsSame}
 use Rattle.py_frame.specs.Fitting.{FitsNote, FitsAnswered, FitsAt, IsSound, Framed, IsRunning}
 use Rattle.py_frame.specs.Laws.{RunsFit}
@@ -145,22 +144,6 @@ pub answered_goes : (objects : List Payload) (code : Annotated) (step : Step) �
 answered_goes objects code (Goes t) fits = (t, refl)
 answered_goes objects code (Tells x t) fits = absurd fits
 answered_goes objects code Stuck fits = absurd fits
-
--- a value that a frame waits for is taken silently
-pub value_taken : (objects : List Payload) (names : List (List ℕ)) (code : Annotated) (f : Framed) (v : Obj) → IsRunning objects names code f → f.state.wants ≡ expect.Answer
-    → (t : State) × (receive (record { code = code.code; names = names }) (got.Value v) f.state ≡ Goes t)
-value_taken objects names code f v running wants = answered_goes objects code _ (fits_answered objects names code f v running wants)
-
--- a frame that runs has a meaning for each answer that it expects
-pub running_hears : (objects : List Payload) (names : List (List ℕ)) (code : Annotated) (f : Framed) (w : Answer) → IsRunning objects names code f → Expects f.state.wants (input.Answer w)
-    → IsFree (receive (record { code = code.code; names = names }) (got_of w) f.state)
-running_hears objects names code f (answer.Value v) running expects =
-    let (t, goes) = value_taken objects names code f v running (expects_answer f.state.wants (answer.Value v) expects) in
-    subst IsFree (sym goes) tt
-running_hears objects names code f (answer.Stop v) running expects =
-    (let never : ⊥ = subst (λ (x : Expect). Expects x (input.Answer (answer.Stop v))) (expects_answer f.state.wants (answer.Stop v) expects) expects in absurd never)
-running_hears objects names code f (answer.Fresh e) running expects = tt
-running_hears objects names code f (answer.Passed e) running expects = tt
 
 -- a frame that fits its note stands in front of a unit, and its stack is not too long
 pub note_within : (objects : List Payload) (names : List (List ℕ)) (code : Annotated) (s : State) → IsSound names code → FitsNote objects code s → s.at < length code.code.code.instructions.items

@@ -2,7 +2,6 @@
 use Rattle.std.specs.Prelude.{ℕ, zero, suc, Option, Some, None, List, [], ◌∷◌, ◌≡◌, length}
 use Rattle.py_objects.specs.declared.payload.Payload.{Payload}
 use Rattle.py_objects.specs.declared.event.GotAnswer.{GotAnswer}
-use Rattle.py_objects.specs.declared.event.GotAnswer.TheVariants as got
 use Rattle.py_objects.specs.declared.event.ResumeHow.TheVariants as how
 use Rattle.py_objects.specs.Objects.{Obj, HasPayload}
 use Rattle.py_objects.specs.Own.{Own, Makes, Resumes, Gets}
@@ -53,21 +52,3 @@ IsAt objects code args ts s = (n : ℕ) × (us : List Own) × (ts ≡ Makes ∷ 
 -- the events are a run of the rows of the code, whole or cut
 abbrev pub RowsRun : List Payload → NamedCode → List Obj → List Own → Type 0
 RowsRun objects code args ts = (s : State) × IsAt objects code args ts s
-
--- a step that has a meaning
-abbrev pub IsFree : Step → Type 0
-IsFree (Goes s) = Unit {0}
-IsFree (Tells x s) = Unit {0}
-IsFree Stuck = ⊥
-
--- the same of a unit's step, whichever object it loads
-abbrev pub IsFreeMove : Move → Type 0
-IsFreeMove (Plainly step) = IsFree step
-IsFreeMove (Loads p f) = (v : Obj) → IsFree (f v)
-
--- a state whose next unit has a meaning, or any value that answers it
-abbrev pub IsFreeAt : NamedCode → Expect → State → Type 0
-IsFreeAt code expect.Start s = Unit {0}
-IsFreeAt code expect.Go s = IsFreeMove (advance code s)
-IsFreeAt code expect.Answer s = (v : Obj) → IsFree (receive code (got.Value v) s)
-IsFreeAt code expect.Ended s = Unit {0}
