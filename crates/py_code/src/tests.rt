@@ -68,6 +68,9 @@ fn an_argument_keeps_its_low_32_bits(rt: HostRuntime) {
     assert_eq!(rt; state.extend(5), OpArg(0x0203_0405));
     state.reset();
     assert_eq!(rt; state.extend(7), OpArg(7));
+    let mut built = OpArgState::of(OpArg(2));
+    assert_eq!(rt; built.arg(), OpArg(2));
+    assert_eq!(rt; built.extend(1), OpArg(513));
 }
 
 #[test]

@@ -55,6 +55,20 @@ impl OpArgState {
         OpArg(self.state)
     }
 
+    /// Where the bytes so far have built this argument.
+    pub fn of(arg: OpArg) -> OpArgState
+        ensures { result ≡ arg.0 }
+    {
+        OpArgState { state: arg.0 }
+    }
+
+    /// The argument so far.
+    pub fn arg(&self) -> OpArg
+        ensures { result.0 ≡ self.now }
+    {
+        OpArg(self.state)
+    }
+
     /// Forgets the prefixes so far.
     pub fn reset(&mut self)
         ensures { self.new ≡ 0 }
