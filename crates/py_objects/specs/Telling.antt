@@ -1,13 +1,13 @@
 -- The words in which bodies tell their events. Each takes the events that are told and, last, what may follow: K holds of
 -- what comes of it and of the events behind. Where nothing is left to tell, the telling is cut there.
-use Rattle.std.specs.Prelude.{ℕ, Option, List, [], ◌∷◌, ◌≡◌, ◌⊎◌}
+use Rattle.std.specs.Prelude.{ℕ, Bool, true, Option, List, [], ◌∷◌, ◌≡◌, ◌⊎◌}
 use Rattle.py_objects.specs.declared.refs.PyBaseExceptionRef.{PyBaseExceptionRef}
 use Rattle.py_objects.specs.declared.payload.Payload.{Payload}
 use Rattle.py_objects.specs.declared.request.Request.{Request}
 use Rattle.py_objects.specs.declared.event.GotAnswer.{GotAnswer}
 use Rattle.py_objects.specs.declared.event.GotAnswer.TheVariants as got
 use Rattle.py_objects.specs.Objects.{Obj, HasPayload}
-use Rattle.py_objects.specs.Own.{Own, Asks, Gets}
+use Rattle.py_objects.specs.Own.{Own, Asks, Gets, Rounds}
 
 -- what comes of a load or a request: a value, a raise, or the end of what is told
 pub data Value : Type 0 where
@@ -33,6 +33,11 @@ Answers (got.Stop v) ts K = ⊥
 abbrev pub Answered : List Own → AfterValue → Type 0
 Answered ts K = ((ts ≡ []) × K Stopped []) ⊎ ((w : GotAnswer) × (mid : List Own) × (ts ≡ Gets w ∷ mid) × Answers w mid K)
 
--- a request while h is handled, from whatever unit, and its answer
-abbrev pub Asked : Request → Option PyBaseExceptionRef → List Own → AfterValue → Type 0
-Asked r h ts K = ((ts ≡ []) × K Stopped []) ⊎ ((at : ℕ) × (mid : List Own) × (ts ≡ Asks at r h ∷ mid) × Answered mid K)
+-- a request while h is handled, from one of these units, and its answer
+abbrev pub Asked : (ℕ → Bool) → Request → Option PyBaseExceptionRef → List Own → AfterValue → Type 0
+Asked units r h ts K =
+    ((ts ≡ []) × K Stopped []) ⊎ ((at : ℕ) × (mid : List Own) × (units at ≡ true) × (ts ≡ Asks at r h ∷ mid) × Answered mid K)
+
+-- a round of a loop, or the end of what is told
+abbrev pub Rounded : List Own → Type 0 → (List Own → Type 0) → Type 0
+Rounded ts cut next = ((ts ≡ []) × cut) ⊎ ((at : ℕ) × (mid : List Own) × (ts ≡ Rounds at ∷ mid) × next mid)

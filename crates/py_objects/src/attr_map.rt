@@ -58,7 +58,7 @@ impl AttrMap {
     }
 
     /// Takes a name off; the others keep their order.
-    pub(crate) fn remove(&mut self, name: &PyText)
+    pub fn remove(&mut self, name: &PyText)
         ensures { self.new ≡ without name.now self.old }
     {
         let _value = self.entries.shift_remove(name.as_slice());

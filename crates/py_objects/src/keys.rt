@@ -1,6 +1,7 @@
 //! What can be read off payloads, and the keys of dicts.
 
-ghost use Rattle.std.specs.Prelude.{◌≡◌, ◌<◌, length, IfSome, option_map, option_copied};
+ghost use Rattle.std.specs.Prelude.{◌≡◌, ◌<◌, length, FitsSigned, IfSome, option_map, option_copied};
+ghost use Rattle.std.specs.Int.{w128};
 ghost use Rattle.py_objects.specs.Keys.{place_of_key};
 ghost use Rattle.py_objects.specs.Values.{is_none_payload, number_of, text_of, same_key, same_value};
 
@@ -10,8 +11,9 @@ use py_code::{PyText, same_text};
 
 impl Payload {
     /// A number's value: True counts as 1 and False as 0.
-    pub(crate) fn number(&self) -> Option<i128>
-        ensures { result ≡ number_of self.now }
+    pub fn number(&self) -> Option<i128>
+        ensures value { result ≡ number_of self.now }
+        ensures fits { IfSome result (FitsSigned w128) }
     {
         match self {
             Payload::Bool(flag) => Some(i128::from(*flag)),
@@ -31,7 +33,7 @@ impl Payload {
     }
 
     /// The characters of a text.
-    pub(crate) fn text(&self) -> Option<&PyText>
+    pub fn text(&self) -> Option<&PyText>
         ensures { option_copied result ≡ text_of self.now }
     {
         match self {
@@ -59,7 +61,7 @@ impl Payload {
     }
 
     /// Whether two values are one key, as values go.
-    pub(crate) fn same_value(&self, other: &Payload) -> bool
+    pub fn same_value(&self, other: &Payload) -> bool
         ensures { result ≡ same_value self.now other.now }
     {
         if self.is_none() && other.is_none() {
