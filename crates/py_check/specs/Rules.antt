@@ -3,11 +3,13 @@ use Rattle.std.specs.Prelude.{◌≡◌, ◌⊎◌, ℕ, zero, suc, ◌+◌, ◌
 use Rattle.std.specs.List.{list_all}
 use Rattle.py_code.specs.declared.unit.CodeUnit.{CodeUnit}
 use Rattle.py_code.specs.declared.instruction.Instruction.{Instruction}
-use Rattle.py_code.specs.declared.instruction.Instruction.TheVariants.{LoadConst, LoadFast, StoreFast, Pop, BinaryOperation, PrintExpr, ReturnValue, ReturnConst, ExtendedArg}
+use Rattle.py_code.specs.declared.instruction.Instruction.TheVariants.{LoadConst, LoadFast, StoreFast, LoadGlobal, Pop, BinaryOperation, CompareOperation, PrintExpr, Jump, JumpIfTrue, JumpIfFalse, SetupLoop, PopBlock, ReturnValue, ReturnConst, ExtendedArg}
 use Rattle.py_code.specs.declared.flags.TheConstants.CodeFlags.{HAS_VARARGS, HAS_VARKEYWORDS}
 use Rattle.py_code.specs.declared.operator.BinaryOperator.{BinaryOperator}
 use Rattle.py_code.specs.declared.operator.BinaryOperator.TheVariants as binary
-use Rattle.py_code.specs.Operators.{binary_operators}
+use Rattle.py_code.specs.declared.operator.ComparisonOperator.{ComparisonOperator}
+use Rattle.py_code.specs.declared.operator.ComparisonOperator.TheVariants as comparison
+use Rattle.py_code.specs.Operators.{binary_operators, comparison_operators}
 use Rattle.py_code.specs.declared.literal.Literal.{Literal}
 use Rattle.py_check.specs.declared.note.Kind.{Kind}
 use Rattle.py_check.specs.declared.note.Kind.TheVariants.{Any, Exc}
@@ -82,12 +84,49 @@ loads (Some literal) rest = is_loaded literal && rest (kind_of literal)
 
 -- the operators of two operands that run so far
 abbrev pub is_asked : BinaryOperator → Bool
+is_asked binary.Power = false
+is_asked binary.Multiply = false
+is_asked binary.MatrixMultiply = false
+is_asked binary.Divide = false
+is_asked binary.FloorDivide = false
+is_asked binary.Modulo = false
 is_asked binary.Add = true
-is_asked _ = false
+is_asked binary.Subtract = true
+is_asked binary.Lshift = false
+is_asked binary.Rshift = false
+is_asked binary.And = false
+is_asked binary.Xor = false
+is_asked binary.Or = false
 
 abbrev pub asks_operator : Option BinaryOperator → Bool
 asks_operator None = false
 asks_operator (Some op) = is_asked op
+
+-- the comparisons that run so far
+abbrev pub is_compared : ComparisonOperator → Bool
+is_compared comparison.Less = true
+is_compared comparison.Greater = false
+is_compared comparison.Equal = true
+is_compared comparison.LessOrEqual = false
+is_compared comparison.GreaterOrEqual = false
+is_compared comparison.NotEqual = false
+
+abbrev pub asks_comparison : Option ComparisonOperator → Bool
+asks_comparison None = false
+asks_comparison (Some op) = is_compared op
+
+-- the blocks that end where control comes to their end
+abbrev pub is_popped : BlockNote → Bool
+is_popped (Loop level) = true
+is_popped (TryExcept level handler) = true
+is_popped (Finally level handler) = true
+is_popped (FinallyHandler level pending) = false
+is_popped (ExceptHandler level) = false
+
+-- the innermost block may end, with what lies above its level
+abbrev pub leaves_block : Sheet → ℕ → List Kind → List BlockNote → Bool
+leaves_block sheet to kinds [] = false
+leaves_block sheet to kinds (b ∷ blocks) = is_popped b && goes_on sheet to (bottom (level_of b) kinds) blocks
 
 -- what an instruction with its operand asks of the kinds and blocks in front of it; the instructions, operators and
 -- constants that don't run yet break the rules
@@ -95,10 +134,18 @@ abbrev pub keeps_op : Sheet → ℕ → Instruction → ℕ → List Kind → Li
 keeps_op sheet at LoadConst i kinds blocks = loads (slice_get sheet.constants i) (λ k. goes_on sheet (at + 1) (k ∷ kinds) blocks)
 keeps_op sheet at LoadFast i kinds blocks = nat_lt i sheet.varnames && goes_on sheet (at + 1) (Any ∷ kinds) blocks
 keeps_op sheet at StoreFast i kinds blocks = nat_lt i sheet.varnames && takes_one kinds blocks (λ rest. goes_on sheet (at + 1) rest blocks)
+keeps_op sheet at LoadGlobal i kinds blocks = nat_lt i sheet.names && goes_on sheet (at + 1) (Any ∷ kinds) blocks
 keeps_op sheet at Pop i kinds blocks = takes_one kinds blocks (λ rest. goes_on sheet (at + 1) rest blocks)
 keeps_op sheet at BinaryOperation i kinds blocks =
     asks_operator (slice_get binary_operators i) && takes_two kinds blocks (λ rest. goes_on sheet (at + 1) (Any ∷ rest) blocks)
+keeps_op sheet at CompareOperation i kinds blocks =
+    asks_comparison (slice_get comparison_operators i) && takes_two kinds blocks (λ rest. goes_on sheet (at + 1) (Any ∷ rest) blocks)
 keeps_op sheet at PrintExpr i kinds blocks = takes_one kinds blocks (λ rest. goes_on sheet (at + 1) rest blocks)
+keeps_op sheet at Jump to kinds blocks = jumps sheet to kinds blocks
+keeps_op sheet at JumpIfTrue to kinds blocks = takes_one kinds blocks (λ rest. jumps sheet to rest blocks && goes_on sheet (at + 1) rest blocks)
+keeps_op sheet at JumpIfFalse to kinds blocks = takes_one kinds blocks (λ rest. jumps sheet to rest blocks && goes_on sheet (at + 1) rest blocks)
+keeps_op sheet at SetupLoop i kinds blocks = goes_on sheet (at + 1) kinds (Loop (length kinds) ∷ blocks)
+keeps_op sheet at PopBlock i kinds blocks = leaves_block sheet (at + 1) kinds blocks
 keeps_op sheet at ReturnValue i kinds blocks = takes_one kinds blocks (λ rest. true)
 keeps_op sheet at ReturnConst i kinds blocks = loads (slice_get sheet.constants i) (λ k. true)
 keeps_op sheet at ExtendedArg i kinds blocks = nat_lt (prefixes sheet.units at) 3 && goes_on sheet (at + 1) kinds blocks

@@ -2,12 +2,12 @@
 use Rattle.std.specs.Prelude.{◌≡◌, ℕ, List, [], ◌∷◌, length}
 use Rattle.py_code.specs.declared.unit.CodeUnit.{CodeUnit}
 use Rattle.py_code.specs.declared.instruction.Instruction.{Instruction}
-use Rattle.py_code.specs.declared.instruction.Instruction.TheVariants.{LoadConst, LoadFast, Pop, BinaryOperation, ReturnValue, ReturnConst, ExtendedArg}
+use Rattle.py_code.specs.declared.instruction.Instruction.TheVariants.{LoadConst, LoadFast, Pop, BinaryOperation, Jump, JumpIfFalse, SetupLoop, PopBlock, ReturnValue, ReturnConst, ExtendedArg}
 use Rattle.py_code.specs.declared.literal.Literal.{Literal, None as NoneLiteral}
 use Rattle.py_check.specs.declared.note.Kind.{Kind}
 use Rattle.py_check.specs.declared.note.Kind.TheVariants.{Any, Exc}
 use Rattle.py_check.specs.declared.note.BlockNote.{BlockNote}
-use Rattle.py_check.specs.declared.note.BlockNote.TheVariants.{ExceptHandler}
+use Rattle.py_check.specs.declared.note.BlockNote.TheVariants.{Loop, ExceptHandler}
 use Rattle.py_check.specs.declared.note.Note.{Note}
 use Rattle.py_check.specs.declared.note.Note.TheVariants.{Live}
 use Rattle.py_check.specs.declared.annotated.Annotated.{Annotated}
@@ -25,7 +25,7 @@ Breaks sheet at = (code : Annotated) → sheet_of code ≡ sheet → BreaksFirst
 abbrev pub unit : Instruction → ℕ → CodeUnit
 unit op arg = record { op = op; arg = arg }
 
--- a code of two parameters and the constant None, with a stack of two; the flags say that it makes a scope and knows its locals by place
+-- a code of two parameters, the constant None and the name of a global, with a stack of two; the flags say that it makes a scope and knows its locals by place
 abbrev pub sheet : List CodeUnit → List Note → Sheet
 sheet units notes =
     record {
@@ -39,6 +39,7 @@ sheet units notes =
       max_stackdepth = 2;
       cell2arg = [];
       constants = NoneLiteral ∷ [];
+      names = 1;
       varnames = 2;
       cellvars = 0;
     }
@@ -94,3 +95,17 @@ guarded kinds block handler = behind_the_end (unit ReturnConst 0 ∷ unit Return
 -- where an exception is handled
 abbrev pub handles : Note
 handles = Live (Exc ∷ []) (ExceptHandler 0 ∷ [])
+
+-- the units of a loop that goes on while the first parameter is true, with the label behind it
+abbrev pub loop_units : ℕ → List CodeUnit
+loop_units behind = unit SetupLoop 0 ∷ unit LoadFast 0 ∷ unit JumpIfFalse behind ∷ unit Jump 1 ∷ unit PopBlock 0 ∷ unit ReturnConst 0 ∷ []
+
+-- a loop is open
+abbrev pub in_loop : Note
+in_loop = Live [] (Loop 0 ∷ [])
+
+abbrev pub loop_notes : List Note
+loop_notes = nothing ∷ in_loop ∷ Live (Any ∷ []) (Loop 0 ∷ []) ∷ in_loop ∷ in_loop ∷ nothing ∷ []
+
+abbrev pub looping : Sheet
+looping = sheet (loop_units 4) loop_notes

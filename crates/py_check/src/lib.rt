@@ -11,7 +11,7 @@ pub use annotated::Annotated;
 pub use checked::CheckedCode;
 pub use laws::laws_of_rules;
 pub use note::{BlockList, BlockNote, Kind, KindList, Note, NoteList, Pending, PendingSet};
-pub use worked::{worked_blocks, worked_codes, worked_notes};
+pub use worked::{worked_blocks, worked_codes, worked_loops, worked_notes};
 
 #[cfg(test)]
 mod tests;

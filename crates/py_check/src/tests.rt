@@ -25,7 +25,7 @@ fn units_of(alloc: Global, units: &[(Instruction, u8)]) -> Result<Vec<CodeUnit>,
     Ok(made)
 }
 
-/// A code of two parameters and the constant None, each unit on line 1.
+/// A code of two parameters, the constant None and the name of a global, each unit on line 1.
 fn code_of(
     alloc: Global,
     instructions: Vec<CodeUnit>,
@@ -40,6 +40,8 @@ fn code_of(
     let mut varnames = Vec::new(alloc);
     varnames.push(NameId { index: 0 })?;
     varnames.push(NameId { index: 1 })?;
+    let mut names = Vec::new(alloc);
+    names.push(NameId { index: 0 })?;
     let mut constants = LiteralList::new(alloc);
     constants.push(Literal::None)?;
     let code = PyCode::new(CodeObject {
@@ -55,7 +57,7 @@ fn code_of(
         obj_name: NameId { index: 0 },
         cell2arg: Vec::new(alloc),
         constants,
-        names: Vec::new(alloc),
+        names,
         varnames,
         cellvars: Vec::new(alloc),
         freevars: Vec::new(alloc),

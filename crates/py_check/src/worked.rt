@@ -10,7 +10,7 @@ ghost use Rattle.py_check.specs.declared.note.Pending.TheVariants as pending;
 ghost use Rattle.py_check.specs.declared.note.BlockNote.TheVariants as block;
 ghost use Rattle.py_check.specs.declared.note.Note.TheVariants as note;
 ghost use Rattle.py_check.specs.Constants.{tuple_kind};
-ghost use Rattle.py_check.specs.Worked.{Typed, Breaks, unit, sheet, holds, nothing, one, two, sum, sum_notes, prefixed, loaded, loaded_later, returned_later, behind_the_end, guarded, handles};
+ghost use Rattle.py_check.specs.Worked.{Typed, Breaks, unit, sheet, holds, nothing, one, two, sum, sum_notes, in_loop, looping, loop_notes, loop_units, prefixed, loaded, loaded_later, returned_later, behind_the_end, guarded, handles};
 
 /// The code of a small function keeps the rules on units, and others break them, each first at a certain unit.
 pub fn worked_notes()
@@ -27,9 +27,15 @@ pub fn worked_notes()
     ensures no_value { Breaks (sheet (unit op.LoadFast 0 ∷ unit op.BinaryOperation 6 ∷ unit op.ReturnValue 0 ∷ []) (nothing ∷ one ∷ one ∷ [])) 1 }
     // The units end, and an instruction doesn't run yet.
     ensures no_end { Breaks (sheet (unit op.LoadFast 0 ∷ unit op.Pop 0 ∷ []) (nothing ∷ one ∷ [])) 1 }
-    ensures unknown { Breaks (sheet (unit op.Jump 0 ∷ []) (nothing ∷ [])) 0 }
+    ensures unknown { Breaks (sheet (unit op.Reverse 0 ∷ []) (nothing ∷ [])) 0 }
     // An operator doesn't run yet, and constants aren't loaded yet.
-    ensures subtracts { Breaks (sheet (unit op.LoadFast 0 ∷ unit op.LoadFast 1 ∷ unit op.BinaryOperation 7 ∷ unit op.ReturnValue 0 ∷ []) sum_notes) 2 }
+    ensures subtracts { Typed (sheet (unit op.LoadFast 0 ∷ unit op.LoadFast 1 ∷ unit op.BinaryOperation 7 ∷ unit op.ReturnValue 0 ∷ []) sum_notes) }
+    ensures multiplies { Breaks (sheet (unit op.LoadFast 0 ∷ unit op.LoadFast 1 ∷ unit op.BinaryOperation 1 ∷ unit op.ReturnValue 0 ∷ []) sum_notes) 2 }
+    ensures compares { Typed (sheet (unit op.LoadFast 0 ∷ unit op.LoadFast 1 ∷ unit op.CompareOperation 2 ∷ unit op.ReturnValue 0 ∷ []) sum_notes) }
+    ensures compares_otherwise { Breaks (sheet (unit op.LoadFast 0 ∷ unit op.LoadFast 1 ∷ unit op.CompareOperation 5 ∷ unit op.ReturnValue 0 ∷ []) sum_notes) 2 }
+    // A global is known by a name that is there.
+    ensures global { Typed (sheet (unit op.LoadGlobal 0 ∷ unit op.ReturnValue 0 ∷ []) (nothing ∷ one ∷ [])) }
+    ensures no_global { Breaks (sheet (unit op.LoadGlobal 1 ∷ unit op.ReturnValue 0 ∷ []) (nothing ∷ one ∷ [])) 0 }
     ensures loads_truth { (truth : Bool) → Typed (loaded_later (BoolOf truth) kind.Any) }
     ensures loads_tuple { (items : LiteralList) → Breaks (loaded (Tuple items) kind.Tuple) 0 }
     ensures loads_builtin { (f : BuiltinFn) → Breaks (loaded_later (Builtin f) kind.Any) 2 }
@@ -85,4 +91,20 @@ pub fn worked_blocks()
     // What may wait in a handler goes over to a note in which more may.
     ensures more_pending { Typed (behind_the_end (unit op.LoadFast 0 ∷ unit op.ReturnValue 0 ∷ []) (note.Live [] (block.FinallyHandler 0 (pending.Break 1 ∷ []) ∷ []) ∷ note.Live (kind.Any ∷ []) (block.FinallyHandler 0 (pending.Continue 1 ∷ pending.Break 1 ∷ []) ∷ []) ∷ [])) }
     ensures less_pending { Breaks (behind_the_end (unit op.LoadFast 0 ∷ unit op.ReturnValue 0 ∷ []) (note.Live [] (block.FinallyHandler 0 (pending.Break 1 ∷ []) ∷ []) ∷ note.Live (kind.Any ∷ []) (block.FinallyHandler 0 (pending.Continue 1 ∷ []) ∷ []) ∷ [])) 1 }
+{}
+
+/// A code that loops keeps the rules, and others break them, each first at a certain unit.
+pub fn worked_loops()
+    ensures loops { Typed looping }
+    // A jump goes to a unit without a prefix in front of it, whose note is as it should be.
+    ensures no_label { Breaks (record looping { units = loop_units 6 }) 2 }
+    ensures label_behind_prefix { Breaks (sheet (unit op.ExtendedArg 0 ∷ unit op.Jump 1 ∷ []) (nothing ∷ nothing ∷ [])) 1 }
+    ensures other_block { Breaks (record looping { units = loop_units 5 }) 2 }
+    ensures falls_on { Breaks (record looping { notes = nothing ∷ in_loop ∷ note.Live (kind.Any ∷ []) (block.Loop 0 ∷ []) ∷ nothing ∷ in_loop ∷ nothing ∷ [] }) 2 }
+    // A loop's block lies on the stack as it is, and is the innermost one at its end.
+    ensures no_block { Breaks (record looping { notes = nothing ∷ nothing ∷ one ∷ nothing ∷ nothing ∷ nothing ∷ [] }) 0 }
+    ensures wrong_level { Breaks (sheet (unit op.LoadFast 0 ∷ unit op.SetupLoop 0 ∷ unit op.ReturnConst 0 ∷ []) (nothing ∷ one ∷ note.Live (kind.Any ∷ []) (block.Loop 0 ∷ []) ∷ [])) 1 }
+    ensures no_block_left { Breaks (sheet (unit op.PopBlock 0 ∷ unit op.ReturnConst 0 ∷ []) (nothing ∷ nothing ∷ [])) 0 }
+    ensures cut_to_its_level { Typed (sheet (unit op.LoadFast 0 ∷ unit op.SetupLoop 0 ∷ unit op.LoadFast 1 ∷ unit op.PopBlock 0 ∷ unit op.ReturnValue 0 ∷ []) (nothing ∷ one ∷ note.Live (kind.Any ∷ []) (block.Loop 1 ∷ []) ∷ note.Live (kind.Any ∷ kind.Any ∷ []) (block.Loop 1 ∷ []) ∷ one ∷ [])) }
+    ensures handler_stays { Breaks (behind_the_end (unit op.PopBlock 0 ∷ unit op.ReturnConst 0 ∷ []) (handles ∷ nothing ∷ [])) 1 }
 {}

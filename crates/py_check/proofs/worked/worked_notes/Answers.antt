@@ -36,7 +36,22 @@ pub returns-clause-unknown : goal.returns-clause-unknown
 returns-clause-unknown c = breaks_whole _ refl
 
 pub returns-clause-subtracts : goal.returns-clause-subtracts
-returns-clause-subtracts c = breaks _ _ refl refl refl
+returns-clause-subtracts c = typed _ refl refl
+
+pub returns-clause-multiplies : goal.returns-clause-multiplies
+returns-clause-multiplies c = breaks _ _ refl refl refl
+
+pub returns-clause-compares : goal.returns-clause-compares
+returns-clause-compares c = typed _ refl refl
+
+pub returns-clause-compares_otherwise : goal.returns-clause-compares_otherwise
+returns-clause-compares_otherwise c = breaks _ _ refl refl refl
+
+pub returns-clause-global : goal.returns-clause-global
+returns-clause-global c = typed _ refl refl
+
+pub returns-clause-no_global : goal.returns-clause-no_global
+returns-clause-no_global c = breaks_whole _ refl
 
 pub returns-clause-loads_truth : goal.returns-clause-loads_truth
 returns-clause-loads_truth c truth = typed _ refl refl
