@@ -5,7 +5,7 @@ use Rattle.py_objects.specs.Objects.{Obj}
 use Rattle.py_objects.specs.Own.{Own}
 use Rattle.py_frame.specs.declared.input.Expect.{Expect}
 use Rattle.py_frame.specs.declared.input.Expect.TheVariants as expect
-use Rattle.py_frame.specs.Rows.{NamedCode, State, Step, Goes, Tells, Stuck, Move, Plainly, Loads, advance, receive}
+use Rattle.py_frame.specs.Rows.{Setting, State, Step, Goes, Tells, Stuck, Move, Plainly, Loads, Decides, advance, receive}
 use Rattle.py_frame.specs.RunOfRows.{Behind, ByStep, ByMove, Steps, Reaches, IsAt}
 
 -- more events may follow those of a step
@@ -19,29 +19,30 @@ by_move_followed : (objects : List Payload) (move : Move) (ts more : List Own) (
     → ByMove objects move ts K → ByMove objects move (ts ++ more) K'
 by_move_followed objects (Plainly step) ts more K K' f behind = by_step_followed step ts more K K' f behind
 by_move_followed objects (Loads p g) ts more K K' f (v, has, behind) = (v, has, by_step_followed (g v) ts more K K' f behind)
+by_move_followed objects (Decides v g) ts more K K' f (b, has, behind) = (b, has, by_step_followed (g b) ts more K K' f behind)
 
 -- the same of a step by what the frame waits for
-steps_followed : (objects : List Payload) (code : NamedCode) (x : Expect) (s : State) (ts more : List Own) (K K' : Behind) → ((s1 : State) (us : List Own) → K s1 us → K' s1 (us ++ more))
-    → Steps objects code x s ts K → Steps objects code x s (ts ++ more) K'
-steps_followed objects code expect.Start s ts more K K' f (mid, is, behind) = (mid ++ more, ap (λ us. us ++ more) is, f _ mid behind)
-steps_followed objects code expect.Go s ts more K K' f behind = by_move_followed objects (advance code s) ts more K K' f behind
-steps_followed objects code expect.Answer s ts more K K' f (w, mid, is, behind) = (w, mid ++ more, ap (λ us. us ++ more) is, by_step_followed (receive code w s) mid more K K' f behind)
-steps_followed objects code expect.Ended s ts more K K' f behind = behind
+steps_followed : (objects : List Payload) (setting : Setting) (x : Expect) (s : State) (ts more : List Own) (K K' : Behind) → ((s1 : State) (us : List Own) → K s1 us → K' s1 (us ++ more))
+    → Steps objects setting x s ts K → Steps objects setting x s (ts ++ more) K'
+steps_followed objects setting expect.Start s ts more K K' f (mid, is, behind) = (mid ++ more, ap (λ us. us ++ more) is, f _ mid behind)
+steps_followed objects setting expect.Go s ts more K K' f behind = by_move_followed objects (advance setting s) ts more K K' f behind
+steps_followed objects setting expect.Answer s ts more K K' f (w, mid, is, behind) = (w, mid ++ more, ap (λ us. us ++ more) is, by_move_followed objects (receive setting.code w s) mid more K K' f behind)
+steps_followed objects setting expect.Ended s ts more K K' f behind = behind
 
 -- n steps and then m steps are n + m steps
-pub reaches_join : (objects : List Payload) (code : NamedCode) (n m : ℕ) (s : State) (ts : List Own) (t : State) (us : List Own) (u : State)
-    → Reaches objects code n s ts t → Reaches objects code m t us u → Reaches objects code (n + m) s (ts ++ us) u
-reaches_join objects code zero m s ts t us u (none, same) more =
+pub reaches_join : (objects : List Payload) (setting : Setting) (n m : ℕ) (s : State) (ts : List Own) (t : State) (us : List Own) (u : State)
+    → Reaches objects setting n s ts t → Reaches objects setting m t us u → Reaches objects setting (n + m) s (ts ++ us) u
+reaches_join objects setting zero m s ts t us u (none, same) more =
     let count : 0 + m ≡ m = omega arith in
-    rw (count, none) (subst (λ (v : State). Reaches objects code m v us u) same more)
-reaches_join objects code (suc n) m s ts t us u run more =
+    rw (count, none) (subst (λ (v : State). Reaches objects setting m v us u) same more)
+reaches_join objects setting (suc n) m s ts t us u run more =
     let count : suc n + m ≡ suc (n + m) = omega arith in
-    let joined : Reaches objects code (suc (n + m)) s (ts ++ us) u =
-    steps_followed objects code s.wants s ts us (λ s1 mid. Reaches objects code n s1 mid t) (λ s1 mid. Reaches objects code (n + m) s1 mid u)
-    (λ s1 mid behind. reaches_join objects code n m s1 mid t us u behind more) run in
+    let joined : Reaches objects setting (suc (n + m)) s (ts ++ us) u =
+    steps_followed objects setting s.wants s ts us (λ s1 mid. Reaches objects setting n s1 mid t) (λ s1 mid. Reaches objects setting (n + m) s1 mid u)
+    (λ s1 mid behind. reaches_join objects setting n m s1 mid t us u behind more) run in
     rw count joined
 
 -- a run that has come somewhere is extended by steps from there
-pub run_extended : (objects : List Payload) (code : NamedCode) (args : List Obj) (n : ℕ) (ts us : List Own) (s t : State)
-    → IsAt objects code args ts s → Reaches objects code n s us t → IsAt objects code args (ts ++ us) t
-run_extended objects code args n ts us s t (m, vs, is, run) more = (m + n, vs ++ us, ap (λ ws. ws ++ us) is, reaches_join objects code m n _ vs s us t run more)
+pub run_extended : (objects : List Payload) (setting : Setting) (args : List Obj) (n : ℕ) (ts us : List Own) (s t : State)
+    → IsAt objects setting args ts s → Reaches objects setting n s us t → IsAt objects setting args (ts ++ us) t
+run_extended objects setting args n ts us s t (m, vs, is, run) more = (m + n, vs ++ us, ap (λ ws. ws ++ us) is, reaches_join objects setting m n _ vs s us t run more)

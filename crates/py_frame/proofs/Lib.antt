@@ -8,12 +8,20 @@ pub mod Staying
 pub mod PlainGrowth
 -- kinds of objects
 mod KindLemmas
+-- blocks
+mod BlockLemmas
 -- what the rules say of units
 mod TypingLemmas
 -- frames that fit their notes
 mod FittingLemmas
+-- what units need
+mod NeedsLemmas
 -- frames that run go on to run
 pub mod RunningLemmas
+-- truth values
+mod Truths
+-- what an answer does
+pub mod Answering
 -- locals that are filled one by one
 mod Filling
 -- what loads a constant

@@ -15,11 +15,15 @@ entry_added : (objects : List Payload) (p : Payload) → slice_get (objects ++ p
 entry_added [] p = refl
 entry_added (q ∷ qs) p = entry_added qs p
 
+-- a new object has the payload that it was made with
+pub added_has : (objects objects' : List Payload) (v : Obj) (p : Payload) → v.number ≡ length objects → objects' ≡ objects ++ p ∷ [] → HasPayload objects' v p
+added_has objects objects' v p number added = rw (added, number) (entry_added objects p)
+
 -- a new object of a constant's payload is one that its load may take
 pub load_leads : (objects objects' : List Payload) (literal : Option Literal) (l : Literal) (p : Payload) (v : Obj) (f : Obj → Step)
     → literal ≡ Some l → payload_of l ≡ Some p → v.number ≡ length objects → objects' ≡ objects ++ p ∷ [] → MayLead objects' (loads literal f) (f v)
 load_leads objects objects' literal l p v f is_literal is_payload number added =
-    let has : HasPayload objects' v p = rw (added, number) (entry_added objects p) in
+    let has : HasPayload objects' v p = added_has objects objects' v p number added in
     let leads : MayLead objects' (or_stuck (Some p) f) (f v) = (v, has, refl) in
     rw is_literal (rw is_payload leads)
 

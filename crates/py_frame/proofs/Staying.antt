@@ -1,24 +1,27 @@
 -- Where all numbers that go into a frame name objects, so do all that come out.
-use Rattle.std.proofs.Common.{◌≡◌, ◌<◌, ◌-◌, ℕ, zero, suc, List, [], ◌∷◌, Bool, true, false, cond, Some, refl, sym, subst, length}
-use Rattle.std.specs.Prelude.{Option, None, slice_get, slice_set, nat_lt}
+use Rattle.std.proofs.Common.{◌≡◌, ◌<◌, ◌-◌, ℕ, zero, suc, List, [], ◌∷◌, Bool, true, false, not, cond, Some, refl, sym, subst, length, drop}
+use Rattle.std.specs.Prelude.{Option, None, slice_get, slice_set, nat_le, nat_lt}
 use Rattle.std.proofs.lemmas.Option.{slice_get_within}
 use Rattle.py_code.specs.declared.unit.CodeUnit.{CodeUnit}
 use Rattle.py_code.specs.declared.instruction.Instruction.{Instruction}
-use Rattle.py_code.specs.declared.instruction.Instruction.TheVariants.{LoadConst, LoadFast, StoreFast, Pop, BinaryOperation, PrintExpr, ReturnValue, ReturnConst, ExtendedArg}
+use Rattle.py_code.specs.declared.instruction.Instruction.TheVariants.{LoadConst, LoadFast, StoreFast, LoadGlobal, Pop, BinaryOperation, CompareOperation, PrintExpr, Jump, JumpIfTrue, JumpIfFalse, SetupLoop, PopBlock, ReturnValue, ReturnConst, ExtendedArg}
 use Rattle.py_code.specs.declared.literal.Literal.{Literal}
 use Rattle.py_code.specs.Literals.{literals_of}
-use Rattle.py_code.specs.Operators.{binary_operators}
+use Rattle.py_code.specs.Operators.{binary_operators, comparison_operators}
 use Rattle.py_code.specs.Units.{with_byte}
 use Rattle.py_objects.specs.declared.payload.Payload.{Payload}
 use Rattle.py_code.specs.declared.operator.BinaryOperator.{BinaryOperator}
+use Rattle.py_code.specs.declared.operator.ComparisonOperator.{ComparisonOperator}
 use Rattle.py_objects.specs.declared.event.GotAnswer.{GotAnswer}
 use Rattle.py_objects.specs.declared.event.GotAnswer.TheVariants as got
 use Rattle.py_objects.specs.declared.event.ResumeHow.TheVariants as how
 use Rattle.py_objects.specs.Objects.{Obj, Name, AllBelow, numbers, got_numbers}
-use Rattle.py_objects.specs.Own.{Own, Makes, Resumes, Gets}
+use Rattle.py_objects.specs.Own.{Own, Makes, Resumes, Gets, Rounds}
+use Rattle.py_code.specs.declared.code.PyCode.{PyCode}
+use Rattle.py_frame.specs.declared.block.Block.{Block}
 use Rattle.py_frame.specs.declared.input.Expect.{Expect}
 use Rattle.py_frame.specs.declared.input.Expect.TheVariants as expect
-use Rattle.py_frame.specs.Rows.{NamedCode, State, Step, Goes, Tells, Stuck, Move, Plainly, Loads, payload_of, or_stuck, loads, set_in, name_of_local, load_fast, store_fast, pop, asked_operator, binary_operation, print_expr, return_value, act, unit_move, advance, answered, unit_answered, receive}
+use Rattle.py_frame.specs.Rows.{Setting, State, Step, Goes, Tells, Stuck, Move, Plainly, Loads, Decides, next, landed, with_stack, with_locals, payload_of, or_stuck, loads, set_in, name_of_local, name_of_global, load_fast, store_fast, load_global, pop, asked_operator, asked_comparison, binary_operation, compare_operation, print_expr, jumps, asks_to_jump, pop_block, unwound_stack, return_value, act, unit_move, advance, jumps_if, answered, unit_answered, receive}
 use Rattle.py_frame.specs.RunOfRows.{Behind, ByStep, ByMove, Steps, Reaches, filled, started}
 use Rattle.py_frame.specs.Laws.{told_numbers, HearsBelow, TellsBelow, RunsStayBelow}
 
@@ -37,6 +40,7 @@ StepBelow n Stuck = Unit {0}
 abbrev MoveBelow : ℕ → Move → Type 0
 MoveBelow n (Plainly step) = StepBelow n step
 MoveBelow n (Loads p f) = (v : Obj) → v.number < n → StepBelow n (f v)
+MoveBelow n (Decides v f) = (b : Bool) → StepBelow n (f b)
 
 -- events of a step are below where those behind it are
 by_step_below : (n : ℕ) (step : Step) (ts : List Own) (K : Behind) → ((s : State) (us : List Own) → HoldsBelow n s → HearsBelow n us → K s us → TellsBelow n us)
@@ -54,6 +58,7 @@ by_move_below : (objects : List Payload) (move : Move) (ts : List Own) (K : Behi
 by_move_below objects (Plainly step) ts K f below hears behind = by_step_below (length objects) step ts K f below hears behind
 by_move_below objects (Loads p g) ts K f below hears (v, has, behind) =
     by_step_below (length objects) (g v) ts K f (below v (slice_get_within objects v.number p has)) hears behind
+by_move_below objects (Decides v g) ts K f below hears (b, has, behind) = by_step_below (length objects) (g b) ts K f (below b) hears behind
 
 -- loads
 literal_below : (n : ℕ) (literal : Option Literal) (f : Obj → Step) → ((v : Obj) → v.number < n → StepBelow n (f v)) → MoveBelow n (loads literal f)
@@ -87,7 +92,7 @@ set_there (x ∷ xs) (suc i) (suc j) v w n new old here = set_there xs i j v w n
 store_below : (n i : ℕ) (stack : List Obj) (s : State) → HoldsBelow n s → AllBelow n (numbers stack) → StepBelow n (store_fast i stack s)
 store_below n i [] s holds below = tt
 store_below n i (v ∷ stack) s holds below =
-    let P : Bool → Type 0 = λ b. StepBelow n (cond b (Goes (record { at = suc s.at; prefix = 0; stack = stack; locals = slice_set s.locals i (Some v); wants = s.wants })) Stuck) in
+    let P : Bool → Type 0 = λ b. StepBelow n (cond b (Goes (with_locals (slice_set s.locals i (Some v)) (with_stack stack (next s)))) Stuck) in
     let cases : (b : Bool) → P b = λ b. elim b as P
     [ true ↦ record { in_stack = below.1; in_locals = λ j w here. set_there s.locals i j v w n below.0 holds.in_locals here } | false ↦ tt ] in
     cases (nat_lt i (length s.locals))
@@ -110,72 +115,133 @@ print_below : (n : ℕ) (stack : List Obj) (s : State) → HoldsBelow n s → Al
 print_below n [] s holds below = tt
 print_below n (v ∷ stack) s holds below = ((below.0, tt), record { in_stack = below.1; in_locals = holds.in_locals })
 
+-- the same of a comparison
+compare_below : (n : ℕ) (op : Option ComparisonOperator) (stack : List Obj) (s : State) → HoldsBelow n s → AllBelow n (numbers stack) → StepBelow n (compare_operation op stack s)
+compare_below n None stack s holds below = tt
+compare_below n (Some op) [] s holds below = tt
+compare_below n (Some op) (b ∷ []) s holds below = tt
+compare_below n (Some op) (b ∷ a ∷ stack) s holds below =
+    ((below.1.0, (below.0, tt)), record { in_stack = below.1.1; in_locals = holds.in_locals })
+
+-- a global that is asked for
+global_below : (n : ℕ) (globals : Obj) (name : Option Name) (s : State) → globals.number < n → HoldsBelow n s → StepBelow n (load_global globals name s)
+global_below n globals None s within holds = tt
+global_below n globals (Some x) s within holds = ((within, tt), record { in_stack = holds.in_stack; in_locals = holds.in_locals })
+
+-- a jump
+jump_below : (n to : ℕ) (s : State) → HoldsBelow n s → StepBelow n (jumps to s)
+jump_below n to s holds =
+    let P : Bool → Type 0 = λ b. StepBelow n (cond b (Goes (landed to s)) (Tells (Rounds (s.last - 1)) (landed to s))) in
+    let there : HoldsBelow n (landed to s) = record { in_stack = holds.in_stack; in_locals = holds.in_locals } in
+    let cases : (b : Bool) → P b = λ b. elim b as P [ true ↦ there | false ↦ (tt, there) ] in
+    cases (nat_le s.last to)
+
+-- a truth value that is asked for
+ask_below : (n to : ℕ) (stack : List Obj) (s : State) → HoldsBelow n s → AllBelow n (numbers stack) → StepBelow n (asks_to_jump to stack s)
+ask_below n to [] s holds below = tt
+ask_below n to (v ∷ stack) s holds below = ((below.0, tt), record { in_stack = below.1; in_locals = holds.in_locals })
+
+-- the lowest of values
+drop_below : (n k : ℕ) (stack : List Obj) → AllBelow n (numbers stack) → AllBelow n (numbers (drop k stack))
+drop_below n zero stack below = below
+drop_below n (suc k) [] below = tt
+drop_below n (suc k) (v ∷ stack) below = drop_below n k stack below.1
+
+-- a block that ends
+block_below : (n : ℕ) (blocks : List Block) (s : State) → HoldsBelow n s → StepBelow n (pop_block blocks s)
+block_below n [] s holds = tt
+block_below n (b ∷ blocks) s holds = record { in_stack = drop_below n (length s.stack - b.level) s.stack holds.in_stack; in_locals = holds.in_locals }
+
+-- each block that ends
+unwound_below : (n : ℕ) (blocks : List Block) (stack : List Obj) → AllBelow n (numbers stack) → AllBelow n (numbers (unwound_stack blocks stack))
+unwound_below n [] stack below = below
+unwound_below n (b ∷ blocks) stack below = unwound_below n blocks _ (drop_below n (length stack - b.level) stack below)
+
 -- a value that is returned
 return_below : (n : ℕ) (stack : List Obj) (s : State) → HoldsBelow n s → AllBelow n (numbers stack) → StepBelow n (return_value stack s)
 return_below n [] s holds below = tt
-return_below n (v ∷ stack) s holds below = ((below.0, tt), record { in_stack = below.1; in_locals = holds.in_locals })
+return_below n (v ∷ stack) s holds below = ((below.0, tt), record { in_stack = unwound_below n s.blocks stack below.1; in_locals = holds.in_locals })
 
 -- an instruction leads from objects below to objects below
-act_below : (code : NamedCode) (op : Instruction) (i n : ℕ) (s : State) → HoldsBelow n s → MoveBelow n (act code op i s)
-act_below code LoadConst i n s holds = literal_below n (slice_get (literals_of code.code.code.constants) i) _ (λ v below. record { in_stack = (below, holds.in_stack); in_locals = holds.in_locals })
-act_below code LoadFast i n s holds = load_below n (name_of_local code i) (slice_get s.locals i) s holds (holds.in_locals i)
-act_below code StoreFast i n s holds = store_below n i s.stack s holds holds.in_stack
-act_below code Pop i n s holds = pop_below n s.stack s holds holds.in_stack
-act_below code BinaryOperation i n s holds = binary_below n (asked_operator (slice_get binary_operators i)) s.stack s holds holds.in_stack
-act_below code PrintExpr i n s holds = print_below n s.stack s holds holds.in_stack
-act_below code ReturnValue i n s holds = return_below n s.stack s holds holds.in_stack
-act_below code ReturnConst i n s holds = literal_below n (slice_get (literals_of code.code.code.constants) i) _ (λ v below. ((below, tt), record { in_stack = holds.in_stack; in_locals = holds.in_locals }))
-act_below code ExtendedArg i n s holds = record { in_stack = holds.in_stack; in_locals = holds.in_locals }
-act_below code _ i n s holds = tt
+act_below : (setting : Setting) (op : Instruction) (i n : ℕ) (s : State) → setting.globals.number < n → HoldsBelow n s → MoveBelow n (act setting op i s)
+act_below setting LoadConst i n s within holds =
+    literal_below n (slice_get (literals_of setting.code.code.constants) i) _ (λ v below. record { in_stack = (below, holds.in_stack); in_locals = holds.in_locals })
+act_below setting LoadFast i n s within holds = load_below n (name_of_local setting i) (slice_get s.locals i) s holds (holds.in_locals i)
+act_below setting StoreFast i n s within holds = store_below n i s.stack s holds holds.in_stack
+act_below setting LoadGlobal i n s within holds = global_below n setting.globals (name_of_global setting i) s within holds
+act_below setting Pop i n s within holds = pop_below n s.stack s holds holds.in_stack
+act_below setting BinaryOperation i n s within holds = binary_below n (asked_operator (slice_get binary_operators i)) s.stack s holds holds.in_stack
+act_below setting CompareOperation i n s within holds = compare_below n (asked_comparison (slice_get comparison_operators i)) s.stack s holds holds.in_stack
+act_below setting PrintExpr i n s within holds = print_below n s.stack s holds holds.in_stack
+act_below setting Jump to n s within holds = jump_below n to (next s) (record { in_stack = holds.in_stack; in_locals = holds.in_locals })
+act_below setting JumpIfTrue to n s within holds = ask_below n to s.stack s holds holds.in_stack
+act_below setting JumpIfFalse to n s within holds = ask_below n to s.stack s holds holds.in_stack
+act_below setting SetupLoop i n s within holds = (tt, record { in_stack = holds.in_stack; in_locals = holds.in_locals })
+act_below setting PopBlock i n s within holds = block_below n s.blocks s holds
+act_below setting ReturnValue i n s within holds = return_below n s.stack s holds holds.in_stack
+act_below setting ReturnConst i n s within holds =
+    literal_below n (slice_get (literals_of setting.code.code.constants) i) _
+    (λ v below. ((below, tt), record { in_stack = unwound_below n s.blocks s.stack holds.in_stack; in_locals = holds.in_locals }))
+act_below setting ExtendedArg i n s within holds = record { in_stack = holds.in_stack; in_locals = holds.in_locals }
+act_below setting _ i n s within holds = tt
 
 -- so does the unit that comes next
-advance_below : (code : NamedCode) (n : ℕ) (s : State) → HoldsBelow n s → MoveBelow n (advance code s)
-advance_below code n s holds =
-    let P : Option CodeUnit → Type 0 = λ unit. MoveBelow n (unit_move code unit s) in
-    let cases : (unit : Option CodeUnit) → P unit = λ unit. elim unit as P [ None ↦ tt | Some u ↦ act_below code u.op (with_byte s.prefix u.arg) n s holds ] in
-    cases (slice_get code.code.code.instructions.items s.at)
+advance_below : (setting : Setting) (n : ℕ) (s : State) → setting.globals.number < n → HoldsBelow n s → MoveBelow n (advance setting s)
+advance_below setting n s within holds =
+    let P : Option CodeUnit → Type 0 = λ unit. MoveBelow n (unit_move setting unit s) in
+    let cases : (unit : Option CodeUnit) → P unit = λ unit. elim unit as P [ None ↦ tt | Some u ↦ act_below setting u.op (with_byte s.prefix u.arg) n s within holds ] in
+    cases (slice_get setting.code.code.instructions.items s.at)
+
+-- so does a decision
+decision_below : (n : ℕ) (b : Bool) (s : State) → HoldsBelow n s → StepBelow n (jumps_if b s)
+decision_below n true s holds = jump_below n s.prefix s holds
+decision_below n false s holds = record { in_stack = holds.in_stack; in_locals = holds.in_locals }
 
 -- so does an instruction with the value that answers it
-answered_below : (n : ℕ) (op : Instruction) (v : Obj) (s : State) → v.number < n → HoldsBelow n s → StepBelow n (answered op v s)
+answered_below : (n : ℕ) (op : Instruction) (v : Obj) (s : State) → v.number < n → HoldsBelow n s → MoveBelow n (answered op v s)
 answered_below n LoadFast v s below holds = record { in_stack = (below, holds.in_stack); in_locals = holds.in_locals }
+answered_below n LoadGlobal v s below holds = record { in_stack = (below, holds.in_stack); in_locals = holds.in_locals }
 answered_below n BinaryOperation v s below holds = record { in_stack = (below, holds.in_stack); in_locals = holds.in_locals }
+answered_below n CompareOperation v s below holds = record { in_stack = (below, holds.in_stack); in_locals = holds.in_locals }
 answered_below n PrintExpr v s below holds = holds
+answered_below n JumpIfTrue v s below holds = λ b. decision_below n b s holds
+answered_below n JumpIfFalse v s below holds = λ b. decision_below n (not b) s holds
 answered_below n _ v s below holds = tt
 
-unit_answered_below : (n : ℕ) (unit : Option CodeUnit) (v : Obj) (s : State) → v.number < n → HoldsBelow n s → StepBelow n (unit_answered unit v s)
+unit_answered_below : (n : ℕ) (unit : Option CodeUnit) (v : Obj) (s : State) → v.number < n → HoldsBelow n s → MoveBelow n (unit_answered unit v s)
 unit_answered_below n None v s below holds = tt
 unit_answered_below n (Some u) v s below holds = answered_below n u.op v s below holds
 
 -- so does an answer
-receive_below : (code : NamedCode) (n : ℕ) (w : GotAnswer) (s : State) → HoldsBelow n s → AllBelow n (got_numbers w) → StepBelow n (receive code w s)
+receive_below : (code : PyCode) (n : ℕ) (w : GotAnswer) (s : State) → HoldsBelow n s → AllBelow n (got_numbers w) → MoveBelow n (receive code w s)
 receive_below code n (got.Value v) s holds below =
-    unit_answered_below n (slice_get code.code.code.instructions.items (s.at - 1)) v _ below.0 (record { in_stack = holds.in_stack; in_locals = holds.in_locals })
-receive_below code n (got.Raise e) s holds below = (below, record { in_stack = holds.in_stack; in_locals = holds.in_locals })
+    unit_answered_below n (slice_get code.code.instructions.items (s.last - 1)) v _ below.0 (record { in_stack = holds.in_stack; in_locals = holds.in_locals })
+receive_below code n (got.Raise e) s holds below = (below, record { in_stack = unwound_below n s.blocks s.stack holds.in_stack; in_locals = holds.in_locals })
 receive_below code n (got.Stop v) s holds below = tt
 
 -- the same of a step by what the frame waits for
-steps_below : (objects : List Payload) (code : NamedCode) (x : Expect) (s : State) (ts : List Own) (K : Behind)
+steps_below : (objects : List Payload) (setting : Setting) (x : Expect) (s : State) (ts : List Own) (K : Behind)
     → ((s1 : State) (us : List Own) → HoldsBelow (length objects) s1 → HearsBelow (length objects) us → K s1 us → TellsBelow (length objects) us)
-    → HoldsBelow (length objects) s → HearsBelow (length objects) ts → Steps objects code x s ts K → TellsBelow (length objects) ts
-steps_below objects code expect.Start s ts K f holds hears (mid, is, behind) =
+    → setting.globals.number < length objects → HoldsBelow (length objects) s → HearsBelow (length objects) ts → Steps objects setting x s ts K → TellsBelow (length objects) ts
+steps_below objects setting expect.Start s ts K f within holds hears (mid, is, behind) =
     let n : ℕ = length objects in
     let heard : HearsBelow n (Resumes how.Start ∷ mid) = subst (HearsBelow n) is hears in
     subst (TellsBelow n) (sym is) (tt, f _ mid (record { in_stack = holds.in_stack; in_locals = holds.in_locals }) heard.1 behind)
-steps_below objects code expect.Go s ts K f holds hears behind =
-    by_move_below objects (advance code s) ts K f (advance_below code (length objects) s holds) hears behind
-steps_below objects code expect.Answer s ts K f holds hears (w, mid, is, behind) =
+steps_below objects setting expect.Go s ts K f within holds hears behind =
+    by_move_below objects (advance setting s) ts K f (advance_below setting (length objects) s within holds) hears behind
+steps_below objects setting expect.Answer s ts K f within holds hears (w, mid, is, behind) =
     let n : ℕ = length objects in
     let heard : HearsBelow n (Gets w ∷ mid) = subst (HearsBelow n) is hears in
-    subst (TellsBelow n) (sym is) (tt, by_step_below n (receive code w s) mid K f (receive_below code n w s holds heard.0) heard.1 behind)
-steps_below objects code expect.Ended s ts K f holds hears behind = absurd behind
+    subst (TellsBelow n) (sym is) (tt, by_move_below objects (receive setting.code w s) mid K f (receive_below setting.code n w s holds heard.0) heard.1 behind)
+steps_below objects setting expect.Ended s ts K f within holds hears behind = absurd behind
 
 -- a run from a state that holds numbers below tells numbers below
-pub reaches_below : (objects : List Payload) (code : NamedCode) (n : ℕ) (s : State) (ts : List Own) (t : State)
-    → HoldsBelow (length objects) s → HearsBelow (length objects) ts → Reaches objects code n s ts t → TellsBelow (length objects) ts
-reaches_below objects code zero s ts t holds hears run = subst (TellsBelow (length objects)) (sym run.0) tt
-reaches_below objects code (suc n) s ts t holds hears run =
-    steps_below objects code s.wants s ts (λ s1 mid. Reaches objects code n s1 mid t)
-    (λ s1 us below heard behind. reaches_below objects code n s1 us t below heard behind) holds hears run
+pub reaches_below : (objects : List Payload) (setting : Setting) (n : ℕ) (s : State) (ts : List Own) (t : State)
+    → setting.globals.number < length objects → HoldsBelow (length objects) s → HearsBelow (length objects) ts → Reaches objects setting n s ts t → TellsBelow (length objects) ts
+reaches_below objects setting zero s ts t within holds hears run = subst (TellsBelow (length objects)) (sym run.0) tt
+reaches_below objects setting (suc n) s ts t within holds hears run =
+    steps_below objects setting s.wants s ts (λ s1 mid. Reaches objects setting n s1 mid t)
+    (λ s1 us below heard behind. reaches_below objects setting n s1 us t within below heard behind) within holds hears run
 
 -- the arguments as locals
 filled_below : (n m : ℕ) (vs : List Obj) → AllBelow n (numbers vs) → (i : ℕ) (v : Obj) → slice_get (filled m vs) i ≡ Some (Some v) → v.number < n
@@ -186,8 +252,8 @@ filled_below n (suc m) (w ∷ vs) below zero v here = let same : w ≡ v = cc in
 filled_below n (suc m) (w ∷ vs) below (suc i) v here = filled_below n m vs below.1 i v here
 
 pub runs_stay_below : RunsStayBelow
-runs_stay_below objects code args ts s (n, us, is, run) below hears =
+runs_stay_below objects setting args ts s (n, us, is, run) within below hears =
     let m : ℕ = length objects in
     let heard : HearsBelow m (Makes ∷ us) = subst (HearsBelow m) is hears in
-    let holds : HoldsBelow m (started code args) = record { in_stack = tt; in_locals = filled_below m (length code.code.code.varnames.items) args below } in
-    subst (TellsBelow m) (sym is) (tt, reaches_below objects code n (started code args) us s holds heard.1 run)
+    let holds : HoldsBelow m (started setting.code args) = record { in_stack = tt; in_locals = filled_below m (length setting.code.code.varnames.items) args below } in
+    subst (TellsBelow m) (sym is) (tt, reaches_below objects setting n (started setting.code args) us s within holds heard.1 run)

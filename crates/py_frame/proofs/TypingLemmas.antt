@@ -1,5 +1,5 @@
 -- What the rules say of a code, and of a unit that a frame comes to.
-use Rattle.std.proofs.Common.{◌≡◌, ℕ, zero, suc, ◌+◌, ◌-◌, ◌<◌, ◌≤◌, ◌^◌, List, [], ◌∷◌, true, false, Some, refl, sym, ap, subst, ◌∙◌, length, get_or, add-one, arith}
+use Rattle.std.proofs.Common.{◌≡◌, ℕ, zero, suc, ◌+◌, ◌-◌, ◌<◌, ◌≤◌, ◌^◌, List, [], ◌∷◌, Bool, true, false, not, cond, Some, refl, ap, subst, ◌∙◌, length, get_or, add-one, arith}
 use Rattle.std.specs.Prelude.{Option, None, slice_get, nat_le, nat_lt, ◌==◌}
 use Rattle.std.proofs.lemmas.Bool.{and_parts}
 use Rattle.std.proofs.lemmas.Bool.Decides.{nat_tests}
@@ -8,18 +8,19 @@ use Rattle.py_code.specs.declared.code.PyCode.{PyCode}
 use Rattle.py_code.specs.declared.unit.CodeUnit.{CodeUnit}
 use Rattle.py_code.specs.Units.{with_byte, is_prefix}
 use Rattle.py_objects.specs.declared.payload.Payload.{Payload}
-use Rattle.py_objects.specs.Objects.{Obj}
 use Rattle.py_check.specs.declared.note.Kind.{Kind}
 use Rattle.py_check.specs.declared.note.Note.{Note}
 use Rattle.py_check.specs.declared.note.Note.TheVariants.{Dead, Live}
 use Rattle.py_check.specs.declared.annotated.Annotated.{Annotated}
-use Rattle.py_check.specs.Notes.{kinds_fit, note_fits}
-use Rattle.py_check.specs.Operands.{carried, operand}
+use Rattle.py_check.specs.declared.note.BlockNote.{BlockNote}
+use Rattle.py_check.specs.Notes.{kinds_fit, blocks_fit, note_fits}
+use Rattle.py_check.specs.Operands.{carried, carried_by, is_prefix_there, is_prefixed, is_label, operand}
 use Rattle.py_check.specs.Sheet.{Sheet, sheet_of}
-use Rattle.py_check.specs.Rules.{has_room, lands, goes_on, keeps_op, keeps_both, is_start, counts_match, IsTyped}
-use Rattle.py_frame.specs.declared.input.Expect.{Expect}
-use Rattle.py_frame.specs.Fitting.{HaveKinds, FitsNote}
+use Rattle.py_check.specs.Rules.{has_room, lands, goes_on, jumps, keeps_op, keeps_both, is_start, counts_match, IsTyped}
+use Rattle.py_frame.specs.Rows.{State}
+use Rattle.py_frame.specs.Fitting.{HaveKinds, AreBlocks, FitsNote}
 use Rattle.py_frame.proofs.KindLemmas.{kinds_fitted}
+use Rattle.py_frame.proofs.BlockLemmas.{blocks_fitted}
 
 -- a place of a list
 pub slice_get_there : {A : Type 0} (xs : List A) (i : ℕ) → i < length xs → slice_get xs i ≡ None → ⊥
@@ -63,17 +64,17 @@ typed_whole code typed =
       start = start_noted (slice_get sheet.notes 0) both.1;
     }
 
--- a unit that keeps the rules behind a note without blocks
-pub record IsKept (sheet : Sheet) (at : ℕ) (unit : Option CodeUnit) (kinds : List Kind) : Type 0 where
+-- a unit that keeps the rules behind a note
+pub record IsKept (sheet : Sheet) (at : ℕ) (unit : Option CodeUnit) (kinds : List Kind) (blocks : List BlockNote) : Type 0 where
   pub there : CodeUnit
   pub is : unit ≡ Some there
   pub room : length kinds ≤ sheet.max_stackdepth
-  pub keeps : keeps_op sheet at there.op (operand sheet.units at there) kinds [] ≡ true
+  pub keeps : keeps_op sheet at there.op (operand sheet.units at there) kinds blocks ≡ true
 
-both_kept : (sheet : Sheet) (at : ℕ) (unit : Option CodeUnit) (kinds : List Kind) → keeps_both sheet at unit (Some (Live kinds [])) ≡ true → IsKept sheet at unit kinds
-both_kept sheet at None kinds keeps = cc
-both_kept sheet at (Some u) kinds keeps =
-    let parts = and_parts _ (keeps_op sheet at u.op (operand sheet.units at u) kinds []) keeps in
+both_kept : (sheet : Sheet) (at : ℕ) (unit : Option CodeUnit) (kinds : List Kind) (blocks : List BlockNote) → keeps_both sheet at unit (Some (Live kinds blocks)) ≡ true → IsKept sheet at unit kinds blocks
+both_kept sheet at None kinds blocks keeps = cc
+both_kept sheet at (Some u) kinds blocks keeps =
+    let parts = and_parts _ (keeps_op sheet at u.op (operand sheet.units at u) kinds blocks) keeps in
     let room = (and_parts (has_room sheet kinds) _ (and_parts _ _ parts.0).0).0 in
     record {
       there = u;
@@ -83,38 +84,44 @@ both_kept sheet at (Some u) kinds keeps =
     }
 
 -- a noted unit is there, and keeps the rules
-pub unit_kept : (code : Annotated) (at : ℕ) (kinds : List Kind) → IsTyped code → slice_get code.notes at ≡ Some (Live kinds [])
-    → IsKept (sheet_of code) at (slice_get code.code.code.instructions.items at) kinds
-unit_kept code at kinds typed note =
+pub unit_kept : (code : Annotated) (at : ℕ) (kinds : List Kind) (blocks : List BlockNote) → IsTyped code → slice_get code.notes at ≡ Some (Live kinds blocks)
+    → IsKept (sheet_of code) at (slice_get code.code.code.instructions.items at) kinds blocks
+unit_kept code at kinds blocks typed note =
     let sheet : Sheet = sheet_of code in
     let within : at < length code.notes = slice_get_within code.notes at _ note in
     let count : length code.notes ≡ length code.code.code.instructions.items = (typed_whole code typed).notes in
-    both_kept sheet at (slice_get sheet.units at) kinds (subst (λ (n : Option Note). keeps_both sheet at (slice_get sheet.units at) n ≡ true) note (typed.each at (omega arith)))
+    both_kept sheet at (slice_get sheet.units at) kinds blocks (subst (λ (n : Option Note). keeps_both sheet at (slice_get sheet.units at) n ≡ true) note (typed.each at (omega arith)))
 
--- control may come to a place with these kinds
-pub record Lands (code : Annotated) (at : ℕ) (kinds : List Kind) : Type 0 where
+-- control may come to a place with these kinds and blocks
+pub record Lands (code : Annotated) (at : ℕ) (kinds : List Kind) (blocks : List BlockNote) : Type 0 where
   pub noted : List Kind
-  pub note : slice_get code.notes at ≡ Some (Live noted [])
+  pub noted_blocks : List BlockNote
+  pub note : slice_get code.notes at ≡ Some (Live noted noted_blocks)
   pub fit : kinds_fit kinds noted ≡ true
+  pub fit_blocks : blocks_fit blocks noted_blocks ≡ true
+
+-- a note that these fit
+fitting_note : (code : Annotated) (at : ℕ) (kinds : List Kind) (blocks : List BlockNote) (note : Option Note) → slice_get code.notes at ≡ note → note_fits kinds blocks note ≡ true → Lands code at kinds blocks
+fitting_note code at kinds blocks None is fits = cc
+fitting_note code at kinds blocks (Some Dead) is fits = cc
+fitting_note code at kinds blocks (Some (Live ks bs)) is fits =
+    let parts = and_parts (kinds_fit kinds ks) (blocks_fit blocks bs) fits in
+    record { noted = ks; noted_blocks = bs; note = is; fit = parts.0; fit_blocks = parts.1 }
+
+pub landed_at : (code : Annotated) (at : ℕ) (kinds : List Kind) (blocks : List BlockNote) → lands (sheet_of code) at kinds blocks ≡ true → Lands code at kinds blocks
+landed_at code at kinds blocks lands = fitting_note code at kinds blocks (slice_get code.notes at) refl lands
+
+-- a unit that may go on lands behind itself, where there is room
+pub record GoesOn (code : Annotated) (at : ℕ) (kinds : List Kind) (blocks : List BlockNote) : Type 0 where
+  pub lands : Lands code (suc at) kinds blocks
   pub room : length kinds ≤ code.code.code.max_stackdepth
 
--- a note that kinds without blocks fit
-fitting_note : (kinds : List Kind) (note : Option Note) → note_fits kinds [] note ≡ true → (noted : List Kind) × (note ≡ Some (Live noted [])) × (kinds_fit kinds noted ≡ true)
-fitting_note kinds None fits = cc
-fitting_note kinds (Some Dead) fits = cc
-fitting_note kinds (Some (Live ls [])) fits = (ls, refl, (and_parts (kinds_fit kinds ls) true fits).0)
-fitting_note kinds (Some (Live ls (c ∷ cs))) fits = (let parts = and_parts (kinds_fit kinds ls) false fits in cc (parts.1))
-
--- a unit that may go on lands behind itself
-pub landed : (code : Annotated) (at : ℕ) (kinds : List Kind) → goes_on (sheet_of code) (at + 1) kinds [] ≡ true → Lands code (suc at) kinds
-landed code at kinds goes =
+pub gone_on : (code : Annotated) (at : ℕ) (kinds : List Kind) (blocks : List BlockNote) → goes_on (sheet_of code) (at + 1) kinds blocks ≡ true → GoesOn code at kinds blocks
+gone_on code at kinds blocks goes =
     let sheet : Sheet = sheet_of code in
-    let parts = and_parts (has_room sheet kinds) (lands sheet (at + 1) kinds []) goes in
-    let (noted, note, fit) = fitting_note kinds (slice_get sheet.notes (at + 1)) parts.1 in
+    let parts = and_parts (has_room sheet kinds) (lands sheet (at + 1) kinds blocks) goes in
     record {
-      noted = noted;
-      note = ap (slice_get code.notes) (sym (add-one at)) ∙ note;
-      fit = fit;
+      lands = subst (λ (n : ℕ). Lands code n kinds blocks) (add-one at) (landed_at code (at + 1) kinds blocks parts.1);
       room = (let is : nat_le (length kinds) sheet.max_stackdepth ≡ true = parts.0 in grind (arith, nat_tests, is));
     }
 
@@ -126,13 +133,37 @@ none_carried units at u is none = rw is (rw none refl)
 pub prefix_carried : (units : List CodeUnit) (at prefix : ℕ) (u : CodeUnit) → slice_get units at ≡ Some u → is_prefix u.op ≡ true → prefix ≡ carried units at → with_byte prefix u.arg ≡ carried units (suc at)
 prefix_carried units at prefix u is one carries = rw is (rw one (ap (λ n. with_byte n u.arg) carries))
 
--- a frame that lands behind a unit fits its note there
-pub fits_behind : (objects : List Payload) (code : Annotated) (at prefix : ℕ) (kinds : List Kind) (stack : List Obj) (locals : List (Option Obj)) (wants : Expect)
-    → goes_on (sheet_of code) (at + 1) kinds [] ≡ true → HaveKinds objects stack kinds → prefix ≡ carried code.code.code.instructions.items (suc at) → length locals ≡ length code.code.code.varnames.items
-    → FitsNote objects code (record { at = suc at; prefix = prefix; stack = stack; locals = locals; wants = wants })
-fits_behind objects code at prefix kinds stack locals wants goes are carries count =
-    let lands = landed code at kinds goes in
-    record { kinds = lands.noted; note = lands.note; holds = kinds_fitted objects stack kinds lands.noted are lands.fit; carries = carries; locals = count }
+-- and in front of a label
+unprefixed : (unit : Option CodeUnit) (state : ℕ) → not (is_prefix_there unit) ≡ true → 0 ≡ carried_by unit state
+unprefixed None state none = refl
+unprefixed (Some u) state none =
+    let P : Bool → Type 0 = λ b. not b ≡ true → 0 ≡ cond b (with_byte state u.arg) 0 in
+    let cases : (b : Bool) → P b = λ b. elim b as P [ true ↦ λ h. cc | false ↦ λ h. refl ] in
+    cases (is_prefix u.op) none
+
+pub label_carried : (units : List CodeUnit) (to : ℕ) → is_label units to ≡ true → 0 ≡ carried units to
+label_carried units zero label = refl
+label_carried units (suc at) label = unprefixed (slice_get units at) (carried units at) (and_parts (nat_lt (suc at) (length units)) (not (is_prefixed units (suc at))) label).1
+
+-- a frame that lands at a place fits its note there
+pub fits_there : (objects : List Payload) (code : Annotated) (kinds : List Kind) (blocks : List BlockNote) (t : State) → Lands code t.at kinds blocks → HaveKinds objects t.stack kinds → AreBlocks t.blocks blocks
+    → t.prefix ≡ carried code.code.code.instructions.items t.at → length t.locals ≡ length code.code.code.varnames.items → FitsNote objects code t
+fits_there objects code kinds blocks t lands are opened carries count = record {
+  kinds = lands.noted;
+  block_notes = lands.noted_blocks;
+  note = lands.note;
+  holds = kinds_fitted objects t.stack kinds lands.noted are lands.fit;
+  blocks = blocks_fitted t.blocks blocks lands.noted_blocks opened lands.fit_blocks;
+  carries = carries;
+  locals = count;
+}
+
+-- so does one that jumps to a label
+pub fits_at_label : (objects : List Payload) (code : Annotated) (kinds : List Kind) (blocks : List BlockNote) (t : State) → jumps (sheet_of code) t.at kinds blocks ≡ true → t.prefix ≡ 0
+    → HaveKinds objects t.stack kinds → AreBlocks t.blocks blocks → length t.locals ≡ length code.code.code.varnames.items → FitsNote objects code t
+fits_at_label objects code kinds blocks t may none are opened count =
+    let parts = and_parts (is_label code.code.code.instructions.items t.at) (lands (sheet_of code) t.at kinds blocks) may in
+    fits_there objects code kinds blocks t (landed_at code t.at kinds blocks parts.1) are opened (none ∙ label_carried code.code.code.instructions.items t.at parts.0) count
 
 -- the line of the last unit that was begun, at first that of the first unit
 pub location_there : (code : Annotated) (py : PyCode) (at index line : ℕ) → IsTyped code → py ≡ code.code → at ≤ length code.code.code.instructions.items → index ≡ at - 1

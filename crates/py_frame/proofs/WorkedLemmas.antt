@@ -1,39 +1,73 @@
 -- Small codes that frames can run.
-use Rattle.std.proofs.Common.{◌≡◌, ℕ, zero, suc, ◌<◌, ◌≤◌, List, [], ◌∷◌, Some, sym, ap, subst, ◌∙◌, length, arith}
+use Rattle.std.proofs.Common.{◌≡◌, ℕ, zero, suc, ◌<◌, ◌≤◌, List, [], ◌∷◌, Bool, true, false, not, Some, refl, sym, ap, subst, ◌∙◌, length, arith}
 use Rattle.std.specs.Prelude.{Option, slice_get}
 use Rattle.py_code.specs.declared.names.NameId.{NameId}
 use Rattle.py_objects.specs.declared.scope.Scope.{Scope}
 use Rattle.py_objects.specs.Objects.{Obj}
 use Rattle.py_check.specs.declared.annotated.Annotated.{Annotated}
+use Rattle.py_check.specs.Notes.{deepest}
 use Rattle.py_check.specs.Sheet.{Sheet, sheet_of}
 use Rattle.py_check.specs.Worked.{Typed}
-use Rattle.py_frame.specs.Rows.{with_locals}
+use Rattle.py_code.specs.declared.code.PyCode.{PyCode}
+use Rattle.py_objects.specs.declared.payload.Payload.{Payload}
+use Rattle.py_frame.specs.declared.input.Answer.{Answer}
+use Rattle.py_frame.specs.declared.input.Input.TheVariants as input
+use Rattle.py_frame.specs.declared.input.FrameStep.{FrameStep}
+use Rattle.py_frame.specs.declared.input.FrameStep.TheVariants as step
+use Rattle.py_frame.specs.Rows.{State, with_locals, asks_truth}
+use Rattle.py_frame.specs.Steps.{AsksKnown, FitsQuestion}
 use Rattle.py_frame.specs.RunOfRows.{filled}
 use Rattle.py_frame.specs.Fitting.{Framed, IsRunning, unfilled}
-use Rattle.py_frame.specs.Worked.{HasTwoNames, IsSoundByTwo, RunsIfSound}
+use Rattle.py_frame.specs.Worked.{HasTwoNames, IsSoundByTwo, RunsIfSound, asks_plainly}
 use Rattle.py_frame.proofs.RunningLemmas.{started_runs}
+use Rattle.py_frame.proofs.Answering.{question_fits}
 
--- two names are in a table of two
+-- names that are in a table of two
+in_two : (n : ℕ) (k id : NameId) → n ≡ 2 → k.index < 2 → k ≡ id → id.index < n
+in_two n k id count below is = subst (λ (m : ℕ). id.index < m) (sym count) (subst (λ (o : NameId). o.index < 2) is below)
+
 two_named : (n : ℕ) (ids : List NameId) → ids ≡ record { index = 0 } ∷ record { index = 1 } ∷ [] → n ≡ 2 → (i : ℕ) (id : NameId) → slice_get ids i ≡ Some id → id.index < n
 two_named n ids are count i id here = two_of i (ap (λ xs. slice_get xs i) (sym are) ∙ here)
   where
-    same : (k : NameId) → k.index < 2 → k ≡ id → id.index < n
-    same k below is = subst (λ (m : ℕ). id.index < m) (sym count) (subst (λ (o : NameId). o.index < 2) is below)
-
     two_of : (j : ℕ) → slice_get (record { index = 0 } ∷ record { index = 1 } ∷ []) j ≡ Some id → id.index < n
-    two_of zero is = same (record { index = 0 }) (omega arith) (cc)
-    two_of (suc zero) is = same (record { index = 1 }) (omega arith) (cc)
+    two_of zero is = in_two n (record { index = 0 }) id count (omega arith) (cc)
+    two_of (suc zero) is = in_two n (record { index = 1 }) id count (omega arith) (cc)
     two_of (suc (suc j)) is = cc
+
+one_named : (n : ℕ) (ids : List NameId) → ids ≡ record { index = 0 } ∷ [] → n ≡ 2 → (i : ℕ) (id : NameId) → slice_get ids i ≡ Some id → id.index < n
+one_named n ids are count i id here = one_of i (ap (λ xs. slice_get xs i) (sym are) ∙ here)
+  where
+    one_of : (j : ℕ) → slice_get (record { index = 0 } ∷ []) j ≡ Some id → id.index < n
+    one_of zero is = in_two n (record { index = 0 }) id count (omega arith) (cc)
+    one_of (suc j) is = cc
 
 -- a code that keeps the rules and has two names
 pub sound_by_two : (sheet : Sheet) (code : Annotated) → Typed sheet → sheet_of code ≡ sheet → HasTwoNames code.code → IsSoundByTwo code
-sound_by_two sheet code typed same two names count = record { typed = typed code same; named = two_named (length names) code.code.code.varnames.items two count }
+sound_by_two sheet code typed same two names count = record {
+  typed = typed code same;
+  named = record {
+    locals = two_named (length names) code.code.code.varnames.items two.0 count;
+    globals = one_named (length names) code.code.code.names.items two.1 count;
+  };
+}
 
 -- a frame that was filled with arguments
-pub filled_runs : (code : Annotated) (number room : ℕ) (scope : Scope) (args : List Obj) (locals : List (Option Obj)) (f g : Framed) → code.code.code.max_stackdepth ≤ room → f ≡ unfilled code number scope room
-    → locals ≡ filled (length code.code.code.varnames.items) args → g ≡ record f { state = with_locals locals f.state } → RunsIfSound code g
-filled_runs code number room scope args locals f g enough made are is objects names sound =
+pub filled_runs : (code : Annotated) (number room block_room : ℕ) (scope : Scope) (args : List Obj) (locals : List (Option Obj)) (f g : Framed) → code.code.code.max_stackdepth ≤ room → deepest code.notes ≤ block_room
+    → f ≡ unfilled code number scope room block_room → locals ≡ filled (length code.code.code.varnames.items) args → g ≡ record f { state = with_locals locals f.state } → RunsIfSound code g
+filled_runs code number room block_room scope args locals f g enough deep made are is objects names sound =
     let with : List (Option Obj) → Framed → Framed = λ ls h. record h { state = with_locals ls h.state } in
-    let same : g ≡ with (filled (length code.code.code.varnames.items) args) (unfilled code number scope room) =
+    let same : g ≡ with (filled (length code.code.code.varnames.items) args) (unfilled code number scope room block_room) =
     is ∙ ap (λ (ls : List (Option Obj)). with ls f) are ∙ ap (with (filled (length code.code.code.varnames.items) args)) made in
-    subst (λ (h : Framed). IsRunning objects names code h) (sym same) (started_runs objects names code args room number scope sound enough)
+    subst (λ (h : Framed). IsRunning objects names code h) (sym same) (started_runs objects names code args room block_room number scope sound enough deep)
+
+-- a question that isn't for a truth value takes any answer
+pub plain_fits : (objects : List Payload) (code : PyCode) (s : State) (told : FrameStep) (w : Answer) → AsksKnown code s told → asks_plainly told ≡ true → FitsQuestion objects code s (input.Answer w)
+plain_fits objects code s (step.Ask r own) w known plain = question_fits objects code s w (known.1 ∙ no_truth (asks_truth r) plain)
+  where
+    no_truth : (b : Bool) → not b ≡ true → b ≡ false
+    no_truth true is = cc
+    no_truth false is = refl
+plain_fits objects code s step.Round w known plain = cc
+plain_fits objects code s (step.Return v) w known plain = cc
+plain_fits objects code s (step.Raise e) w known plain = cc
+plain_fits objects code s step.NoMemory w known plain = cc

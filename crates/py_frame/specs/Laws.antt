@@ -1,10 +1,10 @@
 -- What holds of every run of the rows.
-use Rattle.std.specs.Prelude.{ℕ, List, [], ◌∷◌, ◌++◌, length}
+use Rattle.std.specs.Prelude.{ℕ, ◌<◌, List, [], ◌∷◌, ◌++◌, ◌≡◌, length}
 use Rattle.py_check.specs.declared.annotated.Annotated.{Annotated}
 use Rattle.py_objects.specs.declared.payload.Payload.{Payload}
 use Rattle.py_objects.specs.Objects.{Obj, Grows, AllBelow, numbers, number_if, request_numbers, how_numbers, got_numbers, ending_numbers}
 use Rattle.py_objects.specs.Own.{Own, Makes, Resumes, Asks, Gets, Rounds, Yields, Ends}
-use Rattle.py_frame.specs.Rows.{NamedCode, State}
+use Rattle.py_frame.specs.Rows.{Setting, State}
 use Rattle.py_frame.specs.RunOfRows.{IsAt}
 use Rattle.py_frame.specs.Fitting.{IsSound, FitsAt}
 
@@ -38,15 +38,15 @@ TellsBelow n (x ∷ xs) = AllBelow n (told_numbers x) × TellsBelow n xs
 
 -- a run goes over to more objects
 abbrev pub RunsGrow : Type 0
-RunsGrow = (objects objects' : List Payload) (code : NamedCode) (args : List Obj) (ts : List Own) (s : State)
-    → Grows objects objects' → IsAt objects code args ts s → IsAt objects' code args ts s
+RunsGrow = (objects objects' : List Payload) (setting : Setting) (args : List Obj) (ts : List Own) (s : State)
+    → Grows objects objects' → IsAt objects setting args ts s → IsAt objects' setting args ts s
 
--- where all numbers that go in name objects, so do all that come out
+-- where the globals and all numbers that go in name objects, so do all that come out
 abbrev pub RunsStayBelow : Type 0
-RunsStayBelow = (objects : List Payload) (code : NamedCode) (args : List Obj) (ts : List Own) (s : State)
-    → IsAt objects code args ts s → AllBelow (length objects) (numbers args) → HearsBelow (length objects) ts → TellsBelow (length objects) ts
+RunsStayBelow = (objects : List Payload) (setting : Setting) (args : List Obj) (ts : List Own) (s : State)
+    → IsAt objects setting args ts s → setting.globals.number < length objects → AllBelow (length objects) (numbers args) → HearsBelow (length objects) ts → TellsBelow (length objects) ts
 
 -- a run of the rows of a code that keeps the rules fits its notes, wherever it comes to
 abbrev pub RunsFit : Type 0
-RunsFit = (names : List (List ℕ)) (code : Annotated) (objects : List Payload) (args : List Obj) (ts : List Own) (s : State)
-    → IsSound names code → IsAt objects (record { code = code.code; names = names }) args ts s → FitsAt objects names code s.wants s
+RunsFit = (names : List (List ℕ)) (code : Annotated) (setting : Setting) (objects : List Payload) (args : List Obj) (ts : List Own) (s : State)
+    → IsSound names code → setting.code ≡ code.code → IsAt objects setting args ts s → FitsAt objects code s.wants s

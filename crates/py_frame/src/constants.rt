@@ -27,7 +27,7 @@ impl<S: ValueStack + Drop> Frame<S> {
         requires next { self.old.state.at + 1 < 2 ^ 32 }
         requires loaded { IsLoaded (slice_get (literals_of code.now.code.constants) place) }
         requires room { 0 < self.old.room }
-        ensures row { IfOk result (λ step. MayLead store.new.made (act (record { code = code.now; names = [] }) LoadConst place self.old.state) (effect self.old.state.at step self.new.state)) }
+        ensures row { IfOk result (λ step. MayLead store.new.made (act (record { code = code.now; names = []; globals = self.old.scope.globals }) LoadConst place self.old.state) (effect self.old.state.at step self.new.state)) }
         ensures same { IsSame self.old self.new }
         ensures err { OnErr result (self.new ≡ self.old) }
         ensures objects { GrowsPlainly store.old.made store.new.made }
@@ -49,7 +49,7 @@ impl<S: ValueStack + Drop> Frame<S> {
     ) -> Result<UnitStep, NoMemory>
         requires next { self.old.state.at + 1 < 2 ^ 32 }
         requires loaded { IsLoaded (slice_get (literals_of code.now.code.constants) place) }
-        ensures row { IfOk result (λ step. MayLead store.new.made (act (record { code = code.now; names = [] }) ReturnConst place self.old.state) (effect self.old.state.at step self.new.state)) }
+        ensures row { IfOk result (λ step. MayLead store.new.made (act (record { code = code.now; names = []; globals = self.old.scope.globals }) ReturnConst place self.old.state) (effect self.old.state.at step self.new.state)) }
         ensures same { IsSame self.old self.new }
         ensures err { OnErr result (self.new ≡ self.old) }
         ensures objects { GrowsPlainly store.old.made store.new.made }

@@ -1,15 +1,15 @@
 //! Instructions on the stack, and operators.
 
 ghost use Rattle.std.specs.Prelude.{◌≡◌, ◌+◌, ◌^◌, ◌<◌, length, slice_get, Some, true};
-ghost use Rattle.py_code.specs.Operators.{binary_operators};
-ghost use Rattle.py_check.specs.Rules.{asks_operator};
-ghost use Rattle.py_frame.specs.Rows.{asked_operator, asks, binary_operation, pop, print_expr, return_value, returns};
+ghost use Rattle.py_code.specs.Operators.{binary_operators, comparison_operators};
+ghost use Rattle.py_check.specs.Rules.{asks_comparison, asks_operator};
+ghost use Rattle.py_frame.specs.Rows.{asked_comparison, asked_operator, asks, binary_operation, compare_operation, pop, print_expr, return_value, returns};
 ghost use Rattle.py_frame.specs.UnitSteps.{IsSame, effect};
 
 use crate::execute::UnitStep;
 use crate::frame::Frame;
 use crate::input::Expect;
-use py_code::BinaryOperator;
+use py_code::{BinaryOperator, ComparisonOperator};
 use py_objects::{PyObjectRef, Request};
 use py_stack::ValueStack;
 
@@ -38,6 +38,20 @@ impl<S: ValueStack + Drop> Frame<S> {
         let right = self.pop();
         let left = self.pop();
         self.asks(Request::Binary(operator, left, right))
+    }
+
+    /// Asks for a comparison of the top two values, the left one of which lies lower.
+    pub(crate) fn compare_operation(&mut self, operator: u32) -> UnitStep
+        requires next { self.old.state.at + 1 < 2 ^ 32 }
+        requires operator { asks_comparison (slice_get comparison_operators operator) ≡ true }
+        requires operands { 1 < length self.old.state.stack }
+        ensures row { compare_operation (asked_comparison (slice_get comparison_operators operator)) self.old.state.stack self.old.state ≡ effect self.old.state.at result self.new.state }
+        ensures same { IsSame self.old self.new }
+    {
+        let operator = asked_comparison(operator);
+        let right = self.pop();
+        let left = self.pop();
+        self.asks(Request::Compare(operator, left, right))
     }
 
     /// Asks for the top to be shown.
@@ -80,7 +94,7 @@ impl<S: ValueStack + Drop> Frame<S> {
         ensures same { IsSame self.old self.new }
     {
         self.goes_on();
-        self.waits(Expect::Ended);
+        self.unwinds();
         UnitStep::Returns(value)
     }
 }
@@ -91,6 +105,17 @@ fn asked_operator(number: u32) -> BinaryOperator
     ensures { asked_operator (slice_get binary_operators number) ≡ Some result }
 {
     match BinaryOperator::of_number(number) {
+        Some(operator) => operator,
+        None => unreachable!(),
+    }
+}
+
+/// The comparison of a number that is asked so far.
+fn asked_comparison(number: u32) -> ComparisonOperator
+    requires { asks_comparison (slice_get comparison_operators number) ≡ true }
+    ensures { asked_comparison (slice_get comparison_operators number) ≡ Some result }
+{
+    match ComparisonOperator::of_number(number) {
         Some(operator) => operator,
         None => unreachable!(),
     }

@@ -20,6 +20,8 @@ pub enum UnitStep {
     Goes,
     /// It asks.
     Asks(Request),
+    /// It begins a round of a loop.
+    Rounds,
     /// It ends the frame by a value.
     Returns(PyObjectRef),
 }
@@ -36,17 +38,18 @@ impl<S: ValueStack + Drop> Frame<S> {
         requires length { length code.now.code.instructions.items < 2 ^ 32 }
         requires named { AreNames names.now code.now }
         requires needs { UnitNeeds code.now (slice_get code.now.code.instructions.items self.old.state.at) self.old }
-        ensures row { IfOk result (λ step. MayLead store.new.made (advance (record { code = code.now; names = names.now }) self.old.state) (effect self.old.state.at step self.new.state)) }
+        ensures row { IfOk result (λ step. MayLead store.new.made (advance (record { code = code.now; names = names.now; globals = self.old.scope.globals }) self.old.state) (effect self.old.state.at step self.new.state)) }
         ensures same { IsSame self.old self.new }
         ensures err { OnErr result (self.new ≡ self.old) }
         ensures objects { GrowsPlainly store.old.made store.new.made }
         ensures unchanged { store.new ≡ record store.old { made = store.new.made } }
     {
-        let unit = code.code.instructions[self.lasti() as usize];
+        let unit = code.code.instructions[self.next_unit() as usize];
         let mut prefix = self.prefix();
         let arg = prefix.extend(unit.arg);
         if unit.op.is_prefix() {
-            self.carries(prefix);
+            self.goes_on();
+            self.keeps(arg);
             return Ok(UnitStep::Goes);
         }
         self.execute_instruction(alloc, code, names, store, unit.op, arg.0)
@@ -66,7 +69,7 @@ impl<S: ValueStack + Drop> Frame<S> {
         requires whole { is_prefix op ≡ false }
         requires named { AreNames names.now code.now }
         requires needs { Needs code.now op arg self.old }
-        ensures row { IfOk result (λ step. MayLead store.new.made (act (record { code = code.now; names = names.now }) op arg self.old.state) (effect self.old.state.at step self.new.state)) }
+        ensures row { IfOk result (λ step. MayLead store.new.made (act (record { code = code.now; names = names.now; globals = self.old.scope.globals }) op arg self.old.state) (effect self.old.state.at step self.new.state)) }
         ensures same { IsSame self.old self.new }
         ensures err { OnErr result (self.new ≡ self.old) }
         ensures objects { GrowsPlainly store.old.made store.new.made }
@@ -76,9 +79,16 @@ impl<S: ValueStack + Drop> Frame<S> {
             Instruction::LoadConst => self.load_const(alloc, code, store, arg as usize),
             Instruction::LoadFast => self.load_fast(alloc, code, names, arg as usize),
             Instruction::StoreFast => Ok(self.store_fast(arg as usize)),
+            Instruction::LoadGlobal => self.load_global(alloc, code, names, arg as usize),
             Instruction::Pop => Ok(self.pop_top()),
             Instruction::BinaryOperation => Ok(self.binary_operation(arg)),
+            Instruction::CompareOperation => Ok(self.compare_operation(arg)),
             Instruction::PrintExpr => Ok(self.print_expr()),
+            Instruction::Jump => Ok(self.jump(arg)),
+            Instruction::JumpIfTrue => Ok(self.asks_to_jump(arg)),
+            Instruction::JumpIfFalse => Ok(self.asks_to_jump(arg)),
+            Instruction::SetupLoop => Ok(self.setup_loop()),
+            Instruction::PopBlock => Ok(self.leave_block()),
             Instruction::ReturnValue => Ok(self.return_value()),
             Instruction::ReturnConst => self.return_const(alloc, code, store, arg as usize),
             _ => unreachable!(),

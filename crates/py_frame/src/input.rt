@@ -57,6 +57,8 @@ pub enum Expect {
 pub enum FrameStep {
     /// It asks, while it handles this exception.
     Ask(Request, Option<PyBaseExceptionRef>),
+    /// A loop begins a round.
+    Round,
     /// It ends by a value.
     Return(PyObjectRef),
     /// It ends by an exception.

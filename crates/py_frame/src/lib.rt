@@ -1,17 +1,21 @@
 //! Frames: running code, one event at a time.
 #![tactic(auto)]
 
+mod block;
 mod constants;
 mod data;
 mod execute;
 mod filled;
 mod frame;
+mod globals;
 mod input;
+mod jumps;
 mod laws;
 mod locals;
 mod pending;
 mod step;
 
+pub use block::{Block, BlockType};
 pub use filled::{Filled, positional};
 pub use frame::Frame;
 pub use input::{Answer, ExecutionResult, Expect, FrameStep, Input};

@@ -2,7 +2,7 @@
 
 ghost use Rattle.std.specs.Prelude.{◌≡◌, ◌+◌, ◌^◌, ◌<◌, length, slice_get, Some, IfOk, OnErr};
 ghost use Rattle.py_frame.specs.Fitting.{AreNames};
-ghost use Rattle.py_frame.specs.Rows.{load_fast, name_of_local, set_in, store_fast};
+ghost use Rattle.py_frame.specs.Rows.{load_fast, name_in, name_of_local, set_in, store_fast};
 ghost use Rattle.py_frame.specs.UnitSteps.{IsSame, effect};
 
 use crate::execute::UnitStep;
@@ -26,7 +26,7 @@ impl<S: ValueStack + Drop> Frame<S> {
         requires name { place < length code.now.code.varnames.items }
         requires local { place < length self.old.state.locals }
         requires room { 0 < self.old.room }
-        ensures row { IfOk result (λ step. load_fast (name_of_local (record { code = code.now; names = names.now }) place) (set_in (slice_get self.old.state.locals place)) self.old.state ≡ effect self.old.state.at step self.new.state) }
+        ensures row { IfOk result (λ step. load_fast (name_of_local (record { code = code.now; names = names.now; globals = self.old.scope.globals }) place) (set_in (slice_get self.old.state.locals place)) self.old.state ≡ effect self.old.state.at step self.new.state) }
         ensures same { IsSame self.old self.new }
         ensures err { OnErr result (self.new ≡ self.old) }
     {
@@ -67,7 +67,7 @@ fn name_of_local(
 ) -> Result<PyText, NoMemory>
     requires named { AreNames names.now code.now }
     requires name { place < length code.now.code.varnames.items }
-    ensures { IfOk result (λ name. name_of_local (record { code = code.now; names = names.now }) place ≡ Some name) }
+    ensures { IfOk result (λ name. name_in names.now (slice_get code.now.code.varnames.items place) ≡ Some name) }
 {
     let id = code.code.varnames[place];
     text_of_str(alloc, names.text(id))

@@ -2,8 +2,8 @@
 
 ghost use Rattle.std.specs.Prelude.{◌≡◌, ◌-◌, ◌++◌, IfOk};
 ghost use Rattle.py_objects.specs.Objects.{GrowsPlainly};
-ghost use Rattle.py_frame.specs.Fitting.{IsRunning};
-ghost use Rattle.py_frame.specs.Steps.{AsksKnown, Expects, Extends, IfTold, expected, heard, told};
+ghost use Rattle.py_frame.specs.Fitting.{IsRunning, setting_of};
+ghost use Rattle.py_frame.specs.Steps.{AsksKnown, Expects, Extends, FitsQuestion, IfTold, expected, heard, told};
 ghost use Rattle.py_frame.specs.UnitSteps.{IsSame, Leads};
 ghost use Rattle.py_frame.specs.declared.input.Expect.TheVariants as expect;
 
@@ -29,10 +29,12 @@ impl<S: ValueStack + Drop> Frame<S> {
     ) -> FrameStep
         requires running { IsRunning store.old.made names.now code.now self.old }
         requires expected { Expects self.old.state.wants input }
+        // An answer is a truth value where the unit that asked decides by it.
+        requires kind { FitsQuestion store.old.made code.now.code self.old.state input }
         // The run so far goes on, by what was heard and what is told.
-        ensures extends { IfTold result (Extends store.old.made store.new.made (record { code = code.now.code; names = names.now }) self.old.state input result self.new.state) }
+        ensures extends { IfTold result (Extends store.old.made store.new.made (setting_of names.now code.now self.old) self.old.state input result self.new.state) }
         ensures expects { self.new.state.wants ≡ expected result }
-        ensures asks { AsksKnown result }
+        ensures asks { AsksKnown code.now.code self.new.state result }
         // The frame fits its notes as before.
         ensures running { IsRunning store.new.made names.now code.now self.new }
         ensures same { (self.new.code ≡ self.old.code) × (self.new.scope ≡ self.old.scope) }
@@ -60,8 +62,9 @@ impl<S: ValueStack + Drop> Frame<S> {
     ) -> Result<FrameStep, NoMemory>
         requires running { IsRunning store.old.made names.now code.now self.old }
         requires expected { Expects self.old.state.wants input }
-        ensures leads { IfOk result (λ step. Leads store.new.made (record { code = code.now.code; names = names.now }) self.old.state (heard input ++ told (self.new.state.at - 1) step) self.new.state) }
-        ensures told { IfOk result (λ step. (self.new.state.wants ≡ expected step) × AsksKnown step) }
+        requires kind { FitsQuestion store.old.made code.now.code self.old.state input }
+        ensures leads { IfOk result (λ step. Leads store.new.made (setting_of names.now code.now self.old) self.old.state (heard input ++ told (self.new.state.last - 1) step) self.new.state) }
+        ensures told { IfOk result (λ step. (self.new.state.wants ≡ expected step) × AsksKnown code.now.code self.new.state step) }
         ensures running { IsRunning store.new.made names.now code.now self.new }
         ensures same { IsSame self.old self.new }
         ensures objects { GrowsPlainly store.old.made store.new.made }
@@ -88,20 +91,23 @@ impl<S: ValueStack + Drop> Frame<S> {
     ) -> Result<FrameStep, NoMemory>
         requires running { IsRunning store.old.made names.now code.now self.old }
         requires expected { Expects self.old.state.wants (Input.Answer answer) }
-        ensures leads { IfOk result (λ step. Leads store.new.made (record { code = code.now.code; names = names.now }) self.old.state (heard (Input.Answer answer) ++ told (self.new.state.at - 1) step) self.new.state) }
-        ensures told { IfOk result (λ step. (self.new.state.wants ≡ expected step) × AsksKnown step) }
+        requires kind { FitsQuestion store.old.made code.now.code self.old.state (Input.Answer answer) }
+        ensures leads { IfOk result (λ step. Leads store.new.made (setting_of names.now code.now self.old) self.old.state (heard (Input.Answer answer) ++ told (self.new.state.last - 1) step) self.new.state) }
+        ensures told { IfOk result (λ step. (self.new.state.wants ≡ expected step) × AsksKnown code.now.code self.new.state step) }
         ensures running { IsRunning store.new.made names.now code.now self.new }
         ensures same { IsSame self.old self.new }
         ensures objects { GrowsPlainly store.old.made store.new.made }
         ensures unchanged { store.new ≡ record store.old { made = store.new.made } }
     {
         match answer.got() {
-            GotAnswer::Value(value) => {
-                self.receive(code.code(), value);
-                self.run(alloc, code, names, store)
-            }
+            GotAnswer::Value(value) => match self.receive(code.code(), store, value) {
+                UnitStep::Goes => self.run(alloc, code, names, store),
+                UnitStep::Rounds => Ok(FrameStep::Round),
+                UnitStep::Asks(_) => unreachable!(),
+                UnitStep::Returns(_) => unreachable!(),
+            },
             GotAnswer::Raise(exception) => {
-                self.waits(Expect::Ended);
+                self.unwinds();
                 Ok(FrameStep::Raise(exception))
             }
             GotAnswer::Stop(_) => unreachable!(),
@@ -118,8 +124,8 @@ impl<S: ValueStack + Drop> Frame<S> {
     ) -> Result<FrameStep, NoMemory>
         requires running { IsRunning store.old.made names.now code.now self.old }
         requires goes { self.old.state.wants ≡ expect.Go }
-        ensures leads { IfOk result (λ step. Leads store.new.made (record { code = code.now.code; names = names.now }) self.old.state (told (self.new.state.at - 1) step) self.new.state) }
-        ensures told { IfOk result (λ step. (self.new.state.wants ≡ expected step) × AsksKnown step) }
+        ensures leads { IfOk result (λ step. Leads store.new.made (setting_of names.now code.now self.old) self.old.state (told (self.new.state.last - 1) step) self.new.state) }
+        ensures told { IfOk result (λ step. (self.new.state.wants ≡ expected step) × AsksKnown code.now.code self.new.state step) }
         ensures running { IsRunning store.new.made names.now code.now self.new }
         ensures same { IsSame self.old self.new }
         ensures objects { GrowsPlainly store.old.made store.new.made }
@@ -129,6 +135,7 @@ impl<S: ValueStack + Drop> Frame<S> {
             match self.execute(alloc, code.code(), names, store)? {
                 UnitStep::Goes => {}
                 UnitStep::Asks(request) => return Ok(FrameStep::Ask(request, None)),
+                UnitStep::Rounds => return Ok(FrameStep::Round),
                 UnitStep::Returns(value) => return Ok(FrameStep::Return(value)),
             }
         }

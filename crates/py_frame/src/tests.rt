@@ -4,12 +4,15 @@ ghost use Rattle.std.specs.Prelude.{◌≡◌, ◌≤◌, [], ◌∷◌, length,
 ghost use Rattle.py_code.specs.Literals.{literals_of};
 ghost use Rattle.py_code.specs.declared.literal.Literal.{None as NoneLiteral};
 ghost use Rattle.py_check.specs.Sheet.{sheet_of};
-ghost use Rattle.py_check.specs.Worked.{holds, nothing, one, sheet, two, unit};
-ghost use Rattle.py_frame.specs.Worked.{HasTwoNames, IsSoundByTwo, RunsIfSound, shown, sum};
+ghost use Rattle.py_check.specs.Worked.{loop_notes, nothing, one, sheet, two, unit};
+ghost use Rattle.py_check.specs.declared.note.BlockNote.TheVariants.{Loop};
+ghost use Rattle.py_check.specs.declared.note.Note.TheVariants.{Live};
+ghost use Rattle.py_frame.specs.Fitting.{IsRunning};
+ghost use Rattle.py_frame.specs.Worked.{HasTwoNames, IsSoundByTwo, RunsIfSound, asks_plainly, looping, shown, sum};
 ghost use Rattle.py_frame.specs.declared.input.Expect.TheVariants as expect;
 
 use crate::*;
-use py_check::{Annotated, BlockList, CheckedCode, Kind, KindList, Note, NoteList};
+use py_check::{Annotated, BlockList, BlockNote, CheckedCode, Kind, KindList, Note, NoteList};
 use py_code::{
     BinaryOperator, CodeFlags, CodeObject, CodeUnit, Instruction, ItemList, Literal, LiteralList,
     NameId, Names, NoMemory, PyCode,
@@ -34,18 +37,24 @@ fn units_of(alloc: Global, units: &[(Instruction, u8)]) -> Result<Vec<CodeUnit>,
     Ok(made)
 }
 
-/// A note of so many entries of which nothing is known.
-fn note_of(alloc: Global, entries: &[Kind]) -> Result<Note, NoMemory>
-    ensures { IfOk result (λ note. note ≡ holds entries.now) }
+/// A note of these entries and blocks.
+fn note_of(alloc: Global, entries: &[Kind], blocks: BlockList) -> Result<Note, NoMemory>
+    ensures { IfOk result (λ note. note ≡ Live entries.now blocks) }
 {
     let mut kinds = KindList::new(alloc);
     for kind in entries {
         kinds.push(*kind)?;
     }
-    Ok(Note::Live {
-        kinds,
-        blocks: BlockList::new(alloc),
-    })
+    Ok(Note::Live { kinds, blocks })
+}
+
+/// A note of these entries, while a loop is open that began with an empty stack.
+fn loop_note(alloc: Global, entries: &[Kind]) -> Result<Note, NoMemory>
+    ensures { IfOk result (λ note. note ≡ Live entries.now (Loop 0 ∷ [])) }
+{
+    let mut blocks = BlockList::new(alloc);
+    blocks.push(BlockNote::Loop { level: 0 })?;
+    note_of(alloc, entries, blocks)
 }
 
 /// The notes of a code whose stack grows to one entry, to two, and falls to one.
@@ -53,14 +62,14 @@ fn notes_of(alloc: Global) -> Result<NoteList, NoMemory>
     ensures { IfOk result (λ notes. notes ≡ nothing ∷ one ∷ two ∷ one ∷ []) }
 {
     let mut notes = NoteList::new(alloc);
-    notes.push(note_of(alloc, &[])?)?;
-    notes.push(note_of(alloc, &[Kind::Any])?)?;
-    notes.push(note_of(alloc, &[Kind::Any, Kind::Any])?)?;
-    notes.push(note_of(alloc, &[Kind::Any])?)?;
+    notes.push(note_of(alloc, &[], BlockList::new(alloc))?)?;
+    notes.push(note_of(alloc, &[Kind::Any], BlockList::new(alloc))?)?;
+    notes.push(note_of(alloc, &[Kind::Any, Kind::Any], BlockList::new(alloc))?)?;
+    notes.push(note_of(alloc, &[Kind::Any], BlockList::new(alloc))?)?;
     Ok(notes)
 }
 
-/// A code of two parameters, whose units are on lines 10, 11 and so on.
+/// A code of two parameters and a global, whose units are on lines 10, 11 and so on.
 fn code_of(
     alloc: Global,
     instructions: Vec<CodeUnit>,
@@ -78,6 +87,8 @@ fn code_of(
     let mut varnames = Vec::new(alloc);
     varnames.push(NameId { index: 0 })?;
     varnames.push(NameId { index: 1 })?;
+    let mut names = Vec::new(alloc);
+    names.push(NameId { index: 0 })?;
     let code = PyCode::new(CodeObject {
         instructions,
         locations,
@@ -91,7 +102,7 @@ fn code_of(
         obj_name: NameId { index: 0 },
         cell2arg: Vec::new(alloc),
         constants,
-        names: Vec::new(alloc),
+        names,
         varnames,
         cellvars: Vec::new(alloc),
         freevars: Vec::new(alloc),
@@ -188,13 +199,84 @@ fn show(alloc: Global) -> Result<CheckedCode, NoMemory>
     Ok(CheckedCode::of(code))
 }
 
+/// The notes of the loop.
+fn notes_of_loop(alloc: Global) -> Result<NoteList, NoMemory>
+    ensures { IfOk result (λ notes. notes ≡ loop_notes) }
+{
+    let mut notes = NoteList::new(alloc);
+    notes.push(note_of(alloc, &[], BlockList::new(alloc))?)?;
+    notes.push(loop_note(alloc, &[])?)?;
+    notes.push(loop_note(alloc, &[Kind::Any])?)?;
+    notes.push(loop_note(alloc, &[])?)?;
+    notes.push(loop_note(alloc, &[])?)?;
+    notes.push(note_of(alloc, &[], BlockList::new(alloc))?)?;
+    Ok(notes)
+}
+
+/// A loop that goes on while the first parameter is true.
+fn loop_code(alloc: Global) -> Result<Annotated, NoMemory>
+    ensures sheet { IfOk result (λ code. sheet_of code ≡ looping) }
+    ensures names { IfOk result (λ code. HasTwoNames code.code) }
+{
+    let units = [
+        (Instruction::SetupLoop, 0),
+        (Instruction::LoadFast, 0),
+        (Instruction::JumpIfFalse, 4),
+        (Instruction::Jump, 1),
+        (Instruction::PopBlock, 0),
+        (Instruction::ReturnConst, 0),
+    ];
+    let notes = notes_of_loop(alloc)?;
+    code_of(alloc, units_of(alloc, &units)?, none_alone(alloc)?, notes)
+}
+
+/// The same, checked.
+fn loops(alloc: Global) -> Result<CheckedCode, NoMemory>
+    ensures sound { IfOk result (λ code. IsSoundByTwo code) }
+    ensures depth { IfOk result (λ code. code.code.code.max_stackdepth ≡ 2) }
+{
+    let code = loop_code(alloc)?;
+    Ok(CheckedCode::of(code))
+}
+
+/// What a frame does once it is answered a new truth value.
+fn answered(
+    alloc: Global,
+    frame: &mut Frame<OwnStack>,
+    code: &CheckedCode,
+    names: &Names,
+    store: &mut Store,
+    truth: bool,
+) -> Result<FrameStep, NoMemory>
+    requires running { IsRunning store.old.made names.now code.now frame.old }
+    requires waits { frame.old.state.wants ≡ expect.Answer }
+    ensures running { IfOk result (λ step. IsRunning store.new.made names.now code.now frame.new) }
+{
+    let value = store.add(Payload::Bool(truth))?;
+    let answer = Input::Answer(Answer::Value(value));
+    Ok(frame.step(alloc, code, names, store, answer))
+}
+
 /// A step that told something. Where memory ran out, the frame has to have ended.
-fn told(rt: &impl Abort, frame: &Frame<OwnStack>, step: FrameStep) -> Result<FrameStep, NoMemory> {
+fn told(rt: &impl Abort, frame: &Frame<OwnStack>, step: FrameStep) -> Result<FrameStep, NoMemory>
+    ensures { IfOk result (λ told. told ≡ step) }
+{
     if let FrameStep::NoMemory = step {
         assert!(rt; frame.expects() == Expect::Ended);
         return Err(NoMemory);
     }
     Ok(step)
+}
+
+/// Whether a step asks, and not for a truth value.
+fn asks_plainly(step: &FrameStep) -> bool
+    ensures { result ≡ asks_plainly step.now }
+{
+    match step {
+        FrameStep::Ask(Request::Truth(_), _) => false,
+        FrameStep::Ask(_, _) => true,
+        _ => false,
+    }
 }
 
 /// The operands of an addition that is asked for.
@@ -223,6 +305,27 @@ fn asked_to_show(step: &FrameStep) -> Option<PyObjectRef> {
     }
 }
 
+/// Whether a loop begins a round.
+fn is_round(step: &FrameStep) -> bool {
+    matches!(step, FrameStep::Round)
+}
+
+/// The value whose truth is asked for.
+fn asked_for_truth(step: &FrameStep) -> Option<PyObjectRef> {
+    match step {
+        FrameStep::Ask(Request::Truth(value), None) => Some(*value),
+        _ => None,
+    }
+}
+
+/// The exception that is raised.
+fn raised(step: &FrameStep) -> Option<PyBaseExceptionRef> {
+    match step {
+        FrameStep::Raise(exception) => Some(*exception),
+        _ => None,
+    }
+}
+
 /// The value that is returned.
 fn returned(step: &FrameStep) -> Option<PyObjectRef> {
     match step {
@@ -240,6 +343,7 @@ fn an_addition_asks_for_its_operands_in_order(rt: HostRuntime) -> Result<(), Fai
     let mut frame = frame_of(alloc, &code, &[7, 8])?;
     let step = frame.step(alloc, &code, &names, &mut store, Input::Start);
     assert!(rt; operands(&step) == Some((object(7), object(8))));
+    assert!(rt; asks_plainly(&step));
     assert!(rt; frame.expects() == Expect::Answer);
     let answer = Input::Answer(Answer::Value(object(15)));
     let step = frame.step(alloc, &code, &names, &mut store, answer);
@@ -257,6 +361,7 @@ fn a_value_that_is_shown_leaves_nothing_on_the_stack(rt: HostRuntime) -> Result<
     let mut frame = frame_of(alloc, &code, &[7, 8])?;
     let step = frame.step(alloc, &code, &names, &mut store, Input::Start);
     assert!(rt; asked_to_show(&step) == Some(object(8)));
+    assert!(rt; asks_plainly(&step));
     assert!(rt; frame.expects() == Expect::Answer);
     let answer = Input::Answer(Answer::Value(object(0)));
     let step = frame.step(alloc, &code, &names, &mut store, answer);
@@ -274,10 +379,22 @@ fn an_unset_local_is_asked_for_by_its_name(rt: HostRuntime) -> Result<(), Fail> 
     let step = frame.step(alloc, &code, &names, &mut store, Input::Start);
     let step = told(&rt, &frame, step)?;
     assert!(rt; is_unbound(&step, &['r', 'i', 'g', 'h', 't']));
+    assert!(rt; asks_plainly(&step));
     assert!(rt; frame.expects() == Expect::Answer);
     let answer = Input::Answer(Answer::Value(object(9)));
     let step = frame.step(alloc, &code, &names, &mut store, answer);
     assert!(rt; operands(&step) == Some((object(7), object(9))));
+    Ok(())
+}
+
+#[test]
+fn a_frame_begins_on_its_first_line(rt: HostRuntime) -> Result<(), Fail> {
+    let alloc = rt.alloc();
+    let code = sum(alloc)?;
+    let frame = frame_of(alloc, &code, &[7, 8])?;
+    assert!(rt; frame.f_lineno(&code) == 10);
+    assert!(rt; frame.f_code() == 3);
+    assert!(rt; frame.f_globals() == object(6));
     Ok(())
 }
 
@@ -288,17 +405,50 @@ fn an_exception_ends_a_frame_on_its_line(rt: HostRuntime) -> Result<(), Fail> {
     let names = two_names(&rt, alloc)?;
     let mut store = Store::new(alloc)?;
     let mut frame = frame_of(alloc, &code, &[7, 8])?;
-    assert!(rt; frame.f_lineno(&code) == 10);
-    assert!(rt; frame.f_code() == 3);
-    assert!(rt; frame.f_globals() == object(6));
-    let step = frame.step(alloc, &code, &names, &mut store, Input::Start);
-    told(&rt, &frame, step)?;
-    assert!(rt; frame.lasti() == 3);
-    assert!(rt; frame.current_location(&code) == 12);
+    let _step = frame.step(alloc, &code, &names, &mut store, Input::Start);
     assert!(rt; frame.expects() == Expect::Answer);
-    let answer = Input::Answer(Answer::Fresh(PyBaseExceptionRef { number: 4 }));
+    assert!(rt; frame.current_location(&code) == 12);
+    let exception = PyBaseExceptionRef { number: 4 };
+    let answer = Input::Answer(Answer::Fresh(exception));
     let step = frame.step(alloc, &code, &names, &mut store, answer);
-    assert!(rt; matches!(step, FrameStep::Raise(exception) if exception.number == 4));
+    assert!(rt; raised(&step) == Some(exception));
+    assert!(rt; frame.lasti() == 3);
     assert!(rt; frame.f_lineno(&code) == 12);
+    Ok(())
+}
+
+/// A turn of the loop: the truth of the first parameter is asked for, and answered.
+fn turn(
+    rt: &impl Abort,
+    alloc: Global,
+    frame: &mut Frame<OwnStack>,
+    code: &CheckedCode,
+    names: &Names,
+    store: &mut Store,
+    truth: bool,
+) -> Result<FrameStep, NoMemory>
+    requires running { IsRunning store.old.made names.now code.now frame.old }
+    ensures running { IfOk result (λ step. IsRunning store.new.made names.now code.now frame.new) }
+{
+    assert!(rt; frame.expects() == Expect::Go);
+    let step = frame.step(alloc, code, names, store, Input::Go);
+    assert!(rt; asked_for_truth(&step) == Some(object(7)));
+    assert!(rt; frame.expects() == Expect::Answer);
+    answered(alloc, frame, code, names, store, truth)
+}
+
+#[test]
+fn a_loop_tells_its_rounds(rt: HostRuntime) -> Result<(), Fail> {
+    let alloc = rt.alloc();
+    let code = loops(alloc)?;
+    let names = two_names(&rt, alloc)?;
+    let mut store = Store::new(alloc)?;
+    let mut frame = frame_of(alloc, &code, &[7, 8])?;
+    let step = frame.step(alloc, &code, &names, &mut store, Input::Start);
+    assert!(rt; is_round(&step));
+    let step = turn(&rt, alloc, &mut frame, &code, &names, &mut store, true)?;
+    assert!(rt; is_round(&step));
+    let step = turn(&rt, alloc, &mut frame, &code, &names, &mut store, false)?;
+    assert!(rt; returned(&step).is_some());
     Ok(())
 }
