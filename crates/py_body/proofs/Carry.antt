@@ -1,39 +1,61 @@
--- What a body may tell goes over to any front of its events, to what follows more weakly, and to more objects.
-use Rattle.std.proofs.Common.{◌≡◌, List, [], ◌∷◌, ◌++◌, Some, None, refl, ap, subst, ◌∙◌, inl, inr}
-use Rattle.std.specs.Prelude.{Option}
+-- What a body may tell goes over to any front of its events, to what follows more weakly, and to a wider scene.
+use Rattle.std.proofs.Common.{◌≡◌, ℕ, zero, suc, Bool, true, false, List, [], ◌∷◌, ◌++◌, Some, None, refl, ap, subst, ◌∙◌, inl, inr}
+use Rattle.std.specs.Prelude.{Option, slice_get}
 use Rattle.py_objects.specs.declared.refs.PyBaseExceptionRef.{PyBaseExceptionRef}
 use Rattle.py_objects.specs.declared.payload.Payload.{Payload}
 use Rattle.py_objects.specs.declared.payload.Payload.TheVariants as payload
 use Rattle.py_objects.specs.declared.request.Request.{Request}
-use Rattle.py_objects.specs.declared.request.Request.TheVariants.{Show}
+use Rattle.py_objects.specs.declared.request.Request.TheVariants.{Global, Show, Truth, Unbound}
 use Rattle.py_objects.specs.declared.event.GotAnswer.{GotAnswer}
 use Rattle.py_objects.specs.declared.event.GotAnswer.TheVariants as got
 use Rattle.py_objects.specs.declared.event.Ending.{Ending}
-use Rattle.py_objects.specs.Objects.{Obj, Grows}
+use Rattle.py_objects.specs.Objects.{Obj, HasPayload, Grows}
 use Rattle.py_objects.specs.Own.{Own, Makes, Resumes, Asks, Gets, Rounds, Yields, Ends}
-use Rattle.py_objects.specs.Telling.{Value, Given, Failed, Stopped, AfterValue, IsLiteral, Answers, Answered, Asked}
-use Rattle.py_frame.proofs.Growing.{payload_grown}
+use Rattle.py_objects.specs.Telling.{Value, Given, Failed, Stopped, AfterValue, IsLiteral, Answers, Answered, Rounded}
 use Rattle.py_body.specs.declared.atom.Atom.{Atom}
 use Rattle.py_body.specs.declared.atom.Atom.TheVariants as atom
-use Rattle.py_body.specs.Tree.{Form, assign, operate, show, give, pass, Suite, nothing, first, Tree}
-use Rattle.py_body.specs.Binding.{Env, find_local, set_local}
-use Rattle.py_body.specs.Outcome.{Outcome, Normal, Breaks, Continues, Returns, Raises, Cut, After, Use, Named, Loads, LoadsAll, request_of, Asked_if, Runs, On_normal, RunsSuite}
+use Rattle.py_body.specs.Tree.{Name, Form, assign, operate, show, give, pass, branch, choice, loop, Suite, nothing, first, Tree}
+use Rattle.py_body.specs.Binding.{Env, find_local, set_local, bind}
+use Rattle.py_body.specs.Scene.{Scene, anywhere}
+use Rattle.py_body.specs.Outcome.{Outcome, Normal, Breaks, Continues, Returns, Raises, Cut, After, Use, Requests, Named, Loads, LoadsAll, request_of, Requests_if, Tests, Chooses, By_truth, On_normal, On_turn, Runner, Loops, Runs, RunsSuite}
 use Rattle.py_body.specs.Trace.{Ended, EndsBy, IsBegun, IsTrace}
 
 empty_front : {X : Type 0} (ts more : List X) → ts ++ more ≡ [] → ts ≡ []
 empty_front [] more e = refl
 empty_front (t ∷ ts) more e = absurd (cc e)
 
--- what follows goes over to a front
+get_stays : (objects more : List Payload) (i : ℕ) (p : Payload) → slice_get objects i ≡ Some p → slice_get (objects ++ more) i ≡ Some p
+get_stays [] more i p here = absurd (cc)
+get_stays (q ∷ objects) more zero p here = here
+get_stays (q ∷ objects) more (suc i) p here = get_stays objects more i p here
+
+payload_stays : (objects objects' : List Payload) (v : Obj) (p : Payload) → Grows objects objects' → HasPayload objects v p → HasPayload objects' v p
+payload_stays objects objects' v p (more, is) has = rw is (get_stays objects more v.number p has)
+
+-- a scene with the same globals, in which there may be more objects, and more units that may ask
+pub record Widens (scene scene' : Scene) : Type 0 where
+  pub objects : Grows scene.objects scene'.objects
+  pub globals : scene.globals ≡ scene'.globals
+  pub units : (at line : ℕ) → scene.is_of at line ≡ true → scene'.is_of at line ≡ true
+
+-- any scene does where no unit is looked at, and there may be more objects
+pub widens_anywhere : (scene : Scene) (objects : List Payload) → Grows scene.objects objects → Widens scene (anywhere objects scene.globals)
+widens_anywhere scene objects grows = record { objects = grows; globals = refl; units = λ at line is. refl }
+
+-- a value goes over to a front
 abbrev ValueGoes : List Own → AfterValue → AfterValue → Type 0
 ValueGoes more K K' = (v : Value) (rest : List Own) → K v (rest ++ more) → K' v rest
 
+-- what follows goes over to a front
 abbrev Goes : List Own → After → After → Type 0
 Goes more K K' = (env : Env) (o : Outcome) (rest : List Own) → K env o (rest ++ more) → K' env o rest
 
-literal_goes : (objects objects' : List Payload) (p : Payload) (ts more : List Own) (K K' : AfterValue) → Grows objects objects' → ValueGoes more K K' → K' Stopped [] → IsLiteral objects p (ts ++ more) K → IsLiteral objects' p ts K'
-literal_goes objects objects' p ts more K K' grows goes cut (inl (e, k)) = inl (empty_front ts more e, cut)
-literal_goes objects objects' p ts more K K' grows goes cut (inr (v, has, k)) = inr (v, payload_grown objects objects' v p grows has, goes (Given v) ts k)
+-- what follows goes over to a front, and may be cut
+record Carries (more : List Own) (K K' : After) : Type 0 where
+  goes : Goes more K K'
+  cut : (env : Env) → K' env Cut []
+
+-- ---- events
 
 answers_go : (w : GotAnswer) (ts more : List Own) (K K' : AfterValue) → ValueGoes more K K' → Answers w (ts ++ more) K → Answers w ts K'
 answers_go (got.Value v) ts more K K' goes k = goes (Given v) ts k
@@ -48,101 +70,177 @@ answered_goes (t ∷ ts) more K K' goes cut (inr (w, mid, e, k)) =
     let behind : mid ≡ ts ++ more = cc e in
     inr (w, ts, ap (λ x. x ∷ ts) same, answers_go w ts more K K' goes (subst (λ (l : List Own). Answers w l K) behind k))
 
-asked_goes : (r : Request) (h : Option PyBaseExceptionRef) (ts more : List Own) (K K' : AfterValue) → ValueGoes more K K' → K' Stopped [] → Asked r h (ts ++ more) K → Asked r h ts K'
-asked_goes r h [] more K K' goes cut told = inl (refl, cut)
-asked_goes r h (t ∷ ts) more K K' goes cut (inl (e, k)) = absurd (cc e)
-asked_goes r h (t ∷ ts) more K K' goes cut (inr (at, mid, e, k)) =
-    let same : t ≡ Asks at r h = cc e in
+rounded_goes : (ts more : List Own) (cut cut' : Type 0) (next next' : List Own → Type 0) → cut' → ((rest : List Own) → next (rest ++ more) → next' rest) → Rounded (ts ++ more) cut next → Rounded ts cut' next'
+rounded_goes [] more cut cut' next next' stops on told = inl (refl, stops)
+rounded_goes (t ∷ ts) more cut cut' next next' stops on (inl (e, k)) = absurd (cc e)
+rounded_goes (t ∷ ts) more cut cut' next next' stops on (inr (at, mid, e, k)) =
+    let same : t ≡ Rounds at = cc e in
     let behind : mid ≡ ts ++ more = cc e in
-    inr (at, ts, ap (λ x. x ∷ ts) same, answered_goes ts more K K' goes cut (subst (λ (l : List Own). Answered l K) behind k))
-
-named_goes : (found : Option (Option Obj)) (ts more : List Own) (K K' : AfterValue) → ValueGoes more K K' → Named found (ts ++ more) K → Named found ts K'
-named_goes None ts more K K' goes k = k
-named_goes (Some None) ts more K K' goes k = k
-named_goes (Some (Some v)) ts more K K' goes k = goes (Given v) ts k
-
-loads_go : (objects objects' : List Payload) (env : Env) (a : Atom) (ts more : List Own) (K K' : AfterValue) → Grows objects objects' → ValueGoes more K K' → K' Stopped [] → Loads objects env a (ts ++ more) K → Loads objects' env a ts K'
-loads_go objects objects' env atom.None ts more K K' grows goes cut k = literal_goes objects objects' payload.None ts more K K' grows goes cut k
-loads_go objects objects' env (atom.Bool b) ts more K K' grows goes cut k = literal_goes objects objects' (payload.Bool b) ts more K K' grows goes cut k
-loads_go objects objects' env (atom.Int n) ts more K K' grows goes cut k = literal_goes objects objects' (payload.Int n) ts more K K' grows goes cut k
-loads_go objects objects' env (atom.Str s) ts more K K' grows goes cut k = literal_goes objects objects' (payload.Str s) ts more K K' grows goes cut k
-loads_go objects objects' env (atom.Name x) ts more K K' grows goes cut k = named_goes (find_local x env) ts more K K' goes k
+    inr (at, ts, ap (λ x. x ∷ ts) same, on ts (subst next behind k))
 
 use_goes : (env : Env) (more : List Own) (K K' : After) (next next' : Obj → List Own → Type 0) → Goes more K K' → ((v : Obj) (rest : List Own) → next v (rest ++ more) → next' v rest) → ValueGoes more (Use env K next) (Use env K' next')
 use_goes env more K K' next next' goes on (Given v) rest k = on v rest k
 use_goes env more K K' next next' goes on (Failed e) rest k = goes env (Raises e) rest k
 use_goes env more K K' next next' goes on Stopped rest k = goes env Cut rest k
 
-all_go : (objects objects' : List Payload) (env : Env) (atoms : List Atom) (ts more : List Own) (K K' : After) (next next' : List Obj → List Own → Type 0) → Grows objects objects' → Goes more K K' → K' env Cut []
-    → ((vs : List Obj) (rest : List Own) → next vs (rest ++ more) → next' vs rest) → LoadsAll objects env atoms (ts ++ more) K next → LoadsAll objects' env atoms ts K' next'
-all_go objects objects' env [] ts more K K' next next' grows goes cut on k = on [] ts k
-all_go objects objects' env (a ∷ atoms) ts more K K' next next' grows goes cut on k =
-    loads_go objects objects' env a ts more _ _ grows
-    (use_goes env more K K' _ _ goes (λ v rest told. all_go objects objects' env atoms rest more K K' (λ vs. next (v ∷ vs)) (λ vs. next' (v ∷ vs)) grows goes cut (λ vs. on (v ∷ vs)) told)) cut k
+by_truth_goes : (b : Bool) (P P' Q Q' : Type 0) → (P → P') → (Q → Q') → By_truth b P Q → By_truth b P' Q'
+by_truth_goes true P P' Q Q' f g k = f k
+by_truth_goes false P P' Q Q' f g k = g k
 
-asked_if_goes : (r : Option Request) (h : Option PyBaseExceptionRef) (ts more : List Own) (K K' : AfterValue) → ValueGoes more K K' → K' Stopped [] → Asked_if r h (ts ++ more) K → Asked_if r h ts K'
-asked_if_goes None h ts more K K' goes cut k = k
-asked_if_goes (Some r) h ts more K K' goes cut k = asked_goes r h ts more K K' goes cut k
+-- ---- what follows
 
-pub runs_go : (objects objects' : List Payload) (f : Form) (env : Env) (h : Option PyBaseExceptionRef) (ts more : List Own) (K K' : After) → Grows objects objects' → Goes more K K' → K' env Cut [] → Runs objects f env h (ts ++ more) K → Runs objects' f env h ts K'
-runs_go objects objects' (assign x a) env h ts more K K' grows goes cut k =
-    loads_go objects objects' env a ts more _ _ grows (use_goes env more K K' _ _ goes (λ v rest done. goes (set_local x (Some v) env) Normal rest done)) cut k
-runs_go objects objects' (operate x op atoms) env h ts more K K' grows goes cut k =
-    all_go objects objects' env atoms ts more K K' _ _ grows goes cut
-    (λ vs rest told. asked_if_goes (request_of op vs) h rest more _ _ (use_goes env more K K' _ _ goes (λ v left done. goes (set_local x (Some v) env) Normal left done)) cut told) k
-runs_go objects objects' (show a) env h ts more K K' grows goes cut k =
-    loads_go objects objects' env a ts more _ _ grows
-    (use_goes env more K K' _ _ goes (λ v rest told. asked_goes (Show v) h rest more _ _ (use_goes env more K K' _ _ goes (λ u left done. goes env Normal left done)) cut told)) cut k
-runs_go objects objects' (give a) env h ts more K K' grows goes cut k =
-    loads_go objects objects' env a ts more _ _ grows (use_goes env more K K' _ _ goes (λ v rest done. goes env (Returns v) rest done)) cut k
-runs_go objects objects' pass env h ts more K K' grows goes cut k = goes env Normal ts k
+normal_goes : (more : List Own) (K K' : After) (next next' : Env → List Own → Type 0) → Carries more K K' → ((env : Env) (rest : List Own) → next env (rest ++ more) → next' env rest) → Carries more (On_normal K next) (On_normal K' next')
+normal_goes more K K' next next' carries on = record { goes = by; cut = carries.cut }
+  where
+    by : Goes more (On_normal K next) (On_normal K' next')
+    by env Normal rest k = on env rest k
+    by env Breaks rest k = carries.goes env Breaks rest k
+    by env Continues rest k = carries.goes env Continues rest k
+    by env (Returns v) rest k = carries.goes env (Returns v) rest k
+    by env (Raises e) rest k = carries.goes env (Raises e) rest k
+    by env Cut rest k = carries.goes env Cut rest k
 
-normal_goes : (more : List Own) (K K' : After) (next next' : Env → List Own → Type 0) → Goes more K K' → ((env : Env) (rest : List Own) → next env (rest ++ more) → next' env rest) → Goes more (On_normal K next) (On_normal K' next')
-normal_goes more K K' next next' goes on env Normal rest k = on env rest k
-normal_goes more K K' next next' goes on env Breaks rest k = goes env Breaks rest k
-normal_goes more K K' next next' goes on env Continues rest k = goes env Continues rest k
-normal_goes more K K' next next' goes on env (Returns v) rest k = goes env (Returns v) rest k
-normal_goes more K K' next next' goes on env (Raises e) rest k = goes env (Raises e) rest k
-normal_goes more K K' next next' goes on env Cut rest k = goes env Cut rest k
+turn_goes : (more : List Own) (K K' : After) (next next' : Env → List Own → Type 0) → Carries more K K' → ((env : Env) (rest : List Own) → next env (rest ++ more) → next' env rest) → Carries more (On_turn K next) (On_turn K' next')
+turn_goes more K K' next next' carries on = record { goes = by; cut = carries.cut }
+  where
+    by : Goes more (On_turn K next) (On_turn K' next')
+    by env Normal rest k = on env rest k
+    by env Breaks rest k = carries.goes env Normal rest k
+    by env Continues rest k = on env rest k
+    by env (Returns v) rest k = carries.goes env (Returns v) rest k
+    by env (Raises e) rest k = carries.goes env (Raises e) rest k
+    by env Cut rest k = carries.goes env Cut rest k
 
--- the law for statements, where what follows may be cut anywhere
-pub suite_goes : (objects objects' : List Payload) (s : Suite) (env : Env) (h : Option PyBaseExceptionRef) (ts more : List Own) (K K' : After) → Grows objects objects' → Goes more K K' → ((e : Env) → K' e Cut []) → RunsSuite objects s env h (ts ++ more) K → RunsSuite objects' s env h ts K'
-suite_goes objects objects' nothing env h ts more K K' grows goes cut (inl (e, k)) = inl (empty_front ts more e, cut env)
-suite_goes objects objects' nothing env h ts more K K' grows goes cut (inr k) = inr (goes env Normal ts k)
-suite_goes objects objects' (first n f rest) env h ts more K K' grows goes cut (inl (e, k)) = inl (empty_front ts more e, cut env)
-suite_goes objects objects' (first n f rest) env h ts more K K' grows goes cut (inr k) =
-    inr (runs_go objects objects' f env h ts more _ _ grows (normal_goes more K K' _ _ goes (λ env1 mid told. suite_goes objects objects' rest env1 h mid more K K' grows goes cut told)) (cut env) k)
+module _ (scene scene' : Scene) (widens : Widens scene scene') (more : List Own) where
+  -- ---- loads and requests
 
-ended_goes : (e : Ending) (rest more : List Own) → Ended e (rest ++ more) → Ended e rest
-ended_goes e [] more k = inl refl
-ended_goes e (x ∷ rest) more (inl k) = absurd (cc k)
-ended_goes e (x ∷ rest) more (inr (at, k)) =
-    let same : x ≡ Ends at e = cc k in
-    let none : rest ++ more ≡ [] = cc k in
-    inr (at, ap (λ y. y ∷ rest) same ∙ ap (λ l. Ends at e ∷ l) (empty_front rest more none))
+  literal_goes : (p : Payload) (ts : List Own) (K K' : AfterValue) → ValueGoes more K K' → K' Stopped [] → IsLiteral scene.objects p (ts ++ more) K → IsLiteral scene'.objects p ts K'
+  literal_goes p ts K K' goes cut (inl (e, k)) = inl (empty_front ts more e, cut)
+  literal_goes p ts K K' goes cut (inr (v, has, k)) = inr (v, payload_stays scene.objects scene'.objects v p widens.objects has, goes (Given v) ts k)
 
-ends_go : (objects objects' : List Payload) (more : List Own) → Grows objects objects' → Goes more (EndsBy objects) (EndsBy objects')
-ends_go objects objects' more grows env Normal rest (inl e) = inl (empty_front rest more e)
-ends_go objects objects' more grows env Normal rest (inr (v, has, k)) = inr (v, payload_grown objects objects' v payload.None grows has, ended_goes _ rest more k)
-ends_go objects objects' more grows env Breaks rest k = k
-ends_go objects objects' more grows env Continues rest k = k
-ends_go objects objects' more grows env (Returns v) rest k = ended_goes _ rest more k
-ends_go objects objects' more grows env (Raises e) rest k = ended_goes _ rest more k
-ends_go objects objects' more grows env Cut rest k = empty_front rest more k
+  requests_go : (line : ℕ) (r : Request) (h : Option PyBaseExceptionRef) (ts : List Own) (K K' : AfterValue) → ValueGoes more K K' → K' Stopped [] → Requests scene line r h (ts ++ more) K → Requests scene' line r h ts K'
+  requests_go line r h [] K K' goes cut told = inl (refl, cut)
+  requests_go line r h (t ∷ ts) K K' goes cut (inl (e, k)) = absurd (cc e)
+  requests_go line r h (t ∷ ts) K K' goes cut (inr (at, mid, is, e, k)) =
+      let same : t ≡ Asks at r h = cc e in
+      let behind : mid ≡ ts ++ more = cc e in
+      inr (at, ts, widens.units at line is, ap (λ x. x ∷ ts) same, answered_goes ts more K K' goes cut (subst (λ (l : List Own). Answered l K) behind k))
 
-begun_goes : (objects objects' : List Payload) (t : Tree) (args : List Obj) (ts more : List Own) → Grows objects objects' → IsBegun objects t args (ts ++ more) → IsBegun objects' t args ts
-begun_goes objects objects' t args [] more grows k = tt
-begun_goes objects objects' t args (Makes ∷ ts) more grows k = k
-begun_goes objects objects' t args (Resumes h ∷ ts) more grows (entered, k) = (entered, suite_goes objects objects' t.suite _ None ts more _ _ grows (ends_go objects objects' more grows) (λ e. refl) k)
-begun_goes objects objects' t args (Asks at r own ∷ ts) more grows k = k
-begun_goes objects objects' t args (Gets w ∷ ts) more grows k = k
-begun_goes objects objects' t args (Rounds at ∷ ts) more grows k = k
-begun_goes objects objects' t args (Yields at v ∷ ts) more grows k = k
-begun_goes objects objects' t args (Ends at e ∷ ts) more grows k = k
+  named_goes : (line : ℕ) (found : Option (Option Obj)) (x : Name) (h : Option PyBaseExceptionRef) (ts : List Own) (K K' : AfterValue) → ValueGoes more K K' → K' Stopped []
+      → Named scene line found x h (ts ++ more) K → Named scene' line found x h ts K'
+  named_goes line None x h ts K K' goes cut k = subst (λ (g : Obj). Requests scene' line (Global g x) h ts K') widens.globals (requests_go line (Global scene.globals x) h ts K K' goes cut k)
+  named_goes line (Some None) x h ts K K' goes cut k = requests_go line (Unbound x) h ts K K' goes cut k
+  named_goes line (Some (Some v)) x h ts K K' goes cut k = goes (Given v) ts k
 
--- a trace that goes on is a trace as far as it has come
-pub trace_goes : (objects objects' : List Payload) (t : Tree) (args : List Obj) (x : Own) (ts more : List Own) → Grows objects objects' → IsTrace objects t args ((x ∷ ts) ++ more) → IsTrace objects' t args (x ∷ ts)
-trace_goes objects objects' t args x ts more grows (arity, (us, e, k)) =
-    let same : x ≡ Makes = cc e in
-    let behind : us ≡ ts ++ more = cc e in
-    (arity, (ts, ap (λ y. y ∷ ts) same, begun_goes objects objects' t args ts more grows (subst (λ (l : List Own). IsBegun objects t args l) behind k)))
+  loads_go : (line : ℕ) (env : Env) (h : Option PyBaseExceptionRef) (a : Atom) (ts : List Own) (K K' : AfterValue) → ValueGoes more K K' → K' Stopped []
+      → Loads scene line env h a (ts ++ more) K → Loads scene' line env h a ts K'
+  loads_go line env h atom.None ts K K' goes cut k = literal_goes payload.None ts K K' goes cut k
+  loads_go line env h (atom.Bool b) ts K K' goes cut k = literal_goes (payload.Bool b) ts K K' goes cut k
+  loads_go line env h (atom.Int n) ts K K' goes cut k = literal_goes (payload.Int n) ts K K' goes cut k
+  loads_go line env h (atom.Str s) ts K K' goes cut k = literal_goes (payload.Str s) ts K K' goes cut k
+  loads_go line env h (atom.Name x) ts K K' goes cut k = named_goes line (find_local x env) x h ts K K' goes cut k
+
+  all_go : (line : ℕ) (env : Env) (h : Option PyBaseExceptionRef) (atoms : List Atom) (ts : List Own) (K K' : After) (next next' : List Obj → List Own → Type 0) → Carries more K K'
+      → ((vs : List Obj) (rest : List Own) → next vs (rest ++ more) → next' vs rest) → LoadsAll scene line env h atoms (ts ++ more) K next → LoadsAll scene' line env h atoms ts K' next'
+  all_go line env h [] ts K K' next next' carries on k = on [] ts k
+  all_go line env h (a ∷ atoms) ts K K' next next' carries on k =
+      loads_go line env h a ts _ _
+      (use_goes env more K K' _ _ carries.goes (λ v rest told. all_go line env h atoms rest K K' (λ vs. next (v ∷ vs)) (λ vs. next' (v ∷ vs)) carries (λ vs. on (v ∷ vs)) told)) (carries.cut env) k
+
+  requests_if_go : (line : ℕ) (r : Option Request) (h : Option PyBaseExceptionRef) (ts : List Own) (K K' : AfterValue) → ValueGoes more K K' → K' Stopped []
+      → Requests_if scene line r h (ts ++ more) K → Requests_if scene' line r h ts K'
+  requests_if_go line None h ts K K' goes cut k = k
+  requests_if_go line (Some r) h ts K K' goes cut k = requests_go line r h ts K K' goes cut k
+
+  tests_go : (line : ℕ) (env : Env) (h : Option PyBaseExceptionRef) (v : Obj) (ts : List Own) (K K' : After) (next next' : Bool → List Own → Type 0) → Carries more K K'
+      → ((b : Bool) (rest : List Own) → next b (rest ++ more) → next' b rest) → Tests scene line env h v (ts ++ more) K next → Tests scene' line env h v ts K' next'
+  tests_go line env h v ts K K' next next' carries on k =
+      requests_go line (Truth v) h ts _ _
+      (use_goes env more K K' _ _ carries.goes (λ w rest (b, has, told). (b, payload_stays scene.objects scene'.objects w (payload.Bool b) widens.objects has, on b rest told))) (carries.cut env) k
+
+  chooses_go : (line : ℕ) (env : Env) (h : Option PyBaseExceptionRef) (a : Atom) (ts : List Own) (K K' : After) (next next' : Bool → List Own → Type 0) → Carries more K K'
+      → ((b : Bool) (rest : List Own) → next b (rest ++ more) → next' b rest) → Chooses scene line env h a (ts ++ more) K next → Chooses scene' line env h a ts K' next'
+  chooses_go line env h a ts K K' next next' carries on k =
+      loads_go line env h a ts _ _ (use_goes env more K K' _ _ carries.goes (λ v rest told. tests_go line env h v rest K K' next next' carries on told)) (carries.cut env) k
+
+  -- ---- statements
+
+  -- a body of a loop goes over to a front
+  abbrev BodyGoes : Runner → Runner → Type 1
+  BodyGoes body body' = (env : Env) (ts : List Own) (K K' : After) → Carries more K K' → body env (ts ++ more) K → body' env ts K'
+
+  loops_go : (line : ℕ) (h : Option PyBaseExceptionRef) (a : Atom) (body body' : Runner) → BodyGoes body body' → (n : ℕ) (env : Env) (ts : List Own) (K K' : After) → Carries more K K'
+      → Loops scene line h a body n env (ts ++ more) K → Loops scene' line h a body' n env ts K'
+  loops_go line h a body body' runs zero env ts K K' carries k =
+      rounded_goes ts more _ _ _ _ (carries.cut env)
+      (λ mid told. chooses_go line env h a mid K K' _ _ carries (λ b rest chosen. by_truth_goes b _ _ _ _ (λ never. never) (carries.goes env Normal rest) chosen) told) k
+  loops_go line h a body body' runs (suc n) env ts K K' carries k =
+      rounded_goes ts more _ _ _ _ (carries.cut env)
+      (λ mid told. chooses_go line env h a mid K K' _ _ carries
+      (λ b rest chosen. by_truth_goes b _ _ _ _
+      (runs env rest _ _ (turn_goes more K K' _ _ carries (λ env1 left again. loops_go line h a body body' runs n env1 left K K' carries again)))
+      (carries.goes env Normal rest) chosen) told) k
+
+  mutual
+    runs_go : (f : Form) (line : ℕ) (env : Env) (h : Option PyBaseExceptionRef) (ts : List Own) (K K' : After) → Carries more K K' → Runs scene line f env h (ts ++ more) K → Runs scene' line f env h ts K'
+    runs_go (assign x a) line env h ts K K' carries k =
+        loads_go line env h a ts _ _ (use_goes env more K K' _ _ carries.goes (λ v rest done. carries.goes (set_local x (Some v) env) Normal rest done)) (carries.cut env) k
+    runs_go (operate x op atoms) line env h ts K K' carries k =
+        all_go line env h atoms ts K K' _ _ carries
+        (λ vs rest told. requests_if_go line (request_of op vs) h rest _ _ (use_goes env more K K' _ _ carries.goes (λ v left done. carries.goes (bind x v env) Normal left done)) (carries.cut env) told) k
+    runs_go (show a) line env h ts K K' carries k =
+        loads_go line env h a ts _ _
+        (use_goes env more K K' _ _ carries.goes
+        (λ v rest told. requests_go line (Show v) h rest _ _ (use_goes env more K K' _ _ carries.goes (λ u left done. carries.goes env Normal left done)) (carries.cut env) told)) (carries.cut env) k
+    runs_go (give a) line env h ts K K' carries k =
+        loads_go line env h a ts _ _ (use_goes env more K K' _ _ carries.goes (λ v rest done. carries.goes env (Returns v) rest done)) (carries.cut env) k
+    runs_go pass line env h ts K K' carries k = carries.goes env Normal ts k
+    runs_go (branch a s) line env h ts K K' carries k =
+        chooses_go line env h a ts K K' _ _ carries (λ b rest chosen. by_truth_goes b _ _ _ _ (suite_goes s env h rest K K' carries) (carries.goes env Normal rest) chosen) k
+    runs_go (choice a s t) line env h ts K K' carries k =
+        chooses_go line env h a ts K K' _ _ carries (λ b rest chosen. by_truth_goes b _ _ _ _ (suite_goes s env h rest K K' carries) (suite_goes t env h rest K K' carries) chosen) k
+    runs_go (loop a s) line env h ts K K' carries (n, k) = (n, loops_go line h a (λ env1 mid. RunsSuite scene s env1 h mid) (λ env1 mid. RunsSuite scene' s env1 h mid) (λ env1 mid K1 K1'. suite_goes s env1 h mid K1 K1') n env ts K K' carries k)
+
+    -- the law for statements, where what follows may be cut anywhere
+    suite_goes : (s : Suite) (env : Env) (h : Option PyBaseExceptionRef) (ts : List Own) (K K' : After) → Carries more K K' → RunsSuite scene s env h (ts ++ more) K → RunsSuite scene' s env h ts K'
+    suite_goes nothing env h ts K K' carries (inl (e, k)) = inl (empty_front ts more e, carries.cut env)
+    suite_goes nothing env h ts K K' carries (inr k) = inr (carries.goes env Normal ts k)
+    suite_goes (first n f rest) env h ts K K' carries (inl (e, k)) = inl (empty_front ts more e, carries.cut env)
+    suite_goes (first n f rest) env h ts K K' carries (inr k) =
+        inr (runs_go f n env h ts _ _ (normal_goes more K K' _ _ carries (λ env1 mid told. suite_goes rest env1 h mid K K' carries told)) k)
+
+  -- ---- traces
+
+  ended_goes : (e : Ending) (rest : List Own) → Ended e (rest ++ more) → Ended e rest
+  ended_goes e [] k = inl refl
+  ended_goes e (x ∷ rest) (inl k) = absurd (cc k)
+  ended_goes e (x ∷ rest) (inr (at, k)) =
+      let same : x ≡ Ends at e = cc k in
+      let none : rest ++ more ≡ [] = cc k in
+      inr (at, ap (λ y. y ∷ rest) same ∙ ap (λ l. Ends at e ∷ l) (empty_front rest more none))
+
+  ends_go : Goes more (EndsBy scene) (EndsBy scene')
+  ends_go env Normal rest (inl e) = inl (empty_front rest more e)
+  ends_go env Normal rest (inr (v, has, k)) = inr (v, payload_stays scene.objects scene'.objects v payload.None widens.objects has, ended_goes _ rest k)
+  ends_go env Breaks rest k = k
+  ends_go env Continues rest k = k
+  ends_go env (Returns v) rest k = ended_goes _ rest k
+  ends_go env (Raises e) rest k = ended_goes _ rest k
+  ends_go env Cut rest k = empty_front rest more k
+
+  begun_goes : (t : Tree) (args : List Obj) (ts : List Own) → IsBegun scene t args (ts ++ more) → IsBegun scene' t args ts
+  begun_goes t args [] k = tt
+  begun_goes t args (Makes ∷ ts) k = k
+  begun_goes t args (Resumes h ∷ ts) (entered, k) = (entered, suite_goes t.suite _ None ts _ _ (record { goes = ends_go; cut = λ env. refl }) k)
+  begun_goes t args (Asks at r own ∷ ts) k = k
+  begun_goes t args (Gets w ∷ ts) k = k
+  begun_goes t args (Rounds at ∷ ts) k = k
+  begun_goes t args (Yields at v ∷ ts) k = k
+  begun_goes t args (Ends at e ∷ ts) k = k
+
+  -- a trace that goes on is a trace as far as it has come
+  pub trace_goes : (t : Tree) (args : List Obj) (x : Own) (ts : List Own) → IsTrace scene t args ((x ∷ ts) ++ more) → IsTrace scene' t args (x ∷ ts)
+  trace_goes t args x ts (arity, (us, e, k)) =
+      let same : x ≡ Makes = cc e in
+      let behind : us ≡ ts ++ more = cc e in
+      (arity, (ts, ap (λ y. y ∷ ts) same, begun_goes t args ts (subst (λ (l : List Own). IsBegun scene t args l) behind k)))

@@ -9,7 +9,7 @@ use Rattle.py_code.specs.Names.{interned, place_of}
 use Rattle.py_body.specs.Tree.{Name}
 use Rattle.py_body.specs.Binding.{bound}
 use Rattle.py_body.specs.Code.{place}
-use Rattle.py_body.proofs.EmittingLemmas.{place-position}
+use Rattle.py_body.proofs.Bound.{place-position}
 
 -- two texts are the same where the names are
 bytes_eq-encoded : (x y : Name) → bytes_eq (encode_utf8_all x) (encode_utf8_all y) ≡ bytes_eq x y

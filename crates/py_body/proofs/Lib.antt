@@ -2,27 +2,49 @@
 pub mod Env
 -- runs over a unit and its prefixes
 pub mod Decoding
--- units that are spelled
-pub mod Spelling
--- the notes of laid code
-pub mod Typing
+-- where laid code stands
+pub mod Places
+-- runs of units that ask
+pub mod Asking
 -- laid loads run as those of the tree
 pub mod Loads
+-- tests run as those of the tree
+pub mod Choosing
+-- what a body's ends come to
+pub mod Closing
 -- laid code runs as its tree
 pub mod Running
+-- a run of laid code is a trace
+pub mod Tracing
+-- what a body may tell, on fronts and with more objects
+pub mod Carry
+-- the suites of lists of statements
+pub mod Trees
 -- the names that a body binds
+pub mod Placed
 pub mod Bound
--- code laid for a body fits it
-pub mod Fitting
--- what is emitted piece by piece
-pub mod EmittingLemmas
--- what is emitted for a form
-pub mod CompilingLemmas
 -- names in a table that grows
 pub mod NamingLemmas
 -- names and their texts
 pub mod EncodedNames
+-- units that are spelled
+pub mod Spelling
+-- labels as they are spelled
+pub mod Labels
+-- what is emitted piece by piece
+pub mod EmittingLemmas
+-- what is emitted for an operand
+pub mod Operands
+-- what is emitted for a form
+pub mod CompilingLemmas
+-- the notes of units
+pub mod NoteLemmas
+-- the notes of laid code
+pub mod TypingDepths
+pub mod Typing
+pub mod TypingRules
+pub mod TypedCode
+-- code laid for a body fits it
+pub mod Fitting
 -- the bodies of the tests
 pub mod Samples
--- what a body may tell, on fronts and with more objects
-pub mod Carry

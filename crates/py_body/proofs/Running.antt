@@ -1,192 +1,284 @@
 -- Laid code runs as its tree.
-use Rattle.std.proofs.Common.{◌≡◌, ◌<◌, ◌-◌, ℕ, zero, suc, List, [], ◌∷◌, ◌++◌, Bool, true, cond, refl, sym, ap, ◌∙◌, subst, length, drop, arith, inl, inr}
-use Rattle.std.specs.Prelude.{Option, None, Some, slice_get, slice_set, nat_lt}
-use Rattle.std.proofs.lemmas.Bool.{lt-ltb}
-use Rattle.py_code.specs.declared.instruction.Instruction.{Instruction}
-use Rattle.py_code.specs.declared.instruction.Instruction.TheVariants.{StoreFast, BinaryOperation, PrintExpr, ReturnValue, ReturnConst}
-use Rattle.py_code.specs.declared.literal.Literal.{None as NoneLiteral}
-use Rattle.py_code.specs.declared.unit.CodeUnit.{CodeUnit}
+use Rattle.std.proofs.Common.{◌≡◌, ◌<◌, ◌≤◌, ◌-◌, ℕ, zero, suc, List, [], ◌∷◌, Bool, true, false, cond, refl, sym, ap, ◌∙◌, subst, length, arith, le_refl, inl, inr}
+use Rattle.std.specs.Prelude.{Option, None, Some, slice_set, nat_lt, nat_le}
+use Rattle.std.proofs.lemmas.Bool.{le-leb, lt-leb, ltb-true}
+use Rattle.std.proofs.lemmas.List.{length-set}
+use Rattle.py_code.specs.declared.instruction.Instruction.TheVariants.{StoreFast, Pop, JumpIfFalse, BinaryOperation, CompareOperation, PrintExpr, ReturnValue, Jump, SetupLoop, PopBlock}
+use Rattle.py_code.specs.declared.operator.BinaryOperator.TheVariants as binary
+use Rattle.py_code.specs.declared.operator.ComparisonOperator.TheVariants as comparison
+use Rattle.py_code.specs.Operators.{binary_number, comparison_number}
 use Rattle.py_objects.specs.declared.payload.Payload.{Payload}
-use Rattle.py_objects.specs.declared.payload.Payload.TheVariants as payload
-use Rattle.py_objects.specs.declared.event.GotAnswer.TheVariants as got
 use Rattle.py_objects.specs.declared.event.Ending.TheVariants as ending
-use Rattle.py_objects.specs.declared.request.Request.{Request}
 use Rattle.py_objects.specs.declared.request.Request.TheVariants.{Show}
 use Rattle.py_objects.specs.Objects.{Obj}
-use Rattle.py_objects.specs.Own.{Own, Asks, Ends}
-use Rattle.py_objects.specs.Telling.{Answered, Asked}
-use Rattle.py_frame.specs.declared.input.Expect.TheVariants as expect
-use Rattle.py_frame.specs.Rows.{NamedCode, State, Step, Goes, Tells, Stuck, Move, Plainly, next as behind, with_stack, with_locals, waiting, returns, act, answered, unit_answered, receive}
-use Rattle.py_frame.specs.RunOfRows.{ByMove, ByStep, Reaches}
+use Rattle.py_objects.specs.Own.{Own, Rounds, Ends}
+use Rattle.py_frame.specs.declared.block.Block.{Block}
+use Rattle.py_frame.specs.declared.block.BlockType.TheVariants.{Loop}
+use Rattle.py_frame.specs.Rows.{Setting, State, Goes, Tells, Stuck, Plainly, unwound}
+use Rattle.py_frame.specs.RunOfRows.{ByStep, Reaches}
 use Rattle.py_body.specs.declared.atom.Atom.{Atom}
 use Rattle.py_body.specs.declared.atom.Operator.{Operator}
 use Rattle.py_body.specs.declared.atom.Operator.TheVariants as operator
-use Rattle.py_body.specs.Tree.{Name, Form, assign, operate, show, give, pass, target_of, Suite, nothing, first}
-use Rattle.py_body.specs.Binding.{Env, set_local, FormKnown, names_behind, SuiteKnown}
-use Rattle.py_body.specs.Outcome.{After, Use, Normal, On_normal, RunsSuite}
-use Rattle.py_body.specs.Trace.{EndsBy}
-use Rattle.py_body.specs.Code.{Parts, place, Stands, StandsConst, LaidForm, LaidSuite, parts_with}
-use Rattle.py_body.proofs.Bound.{IsBound, AllBound}
-use Rattle.py_body.proofs.Decoding.{running, HasOp, decoded_run}
-use Rattle.py_body.proofs.Env.{Holds, Holds-stored}
-use Rattle.py_body.proofs.Loads.{const_run, atom_run}
+use Rattle.py_body.specs.Tree.{Name, Form, assign, operate, show, give, pass, branch, choice, loop, Suite, nothing, first}
+use Rattle.py_body.specs.Binding.{Env, set_local, bind, arity_of, FormTakes, SuiteTakes}
+use Rattle.py_body.specs.Scene.{Scene, located}
+use Rattle.py_body.specs.Outcome.{After, Use, Normal, Requests, request_of_two, By_truth, Runner, On_normal, On_turn, Loops, Runs, RunsSuite}
+use Rattle.py_body.specs.Code.{Parts, place, Stands, LaidAtom, LaidTarget, LaidOperator, LaidForm, LaidSuite, parts_with}
+use Rattle.py_body.specs.Naming.{NamesAll}
+use Rattle.py_body.proofs.Closing.{Closes, closes_next, closes_turn, cut_loop, cut_load}
+use Rattle.py_body.proofs.Decoding.{running, stands_run}
+use Rattle.py_body.proofs.Asking.{ended_run, asked_run}
+use Rattle.py_body.proofs.Env.{env_of, set_local-env_of}
+use Rattle.py_body.proofs.Loads.{atom_run}
+use Rattle.py_body.proofs.Choosing.{chooses_run}
+use Rattle.py_body.proofs.Places.{stands_bound, atom_bound, suite_bound}
 
-module _ (objects : List Payload) (code : NamedCode) (vars : List Name) (final : State) where
-  abbrev units : List CodeUnit
-  units = code.code.code.instructions.items
-
+module _ (objects : List Payload) (setting : Setting) (final : State) (globals vars : List Name)
+    (locals_named : NamesAll setting.names setting.code.code.varnames.items vars) (globals_named : NamesAll setting.names setting.code.code.names.items globals) where
   abbrev parts : Parts
-  parts = parts_with vars code.code
+  parts = parts_with globals vars setting.code
 
-  -- a frame that has ended tells no more
-  ended_run : (n : ℕ) (s : State) (ts : List Own) → Reaches objects code n (waiting expect.Ended s) ts final → ts ≡ []
-  ended_run zero s ts run = run.0
-  ended_run (suc n) s ts run = absurd run
+  abbrev scene : Scene
+  scene = located setting.code objects setting.globals
 
-  -- ---- what follows
+  -- each run of at most n steps from a place, while these blocks are open, tells this
+  abbrev pub TellsFrom : ℕ → List Block → ℕ → (Env → List Own → Type 0) → Type 0
+  TellsFrom at blocks n tells = (locals : List (Option Obj)) (last m : ℕ) (ts : List Own) → m ≤ n → length locals ≡ length vars
+      → Reaches objects setting m (running at last 0 [] blocks locals) ts final → tells (env_of vars locals) ts
 
-  -- a suite, begun with these locals, may tell the events
-  abbrev TellsSuite : Suite → Env → List Own → Type 0
-  TellsSuite s env ts = RunsSuite objects s env None ts (EndsBy objects)
+  -- what runs from one place to another tells what may stand in front of whatever is told from there
+  abbrev pub RunsFrom : ℕ → ℕ → (After → Env → List Own → Type 0) → Type 1
+  RunsFrom at next tells = (K : After) (blocks : List Block) (n : ℕ) → Closes K → TellsFrom next blocks n (λ env. K env Normal) → TellsFrom at blocks n (tells K)
 
-  cut_suite : (s : Suite) (env : Env) (ts : List Own) → ts ≡ [] → TellsSuite s env ts
-  cut_suite nothing env ts none = inl (none, refl)
-  cut_suite (first n f more) env ts none = inl (none, refl)
+  -- ---- what a value is done with
 
-  -- what follows a statement of a body
-  abbrev Follows : Suite → After
-  Follows more = On_normal (EndsBy objects) (λ env mid. RunsSuite objects more env None mid (EndsBy objects))
+  store_run : (line at to : ℕ) (x : Name) (v : Obj) (K : After) (blocks : List Block) (locals : List (Option Obj)) (last m n : ℕ) (ts : List Own)
+      → Stands parts line at StoreFast (place vars x) to → Closes K → m ≤ n → length locals ≡ length vars
+      → Reaches objects setting m (running at last 0 (v ∷ []) blocks locals) ts final → TellsFrom to blocks n (λ env. K env Normal) → K (set_local x (Some v) (env_of vars locals)) Normal ts
+  store_run line at to x v K blocks locals last m n ts stands closes most same run later =
+      stands_run objects setting final globals vars (λ k b. Plainly (cond (nat_lt (place vars x) (length locals)) (Goes (running b b 0 [] blocks stored)) Stuck)) line at last to StoreFast (place vars x) (v ∷ []) blocks locals m ts stands
+      (λ k l p. refl) run
+      (λ none. subst (λ (us : List Own). K (set_local x (Some v) (env_of vars locals)) Normal us) (sym none) (closes.paused (set_local x (Some v) (env_of vars locals))))
+      (λ k j is_next less has_op of_line step. by (nat_lt (place vars x) (length locals)) refl j less step)
+    where
+      stored : List (Option Obj)
+      stored = slice_set locals (place vars x) (Some v)
 
-  -- the statements behind a place are told by each run from there in which these names are set
-  abbrev TellsFrom : Suite → List Name → ℕ → Type 0
-  TellsFrom more names at = (locals : List (Option Obj)) (env : Env) (n : ℕ) (ts : List Own) → Holds vars names locals env → Reaches objects code n (running at 0 [] locals) ts final → TellsSuite more env ts
+      by : (b : Bool) → nat_lt (place vars x) (length locals) ≡ b → (j : ℕ) → j < m
+          → ByStep (cond b (Goes (running to to 0 [] blocks stored)) Stuck) ts (λ s mid. Reaches objects setting j s mid final) → K (set_local x (Some v) (env_of vars locals)) Normal ts
+      by true below j less step =
+          let low : place vars x < length vars = omega (arith, same, ltb-true (place vars x) (length locals) below) in
+          let long : length stored ≡ length vars = length-set locals (place vars x) (Some v) ∙ same in
+          rw (set_local-env_of vars locals x (Some v) low same) (later stored to j ts (omega (arith, less, most)) long step)
+      by false out j less step = absurd step
 
-  store_run : (line : ℕ) (x : Name) (more : Suite) (names : List Name) (at to : ℕ) (v : Obj) (locals : List (Option Obj)) (env : Env) (n : ℕ) (ts : List Own)
-      → Stands parts line at StoreFast (place vars x) to → Holds vars names locals env → place vars x < length vars
-      → Reaches objects code n (running at 0 (v ∷ []) locals) ts final → TellsFrom more (names ++ x ∷ []) to → TellsSuite more (set_local x (Some v) env) ts
-  store_run line x more names at to v locals env n ts stands holds below run later =
-      let within : nat_lt (place vars x) (length locals) ≡ true = lt-ltb (place vars x) (length locals) (omega (arith, holds.long)) in
-      decoded_run objects code final (drop at units) at 0 StoreFast (place vars x) to (v ∷ []) locals n ts refl stands.0 run
-      (cut_suite more _ ts)
-      (λ k p m is_next op left.
-      let step = subst (λ (b : Bool). ByStep (cond b (Goes (with_locals (slice_set locals (place vars x) (Some v)) (with_stack [] (behind (running k p (v ∷ []) locals))))) Stuck) ts (λ s mid. Reaches objects code m s mid final)) within left in
-      later _ _ m ts (Holds-stored vars names locals env x v below holds) (subst (λ (b : ℕ). Reaches objects code m (running b 0 [] (slice_set locals (place vars x) (Some v))) ts final) is_next step))
+  target_run : (line at to : ℕ) (x : Option Name) (v : Obj) (K : After) (blocks : List Block) (locals : List (Option Obj)) (last m n : ℕ) (ts : List Own)
+      → LaidTarget parts line at x to → Closes K → m ≤ n → length locals ≡ length vars
+      → Reaches objects setting m (running at last 0 (v ∷ []) blocks locals) ts final → TellsFrom to blocks n (λ env. K env Normal) → K (bind x v (env_of vars locals)) Normal ts
+  target_run line at to (Some x) v K blocks locals last m n ts stands closes most same run later = store_run line at to x v K blocks locals last m n ts stands closes most same run later
+  target_run line at to None v K blocks locals last m n ts stands closes most same run later =
+      stands_run objects setting final globals vars (λ k b. Plainly (Goes (running b b 0 [] blocks locals))) line at last to Pop 0 (v ∷ []) blocks locals m ts stands (λ k l p. refl) run
+      (λ none. subst (λ (us : List Own). K (env_of vars locals) Normal us) (sym none) (closes.paused (env_of vars locals)))
+      (λ k j is_next less has_op of_line step. later locals to j ts (omega (arith, less, most)) same step)
 
-  -- ---- requests
+  -- ---- plain statements
 
-  -- a frame that waits for its answer
-  abbrev asking : ℕ → List (Option Obj) → State
-  asking at locals = record { at = at; prefix = 0; stack = []; locals = locals; wants = expect.Answer }
+  assign_run : (line at to : ℕ) (x : Name) (a : Atom) → LaidForm parts line (assign x a) at to → RunsFrom at to (λ K env ts. Runs scene line (assign x a) env None ts K)
+  assign_run line at to x a (stores, loads, stands) K blocks n closes later locals last m ts most same run =
+      atom_run objects setting final globals vars K closes _ line at last stores [] blocks locals m ts run (λ v. closes.paused (set_local x (Some v) (env_of vars locals)))
+      (λ v j us less more. store_run line stores to x v K blocks locals stores j n us stands closes (omega (arith, less, most)) same more later)
+      locals_named globals_named same a loads
 
-  -- a value goes to the unit that asked
-  received : (op : Instruction) (k : ℕ) (locals : List (Option Obj)) (v : Obj) → HasOp code k op → receive code (got.Value v) (asking (suc k) locals) ≡ answered op v (running (suc k) 0 [] locals)
-  received op k locals v (u, here, is_op) =
-      let at : suc k - 1 ≡ k = omega arith in
-      ap (λ (j : ℕ). unit_answered (slice_get units j) v (running (suc k) 0 [] locals)) at
-      ∙ ap (λ (o : Option CodeUnit). unit_answered o v (running (suc k) 0 [] locals)) here ∙ ap (λ (o : Instruction). answered o v (running (suc k) 0 [] locals)) is_op
+  show_run : (line at to : ℕ) (a : Atom) → LaidForm parts line (show a) at to → RunsFrom at to (λ K env ts. Runs scene line (show a) env None ts K)
+  show_run line at to a (asks, loads, stands) K blocks n closes later locals last m ts most same run =
+      atom_run objects setting final globals vars K closes _ line at last asks [] blocks locals m ts run (λ v. inl (refl, closes.cut (env_of vars locals)))
+      (λ v j us less more.
+      asked_run objects setting final globals vars K (env_of vars locals) _ line asks asks to PrintExpr 0 0 (Show v) (v ∷ []) [] blocks locals j us closes stands (λ k l p. refl) more
+      (λ u i rest fewer step. later locals to i rest (omega (arith, fewer, less, most)) same step))
+      locals_named globals_named same a loads
 
-  -- an answer leaves on the stack what the unit that asked makes of it
-  answered_run : (more : Suite) (env : Env) (op : Instruction) (left : Obj → List Obj) (then : Obj → List Own → Type 0) (k : ℕ) (locals : List (Option Obj)) (n : ℕ) (ts : List Own)
-      → HasOp code k op → ((v : Obj) → answered op v (running (suc k) 0 [] locals) ≡ Goes (running (suc k) 0 (left v) locals))
-      → Reaches objects code n (asking (suc k) locals) ts final
-      → ((v : Obj) (m : ℕ) (us : List Own) → Reaches objects code m (running (suc k) 0 (left v) locals) us final → then v us)
-      → Answered ts (Use env (Follows more) then)
-  answered_run more env op left then k locals zero ts has_op goes run later = inl (run.0, refl)
-  answered_run more env op left then k locals (suc n) ts has_op goes (got.Value v, mid, is, run) later =
-      inr (got.Value v, mid, is, later v n mid (subst (λ (s : Step). ByStep s mid (λ t us. Reaches objects code n t us final)) (received op k locals v has_op ∙ goes v) run))
-  answered_run more env op left then k locals (suc n) ts has_op goes (got.Raise e, mid, is, (rest, ends, run)) later =
-      let end = ended_run n (asking (suc k) locals) rest run in
-      inr (got.Raise e, mid, is, inr (suc k - 1, ends ∙ ap (λ (us : List Own). Ends (suc k - 1) (ending.Raise e) ∷ us) end))
-  answered_run more env op left then k locals (suc n) ts has_op goes (got.Stop v, mid, is, never) later = absurd never
+  give_run : (line at to : ℕ) (a : Atom) → LaidForm parts line (give a) at to → RunsFrom at to (λ K env ts. Runs scene line (give a) env None ts K)
+  give_run line at to a (ends, loads, stands) K blocks n closes later locals last m ts most same run =
+      atom_run objects setting final globals vars K closes _ line at last ends [] blocks locals m ts run (λ v. closes.returned (env_of vars locals) v [] (inl refl))
+      (λ v j us less more.
+      stands_run objects setting final globals vars (λ k b. Plainly (Tells (Ends k (ending.Return v)) (unwound (running b b 0 [] blocks locals)))) line ends ends to ReturnValue 0 (v ∷ []) blocks locals j us stands (λ k l p. refl) more
+      (λ none. closes.returned (env_of vars locals) v us (inl none))
+      (λ k i is_next fewer has_op of_line (mid, is, rest).
+      let none = ended_run objects setting final i (running to to 0 [] blocks locals) mid rest in
+      closes.returned (env_of vars locals) v us (inr (k, is ∙ ap (λ (xs : List Own). Ends k (ending.Return v) ∷ xs) none))))
+      locals_named globals_named same a loads
 
-  -- a unit that asks
-  asked_run : (more : Suite) (env : Env) (line at to : ℕ) (op : Instruction) (arg : ℕ) (r : Request) (stack : List Obj) (left : Obj → List Obj) (then : Obj → List Own → Type 0)
-      (locals : List (Option Obj)) (n : ℕ) (ts : List Own)
-      → Stands parts line at op arg to
-      → ((k p : ℕ) → act code op arg (running k p stack locals) ≡ Plainly (Tells (Asks k r None) (asking (suc k) locals)))
-      → ((k : ℕ) (v : Obj) → answered op v (running k 0 [] locals) ≡ Goes (running k 0 (left v) locals))
-      → Reaches objects code n (running at 0 stack locals) ts final
-      → ((v : Obj) (m : ℕ) (us : List Own) → Reaches objects code m (running to 0 (left v) locals) us final → then v us)
-      → Asked r None ts (Use env (Follows more) then)
-  asked_run more env line at to op arg r stack left then locals n ts stands asks goes run later =
-      decoded_run objects code final (drop at units) at 0 op arg to stack locals n ts refl stands.0 run
-      (λ none. inl (none, refl))
-      (λ k p m is_next has_op moved.
-      let (mid, is, waits) = subst (λ (w : Move). ByMove objects w ts (λ s us. Reaches objects code m s us final)) (asks k p) moved in
-      inr (
-        k,
-        mid,
-        is,
-        answered_run more env op left then k locals m mid has_op (goes (suc k)) waits
-            (λ v j us gone. later v j us (subst (λ (b : ℕ). Reaches objects code j (running b 0 (left v) locals) us final) is_next gone)),
+  -- ---- operators
+
+  arity_is : (op : Operator) → arity_of op ≡ 2
+  arity_is operator.Add = refl
+  arity_is operator.Sub = refl
+  arity_is operator.Lt = refl
+  arity_is operator.Eq = refl
+
+  -- an operator asks for what comes of the two values on the stack
+  operator_run : (op : Operator) (K : After) (next : Obj → List Own → Type 0) (line at last to : ℕ) (v w : Obj) (blocks : List Block) (locals : List (Option Obj)) (n : ℕ) (ts : List Own)
+      → LaidOperator parts line at op to → Closes K
+      → Reaches objects setting n (running at last 0 (w ∷ v ∷ []) blocks locals) ts final
+      → ((u : Obj) (m : ℕ) (us : List Own) → m < n → Reaches objects setting m (running to to 0 (u ∷ []) blocks locals) us final → next u us)
+      → Requests scene line (request_of_two op v w) None ts (Use (env_of vars locals) K next)
+  operator_run operator.Add K next line at last to v w blocks locals n ts stands closes run later =
+      asked_run objects setting final globals vars K (env_of vars locals) next line at last to BinaryOperation (binary_number binary.Add) 0 _ (w ∷ v ∷ []) [] blocks locals n ts closes stands (λ k l p. refl) run later
+  operator_run operator.Sub K next line at last to v w blocks locals n ts stands closes run later =
+      asked_run objects setting final globals vars K (env_of vars locals) next line at last to BinaryOperation (binary_number binary.Subtract) 0 _ (w ∷ v ∷ []) [] blocks locals n ts closes stands (λ k l p. refl) run later
+  operator_run operator.Lt K next line at last to v w blocks locals n ts stands closes run later =
+      asked_run objects setting final globals vars K (env_of vars locals) next line at last to CompareOperation (comparison_number comparison.Less) 0 _ (w ∷ v ∷ []) [] blocks locals n ts closes stands (λ k l p. refl) run later
+  operator_run operator.Eq K next line at last to v w blocks locals n ts stands closes run later =
+      asked_run objects setting final globals vars K (env_of vars locals) next line at last to CompareOperation (comparison_number comparison.Equal) 0 _ (w ∷ v ∷ []) [] blocks locals n ts closes stands (λ k l p. refl) run later
+
+  operate_run : (line at to : ℕ) (x : Option Name) (op : Operator) (atoms : List Atom) → LaidForm parts line (operate x op atoms) at to → length atoms ≡ arity_of op
+      → RunsFrom at to (λ K env ts. Runs scene line (operate x op atoms) env None ts K)
+  operate_run line at to x op [] laid arity K blocks n closes later locals last m ts most same run = absurd (omega (arith, arity, arity_is op))
+  operate_run line at to x op (a ∷ []) laid arity K blocks n closes later locals last m ts most same run = absurd (omega (arith, arity, arity_is op))
+  operate_run line at to x op (a ∷ b ∷ c ∷ atoms) laid arity K blocks n closes later locals last m ts most same run = absurd (omega (arith, arity, arity_is op))
+  operate_run line at to x op (a ∷ b ∷ []) (asks, stores, (mid, loads_a, (end, loads_b, is_asks)), stands, target) arity K blocks n closes later locals last m ts most same run =
+      atom_run objects setting final globals vars K closes _ line at last mid [] blocks locals m ts run
+      (λ v. cut_load scene line b None (env_of vars locals) K _ closes (λ w. inl (refl, closes.cut (env_of vars locals))))
+      (λ v j us less more.
+      atom_run objects setting final globals vars K closes _ line mid mid end (v ∷ []) blocks locals j us more (λ w. inl (refl, closes.cut (env_of vars locals)))
+      (λ w i rest fewer further.
+      operator_run op K _ line asks end stores v w blocks locals i rest stands closes (subst (λ (p : ℕ). Reaches objects setting i (running p end 0 (w ∷ v ∷ []) blocks locals) rest final) (sym is_asks) further)
+      (λ u h left few done. target_run line stores to x u K blocks locals stores h n left target closes (omega (arith, few, fewer, less, most)) same done later))
+      locals_named globals_named same b loads_b)
+      locals_named globals_named same a loads_a
+
+  -- ---- loops
+
+  -- what the suite of a loop runs
+  abbrev body_of : Suite → Runner
+  body_of s env ts K = RunsSuite scene s env None ts K
+
+  -- its block
+  abbrev held : Block
+  held = record { typ = Loop; level = 0 }
+
+  -- a loop whose test stands at a place and whose suite runs as it should; K holds behind its end
+  module _ (K : After) (closes : Closes K) (line tests asks inside repeats ends to : ℕ) (a : Atom) (s : Suite) (blocks : List Block) (limit : ℕ)
+      (loads : LaidAtom parts line a tests asks) (jumps : Stands parts line asks JumpIfFalse ends inside) (jumps_back : Stands parts line repeats Jump tests ends) (pops : Stands parts line ends PopBlock 0 to)
+      (forward : inside ≤ ends) (backward : tests < ends)
+      (runs : RunsFrom inside repeats (λ K env ts. RunsSuite scene s env None ts K))
+      (later : TellsFrom to blocks limit (λ env. K env Normal)) where
+    -- the end of the loop
+    ends_run : TellsFrom ends (held ∷ blocks) limit (λ env. K env Normal)
+    ends_run locals last m ts few same run =
+        stands_run objects setting final globals vars (λ k b. Plainly (Goes (running b b 0 [] blocks locals))) line ends last to PopBlock 0 [] (held ∷ blocks) locals m ts pops (λ k l p. refl) run
+        (λ none. subst (λ (us : List Own). K (env_of vars locals) Normal us) (sym none) (closes.paused (env_of vars locals)))
+        (λ k j is_next less has_op of_line step. later locals to j ts (omega (arith, less, few)) same step)
+
+    -- the jump back to the test, behind which the loop goes on
+    back_run : (turns n : ℕ) → ((at : ℕ) → TellsFrom tests (held ∷ blocks) n (λ env mid. Loops scene line None a (body_of s) turns env (Rounds at ∷ mid) K))
+        → TellsFrom repeats (held ∷ blocks) (suc n) (λ env ts. Loops scene line None a (body_of s) turns env ts K)
+    back_run turns n again locals last m ts few same run =
+        stands_run objects setting final globals vars
+        (λ k b. Plainly (cond (nat_le b tests) (Goes (running tests b 0 [] (held ∷ blocks) locals)) (Tells (Rounds (b - 1)) (running tests b 0 [] (held ∷ blocks) locals)))) line repeats last ends Jump tests []
+        (held ∷ blocks) locals m ts jumps_back (λ k l p. refl) run
+        (λ none. cut_loop scene line None a (body_of s) turns (env_of vars locals) ts K closes none)
+        (λ k j is_next less has_op of_line step.
+        let earlier : nat_le ends tests ≡ false = lt-leb ends tests backward in
+        let (mid, is, rest) = subst (λ (b : Bool). ByStep (cond b (Goes (running tests ends 0 [] (held ∷ blocks) locals)) (Tells (Rounds (ends - 1)) (running tests ends 0 [] (held ∷ blocks) locals))) ts
+        (λ s mid. Reaches objects setting j s mid final)) earlier step in
+        subst (λ (us : List Own). Loops scene line None a (body_of s) turns (env_of vars locals) us K) (sym is) (again (ends - 1) locals ends j mid (omega (arith, less, few)) same rest))
+
+    -- one turn, behind whose suite at most n more are begun
+    turn_run : (n : ℕ) → n ≤ limit → TellsFrom repeats (held ∷ blocks) n (λ env ts. Loops scene line None a (body_of s) n env ts K)
+        → (at : ℕ) → TellsFrom tests (held ∷ blocks) n (λ env mid. Loops scene line None a (body_of s) (suc n) env (Rounds at ∷ mid) K)
+    turn_run n low again at locals last m ts few same run =
+        let behind : After = On_turn K (λ env rest. Loops scene line None a (body_of s) n env rest K) in
+        let chosen = chooses_run objects setting final globals vars (λ b mid. By_truth b (RunsSuite scene s (env_of vars locals) None mid behind) (K (env_of vars locals) Normal mid)) inside ends (held ∷ blocks) locals m forward
+        (λ l j us less more. runs behind (held ∷ blocks) n (closes_turn scene line None a (body_of s) n K closes) again locals l j us (omega (arith, less, few)) same more)
+        (λ l j us less more. ends_run locals l j us (omega (arith, less, few, low)) same more)
+        K closes line locals_named globals_named same a tests last asks ts loads jumps run in
+        inr (at, ts, refl, chosen)
+
+    no_turn : TellsFrom repeats (held ∷ blocks) 0 (λ env ts. Loops scene line None a (body_of s) 0 env ts K)
+    no_turn locals last zero ts few same run = cut_loop scene line None a (body_of s) 0 (env_of vars locals) ts K closes run.0
+    no_turn locals last (suc m) ts few same run = absurd (omega (arith, few))
+
+    -- a run of n steps begins at most n turns
+    repeats_run : (n : ℕ) → n ≤ limit → TellsFrom repeats (held ∷ blocks) n (λ env ts. Loops scene line None a (body_of s) n env ts K)
+    repeats_run zero low = no_turn
+    repeats_run (suc n) low = back_run (suc n) n (turn_run n (omega (arith, low)) (repeats_run n (omega (arith, low))))
+
+    turns_run : (at : ℕ) → TellsFrom tests (held ∷ blocks) limit (λ env mid. Loops scene line None a (body_of s) (suc limit) env (Rounds at ∷ mid) K)
+    turns_run at = turn_run limit (le_refl limit) (repeats_run limit (le_refl limit)) at
+
+  loop_run : (line at to : ℕ) (a : Atom) (s : Suite) → ((inside repeats : ℕ) → LaidSuite parts s inside repeats → RunsFrom inside repeats (λ K env ts. RunsSuite scene s env None ts K))
+      → LaidForm parts line (loop a s) at to → RunsFrom at to (λ K env ts. Runs scene line (loop a s) env None ts K)
+  loop_run line at to a s runs (tests, asks, inside, repeats, ends, sets, loads, jumps, suite, jumps_back, pops) K blocks n closes later locals last m ts most same run =
+      stands_run objects setting final globals vars (λ k b. Plainly (Tells (Rounds k) (running b b 0 [] (held ∷ blocks) locals))) line at last tests SetupLoop 0 [] blocks locals m ts sets (λ k l p. refl) run
+      (λ none. (suc n, cut_loop scene line None a (body_of s) (suc n) (env_of vars locals) ts K closes none))
+      (λ k j is_next less has_op of_line (mid, is, rest). (
+        suc n,
+        subst (λ (us : List Own). Loops scene line None a (body_of s) (suc n) (env_of vars locals) us K) (sym is)
+            (turns_run K closes line tests asks inside repeats ends to a s blocks n loads jumps jumps_back pops
+            (omega (arith, suite_bound parts s inside repeats suite, stands_bound parts line repeats _ _ ends jumps_back))
+            (omega (arith, atom_bound parts line a tests asks loads, stands_bound parts line asks _ _ inside jumps, suite_bound parts s inside repeats suite, stands_bound parts line repeats _ _ ends jumps_back))
+            (runs inside repeats suite) later k locals tests j mid (omega (arith, less, most)) same rest),
       ))
-
-  -- ---- statements, each in front of what tells the rest
-
-  assign_run : (i : ℕ) (x : Name) (a : Atom) (more : Suite) (names : List Name) (at to : ℕ) (locals : List (Option Obj)) (env : Env) (n : ℕ) (ts : List Own)
-      → LaidForm parts i (assign x a) at to → Holds vars names locals env → FormKnown names (assign x a) → place vars x < length vars
-      → Reaches objects code n (running at 0 [] locals) ts final → TellsFrom more (names ++ x ∷ []) to → TellsSuite (first i (assign x a) more) env ts
-  assign_run i x a more names at to locals env n ts (stores, laid, stands) holds known below run later =
-      atom_run objects code vars final i a names at stores [] locals env n ts laid holds known run (cut_suite (first i (assign x a) more) env ts)
-      (λ v m load run1. inr (load ts _ (store_run i x more names stores to v locals env m ts stands holds below run1 later)))
-
-  operate_run : (i : ℕ) (x : Name) (op : Operator) (atoms : List Atom) (more : Suite) (names : List Name) (at to : ℕ) (locals : List (Option Obj)) (env : Env) (n : ℕ) (ts : List Own)
-      → LaidForm parts i (operate x op atoms) at to → Holds vars names locals env → FormKnown names (operate x op atoms) → place vars x < length vars
-      → Reaches objects code n (running at 0 [] locals) ts final → TellsFrom more (names ++ x ∷ []) to → TellsSuite (first i (operate x op atoms) more) env ts
-  operate_run i x operator.Add [] more names at to locals env n ts laid holds (arity, known) below run later = absurd (omega (arith, arity))
-  operate_run i x operator.Add (a ∷ []) more names at to locals env n ts laid holds (arity, known) below run later = absurd (omega (arith, arity))
-  operate_run i x operator.Add (a ∷ b ∷ c ∷ atoms) more names at to locals env n ts laid holds (arity, known) below run later = absurd (omega (arith, arity))
-  operate_run i x operator.Add (a ∷ b ∷ []) more names at to locals env n ts (asks, stores, (mid, laid_a, (end, laid_b, is_asks)), stands_ask, stands_store) holds (arity, known) below run later =
-      let cut : ts ≡ [] → TellsSuite (first i (operate x operator.Add (a ∷ b ∷ [])) more) env ts = cut_suite (first i (operate x operator.Add (a ∷ b ∷ [])) more) env ts in
-      atom_run objects code vars final i a names at mid [] locals env n ts laid_a holds (known 0 a (omega arith)) run cut
-      (λ v m load_a run1. atom_run objects code vars final i b names mid end (v ∷ []) locals env m ts laid_b holds (known 1 b (omega arith)) run1 cut
-      (λ w j load_b run2.
-      inr (load_a ts _ (load_b ts _ (asked_run more env i asks stores BinaryOperation 6 _ (w ∷ v ∷ []) (λ u. u ∷ []) _ locals j ts stands_ask (λ k p. refl) (λ k u. refl)
-      (subst (λ (p : ℕ). Reaches objects code j (running p 0 (w ∷ v ∷ []) locals) ts final) (sym is_asks) run2)
-      (λ u k us run3. store_run i x more names stores to u locals env k us stands_store holds below run3 later))))))
-
-  show_run : (i : ℕ) (a : Atom) (more : Suite) (names : List Name) (at to : ℕ) (locals : List (Option Obj)) (env : Env) (n : ℕ) (ts : List Own)
-      → LaidForm parts i (show a) at to → Holds vars names locals env → FormKnown names (show a)
-      → Reaches objects code n (running at 0 [] locals) ts final → TellsFrom more names to → TellsSuite (first i (show a) more) env ts
-  show_run i a more names at to locals env n ts (asks, laid, stands) holds known run later =
-      atom_run objects code vars final i a names at asks [] locals env n ts laid holds known run (cut_suite (first i (show a) more) env ts)
-      (λ v m load run1. inr (load ts _
-      (asked_run more env i asks to PrintExpr 0 (Show v) (v ∷ []) (λ u. []) (λ u. Follows more env Normal) locals m ts stands (λ k p. refl) (λ k u. refl) run1
-      (λ u k us run2. later locals env k us holds run2))))
-
-  give_run : (i : ℕ) (a : Atom) (more : Suite) (names : List Name) (at to : ℕ) (locals : List (Option Obj)) (env : Env) (n : ℕ) (ts : List Own)
-      → LaidForm parts i (give a) at to → Holds vars names locals env → FormKnown names (give a)
-      → Reaches objects code n (running at 0 [] locals) ts final → TellsSuite (first i (give a) more) env ts
-  give_run i a more names at to locals env n ts (ends, laid, stands) holds known run =
-      let cut : ts ≡ [] → TellsSuite (first i (give a) more) env ts = cut_suite (first i (give a) more) env ts in
-      atom_run objects code vars final i a names at ends [] locals env n ts laid holds known run cut
-      (λ v m load run1. decoded_run objects code final (drop ends units) ends 0 ReturnValue 0 to (v ∷ []) locals m ts refl stands.0 run1 cut
-      (λ k p j is_next op (mid, is, run2).
-      let end = ended_run j (behind (running k p [] locals)) mid run2 in
-      inr (load ts _ (inr (k, is ∙ ap (λ (us : List Own). Ends k (ending.Return v) ∷ us) end)))))
-
-  form_run : (f : Form) (i : ℕ) (more : Suite) (names : List Name) (at to : ℕ) (locals : List (Option Obj)) (env : Env) (n : ℕ) (ts : List Own)
-      → LaidForm parts i f at to → Holds vars names locals env → FormKnown names f → IsBound vars (target_of f)
-      → Reaches objects code n (running at 0 [] locals) ts final → TellsFrom more (names_behind names (target_of f)) to → TellsSuite (first i f more) env ts
-  form_run (assign x a) i more names at to locals env n ts laid holds known bound run later = assign_run i x a more names at to locals env n ts laid holds known bound run later
-  form_run (operate x op atoms) i more names at to locals env n ts laid holds known bound run later = operate_run i x op atoms more names at to locals env n ts laid holds known bound run later
-  form_run (show a) i more names at to locals env n ts laid holds known bound run later = show_run i a more names at to locals env n ts laid holds known run later
-  form_run (give a) i more names at to locals env n ts laid holds known bound run later = give_run i a more names at to locals env n ts laid holds known run
-  form_run pass i more names at to locals env n ts is_at holds known bound run later =
-      inr (later locals env n ts holds (subst (λ (b : ℕ). Reaches objects code n (running b 0 [] locals) ts final) (sym is_at) run))
 
   -- ---- suites
 
-  -- the return of None at the end
-  end_run : (header at to : ℕ) (locals : List (Option Obj)) (env : Env) (n : ℕ) (ts : List Own)
-      → StandsConst parts header at ReturnConst NoneLiteral to → Reaches objects code n (running at 0 [] locals) ts final → TellsSuite nothing env ts
-  end_run header at to locals env n ts stands run =
-      const_run objects code vars final header ReturnConst NoneLiteral payload.None (λ s v. returns v s) at to [] locals n ts refl (λ i s. refl) stands run (cut_suite nothing env ts)
-      (λ v k prefix m is_next has (rest, is, later).
-      let end = ended_run m (behind (running k prefix [] locals)) rest later in
-      inr (inr (v, has, inr (k, is ∙ ap (λ (us : List Own). Ends k (ending.Return v) ∷ us) end))))
+  branch_run : (line at to : ℕ) (a : Atom) (s : Suite) → ((inside : ℕ) → LaidSuite parts s inside to → RunsFrom inside to (λ K env ts. RunsSuite scene s env None ts K))
+      → LaidForm parts line (branch a s) at to → RunsFrom at to (λ K env ts. Runs scene line (branch a s) env None ts K)
+  branch_run line at to a s runs (asks, inside, loads, jumps, suite) K blocks n closes later locals last m ts most same run =
+      chooses_run objects setting final globals vars (λ b mid. By_truth b (RunsSuite scene s (env_of vars locals) None mid K) (K (env_of vars locals) Normal mid)) inside to blocks locals m (suite_bound parts s inside to suite)
+      (λ l j us less more. runs inside suite K blocks n closes later locals l j us (omega (arith, less, most)) same more)
+      (λ l j us less more. later locals l j us (omega (arith, less, most)) same more)
+      K closes line locals_named globals_named same a at last asks ts loads jumps run
 
-  pub suite_run : (s : Suite) (header : ℕ) (names : List Name) (at : ℕ) → LaidSuite parts header s at → SuiteKnown names s → AllBound vars s → TellsFrom s names at
-  suite_run nothing header names at (to, stands) known bound locals env n ts holds run = end_run header at to locals env n ts stands run
-  suite_run (first i f more) header names at (to, laid, rest) (known, later) (bound, others) locals env n ts holds run =
-      form_run f i more names at to locals env n ts laid holds known bound run (suite_run more header (names_behind names (target_of f)) to rest later others)
+  -- the jump over the other suite
+  leave_run : (line leaves to other : ℕ) → Stands parts line leaves Jump to other → other ≤ to
+      → (K : After) (blocks : List Block) (n : ℕ) → Closes K → TellsFrom to blocks n (λ env. K env Normal) → TellsFrom leaves blocks n (λ env. K env Normal)
+  leave_run line leaves to other stands forward K blocks n closes later locals last m ts most same run =
+      stands_run objects setting final globals vars
+      (λ k b. Plainly (cond (nat_le b to) (Goes (running to b 0 [] blocks locals)) (Tells (Rounds (b - 1)) (running to b 0 [] blocks locals)))) line leaves last other Jump to [] blocks locals m ts stands (λ k l p. refl) run
+      (λ none. subst (λ (us : List Own). K (env_of vars locals) Normal us) (sym none) (closes.paused (env_of vars locals)))
+      (λ k j is_next less has_op of_line step.
+      let ahead : nat_le other to ≡ true = le-leb other to forward in
+      later locals other j ts (omega (arith, less, most)) same
+      (subst (λ (b : Bool). ByStep (cond b (Goes (running to other 0 [] blocks locals)) (Tells (Rounds (other - 1)) (running to other 0 [] blocks locals))) ts (λ s mid. Reaches objects setting j s mid final)) ahead step))
+
+  choice_run : (line at to : ℕ) (a : Atom) (s t : Suite) → ((inside leaves : ℕ) → LaidSuite parts s inside leaves → RunsFrom inside leaves (λ K env ts. RunsSuite scene s env None ts K))
+      → ((other : ℕ) → LaidSuite parts t other to → RunsFrom other to (λ K env ts. RunsSuite scene t env None ts K))
+      → LaidForm parts line (choice a s t) at to → RunsFrom at to (λ K env ts. Runs scene line (choice a s t) env None ts K)
+  choice_run line at to a s t runs others (asks, inside, leaves, other, loads, jumps, suite, leave, rest) K blocks n closes later locals last m ts most same run =
+      chooses_run objects setting final globals vars (λ b mid. By_truth b (RunsSuite scene s (env_of vars locals) None mid K) (RunsSuite scene t (env_of vars locals) None mid K)) inside other blocks locals m
+      (omega (arith, suite_bound parts s inside leaves suite, stands_bound parts line leaves _ _ other leave))
+      (λ l j us less more.
+      runs inside leaves suite K blocks n closes (leave_run line leaves to other leave (suite_bound parts t other to rest) K blocks n closes later) locals l j us (omega (arith, less, most)) same more)
+      (λ l j us less more. others other rest K blocks n closes later locals l j us (omega (arith, less, most)) same more)
+      K closes line locals_named globals_named same a at last asks ts loads jumps run
+
+  pass_run : (line at to : ℕ) → LaidForm parts line pass at to → RunsFrom at to (λ K env ts. Runs scene line pass env None ts K)
+  pass_run line at to is_at K blocks n closes later locals last m ts most same run =
+      later locals last m ts most same (subst (λ (b : ℕ). Reaches objects setting m (running b last 0 [] blocks locals) ts final) (sym is_at) run)
+
+  nothing_run : (at to : ℕ) → LaidSuite parts nothing at to → RunsFrom at to (λ K env ts. RunsSuite scene nothing env None ts K)
+  nothing_run at to is_at K blocks n closes later locals last m ts most same run = inr (pass_run 0 at to is_at K blocks n closes later locals last m ts most same run)
+
+  first_run : (line at mid to : ℕ) (f : Form) (more : Suite) → RunsFrom at mid (λ K env ts. Runs scene line f env None ts K) → RunsFrom mid to (λ K env ts. RunsSuite scene more env None ts K)
+      → RunsFrom at to (λ K env ts. RunsSuite scene (first line f more) env None ts K)
+  first_run line at mid to f more runs others K blocks n closes later locals last m ts most same run =
+      inr (runs (On_normal K (λ env us. RunsSuite scene more env None us K)) blocks n (closes_next scene more None K closes) (others K blocks n closes later) locals last m ts most same run)
+
+  mutual
+    form_run : (f : Form) (line at to : ℕ) → LaidForm parts line f at to → FormTakes f → RunsFrom at to (λ K env ts. Runs scene line f env None ts K)
+    form_run (assign x a) line at to laid takes = assign_run line at to x a laid
+    form_run (operate x op atoms) line at to laid takes = operate_run line at to x op atoms laid takes
+    form_run (show a) line at to laid takes = show_run line at to a laid
+    form_run (give a) line at to laid takes = give_run line at to a laid
+    form_run pass line at to laid takes = pass_run line at to laid
+    form_run (branch a s) line at to laid takes = branch_run line at to a s (λ inside suite. suite_run s inside to suite takes) laid
+    form_run (choice a s t) line at to laid (takes, others) =
+        choice_run line at to a s t (λ inside leaves suite. suite_run s inside leaves suite takes) (λ other suite. suite_run t other to suite others) laid
+    form_run (loop a s) line at to laid takes = loop_run line at to a s (λ inside repeats suite. suite_run s inside repeats suite takes) laid
+
+    -- a run of the code of statements tells what they may tell
+    pub suite_run : (s : Suite) (at to : ℕ) → LaidSuite parts s at to → SuiteTakes s → RunsFrom at to (λ K env ts. RunsSuite scene s env None ts K)
+    suite_run nothing at to laid takes = nothing_run at to laid
+    suite_run (first line f more) at to (mid, one, rest) (takes, others) = first_run line at mid to f more (form_run f line at mid one takes) (suite_run more mid to rest others)

@@ -1,16 +1,16 @@
 -- Units that are spelled stay so behind one more instruction.
 use Rattle.std.proofs.Common.{◌≡◌, ◌<◌, ◌≤◌, ◌+◌, ◌-◌, ⊎_elim, ℕ, zero, suc, List, [], ◌∷◌, ◌++◌, Bool, true, false, not, cond, Some, refl, sym, ap, ◌∙◌, length, arith, length-append, append-nil}
-use Rattle.std.specs.Prelude.{slice_get}
+use Rattle.std.specs.Prelude.{Option, None, slice_get}
 use Rattle.std.proofs.lemmas.Bool.{and_from, cases_lt}
 use Rattle.std.proofs.lemmas.List.Folds.{list_all-append}
 use Rattle.py_code.specs.declared.instruction.Instruction.{Instruction}
 use Rattle.py_code.specs.declared.literal.Literal.{Literal}
 use Rattle.py_code.specs.declared.unit.CodeUnit.{CodeUnit}
+use Rattle.py_code.specs.declared.code.Decoded.{Decoded}
 use Rattle.py_code.specs.Units.{decoded_from, is_prefix, with_byte}
 use Rattle.py_check.specs.Constants.{has_code}
 use Rattle.py_check.specs.Operands.{is_prefix_there, prefixes}
 use Rattle.py_body.specs.Emitting.{AreSpelled, HaveNoCode}
-use Rattle.py_body.proofs.Decoding.{decoded_is}
 
 -- ---- an entry in front of others and behind others
 
@@ -62,6 +62,10 @@ record Last (added : List CodeUnit) : Type 0 where
   here : slice_get added at ≡ Some unit
   plain : is_prefix unit.op ≡ false
 
+abbrev next_of : Option Decoded → ℕ
+next_of None = 0
+next_of (Some d) = d.next
+
 last_unit : (added : List CodeUnit) (state at arg : ℕ) (op : Instruction) → decoded_from state at added ≡ Some (record { op = op; arg = record { 0 = arg }; next = at + length added }) → Last added
 last_unit [] state at arg op is = absurd (cc)
 last_unit (u ∷ us) state at arg op is = by (is_prefix u.op) refl is (λ d. last_unit us (with_byte state u.arg) (at + 1) arg op d)
@@ -75,7 +79,7 @@ last_unit (u ∷ us) state at arg op is = by (is_prefix u.op) refl is (λ d. las
         let same : at + suc (length us) ≡ (at + 1) + length us = omega arith in
         let last = later (d ∙ ap (λ (n : ℕ). Some (record { op = op; arg = record { 0 = arg }; next = n })) same) in
         record { at = suc last.at; behind = ap suc last.behind; unit = last.unit; here = last.here; plain = last.plain }
-    by false plain d later = record { at = 0; behind = omega (arith, (decoded_is _ _ d).2); unit = u; here = refl; plain = plain }
+    by false plain d later = let same : at + 1 ≡ at + suc (length us) = ap next_of d in record { at = 0; behind = omega (arith, same); unit = u; here = refl; plain = plain }
 
 pub spelled_more : (old added : List CodeUnit) (op : Instruction) (arg : ℕ) → AreSpelled old → length added ≤ 4
     → ((at : ℕ) (behind : List CodeUnit) → decoded_from 0 at (added ++ behind) ≡ Some (record { op = op; arg = record { 0 = arg }; next = at + length added })) → AreSpelled (old ++ added)

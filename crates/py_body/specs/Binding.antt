@@ -1,16 +1,17 @@
--- The names that a body binds, and its locals.
-use Rattle.std.specs.Prelude.{ℕ, suc, ◌≤◌, Option, Some, None, List, [], ◌∷◌, ◌++◌, ◌≡◌, ◌≢◌, length, bytes_eq, if◌then◌else◌, All, AllPairs, Contains}
+-- The names that a body binds, its locals, and which bodies can be compiled.
+use Rattle.std.specs.Prelude.{ℕ, suc, ◌+◌, ◌≤◌, Option, Some, None, List, [], ◌∷◌, ◌++◌, ◌≡◌, ◌≢◌, length, bytes_eq, if◌then◌else◌, AllPairs}
 use Rattle.std.specs.List.{list_any}
 use Rattle.py_objects.specs.Objects.{Obj}
-use Rattle.py_body.specs.declared.atom.Atom.{Atom}
-use Rattle.py_body.specs.declared.atom.Atom.TheVariants as atom
 use Rattle.py_body.specs.declared.atom.Operator.{Operator}
 use Rattle.py_body.specs.declared.atom.Operator.TheVariants as operator
-use Rattle.py_body.specs.Tree.{Name, Form, assign, operate, show, give, pass, target_of, Suite, nothing, first, Tree}
+use Rattle.py_body.specs.Tree.{Name, Form, assign, operate, show, give, pass, branch, choice, loop, Suite, nothing, first, Tree}
 
 -- how many arguments an operator takes
 abbrev pub arity_of : Operator → ℕ
 arity_of operator.Add = 2
+arity_of operator.Sub = 2
+arity_of operator.Lt = 2
+arity_of operator.Eq = 2
 
 -- a name behind others, unless it is one of them
 abbrev pub bound : List Name → Name → List Name
@@ -21,12 +22,25 @@ abbrev pub bound_if : List Name → Option Name → List Name
 bound_if names None = names
 bound_if names (Some x) = bound names x
 
--- the names that a suite binds, behind others, in the order in which its lines first bind them
-abbrev pub bound_by : List Name → Suite → List Name
-bound_by names nothing = names
-bound_by names (first n f more) = bound_by (bound_if names (target_of f)) more
+abbrev mutual
+  -- the names that a statement binds, behind others
+  pub bound_in : List Name → Form → List Name
+  bound_in names (assign x a) = bound names x
+  bound_in names (operate x op atoms) = bound_if names x
+  bound_in names (show a) = names
+  bound_in names (give a) = names
+  bound_in names pass = names
+  bound_in names (branch a s) = bound_by names s
+  bound_in names (choice a s t) = bound_by (bound_by names s) t
+  bound_in names (loop a s) = bound_by names s
 
--- the names of a body's locals: the parameters in order, then the others
+  -- the names that a suite binds, behind others, in the order in which its lines first bind them
+  pub bound_by : List Name → Suite → List Name
+  bound_by names nothing = names
+  bound_by names (first n f more) = bound_by (bound_in names f) more
+
+-- the names of a body's locals: the parameters in order, then the others; every other name is a global
+-- (Python Language Reference, 4.2.2)
 abbrev pub locals_of : Tree → List Name
 locals_of t = bound_by t.params t.suite
 
@@ -42,6 +56,11 @@ abbrev pub set_local : Name → Option Obj → Env → Env
 set_local x v [] = (x, v) ∷ []
 set_local x v (p ∷ env) = if bytes_eq x p.0 then (p.0, v) ∷ env else p ∷ set_local x v env
 
+-- a value is bound to a name, or dropped
+abbrev pub bind : Option Name → Obj → Env → Env
+bind None v env = env
+bind (Some x) v env = set_local x (Some v) env
+
 -- the names with the arguments in order, the others unset
 abbrev pub begun : List Name → List Obj → Env
 begun [] vs = []
@@ -52,39 +71,42 @@ begun (x ∷ xs) (v ∷ vs) = (x, Some v) ∷ begun xs vs
 abbrev pub start_env : Tree → List Obj → Env
 start_env t args = begun (locals_of t) args
 
--- an atom is a literal, or one of these names
-abbrev pub IsKnown : List Name → Atom → Type 0
-IsKnown names atom.None = Unit {0}
-IsKnown names (atom.Bool b) = Unit {0}
-IsKnown names (atom.Int n) = Unit {0}
-IsKnown names (atom.Str s) = Unit {0}
-IsKnown names (atom.Name x) = Contains names x
+abbrev mutual
+  -- each operator of a statement has as many arguments as it takes
+  pub FormTakes : Form → Type 0
+  FormTakes (assign x a) = Unit {0}
+  FormTakes (operate x op atoms) = length atoms ≡ arity_of op
+  FormTakes (show a) = Unit {0}
+  FormTakes (give a) = Unit {0}
+  FormTakes pass = Unit {0}
+  FormTakes (branch a s) = SuiteTakes s
+  FormTakes (choice a s t) = SuiteTakes s × SuiteTakes t
+  FormTakes (loop a s) = SuiteTakes s
 
--- the atoms of a statement are known, and as many as its operator takes
-abbrev pub FormKnown : List Name → Form → Type 0
-FormKnown names (assign x a) = IsKnown names a
-FormKnown names (operate x op atoms) = (length atoms ≡ arity_of op) × All (IsKnown names) atoms
-FormKnown names (show a) = IsKnown names a
-FormKnown names (give a) = IsKnown names a
-FormKnown names pass = Unit {0}
+  pub SuiteTakes : Suite → Type 0
+  SuiteTakes nothing = Unit {0}
+  SuiteTakes (first n f more) = FormTakes f × SuiteTakes more
 
--- the names behind a statement that binds this one, or none
-abbrev pub names_behind : List Name → Option Name → List Name
-names_behind names None = names
-names_behind names (Some x) = names ++ x ∷ []
+abbrev mutual
+  -- how many statements there are, those inside others too
+  pub statements_in : Form → ℕ
+  statements_in (assign x a) = 1
+  statements_in (operate x op atoms) = 1
+  statements_in (show a) = 1
+  statements_in (give a) = 1
+  statements_in pass = 1
+  statements_in (branch a s) = suc (statements s)
+  statements_in (choice a s t) = suc (statements s + statements t)
+  statements_in (loop a s) = suc (statements s)
 
--- each name that a statement takes is one of these, or bound by an earlier statement
-abbrev pub SuiteKnown : List Name → Suite → Type 0
-SuiteKnown names nothing = Unit {0}
-SuiteKnown names (first n f more) = FormKnown names f × SuiteKnown (names_behind names (target_of f)) more
+  pub statements : Suite → ℕ
+  statements nothing = 0
+  statements (first n f more) = statements_in f + statements more
 
-abbrev pub statements : Suite → ℕ
-statements nothing = 0
-statements (first n f more) = suc (statements more)
-
--- a body that can be compiled: no name is used before it is bound, and it has no more statements than the longest script
-pub record IsClosed (t : Tree) : Type 0 where
+-- a body that can be compiled: its parameters differ and are at most 255, its operators have as many arguments as they take,
+-- and it has no more statements than the longest script
+pub record IsCompilable (t : Tree) : Type 0 where
   pub distinct : AllPairs (λ x y. x ≢ y) t.params
   pub few : length t.params ≤ 255
-  pub known : SuiteKnown t.params t.suite
+  pub takes : SuiteTakes t.suite
   pub short : statements t.suite ≤ 1048576

@@ -1,20 +1,21 @@
--- Where the code of each form stands.
-use Rattle.std.specs.Prelude.{ℕ, suc, ◌<◌, ◌≤◌, ◌^◌, Some, List, [], ◌∷◌, ◌≡◌, slice_get, length, drop, bytes_eq, if◌then◌else◌}
+-- Where the code of each form stands. The label of a jump is the place that it goes to.
+use Rattle.std.specs.Prelude.{ℕ, suc, ◌<◌, ◌≤◌, ◌^◌, Bool, true, false, Option, Some, None, List, [], ◌∷◌, ◌≡◌, slice_get, length, drop, bytes_eq, if◌then◌else◌}
+use Rattle.std.specs.List.{list_any}
 use Rattle.py_code.specs.declared.unit.CodeUnit.{CodeUnit}
 use Rattle.py_code.specs.declared.instruction.Instruction.{Instruction}
-use Rattle.py_code.specs.declared.instruction.Instruction.TheVariants.{LoadConst, LoadFast, StoreFast, BinaryOperation, PrintExpr, ReturnValue, ReturnConst}
+use Rattle.py_code.specs.declared.instruction.Instruction.TheVariants.{LoadConst, LoadFast, StoreFast, LoadGlobal, Pop, BinaryOperation, CompareOperation, PrintExpr, Jump, JumpIfFalse, SetupLoop, PopBlock, ReturnValue, ReturnConst}
 use Rattle.py_code.specs.declared.literal.Literal.{Literal, None as NoneLiteral, Bool as BoolLiteral, Int as IntLiteral, Str as StrLiteral}
-use Rattle.py_code.specs.declared.operator.BinaryOperator.{BinaryOperator}
 use Rattle.py_code.specs.declared.operator.BinaryOperator.TheVariants as binary
+use Rattle.py_code.specs.declared.operator.ComparisonOperator.TheVariants as comparison
 use Rattle.py_code.specs.declared.code.PyCode.{PyCode}
 use Rattle.py_code.specs.Literals.{literals_of}
-use Rattle.py_code.specs.Operators.{binary_number}
+use Rattle.py_code.specs.Operators.{binary_number, comparison_number}
 use Rattle.py_code.specs.Units.{decoded_from}
 use Rattle.py_body.specs.declared.atom.Atom.{Atom}
 use Rattle.py_body.specs.declared.atom.Atom.TheVariants as atom
 use Rattle.py_body.specs.declared.atom.Operator.{Operator}
 use Rattle.py_body.specs.declared.atom.Operator.TheVariants as operator
-use Rattle.py_body.specs.Tree.{Name, Form, assign, operate, show, give, pass, Suite, nothing, first, Tree}
+use Rattle.py_body.specs.Tree.{Name, Form, assign, operate, show, give, pass, branch, choice, loop, Suite, nothing, first, Tree}
 use Rattle.py_body.specs.Binding.{locals_of}
 
 -- the parts of a code that its units refer to
@@ -22,16 +23,13 @@ pub record Parts : Type 0 where
   pub units : List CodeUnit
   pub locations : List ℕ  -- the line of each unit
   pub constants : List Literal
+  pub names : List Name  -- the names of the globals
   pub vars : List Name  -- the names of the locals
 
 -- the place of a name, or the length of the list where it isn't there
 abbrev pub place : List Name → Name → ℕ
 place [] x = 0
 place (y ∷ ys) x = if bytes_eq x y then 0 else suc (place ys x)
-
--- the operator of the machine that an operator is
-abbrev pub binary_of : Operator → BinaryOperator
-binary_of operator.Add = binary.Add
 
 -- the units from one place up to another are of this line
 abbrev pub HasLine : List ℕ → ℕ → ℕ → ℕ → Type 0
@@ -46,44 +44,87 @@ Stands parts line at op arg next =
 abbrev pub StandsConst : Parts → ℕ → ℕ → Instruction → Literal → ℕ → Type 0
 StandsConst parts line at op literal next = (i : ℕ) × Stands parts line at op i next × (slice_get parts.constants i ≡ Some literal)
 
+-- the same of an instruction whose operand is the place of a global's name
+abbrev pub StandsName : Parts → ℕ → ℕ → Instruction → Name → ℕ → Type 0
+StandsName parts line at op x next = (i : ℕ) × Stands parts line at op i next × (slice_get parts.names i ≡ Some x)
+
+-- a name is loaded as a local or as a global
+abbrev pub LaidName : Bool → Parts → ℕ → Name → ℕ → ℕ → Type 0
+LaidName true parts line x at next = Stands parts line at LoadFast (place parts.vars x) next
+LaidName false parts line x at next = StandsName parts line at LoadGlobal x next
+
 -- from one place to another stands the load of an atom
 abbrev pub LaidAtom : Parts → ℕ → Atom → ℕ → ℕ → Type 0
 LaidAtom parts line atom.None at next = StandsConst parts line at LoadConst NoneLiteral next
 LaidAtom parts line (atom.Bool b) at next = StandsConst parts line at LoadConst (BoolLiteral b) next
 LaidAtom parts line (atom.Int n) at next = StandsConst parts line at LoadConst (IntLiteral n) next
 LaidAtom parts line (atom.Str s) at next = StandsConst parts line at LoadConst (StrLiteral s) next
-LaidAtom parts line (atom.Name x) at next = Stands parts line at LoadFast (place parts.vars x) next
+LaidAtom parts line (atom.Name x) at next = LaidName (list_any (bytes_eq x) parts.vars) parts line x at next
 
 -- the loads of atoms in order
 abbrev pub LaidAtoms : Parts → ℕ → List Atom → ℕ → ℕ → Type 0
 LaidAtoms parts line [] at next = next ≡ at
 LaidAtoms parts line (a ∷ atoms) at next = (mid : ℕ) × LaidAtom parts line a at mid × LaidAtoms parts line atoms mid next
 
--- the code of a statement of this line
-abbrev pub LaidForm : Parts → ℕ → Form → ℕ → ℕ → Type 0
-LaidForm parts line (assign x a) at next = (stores : ℕ) × LaidAtom parts line a at stores × Stands parts line stores StoreFast (place parts.vars x) next
-LaidForm parts line (operate x op atoms) at next =
-    (asks : ℕ) × (stores : ℕ) × LaidAtoms parts line atoms at asks
-    × Stands parts line asks BinaryOperation (binary_number (binary_of op)) stores × Stands parts line stores StoreFast (place parts.vars x) next
-LaidForm parts line (show a) at next = (asks : ℕ) × LaidAtom parts line a at asks × Stands parts line asks PrintExpr 0 next
-LaidForm parts line (give a) at next = (ends : ℕ) × LaidAtom parts line a at ends × Stands parts line ends ReturnValue 0 next
-LaidForm parts line pass at next = next ≡ at
+-- what a value is done with: it goes to a local, or is dropped
+abbrev pub LaidTarget : Parts → ℕ → ℕ → Option Name → ℕ → Type 0
+LaidTarget parts line at None next = Stands parts line at Pop 0 next
+LaidTarget parts line at (Some x) next = Stands parts line at StoreFast (place parts.vars x) next
 
--- the code of statements, and at their end the return of None, which comes from no statement: its line is the header's
-abbrev pub LaidSuite : Parts → ℕ → Suite → ℕ → Type 0
-LaidSuite parts header nothing at = (next : ℕ) × StandsConst parts header at ReturnConst NoneLiteral next
-LaidSuite parts header (first n f more) at = (next : ℕ) × LaidForm parts n f at next × LaidSuite parts header more next
+-- the unit that an operator is
+abbrev pub LaidOperator : Parts → ℕ → ℕ → Operator → ℕ → Type 0
+LaidOperator parts line at operator.Add next = Stands parts line at BinaryOperation (binary_number binary.Add) next
+LaidOperator parts line at operator.Sub next = Stands parts line at BinaryOperation (binary_number binary.Subtract) next
+LaidOperator parts line at operator.Lt next = Stands parts line at CompareOperation (comparison_number comparison.Less) next
+LaidOperator parts line at operator.Eq next = Stands parts line at CompareOperation (comparison_number comparison.Equal) next
 
--- the parts of a code whose locals have these names
-abbrev pub parts_with : List Name → PyCode → Parts
-parts_with vars code =
-    record { units = code.code.instructions.items; locations = code.code.locations.items; constants = literals_of code.code.constants; vars = vars }
+abbrev mutual
+  -- the code of a statement of this line
+  pub LaidForm : Parts → ℕ → Form → ℕ → ℕ → Type 0
+  LaidForm parts line (assign x a) at next = (stores : ℕ) × LaidAtom parts line a at stores × LaidTarget parts line stores (Some x) next
+  LaidForm parts line (operate x op atoms) at next =
+      (asks : ℕ) × (stores : ℕ) × LaidAtoms parts line atoms at asks × LaidOperator parts line asks op stores × LaidTarget parts line stores x next
+  LaidForm parts line (show a) at next = (asks : ℕ) × LaidAtom parts line a at asks × Stands parts line asks PrintExpr 0 next
+  LaidForm parts line (give a) at next = (ends : ℕ) × LaidAtom parts line a at ends × Stands parts line ends ReturnValue 0 next
+  LaidForm parts line pass at next = next ≡ at
+  -- the suite is jumped over where the atom is false
+  LaidForm parts line (branch a s) at next =
+      (asks : ℕ) × (inside : ℕ) × LaidAtom parts line a at asks × Stands parts line asks JumpIfFalse next inside × LaidSuite parts s inside next
+  -- the second suite is jumped to where it is false, and jumped over behind the first
+  LaidForm parts line (choice a s t) at next =
+      (asks : ℕ) × (inside : ℕ) × (leaves : ℕ) × (other : ℕ) × LaidAtom parts line a at asks × Stands parts line asks JumpIfFalse other inside
+      × LaidSuite parts s inside leaves × Stands parts line leaves Jump next other × LaidSuite parts t other next
+  -- the test stands behind the set-up, and is jumped back to from the end of the suite
+  LaidForm parts line (loop a s) at next =
+      (tests : ℕ) × (asks : ℕ) × (inside : ℕ) × (repeats : ℕ) × (ends : ℕ) × Stands parts line at SetupLoop 0 tests × LaidAtom parts line a tests asks
+      × Stands parts line asks JumpIfFalse ends inside × LaidSuite parts s inside repeats × Stands parts line repeats Jump tests ends
+      × Stands parts line ends PopBlock 0 next
 
--- the code is that of a body
-pub record IsLaid (code : PyCode) (t : Tree) : Type 0 where
+  -- the code of statements
+  pub LaidSuite : Parts → Suite → ℕ → ℕ → Type 0
+  LaidSuite parts nothing at next = next ≡ at
+  LaidSuite parts (first n f more) at next = (mid : ℕ) × LaidForm parts n f at mid × LaidSuite parts more mid next
+
+-- the code of a body's statements, and at their end the return of None, which comes from no statement: its line is the header's
+abbrev pub LaidBody : Parts → ℕ → Suite → ℕ → Type 0
+LaidBody parts header s end = (ends : ℕ) × LaidSuite parts s 0 ends × StandsConst parts header ends ReturnConst NoneLiteral end
+
+-- the parts of a code whose globals and locals have these names
+abbrev pub parts_with : List Name → List Name → PyCode → Parts
+parts_with names vars code = record {
+  units = code.code.instructions.items;
+  locations = code.code.locations.items;
+  constants = literals_of code.code.constants;
+  names = names;
+  vars = vars;
+}
+
+-- the code is that of a body, and its globals have these names
+pub record IsLaid (names : List Name) (code : PyCode) (t : Tree) : Type 0 where
   pub arity : code.code.arg_count ≡ length t.params
   pub locals : length code.code.varnames.items ≡ length (locals_of t)
-  pub laid : LaidSuite (parts_with (locals_of t) code) t.line t.suite 0
+  pub globals : length code.code.names.items ≡ length names
+  pub laid : LaidBody (parts_with names (locals_of t) code) t.line t.suite (length code.code.instructions.items)
   pub short : length code.code.instructions.items < 2 ^ 32
   pub located : length code.code.locations.items ≡ length code.code.instructions.items
 
@@ -95,5 +136,4 @@ pub record IsPlain (code : PyCode) (t : Tree) : Type 0 where
   pub max_stackdepth : code.code.max_stackdepth ≡ 2
   pub posonlyarg_count : code.code.posonlyarg_count ≡ 0
   pub kwonlyarg_count : code.code.kwonlyarg_count ≡ 0
-  pub names : code.code.names.items ≡ []
   pub cells : (code.code.cellvars.items ≡ []) × (code.code.cell2arg.items ≡ []) × (code.code.freevars.items ≡ [])

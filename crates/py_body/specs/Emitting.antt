@@ -1,24 +1,25 @@
 -- What is emitted.
-use Rattle.std.specs.Prelude.{ℕ, ◌+◌, ◌*◌, ◌-◌, ◌≤◌, ◌<◌, ◌^◌, Some, List, ◌++◌, ◌≡◌, true, not, length, replicate}
+use Rattle.std.specs.Prelude.{ℕ, zero, suc, ◌+◌, ◌*◌, ◌-◌, ◌/◌, ◌%◌, ◌≤◌, ◌<◌, ◌^◌, Option, Some, List, [], ◌∷◌, ◌++◌, ◌≡◌, true, not, length, replicate, take, drop}
 use Rattle.std.specs.List.{list_all}
 use Rattle.py_code.specs.declared.unit.CodeUnit.{CodeUnit}
 use Rattle.py_code.specs.declared.instruction.Instruction.{Instruction}
-use Rattle.py_code.specs.declared.instruction.Instruction.TheVariants.{ReturnConst}
-use Rattle.py_code.specs.declared.literal.Literal.{Literal, None as NoneLiteral}
+use Rattle.py_code.specs.declared.instruction.Instruction.TheVariants.{ExtendedArg, JumpIfFalse}
+use Rattle.py_code.specs.declared.literal.Literal.{Literal}
 use Rattle.py_code.specs.Literals.{literals_of}
 use Rattle.py_code.specs.Units.{decoded_from}
 use Rattle.py_check.specs.Constants.{has_code}
 use Rattle.py_check.specs.Operands.{prefixes}
 use Rattle.py_body.specs.declared.atom.Atom.{Atom}
+use Rattle.py_body.specs.declared.atom.Operator.{Operator}
 use Rattle.py_body.specs.declared.emit.Emitter.{Emitter}
-use Rattle.py_body.specs.Tree.{Form, assign, operate, show, give, pass, Suite, nothing, first, Tree}
-use Rattle.py_body.specs.Binding.{locals_of}
+use Rattle.py_body.specs.Tree.{Name, Form, Suite, Tree}
+use Rattle.py_body.specs.Binding.{bound, locals_of, statements, statements_in}
 use Rattle.py_body.specs.Naming.{Continues}
-use Rattle.py_body.specs.Code.{Parts, Stands, StandsConst, LaidAtom, LaidAtoms, LaidForm}
+use Rattle.py_body.specs.Code.{Parts, Stands, StandsConst, LaidAtom, LaidAtoms, LaidOperator, LaidTarget, LaidForm, LaidSuite, LaidBody}
 
 -- what an emitter has so far
 abbrev pub parts_of : Emitter → Parts
-parts_of e = record { units = e.units.items; locations = e.locations.items; constants = literals_of e.constants; vars = e.locals }
+parts_of e = record { units = e.units.items; locations = e.locations.items; constants = literals_of e.constants; names = e.globals; vars = e.locals }
 
 -- at most three prefixes stand in a row, and none at the end
 pub record AreSpelled (units : List CodeUnit) : Type 0 where
@@ -33,10 +34,12 @@ HaveNoCode literals = list_all (λ literal. not (has_code literal)) literals ≡
 abbrev pub IsMatched : Parts → Type 0
 IsMatched parts = (length parts.locations ≡ length parts.units) × AreSpelled parts.units × HaveNoCode parts.constants
 
--- the parts match, the locals' places fit 32 bits, and so do those of as many more constants
+-- the parts match, the locals' places fit 32 bits, and so do those of as many more units, constants and names
 pub record HasRoom (parts : Parts) (more : ℕ) : Type 0 where
   pub matched : IsMatched parts
+  pub units : length parts.units + more < 2 ^ 32
   pub constants : length parts.constants + more < 2 ^ 32
+  pub names : length parts.names + more < 2 ^ 32
   pub vars : length parts.vars < 2 ^ 32
 
 -- the units that have no line yet are of this one
@@ -45,6 +48,17 @@ located line parts = record {
   units = parts.units;
   locations = parts.locations ++ replicate (length parts.units - length parts.locations) line;
   constants = parts.constants;
+  names = parts.names;
+  vars = parts.vars;
+}
+
+-- units of a line behind the others
+abbrev pub put : List CodeUnit → ℕ → Parts → Parts
+put added line parts = record {
+  units = parts.units ++ added;
+  locations = parts.locations ++ replicate (length added) line;
+  constants = parts.constants;
+  names = parts.names;
   vars = parts.vars;
 }
 
@@ -55,20 +69,71 @@ pub record Spells (old new : List CodeUnit) (op : Instruction) (arg : ℕ) : Typ
   pub few : length added ≤ 4
   pub decoded : (at : ℕ) (behind : List CodeUnit) → decoded_from 0 at (added ++ behind) ≡ Some (record { op = op; arg = record { 0 = arg }; next = at + length added })
 
--- parts that go on as others
-pub record Begins (old whole : Parts) : Type 0 where
-  pub units : Continues old.units whole.units
-  pub locations : Continues old.locations whole.locations
-  pub constants : Continues old.constants whole.constants
-  pub vars : whole.vars ≡ old.vars
+-- an instruction of a line was put behind the others
+pub record Puts (old new : Parts) (op : Instruction) (arg line : ℕ) : Type 0 where
+  pub spells : Spells old.units new.units op arg
+  pub is : new ≡ put spells.added line old
 
--- the units that were added are laid so, whatever comes behind, and there are at most so many of them, and of constants
+-- the byte of a label that has so many bytes behind it
+abbrev pub label_byte : ℕ → ℕ → ℕ
+label_byte width label = label / 256 ^ width % 256
+
+-- an instruction whose operand is a label, behind so many prefixes; the label's bytes in front of them are lost
+abbrev pub label_units : ℕ → Instruction → ℕ → List CodeUnit
+label_units zero op label = record { op = op; arg = label_byte 0 label } ∷ []
+label_units (suc width) op label = record { op = ExtendedArg; arg = label_byte (suc width) label } ∷ label_units width op label
+
+-- the first of these units, which are a jump and its prefixes, are given this label
+abbrev pub with_label : ℕ → ℕ → List CodeUnit → List CodeUnit
+with_label width label [] = []
+with_label zero label (unit ∷ units) = record { op = unit.op; arg = label_byte 0 label } ∷ units
+with_label (suc width) label (unit ∷ units) = record { op = unit.op; arg = label_byte (suc width) label } ∷ with_label width label units
+
+-- the jump at a place is given this label
+abbrev pub relabelled : ℕ → ℕ → ℕ → Parts → Parts
+relabelled width at label parts = record {
+  units = take at parts.units ++ with_label width label (drop at parts.units);
+  locations = parts.locations;
+  constants = parts.constants;
+  names = parts.names;
+  vars = parts.vars;
+}
+
+-- a name is among the globals
+abbrev pub with_global : Name → Parts → Parts
+with_global x parts = record { units = parts.units; locations = parts.locations; constants = parts.constants; names = bound parts.names x; vars = parts.vars }
+
+-- one list stands in another at a place
+pub record StandsIn {A : Type 0} (at : ℕ) (added whole : List A) : Type 0 where
+  pub front : List A
+  pub behind : List A
+  pub is : whole ≡ front ++ (added ++ behind)
+  pub long : length front ≡ at
+
+-- what was added stands in these parts where it was added, whatever stands in front of it and behind it
+pub record Holds (at : ℕ) (added : List CodeUnit) (lines : List ℕ) (new whole : Parts) : Type 0 where
+  pub units : StandsIn at added whole.units
+  pub locations : StandsIn at lines whole.locations
+  pub constants : Continues new.constants whole.constants
+  pub names : Continues new.names whole.names
+  pub vars : whole.vars ≡ new.vars
+
+-- the units that were added are laid so wherever they stand at their place, and there are at most so many of them, of
+-- constants and of names
 pub record Emits (old new : Parts) (size : ℕ) (Laid : Parts → ℕ → ℕ → Type 0) : Type 0 where
-  pub grown : Begins old new
+  pub added : List CodeUnit
+  pub lines : List ℕ
+  pub units : new.units ≡ old.units ++ added
+  pub locations : new.locations ≡ old.locations ++ lines
+  pub long : length lines ≡ length added
+  pub constants : Continues old.constants new.constants
+  pub names : Continues old.names new.names
+  pub vars : new.vars ≡ old.vars
   pub matched : IsMatched new
-  pub few_units : length new.units ≤ length old.units + size
+  pub few_units : length added ≤ size
   pub few_constants : length new.constants ≤ length old.constants + size
-  pub laid : (whole : Parts) → Begins new whole → Laid whole (length old.units) (length new.units)
+  pub few_names : length new.names ≤ length old.names + size
+  pub laid : (whole : Parts) → Holds (length old.units) added lines new whole → Laid whole (length old.units) (length new.units)
 
 -- an instruction has up to three prefixes
 abbrev pub EmitsUnit : Parts → Parts → Instruction → ℕ → ℕ → Type 0
@@ -83,33 +148,39 @@ EmitsAtom old new a line = Emits old new 4 (λ whole at next. LaidAtom whole lin
 abbrev pub EmitsAtoms : Parts → Parts → List Atom → ℕ → Type 0
 EmitsAtoms old new atoms line = Emits old new (4 * length atoms) (λ whole at next. LaidAtoms whole line atoms at next)
 
--- no fewer units than a statement takes
-abbrev pub size_of_form : Form → ℕ
-size_of_form (assign x a) = 8
-size_of_form (operate x op atoms) = 4 * length atoms + 8
-size_of_form (show a) = 8
-size_of_form (give a) = 8
-size_of_form pass = 0
+-- an operator behind the loads of its atoms
+abbrev pub EmitsOperation : Parts → Parts → Operator → List Atom → ℕ → Type 0
+EmitsOperation old new op atoms line =
+    Emits old new (4 * length atoms + 4) (λ whole at next. (asks : ℕ) × LaidAtoms whole line atoms at asks × LaidOperator whole line asks op next)
 
-abbrev pub EmitsForm : Parts → Parts → Form → ℕ → Type 0
-EmitsForm old new f line = Emits old new (size_of_form f) (λ whole at next. LaidForm whole line f at next)
+-- where a value goes
+abbrev pub EmitsTarget : Parts → Parts → Option Name → ℕ → Type 0
+EmitsTarget old new x line = Emits old new 4 (λ whole at next. LaidTarget whole line at x next)
 
--- no fewer units than the statements of a suite take
-abbrev pub size_of : Suite → ℕ
-size_of nothing = 0
-size_of (first n f more) = size_of_form f + size_of more
+-- an atom was loaded, and a jump at this place, whose label is still open, is taken where it is false
+pub record EmitsTest (width : ℕ) (old new : Parts) (a : Atom) (line at : ℕ) : Type 0 where
+  pub loaded : Parts
+  pub loads : EmitsAtom old loaded a line
+  pub jumps : new ≡ put (label_units width JumpIfFalse 0) line loaded
+  pub place : at ≡ length loaded.units
 
--- the code of statements, with the return at its end, and the place behind it
-abbrev pub LaidTo : Parts → ℕ → Suite → ℕ → ℕ → Type 0
-LaidTo parts header nothing at end = StandsConst parts header at ReturnConst NoneLiteral end
-LaidTo parts header (first n f more) at end = (next : ℕ) × LaidForm parts n f at next × LaidTo parts header more next end
+-- the labels of what was added are its places or the one behind it, and stand wherever so many prefixes are enough for them
+abbrev pub WhereFits : ℕ → (Parts → ℕ → ℕ → Type 0) → Parts → ℕ → ℕ → Type 0
+WhereFits width Laid whole at next = next < 256 ^ suc width → Laid whole at next
 
-abbrev pub EmitsSuite : Parts → Parts → Suite → ℕ → Type 0
-EmitsSuite old new s line = Emits old new (size_of s + 4) (λ whole at next. LaidTo whole line s at next)
+-- no statement takes more units of its own than this
+abbrev pub most_units : ℕ
+most_units = 24
+
+abbrev pub EmitsForm : ℕ → Parts → Parts → Form → ℕ → Type 0
+EmitsForm width old new f line = Emits old new (most_units * statements_in f) (WhereFits width (λ whole at next. LaidForm whole line f at next))
+
+abbrev pub EmitsSuite : ℕ → Parts → Parts → Suite → Type 0
+EmitsSuite width old new s = Emits old new (most_units * statements s) (WhereFits width (λ whole at next. LaidSuite whole s at next))
 
 -- all of a body is emitted
 pub record IsEmitted (parts : Parts) (t : Tree) : Type 0 where
   pub vars : parts.vars ≡ locals_of t
-  pub laid : LaidTo parts t.line t.suite 0 (length parts.units)
+  pub laid : LaidBody parts t.line t.suite (length parts.units)
   pub short : length parts.units < 2 ^ 32
   pub matched : IsMatched parts

@@ -3,6 +3,7 @@ pub mod Tree
 -- the names of a body, and its locals
 pub mod Binding
 -- what a tree may tell
+pub mod Scene
 pub mod Outcome
 pub mod Trace
 -- code that does what a body does

@@ -1,23 +1,24 @@
--- What a tree may do. Each relation takes what may follow as its last argument: Runs objects form env h ts K says that the
+-- What a tree may do. Each relation takes what may follow as its last argument: Runs scene line form env h ts K says that the
 -- form, begun with the locals env while the exception h is handled, may tell the events at the front of ts, and that K
 -- holds of the locals, the outcome and the events behind them. It may be cut where nothing is left to tell.
--- (Python Language Reference, 4.1, 6.16 and 7)
-use Rattle.std.specs.Prelude.{Option, Some, None, List, [], ◌∷◌, ◌≡◌, ◌⊎◌}
+-- (Python Language Reference, 4.1, 4.2, 6.10, 6.16, 7 and 8.1, 8.2)
+use Rattle.std.specs.Prelude.{ℕ, zero, suc, Bool, true, false, Option, Some, None, List, [], ◌∷◌, ◌≡◌, ◌⊎◌}
 use Rattle.py_objects.specs.declared.refs.PyBaseExceptionRef.{PyBaseExceptionRef}
-use Rattle.py_objects.specs.declared.payload.Payload.{Payload}
 use Rattle.py_objects.specs.declared.payload.Payload.TheVariants as payload
 use Rattle.py_code.specs.declared.operator.BinaryOperator.TheVariants as binary
+use Rattle.py_code.specs.declared.operator.ComparisonOperator.TheVariants as comparison
 use Rattle.py_objects.specs.declared.request.Request.{Request}
-use Rattle.py_objects.specs.declared.request.Request.TheVariants.{Binary, Show}
-use Rattle.py_objects.specs.Objects.{Obj}
+use Rattle.py_objects.specs.declared.request.Request.TheVariants.{Binary, Compare, Global, Show, Truth, Unbound}
+use Rattle.py_objects.specs.Objects.{Obj, HasPayload}
 use Rattle.py_objects.specs.Own.{Own}
-use Rattle.py_objects.specs.Telling.{Given, Failed, Stopped, AfterValue, IsLiteral, Asked}
+use Rattle.py_objects.specs.Telling.{Given, Failed, Stopped, AfterValue, IsLiteral, Asked, Rounded}
 use Rattle.py_body.specs.declared.atom.Atom.{Atom}
 use Rattle.py_body.specs.declared.atom.Atom.TheVariants as atom
 use Rattle.py_body.specs.declared.atom.Operator.{Operator}
 use Rattle.py_body.specs.declared.atom.Operator.TheVariants as operator
-use Rattle.py_body.specs.Tree.{Form, assign, operate, show, give, pass, Suite, nothing, first}
-use Rattle.py_body.specs.Binding.{Env, find_local, set_local}
+use Rattle.py_body.specs.Tree.{Name, Form, assign, operate, show, give, pass, branch, choice, loop, Suite, nothing, first}
+use Rattle.py_body.specs.Binding.{Env, find_local, set_local, bind}
+use Rattle.py_body.specs.Scene.{Scene}
 
 -- what a statement comes to
 pub data Outcome : Type 0 where
@@ -35,45 +36,61 @@ Use env K next (Given v) ts = next v ts
 Use env K next (Failed e) ts = K env (Raises e) ts
 Use env K next Stopped ts = K env Cut ts
 
--- a name by its local, which is there and set: bodies so far use no other name
-abbrev pub Named : Option (Option Obj) → List Own → AfterValue → Type 0
-Named None ts K = ⊥
-Named (Some None) ts K = ⊥
-Named (Some (Some v)) ts K = K (Given v) ts
+-- a request for a statement of a line
+abbrev pub Requests : Scene → ℕ → Request → Option PyBaseExceptionRef → List Own → AfterValue → Type 0
+Requests scene line r h ts K = Asked (λ at. scene.is_of at line) r h ts K
+
+-- a name by its local: a set one is its object, an unset one is asked for, and so is a name that is no local
+abbrev pub Named : Scene → ℕ → Option (Option Obj) → Name → Option PyBaseExceptionRef → List Own → AfterValue → Type 0
+Named scene line None x h ts K = Requests scene line (Global scene.globals x) h ts K
+Named scene line (Some None) x h ts K = Requests scene line (Unbound x) h ts K
+Named scene line (Some (Some v)) x h ts K = K (Given v) ts
 
 -- an atom's object
-abbrev pub Loads : List Payload → Env → Atom → List Own → AfterValue → Type 0
-Loads objects env atom.None ts K = IsLiteral objects payload.None ts K
-Loads objects env (atom.Bool b) ts K = IsLiteral objects (payload.Bool b) ts K
-Loads objects env (atom.Int n) ts K = IsLiteral objects (payload.Int n) ts K
-Loads objects env (atom.Str s) ts K = IsLiteral objects (payload.Str s) ts K
-Loads objects env (atom.Name x) ts K = Named (find_local x env) ts K
+abbrev pub Loads : Scene → ℕ → Env → Option PyBaseExceptionRef → Atom → List Own → AfterValue → Type 0
+Loads scene line env h atom.None ts K = IsLiteral scene.objects payload.None ts K
+Loads scene line env h (atom.Bool b) ts K = IsLiteral scene.objects (payload.Bool b) ts K
+Loads scene line env h (atom.Int n) ts K = IsLiteral scene.objects (payload.Int n) ts K
+Loads scene line env h (atom.Str s) ts K = IsLiteral scene.objects (payload.Str s) ts K
+Loads scene line env h (atom.Name x) ts K = Named scene line (find_local x env) x h ts K
 
 -- atoms from the left
-abbrev pub LoadsAll : List Payload → Env → List Atom → List Own → After → (List Obj → List Own → Type 0) → Type 0
-LoadsAll objects env [] ts K next = next [] ts
-LoadsAll objects env (a ∷ atoms) ts K next =
-    Loads objects env a ts (Use env K (λ v mid. LoadsAll objects env atoms mid K (λ vs. next (v ∷ vs))))
+abbrev pub LoadsAll : Scene → ℕ → Env → Option PyBaseExceptionRef → List Atom → List Own → After → (List Obj → List Own → Type 0) → Type 0
+LoadsAll scene line env h [] ts K next = next [] ts
+LoadsAll scene line env h (a ∷ atoms) ts K next =
+    Loads scene line env h a ts (Use env K (λ v mid. LoadsAll scene line env h atoms mid K (λ vs. next (v ∷ vs))))
 
--- the request that an operator is, where it has as many arguments as it takes
+-- the request that an operator of two operands is
+abbrev pub request_of_two : Operator → Obj → Obj → Request
+request_of_two operator.Add a b = Binary binary.Add a b
+request_of_two operator.Sub a b = Binary binary.Subtract a b
+request_of_two operator.Lt a b = Compare comparison.Less a b
+request_of_two operator.Eq a b = Compare comparison.Equal a b
+
+-- the request that an operator is, where it has as many operands as it takes
 abbrev pub request_of : Operator → List Obj → Option Request
-request_of operator.Add [] = None
-request_of operator.Add (a ∷ []) = None
-request_of operator.Add (a ∷ b ∷ []) = Some (Binary binary.Add a b)
-request_of operator.Add (a ∷ b ∷ c ∷ vs) = None
+request_of op [] = None
+request_of op (a ∷ []) = None
+request_of op (a ∷ b ∷ []) = Some (request_of_two op a b)
+request_of op (a ∷ b ∷ c ∷ vs) = None
 
-abbrev pub Asked_if : Option Request → Option PyBaseExceptionRef → List Own → AfterValue → Type 0
-Asked_if None h ts K = ⊥
-Asked_if (Some r) h ts K = Asked r h ts K
+abbrev pub Requests_if : Scene → ℕ → Option Request → Option PyBaseExceptionRef → List Own → AfterValue → Type 0
+Requests_if scene line None h ts K = ⊥
+Requests_if scene line (Some r) h ts K = Requests scene line r h ts K
 
--- a statement
-abbrev pub Runs : List Payload → Form → Env → Option PyBaseExceptionRef → List Own → After → Type 0
-Runs objects (assign x a) env h ts K = Loads objects env a ts (Use env K (λ v. K (set_local x (Some v) env) Normal))
-Runs objects (operate x op atoms) env h ts K =
-    LoadsAll objects env atoms ts K (λ vs mid. Asked_if (request_of op vs) h mid (Use env K (λ v. K (set_local x (Some v) env) Normal)))
-Runs objects (show a) env h ts K = Loads objects env a ts (Use env K (λ v mid. Asked (Show v) h mid (Use env K (λ u. K env Normal))))
-Runs objects (give a) env h ts K = Loads objects env a ts (Use env K (λ v. K env (Returns v)))
-Runs objects pass env h ts K = K env Normal ts
+-- the truth of an object, which is asked for and answered by a truth value
+abbrev pub Tests : Scene → ℕ → Env → Option PyBaseExceptionRef → Obj → List Own → After → (Bool → List Own → Type 0) → Type 0
+Tests scene line env h v ts K next =
+    Requests scene line (Truth v) h ts (Use env K (λ w mid. (b : Bool) × HasPayload scene.objects w (payload.Bool b) × next b mid))
+
+-- an atom is loaded and tested
+abbrev pub Chooses : Scene → ℕ → Env → Option PyBaseExceptionRef → Atom → List Own → After → (Bool → List Own → Type 0) → Type 0
+Chooses scene line env h a ts K next = Loads scene line env h a ts (Use env K (λ v mid. Tests scene line env h v mid K next))
+
+-- what holds by a truth value
+abbrev pub By_truth : Bool → Type 0 → Type 0 → Type 0
+By_truth true P Q = P
+By_truth false P Q = Q
 
 -- behind a statement of a sequence: the next one where it came to its end, else its outcome is that of all
 abbrev pub On_normal : After → (Env → List Own → Type 0) → After
@@ -84,8 +101,45 @@ On_normal K next env (Returns v) ts = K env (Returns v) ts
 On_normal K next env (Raises e) ts = K env (Raises e) ts
 On_normal K next env Cut ts = K env Cut ts
 
--- statements in order
-abbrev pub RunsSuite : List Payload → Suite → Env → Option PyBaseExceptionRef → List Own → After → Type 0
-RunsSuite objects nothing env h ts K = ((ts ≡ []) × K env Cut []) ⊎ K env Normal ts
-RunsSuite objects (first n f more) env h ts K =
-    ((ts ≡ []) × K env Cut []) ⊎ Runs objects f env h ts (On_normal K (λ env1 mid. RunsSuite objects more env1 h mid K))
+-- behind the body of a loop: another round, or the loop's end, else the body's outcome is the loop's
+abbrev pub On_turn : After → (Env → List Own → Type 0) → After
+On_turn K again env Normal ts = again env ts
+On_turn K again env Breaks ts = K env Normal ts
+On_turn K again env Continues ts = again env ts
+On_turn K again env (Returns v) ts = K env (Returns v) ts
+On_turn K again env (Raises e) ts = K env (Raises e) ts
+On_turn K again env Cut ts = K env Cut ts
+
+-- what a body may do
+abbrev pub Runner : Type 1
+Runner = Env → List Own → After → Type 0
+
+-- a loop whose body is begun at most n times: a round, the test, and where it is true the body and the loop again
+abbrev pub Loops : Scene → ℕ → Option PyBaseExceptionRef → Atom → Runner → ℕ → Runner
+Loops scene line h a body zero env ts K =
+    Rounded ts (K env Cut []) (λ mid. Chooses scene line env h a mid K (λ b behind. By_truth b ⊥ (K env Normal behind)))
+Loops scene line h a body (suc n) env ts K =
+    Rounded ts (K env Cut []) (λ mid. Chooses scene line env h a mid K
+    (λ b behind. By_truth b (body env behind (On_turn K (λ env1 rest. Loops scene line h a body n env1 rest K))) (K env Normal behind)))
+
+abbrev mutual
+  -- a statement of a line
+  pub Runs : Scene → ℕ → Form → Env → Option PyBaseExceptionRef → List Own → After → Type 0
+  Runs scene line (assign x a) env h ts K = Loads scene line env h a ts (Use env K (λ v. K (set_local x (Some v) env) Normal))
+  Runs scene line (operate x op atoms) env h ts K =
+      LoadsAll scene line env h atoms ts K (λ vs mid. Requests_if scene line (request_of op vs) h mid (Use env K (λ v. K (bind x v env) Normal)))
+  Runs scene line (show a) env h ts K =
+      Loads scene line env h a ts (Use env K (λ v mid. Requests scene line (Show v) h mid (Use env K (λ u. K env Normal))))
+  Runs scene line (give a) env h ts K = Loads scene line env h a ts (Use env K (λ v. K env (Returns v)))
+  Runs scene line pass env h ts K = K env Normal ts
+  Runs scene line (branch a s) env h ts K =
+      Chooses scene line env h a ts K (λ b mid. By_truth b (RunsSuite scene s env h mid K) (K env Normal mid))
+  Runs scene line (choice a s t) env h ts K =
+      Chooses scene line env h a ts K (λ b mid. By_truth b (RunsSuite scene s env h mid K) (RunsSuite scene t env h mid K))
+  Runs scene line (loop a s) env h ts K = (n : ℕ) × Loops scene line h a (λ env1 mid. RunsSuite scene s env1 h mid) n env ts K
+
+  -- statements in order
+  pub RunsSuite : Scene → Suite → Env → Option PyBaseExceptionRef → List Own → After → Type 0
+  RunsSuite scene nothing env h ts K = ((ts ≡ []) × K env Cut []) ⊎ K env Normal ts
+  RunsSuite scene (first n f more) env h ts K =
+      ((ts ≡ []) × K env Cut []) ⊎ Runs scene n f env h ts (On_normal K (λ env1 mid. RunsSuite scene more env1 h mid K))

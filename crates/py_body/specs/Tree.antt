@@ -3,51 +3,64 @@ use Rattle.std.specs.Prelude.{ℕ, Option, Some, None, List, [], ◌∷◌}
 use Rattle.py_body.specs.declared.atom.Atom.{Atom}
 use Rattle.py_body.specs.declared.atom.Operator.{Operator}
 use Rattle.py_body.specs.declared.stmt.Stmt.{Stmt}
-use Rattle.py_body.specs.declared.stmt.StmtForm.{StmtForm}
-use Rattle.py_body.specs.declared.stmt.StmtForm.TheVariants.{Assign, Operate, Show, Return, Pass}
+use Rattle.py_body.specs.declared.stmt.StmtList.{StmtList, StmtList', Row_of-Stmt, end_of-Stmt, more_of-Stmt}
+use Rattle.py_body.specs.declared.stmt.StmtForm.{StmtForm, Assign, Operate, Do, Show, Return, Pass, If, IfElse, While}
 use Rattle.py_body.specs.declared.body.Body.{Body}
 
 -- a name is the list of its characters
 abbrev pub Name : Type 0
 Name = List ℕ
 
--- a statement
-pub data Form : Type 0 where
-  assign : Name → Atom → Form  -- x = a
-  operate : Name → Operator → List Atom → Form  -- x = (op a ..)
-  show : Atom → Form  -- show a
-  give : Atom → Form  -- return a
-  pass : Form  -- pass
+mutual
+  -- a statement
+  pub data Form : Type 0 where
+    assign : Name → Atom → Form  -- x = a
+    operate : Option Name → Operator → List Atom → Form  -- x = (op a ..), and do (op a ..)
+    show : Atom → Form  -- show a
+    give : Atom → Form  -- return a
+    pass : Form  -- pass
+    branch : Atom → Suite → Form  -- if a
+    choice : Atom → Suite → Suite → Form  -- if a, with an else
+    loop : Atom → Suite → Form  -- while a
 
--- statements in order, each with its line
-pub data Suite : Type 0 where
-  nothing : Suite
-  first : ℕ → Form → Suite → Suite
+  -- statements in order, each with its line
+  pub data Suite : Type 0 where
+    nothing : Suite
+    first : ℕ → Form → Suite → Suite
 
-abbrev pub form_of : StmtForm → Form
-form_of (Assign x a) = assign x a
-form_of (Operate x op atoms) = operate x op atoms
-form_of (Show a) = show a
-form_of (Return a) = give a
-form_of Pass = pass
+-- the tree of a list of statements of the program
+abbrev mutual
+  pub form_of : StmtForm → Form
+  form_of (Assign x a) = assign x a
+  form_of (Operate x op atoms) = operate (Some x) op atoms
+  form_of (Do op atoms) = operate None op atoms
+  form_of (Show a) = show a
+  form_of (Return a) = give a
+  form_of Pass = pass
+  form_of (If a s) = branch a (suite_of s)
+  form_of (IfElse a s t) = choice a (suite_of s) (suite_of t)
+  form_of (While a s) = loop a (suite_of s)
 
--- the name that a statement binds, where it binds one
-abbrev pub target_of : Form → Option Name
-target_of (assign x a) = Some x
-target_of (operate x op atoms) = Some x
-target_of (show a) = None
-target_of (give a) = None
-target_of pass = None
+  pub suite_of : StmtList → Suite
+  suite_of (StmtList' shape row) = row_suite row
 
--- the suite of a list of statements
-abbrev pub suite_of : List Stmt → Suite
-suite_of [] = nothing
-suite_of (s ∷ ss) = first s.line (form_of s.form) (suite_of ss)
+  pub row_suite : {m : _} → Row_of-Stmt m → Suite
+  row_suite end_of-Stmt = nothing
+  row_suite (more_of-Stmt line form rest) = first line (form_of form) (row_suite rest)
+
+-- the suite of statements in order
+abbrev pub list_suite : List Stmt → Suite
+list_suite [] = nothing
+list_suite (s ∷ ss) = first s.line (form_of s.form) (list_suite ss)
 
 -- one suite behind another
 abbrev pub joined : Suite → Suite → Suite
 joined nothing t = t
 joined (first n f more) t = first n f (joined more t)
+
+-- a statement behind others
+abbrev pub add : Suite → ℕ → Form → Suite
+add s n f = joined s (first n f nothing)
 
 -- a function
 pub record Tree : Type 0 where

@@ -25,4 +25,10 @@ pub type AtomList = ItemList<Atom>;
 pub enum Operator {
     /// `add a b`: the sum of two numbers, or two texts as one.
     Add,
+    /// `sub a b`: the difference of two numbers.
+    Sub,
+    /// `lt a b`: whether a number is less than another, or a text before another.
+    Lt,
+    /// `eq a b`: whether two values are equal.
+    Eq,
 }

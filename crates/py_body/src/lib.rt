@@ -6,8 +6,10 @@ mod body;
 mod compile;
 mod emit;
 mod locals;
+mod name_set;
 mod naming;
 mod notes;
+mod statements;
 mod stmt;
 
 pub use atom::{Atom, AtomList, Operator};

@@ -1,14 +1,15 @@
 //! The names of a code: texts in the table of names.
 
-ghost use Rattle.std.specs.Prelude.{◌≡◌, IfOk, encode_utf8_all, string_bytes};
-ghost use Rattle.py_body.specs.Naming.{Continues, IsNameOf, NamesAll};
+ghost use Rattle.std.specs.Prelude.{◌≡◌, ◌++◌, IfOk, OnOk, chars, encode_utf8, encode_utf8_all, string_bytes};
+ghost use Rattle.std.specs.Char.{IsScalar};
+ghost use Rattle.py_body.specs.Naming.{Continues, IsNameFor, NamesAll};
 
 use py_code::{NameId, Names, NoMemory, PyText};
 use std::alloc::Global;
 
 /// The name of a text.
 pub fn intern_text(alloc: Global, names: &mut Names, text: &PyText) -> Result<NameId, NoMemory>
-    ensures named { IfOk result (λ id. IsNameOf names.new id (encode_utf8_all text.now)) }
+    ensures named { IfOk result (λ id. IsNameFor names.new id text.now) }
     ensures grows { Continues names.old names.new }
 {
     let text = utf8_of(alloc, text)?;
@@ -34,11 +35,21 @@ pub fn intern_all(
 
 /// A text in UTF-8.
 pub fn utf8_of(alloc: Global, text: &PyText) -> Result<String, NoMemory>
-    ensures { IfOk result (λ string. string_bytes string ≡ encode_utf8_all text.now) }
+    ensures text { IfOk result (λ string. string_bytes string ≡ encode_utf8_all text.now) }
+    ensures spells { OnOk result (chars (encode_utf8_all text.now) ≡ text.now) }
 {
     let mut string = String::new(alloc);
     for character in text.as_slice() {
-        string.push(*character)?;
+        put_character(&mut string, *character)?;
     }
     Ok(string)
+}
+
+/// Puts a character behind a text.
+fn put_character(string: &mut String, character: char) -> Result<(), NoMemory>
+    ensures text { OnOk result (string_bytes string.new ≡ string_bytes string.old ++ encode_utf8 character) }
+    ensures scalar { IsScalar character }
+{
+    string.push(character)?;
+    Ok(())
 }

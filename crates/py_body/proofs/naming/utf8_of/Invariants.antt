@@ -1,6 +1,10 @@
-use Rattle.std.proofs.Common.{◌≡◌, take}
+use Rattle.std.proofs.Common.{◌≡◌, take, true}
+use Rattle.std.proofs.Math.Utf8.{scalars}
 use Rattle.std.specs.Prelude.{encode_utf8_all, string_bytes}
 use Rattle.py_body.proofs.naming.utf8_of.Given as goal
 
 abbrev pub invariant-loop-character : goal.invariant-loop-character
-invariant-loop-character l = string_bytes l.string ≡ encode_utf8_all (take l.character-index l.text)
+invariant-loop-character l = record {
+  spelled : string_bytes l.string ≡ encode_utf8_all (take l.character-index l.text);
+  scalars : scalars (take l.character-index l.text) ≡ true;
+}

@@ -6,5 +6,6 @@ abbrev pub invariant-loop-unit : goal.invariant-loop-unit
 invariant-loop-unit l = record {
   notes : l.notes ≡ notes_of l.units l.unit-index;
   depth : l.depth ≡ depth_at l.units l.unit-index;
-  low : l.depth ≤ l.unit-index;
+  values : l.depth.values ≤ l.unit-index;
+  loops : l.depth.loops ≤ l.unit-index;
 }

@@ -13,15 +13,15 @@ returns-in-None c = rw c.in-None.is c.load_literal.ensures
 pub returns-in-Bool : goal.returns-in-Bool
 returns-in-Bool c = rw c.in-Bool.is c.load_literal-in-Bool.ensures
 
-pub returns-in-Int : goal.returns-in-Int
-returns-in-Int c =
+pub returns-in-Int-clause-load : goal.returns-in-Int-clause-load
+returns-in-Int-clause-load c =
     let fits : FitsSigned w128 c.in-Int.number = search rules in
     rw c.in-Int.is
     (subst (λ (n : ℤ). OnOk c.load_literal-in-Int.result (EmitsConst (parts_of c.args.self.now) (parts_of c.load_literal-in-Int.new.self) LoadConst (IntLiteral n) c.args.line))
-    (to_z-of_z w128 c.in-Int.number fits) c.load_literal-in-Int.ensures)
+    (to_z-of_z w128 c.in-Int.number fits) c.load_literal-in-Int.ensures.load)
 
-pub returns-in_ok-text-in-Str : goal.returns-in_ok-text-in-Str
-returns-in_ok-text-in-Str c =
+pub returns-in_ok-text-in-Str-clause-load : goal.returns-in_ok-text-in-Str-clause-load
+returns-in_ok-text-in-Str-clause-load c =
     rw c.in-Str.is
     (subst (λ (text : List ℕ). OnOk c.load_literal-in-Str.result (EmitsConst (parts_of c.args.self.now) (parts_of c.load_literal-in-Str.new.self) LoadConst (StrLiteral text) c.args.line))
-    c.in_ok-text-in-Str.ensures c.load_literal-in-Str.ensures)
+    c.in_ok-text-in-Str.ensures c.load_literal-in-Str.ensures.load)

@@ -11,5 +11,7 @@ loop-unit-preserved c =
           ∙ line_more c.args.self.now.locations.items (length c.args.self.now.locations.items) c.loop-unit._unit c.args.line low;
       units = so_far.units;
       constants = so_far.constants;
+      globals = so_far.globals;
       locals = so_far.locals;
+      width = so_far.width;
     }

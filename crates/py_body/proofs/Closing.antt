@@ -1,0 +1,68 @@
+-- What may follow where a run is cut or ends inside of a statement.
+use Rattle.std.proofs.Common.{◌≡◌, ℕ, zero, suc, List, [], refl, inl}
+use Rattle.std.specs.Prelude.{Option, None, Some}
+use Rattle.py_objects.specs.declared.refs.PyBaseExceptionRef.{PyBaseExceptionRef}
+use Rattle.py_objects.specs.declared.event.Ending.TheVariants as ending
+use Rattle.py_objects.specs.Objects.{Obj}
+use Rattle.py_objects.specs.Own.{Own}
+use Rattle.py_body.specs.declared.atom.Atom.{Atom}
+use Rattle.py_body.specs.declared.atom.Atom.TheVariants as atom
+use Rattle.py_body.specs.Tree.{Name, Suite, nothing, first}
+use Rattle.py_body.specs.Binding.{Env, find_local}
+use Rattle.py_body.specs.Scene.{Scene}
+use Rattle.py_body.specs.Outcome.{Normal, Returns, Raises, Cut, After, Use, Named, Loads, Runner, On_normal, On_turn, Loops, RunsSuite}
+use Rattle.py_body.specs.Trace.{Ended, EndsBy}
+
+-- what follows may be cut, also at its front, and a return or a raise ends it
+pub record Closes (K : After) : Type 0 where
+  pub cut : (env : Env) → K env Cut []
+  pub paused : (env : Env) → K env Normal []
+  pub returned : (env : Env) (v : Obj) (ts : List Own) → Ended (ending.Return v) ts → K env (Returns v) ts
+  pub raised : (env : Env) (e : PyBaseExceptionRef) (ts : List Own) → Ended (ending.Raise e) ts → K env (Raises e) ts
+
+-- the end of a body
+pub closes_ends : (scene : Scene) → Closes (EndsBy scene)
+closes_ends scene = record { cut = λ env. refl; paused = λ env. inl refl; returned = λ env v ts ended. ended; raised = λ env e ts ended. ended }
+
+-- a suite may be cut at its front
+pub cut_suite : (scene : Scene) (s : Suite) (env : Env) (h : Option PyBaseExceptionRef) (ts : List Own) (K : After) → Closes K → ts ≡ [] → RunsSuite scene s env h ts K
+cut_suite scene nothing env h ts K closes none = inl (none, closes.cut env)
+cut_suite scene (first n f more) env h ts K closes none = inl (none, closes.cut env)
+
+-- the statements behind one
+pub closes_next : (scene : Scene) (s : Suite) (h : Option PyBaseExceptionRef) (K : After) → Closes K → Closes (On_normal K (λ env ts. RunsSuite scene s env h ts K))
+closes_next scene s h K closes = record {
+  cut = closes.cut;
+  paused = λ env. cut_suite scene s env h [] K closes refl;
+  returned = closes.returned;
+  raised = closes.raised;
+}
+
+-- a loop may be cut at its front
+pub cut_loop : (scene : Scene) (line : ℕ) (h : Option PyBaseExceptionRef) (a : Atom) (body : Runner) (n : ℕ) (env : Env) (ts : List Own) (K : After) → Closes K → ts ≡ [] → Loops scene line h a body n env ts K
+cut_loop scene line h a body zero env ts K closes none = inl (none, closes.cut env)
+cut_loop scene line h a body (suc n) env ts K closes none = inl (none, closes.cut env)
+
+-- the other rounds of a loop
+pub closes_turn : (scene : Scene) (line : ℕ) (h : Option PyBaseExceptionRef) (a : Atom) (body : Runner) (n : ℕ) (K : After) → Closes K → Closes (On_turn K (λ env ts. Loops scene line h a body n env ts K))
+closes_turn scene line h a body n K closes = record {
+  cut = closes.cut;
+  paused = λ env. cut_loop scene line h a body n env [] K closes refl;
+  returned = closes.returned;
+  raised = closes.raised;
+}
+
+-- a load that tells nothing is cut, or is a local's
+cut_name : (scene : Scene) (line : ℕ) (found : Option (Option Obj)) (x : Name) (h : Option PyBaseExceptionRef) (env : Env) (K : After) (next : Obj → List Own → Type 0) → Closes K → ((v : Obj) → next v [])
+    → Named scene line found x h [] (Use env K next)
+cut_name scene line None x h env K next closes stops = inl (refl, closes.cut env)
+cut_name scene line (Some None) x h env K next closes stops = inl (refl, closes.cut env)
+cut_name scene line (Some (Some v)) x h env K next closes stops = stops v
+
+pub cut_load : (scene : Scene) (line : ℕ) (a : Atom) (h : Option PyBaseExceptionRef) (env : Env) (K : After) (next : Obj → List Own → Type 0) → Closes K → ((v : Obj) → next v [])
+    → Loads scene line env h a [] (Use env K next)
+cut_load scene line atom.None h env K next closes stops = inl (refl, closes.cut env)
+cut_load scene line (atom.Bool b) h env K next closes stops = inl (refl, closes.cut env)
+cut_load scene line (atom.Int n) h env K next closes stops = inl (refl, closes.cut env)
+cut_load scene line (atom.Str s) h env K next closes stops = inl (refl, closes.cut env)
+cut_load scene line (atom.Name x) h env K next closes stops = cut_name scene line (find_local x env) x h env K next closes stops

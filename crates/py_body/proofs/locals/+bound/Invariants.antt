@@ -1,0 +1,13 @@
+use Rattle.std.proofs.Common.{◌≡◌, ◌+◌, ◌*◌, take}
+use Rattle.py_body.specs.Tree.{form_of, list_suite, suite_of}
+use Rattle.py_body.specs.Binding.{bound_by, statements, statements_in}
+use Rattle.py_body.proofs.locals.+bound.Given as goal
+
+abbrev pub decreases-bound_by : goal.decreases-bound_by
+decreases-bound_by l = 2 * statements (suite_of l.suite.now) + 1
+
+abbrev pub decreases-bound_in : goal.decreases-bound_in
+decreases-bound_in l = 2 * statements_in (form_of l.form.now)
+
+abbrev pub invariant-bound_by-loop-stmt : goal.invariant-bound_by-loop-stmt
+invariant-bound_by-loop-stmt l = l.bound ≡ bound_by l.fn.names (list_suite (take l.stmt-index l.stmt-items))
