@@ -1,7 +1,7 @@
 -- Which lines scripts begin with: those that the reader takes.
 use Rattle.std.proofs.Common.{◌≡◌, ◌⊎◌, inl, inr, ℕ, suc, List, [], ◌∷◌, ◌++◌, length, Option, Some, None, refl, sym, ap, ◌∙◌, append_assoc, append-nil, subst}
 use Rattle.std.specs.Prelude.{codes}
-use Rattle.py_body.specs.Tree.{Tree}
+use Rattle.py_body.specs.Tree.{add, Tree}
 use Rattle.py_grammar.specs.declared.line.Line.{Line}
 use Rattle.py_grammar.specs.declared.line.Line.TheVariants as line
 use Rattle.py_grammar.specs.declared.line.LineRead.{LineRead}
@@ -11,7 +11,7 @@ use Rattle.py_grammar.specs.Grammar.{Row, row, kept_number, items_rows, drives_i
 use Rattle.py_grammar.specs.Lines.{lines}
 use Rattle.py_grammar.specs.Says.{says}
 use Rattle.py_grammar.specs.Script.{Text, with_read, rows_from, Spells, Begins}
-use Rattle.py_grammar.specs.Reader.{Open, State, state, start, accept, accept_at, outside, in_body, takes_line, closed}
+use Rattle.py_grammar.specs.Reader.{Block, Open, State, state, start, accept, accept_at, outside, in_body, takes_line, inside, ended, function_of, closed, closes}
 use Rattle.py_grammar.proofs.Whole.{run, run-append, and_then, items_read}
 use Rattle.py_grammar.proofs.Sound.{Came, CameTo, sound}
 
@@ -59,9 +59,13 @@ outside-kept : (ts : List Tree) (ds : List Drive) (n : ℕ) (l : Line) → outsi
 outside-kept ts ds n line.End = refl
 outside-kept ts ds n (line.Assign x a) = refl
 outside-kept ts ds n (line.Operate x op atoms) = refl
+outside-kept ts ds n (line.Do op atoms) = refl
 outside-kept ts ds n (line.Show a) = refl
 outside-kept ts ds n (line.Return a) = refl
 outside-kept ts ds n line.Pass = refl
+outside-kept ts ds n (line.If a) = refl
+outside-kept ts ds n line.Else = refl
+outside-kept ts ds n (line.While a) = refl
 outside-kept ts ds n (line.Def f ps) = refl
 outside-kept ts ds n (line.Call f args) = refl
 
@@ -69,9 +73,13 @@ in_body-kept : (ts : List Tree) (ds : List Drive) (o : Open) (n : ℕ) (l : Line
 in_body-kept ts ds o n line.End = refl
 in_body-kept ts ds o n (line.Assign x a) = refl
 in_body-kept ts ds o n (line.Operate x op atoms) = refl
+in_body-kept ts ds o n (line.Do op atoms) = refl
 in_body-kept ts ds o n (line.Show a) = refl
 in_body-kept ts ds o n (line.Return a) = refl
 in_body-kept ts ds o n line.Pass = refl
+in_body-kept ts ds o n (line.If a) = refl
+in_body-kept ts ds o n line.Else = refl
+in_body-kept ts ds o n (line.While a) = refl
 in_body-kept ts ds o n (line.Def f ps) = refl
 in_body-kept ts ds o n (line.Call f args) = refl
 
@@ -138,12 +146,20 @@ end_line = codes "end"
 begins_end : (front : Text) → Begins (front ++ end_line ∷ []) → Begins front
 begins_end front b = (end_line ++ 10 ∷ b.0, b.1, b.2, subst (λ t. Spells t b.1 b.2) (append_assoc front (end_line ∷ []) (lines b.0)) b.3)
 
--- an open body may end
+-- behind an end
+been_end : (bs : List Block) (front : Text) (ts : List Tree) (ds : List Drive) (o : Open) → o.blocks ≡ bs → Been front (state ts ds (Some o)) → Been (front ++ end_line ∷ []) (closes ts ds (closed o bs))
+been_end bs front ts ds o e b =
+    subst (λ x. Been (front ++ end_line ∷ []) (closes ts ds (closed o x))) e (one_line front (state ts ds (Some o)) (after 1 front) end_line (Said line.End) refl refl b)
+
+-- an end for each open block and one for the body close all
+begins_open : (bs : List Block) (front : Text) (ts : List Tree) (ds : List Drive) (o : Open) → o.blocks ≡ bs → Been front (state ts ds (Some o)) → Begins front
+begins_open [] front ts ds o e b = begins_end front (begins_whole (front ++ end_line ∷ []) (ts ++ function_of o ∷ []) ds (been_end [] front ts ds o e b))
+begins_open (c ∷ bs) front ts ds o e b =
+    begins_end front (begins_open bs (front ++ end_line ∷ []) ts ds (inside o bs (add c.before c.line (ended c.head o.done))) refl (been_end (c ∷ bs) front ts ds o e b))
+
 pub begins_at : (front : Text) (ts : List Tree) (ds : List Drive) (i : Option Open) → Been front (state ts ds i) → Begins front
 begins_at front ts ds None b = begins_whole front ts ds b
-begins_at front ts ds (Some o) b =
-    begins_end front (begins_whole (front ++ end_line ∷ []) (ts ++ closed o ∷ []) ds
-    (one_line front (state ts ds (Some o)) (after 1 front) end_line (Said line.End) refl refl b))
+begins_at front ts ds (Some o) b = begins_open o.blocks front ts ds o refl b
 
 pub begins : (front : Text) (st : State) → Been front st → Begins front
 begins front st b = begins_at front st.trees st.drives st.inside b

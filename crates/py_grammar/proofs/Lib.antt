@@ -7,8 +7,9 @@ pub mod Comments
 pub mod Eachs
 -- what tables of names have
 pub mod Tables
--- the program's lists by their trees
-pub mod Views
+-- the program's reader by the definitions'
+pub mod Stacks
+pub mod Heads
 -- the reader against the grammar
 pub mod Whole
 pub mod Sound

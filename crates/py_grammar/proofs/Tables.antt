@@ -1,20 +1,17 @@
 -- What tables of names have.
-use Rattle.std.proofs.Common.{◌≡◌, ◌<◌, ◌+◌, ℕ, suc, List, [], ◌∷◌, ◌++◌, Bool, true, false, cond, ◌||◌, ◌&&◌, Option, Some, None, Ok, Err, refl, sym, ap, ◌∙◌, map, length, take, get_or, slice_get, true≢false}
-use Rattle.std.specs.Prelude.{bytes_eq, position, nat_le, ◌==◌, not, option_map, Result, ◌≢◌, IfSome, IfNone}
+use Rattle.std.proofs.Common.{◌≡◌, ◌<◌, ℕ, suc, List, [], ◌∷◌, ◌++◌, Bool, true, false, cond, ◌||◌, ◌&&◌, Option, Some, None, refl, sym, ap, ◌∙◌, map, length, slice_get, true≢false}
+use Rattle.std.specs.Prelude.{bytes_eq, position, nat_le, ◌==◌, not, option_map, ◌≢◌, IfSome, IfNone}
 use Rattle.std.specs.List.{list_any, position_or_len}
-use Rattle.std.specs.Result.{OnOk}
 use Rattle.std.proofs.lemmas.List.{length-map, map-append}
-use Rattle.std.proofs.lemmas.List.Folds.{list_any-append}
-use Rattle.std.proofs.lemmas.Grind.{take_at_read}
 use Rattle.std.proofs.lemmas.Map.Keys.{any_passes_from_place}
 use Rattle.std.proofs.lemmas.Option.{slice_get-map, slice_get_within}
+use Rattle.std.proofs.lemmas.Bool.{and_parts}
 use Rattle.std.proofs.lemmas.Slice.Eq.{bytes_eq-Decides}
-use Rattle.py_body.specs.Tree.{Name, Form, Suite, nothing, first, Tree}
+use Rattle.py_body.specs.Tree.{Name, Tree}
 use Rattle.py_code.specs.Names.{interned, place_of, TextsDiffer}
 use Rattle.py_code.proofs.NamesLemmas.{found_text, absent_text}
-use Rattle.py_grammar.specs.Rules.{is_among, all_differ, declares, is_builtin_class, may_declare, takes, is_target, binds, assigns}
-use Rattle.py_grammar.specs.Grammar.{add}
-use Rattle.py_grammar.specs.Tables.{HasKnown, names_of, may_head}
+use Rattle.py_grammar.specs.Rules.{is_among, all_differ, declares, is_builtin_class, may_declare, takes}
+use Rattle.py_grammar.specs.Tables.{names_of, may_head}
 
 -- ---- a test on a list, and on what its elements stand for
 
@@ -57,24 +54,6 @@ interned-keys name keys new names key x view is made =
     by true known = sym (interned-known (map name keys) (name key) known)
     by false new = map-append name keys (key ∷ []) ∙ sym (interned-new (map name keys) (name key) new)
 
--- ---- the names that are known in a body
-
-or_none : (b : Bool) → (b || false) ≡ b
-or_none true = refl
-or_none false = refl
-
-or_true : (b : Bool) → (b || true) ≡ true
-or_true true = refl
-or_true false = refl
-
-or_assoc : (a b c : Bool) → (a || (b || c)) ≡ ((a || b) || c)
-or_assoc true b c = refl
-or_assoc false b c = refl
-
--- one more name
-pub is_among-push : (names : List Name) (x y : Name) → is_among x (names ++ y ∷ []) ≡ (is_among x names || bytes_eq x y)
-is_among-push names x y = list_any-append (bytes_eq x) names (y ∷ []) ∙ ap (λ b. is_among x names || b) (or_none (bytes_eq x y))
-
 -- ---- where a name stands
 
 pub found_name : (names : List Name) (x : Name) (at : Option ℕ) → at ≡ place_of names x → IfSome at (λ i. slice_get names i ≡ Some x)
@@ -89,40 +68,6 @@ absent_name names x (Some i) e = tt
 pub declares-names : (x : Name) (ts : List Tree) → declares x ts ≡ is_among x (names_of ts)
 declares-names x [] = refl
 declares-names x (t ∷ ts) = ap (λ b. bytes_eq x t.name || b) (declares-names x ts)
-
--- what a statement behind others assigns to
-pub assigns-add : (x : Name) (s : Suite) (n : ℕ) (f : Form) → assigns x (add s n f) ≡ (assigns x s || binds x f)
-assigns-add x nothing n f = or_none (binds x f)
-assigns-add x (first m g more) n f = ap (λ b. binds x g || b) (assigns-add x more n f) ∙ or_assoc (binds x g) (assigns x more) (binds x f)
-
--- ---- the tables that a reader keeps
-
--- a table with one more name
-pub is_among-interned : (names : List Name) (x y : Name) → is_among x (interned names y) ≡ (is_among x names || bytes_eq x y)
-is_among-interned names x y = by (is_among y names) refl (bytes_eq x y) refl
-  where
-    by : (b : Bool) → is_among y names ≡ b → (d : Bool) → bytes_eq x y ≡ d → is_among x (cond b names (names ++ y ∷ [])) ≡ (is_among x names || d)
-    by true known true same = ap (λ z. is_among z names) ((bytes_eq-Decides x y).0 same) ∙ known ∙ sym (or_true (is_among x names))
-    by true known false other = sym (or_none (is_among x names))
-    by false new d e = is_among-push names x y ∙ ap (λ b. is_among x names || b) e
-
--- a table of the names that a loop has come by
-pub more_names : (names : List Name) (i : ℕ) (d : Name) (old new : List Name) → i < length names → ((x : Name) → is_among x old ≡ is_among x (take i names))
-    → new ≡ interned old (get_or names i d) → (x : Name) → is_among x new ≡ is_among x (take (i + 1) names)
-more_names names i d old new low same made x =
-    ap (is_among x) made ∙ is_among-interned old x (get_or names i d) ∙ ap (λ b. b || bytes_eq x (get_or names i d)) (same x)
-    ∙ sym (is_among-push (take i names) x (get_or names i d)) ∙ sym (ap (is_among x) (take_at_read names i d low).1)
-
--- a table with the target of a statement
-pub noted : {E : Type 0} (r : Result (Unit {0}) E) (old new : List Name) (y : Name) (t : Option Name) → Some y ≡ t → OnOk r (new ≡ interned old y)
-    → OnOk r ((x : Name) → is_among x new ≡ (is_among x old || is_target x t))
-noted (Ok u) old new y t is made = λ x. ap (is_among x) made ∙ is_among-interned old x y ∙ ap (λ o. is_among x old || is_target x o) is
-noted (Err e) old new y t is made = tt
-
--- and behind that statement
-pub known_more : (old new params : List Name) (before : Suite) (n : ℕ) (f : Form) → HasKnown old params before → ((x : Name) → is_among x new ≡ (is_among x old || binds x f)) → HasKnown new params (add before n f)
-known_more old new params before n f has noted x =
-    noted x ∙ ap (λ b. b || binds x f) (has x) ∙ sym (or_assoc (is_among x params) (assigns x before) (binds x f)) ∙ ap (λ b. is_among x params || b) (sym (assigns-add x before n f))
 
 -- ---- a declaration by its name
 
@@ -140,14 +85,6 @@ takes_somewhere f n (t ∷ ts) some = by (takes f n t) refl (takes_somewhere f n
 name_at : (ts : List Tree) (i : ℕ) (t : Tree) → slice_get ts i ≡ Some t → slice_get (names_of ts) i ≡ Some t.name
 name_at ts i t at = slice_get-map (λ u. u.name) ts i ∙ ap (option_map (λ u. u.name)) at
 
-and_left : (a b : Bool) → (a && b) ≡ true → a ≡ true
-and_left true b h = refl
-and_left false b h = cc
-
-and_right : (a b : Bool) → (a && b) ≡ true → b ≡ true
-and_right true b h = h
-and_right false b h = cc
-
 -- of declarations with names of their own, the one at the place of a name decides what a drive may call
 pub takes_at : (ts : List Tree) (names : List Name) (f : Name) (n i : ℕ) (t : Tree) → names ≡ names_of ts → TextsDiffer names → slice_get names i ≡ Some f → slice_get ts i ≡ Some t
     → (length t.params == n) ≡ list_any (takes f n) ts
@@ -159,13 +96,13 @@ takes_at ts names f n i t is differ named at = by (list_any (takes f n) ts) refl
     by : (b : Bool) → list_any (takes f n) ts ≡ b → (length t.params == n) ≡ list_any (takes f n) ts
     by true some =
         let (j, u, there, e) = takes_somewhere f n ts some in
-        let same : f ≡ u.name = (bytes_eq-Decides f u.name).0 (and_left (bytes_eq f u.name) (length u.params == n) e) in
+        let same : f ≡ u.name = (bytes_eq-Decides f u.name).0 (and_parts (bytes_eq f u.name) (length u.params == n) e).0 in
         let stands : slice_get names j ≡ Some u.name = ap (λ ns. slice_get ns j) is ∙ name_at ts j u there in
         let within : i < length names = slice_get_within names i f named in
         let place : i ≡ j = differ i j within (named ∙ ap Some same ∙ sym stands) in
         let one : Some t ≡ Some u = sym at ∙ ap (slice_get ts) place ∙ there in
         let tree : t ≡ u = cc one in
-        ap (λ v. length v.params == n) tree ∙ and_right (bytes_eq f u.name) (length u.params == n) e ∙ sym some
+        ap (λ v. length v.params == n) tree ∙ (and_parts (bytes_eq f u.name) (length u.params == n) e).1 ∙ sym some
     by false none = rest (takes f n t) refl
       where
         rest : (b : Bool) → takes f n t ≡ b → (length t.params == n) ≡ list_any (takes f n) ts
@@ -183,7 +120,7 @@ takes_nowhere ts names f n is absent = by (list_any (takes f n) ts) refl
     by false none = sym none
     by true some =
         let (j, u, there, e) = takes_somewhere f n ts some in
-        let same : f ≡ u.name = (bytes_eq-Decides f u.name).0 (and_left (bytes_eq f u.name) (length u.params == n) e) in
+        let same : f ≡ u.name = (bytes_eq-Decides f u.name).0 (and_parts (bytes_eq f u.name) (length u.params == n) e).0 in
         absurd (absent j (ap (λ ns. slice_get ns j) is ∙ name_at ts j u there ∙ ap Some (sym same)))
 
 -- the rule on headers, by the table and with the count first

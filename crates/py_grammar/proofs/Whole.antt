@@ -1,9 +1,9 @@
 -- The reader takes the rows of every script.
-use Rattle.std.proofs.Common.{◌≡◌, ℕ, List, [], ◌∷◌, ◌++◌, Option, Some, None, refl, sym, ap, ◌∙◌, append_assoc, append-nil}
-use Rattle.py_body.specs.Tree.{Name, Form, assign, operate, show, give, pass, Suite, nothing, first, joined, Tree}
+use Rattle.std.proofs.Common.{◌≡◌, ℕ, suc, length, List, [], ◌∷◌, ◌++◌, Option, Some, None, refl, sym, ap, ◌∙◌, append_assoc, append-nil}
+use Rattle.py_body.specs.Tree.{Name, Form, assign, operate, show, give, pass, branch, choice, loop, Suite, nothing, first, joined, add, Tree}
 use Rattle.py_grammar.specs.Drive.{Drive}
-use Rattle.py_grammar.specs.Grammar.{Row, Item, Declares, Drives, add, suite_rows, form_row, end_row, items_rows, trees_in, drives_in, WellForm, WellSuite, WellItems}
-use Rattle.py_grammar.specs.Reader.{State, state, accept}
+use Rattle.py_grammar.specs.Grammar.{Row, Item, Declares, Drives, suite_rows, form_rows, end_row, else_row, items_rows, trees_in, drives_in, WellForm, WellSuite, WellItems}
+use Rattle.py_grammar.specs.Reader.{Head, in_if, in_else, in_while, Block, State, state, accept}
 
 abbrev pub and_then : Option State → (State → Option State) → Option State
 and_then None f = None
@@ -32,29 +32,47 @@ joined-nothing nothing = refl
 joined-nothing (first n s more) = ap (first n s) (joined-nothing more)
 
 module _ (ts : List Tree) (ds : List Drive) (line : ℕ) (name : Name) (params : List Name) where
-  -- this function is open, with these statements
-  abbrev within : Suite → State
-  within done = state ts ds (Some (record { line = line; name = name; params = params; done = done }))
+  -- this function is open, with these blocks and these statements in the innermost
+  abbrev within : List Block → Suite → State
+  within bs done = state ts ds (Some (record { line = line; name = name; params = params; blocks = bs; done = done }))
 
-  form_read : (f : Form) (n : ℕ) (done : Suite) (rest : List Row) → WellForm params done f → run (within done) (form_row n f ∷ rest) ≡ run (within (add done n f)) rest
-  form_read (assign x a) n done rest w = rw w refl
-  form_read (operate x op atoms) n done rest w = rw w refl
-  form_read (show a) n done rest w = rw w refl
-  form_read (give a) n done rest w = rw w refl
-  form_read pass n done rest w = refl
+  abbrev block : Suite → ℕ → Head → Block
+  block before n h = record { before = before; line = n; head = h }
 
-  pub suite_read : (s done : Suite) (rest : List Row) → WellSuite params done s → run (within done) (suite_rows s ++ rest) ≡ run (within (joined done s)) rest
-  suite_read nothing done rest w = ap (λ c. run (within c) rest) (sym (joined-nothing done))
-  suite_read (first n f more) done rest w =
-      form_read f n done (suite_rows more ++ rest) w.0 ∙ suite_read more (add done n f) rest w.1
-      ∙ ap (λ c. run (within c) rest) (joined_assoc done (first n f nothing) more)
+  mutual
+    form_read : (f : Form) (n : ℕ) (bs : List Block) (done : Suite) (rest : List Row) → WellForm (suc (length bs)) f → run (within bs done) (form_rows n f ++ rest) ≡ run (within bs (add done n f)) rest
+    form_read (assign x a) n bs done rest w = rw w refl
+    form_read (operate None op atoms) n bs done rest w = rw w refl
+    form_read (operate (Some x) op atoms) n bs done rest w = rw w refl
+    form_read (show a) n bs done rest w = rw w refl
+    form_read (give a) n bs done rest w = rw w refl
+    form_read pass n bs done rest w = refl
+    form_read (branch a s) n bs done rest w =
+        let b : Block = block done n (in_if a) in
+        rw w.0 (ap (run (within (b ∷ bs) nothing)) (append_assoc (suite_rows s) (end_row ∷ []) rest) ∙ suite_read s (b ∷ bs) nothing (end_row ∷ rest) w.1)
+    form_read (choice a s t) n bs done rest w =
+        let b : Block = block done n (in_if a) in
+        let c : Block = block done n (in_else a s) in
+        rw w.0 (ap (run (within (b ∷ bs) nothing)) (append_assoc (suite_rows s) (else_row ∷ (suite_rows t ++ end_row ∷ [])) rest)
+        ∙ suite_read s (b ∷ bs) nothing (else_row ∷ ((suite_rows t ++ end_row ∷ []) ++ rest)) w.1.0
+        ∙ ap (run (within (c ∷ bs) nothing)) (append_assoc (suite_rows t) (end_row ∷ []) rest) ∙ suite_read t (c ∷ bs) nothing (end_row ∷ rest) w.1.1)
+    form_read (loop a s) n bs done rest w =
+        let b : Block = block done n (in_while a) in
+        rw w.0 (ap (run (within (b ∷ bs) nothing)) (append_assoc (suite_rows s) (end_row ∷ []) rest) ∙ suite_read s (b ∷ bs) nothing (end_row ∷ rest) w.1)
+
+    pub suite_read : (s : Suite) (bs : List Block) (done : Suite) (rest : List Row) → WellSuite (suc (length bs)) s → run (within bs done) (suite_rows s ++ rest) ≡ run (within bs (joined done s)) rest
+    suite_read nothing bs done rest w = ap (λ c. run (within bs c) rest) (sym (joined-nothing done))
+    suite_read (first n f more) bs done rest w =
+        ap (run (within bs done)) (append_assoc (form_rows n f) (suite_rows more) rest)
+        ∙ form_read f n bs done (suite_rows more ++ rest) w.0 ∙ suite_read more bs (add done n f) rest w.1
+        ∙ ap (λ c. run (within bs c) rest) (joined_assoc done (first n f nothing) more)
 
 -- every script is read
 pub items_read : (is : List Item) (ts : List Tree) (ds : List Drive) → WellItems ts is → run (state ts ds None) (items_rows is) ≡ Some (state (ts ++ trees_in is) (ds ++ drives_in is) None)
 items_read [] ts ds w = rw (append-nil ts, append-nil ds) refl
 items_read (Declares t ∷ is) ts ds w =
-    rw w.0 (ap (run (within ts ds t.line t.name t.params nothing)) (append_assoc (suite_rows t.suite) (end_row ∷ []) (items_rows is))
-    ∙ suite_read ts ds t.line t.name t.params t.suite nothing (end_row ∷ items_rows is) w.1.0
+    rw w.0 (ap (run (within ts ds t.line t.name t.params [] nothing)) (append_assoc (suite_rows t.suite) (end_row ∷ []) (items_rows is))
+    ∙ suite_read ts ds t.line t.name t.params t.suite [] nothing (end_row ∷ items_rows is) w.1.0
     ∙ items_read is (ts ++ t ∷ []) ds w.1.1
     ∙ ap (λ x. Some (state x (ds ++ drives_in is) None)) (append_assoc ts (t ∷ []) (trees_in is)))
 items_read (Drives d ∷ is) ts ds w =

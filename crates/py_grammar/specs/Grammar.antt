@@ -1,10 +1,12 @@
 -- Scripts as trees, the rows that a tree prints, and the rules that it keeps.
-use Rattle.std.specs.Prelude.{◌≡◌, ℕ, List, [], ◌∷◌, ◌++◌, true}
-use Rattle.py_body.specs.Tree.{Name, Form, assign, operate, show, give, pass, Suite, nothing, first, joined, Tree}
+use Rattle.std.specs.Prelude.{◌≡◌, ℕ, suc, Option, Some, None, List, [], ◌∷◌, ◌++◌, true, ◌&&◌}
+use Rattle.py_body.specs.declared.atom.Atom.{Atom}
+use Rattle.py_body.specs.declared.atom.Operator.{Operator}
+use Rattle.py_body.specs.Tree.{Name, Form, assign, operate, show, give, pass, branch, choice, loop, Suite, nothing, first, Tree}
 use Rattle.py_grammar.specs.declared.line.Line.{Line}
-use Rattle.py_grammar.specs.declared.line.Line.TheVariants.{End, Assign, Operate, Show, Return, Pass, Def, Call}
+use Rattle.py_grammar.specs.declared.line.Line.TheVariants.{End, Assign, Operate, Do, Show, Return, Pass, If, Else, While, Def, Call}
 use Rattle.py_grammar.specs.Drive.{Drive}
-use Rattle.py_grammar.specs.Rules.{may_declare, may_drive, may_operate, is_known}
+use Rattle.py_grammar.specs.Rules.{may_declare, may_drive, may_operate, is_usable, is_bindable, is_bindable_if, has_room}
 
 -- one thing that a script says outside of bodies
 pub data Item : Type 0 where
@@ -21,9 +23,13 @@ abbrev pub kept_number : ℕ → Line → ℕ
 kept_number n End = 0
 kept_number n (Assign x a) = n
 kept_number n (Operate x op atoms) = n
+kept_number n (Do op atoms) = n
 kept_number n (Show a) = n
 kept_number n (Return a) = n
 kept_number n Pass = n
+kept_number n (If a) = n
+kept_number n Else = 0
+kept_number n (While a) = n
 kept_number n (Def f ps) = n
 kept_number n (Call f args) = 0
 
@@ -33,17 +39,29 @@ row n l = record { number = kept_number n l; line = l }
 abbrev pub end_row : Row
 end_row = record { number = 0; line = End }
 
--- the row of a statement
-abbrev pub form_row : ℕ → Form → Row
-form_row n (assign x a) = record { number = n; line = Assign x a }
-form_row n (operate x op atoms) = record { number = n; line = Operate x op atoms }
-form_row n (show a) = record { number = n; line = Show a }
-form_row n (give a) = record { number = n; line = Return a }
-form_row n pass = record { number = n; line = Pass }
+abbrev pub else_row : Row
+else_row = record { number = 0; line = Else }
 
-abbrev pub suite_rows : Suite → List Row
-suite_rows nothing = []
-suite_rows (first n f more) = form_row n f ∷ suite_rows more
+-- the line of an operator
+abbrev pub operator_line : Option Name → Operator → List Atom → Line
+operator_line None op atoms = Do op atoms
+operator_line (Some x) op atoms = Operate x op atoms
+
+abbrev mutual
+  -- the rows of a statement
+  pub form_rows : ℕ → Form → List Row
+  form_rows n (assign x a) = record { number = n; line = Assign x a } ∷ []
+  form_rows n (operate x op atoms) = record { number = n; line = operator_line x op atoms } ∷ []
+  form_rows n (show a) = record { number = n; line = Show a } ∷ []
+  form_rows n (give a) = record { number = n; line = Return a } ∷ []
+  form_rows n pass = record { number = n; line = Pass } ∷ []
+  form_rows n (branch a s) = record { number = n; line = If a } ∷ (suite_rows s ++ end_row ∷ [])
+  form_rows n (choice a s t) = record { number = n; line = If a } ∷ (suite_rows s ++ else_row ∷ (suite_rows t ++ end_row ∷ []))
+  form_rows n (loop a s) = record { number = n; line = While a } ∷ (suite_rows s ++ end_row ∷ [])
+
+  pub suite_rows : Suite → List Row
+  suite_rows nothing = []
+  suite_rows (first n f more) = form_rows n f ++ suite_rows more
 
 abbrev pub item_rows : Item → List Row
 item_rows (Declares t) = record { number = t.line; line = Def t.name t.params } ∷ (suite_rows t.suite ++ end_row ∷ [])
@@ -64,25 +82,25 @@ drives_in [] = []
 drives_in (Declares t ∷ is) = drives_in is
 drives_in (Drives d ∷ is) = d ∷ drives_in is
 
--- a statement behind others
-abbrev pub add : Suite → ℕ → Form → Suite
-add s n f = joined s (first n f nothing)
+abbrev mutual
+  -- a statement keeps the rules, where so many blocks are open around it
+  pub WellForm : ℕ → Form → Type 0
+  WellForm blocks (assign x a) = (is_bindable x && is_usable a) ≡ true
+  WellForm blocks (operate x op atoms) = (is_bindable_if x && may_operate op atoms) ≡ true
+  WellForm blocks (show a) = is_usable a ≡ true
+  WellForm blocks (give a) = is_usable a ≡ true
+  WellForm blocks pass = Unit {0}
+  WellForm blocks (branch a s) = ((has_room blocks && is_usable a) ≡ true) × WellSuite (suc blocks) s
+  WellForm blocks (choice a s t) = ((has_room blocks && is_usable a) ≡ true) × (WellSuite (suc blocks) s × WellSuite (suc blocks) t)
+  WellForm blocks (loop a s) = ((has_room blocks && is_usable a) ≡ true) × WellSuite (suc blocks) s
 
--- a statement keeps the rules, in a function with these parameters and behind these statements
-abbrev pub WellForm : List Name → Suite → Form → Type 0
-WellForm ps before (assign x a) = is_known ps before a ≡ true
-WellForm ps before (operate x op atoms) = may_operate ps before op atoms ≡ true
-WellForm ps before (show a) = is_known ps before a ≡ true
-WellForm ps before (give a) = is_known ps before a ≡ true
-WellForm ps before pass = Unit {0}
-
--- so do the statements that follow these
-abbrev pub WellSuite : List Name → Suite → Suite → Type 0
-WellSuite ps before nothing = Unit {0}
-WellSuite ps before (first n f more) = WellForm ps before f × WellSuite ps (add before n f) more
+  -- so do statements in order
+  pub WellSuite : ℕ → Suite → Type 0
+  WellSuite blocks nothing = Unit {0}
+  WellSuite blocks (first n f more) = WellForm blocks f × WellSuite blocks more
 
 -- so do the items that follow these declarations
 abbrev pub WellItems : List Tree → List Item → Type 0
 WellItems ts [] = Unit {0}
-WellItems ts (Declares t ∷ is) = (may_declare ts t.name t.params ≡ true) × (WellSuite t.params nothing t.suite × WellItems (ts ++ t ∷ []) is)
+WellItems ts (Declares t ∷ is) = (may_declare ts t.name t.params ≡ true) × (WellSuite 1 t.suite × WellItems (ts ++ t ∷ []) is)
 WellItems ts (Drives d ∷ is) = (may_drive ts d.function d.args ≡ true) × WellItems ts is

@@ -1,10 +1,10 @@
 -- The rules on lines that look at what stands before them, each a test.
-use Rattle.std.specs.Prelude.{ℕ, Option, Some, None, List, [], ◌∷◌, length, Bool, true, false, ◌||◌, ◌&&◌, not, ◌==◌, nat_le, bytes_eq, codes}
+use Rattle.std.specs.Prelude.{ℕ, Option, Some, None, List, [], ◌∷◌, length, Bool, true, false, ◌||◌, ◌&&◌, not, ◌==◌, nat_le, nat_lt, bytes_eq, codes}
 use Rattle.std.specs.List.{list_any, list_all}
 use Rattle.py_body.specs.declared.atom.Atom.{Atom}
 use Rattle.py_body.specs.declared.atom.Atom.TheVariants as atom
 use Rattle.py_body.specs.declared.atom.Operator.{Operator}
-use Rattle.py_body.specs.Tree.{Name, Form, target_of, Suite, nothing, first, Tree}
+use Rattle.py_body.specs.Tree.{Name, Tree}
 use Rattle.py_body.specs.Binding.{arity_of}
 
 abbrev pub is_among : Name → List Name → Bool
@@ -45,28 +45,26 @@ is_literal (atom.Name x) = false
 abbrev pub may_drive : List Tree → Name → List Atom → Bool
 may_drive ts f args = list_any (takes f (length args)) ts && list_all is_literal args
 
-abbrev pub is_target : Name → Option Name → Bool
-is_target x None = false
-is_target x (Some y) = bytes_eq x y
+-- whether an atom may stand in a body: it isn't the name of a built-in class
+abbrev pub is_usable : Atom → Bool
+is_usable atom.None = true
+is_usable (atom.Bool b) = true
+is_usable (atom.Int n) = true
+is_usable (atom.Str s) = true
+is_usable (atom.Name x) = not (is_builtin_class x)
 
--- whether a statement assigns to a name
-abbrev pub binds : Name → Form → Bool
-binds x f = is_target x (target_of f)
+-- whether a name may be bound in a body
+abbrev pub is_bindable : Name → Bool
+is_bindable x = not (is_builtin_class x)
 
--- whether one of these statements does
-abbrev pub assigns : Name → Suite → Bool
-assigns x nothing = false
-assigns x (first n f more) = binds x f || assigns x more
+abbrev pub is_bindable_if : Option Name → Bool
+is_bindable_if None = true
+is_bindable_if (Some x) = is_bindable x
 
--- whether an atom is a literal, a parameter, or a name that one of these statements assigns to
-abbrev pub is_known : List Name → Suite → Atom → Bool
-is_known ps before atom.None = true
-is_known ps before (atom.Bool b) = true
-is_known ps before (atom.Int n) = true
-is_known ps before (atom.Str s) = true
-is_known ps before (atom.Name x) = is_among x ps || assigns x before
+-- whether an operator may take these atoms: it takes as many, and each may stand in a body
+abbrev pub may_operate : Operator → List Atom → Bool
+may_operate op atoms = (length atoms == arity_of op) && list_all is_usable atoms
 
--- whether, in a function with these parameters and behind these statements, an operator may take these atoms:
--- it takes as many, and each is known
-abbrev pub may_operate : List Name → Suite → Operator → List Atom → Bool
-may_operate ps before op atoms = (length atoms == arity_of op) && list_all (is_known ps before) atoms
+-- whether one more block may be opened where so many are open, the body itself among them
+abbrev pub has_room : ℕ → Bool
+has_room blocks = nat_lt blocks 64

@@ -45,8 +45,16 @@ atom_of Open = None
 atom_of Close = None
 atom_of Equals = None
 
+abbrev pub word_operator : List ℕ → Option Operator
+word_operator w =
+    if bytes_eq w (codes "add") then Some operator.Add
+    else if bytes_eq w (codes "sub") then Some operator.Sub
+    else if bytes_eq w (codes "lt") then Some operator.Lt
+    else if bytes_eq w (codes "eq") then Some operator.Eq
+    else None
+
 abbrev pub operator_of : Lexeme → Option Operator
-operator_of (Word w) = if bytes_eq w (codes "add") then Some operator.Add else None
+operator_of (Word w) = word_operator w
 operator_of Open = None
 operator_of Close = None
 operator_of Equals = None
@@ -107,26 +115,30 @@ before_close [] = None
 before_close (t ∷ []) = if is_close t then Some [] else None
 before_close (t ∷ u ∷ ts) = option_map (λ front. t ∷ front) (before_close (u ∷ ts))
 
--- a target, an operator and its atoms, where all are there
-abbrev pub operate_form : Option Name → Option Operator → Option (List Atom) → Option Line
-operate_form None op atoms = None
-operate_form (Some x) None atoms = None
-operate_form (Some x) (Some op) None = None
-operate_form (Some x) (Some op) (Some atoms) = Some (line.Operate x op atoms)
+-- an operator and the atoms of its arguments, as this line
+abbrev pub operation : (Operator → List Atom → Line) → List Lexeme → Option Line
+operation l [] = None
+operation l (op ∷ args) = both l (operator_of op) (each atom_of args)
 
--- an operator and the atoms of its arguments, of which a name is the target
-abbrev pub operation : Option Name → List Lexeme → Option Line
-operation x [] = None
-operation x (op ∷ args) = operate_form x (operator_of op) (each atom_of args)
+-- an operation in parentheses, behind the open one
+abbrev pub in_parentheses : (Operator → List Atom → Line) → Option (List Lexeme) → Option Line
+in_parentheses l None = None
+in_parentheses l (Some inner) = operation l inner
 
-abbrev pub in_parentheses : Option Name → Option (List Lexeme) → Option Line
-in_parentheses x None = None
-in_parentheses x (Some inner) = operation x inner
+-- an operation that is dropped
+abbrev pub do_form : List Lexeme → Option Line
+do_form [] = None
+do_form (t ∷ ts) = if is_open t then in_parentheses line.Do (before_close ts) else None
+
+-- an operation whose value goes to a target, where it is a name
+abbrev pub operate_form : Option Name → Option (List Lexeme) → Option Line
+operate_form None inner = None
+operate_form (Some x) inner = in_parentheses (line.Operate x) inner
 
 -- what is assigned: an operation in parentheses, or an atom alone
 abbrev pub value_form : Option Name → List Lexeme → Option Line
 value_form x [] = None
-value_form x (t ∷ ts) = if is_open t then in_parentheses x (before_close ts) else both line.Assign x (only_atom (t ∷ ts))
+value_form x (t ∷ ts) = if is_open t then operate_form x (before_close ts) else both line.Assign x (only_atom (t ∷ ts))
 
 -- = and a value, behind a target
 abbrev pub assign_form : Lexeme → List Lexeme → Option Line
@@ -152,6 +164,10 @@ line_form (Word w ∷ ts) =
     else if bytes_eq w (codes "pass") then alone line.Pass ts
     else if bytes_eq w (codes "return") then option_map line.Return (only_atom ts)
     else if bytes_eq w (codes "show") then option_map line.Show (only_atom ts)
+    else if bytes_eq w (codes "do") then do_form ts
+    else if bytes_eq w (codes "if") then option_map line.If (only_atom ts)
+    else if bytes_eq w (codes "else") then alone line.Else ts
+    else if bytes_eq w (codes "while") then option_map line.While (only_atom ts)
     else if bytes_eq w (codes "def") then def_form ts
     else if is_drive w ts then call_form ts
     else assign_form (Word w) ts

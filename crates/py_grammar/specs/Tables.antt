@@ -1,32 +1,21 @@
--- What a reader keeps, and the names that its tables have.
-use Rattle.std.specs.Prelude.{◌≡◌, ℕ, Option, Some, None, List, [], ◌∷◌, ◌++◌, ◌||◌, ◌&&◌, not, nat_le, length, Bool, map}
-use Rattle.py_body.specs.declared.stmt.Stmt.{Stmt}
-use Rattle.py_body.specs.Tree.{Name, Suite, Tree}
+-- What a reader keeps, and the names that its table has.
+use Rattle.std.specs.Prelude.{Option, Some, None, List, [], ◌∷◌, ◌++◌, ◌&&◌, not, nat_le, length, Bool, map}
+use Rattle.py_body.specs.Tree.{Name, Tree}
+use Rattle.py_grammar.specs.declared.open_body.OpenBody.{OpenBody}
 use Rattle.py_grammar.specs.declared.script.Script.{Script}
-use Rattle.py_grammar.specs.Rules.{is_among, all_differ, is_builtin_class, assigns}
-
--- the lines of a body so far: its header, and its statements as the program has them
-pub record Partial : Type 0 where
-  pub line : ℕ
-  pub name : Name
-  pub params : List Name
-  pub done : List Stmt
+use Rattle.py_grammar.specs.Rules.{is_among, all_differ, is_builtin_class}
 
 -- the lines of a text so far
 pub record SoFar : Type 0 where
   pub whole : Script
-  pub inside : Option Partial
-
--- a table has exactly the names that are known in a function with these parameters and behind these statements
-abbrev pub HasKnown : List Name → List Name → Suite → Type 0
-HasKnown table params done = (x : Name) → is_among x table ≡ (is_among x params || assigns x done)
+  pub inside : Option OpenBody
 
 -- the names of declarations
 abbrev pub names_of : List Tree → List Name
 names_of ts = map (λ t. t.name) ts
 
 -- the names that no further declaration may have: those of the declarations and that of the open body
-abbrev pub taken_names : List Tree → Option Partial → List Name
+abbrev pub taken_names : List Tree → Option OpenBody → List Name
 taken_names ts None = names_of ts
 taken_names ts (Some o) = names_of ts ++ o.name ∷ []
 

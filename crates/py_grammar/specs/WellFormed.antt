@@ -3,7 +3,7 @@ use Rattle.std.specs.Prelude.{◌≡◌, ◌≢◌, ◌≤◌, List, length, fal
 use Rattle.py_body.specs.declared.atom.Atom.{Atom}
 use Rattle.py_body.specs.declared.atom.Atom.TheVariants as atom
 use Rattle.py_body.specs.Tree.{Name, Tree}
-use Rattle.py_body.specs.Binding.{SuiteKnown}
+use Rattle.py_body.specs.Binding.{SuiteTakes}
 use Rattle.py_grammar.specs.declared.script.Script.{Script}
 use Rattle.py_grammar.specs.Drive.{Drive}
 use Rattle.py_grammar.specs.Rules.{is_builtin_class}
@@ -25,7 +25,7 @@ pub record IsWellDeclared (t : Tree) : Type 0 where
   pub no_class : is_builtin_class t.name ≡ false
   pub distinct : AreDistinct t.params
   pub few : length t.params ≤ 255
-  pub known : SuiteKnown t.params t.suite
+  pub takes : SuiteTakes t.suite
 
 -- a drive calls this function with as many literals as it has parameters
 pub record Calls (d : Drive) (t : Tree) : Type 0 where

@@ -1,13 +1,17 @@
 //! What a line says, by its tokens.
 
-ghost use Rattle.std.specs.Prelude.{◌≡◌, if◌then◌else◌, IfOk, MatchOption, Some, None, map, ◌∷◌};
+ghost use Rattle.std.specs.Prelude.{◌≡◌, if◌then◌else◌, IfOk, List, MatchOption, Some, None, map, option_map, ◌∷◌};
 ghost use Rattle.py_grammar.specs.Tokens.{lexeme_of, Word};
-ghost use Rattle.py_grammar.specs.Says.{name_of as name_in, atom_of as atom_in, constant_atom as constant_in, name_atom as name_atom_in, word_atom as word_atom_in, operator_of as operator_in};
+ghost use Rattle.py_grammar.specs.Says.{name_of as name_in, atom_of as atom_in, constant_atom as constant_in, name_atom as name_atom_in, word_atom as word_atom_in, operator_of as operator_in, word_operator as word_operator_in};
 ghost use Rattle.py_grammar.specs.Says.{both, is_utf8 as is_utf8_bytes};
+ghost use Rattle.py_body.specs.declared.atom.Atom.{Atom};
+ghost use Rattle.py_body.specs.declared.atom.Operator.{Operator};
+ghost use Rattle.py_grammar.specs.declared.line.Line.{Line};
 ghost use Rattle.py_grammar.specs.declared.line.Line.TheVariants.{Assign};
 ghost use Rattle.py_grammar.specs.declared.line.LineRead.TheVariants.{Blank, Malformed};
 ghost use Rattle.py_grammar.specs.Says.{each, alone, only_atom, before_close as before_close_in, begins_equals as begin_equals};
-ghost use Rattle.py_grammar.specs.Says.{operation, value_form, def_form, call_form, assign_form, line_form, says};
+ghost use Rattle.py_grammar.specs.Says.{in_parentheses, operate_form, do_form, value_form, def_form, call_form, assign_form, line_form, says};
+ghost use Rattle.py_grammar.specs.Forms.{opening_form};
 
 use crate::comment::{is_comment, is_utf8};
 use crate::line::{Line, LineRead};
@@ -153,6 +157,25 @@ fn call_line(alloc: Global, tokens: &[Token<'_>]) -> Result<Option<Line>, NoMemo
     }
 }
 
+/// The operator that a word is.
+fn word_operator(word: &[u8]) -> Option<Operator>
+    ensures { result ≡ word_operator_in word.now }
+{
+    if word == b"add".as_slice() {
+        return Some(Operator::Add);
+    }
+    if word == b"sub".as_slice() {
+        return Some(Operator::Sub);
+    }
+    if word == b"lt".as_slice() {
+        return Some(Operator::Lt);
+    }
+    if word == b"eq".as_slice() {
+        return Some(Operator::Eq);
+    }
+    None
+}
+
 /// The operator that a token is.
 fn operator_of(token: &Token<'_>) -> Option<Operator>
     ensures { result ≡ operator_in (lexeme_of token.now) }
@@ -160,10 +183,7 @@ fn operator_of(token: &Token<'_>) -> Option<Operator>
     let Token::Word(word) = token else {
         return None;
     };
-    if *word == b"add".as_slice() {
-        return Some(Operator::Add);
-    }
-    None
+    word_operator(word)
 }
 
 /// The tokens before a `)` that is the last.
@@ -180,24 +200,56 @@ fn before_close<'t, 'b>(tokens: &'t [Token<'b>]) -> Option<&'t [Token<'b>]>
     Some(front)
 }
 
-/// The line of an operator and its arguments, of which a name is the target.
-fn operation_line(
+/// The operator and the atoms of an operation in parentheses, with these tokens behind the open one.
+fn operation_of(
     alloc: Global,
-    target: Option<PyText>,
     tokens: &[Token<'_>],
-) -> Result<Option<Line>, NoMemory>
-    ensures { IfOk result (λ line. line ≡ operation target (map lexeme_of tokens.now)) }
+) -> Result<Option<(Operator, AtomList)>, NoMemory>
+    ensures { IfOk result (λ found. (line : Operator → List Atom → Line) → option_map (λ p. line p.0 p.1) found ≡ in_parentheses line (before_close_in (map lexeme_of tokens.now))) }
 {
-    let Some((op, args)) = tokens.split_first() else {
+    let Some(inner) = before_close(tokens) else {
         return Ok(None);
     };
-    let Some(atoms) = atoms_of(alloc, args)? else {
+    let Some((op, args)) = inner.split_first() else {
         return Ok(None);
     };
     let Some(op) = operator_of(op) else {
         return Ok(None);
     };
+    let Some(atoms) = atoms_of(alloc, args)? else {
+        return Ok(None);
+    };
+    Ok(Some((op, atoms)))
+}
+
+/// The line of a `do` with these tokens behind it.
+fn do_line(alloc: Global, tokens: &[Token<'_>]) -> Result<Option<Line>, NoMemory>
+    ensures { IfOk result (λ line. line ≡ do_form (map lexeme_of tokens.now)) }
+{
+    let Some((first, rest)) = tokens.split_first() else {
+        return Ok(None);
+    };
+    if !matches!(first, Token::Open) {
+        return Ok(None);
+    }
+    let Some((op, atoms)) = operation_of(alloc, rest)? else {
+        return Ok(None);
+    };
+    Ok(Some(Line::Do(op, atoms)))
+}
+
+/// The line of an operation whose value goes to a target, with these tokens behind the `(`.
+fn operate_line(
+    alloc: Global,
+    target: Option<PyText>,
+    tokens: &[Token<'_>],
+) -> Result<Option<Line>, NoMemory>
+    ensures { IfOk result (λ line. line ≡ operate_form target (before_close_in (map lexeme_of tokens.now))) }
+{
     let Some(name) = target else {
+        return Ok(None);
+    };
+    let Some((op, atoms)) = operation_of(alloc, tokens)? else {
         return Ok(None);
     };
     Ok(Some(Line::Operate(name, op, atoms)))
@@ -214,13 +266,11 @@ fn value_line(
     let Some((first, rest)) = tokens.split_first() else {
         return Ok(None);
     };
-    if !matches!(first, Token::Open) {
-        return atom_line(alloc, target, tokens);
+    if matches!(first, Token::Open) {
+        operate_line(alloc, target, rest)
+    } else {
+        atom_line(alloc, target, tokens)
     }
-    let Some(inner) = before_close(rest) else {
-        return Ok(None);
-    };
-    operation_line(alloc, target, inner)
 }
 
 /// The line of an atom alone that is assigned to a target.
@@ -266,6 +316,36 @@ fn begins_equals(tokens: &[Token<'_>]) -> bool
     }
 }
 
+/// The line of a word that begins a block, a declaration, a drive or an assignment, and the tokens behind it.
+fn opening_line(
+    alloc: Global,
+    first: &Token<'_>,
+    word: &[u8],
+    rest: &[Token<'_>],
+) -> Result<Option<Line>, NoMemory>
+    requires { lexeme_of first.now ≡ Word word.now }
+    ensures { IfOk result (λ line. line ≡ opening_form word.now (map lexeme_of rest.now)) }
+{
+    if word == b"if".as_slice() {
+        return Ok(lone_atom(alloc, rest)?.map(Line::If));
+    }
+    if word == b"else".as_slice() {
+        return Ok(lone(Line::Else, rest));
+    }
+    if word == b"while".as_slice() {
+        return Ok(lone_atom(alloc, rest)?.map(Line::While));
+    }
+    if word == b"def".as_slice() {
+        return def_line(alloc, rest);
+    }
+    if word == b"call".as_slice() {
+        if !begins_equals(rest) {
+            return call_line(alloc, rest);
+        }
+    }
+    assign_line(alloc, first, rest)
+}
+
 /// The line of a word and the tokens behind it.
 fn word_line(
     alloc: Global,
@@ -288,15 +368,10 @@ fn word_line(
     if word == b"show".as_slice() {
         return Ok(lone_atom(alloc, rest)?.map(Line::Show));
     }
-    if word == b"def".as_slice() {
-        return def_line(alloc, rest);
+    if word == b"do".as_slice() {
+        return do_line(alloc, rest);
     }
-    if word == b"call".as_slice() {
-        if !begins_equals(rest) {
-            return call_line(alloc, rest);
-        }
-    }
-    assign_line(alloc, first, rest)
+    opening_line(alloc, first, word, rest)
 }
 
 /// The line that tokens are.

@@ -15,12 +15,20 @@ pub enum Line {
     Assign(PyText, Atom),
     /// `x = (op a ..)`.
     Operate(PyText, Operator, AtomList),
+    /// `do (op a ..)`.
+    Do(Operator, AtomList),
     /// `show a`.
     Show(Atom),
     /// `return a`.
     Return(Atom),
     /// `pass`.
     Pass,
+    /// `if a`.
+    If(Atom),
+    /// `else`.
+    Else,
+    /// `while a`.
+    While(Atom),
     /// `def f p ..`.
     Def(PyText, ParamList),
     /// `call f a ..`.
@@ -36,9 +44,13 @@ impl Line {
             Line::End => true,
             Line::Assign(_, _) => false,
             Line::Operate(_, _, _) => false,
+            Line::Do(_, _) => false,
             Line::Show(_) => false,
             Line::Return(_) => false,
             Line::Pass => false,
+            Line::If(_) => false,
+            Line::Else => false,
+            Line::While(_) => false,
             Line::Def(_, _) => false,
             Line::Call(_, _) => false,
         }

@@ -1,107 +1,103 @@
-//! The body that is open while its lines are read.
+//! The body that is open while its lines are read, with the blocks that are open in it.
+//! A block lies on a stack until its `end`, so that no line walks over what was read before it.
 
-ghost use Rattle.std.specs.Prelude.{◌≡◌, ◌||◌, IfOk, OnOk, option_map};
-ghost use Rattle.std.specs.List.{list_all};
-ghost use Rattle.py_body.specs.Tree.{Name, form_of, suite_of, tree_of};
-ghost use Rattle.py_grammar.specs.Rules.{is_among, binds, is_known, may_operate as may_be_operated};
-ghost use Rattle.py_grammar.specs.Reader.{opened, grown, goes_on, only_if, closed as closed_tree};
-ghost use Rattle.py_grammar.specs.Reading.{open_of};
+ghost use Rattle.std.specs.Prelude.{◌≡◌, ◌&&◌, IfOk, option_map, suc, length};
+ghost use Rattle.py_body.specs.Tree.{form_of, suite_of};
+ghost use Rattle.py_grammar.specs.Rules.{has_room as is_room};
+ghost use Rattle.py_grammar.specs.Reader.{opened, grown, deeper, else_of, turned, goes_on, only_if, ended, closed};
+ghost use Rattle.py_grammar.specs.Reading.{head_of, open_of, closing_of};
 
 use crate::line::Line;
-use crate::name_table::NameTable;
-use crate::rules::arity;
-use py_body::{Atom, AtomList, Body, Operator, ParamList, Stmt, StmtForm, StmtList};
+use crate::rules::{is_bindable, is_usable, may_operate};
+use py_body::{Atom, Body, ParamList, Stmt, StmtForm, StmtList};
 use py_code::{NoMemory, PyText};
 use std::alloc::Global;
-use std::marker::Model;
+use std::mem;
 
-/// The header of a function, with the line it stands in, and the statements read so far.
+/// How many blocks may be open at once, the body among them.
+const MOST_BLOCKS: usize = 64;
+
+/// How an open block began.
+#[derive(Drop)]
+pub enum BlockHead {
+    /// `if a`, without an `else` so far.
+    If(Atom),
+    /// `if a`, its suite and `else`.
+    Else(Atom, StmtList),
+    /// `while a`.
+    While(Atom),
+}
+
+/// A block that is open, with the line of its head and the statements before it in the block around it.
+#[derive(Drop)]
+pub struct OpenBlock {
+    before: StmtList,
+    line: u32,
+    head: BlockHead,
+}
+
+/// The header of a function, with the line it stands in, the blocks that are open in it, the innermost last,
+/// and the statements of the innermost read so far.
 #[derive(Drop)]
 pub struct OpenBody {
     line: u32,
     name: PyText,
     params: ParamList,
+    blocks: Vec<OpenBlock>,
     done: StmtList,
-    /// The parameters, and the names that the statements assign to.
-    known: NameTable,
 }
 
-impl Model for OpenBody {
-    ghost use Rattle.py_body.specs.Tree.{suite_of};
-    ghost use Rattle.py_grammar.specs.Tables.{Partial, HasKnown};
-
-    ghost Value = { Partial };
-
-    ghost view = { λ o. record { line = o.line; name = o.name; params = o.params; done = o.done } };
-
-    ghost invariant = { λ o. HasKnown o.known o.params (suite_of o.done) };
+/// What an `end` closes.
+#[derive(Drop)]
+pub enum Closed {
+    /// The body, which is this function.
+    Function(Body),
+    /// The innermost block, which this body has now as a statement.
+    Block(OpenBody),
 }
 
-/// A table of these names.
-fn table_of(alloc: Global, names: &[PyText]) -> Result<NameTable, NoMemory>
-    ensures { IfOk result (λ table. (x : Name) → is_among x table ≡ is_among x names.now) }
+/// How a block goes on behind an `else`, where it may have one.
+fn else_head(head: BlockHead, suite: StmtList) -> Option<BlockHead>
+    ensures { option_map head_of result ≡ else_of (head_of head) (suite_of suite) }
 {
-    let mut table = NameTable::new(alloc);
-    for name in names {
-        table.insert(name)?;
+    match head {
+        BlockHead::If(atom) => Some(BlockHead::Else(atom, suite)),
+        BlockHead::Else(_, _) => None,
+        BlockHead::While(_) => None,
     }
-    Ok(table)
 }
 
-/// A table with the name that a statement assigns to, where it assigns to one.
-fn note_target(table: &mut NameTable, form: &StmtForm) -> Result<(), NoMemory>
-    ensures { OnOk result ((x : Name) → is_among x table.new ≡ (is_among x table.old || binds x (form_of form.now))) }
+/// The statement that a block with this last suite is at its end.
+fn form_at_end(head: BlockHead, suite: StmtList) -> StmtForm
+    ensures { form_of result ≡ ended (head_of head) (suite_of suite) }
 {
-    match form.target() {
-        Some(target) => table.insert(target),
-        None => Ok(()),
+    match head {
+        BlockHead::If(atom) => StmtForm::If(atom, suite),
+        BlockHead::Else(atom, first) => StmtForm::IfElse(atom, first, suite),
+        BlockHead::While(atom) => StmtForm::While(atom, suite),
     }
 }
 
 impl OpenBody {
     /// A body of which the header alone was read.
-    pub fn new(
-        alloc: Global,
-        line: u32,
-        name: PyText,
-        params: ParamList,
-    ) -> Result<OpenBody, NoMemory>
-        ensures { IfOk result (λ body. open_of body ≡ opened line name params) }
+    pub fn new(alloc: Global, line: u32, name: PyText, params: ParamList) -> OpenBody
+        ensures { open_of result ≡ opened line name params }
     {
-        let known = table_of(alloc, params.as_slice())?;
-        Ok(OpenBody {
+        OpenBody {
             line,
             name,
             params,
+            blocks: Vec::new(alloc),
             done: StmtList::new(alloc),
-            known,
-        })
-    }
-
-    /// Whether an atom is a literal, a parameter, or a name that one of the statements assigns to.
-    fn knows(&self, atom: &Atom) -> bool
-        ensures { result ≡ is_known self.now.params (suite_of self.now.done) atom.now }
-    {
-        match atom {
-            Atom::None => true,
-            Atom::Bool(_) => true,
-            Atom::Int(_) => true,
-            Atom::Str(_) => true,
-            Atom::Name(name) => self.known.contains(name),
         }
     }
 
-    fn knows_all(&self, atoms: &[Atom]) -> bool
-        ensures { result ≡ list_all (is_known self.now.params (suite_of self.now.done)) atoms.now }
+    /// Whether one more block may be opened.
+    #[tactic(auto, using(crate::proofs::Stacks::stack_length))]
+    fn has_room(&self) -> bool
+        ensures { result ≡ is_room (suc (length (open_of self.now).blocks)) }
     {
-        atoms.iter().all(|atom| self.knows(atom))
-    }
-
-    /// Whether an operator may take these atoms here.
-    fn may_operate(&self, op: Operator, atoms: &AtomList) -> bool
-        ensures { result ≡ may_be_operated self.now.params (suite_of self.now.done) op atoms.now }
-    {
-        atoms.len() == arity(op) && self.knows_all(atoms.as_slice())
+        self.blocks.len() + 1 < MOST_BLOCKS
     }
 
     /// One more statement, where it is allowed.
@@ -111,68 +107,116 @@ impl OpenBody {
         if !allowed {
             return Ok(None);
         }
-        let OpenBody {
-            line: header,
-            name,
-            params,
-            mut done,
-            mut known,
-        } = self;
-        note_target(&mut known, &form)?;
-        done.push(Stmt { line, form })?;
-        Ok(Some(OpenBody {
-            line: header,
-            name,
-            params,
-            done,
-            known,
-        }))
+        let mut body = self;
+        body.done.push(Stmt { line, form })?;
+        Ok(Some(body))
     }
 
-    /// The body with one more line, other than its end, where that may stand here.
-    pub fn push_line(self, number: u32, line: Line) -> Result<Option<OpenBody>, NoMemory>
+    /// One more open block, where there is room for it and its atom is allowed.
+    #[tactic(auto, using(crate::proofs::Stacks::stack_push))]
+    fn open_if(
+        self,
+        alloc: Global,
+        allowed: bool,
+        line: u32,
+        head: BlockHead,
+    ) -> Result<Option<OpenBody>, NoMemory>
+        ensures { IfOk result (λ next. option_map open_of next ≡ only_if (is_room (suc (length (open_of self).blocks)) && allowed) (deeper (open_of self) line (head_of head))) }
+    {
+        if !self.has_room() || !allowed {
+            return Ok(None);
+        }
+        let mut body = self;
+        let before = mem::replace(&mut body.done, StmtList::new(alloc));
+        body.blocks.push(OpenBlock { before, line, head })?;
+        Ok(Some(body))
+    }
+
+    /// The innermost block behind an `else`, where it may have one.
+    #[tactic(auto, using(crate::proofs::Stacks::stack_push))]
+    fn turn(self, alloc: Global) -> Result<Option<OpenBody>, NoMemory>
+        ensures { IfOk result (λ next. option_map open_of next ≡ turned (open_of self) (open_of self).blocks) }
+    {
+        let mut body = self;
+        let Some(block) = body.blocks.pop() else {
+            return Ok(None);
+        };
+        let OpenBlock { before, line, head } = block;
+        let suite = mem::replace(&mut body.done, StmtList::new(alloc));
+        let Some(head) = else_head(head, suite) else {
+            return Ok(None);
+        };
+        body.blocks.push(OpenBlock { before, line, head })?;
+        Ok(Some(body))
+    }
+
+    /// The body with one more line, other than an `end`, where that may stand here.
+    pub fn push_line(
+        self,
+        alloc: Global,
+        number: u32,
+        line: Line,
+    ) -> Result<Option<OpenBody>, NoMemory>
         ensures { IfOk result (λ next. option_map open_of next ≡ goes_on (open_of self) number line) }
     {
         match line {
             Line::Assign(target, atom) => {
-                let known = self.knows(&atom);
-                self.grow_if(known, number, StmtForm::Assign(target, atom))
+                let may = is_bindable(&target) && is_usable(&atom);
+                self.grow_if(may, number, StmtForm::Assign(target, atom))
             }
             Line::Operate(target, op, atoms) => {
-                let may = self.may_operate(op, &atoms);
+                let may = is_bindable(&target) && may_operate(op, &atoms);
                 self.grow_if(may, number, StmtForm::Operate(target, op, atoms))
             }
-            Line::Show(atom) => {
-                let known = self.knows(&atom);
-                self.grow_if(known, number, StmtForm::Show(atom))
+            Line::Do(op, atoms) => {
+                self.grow_if(may_operate(op, &atoms), number, StmtForm::Do(op, atoms))
             }
-            Line::Return(atom) => {
-                let known = self.knows(&atom);
-                self.grow_if(known, number, StmtForm::Return(atom))
-            }
+            Line::Show(atom) => self.grow_if(is_usable(&atom), number, StmtForm::Show(atom)),
+            Line::Return(atom) => self.grow_if(is_usable(&atom), number, StmtForm::Return(atom)),
             Line::Pass => self.grow_if(true, number, StmtForm::Pass),
+            Line::If(atom) => self.open_if(alloc, is_usable(&atom), number, BlockHead::If(atom)),
+            Line::Else => self.turn(alloc),
+            Line::While(atom) => {
+                self.open_if(alloc, is_usable(&atom), number, BlockHead::While(atom))
+            }
             Line::End => Ok(None),
             Line::Def(_, _) => Ok(None),
             Line::Call(_, _) => Ok(None),
         }
     }
 
-    /// The function, at its end.
-    pub fn close(self) -> Body
-        ensures { tree_of result ≡ closed_tree (open_of self) }
+    /// The body behind an `end`.
+    #[tactic(auto, using(crate::proofs::Stacks::stack_push))]
+    pub fn close(self) -> Result<Closed, NoMemory>
+        ensures { IfOk result (λ left. closing_of left ≡ closed (open_of self) (open_of self).blocks) }
     {
         let OpenBody {
             line,
             name,
             params,
+            mut blocks,
             done,
-            known: _,
         } = self;
-        Body {
+        let Some(block) = blocks.pop() else {
+            return Ok(Closed::Function(Body {
+                name,
+                params,
+                suite: done,
+                line,
+            }));
+        };
+        let form = form_at_end(block.head, done);
+        let mut done = block.before;
+        done.push(Stmt {
+            line: block.line,
+            form,
+        })?;
+        Ok(Closed::Block(OpenBody {
+            line,
             name,
             params,
-            suite: done,
-            line,
-        }
+            blocks,
+            done,
+        }))
     }
 }

@@ -2,14 +2,14 @@
 
 ghost use Rattle.std.specs.Prelude.{◌≡◌, IfOk, Some, None, [], option_map};
 ghost use Rattle.py_grammar.specs.Script.{trees_of, drives_of};
-ghost use Rattle.py_grammar.specs.Reader.{accept, start, in_body, outside, walk};
+ghost use Rattle.py_grammar.specs.Reader.{accept, start, in_body, outside, closed, closes, walk};
 ghost use Rattle.py_grammar.specs.Reading.{open_of, state_of, IsAnswerOf};
 ghost use Rattle.py_grammar.specs.Tables.{taken_names};
 
 use crate::fault::ParseFault;
 use crate::line::Line;
 use crate::name_table::NameTable;
-use crate::open_body::OpenBody;
+use crate::open_body::{Closed, OpenBody};
 use crate::rules::{may_declare, may_drive};
 use crate::script::{DeclList, Declaration, DriveLine, DriveList, Script};
 use py_code::NoMemory;
@@ -27,10 +27,14 @@ pub struct Reader {
 
 impl Model for Reader {
     ghost use Rattle.std.specs.Prelude.{◌≡◌};
+    ghost use Rattle.std.specs.Coded.{codes};
+    ghost use Rattle.py_body.specs.contracts.stmt.StmtList as e;
     ghost use Rattle.py_grammar.specs.Script.{trees_of};
     ghost use Rattle.py_grammar.specs.Tables.{SoFar, taken_names};
 
     ghost Value = { SoFar };
+
+    ghost coded = { Prim.hlevel (codes, e.the_row.coded) };
 
     ghost view = { λ r. record { whole = r.whole; inside = r.inside } };
 
@@ -52,8 +56,32 @@ impl Reader {
         }
     }
 
+    /// An `end` where this body is open.
+    fn end(whole: Script, names: NameTable, body: OpenBody) -> Result<Reader, NoMemory>
+        requires { names ≡ taken_names (trees_of whole) (Some body) }
+        ensures { IfOk result (λ next. state_of next ≡ closes (trees_of whole) (drives_of whole) (closed (open_of body) (open_of body).blocks)) }
+    {
+        match body.close()? {
+            Closed::Block(body) => Ok(Reader {
+                whole,
+                inside: Some(body),
+                names,
+            }),
+            Closed::Function(body) => {
+                let mut whole = whole;
+                whole.declarations.push(Declaration::Function(body))?;
+                Ok(Reader {
+                    whole,
+                    inside: None,
+                    names,
+                })
+            }
+        }
+    }
+
     /// A line where this body is open.
     fn push_inside(
+        alloc: Global,
         whole: Script,
         names: NameTable,
         body: OpenBody,
@@ -64,21 +92,9 @@ impl Reader {
         ensures { IfOk result (λ next. option_map state_of next ≡ in_body (trees_of whole) (drives_of whole) (open_of body) number line) }
     {
         if line.is_end() {
-            let Script {
-                mut declarations,
-                drives,
-            } = whole;
-            declarations.push(Declaration::Function(body.close()))?;
-            return Ok(Some(Reader {
-                whole: Script {
-                    declarations,
-                    drives,
-                },
-                inside: None,
-                names,
-            }));
+            return Ok(Some(Reader::end(whole, names, body)?));
         }
-        match body.push_line(number, line)? {
+        match body.push_line(alloc, number, line)? {
             Some(body) => Ok(Some(Reader {
                 whole,
                 inside: Some(body),
@@ -106,7 +122,7 @@ impl Reader {
                 }
                 let mut names = names;
                 names.insert(&name)?;
-                let body = OpenBody::new(alloc, number, name, params)?;
+                let body = OpenBody::new(alloc, number, name, params);
                 Ok(Some(Reader {
                     whole,
                     inside: Some(body),
@@ -117,16 +133,10 @@ impl Reader {
                 if !may_drive(&names, &whole.declarations, &function, &args) {
                     return Ok(None);
                 }
-                let Script {
-                    declarations,
-                    mut drives,
-                } = whole;
-                drives.push(DriveLine::Call(function, args))?;
+                let mut whole = whole;
+                whole.drives.push(DriveLine::Call(function, args))?;
                 Ok(Some(Reader {
-                    whole: Script {
-                        declarations,
-                        drives,
-                    },
+                    whole,
                     inside: None,
                     names,
                 }))
@@ -134,9 +144,13 @@ impl Reader {
             Line::End => Ok(None),
             Line::Assign(_, _) => Ok(None),
             Line::Operate(_, _, _) => Ok(None),
+            Line::Do(_, _) => Ok(None),
             Line::Show(_) => Ok(None),
             Line::Return(_) => Ok(None),
             Line::Pass => Ok(None),
+            Line::If(_) => Ok(None),
+            Line::Else => Ok(None),
+            Line::While(_) => Ok(None),
         }
     }
 
@@ -155,7 +169,7 @@ impl Reader {
             names,
         } = self;
         match inside {
-            Some(body) => Reader::push_inside(whole, names, body, number, line),
+            Some(body) => Reader::push_inside(alloc, whole, names, body, number, line),
             None => Reader::push_outside(alloc, whole, names, number, line),
         }
     }

@@ -6,6 +6,7 @@ ghost use Rattle.py_body.specs.Binding.{arity_of as arity_in};
 ghost use Rattle.py_grammar.specs.Script.{declared_tree};
 ghost use Rattle.py_grammar.specs.Rules.{is_among as is_among_names, all_differ as do_all_differ, is_builtin_class as is_builtin};
 ghost use Rattle.py_grammar.specs.Rules.{takes as takes_count, is_literal as is_literal_atom, may_drive as may_be_driven};
+ghost use Rattle.py_grammar.specs.Rules.{is_bindable as is_bindable_name, is_usable as is_usable_atom, may_operate as may_be_operated};
 ghost use Rattle.py_grammar.specs.Tables.{may_head, names_of};
 
 use crate::name_table::NameTable;
@@ -122,11 +123,47 @@ pub fn may_drive(names: &NameTable, declarations: &DeclList, name: &PyText, args
     is_callable(names, declarations, name, args.len()) && are_literals(args.as_slice())
 }
 
+/// Whether a name may be bound in a body.
+pub fn is_bindable(name: &PyText) -> bool
+    ensures { result ≡ is_bindable_name name.now }
+{
+    !is_builtin_class(name)
+}
+
+/// Whether an atom may stand in a body.
+pub fn is_usable(atom: &Atom) -> bool
+    ensures { result ≡ is_usable_atom atom.now }
+{
+    match atom {
+        Atom::None => true,
+        Atom::Bool(_) => true,
+        Atom::Int(_) => true,
+        Atom::Str(_) => true,
+        Atom::Name(name) => !is_builtin_class(name),
+    }
+}
+
 /// How many arguments an operator takes.
-pub fn arity(op: Operator) -> usize
+fn arity(op: Operator) -> usize
     ensures { result ≡ arity_in op }
 {
     match op {
         Operator::Add => 2,
+        Operator::Sub => 2,
+        Operator::Lt => 2,
+        Operator::Eq => 2,
     }
+}
+
+fn are_usable(atoms: &[Atom]) -> bool
+    ensures { result ≡ list_all is_usable_atom atoms.now }
+{
+    atoms.iter().all(is_usable)
+}
+
+/// Whether an operator may take these atoms.
+pub fn may_operate(op: Operator, atoms: &AtomList) -> bool
+    ensures { result ≡ may_be_operated op atoms.now }
+{
+    atoms.len() == arity(op) && are_usable(atoms.as_slice())
 }

@@ -5,26 +5,52 @@ ghost use Rattle.std.specs.Prelude.{◌<◌};
 use super::{bad_line, first_wrong};
 use std::alloc::{AllocError, Global};
 
-const KNOWN_NAMES: &[(&[u8], u64)] = &[
+const NAMES_IN_BODIES: &[(&[u8], u64)] = &[
     (b"def f a\nx = a\nshow x\ny = (add x a)\nreturn y\nend\n", 0),
-    (b"def f\nx = (add 1 2)\ny = (add 3 4)\nend\n", 0),
-    (b"def f a\na = (add a 1)\nreturn a\nend\n", 0),
-    (b"def f\nreturn 1\nx = 2\nshow x\nend\n", 0),
-    (b"def f a\nend\ndef g\na = 1\nreturn a\nend\n", 0),
-    (b"def f\nshow y\nend\n", 2),
-    (b"def f\nreturn y\nend\n", 2),
-    (b"def f\nx = y\nend\n", 2),
-    (b"def f\nx = x\nend\n", 2),
-    (b"def f\nx = (add x 1)\nend\n", 2),
-    (b"def f a\nx = (add a y)\nend\n", 2),
-    (b"def f a\nx = (add y a)\nend\n", 2),
-    (b"def f\nshow x\nx = 1\nend\n", 2),
-    (b"def f\nreturn x\nx = (add 1 2)\nend\n", 2),
-    (b"def f\nreturn f\nend\n", 2),
-    (b"def f\nreturn TypeError\nend\n", 2),
-    (b"def f a\nx = a\nend\ndef g\nreturn x\nend\n", 5),
-    (b"def f a\nend\ndef g\nreturn a\nend\n", 4),
-    (b"def f\npass\nx = 1\nreturn X\nend\n", 4),
+    (b"def f\nshow z\nend\n", 0),
+    (b"def f\nx = x\nreturn y\nend\n", 0),
+    (b"def f\nx = (add y z)\ndo (lt x w)\nend\n", 0),
+    (b"def f\nif y\nelse\nx = 1\nend\nwhile x\nend\nend\n", 0),
+    (b"def f\nreturn f\nend\ndef g\nshow f\nend\n", 0),
+    (b"def f TypeError\npass\nend\n", 0),
+    (
+        b"def f\nshow TypeErrors\nshow typeerror\nshow Exception\nend\n",
+        0,
+    ),
+    (b"def f\nshow 'TypeError'\nend\n", 0),
+    (b"def f\nshow TypeError\nend\n", 2),
+    (b"def f TypeError\nshow TypeError\nend\n", 2),
+    (b"def f\nTypeError = 1\nend\n", 2),
+    (b"def f TypeError\nTypeError = 1\nend\n", 2),
+    (b"def f\nNameError = (add 1 2)\nend\n", 2),
+    (b"def f\nx = OverflowError\nend\n", 2),
+    (b"def f\nx = (add 1 NameError)\nend\n", 2),
+    (b"def f\ndo (add TypeError 1)\nend\n", 2),
+    (b"def f\npass\nreturn UnboundLocalError\nend\n", 3),
+    (b"def f\nif RecursionError\nend\nend\n", 2),
+    (b"def f\nif 1\nwhile TypeError\nend\nend\nend\n", 3),
+    (b"def f\nif 1\nelse\nshow TypeError\nend\nend\n", 4),
+];
+
+const BLOCKS: &[(&[u8], u64)] = &[
+    (
+        b"def f\nif 1\nelse\nif 2\nelse\nend\nend\nif 3\nelse\nend\nend\n",
+        0,
+    ),
+    (b"def f\nif 1\nwhile 2\nend\nelse\nend\nend\n", 0),
+    (b"def f\nelse\nend\n", 2),
+    (b"def f\nif 1\nend\nelse\nend\nend\n", 4),
+    (b"def f\nif 1\nelse\nelse\nend\nend\n", 4),
+    (b"def f\nif 1\nelse\nif 2\nelse\nend\nelse\nend\nend\n", 7),
+    (b"def f\nwhile 1\nelse\nend\nend\n", 3),
+    (b"def f\nif 1\nwhile 2\nelse\nend\nend\nend\n", 4),
+    (b"def f\nif 1\nend\n", 4),
+    (b"def f\nif 1\nelse\nend", 5),
+    (b"def f\nwhile 1\nif 2\nend\nend\n# end\n", 7),
+    (b"def f\nif 1\nend\nend\nend\n", 5),
+    (b"def f\nif 1\ndef g\nend\nend\nend\n", 3),
+    (b"def f\nwhile 1\ncall f\nend\nend\n", 3),
+    (b"def f\nif 1\nend\nend\ncall f\ndef f\nend\n", 6),
 ];
 
 const DECLARED_NAMES: &[(&[u8], u64)] = &[
@@ -32,7 +58,7 @@ const DECLARED_NAMES: &[(&[u8], u64)] = &[
     (b"def f f\nf = f\nreturn f\nend\n", 0),
     (b"def Exception\nend\n", 0),
     (b"def TypeErrors\nend\n", 0),
-    (b"def f TypeError\nNameError = TypeError\nend\n", 0),
+    (b"def f TypeError NameError\nend\n", 0),
     (b"def f\nend\ndef f\nend\n", 3),
     (b"def f\nend\ndef g\nend\n\ndef f a\nend\n", 6),
     (b"def f\nend\ncall f\ndef f\nend\n", 4),
@@ -90,8 +116,13 @@ const BODIES: &[(&[u8], u64)] = &[
 ];
 
 #[test]
-fn a_name_is_known_behind_the_line_that_binds_it(rt: HostRuntime) {
-    assert_eq!(rt; first_wrong(rt.alloc(), KNOWN_NAMES), None);
+fn no_line_of_a_body_has_the_name_of_a_built_in_class(rt: HostRuntime) {
+    assert_eq!(rt; first_wrong(rt.alloc(), NAMES_IN_BODIES), None);
+}
+
+#[test]
+fn an_else_belongs_to_the_innermost_if(rt: HostRuntime) {
+    assert_eq!(rt; first_wrong(rt.alloc(), BLOCKS), None);
 }
 
 #[test]
@@ -129,5 +160,29 @@ fn a_function_has_at_most_255_parameters(rt: HostRuntime) -> Result<(), AllocErr
     let alloc = rt.alloc();
     assert_eq!(rt; bad_line(alloc, def_with(alloc, 255)?.as_slice()), 0);
     assert_eq!(rt; bad_line(alloc, def_with(alloc, 256)?.as_slice()), 1);
+    Ok(())
+}
+
+/// A function with so many blocks, each inside the one before it.
+fn nested(alloc: Global, blocks: u16) -> Result<Vec<u8>, AllocError>
+    requires { blocks < 100 }
+{
+    let mut text = Vec::new(alloc);
+    text.extend_from_slice(b"def f")?;
+    for _ in 0..blocks {
+        text.extend_from_slice(b"\nif 1")?;
+    }
+    for _ in 0..blocks {
+        text.extend_from_slice(b"\nend")?;
+    }
+    text.extend_from_slice(b"\nend\n")?;
+    Ok(text)
+}
+
+#[test]
+fn at_most_64_blocks_are_open_with_the_body(rt: HostRuntime) -> Result<(), AllocError> {
+    let alloc = rt.alloc();
+    assert_eq!(rt; bad_line(alloc, nested(alloc, 63)?.as_slice()), 0);
+    assert_eq!(rt; bad_line(alloc, nested(alloc, 64)?.as_slice()), 65);
     Ok(())
 }

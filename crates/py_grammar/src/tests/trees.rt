@@ -1,11 +1,30 @@
 //! What scripts hold.
 
 use crate::{Declaration, DriveLine, Script, one_script, parse_script};
-use py_body::{Atom, AtomList, Body, Operator, Stmt, StmtForm};
+use py_body::{Atom, AtomList, Body, Operator, Stmt, StmtForm, StmtList};
 
 const SCRIPT: &[u8] =
     b"\n# two functions\ndef f a b\nx = (add a -007)\n\ny = 'c d'\nshow y\npass\nreturn None\nend
 call f 33 False\ndef g\nend\ncall g\ncall f '' True\n";
+
+const BLOCKS: &[u8] = b"def f a
+if a
+show 1
+else
+pass
+return 2
+end
+while 'b'
+
+if 3
+pass
+end
+end
+do (lt a 4)
+end
+";
+
+const OPERATORS: &[u8] = b"def f\nx = (add 1 2)\nx = (sub 1 2)\nx = (lt 1 2)\nx = (eq 1 2)\nend\n";
 
 /// A function of a script.
 fn function(script: &Script, place: usize) -> Option<&Body> {
@@ -22,8 +41,19 @@ fn outline(stmt: &Stmt) -> (u32, &'static str) {
         StmtForm::Show(_) => "show",
         StmtForm::Return(_) => "return",
         StmtForm::Pass => "pass",
+        StmtForm::Do(_, _) => "do",
+        StmtForm::If(_, _) => "if",
+        StmtForm::IfElse(_, _, _) => "if with else",
+        StmtForm::While(_, _) => "while",
     };
     (stmt.line, form)
+}
+
+/// Whether these are the lines and the forms of a suite.
+fn reads(suite: &StmtList, wanted: &[(u32, &'static str)]) -> bool {
+    let stmts = suite.as_slice();
+    let mut pairs = stmts.iter().zip(wanted);
+    stmts.len() == wanted.len() && pairs.all(|(stmt, want)| outline(stmt) == *want)
 }
 
 /// An atom's kind, its number and its characters.
@@ -56,16 +86,71 @@ fn a_statement_keeps_its_line_and_its_form(rt: HostRuntime) {
         return assert!(rt; false);
     };
     assert_eq!(rt; body.line, 3);
-    let wanted = [
+    let wanted: &[(u32, &'static str)] = &[
         (4, "operate"),
         (6, "assign"),
         (7, "show"),
         (8, "pass"),
         (9, "return"),
     ];
-    assert_eq!(rt; body.suite.len(), wanted.len());
-    for (stmt, want) in body.suite.as_slice().iter().zip(wanted) {
-        assert_eq!(rt; outline(stmt), want);
+    assert!(rt; reads(&body.suite, wanted));
+}
+
+#[test]
+fn a_block_keeps_its_atom_and_its_suites(rt: HostRuntime) {
+    let Ok(script) = parse_script(rt.alloc(), BLOCKS) else {
+        return assert!(rt; false);
+    };
+    let Some(body) = function(&script, 0) else {
+        return assert!(rt; false);
+    };
+    assert!(rt;
+        reads(
+            &body.suite,
+            &[(2, "if with else"), (8, "while"), (14, "do")]
+        )
+    );
+    let [choice, looped, _] = body.suite.as_slice() else {
+        return assert!(rt; false);
+    };
+    match &choice.form {
+        StmtForm::IfElse(atom, first, second) => {
+            assert!(rt; is(atom, ("Name", 0, &['a'])));
+            assert!(rt; reads(first, &[(3, "show")]));
+            assert!(rt; reads(second, &[(5, "pass"), (6, "return")]));
+        }
+        _ => assert!(rt; false),
+    }
+    match &looped.form {
+        StmtForm::While(atom, suite) => {
+            assert!(rt; is(atom, ("Str", 0, &['b'])));
+            assert!(rt; reads(suite, &[(10, "if")]));
+        }
+        _ => assert!(rt; false),
+    }
+}
+
+/// The operator of a statement that has one.
+fn operator(stmt: &Stmt) -> Option<Operator> {
+    match &stmt.form {
+        StmtForm::Operate(_, op, _) => Some(*op),
+        _ => None,
+    }
+}
+
+#[test]
+fn an_operator_is_read_by_its_word(rt: HostRuntime) {
+    let Ok(script) = parse_script(rt.alloc(), OPERATORS) else {
+        return assert!(rt; false);
+    };
+    let Some(body) = function(&script, 0) else {
+        return assert!(rt; false);
+    };
+    let wanted = [Operator::Add, Operator::Sub, Operator::Lt, Operator::Eq];
+    let stmts = body.suite.as_slice();
+    assert_eq!(rt; stmts.len(), wanted.len());
+    for (stmt, want) in stmts.iter().zip(wanted) {
+        assert_eq!(rt; operator(stmt), Some(want));
     }
 }
 
@@ -77,7 +162,7 @@ fn a_statement_keeps_its_names_and_atoms(rt: HostRuntime) {
     let Some(body) = function(&script, 0) else {
         return assert!(rt; false);
     };
-    let (Some(operated), Some(assigned)) = (body.suite.get(0), body.suite.get(1)) else {
+    let [operated, assigned, ..] = body.suite.as_slice() else {
         return assert!(rt; false);
     };
     match &operated.form {

@@ -31,8 +31,9 @@ const CONSTANTS: &[(&[u8], u64)] = &[
     (b"def f\nreturn None\nend\n", 0),
     (b"def f\nx = True\ny = False\nreturn x\nend\n", 0),
     (b"def f a b c\nend\ncall f None True False\n", 0),
-    (b"def f\nreturn none\nend\n", 2),
-    (b"def f\nreturn TRUE\nend\n", 2),
+    (b"def f\nreturn none\nreturn TRUE\nend\n", 0),
+    (b"def f\nNone = 1\nend\n", 2),
+    (b"def f\nTrue = (add 1 2)\nend\n", 2),
     (b"def f a\nend\ncall f true\n", 3),
     (b"def f a\nend\ncall f Nones\n", 3),
 ];
@@ -211,6 +212,8 @@ const RESERVED: &[&[u8]] = &[
     b"type",
 ];
 
+const NOT_RESERVED: &[&[u8]] = &[b"call", b"as", b"add", b"sub", b"lt", b"eq"];
+
 /// The bad line of a function of this name, then of one with a parameter of this name.
 fn named(alloc: Global, word: &[u8]) -> Result<(u64, u64), AllocError> {
     let mut text = Vec::new(alloc);
@@ -230,7 +233,7 @@ fn a_reserved_word_is_no_name(rt: HostRuntime) -> Result<(), AllocError> {
     for word in RESERVED {
         assert_eq!(rt; named(rt.alloc(), word)?, (1, 1));
     }
-    for word in [b"call".as_slice(), b"add".as_slice(), b"as".as_slice()] {
+    for word in NOT_RESERVED {
         assert_eq!(rt; named(rt.alloc(), word)?, (0, 0));
     }
     Ok(())

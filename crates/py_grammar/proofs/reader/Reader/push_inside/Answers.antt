@@ -1,0 +1,12 @@
+use Rattle.std.proofs.Common.{ap, sym, ◌∙◌, ◌∷◌, [], ◌++◌}
+use Rattle.std.specs.Prelude.{option_map}
+use Rattle.py_grammar.specs.Script.{trees_of}
+use Rattle.py_grammar.specs.Reading.{open_of}
+use Rattle.py_grammar.specs.Tables.{names_of}
+use Rattle.py_grammar.proofs.Heads.{goes_on-name}
+use Rattle.py_grammar.proofs.reader.Reader.push_inside.Goals as goal
+
+pub invariant_of-result : goal.invariant_of-result
+invariant_of-result c =
+    c.requires ∙ ap (λ x. names_of (trees_of c.args.whole) ++ x ∷ [])
+    (sym (goes_on-name (open_of c.args.body) c.args.number c.args.line (open_of c.in-Some.body) (ap (option_map open_of) (sym c.in-Some.is) ∙ c.in_ok-body.ensures)))
