@@ -12,7 +12,12 @@ mod AnswersLemmas
 -- an activation that plays, and what a journal keeps as events come
 mod PlaysLemmas
 mod JournalLemmas
--- one turn keeps the invariant
+-- one turn keeps the invariant: what stays, how a drive begins and ends, how an activation goes on
+mod KeepsLemmas
+mod BeginLemmas
+mod GoingLemmas
 mod TurnsLemmas
+-- names that come to be declared
+mod DeclaringLemmas
 -- machines between drives, and what a drive adds
 pub mod StandsLemmas

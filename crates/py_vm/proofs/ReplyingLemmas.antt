@@ -16,7 +16,7 @@ use Rattle.py_frame.specs.declared.input.Answer.TheVariants as given
 use Rattle.py_frame.proofs.Growing.{payload_grown}
 use Rattle.py_frame.proofs.PlainGrowth.{declared_grown}
 use Rattle.py_vm.specs.declared.exceptions.ExceptionZoo.{ExceptionZoo}
-use Rattle.py_vm.specs.Answers.{Has, Fails}
+use Rattle.py_vm.specs.Answers.{Has, Is, Fails}
 use Rattle.py_vm.specs.Classes.{class_of, HaveClasses}
 use Rattle.py_vm.specs.Replying.{IsClass, IsNewException}
 use Rattle.py_vm.specs.Turns.{IsGiven, IsGrown}
@@ -150,6 +150,10 @@ there_given objects p v has = record {
   below = (slice_get_within objects v.number p has, tt);
   heard = tt;
 }
+
+-- an object that is there gives itself
+pub itself_given : (objects : List Payload) (v : Obj) → v.number < length objects → IsGiven objects objects (Is v) (given.Value v)
+itself_given objects v low = record { gives = λ before named. refl; below = (low, tt); heard = tt }
 
 -- an object that was added gives the reply of its payload
 pub value_given : (old new : Kept) (p : Payload) (v : Obj) → new ≡ with_object old p → v.number ≡ length old.made → IsGiven old.made new.made (Has p) (given.Value v)

@@ -1,6 +1,6 @@
 -- A run as objects and drives grow, and as one more event comes.
-use Rattle.std.proofs.Common.{◌≡◌, ◌+◌, ℕ, suc, List, [], ◌∷◌, ◌++◌, cond, Some, refl, sym, ap, subst, ◌∙◌, length, length-append, append_assoc, append-nil, arith}
-use Rattle.std.specs.Prelude.{None, slice_get}
+use Rattle.std.proofs.Common.{◌≡◌, ◌+◌, ℕ, suc, List, [], ◌∷◌, ◌++◌, ◌||◌, Bool, cond, eqb, Some, refl, sym, ap, subst, ◌∙◌, length, length-append, append_assoc, append-nil, arith}
+use Rattle.std.specs.Prelude.{Option, None, slice_get}
 use Rattle.py_objects.specs.declared.refs.PyBaseExceptionRef.{PyBaseExceptionRef}
 use Rattle.py_objects.specs.declared.payload.Payload.{Payload}
 use Rattle.py_objects.specs.declared.payload.Payload.TheVariants as payload
@@ -11,11 +11,14 @@ use Rattle.py_objects.specs.declared.event.GotAnswer.{GotAnswer}
 use Rattle.py_objects.specs.declared.event.GotAnswer.TheVariants as got
 use Rattle.py_objects.specs.declared.event.Event.{Event}
 use Rattle.py_objects.specs.declared.event.Event.TheVariants as event
-use Rattle.py_objects.specs.Objects.{Name, Grows, declares, is_name, declared_from, declared, IsNew, GrowsPlainly}
+use Rattle.py_code.specs.declared.operator.ComparisonOperator.{ComparisonOperator}
+use Rattle.py_code.specs.declared.operator.ComparisonOperator.TheVariants as comparison
+use Rattle.py_objects.specs.Values.{both, same_value, same_key}
+use Rattle.py_objects.specs.Objects.{Obj, Name, HasPayload, Grows, declares, is_name, declared_from, declared, IsNew, GrowsPlainly}
 use Rattle.py_frame.proofs.Growing.{payload_grown, slice_get_grown}
 use Rattle.py_frame.proofs.PlainGrowth.{plainly_grows}
 use Rattle.py_vm.specs.declared.drive.Drive.{Drive}
-use Rattle.py_vm.specs.Answers.{Reply, Has, Fails, IsTypeName, Replies, IsRaised, Gives}
+use Rattle.py_vm.specs.Answers.{Reply, Has, Is, Fails, IsTypeName, truth, found, Compares, Replies, IsRaised, Gives}
 use Rattle.py_vm.specs.Run.{State, after, state_after, MayCome, Comes}
 
 -- objects that declare nothing are declared under no name
@@ -57,9 +60,18 @@ type_name_grows objects objects' (payload.Generator g) n grows is = is
 type_name_grows objects objects' (payload.Exception e) n grows (c, has, is) = (c, payload_grown objects objects' _ _ grows has, is)
 type_name_grows objects objects' (payload.Traceback t) n grows is = is
 
--- so do replies
-pub replies_grow : (objects objects' : List Payload) (r : Request) (reply : Reply) → Grows objects objects' → Replies objects r reply → Replies objects' r reply
-replies_grow objects objects' (request.Binary op a b) reply grows (p, q, left, right, has_p, has_q, is_left, is_right, is) = (
+-- objects that are there are one key as before
+same_key_grows : (objects objects' : List Payload) (a b : Obj) (p q : Payload) → Grows objects objects' → HasPayload objects a p → HasPayload objects b q
+    → same_key objects' a b ≡ same_key objects a b
+same_key_grows objects objects' a b p q grows has_p has_q =
+    let test : Option Payload → Option Payload → Bool = λ x y. eqb a.number b.number || both same_value x y in
+    let now : same_key objects' a b ≡ test (Some p) (Some q) = ap (λ x. test x (slice_get objects' b.number)) (payload_grown objects objects' a p grows has_p) ∙ ap (test (Some p)) (payload_grown objects objects' b q grows has_q) in
+    let before : same_key objects a b ≡ test (Some p) (Some q) = ap (λ x. test x (slice_get objects b.number)) has_p ∙ ap (test (Some p)) has_q in
+    now ∙ sym before
+
+-- what a comparison comes to stays
+compares_grow : (objects objects' : List Payload) (op : ComparisonOperator) (a b : Obj) (reply : Reply) → Grows objects objects' → Compares objects op a b reply → Compares objects' op a b reply
+compares_grow objects objects' comparison.Less a b reply grows (p, q, left, right, has_p, has_q, is_left, is_right, is) = (
   p,
   q,
   left,
@@ -70,6 +82,35 @@ replies_grow objects objects' (request.Binary op a b) reply grows (p, q, left, r
   type_name_grows objects objects' q right grows is_right,
   is,
 )
+compares_grow objects objects' comparison.Equal a b reply grows (p, q, has_p, has_q, is) = (
+  p,
+  q,
+  payload_grown objects objects' a p grows has_p,
+  payload_grown objects objects' b q grows has_q,
+  is ∙ ap truth (sym (same_key_grows objects objects' a b p q grows has_p has_q)),
+)
+compares_grow objects objects' comparison.Greater a b reply grows is = absurd is
+compares_grow objects objects' comparison.LessOrEqual a b reply grows is = absurd is
+compares_grow objects objects' comparison.GreaterOrEqual a b reply grows is = absurd is
+compares_grow objects objects' comparison.NotEqual a b reply grows is = absurd is
+
+-- so do replies, as more objects come that declare nothing
+pub replies_grow : (objects objects' : List Payload) (r : Request) (reply : Reply) → GrowsPlainly objects objects' → Replies objects r reply → Replies objects' r reply
+replies_grow objects objects' (request.Binary op a b) reply grows (p, q, left, right, has_p, has_q, is_left, is_right, is) =
+    let more : Grows objects objects' = plainly_grows objects objects' grows in (
+      p,
+      q,
+      left,
+      right,
+      payload_grown objects objects' a p more has_p,
+      payload_grown objects objects' b q more has_q,
+      type_name_grows objects objects' p left more is_left,
+      type_name_grows objects objects' q right more is_right,
+      is,
+    )
+replies_grow objects objects' (request.Compare op a b) reply grows compares = compares_grow objects objects' op a b reply (plainly_grows objects objects' grows) compares
+replies_grow objects objects' (request.Truth v) reply grows (p, has, is) = (p, payload_grown objects objects' v p (plainly_grows objects objects' grows) has, is)
+replies_grow objects objects' (request.Global globals x) reply grows is = is ∙ ap (found x) (sym (declared_stays objects objects' x grows))
 replies_grow objects objects' (request.Show v) reply grows is = is
 replies_grow objects objects' (request.Unbound x) reply grows is = is
 replies_grow objects objects' _ reply grows is = absurd is
@@ -93,6 +134,9 @@ pub gives_grow : (objects objects' : List Payload) (before : List Event) (reply 
 gives_grow objects objects' before (Has p) (got.Value v) grows gives = payload_grown objects objects' v p (plainly_grows objects objects' grows) gives
 gives_grow objects objects' before (Has p) (got.Stop v) grows gives = absurd gives
 gives_grow objects objects' before (Has p) (got.Raise e) grows gives = absurd gives
+gives_grow objects objects' before (Is v) (got.Value w) grows gives = gives
+gives_grow objects objects' before (Is v) (got.Stop w) grows gives = absurd gives
+gives_grow objects objects' before (Is v) (got.Raise e) grows gives = absurd gives
 gives_grow objects objects' before (Fails kind text) (got.Value v) grows gives = absurd gives
 gives_grow objects objects' before (Fails kind text) (got.Stop v) grows gives = absurd gives
 gives_grow objects objects' before (Fails kind text) (got.Raise e) grows gives = raised_grows objects objects' before kind text e grows gives
@@ -107,7 +151,7 @@ may_come_grow asked objects objects' before s (event.Make a f vs) grows (asks, a
 may_come_grow asked objects objects' before s (event.Resume a h) grows may = may
 may_come_grow asked objects objects' before s (event.Ask a r own at) grows may = may
 may_come_grow asked objects objects' before s (event.Got a w) grows (asks, top, (r, reply, open_, replies, gives)) =
-    (asks, top, (r, reply, open_, replies_grow objects objects' r reply (plainly_grows objects objects' grows) replies, gives_grow objects objects' before reply w grows gives))
+    (asks, top, (r, reply, open_, replies_grow objects objects' r reply grows replies, gives_grow objects objects' before reply w grows gives))
 may_come_grow asked objects objects' before s (event.Round a at) grows may = may
 may_come_grow asked objects objects' before s (event.Yield a v at) grows may = may
 may_come_grow asked objects objects' before s (event.End a e at) grows may = may

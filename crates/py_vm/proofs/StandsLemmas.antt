@@ -1,12 +1,13 @@
 -- Machines between drives, and what a drive adds.
 use Rattle.std.proofs.Common.{◌≡◌, ◌≤◌, ◌+◌, ◌++◌, ℕ, zero, suc, List, [], ◌∷◌, Some, inl, inr, map, refl, sym, ap, subst, ◌∙◌, length, length-append, append_assoc, append-nil, add-one}
-use Rattle.std.specs.Prelude.{Option, None, slice_get}
+use Rattle.std.specs.Prelude.{Option, None, Result, Ok, Err, IfOk, OnOk, OnErr, slice_get}
 use Rattle.py_objects.specs.declared.payload.Payload.{Payload}
 use Rattle.py_objects.specs.declared.payload.Payload.TheVariants as payload
 use Rattle.py_objects.specs.declared.payload.ErrorKind.TheVariants.{NameError, OverflowError, RecursionError, TypeError, UnboundLocalError}
 use Rattle.py_objects.specs.declared.event.Event.TheVariants as event
 use Rattle.py_objects.specs.declared.event.DriveAnswer.{DriveAnswer}
-use Rattle.py_objects.specs.Objects.{Obj, HasPayload, Grows, error_kinds, payload_numbers, AllBelow, IsMade, AllFit, AreNamed}
+use Rattle.py_objects.specs.Objects.{Obj, Name, HasPayload, Grows, declared, error_kinds, payload_numbers, AllBelow, IsMade, AllFit, AreNamed}
+use Rattle.py_objects.specs.Attrs.{Attrs, inserted, value_of}
 use Rattle.py_objects.specs.Own.{own_events}
 use Rattle.py_objects.specs.Edits.{Kept}
 use Rattle.py_check.specs.declared.annotated.Annotated.{Annotated}
@@ -20,8 +21,9 @@ use Rattle.py_vm.specs.declared.vm.VirtualMachine.{VirtualMachine}
 use Rattle.py_vm.specs.Codes.{Checked, plain_codes}
 use Rattle.py_vm.specs.Run.{State, start, state_after, EachTells, Comes}
 use Rattle.py_vm.specs.RowsOf.{RowsOf}
-use Rattle.py_vm.specs.Classes.{class_payload, first_objects, first_classes, HaveClasses}
-use Rattle.py_vm.specs.Machine.{events_of, objects_of, changes_of, codes_of, done_of}
+use Rattle.py_vm.specs.Classes.{class_payload, first_objects, first_classes, first_declarations, HaveClasses}
+use Rattle.py_vm.specs.Declaring.{first_name, with_named}
+use Rattle.py_vm.specs.Machine.{events_of, objects_of, changes_of, codes_of, globals_of, done_of}
 use Rattle.py_vm.specs.Stands.{IsCallable, AtStage, phase_of, acts_of, Stands, Adds, EndsBy}
 use Rattle.py_vm.specs.Turns.{first_stage, IsGrown, Halts, Turns, Drove}
 use Rattle.py_vm.proofs.OwnLemmas.{own_events-nil}
@@ -30,7 +32,12 @@ use Rattle.py_vm.proofs.RunLemmas.{comes_grow, comes_more, comes_on}
 use Rattle.py_vm.proofs.GrownLemmas.{with_object, objects_grow, grown_refl, grown_trans, grown_changes, added_made}
 use Rattle.py_vm.proofs.ReplyingLemmas.{newest, added_has}
 use Rattle.py_vm.proofs.JournalLemmas.{named_still, one_entry}
-use Rattle.py_vm.proofs.TurnsLemmas.{classes_stay}
+use Rattle.py_vm.proofs.DeclaringLemmas.{AreDeclared, named_declared, still_declared}
+use Rattle.py_vm.proofs.KeepsLemmas.{classes_stay}
+
+-- the globals of a machine that stands are an empty dict
+pub stands_dict : (m : VirtualMachine) → Stands m → HasPayload (objects_of m) (globals_of m) (payload.Dict [])
+stands_dict m stands = stands.keeps.globals
 
 -- the entries of a machine that stands fit
 pub stands_fit : (m : VirtualMachine) → Stands m → AllFit (objects_of m)
@@ -41,7 +48,7 @@ pub stands_unchanged : (m : VirtualMachine) → Stands m → changes_of m ≡ []
 stands_unchanged m stands = stands.keeps.unchanged
 
 -- its activations told what the rows may, and its events name objects
-pub stands_tells : (m : VirtualMachine) → Stands m → EachTells (RowsOf (codes_of m) (objects_of m)) (events_of m)
+pub stands_tells : (m : VirtualMachine) → Stands m → EachTells (RowsOf (codes_of m) (globals_of m) (objects_of m)) (events_of m)
 stands_tells m stands = stands.keeps.tells
 
 pub stands_named : (m : VirtualMachine) → Stands m → AreNamed (objects_of m) (events_of m)
@@ -69,6 +76,10 @@ first_have RecursionError = (refl, refl)
 first_have TypeError = (refl, refl)
 first_have UnboundLocalError = (refl, refl)
 
+-- the names that a machine begins with
+first_declared : (x : Name) → value_of x first_declarations ≡ declared first_objects x
+first_declared x = refl
+
 -- the store that a machine begins with, and the dict of its globals
 pub record Begins (store : Kept) (globals : Obj) : Type 0 where
   pub objects : store.made ≡ first_objects
@@ -87,8 +98,8 @@ dict_begins old new pairs globals made unchanged none added last =
     }
 
 -- a machine that has done nothing stands
-pub start_stands : (m : VirtualMachine) → m.events ≡ [] → Begins m.store m.globals → m.exceptions ≡ first_classes → m.done ≡ 0 → m.made ≡ 0 → m.stage ≡ stage.Idle → Stands m
-start_stands m no_events begins classes none_done none_made idle =
+pub start_stands : (m : VirtualMachine) → m.events ≡ [] → Begins m.store m.globals → m.exceptions ≡ first_classes → m.declarations ≡ first_declarations → m.done ≡ 0 → m.made ≡ 0 → m.stage ≡ stage.Idle → Stands m
+start_stands m no_events begins classes names none_done none_made idle =
     let fit : AllFit m.store.made = subst AllFit (sym begins.objects) first_fit in
     let nothing : state_after start m.events ≡ start = ap (state_after start) no_events in
     record {
@@ -101,13 +112,14 @@ start_stands m no_events begins classes none_done none_made idle =
         fit = fit;
         classes = subst (λ zoo. HaveClasses zoo m.store.made) (sym classes) (subst (HaveClasses first_classes) (sym begins.objects) first_have);
         globals = begins.globals_are;
+        declarations = λ x. ap (value_of x) names ∙ first_declared x ∙ ap (λ os. declared os x) (sym begins.objects);
         tells = λ i a made. absurd (let none : None ≡ Some a = sym (ap (λ (s : State). slice_get s.made i) nothing) ∙ made in cc none);
         later = λ b past. ap (own_events b) no_events ∙ own_events-nil b;
         named = record {
           in_events = λ i e here. absurd (let none : None ≡ Some e = sym (ap (λ l. slice_get l i) no_events) ∙ here in cc none);
           in_payloads = λ i p here. (fit i p here).0;
         };
-        at_stage = subst (AtStage m.codes m.store.made m.events m.made) (sym idle) tt;
+        at_stage = subst (AtStage m.codes m.globals m.store.made m.events m.made) (sym idle) tt;
       };
       idle = idle;
     }
@@ -126,10 +138,11 @@ code_added m codes code added stands =
         fit = k.fit;
         classes = k.classes;
         globals = k.globals;
-        tells = subst (λ (c : Checked). EachTells (RowsOf (plain_codes c) m.store.made) m.events) (sym added) (tells_behind_code m.codes code m.store.made m.events k.tells);
+        declarations = k.declarations;
+        tells = subst (λ (c : Checked). EachTells (RowsOf (plain_codes c) m.globals m.store.made) m.events) (sym added) (tells_behind_code m.codes code m.globals m.store.made m.events k.tells);
         later = k.later;
         named = k.named;
-        at_stage = subst (AtStage codes m.store.made m.events m.made) (sym stands.idle) tt;
+        at_stage = subst (AtStage codes m.globals m.store.made m.events m.made) (sym stands.idle) tt;
       };
       idle = stands.idle;
     }
@@ -148,10 +161,10 @@ fit_added objects q fit below made i p here =
       | inr back ↦ subst (λ r. AllBelow (length (objects ++ q ∷ [])) (payload_numbers r) × IsMade (objects ++ q ∷ []) r) (one_entry q p _ back) (below_more _ _ _ longer below, made_grown _ _ q grows made)
     ]
 
--- a machine stands also with one more object
-pub object_added : (m : VirtualMachine) (store : Kept) (p : Payload) → store ≡ with_object m.store p → AllBelow (length m.store.made) (payload_numbers p) → IsMade m.store.made p → Stands m
-    → Stands (record m { store = store })
-object_added m store p added below made stands =
+-- a machine stands also with one more object, and the names that are declared then
+object_added : (m : VirtualMachine) (store : Kept) (names : Attrs) (p : Payload) → store ≡ with_object m.store p → AllBelow (length m.store.made) (payload_numbers p) → IsMade m.store.made p
+    → AreDeclared names (m.store.made ++ p ∷ []) → Stands m → Stands (record m { store = store; declarations = names })
+object_added m store names p added below made are stands =
     let k = stands.keeps in
     let objects : List Payload = m.store.made in
     let is : store.made ≡ objects ++ p ∷ [] = added_made m.store store p added in
@@ -167,16 +180,28 @@ object_added m store p added below made stands =
         fit = fit;
         classes = classes_stay m.exceptions objects store.made grows k.classes;
         globals = payload_grown objects store.made _ _ grows k.globals;
-        tells = tells_still (plain_codes m.codes) objects store.made m.events grows k.tells;
+        declarations = λ x. are x ∙ ap (λ os. declared os x) (sym is);
+        tells = tells_still (plain_codes m.codes) m.globals objects store.made m.events grows k.tells;
         later = k.later;
         named = named_still objects store.made m.events grows fit k.named;
-        at_stage = subst (AtStage m.codes store.made m.events m.made) (sym stands.idle) tt;
+        at_stage = subst (AtStage m.codes m.globals store.made m.events m.made) (sym stands.idle) tt;
       };
       idle = stands.idle;
     }
 
-pub objects_still : (m : VirtualMachine) (store : Kept) → store ≡ m.store → Stands m → Stands (record m { store = store })
-objects_still m store same stands = subst (λ (s : Kept). Stands (record m { store = s })) (sym same) stands
+-- with one that declares no name that is new, if there was memory for it
+pub plain_added : {A E : Type 0} (m : VirtualMachine) (store : Kept) (p : Payload) (result : Result A E) → OnOk result (store ≡ with_object m.store p) → OnErr result (store ≡ m.store)
+    → AllBelow (length m.store.made) (payload_numbers p) → IsMade m.store.made p → first_name p m.declarations ≡ None → Stands m → Stands (record m { store = store })
+plain_added m store p (Ok v) added err below made known stands =
+    object_added m store m.declarations p added below made (still_declared m.store.made p m.declarations stands.keeps.declarations known) stands
+plain_added m store p (Err e) added err below made known stands = subst (λ (s : Kept). Stands (record m { store = s })) (sym err) stands
+
+-- with the first object of a name, if there was memory for it
+pub named_added : {E : Type 0} (m m' : VirtualMachine) (p : Payload) (y : Name) (result : Result Obj E) → IfOk result (λ v. v.number ≡ length m.store.made) → IfOk result (λ v. m' ≡ with_named m p y v) → OnErr result (m' ≡ m)
+    → AllBelow (length m.store.made) (payload_numbers p) → IsMade m.store.made p → first_name p m.declarations ≡ Some y → Stands m → Stands m'
+named_added m m' p y (Ok v) last added err below made first stands =
+    subst Stands (sym added) (object_added m (with_object m.store p) (inserted y v m.declarations) p refl below made (named_declared m.store.made p y v m.declarations stands.keeps.declarations first last) stands)
+named_added m m' p y (Err e) last added err below made first stands = subst Stands (sym err) stands
 
 -- a drive begins
 pub drove_start : (m : VirtualMachine) (d : Drive) (s : Stage) → s ≡ first_stage d → Stands m → IsCallable m d → Drove m d 0 (record m { stage = s })
@@ -192,6 +217,7 @@ drove_start m (Call f vs) s is stands callable =
         fit = k.fit;
         classes = k.classes;
         globals = k.globals;
+        declarations = k.declarations;
         tells = k.tells;
         later = k.later;
         named = k.named;
@@ -202,6 +228,7 @@ drove_start m (Call f vs) s is stands callable =
       events = sym (append-nil m.events);
       grows = grown_refl m.store;
       codes = refl;
+      globals = refl;
       done = sym k.done;
       busy = tt;
       asks = refl;
@@ -229,6 +256,7 @@ drove_on m0 m m' d n drove turns = record {
   events = part_on m0 m m' d n None drove turns;
   grows = grown_trans m0.store m.store m'.store drove.grows turns.grows;
   codes = turns.codes ∙ drove.codes;
+  globals = turns.globals ∙ drove.globals;
   done = turns.ends.0 ∙ drove.done;
   busy = turns.ends.1;
   asks = turns.asks d drove.asks;
@@ -245,6 +273,7 @@ last_adds m0 m m' d n a drove turns =
       grows = grown.objects;
       changes = grown_changes m0.store m'.store grown;
       codes = turns.codes ∙ drove.codes;
+      globals = turns.globals ∙ drove.globals;
       runs = runs_on m0 m m' d n a drove turns;
       tells = turns.keeps.tells;
       named = turns.keeps.named;
@@ -266,8 +295,10 @@ halted_adds m0 m m' d n drove halts =
       grows = grown.objects;
       changes = grown_changes m0.store m'.store grown;
       codes = halts.codes ∙ drove.codes;
+      globals = halts.globals ∙ drove.globals;
       runs = λ asked same comes. subst (λ es. Comes (asked ++ d ∷ []) objects [] start es) (sym halts.events) (comes_grow (asked ++ d ∷ []) m.store.made objects [] start m.events halts.grows.objects (drove.runs asked same comes));
-      tells = subst (λ es. EachTells (RowsOf (plain_codes m'.codes) objects) es) (sym halts.events)
-          (subst (λ (c : Checked). EachTells (RowsOf (plain_codes c) objects) m.events) (sym halts.codes) (tells_still (plain_codes m.codes) m.store.made objects m.events grows drove.keeps.tells));
+      tells = subst (λ es. EachTells (RowsOf (plain_codes m'.codes) m'.globals objects) es) (sym halts.events)
+          (subst (λ (g : Obj). EachTells (RowsOf (plain_codes m'.codes) g objects) m.events) (sym halts.globals)
+          (subst (λ (c : Checked). EachTells (RowsOf (plain_codes c) m.globals objects) m.events) (sym halts.codes) (tells_still (plain_codes m.codes) m.globals m.store.made objects m.events grows drove.keeps.tells)));
       named = subst (AreNamed objects) (sym halts.events) (named_still m.store.made objects m.events grows (halts.grows.objects.fit drove.keeps.fit) drove.keeps.named);
     }

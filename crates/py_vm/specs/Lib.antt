@@ -14,3 +14,4 @@ pub mod Stands
 -- what the functions inside the crate promise each other
 pub mod Turns
 pub mod Replying
+pub mod Declaring

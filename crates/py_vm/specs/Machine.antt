@@ -4,6 +4,7 @@ use Rattle.py_code.specs.Codes.{Codes}
 use Rattle.py_objects.specs.declared.payload.Payload.{Payload}
 use Rattle.py_objects.specs.declared.edit.Change.{Change}
 use Rattle.py_objects.specs.declared.event.Event.{Event}
+use Rattle.py_objects.specs.Objects.{Obj}
 use Rattle.py_vm.specs.declared.vm.VirtualMachine.{VirtualMachine}
 use Rattle.py_vm.specs.Codes.{Checked, plain_codes}
 use Rattle.py_vm.specs.Run.{start, state_after}
@@ -26,6 +27,10 @@ checked_of m = m.codes
 
 abbrev pub codes_of : VirtualMachine → Codes
 codes_of m = plain_codes m.codes
+
+-- the dict of the globals
+abbrev pub globals_of : VirtualMachine → Obj
+globals_of m = m.globals
 
 -- how many drives have their result
 abbrev pub done_of : VirtualMachine → ℕ

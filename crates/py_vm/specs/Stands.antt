@@ -8,15 +8,16 @@ use Rattle.py_objects.specs.declared.request.Request.{Request}
 use Rattle.py_objects.specs.declared.event.Event.{Event}
 use Rattle.py_objects.specs.declared.event.Event.TheVariants as event
 use Rattle.py_objects.specs.declared.event.DriveAnswer.{DriveAnswer}
-use Rattle.py_objects.specs.Objects.{Obj, HasPayload, numbers, request_numbers, ending_numbers, AllBelow, AllFit, AreNamed, GrowsPlainly}
+use Rattle.py_objects.specs.Objects.{Obj, Name, HasPayload, declared, numbers, request_numbers, ending_numbers, AllBelow, AllFit, AreNamed, GrowsPlainly}
+use Rattle.py_objects.specs.Attrs.{value_of}
 use Rattle.py_objects.specs.Own.{Own, own_events}
 use Rattle.py_check.specs.declared.annotated.Annotated.{Annotated}
 use Rattle.py_frame.specs.declared.input.Input.{Input}
 use Rattle.py_frame.specs.declared.input.Expect.TheVariants as expect
-use Rattle.py_frame.specs.Rows.{may_ask}
+use Rattle.py_frame.specs.Rows.{may_ask, asks_truth, decides}
 use Rattle.py_frame.specs.RunOfRows.{IsAt}
 use Rattle.py_frame.specs.Fitting.{IsSound, IsRunning}
-use Rattle.py_frame.specs.Steps.{Expects, heard}
+use Rattle.py_frame.specs.Steps.{Expects, FitsQuestion, heard}
 use Rattle.py_frame.specs.Laws.{HearsBelow}
 use Rattle.py_vm.specs.declared.drive.Drive.{Drive}
 use Rattle.py_vm.specs.declared.drive.Drive.TheVariants.{Call}
@@ -28,7 +29,7 @@ use Rattle.py_vm.specs.Codes.{Checked, plain_codes}
 use Rattle.py_vm.specs.Run.{Activation, Act, Phase, Idle, Asking, Made, Going, Due, left_by, start, state_after, EachTells, Comes}
 use Rattle.py_vm.specs.RowsOf.{RowsOf}
 use Rattle.py_vm.specs.Classes.{HaveClasses}
-use Rattle.py_vm.specs.Machine.{events_of, objects_of, changes_of, checked_of, codes_of, done_of}
+use Rattle.py_vm.specs.Machine.{events_of, objects_of, changes_of, checked_of, codes_of, globals_of, done_of}
 
 -- a function whose code frames can run, and arguments that are objects
 abbrev pub CanCall : Checked → List Payload → Obj → List Obj → Type 0
@@ -41,7 +42,7 @@ abbrev pub IsCallable : VirtualMachine → Drive → Type 0
 IsCallable m (Call f vs) = CanCall (checked_of m) (objects_of m) f vs
 
 -- one of the activations made: a run of its rows has told its own events, the last of which its frame may still have to hear
-pub record Plays (codes : Checked) (objects : List Payload) (events : List Event) (r : Running) (pending : List Own) : Type 0 where
+pub record Plays (codes : Checked) (globals : Obj) (objects : List Payload) (events : List Event) (r : Running) (pending : List Own) : Type 0 where
   pub at : ℕ
   pub numbered : r.act ≡ suc at
   pub activation : Activation
@@ -49,28 +50,31 @@ pub record Plays (codes : Checked) (objects : List Payload) (events : List Event
   pub body : FunctionBody
   pub is_function : HasPayload objects activation.function (payload.Function body)
   pub placed : r.frame.code ≡ body.code
+  pub scoped : r.frame.scope.globals ≡ globals
   pub code : Annotated
   pub is_code : slice_get codes.codes body.code ≡ Some code
   pub running : IsRunning objects codes.names code r.frame
   pub below : AllBelow (length objects) (numbers activation.args)
   pub before : List Own
-  pub is_at : IsAt objects (record { code = code.code; names = codes.names }) activation.args before r.frame.state
+  pub is_at : IsAt objects (record { code = code.code; names = codes.names; globals = globals }) activation.args before r.frame.state
   pub whole : own_events r.act events ≡ before ++ pending
   pub hears : HearsBelow (length objects) (before ++ pending)
 
--- a running activation that goes on by this input
-pub record GoesBy (codes : Checked) (objects : List Payload) (events : List Event) (r : Running) (i : Input) : Type 0 where
-  pub plays : Plays codes objects events r (heard i)
+-- a running activation that goes on by this input, which is of the kind that it asked for
+pub record GoesBy (codes : Checked) (globals : Obj) (objects : List Payload) (events : List Event) (r : Running) (i : Input) : Type 0 where
+  pub plays : Plays codes globals objects events r (heard i)
   pub expects : Expects r.frame.state.wants i
+  pub kind : FitsQuestion objects plays.code.code r.frame.state i
 
--- a running activation whose frame waits, and has told all its events
-pub record IsHalted (codes : Checked) (objects : List Payload) (events : List Event) (r : Running) : Type 0 where
-  pub plays : Plays codes objects events r []
+-- a running activation whose frame waits for the answer to what was asked at this place, and has told all its events
+pub record IsHalted (codes : Checked) (globals : Obj) (objects : List Payload) (events : List Event) (r : Running) (place : ℕ) : Type 0 where
+  pub plays : Plays codes globals objects events r []
   pub answer : r.frame.state.wants ≡ expect.Answer
+  pub decides : (a : ℕ) (q : Request) (own : Option PyBaseExceptionRef) (at : ℕ) → slice_get events place ≡ Some (event.Ask a q own at) → decides plays.code.code r.frame.state ≡ asks_truth q
 
 -- the activation made last, whose frame hasn't begun
-pub record IsFresh (codes : Checked) (objects : List Payload) (events : List Event) (made : ℕ) (r : Running) : Type 0 where
-  pub plays : Plays codes objects events r []
+pub record IsFresh (codes : Checked) (globals : Obj) (objects : List Payload) (events : List Event) (made : ℕ) (r : Running) : Type 0 where
+  pub plays : Plays codes globals objects events r []
   pub last : r.act ≡ made
   pub begins : r.frame.state.wants ≡ expect.Start
 
@@ -85,14 +89,14 @@ pub record IsQuestion (objects : List Payload) (events : List Event) (place : �
   pub below : AllBelow (length objects) (request_numbers request)
 
 -- what each stage keeps
-abbrev pub AtStage : Checked → List Payload → List Event → ℕ → Stage → Type 0
-AtStage codes objects events made stage.Idle = Unit {0}
-AtStage codes objects events made (stage.Begins f vs) = CanCall codes objects f vs
-AtStage codes objects events made (stage.Asking f vs) = CanCall codes objects f vs
-AtStage codes objects events made (stage.Made r f) = IsFresh codes objects events made r
-AtStage codes objects events made (stage.Going r i) = GoesBy codes objects events r i
-AtStage codes objects events made (stage.Waiting r place) = IsHalted codes objects events r × IsQuestion objects events place
-AtStage codes objects events made (stage.Due e) = AllBelow (length objects) (ending_numbers e)
+abbrev pub AtStage : Checked → Obj → List Payload → List Event → ℕ → Stage → Type 0
+AtStage codes globals objects events made stage.Idle = Unit {0}
+AtStage codes globals objects events made (stage.Begins f vs) = CanCall codes objects f vs
+AtStage codes globals objects events made (stage.Asking f vs) = CanCall codes objects f vs
+AtStage codes globals objects events made (stage.Made r f) = IsFresh codes globals objects events made r
+AtStage codes globals objects events made (stage.Going r i) = GoesBy codes globals objects events r i
+AtStage codes globals objects events made (stage.Waiting r place) = IsHalted codes globals objects events r place × IsQuestion objects events place
+AtStage codes globals objects events made (stage.Due e) = AllBelow (length objects) (ending_numbers e)
 
 -- the phase of a run, from what the next turn does
 abbrev pub phase_of : Stage → Phase
@@ -129,10 +133,11 @@ pub record Keeps (m : VirtualMachine) (s : Stage) : Type 0 where
   pub fit : AllFit m.store.made
   pub classes : HaveClasses m.exceptions m.store.made
   pub globals : HasPayload m.store.made m.globals (payload.Dict [])
-  pub tells : EachTells (RowsOf (plain_codes m.codes) m.store.made) m.events
+  pub declarations : (x : Name) → value_of x m.declarations ≡ declared m.store.made x
+  pub tells : EachTells (RowsOf (plain_codes m.codes) m.globals m.store.made) m.events
   pub later : (b : ℕ) → m.made < b → own_events b m.events ≡ []
   pub named : AreNamed m.store.made m.events
-  pub at_stage : AtStage m.codes m.store.made m.events m.made s
+  pub at_stage : AtStage m.codes m.globals m.store.made m.events m.made s
 
 -- a machine between drives
 pub record Stands (m : VirtualMachine) : Type 0 where
@@ -146,8 +151,9 @@ pub record Adds (drive : Drive) (old new : VirtualMachine) : Type 0 where
   pub grows : GrowsPlainly (objects_of old) (objects_of new)
   pub changes : changes_of new ≡ changes_of old
   pub codes : checked_of new ≡ checked_of old
+  pub globals : globals_of new ≡ globals_of old
   pub runs : (asked : List Drive) → length asked ≡ done_of old → Comes asked (objects_of old) [] start (events_of old) → Comes (asked ++ drive ∷ []) (objects_of new) [] start (events_of new)
-  pub tells : EachTells (RowsOf (codes_of new) (objects_of new)) (events_of new)
+  pub tells : EachTells (RowsOf (codes_of new) (globals_of new) (objects_of new)) (events_of new)
   pub named : AreNamed (objects_of new) (events_of new)
 
 -- the last event is the result of the drive d

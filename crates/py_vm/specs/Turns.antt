@@ -12,10 +12,12 @@ use Rattle.py_objects.specs.declared.event.Ending.{Ending}
 use Rattle.py_objects.specs.declared.event.Ending.TheVariants as ending
 use Rattle.py_objects.specs.declared.event.DriveAnswer.{DriveAnswer}
 use Rattle.py_objects.specs.declared.event.DriveAnswer.TheVariants as answer
-use Rattle.py_objects.specs.Objects.{Obj, HasPayload, got_numbers, AllBelow, AllFit, AreNamed, GrowsPlainly}
+use Rattle.py_objects.specs.Objects.{Obj, Name, HasPayload, declared, got_numbers, AllBelow, AllFit, AreNamed, GrowsPlainly}
+use Rattle.py_objects.specs.Attrs.{value_of}
 use Rattle.py_objects.specs.Edits.{Kept}
 use Rattle.py_objects.specs.Scopes.{scope_of}
 use Rattle.py_check.specs.declared.annotated.Annotated.{Annotated}
+use Rattle.py_check.specs.Notes.{deepest}
 use Rattle.py_frame.specs.declared.input.Input.{Input}
 use Rattle.py_frame.specs.declared.input.Input.TheVariants as input
 use Rattle.py_frame.specs.declared.input.Answer.{Answer}
@@ -23,8 +25,8 @@ use Rattle.py_frame.specs.declared.input.Answer.TheVariants as given
 use Rattle.py_frame.specs.declared.input.FrameStep.{FrameStep}
 use Rattle.py_frame.specs.declared.input.FrameStep.TheVariants as step
 use Rattle.py_frame.specs.RunOfRows.{started}
-use Rattle.py_frame.specs.Fitting.{Framed, IsRunning}
-use Rattle.py_frame.specs.Steps.{AsksKnown, Expects, Extends, IfTold, expected, got_of}
+use Rattle.py_frame.specs.Fitting.{Framed, IsRunning, setting_of}
+use Rattle.py_frame.specs.Steps.{AsksKnown, Expects, Extends, FitsQuestion, IfTold, expected, got_of}
 use Rattle.py_vm.specs.declared.drive.Drive.{Drive}
 use Rattle.py_vm.specs.declared.drive.Drive.TheVariants.{Call}
 use Rattle.py_vm.specs.declared.stage.Running.{Running}
@@ -42,22 +44,23 @@ use Rattle.py_vm.specs.Stands.{CanCall, IsQuestion, Keeps}
 abbrev pub begun_by : VirtualMachine → Obj → List Obj → VirtualMachine
 begun_by m f vs = record m { events = m.events ++ event.Drive (m.done + 1) ∷ []; stage = stage.Asking f vs }
 
--- an activation that hasn't begun
-abbrev pub fresh : VirtualMachine → ℕ → ℕ → Annotated → List Obj → Running
-fresh m act place code vs = record {
+-- an activation that hasn't begun, with so much room for blocks
+abbrev pub fresh : VirtualMachine → ℕ → ℕ → Annotated → List Obj → ℕ → Running
+fresh m act place code vs block_room = record {
   act = act;
   frame = record {
-    state = started (record { code = code.code; names = m.codes.names }) vs;
+    state = started code.code vs;
     room = code.code.code.max_stackdepth;
+    block_room = block_room;
     code = place;
     scope = scope_of None m.globals;
   };
 }
 
 -- an activation of the function is made
-abbrev pub made_by : VirtualMachine → Obj → List Obj → ℕ → Annotated → VirtualMachine
-made_by m f vs place code =
-    record m { events = m.events ++ event.Make (m.made + 1) f vs ∷ []; made = m.made + 1; stage = stage.Made (fresh m (m.made + 1) place code vs) f }
+abbrev pub made_by : VirtualMachine → Obj → List Obj → ℕ → Annotated → ℕ → VirtualMachine
+made_by m f vs place code block_room =
+    record m { events = m.events ++ event.Make (m.made + 1) f vs ∷ []; made = m.made + 1; stage = stage.Made (fresh m (m.made + 1) place code vs block_room) f }
 
 -- it is entered
 abbrev pub entered_by : VirtualMachine → Running → VirtualMachine
@@ -65,16 +68,21 @@ entered_by m r = record m { events = m.events ++ event.Resume r.act how.Start �
 
 -- it ends
 abbrev pub ended_by : VirtualMachine → Running → Ending → VirtualMachine
-ended_by m r e = record m { events = m.events ++ event.End r.act e (r.frame.state.at - 1) ∷ []; stage = stage.Due e }
+ended_by m r e = record m { events = m.events ++ event.End r.act e (r.frame.state.last - 1) ∷ []; stage = stage.Due e }
 
 -- it asks
 abbrev pub asked_by : VirtualMachine → Running → Request → Option PyBaseExceptionRef → VirtualMachine
 asked_by m r q own =
-    record m { events = m.events ++ event.Ask r.act q own (r.frame.state.at - 1) ∷ []; stage = stage.Waiting r (length m.events) }
+    record m { events = m.events ++ event.Ask r.act q own (r.frame.state.last - 1) ∷ []; stage = stage.Waiting r (length m.events) }
+
+-- it begins a round of a loop
+abbrev pub rounded_by : VirtualMachine → Running → VirtualMachine
+rounded_by m r = record m { events = m.events ++ event.Round r.act (r.frame.state.last - 1) ∷ []; stage = stage.Going r input.Go }
 
 -- its frame has made this step
 abbrev pub IsStepped : VirtualMachine → Running → FrameStep → VirtualMachine → Type 0
 IsStepped m r (step.Ask q own) m' = m' ≡ asked_by m r q own
+IsStepped m r step.Round m' = m' ≡ rounded_by m r
 IsStepped m r (step.Return v) m' = m' ≡ ended_by m r (ending.Return v)
 IsStepped m r (step.Raise e) m' = m' ≡ ended_by m r (ending.Raise e)
 IsStepped m r step.NoMemory m' = ⊥
@@ -100,17 +108,17 @@ pub record IsGrown (old new : Kept) : Type 0 where
 -- an activation of a function was made
 abbrev pub Made_one : VirtualMachine → Obj → List Obj → VirtualMachine → Type 0
 Made_one m f vs m' =
-    (b : FunctionBody) × HasPayload m.store.made f (payload.Function b) × (c : Annotated) × (slice_get m.codes.codes b.code ≡ Some c) × (m' ≡ made_by m f vs b.code c)
+    (b : FunctionBody) × HasPayload m.store.made f (payload.Function b) × (c : Annotated) × (slice_get m.codes.codes b.code ≡ Some c) × (block_room : ℕ) × (deepest c.notes ≤ block_room) × (m' ≡ made_by m f vs b.code c block_room)
 
 -- a step of a frame that told an event
 pub record IsTaken (codes : Checked) (old new : List Payload) (r : Running) (i : Input) (step : FrameStep) (f : Framed) : Type 0 where
   pub code : Annotated
   pub is_code : slice_get codes.codes r.frame.code ≡ Some code
-  pub extends : IfTold step (Extends old new (record { code = code.code; names = codes.names }) r.frame.state i step f.state)
+  pub extends : IfTold step (Extends old new (setting_of codes.names code r.frame) r.frame.state i step f.state)
   pub wants : f.state.wants ≡ expected step
-  pub asks : AsksKnown step
+  pub asks : AsksKnown code.code f.state step
   pub running : IsRunning new codes.names code f
-  pub same : f.code ≡ r.frame.code
+  pub same : (f.code ≡ r.frame.code) × (f.scope ≡ r.frame.scope)
 
 -- an activation went on by an input
 abbrev pub Went_on : VirtualMachine → Running → Input → VirtualMachine → Type 0
@@ -141,7 +149,7 @@ Answered m r place m' =
 -- an activation of the function that hasn't begun
 abbrev pub IsFreshFor : VirtualMachine → ℕ → Obj → List Obj → Running → Type 0
 IsFreshFor m act f vs r =
-    (b : FunctionBody) × HasPayload m.store.made f (payload.Function b) × (c : Annotated) × (slice_get m.codes.codes b.code ≡ Some c) × (r ≡ fresh m act b.code c vs)
+    (b : FunctionBody) × HasPayload m.store.made f (payload.Function b) × (c : Annotated) × (slice_get m.codes.codes b.code ≡ Some c) × (block_room : ℕ) × (deepest c.notes ≤ block_room) × (r ≡ fresh m act b.code c vs block_room)
 
 -- the stage in which a drive begins
 abbrev pub first_stage : Drive → Stage
@@ -153,12 +161,14 @@ pub record CanGo (codes : Checked) (objects : List Payload) (r : Running) (i : I
   pub is_code : slice_get codes.codes r.frame.code ≡ Some code
   pub running : IsRunning objects codes.names code r.frame
   pub expects : Expects r.frame.state.wants i
+  pub kind : FitsQuestion objects code.code r.frame.state i
 
 -- what answers need: objects that fit and haven't changed, and the built-in classes among them
 pub record CanReply (m : VirtualMachine) : Type 0 where
   pub unchanged : m.store.changes ≡ []
   pub fit : AllFit m.store.made
   pub classes : HaveClasses m.exceptions m.store.made
+  pub declarations : (x : Name) → value_of x m.declarations ≡ declared m.store.made x
 
 -- what a turn needs
 abbrev pub IsReady : VirtualMachine → Stage → Type 0
@@ -185,6 +195,7 @@ pub record Halts (m m' : VirtualMachine) : Type 0 where
   pub events : m'.events ≡ m.events
   pub grows : IsGrown m.store m'.store
   pub codes : m'.codes ≡ m.codes
+  pub globals : m'.globals ≡ m.globals
 
 -- a drive runs
 abbrev pub IsBusy : Stage → Type 0
@@ -218,6 +229,7 @@ pub record Turns (m : VirtualMachine) (s : Stage) (a : Option DriveAnswer) (m' :
   pub events : m'.events ≡ m.events ++ added ∷ []
   pub grows : IsGrown m.store m'.store
   pub codes : m'.codes ≡ m.codes
+  pub globals : m'.globals ≡ m.globals
   pub ends : AfterTurn m m' added a
   pub asks : (d : Drive) → AsksFor d s → AsksFor d m'.stage
   pub comes : (asked : List Drive) (d : Drive) → AsksFor d s → slice_get asked m.done ≡ Some d → MayCome asked m'.store.made m.events (state_after start m.events) added
@@ -230,6 +242,7 @@ pub record Drove (m : VirtualMachine) (d : Drive) (n : ℕ) (m' : VirtualMachine
   pub events : m'.events ≡ m.events ++ part
   pub grows : IsGrown m.store m'.store
   pub codes : m'.codes ≡ m.codes
+  pub globals : m'.globals ≡ m.globals
   pub done : m'.done ≡ done_of m
   pub busy : IsBusy m'.stage
   pub asks : AsksFor d m'.stage

@@ -1,17 +1,18 @@
 //! The reply of an operator, by the payloads of its operands.
 
-ghost use Rattle.std.specs.Prelude.{◌≡◌, ◌<◌, ◌+ℤ◌, [], true, length, IfOk};
+ghost use Rattle.std.specs.Prelude.{◌≡◌, ◌<◌, [], true, ℤ, length, FitsSigned, IfOk, IfSome, SomeIff};
+ghost use Rattle.std.specs.Int.{w128};
 ghost use Rattle.py_check.specs.Rules.{is_asked};
 ghost use Rattle.py_objects.specs.Objects.{AllFit, IsMade};
 ghost use Rattle.py_objects.specs.Values.{text_of};
 ghost use Rattle.py_objects.specs.declared.request.Request.TheVariants.{Binary};
 ghost use Rattle.py_vm.specs.Answers.{Replies, whole};
-ghost use Rattle.py_vm.specs.Replying.{reply_of, joined, IsSized, IsSum, IsOperated};
+ghost use Rattle.py_vm.specs.Replying.{reply_of, joined, IsSized, IsSum, IsDifference, IsOperated};
 
 use crate::answer::Reply;
 use crate::text::put_text;
 use crate::type_names::refused;
-use crate::values::{entry, number_of, text_of};
+use crate::values::entry;
 use py_code::{BinaryOperator, NoMemory, PyText, text_of as text_of_bytes};
 use py_objects::{ErrorKind, Payload, PyObjectRef, Store};
 use std::alloc::Global;
@@ -54,6 +55,7 @@ pub(crate) fn operate(
 {
     match op {
         BinaryOperator::Add => sum(alloc, store, left, right),
+        BinaryOperator::Subtract => difference(alloc, store, left, right),
         _ => unreachable!(),
     }
 }
@@ -69,23 +71,36 @@ fn sum(alloc: Global, store: &Store, left: &Payload, right: &Payload) -> Result<
     if let Some(text) = concatenated(alloc, left, right)? {
         return Ok(Reply::Str(text));
     }
-    let Some(first) = number_of(left) else {
-        return refused(alloc, store, BinaryOperator::Add, left, right);
+    let (Some(first), Some(second)) = (left.number(), right.number()) else {
+        return refused(alloc, store, b"+", left, right);
     };
-    let Some(second) = number_of(right) else {
-        return refused(alloc, store, BinaryOperator::Add, left, right);
+    whole(alloc, first.checked_add(second))
+}
+
+/// The difference of two payloads.
+fn difference(
+    alloc: Global,
+    store: &Store,
+    left: &Payload,
+    right: &Payload,
+) -> Result<Reply, NoMemory>
+    requires unchanged { store.now.changes ≡ [] }
+    requires left_made { IsMade store.now.made left.now }
+    requires right_made { IsMade store.now.made right.now }
+    ensures reply { IfOk result (λ reply. IsDifference store.now.made left.now right.now (reply_of reply)) }
+    ensures sized { IfOk result IsSized }
+{
+    let (Some(first), Some(second)) = (left.number(), right.number()) else {
+        return refused(alloc, store, b"-", left, right);
     };
-    whole(alloc, first, second)
+    whole(alloc, first.checked_sub(second))
 }
 
 /// Two texts as one. None where either is no text.
 fn concatenated(alloc: Global, left: &Payload, right: &Payload) -> Result<Option<PyText>, NoMemory>
     ensures { IfOk result (λ text. text ≡ joined (text_of left.now) (text_of right.now)) }
 {
-    let Some(first) = text_of(left) else {
-        return Ok(None);
-    };
-    let Some(second) = text_of(right) else {
+    let (Some(first), Some(second)) = (left.text(), right.text()) else {
         return Ok(None);
     };
     let mut text = first.copy(alloc)?;
@@ -93,12 +108,13 @@ fn concatenated(alloc: Global, left: &Payload, right: &Payload) -> Result<Option
     Ok(Some(text))
 }
 
-/// The sum of two numbers, where it fits 128 bits.
-fn whole(alloc: Global, left: i128, right: i128) -> Result<Reply, NoMemory>
-    ensures reply { IfOk result (λ reply. reply_of reply ≡ whole (left +ℤ right)) }
+/// The reply that is a number, which is given where it fits 128 bits.
+fn whole(alloc: Global, number: Option<i128>) -> Result<Reply, NoMemory>
+    requires { IfSome number (FitsSigned w128) }
+    ensures reply { IfOk result (λ reply. (n : ℤ) → SomeIff number (FitsSigned w128 n) n → reply_of reply ≡ whole n) }
     ensures sized { IfOk result IsSized }
 {
-    match left.checked_add(right) {
+    match number {
         Some(number) => Ok(Reply::Int(number)),
         None => {
             let text = text_of_bytes(alloc, b"integer out of range")?;

@@ -2,11 +2,12 @@
 
 ghost use Rattle.std.specs.Prelude.{◌≡◌, [], ◌∷◌, ◌++◌, length, map, IfOk, OnOk};
 ghost use Rattle.py_objects.specs.declared.payload.Payload.TheVariants.{None as NonePayload, Class};
-ghost use Rattle.py_vm.specs.Classes.{class_of, class_payload, first_classes};
-ghost use Rattle.py_objects.specs.Objects.{error_kinds};
+ghost use Rattle.py_objects.specs.Attrs.{inserted};
+ghost use Rattle.py_vm.specs.Classes.{class_of, class_payload, first_classes, first_declarations};
+ghost use Rattle.py_objects.specs.Objects.{class_object, error_kinds};
 
 use py_code::{NoMemory, text_of};
-use py_objects::{ClassBody, ErrorKind, Payload, PyTypeRef, Store};
+use py_objects::{AttrMap, ClassBody, ErrorKind, Payload, PyTypeRef, Store};
 use std::alloc::Global;
 
 /// The class of each kind of built-in exception.
@@ -20,18 +21,24 @@ pub(crate) struct ExceptionZoo {
 }
 
 impl ExceptionZoo {
-    /// Adds the classes to a store that has `None` alone.
-    pub(crate) fn new(alloc: Global, store: &mut Store) -> Result<ExceptionZoo, NoMemory>
-        requires { store.old.made ≡ NonePayload ∷ [] }
+    /// Adds the classes to a store that has `None` alone, and their names to those that are declared.
+    pub(crate) fn new(
+        alloc: Global,
+        store: &mut Store,
+        declarations: &mut AttrMap,
+    ) -> Result<ExceptionZoo, NoMemory>
+        requires store { store.old.made ≡ NonePayload ∷ [] }
+        requires none { declarations.old ≡ [] }
         ensures objects { OnOk result (store.new.made ≡ NonePayload ∷ map class_payload error_kinds) }
         ensures unchanged { OnOk result (store.new.changes ≡ store.old.changes) }
+        ensures declarations { OnOk result (declarations.new ≡ first_declarations) }
         ensures classes { IfOk result (λ zoo. zoo ≡ first_classes) }
     {
-        let name_error = add_class(alloc, store, b"NameError")?;
-        let overflow_error = add_class(alloc, store, b"OverflowError")?;
-        let recursion_error = add_class(alloc, store, b"RecursionError")?;
-        let type_error = add_class(alloc, store, b"TypeError")?;
-        let unbound_local_error = add_class(alloc, store, b"UnboundLocalError")?;
+        let name_error = add_class(alloc, store, declarations, b"NameError")?;
+        let overflow_error = add_class(alloc, store, declarations, b"OverflowError")?;
+        let recursion_error = add_class(alloc, store, declarations, b"RecursionError")?;
+        let type_error = add_class(alloc, store, declarations, b"TypeError")?;
+        let unbound_local_error = add_class(alloc, store, declarations, b"UnboundLocalError")?;
         Ok(ExceptionZoo {
             name_error,
             overflow_error,
@@ -56,12 +63,20 @@ impl ExceptionZoo {
 }
 
 /// A class of this name goes behind the other objects.
-fn add_class(alloc: Global, store: &mut Store, name: &[u8]) -> Result<PyTypeRef, NoMemory>
+fn add_class(
+    alloc: Global,
+    store: &mut Store,
+    declarations: &mut AttrMap,
+    name: &[u8],
+) -> Result<PyTypeRef, NoMemory>
     ensures number { IfOk result (λ class. class.number ≡ length store.old.made) }
     ensures added { OnOk result (store.new ≡ record store.old { made = store.old.made ++ Class (record { name = name.now }) ∷ [] }) }
+    ensures declared { IfOk result (λ class. declarations.new ≡ inserted name.now (class_object class) declarations.old) }
 {
-    let name = text_of(alloc, name)?;
-    let object = store.add(Payload::Class(ClassBody { name }))?;
+    let object = store.add(Payload::Class(ClassBody {
+        name: text_of(alloc, name)?,
+    }))?;
+    declarations.insert(text_of(alloc, name)?, object)?;
     Ok(PyTypeRef {
         number: object.number,
     })

@@ -4,10 +4,12 @@
 mod answer;
 mod arithmetic;
 mod codes;
+mod comparison;
 mod drive;
 mod exceptions;
 mod fault;
 mod journal;
+mod names;
 mod stage;
 mod text;
 mod turn;

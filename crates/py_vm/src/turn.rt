@@ -2,7 +2,7 @@
 
 ghost use Rattle.std.specs.Prelude.{◌≡◌, ◌≤◌, [], length, IfOk, OnOk, OnErr};
 ghost use Rattle.py_vm.specs.Stands.{CanCall, IsQuestion, Keeps};
-ghost use Rattle.py_vm.specs.Turns.{begun_by, Made_one, IsFreshFor, entered_by, ended_by, asked_by, IsStepped, Went_on, got_by, Answered, answer_by, result_by, CanGo, CanReply, IsReady, Turned, Halts, IsBusy, Turns};
+ghost use Rattle.py_vm.specs.Turns.{begun_by, Made_one, IsFreshFor, entered_by, ended_by, asked_by, rounded_by, IsStepped, Went_on, got_by, Answered, answer_by, result_by, CanGo, CanReply, IsReady, Turned, Halts, IsBusy, Turns};
 
 use crate::answer::{give, reply_to};
 use crate::stage::{Running, Stage};
@@ -136,6 +136,7 @@ impl VirtualMachine {
     {
         match step {
             FrameStep::Ask(request, own) => self.asked(running, request, own),
+            FrameStep::Round => self.rounded(running),
             FrameStep::Return(value) => self.ended(running, Ending::Return(value)),
             FrameStep::Raise(exception) => self.ended(running, Ending::Raise(exception)),
             FrameStep::NoMemory => Err(NoMemory),
@@ -163,6 +164,19 @@ impl VirtualMachine {
         Ok(())
     }
 
+    /// The activation begins a round of a loop.
+    fn rounded(&mut self, running: Running) -> Result<(), NoMemory>
+        ensures ok { OnOk result (self.new ≡ rounded_by self.old running) }
+        ensures err { OnErr result (Halts self.old self.new) }
+    {
+        self.events.push(Event::Round {
+            act: running.act,
+            at: running.frame.lasti().saturating_sub(1),
+        })?;
+        self.stage = Stage::Going(running, Input::Go);
+        Ok(())
+    }
+
     /// The activation ends.
     fn ended(&mut self, running: Running, ending: Ending) -> Result<(), NoMemory>
         ensures ok { OnOk result (self.new ≡ ended_by self.old running ending) }
@@ -187,7 +201,7 @@ impl VirtualMachine {
         let Some(Event::Ask { request, .. }) = self.events.get(place) else {
             unreachable!();
         };
-        let reply = reply_to(self.alloc, &self.store, request)?;
+        let reply = reply_to(self.alloc, &self.store, &self.declarations, request)?;
         let answer = give(self.alloc, &mut self.store, self.exceptions, reply)?;
         self.got(running, answer)?;
         Ok(())

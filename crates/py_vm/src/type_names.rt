@@ -4,74 +4,53 @@ ghost use Rattle.std.specs.Prelude.{◌≡◌, ◌++◌, [], IfOk, OnOk};
 ghost use Rattle.py_objects.specs.Objects.{HasPayload, class_object, IsMade};
 ghost use Rattle.py_objects.specs.declared.payload.ClassBody.{ClassBody as ClassOf};
 ghost use Rattle.py_objects.specs.declared.payload.Payload.TheVariants.{Class};
-ghost use Rattle.py_vm.specs.Answers.{IsTypeName, kind_name, sign_of, not_supported};
+ghost use Rattle.py_vm.specs.Answers.{IsTypeName, kind_name, not_supported};
 ghost use Rattle.py_vm.specs.Replying.{reply_of, IsSized, IsRefused};
 
 use crate::answer::Reply;
 use crate::text::{put_bytes, put_text};
 use crate::values::entry;
-use py_code::{BinaryOperator, NoMemory, PyText, text_of};
+use py_code::{NoMemory, PyText, text_of};
 use py_objects::{CoroKind, ErrorKind, Payload, PyObjectRef, PyTypeRef, Store};
 use std::alloc::Global;
 
-/// The refusal of an operator at two payloads.
+/// The refusal of the operator or comparison with this sign at two payloads.
 pub(crate) fn refused(
     alloc: Global,
     store: &Store,
-    op: BinaryOperator,
+    sign: &[u8],
     left: &Payload,
     right: &Payload,
 ) -> Result<Reply, NoMemory>
     requires unchanged { store.now.changes ≡ [] }
     requires left_made { IsMade store.now.made left.now }
     requires right_made { IsMade store.now.made right.now }
-    ensures reply { IfOk result (λ reply. IsRefused store.now.made op left.now right.now (reply_of reply)) }
+    ensures reply { IfOk result (λ reply. IsRefused store.now.made sign.now left.now right.now (reply_of reply)) }
     ensures sized { IfOk result IsSized }
 {
     let left_type = type_name(alloc, store, left)?;
     let right_type = type_name(alloc, store, right)?;
-    not_supported(alloc, op, &left_type, &right_type)
+    not_supported(alloc, sign, &left_type, &right_type)
 }
 
-/// The refusal of an operator at operands of types with these names.
+/// The same at operands of types with these names.
 fn not_supported(
     alloc: Global,
-    op: BinaryOperator,
+    sign: &[u8],
     left: &PyText,
     right: &PyText,
 ) -> Result<Reply, NoMemory>
-    ensures reply { IfOk result (λ reply. reply_of reply ≡ not_supported op left.now right.now) }
+    ensures reply { IfOk result (λ reply. reply_of reply ≡ not_supported sign.now left.now right.now) }
     ensures sized { IfOk result IsSized }
 {
     let mut text = text_of(alloc, b"'")?;
-    put_sign(&mut text, op)?;
+    put_bytes(&mut text, sign)?;
     put_bytes(&mut text, b"' not supported between instances of '")?;
     put_text(&mut text, left)?;
     put_bytes(&mut text, b"' and '")?;
     put_text(&mut text, right)?;
     put_bytes(&mut text, b"'")?;
     Ok(Reply::Fails(ErrorKind::TypeError, text))
-}
-
-/// Puts an operator's sign behind a text.
-fn put_sign(text: &mut PyText, op: BinaryOperator) -> Result<(), NoMemory>
-    ensures { OnOk result (text.new ≡ text.old ++ sign_of op) }
-{
-    match op {
-        BinaryOperator::Power => put_bytes(text, b"**"),
-        BinaryOperator::Multiply => put_bytes(text, b"*"),
-        BinaryOperator::MatrixMultiply => put_bytes(text, b"@"),
-        BinaryOperator::Divide => put_bytes(text, b"/"),
-        BinaryOperator::FloorDivide => put_bytes(text, b"//"),
-        BinaryOperator::Modulo => put_bytes(text, b"%"),
-        BinaryOperator::Add => put_bytes(text, b"+"),
-        BinaryOperator::Subtract => put_bytes(text, b"-"),
-        BinaryOperator::Lshift => put_bytes(text, b"<<"),
-        BinaryOperator::Rshift => put_bytes(text, b">>"),
-        BinaryOperator::And => put_bytes(text, b"&"),
-        BinaryOperator::Xor => put_bytes(text, b"^"),
-        BinaryOperator::Or => put_bytes(text, b"|"),
-    }
 }
 
 /// The name of a payload's type.

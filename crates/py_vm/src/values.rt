@@ -1,10 +1,7 @@
-//! What payloads are as numbers and as texts, and the payloads of objects that nothing changed.
+//! The payloads of objects that nothing changed.
 
-ghost use Rattle.std.specs.Prelude.{◌≡◌, ◌<◌, [], length, IfSome, option_copied};
-ghost use Rattle.std.specs.Int.{w128};
-ghost use Rattle.std.specs.Prelude.{FitsSigned};
-ghost use Rattle.py_objects.specs.Objects.{HasPayload};
-ghost use Rattle.py_objects.specs.Values.{number_of, text_of};
+ghost use Rattle.std.specs.Prelude.{◌≡◌, ◌<◌, [], length, option_copied};
+ghost use Rattle.py_objects.specs.Objects.{HasPayload, declares};
 
 use py_code::PyText;
 use py_objects::{Payload, PyObjectRef, Store};
@@ -18,46 +15,23 @@ pub(crate) fn entry(store: &Store, object: PyObjectRef) -> &Payload
     store.get(object)
 }
 
-/// A number's value.
-pub(crate) fn number_of(payload: &Payload) -> Option<i128>
-    ensures value { result ≡ number_of payload.now }
-    ensures fits { IfSome result (FitsSigned w128) }
+/// The name that a payload declares, where it is a declaration.
+pub(crate) fn declared_name(payload: &Payload) -> Option<&PyText>
+    ensures { option_copied result ≡ declares payload.now }
 {
     match payload {
-        Payload::None => None,
-        Payload::Bool(true) => Some(1),
-        Payload::Bool(false) => Some(0),
-        Payload::Int(number) => Some(*number),
-        Payload::Str(_) => None,
-        Payload::Tuple(_) => None,
-        Payload::Dict(_) => None,
-        Payload::Class(_) => None,
-        Payload::Function(_) => None,
-        Payload::Manager(_) => None,
-        Payload::Frame(_) => None,
-        Payload::Generator(_) => None,
-        Payload::Exception(_) => None,
-        Payload::Traceback(_) => None,
-    }
-}
-
-/// A text's characters.
-pub(crate) fn text_of(payload: &Payload) -> Option<&PyText>
-    ensures { option_copied result ≡ text_of payload.now }
-{
-    match payload {
-        Payload::None => None,
-        Payload::Bool(_) => None,
-        Payload::Int(_) => None,
-        Payload::Str(text) => Some(text),
-        Payload::Tuple(_) => None,
-        Payload::Dict(_) => None,
-        Payload::Class(_) => None,
-        Payload::Function(_) => None,
-        Payload::Manager(_) => None,
-        Payload::Frame(_) => None,
-        Payload::Generator(_) => None,
-        Payload::Exception(_) => None,
-        Payload::Traceback(_) => None,
+        Payload::Class(body) => Some(&body.name),
+        Payload::Function(body) => Some(&body.name),
+        Payload::Manager(body) => Some(&body.name),
+        Payload::None
+        | Payload::Bool(_)
+        | Payload::Int(_)
+        | Payload::Str(_)
+        | Payload::Tuple(_)
+        | Payload::Dict(_)
+        | Payload::Frame(_)
+        | Payload::Generator(_)
+        | Payload::Exception(_)
+        | Payload::Traceback(_) => None,
     }
 }

@@ -1,10 +1,12 @@
 //! The machine: its codes, its objects, and all that happened.
 
-ghost use Rattle.std.specs.Prelude.{◌≡◌, ◌≤◌, ◌<◌, ◌+◌, [], ◌∷◌, ◌++◌, suc, length, Err, IfOk, OnOk, OnErr};
+ghost use Rattle.std.specs.Prelude.{◌≡◌, ◌≤◌, ◌<◌, ◌+◌, [], ◌∷◌, ◌++◌, suc, length, Err, None, IfOk, OnOk, OnErr};
 ghost use Rattle.py_objects.specs.Objects.{payload_numbers, AllBelow, IsMade};
-ghost use Rattle.py_vm.specs.Classes.{first_objects};
-ghost use Rattle.py_vm.specs.Machine.{events_of, objects_of, changes_of, checked_of, codes_of, done_of};
+ghost use Rattle.py_vm.specs.Classes.{first_globals, first_objects};
+ghost use Rattle.py_vm.specs.Machine.{events_of, objects_of, changes_of, checked_of, codes_of, globals_of, done_of};
 ghost use Rattle.py_vm.specs.Stands.{IsCallable, Stands, Adds, EndsBy};
+ghost use Rattle.py_objects.specs.Attrs.{value_of};
+ghost use Rattle.py_vm.specs.Declaring.{first_name, with_named};
 ghost use Rattle.py_vm.specs.Turns.{first_stage};
 
 use crate::codes::CheckedCodes;
@@ -13,9 +15,10 @@ use crate::exceptions::ExceptionZoo;
 use crate::fault::VmFault;
 use crate::journal::Journal;
 use crate::stage::Stage;
+use crate::values::declared_name;
 use py_check::CheckedCode;
-use py_code::{Names, NoMemory};
-use py_objects::{DriveAnswer, EventList, PairList, Payload, PyObjectRef, Store};
+use py_code::{Names, NoMemory, PyText};
+use py_objects::{AttrMap, DriveAnswer, EventList, PairList, Payload, PyObjectRef, Store};
 use std::alloc::Global;
 
 /// A machine that runs drives one behind the other, one event a turn.
@@ -28,6 +31,8 @@ pub struct VirtualMachine {
     pub(crate) exceptions: ExceptionZoo,
     /// The dict of the globals.
     pub(crate) globals: PyObjectRef,
+    /// The first object that is declared under each name.
+    pub(crate) declarations: AttrMap,
     /// How many drives have their result.
     pub(crate) done: u64,
     /// How many activations were made.
@@ -44,9 +49,11 @@ impl VirtualMachine {
         ensures changes { IfOk result (λ vm. changes_of vm ≡ []) }
         ensures events { IfOk result (λ vm. events_of vm ≡ []) }
         ensures codes { IfOk result (λ vm. checked_of vm ≡ record { names = names; codes = [] }) }
+        ensures globals { IfOk result (λ vm. globals_of vm ≡ first_globals) }
     {
         let mut store = Store::new(alloc)?;
-        let exceptions = ExceptionZoo::new(alloc, &mut store)?;
+        let mut declarations = AttrMap::new(alloc);
+        let exceptions = ExceptionZoo::new(alloc, &mut store, &mut declarations)?;
         let globals = store.add(Payload::Dict(PairList::new(alloc)))?;
         Ok(VirtualMachine {
             alloc,
@@ -55,6 +62,7 @@ impl VirtualMachine {
             events: EventList::new(alloc),
             exceptions,
             globals,
+            declarations,
             done: 0,
             made: 0,
             stage: Stage::Idle,
@@ -69,6 +77,7 @@ impl VirtualMachine {
         ensures events { events_of self.new ≡ events_of self.old }
         ensures objects { objects_of self.new ≡ objects_of self.old }
         ensures changes { changes_of self.new ≡ changes_of self.old }
+        ensures globals { globals_of self.new ≡ globals_of self.old }
         ensures stands { Stands self.new }
         ensures err { OnErr result (self.new ≡ self.old) }
     {
@@ -87,11 +96,48 @@ impl VirtualMachine {
         ensures changes { changes_of self.new ≡ changes_of self.old }
         ensures events { events_of self.new ≡ events_of self.old }
         ensures codes { checked_of self.new ≡ checked_of self.old }
+        ensures globals { globals_of self.new ≡ globals_of self.old }
         ensures stands { Stands self.new }
         ensures err { OnErr result (self.new ≡ self.old) }
     {
-        let object = self.store.add(payload)?;
-        Ok(object)
+        match self.first_name(&payload)? {
+            None => self.store.add(payload),
+            Some(name) => self.add_named(name, payload),
+        }
+    }
+
+    /// A new object, which is the first that is declared under this name.
+    fn add_named(&mut self, name: PyText, payload: Payload) -> Result<PyObjectRef, NoMemory>
+        requires below { AllBelow (length self.old.store.made) (payload_numbers payload) }
+        requires first { value_of name self.old.declarations ≡ None }
+        ensures number { IfOk result (λ object. object.number ≡ length self.old.store.made) }
+        ensures added { IfOk result (λ object. self.new ≡ with_named self.old payload name object) }
+        ensures err { OnErr result (self.new ≡ self.old) }
+    {
+        let object = PyObjectRef {
+            number: self.store.len(),
+        };
+        self.declarations.insert(name.copy(self.alloc)?, object)?;
+        match self.store.add(payload) {
+            Ok(_) => Ok(object),
+            Err(NoMemory) => {
+                self.declarations.remove(&name);
+                Err(NoMemory)
+            }
+        }
+    }
+
+    /// The name that a payload declares, where nothing is declared under it yet.
+    fn first_name(&self, payload: &Payload) -> Result<Option<PyText>, NoMemory>
+        ensures { IfOk result (λ name. name ≡ first_name payload.now self.now.declarations) }
+    {
+        let Some(name) = declared_name(payload) else {
+            return Ok(None);
+        };
+        if self.declarations.get(name).is_some() {
+            return Ok(None);
+        }
+        Ok(Some(name.copy(self.alloc)?))
     }
 
     /// Makes one drive, in at most so many turns, of which each adds one event. A machine whose drive isn't done makes no other.

@@ -4,11 +4,24 @@ use Rattle.std.specs.Prelude.{FitsSigned}
 use Rattle.std.proofs.lemmas.Int.{to_z-of_z}
 use Rattle.py_objects.specs.declared.payload.Payload.TheVariants as payload
 use Rattle.py_vm.proofs.GrownLemmas.{with_object, still_grown, added_grown}
-use Rattle.py_vm.proofs.ReplyingLemmas.{text_grows, built_in_class, there_given, value_given, raise_given}
+use Rattle.py_vm.proofs.ReplyingLemmas.{text_grows, built_in_class, there_given, itself_given, value_given, raise_given}
 use Rattle.py_vm.proofs.answer.give.Goals as goal
 
 pub returns-in-None-clause-given : goal.returns-in-None-clause-given
 returns-in-None-clause-given c = rw c.in-None.is (there_given c.args.store.now.made payload.None c.none.result c.none.ensures)
+
+pub returns-in_err-add-in-Bool-clause-grows : goal.returns-in_err-add-in-Bool-clause-grows
+returns-in_err-add-in-Bool-clause-grows c = still_grown _ _ c.in_err-add-in-Bool.ensures.err
+
+pub returns-in_ok-add-in-Bool-clause-grows : goal.returns-in_ok-add-in-Bool-clause-grows
+returns-in_ok-add-in-Bool-clause-grows c = added_grown _ _ _ c.in_ok-add-in-Bool.ensures.added refl (λ fit. tt) (λ fit. tt)
+
+pub returns-in_ok-add-in-Bool-clause-given : goal.returns-in_ok-add-in-Bool-clause-given
+returns-in_ok-add-in-Bool-clause-given c =
+    rw c.in-Bool.is (value_given _ _ _ _ c.in_ok-add-in-Bool.ensures.added c.in_ok-add-in-Bool.ensures.number)
+
+pub returns-in-Is-clause-given : goal.returns-in-Is-clause-given
+returns-in-Is-clause-given c = rw c.in-Is.is (itself_given c.args.store.now.made c.in-Is.object (rw c.in-Is.is at c.requires.there))
 
 pub returns-in_err-add-in-Int-clause-grows : goal.returns-in_err-add-in-Int-clause-grows
 returns-in_err-add-in-Int-clause-grows c = still_grown _ _ c.in_err-add-in-Int.ensures.err

@@ -9,7 +9,7 @@ returns-clause-ok c = (
   c.step-step.result,
   c.step-step.new.self,
   step_taken c.args.self.now.codes _ _ c.args.running c.args.input c.step-step.result c.step-step.new.self c.in-Some.code.now c.f_code.result _ c.f_code.ensures c.names-names.ensures (sym c.in-Some.ensures)
-      c.step-step.ensures.extends c.step-step.ensures.expects c.step-step.ensures.asks c.step-step.ensures.running c.step-step.ensures.same.0,
+      c.step-step.ensures.extends c.step-step.ensures.expects c.step-step.ensures.asks c.step-step.ensures.running c.step-step.ensures.same,
   c.in_ok-stepped.ensures.ok,
 )
 

@@ -12,7 +12,7 @@ use Rattle.py_vm.specs.Codes.{Checked}
 use Rattle.py_vm.specs.Machine.{objects_of, checked_of}
 use Rattle.py_vm.specs.Stands.{CanCall}
 use Rattle.py_vm.proofs.ReplyingLemmas.{newest}
-use Rattle.py_vm.proofs.tests.driven.Goals as goal
+use Rattle.py_vm.proofs.tests.drives.driven.Goals as goal
 
 -- an object was put behind the others
 record Put (old new : List Payload) (p : Payload) (v : Obj) : Type 0 where

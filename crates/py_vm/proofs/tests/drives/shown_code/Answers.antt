@@ -5,7 +5,7 @@ use Rattle.py_check.specs.Sheet.{Sheet}
 use Rattle.py_check.specs.Worked.{nothing, one, sheet, unit}
 use Rattle.py_check.proofs.WorkedLemmas.{typed}
 use Rattle.py_frame.specs.Fitting.{IsSound}
-use Rattle.py_vm.proofs.tests.shown_code.Goals as goal
+use Rattle.py_vm.proofs.tests.drives.shown_code.Goals as goal
 
 abbrev worked : Sheet
 worked = record (sheet (unit op.LoadFast 0 ∷ unit op.PrintExpr 0 ∷ unit op.LoadFast 0 ∷ unit op.ReturnValue 0 ∷ []) (nothing ∷ one ∷ nothing ∷ one ∷ [])) { varnames = 3 }
