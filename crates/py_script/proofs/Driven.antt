@@ -1,34 +1,36 @@
 -- How a script's run goes on, drive by drive.
 use Rattle.std.proofs.Common.{◌≡◌, ◌+◌, ℕ, suc, List, [], ◌∷◌, ◌++◌, length, Some, refl, sym, ap, ◌∙◌, subst, arith, length-append}
-use Rattle.std.specs.Prelude.{false, slice_get, All, AllPairs, map}
-use Rattle.std.proofs.lemmas.Option.{slice_get_within}
+use Rattle.std.specs.Prelude.{false, slice_get, All}
 use Rattle.py_objects.specs.declared.payload.Payload.{Payload}
 use Rattle.py_objects.specs.declared.payload.Payload.TheVariants as payload
 use Rattle.py_objects.specs.declared.event.DriveAnswer.{DriveAnswer}
 use Rattle.py_objects.specs.declared.event.Event.{Event}
 use Rattle.py_objects.specs.declared.event.Event.TheVariants as event
+use Rattle.py_objects.specs.Attrs.{value_of}
 use Rattle.py_objects.specs.Objects.{Obj, HasPayload, declared, numbers, AllBelow, AllFit, GrowsPlainly}
-use Rattle.py_frame.proofs.PlainGrowth.{grows_plainly_trans}
+use Rattle.py_frame.proofs.Growing.{payload_grown}
+use Rattle.py_frame.proofs.PlainGrowth.{plainly_grows, grows_plainly_trans}
 use Rattle.py_body.specs.Tree.{Tree}
 use Rattle.py_grammar.specs.Drive.{Drive}
 use Rattle.py_grammar.specs.Rules.{is_builtin_class}
-use Rattle.py_grammar.specs.WellFormed.{IsWellDriven}
+use Rattle.py_grammar.specs.WellFormed.{Calls, IsWellDriven}
 use Rattle.py_vm.specs.declared.drive.Drive.{Drive as Question}
 use Rattle.py_vm.specs.declared.drive.Drive.TheVariants as question
 use Rattle.py_vm.specs.declared.vm.VirtualMachine.{VirtualMachine}
 use Rattle.py_vm.specs.Run.{Idle, State, start, after, state_after, Comes}
 use Rattle.py_vm.specs.Codes.{Checked}
-use Rattle.py_vm.specs.Machine.{events_of, objects_of, checked_of, codes_of, done_of}
+use Rattle.py_vm.specs.Machine.{events_of, objects_of, checked_of, codes_of, globals_of, done_of}
 use Rattle.py_vm.specs.Stands.{IsCallable, Stands, Adds, EndsBy}
 use Rattle.py_vm.proofs.RunLemmas.{declared_stays, comes_grow}
-use Rattle.py_vm.proofs.StandsLemmas.{stands_fit, stands_tells, stands_named, stands_unchanged}
+use Rattle.py_vm.proofs.StandsLemmas.{stands_fit, stands_tells, stands_named, stands_unchanged, stands_dict}
 use Rattle.py_script.specs.declared.session.Session.{Session}
-use Rattle.py_script.specs.Whole.{AreOf, Asks, AreObjects, IsRunOf}
+use Rattle.py_script.specs.Whole.{AreOf, Asks, AreObjects, IsDict, IsRunOf}
 use Rattle.py_script.specs.Loaded.{AreChecked, script_objects}
-use Rattle.py_script.specs.Session.{IsLoaded, InRun, IsInRun, IsNamedAt, IsReady, OnlyGrew}
-use Rattle.py_script.proofs.Loading.{ref_at, checked_compiled}
+use Rattle.py_script.specs.Session.{IsLoaded, InRun, IsInRun, IsReady, OnlyGrew}
+use Rattle.py_script.proofs.Functions.{AreDistinct, function_at}
+use Rattle.py_script.proofs.Loading.{checked_compiled}
 use Rattle.py_script.proofs.Objects.{functions_are, loaded_objects, objects_grow, asked_grow, asked_more}
-use Rattle.py_script.proofs.Traced.{function_of, tells_traces}
+use Rattle.py_script.proofs.Traced.{called, function_of, tells_traces}
 
 pub grew_more : (a b c : Session) → OnlyGrew a b → OnlyGrew b c → OnlyGrew a c
 grew_more a b c p q = record {
@@ -36,11 +38,12 @@ grew_more a b c p q = record {
   grows = grows_plainly_trans (objects_of a.vm) (objects_of b.vm) (objects_of c.vm) p.grows q.grows;
   events = q.events ∙ p.events;
   codes = q.codes ∙ p.codes;
+  globals = q.globals ∙ p.globals;
   functions = q.functions ∙ p.functions;
 }
 
 -- a loaded script is ready for its first drive
-pub loaded_ready : (trees : List Tree) (drives : List Drive) (s : Session) → IsLoaded trees s → AllPairs (λ x y. x ≡ y → ⊥) (map (λ t. t.name) trees)
+pub loaded_ready : (trees : List Tree) (drives : List Drive) (s : Session) → IsLoaded trees s → AreDistinct trees
     → ((j : ℕ) (t : Tree) → slice_get trees j ≡ Some t → is_builtin_class t.name ≡ false) → IsReady trees drives s
 loaded_ready trees drives s l differ no_class =
     let objects : AreObjects trees (script_objects trees) = loaded_objects trees differ no_class (subst AllFit l.objects (stands_fit s.vm l.stands)) in
@@ -50,7 +53,7 @@ loaded_ready trees drives s l differ no_class =
       functions = λ i t is.
           let at = functions_are trees differ i t is (no_class i t is) in (
             record { number = 7 + i },
-            ap (λ fs. slice_get fs i) l.functions ∙ ref_at 7 (length trees) i (slice_get_within trees i t is),
+            ap (value_of t.name) l.functions ∙ function_at 7 trees [] differ i t is,
             ap (λ os. declared os t.name) l.objects ∙ at.0,
           );
       asked = [];
@@ -63,6 +66,7 @@ loaded_ready trees drives s l differ no_class =
         are_objects = subst (AreObjects trees) (sym l.objects) objects;
         checked = l.checked;
         unchanged = stands_unchanged s.vm l.stands;
+        is_dict = ([], stands_dict s.vm l.stands);
       };
     }
 
@@ -76,25 +80,34 @@ run_grows trees drives asked old new g r = record {
   are_objects = objects_grow trees (objects_of old.vm) (objects_of new.vm) g.grows r.are_objects;
   checked = subst (λ (c : Checked). AreChecked trees c) (sym g.codes) r.checked;
   unchanged = stands_unchanged new.vm g.stands;
+  is_dict = ([], stands_dict new.vm g.stands);
 }
 
 pub ready_grows : (trees : List Tree) (drives : List Drive) (old new : Session) → OnlyGrew old new → IsReady trees drives old → IsReady trees drives new
 ready_grows trees drives old new g r = record {
   stands = g.stands;
   idle = ap (λ es. (state_after start es).phase) g.events ∙ r.idle;
-  functions = λ i t is. let h = r.functions i t is in (h.0, ap (λ fs. slice_get fs i) g.functions ∙ h.1, declared_stays (objects_of old.vm) (objects_of new.vm) t.name g.grows ∙ h.2);
+  functions = λ i t is. let h = r.functions i t is in (h.0, ap (value_of t.name) g.functions ∙ h.1, declared_stays (objects_of old.vm) (objects_of new.vm) t.name g.grows ∙ h.2);
   asked = r.asked;
   count = r.count ∙ sym (ap (λ es. (state_after start es).done) g.events);
   run = run_grows trees drives r.asked old new g r.run;
 }
 
--- the function at the place of the declaration that a drive names is the one that it asks for
-pub asks_for : (trees : List Tree) (drives : List Drive) (s : Session) (grown : List Payload) (d : Drive) (i : ℕ) (f : Obj) (vs : List Obj) → IsReady trees drives s → GrowsPlainly (objects_of s.vm) grown
-    → IsNamedAt trees d.function i → slice_get s.functions i ≡ Some f → AreOf grown d.args vs → Asks grown d (question.Call f vs)
-asks_for trees drives s grown d i f vs r grows (t, at, named) is of =
-    let h = r.functions i t at in
-    let both : Some h.0 ≡ Some f = sym h.1 ∙ is in
-    (ap (declared grown) (sym named) ∙ declared_stays (objects_of s.vm) grown t.name grows ∙ h.2 ∙ both, of)
+-- the function that a drive names is there
+pub function_named : (trees : List Tree) (drives : List Drive) (s : Session) (d : Drive) → IsReady trees drives s → IsWellDriven trees d → (f : Obj) × (value_of d.function s.functions ≡ Some f) × (declared (objects_of s.vm) d.function ≡ Some f)
+function_named trees drives s d r well = go (called trees d well.calls)
+  where
+    go : (j : ℕ) × (t : Tree) × (slice_get trees j ≡ Some t) × Calls d t → (f : Obj) × (value_of d.function s.functions ≡ Some f) × (declared (objects_of s.vm) d.function ≡ Some f)
+    go (j, t, at, calls) =
+        let h = r.functions j t at in
+        (h.0, ap (λ n. value_of n s.functions) (sym calls.function) ∙ h.1, ap (declared (objects_of s.vm)) (sym calls.function) ∙ h.2)
+
+-- it is the one that the drive asks for
+pub asks_for : (trees : List Tree) (drives : List Drive) (s : Session) (grown : List Payload) (d : Drive) (f : Obj) (vs : List Obj) → IsReady trees drives s → GrowsPlainly (objects_of s.vm) grown
+    → IsWellDriven trees d → value_of d.function s.functions ≡ Some f → AreOf grown d.args vs → Asks grown d (question.Call f vs)
+asks_for trees drives s grown d f vs r grows well is of =
+    let h = function_named trees drives s d r well in
+    (declared_stays (objects_of s.vm) grown d.function grows ∙ h.2 ∙ sym h.1 ∙ is, of)
 
 -- a drive of the script can be made
 pub can_call : (trees : List Tree) (drives : List Drive) (s : Session) (d : Drive) (f : Obj) (vs : List Obj) → IsReady trees drives s → IsWellDriven trees d → Asks (objects_of s.vm) d (question.Call f vs)
@@ -118,6 +131,7 @@ run_driven trees drives s vm d q next asks adds r = record {
   are_objects = objects_grow trees (objects_of s.vm) (objects_of vm) adds.grows r.run.are_objects;
   checked = subst (λ (c : Checked). AreChecked trees c) (sym adds.codes) r.run.checked;
   unchanged = adds.changes ∙ r.run.unchanged;
+  is_dict = subst (IsDict (objects_of vm)) (sym adds.globals) (r.run.is_dict.0, payload_grown (objects_of s.vm) (objects_of vm) (globals_of s.vm) _ (plainly_grows (objects_of s.vm) (objects_of vm) adds.grows) r.run.is_dict.1);
 }
 
 -- nothing runs behind the result of a drive
@@ -134,7 +148,7 @@ pub ready_driven : (trees : List Tree) (drives : List Drive) (s new : Session) (
 ready_driven trees drives s new d q r next asks adds same stands idle done = record {
   stands = stands;
   idle = idle;
-  functions = λ i t is. let h = r.functions i t is in (h.0, ap (λ fs. slice_get fs i) same ∙ h.1, declared_stays (objects_of s.vm) (objects_of new.vm) t.name adds.grows ∙ h.2);
+  functions = λ i t is. let h = r.functions i t is in (h.0, ap (value_of t.name) same ∙ h.1, declared_stays (objects_of s.vm) (objects_of new.vm) t.name adds.grows ∙ h.2);
   asked = r.asked ++ q ∷ [];
   count = length-append r.asked (q ∷ []) ∙ (let one : length r.asked ≡ done_of s.vm = r.count in let e : length r.asked + 1 ≡ done_of new.vm = omega (arith, one, done) in e);
   run = run_driven trees drives s new.vm d q next asks adds r;
@@ -144,21 +158,21 @@ next_grows : (drives : List Drive) (d : Drive) (old new : Session) → OnlyGrew 
 next_grows drives d old new g next = ap (λ es. slice_get drives (state_after start es).done) g.events ∙ next
 
 -- a drive whose arguments were made goes on with the run, wherever it stopped
-pub called_run : (trees : List Tree) (drives : List Drive) (old new : Session) (vm : VirtualMachine) (d : Drive) (i : ℕ) (f : Obj) (vs : List Obj) → IsReady trees drives old → OnlyGrew old new → slice_get drives (done_of old.vm) ≡ Some d
-    → IsNamedAt trees d.function i → slice_get old.functions i ≡ Some f → AreOf (objects_of new.vm) d.args vs → Adds (question.Call f vs) new.vm vm → IsInRun trees drives vm
-called_run trees drives old new vm d i f vs r g next place at of adds =
+pub called_run : (trees : List Tree) (drives : List Drive) (old new : Session) (vm : VirtualMachine) (d : Drive) (f : Obj) (vs : List Obj) → IsReady trees drives old → OnlyGrew old new → slice_get drives (done_of old.vm) ≡ Some d
+    → IsWellDriven trees d → value_of d.function old.functions ≡ Some f → AreOf (objects_of new.vm) d.args vs → Adds (question.Call f vs) new.vm vm → IsInRun trees drives vm
+called_run trees drives old new vm d f vs r g next well at of adds =
     let ready = ready_grows trees drives old new g r in
-    let asks = asks_for trees drives old (objects_of new.vm) d i f vs r g.grows place at of in
+    let asks = asks_for trees drives old (objects_of new.vm) d f vs r g.grows well at of in
     (ready.asked ++ question.Call f vs ∷ [], run_driven trees drives new vm d (question.Call f vs) (next_grows drives d old new g next) asks adds ready)
 
 -- and where it is done, the next one can be made
-pub called_ready : (trees : List Tree) (drives : List Drive) (old new : Session) (vm : VirtualMachine) (d : Drive) (i : ℕ) (f : Obj) (vs : List Obj) → IsReady trees drives old → OnlyGrew old new → slice_get drives (done_of old.vm) ≡ Some d
-    → IsNamedAt trees d.function i → slice_get old.functions i ≡ Some f → AreOf (objects_of new.vm) d.args vs → Adds (question.Call f vs) new.vm vm
+pub called_ready : (trees : List Tree) (drives : List Drive) (old new : Session) (vm : VirtualMachine) (d : Drive) (f : Obj) (vs : List Obj) → IsReady trees drives old → OnlyGrew old new → slice_get drives (done_of old.vm) ≡ Some d
+    → IsWellDriven trees d → value_of d.function old.functions ≡ Some f → AreOf (objects_of new.vm) d.args vs → Adds (question.Call f vs) new.vm vm
     → Stands vm × (done_of vm ≡ suc (done_of new.vm)) → (w : DriveAnswer) → EndsBy (events_of vm) (suc (done_of new.vm)) w
     → IsReady trees drives (record new { vm = vm }) × (done_of vm ≡ suc (done_of old.vm))
-called_ready trees drives old new vm d i f vs r g next place at of adds (stands, done) w ends =
+called_ready trees drives old new vm d f vs r g next well at of adds (stands, done) w ends =
     let ready = ready_grows trees drives old new g r in
-    let asks = asks_for trees drives old (objects_of new.vm) d i f vs r g.grows place at of in (
+    let asks = asks_for trees drives old (objects_of new.vm) d f vs r g.grows well at of in (
       ready_driven trees drives new (record new { vm = vm }) d (question.Call f vs) ready (next_grows drives d old new g next) asks adds refl stands (idle_answered (events_of vm) (suc (done_of new.vm)) w ends) done,
       done ∙ ap (λ es. suc (state_after start es).done) g.events,
     )
@@ -168,9 +182,11 @@ pub is_run_of : (trees : List Tree) (drives : List Drive) (vm : VirtualMachine) 
 is_run_of trees drives vm well (asked, r) = record {
   asked = asked;
   are_asked = r.are_asked;
+  globals = globals_of vm;
+  is_dict = r.is_dict;
   run = record {
     comes = r.comes;
-    tells = tells_traces trees drives asked (objects_of vm) (codes_of vm) (events_of vm) r.are_objects (checked_compiled trees (checked_of vm) r.checked) well r.are_asked r.comes r.tells;
+    tells = tells_traces trees drives asked (globals_of vm) (objects_of vm) (codes_of vm) (events_of vm) r.are_objects (checked_compiled trees (checked_of vm) r.checked) well r.are_asked r.comes r.tells;
     named = r.named;
   };
   are_objects = r.are_objects;

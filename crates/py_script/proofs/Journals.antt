@@ -24,8 +24,9 @@ use Rattle.py_objects.specs.declared.event.Event.{Event}
 use Rattle.py_objects.specs.declared.event.Event.TheVariants as event
 use Rattle.py_objects.specs.Objects.{Obj, Name, HasPayload, declares, declared, declared_from, name_of, error_kinds, payload_numbers, event_numbers, AllBelow, IsMade, AllFit, AreNamed, is_among, IsNew}
 use Rattle.py_objects.specs.Own.{Own, Makes, Resumes, Asks, Gets, Ends, own_events, told_by}
-use Rattle.py_objects.specs.Telling.{AfterValue, Answered, Answers}
+use Rattle.py_objects.specs.Telling.{AfterValue, Answered, Answers, Asked}
 use Rattle.py_body.specs.Tree.{Tree}
+use Rattle.py_body.specs.Scene.{Scene, anywhere}
 use Rattle.py_body.specs.Trace.{IsTrace, IsBegun}
 use Rattle.py_grammar.specs.Drive.{Drive}
 use Rattle.py_vm.specs.declared.drive.Drive.{Drive as Question}
@@ -34,7 +35,7 @@ use Rattle.py_vm.specs.Answers.{Reply, Replies, Gives, IsRaised, sum, whole}
 use Rattle.py_vm.specs.Run.{By_raise, Activation, Asking, IsTop, MayCome, State, question, start, state_after, Comes, EachTells}
 use Rattle.py_script.specs.Whole.{AreAsked, AreObjects, Traces, IsRunOf}
 use Rattle.py_script.specs.Text.{bytes_of}
-use Rattle.py_script.specs.Worked.{object, exception, class_entry, function_entry, objects_of, entered, asked, greatest, overflowing, error_body, error_entry, error_objects, raising_by, raised, raises, overflow_by}
+use Rattle.py_script.specs.Worked.{object, exception, class_entry, function_entry, loaded, objects_of, entered, asked, greatest, overflowing, error_body, error_entry, error_objects, raising_by, raised, raises, overflow_by}
 
 pub decimal_1 : decimal 1 ≡ codes "1"
 decimal_1 = decimal_digit 1 (lit< tt)
@@ -128,8 +129,8 @@ behind : (x : Own) (ts us : List Own) → x ∷ ts ≡ x ∷ us → ts ≡ us
 behind x ts us e = cc
 
 -- what follows the making
-pub begun : (store : List Payload) (t : Tree) (vs : List Obj) (ts : List Own) → IsTrace store t vs (Makes ∷ ts) → IsBegun store t vs ts
-begun store t vs ts h = subst (IsBegun store t vs) (sym (behind Makes ts _ h.1.1)) h.1.2
+pub begun : (scene : Scene) (t : Tree) (vs : List Obj) (ts : List Own) → IsTrace scene t vs (Makes ∷ ts) → IsBegun scene t vs ts
+begun scene t vs ts h = subst (IsBegun scene t vs) (sym (behind Makes ts _ h.1.1)) h.1.2
 
 -- an answer that was got goes on
 pub gotten : (K : AfterValue) (w : GotAnswer) (ts : List Own) → Answered (Gets w ∷ ts) K → Answers w ts K
@@ -138,6 +139,13 @@ gotten K w ts (inr some) =
     let same : w ≡ some.0 = cc some.2 in
     let rest : ts ≡ some.1 = cc some.2 in
     subst (λ (xs : List Own). Answers w xs K) (sym rest) (subst (λ (w : GotAnswer). Answers w some.1 K) (sym same) some.3)
+
+-- what is asked and answered goes on as its answer
+pub asked_so : (units : ℕ → Bool) (r q : Request) (at : ℕ) (w : GotAnswer) (ts : List Own) (K : AfterValue) → Asked units r None (Asks at q None ∷ Gets w ∷ ts) K → Answers w ts K
+asked_so units r q at w ts K (inl cut) = absurd (cc cut.0)
+asked_so units r q at w ts K (inr more) =
+    let rest : Gets w ∷ ts ≡ more.1 = cc more.3 in
+    gotten K w ts (subst (λ (xs : List Own). Answered xs K) (sym rest) more.4)
 
 -- no more drives are begun than the script has
 pub few_asked : (store : List Payload) (ds : List Drive) (qs : List Question) → AreAsked store ds qs → length qs ≤ length ds
@@ -200,16 +208,20 @@ module _ (t : Tree) where
   abbrev pub with_more : ℤ → ℤ → List Payload → List Payload
   with_more m n more = objects_of (function_entry t.name 0) m n more
 
+  -- the objects of the script, and more
+  abbrev pub loaded_with : List Payload → List Payload
+  loaded_with more = loaded (function_entry t.name 0) more
+
   -- the function is declared under its name
   abbrev pub IsDeclared : List Payload → Type 0
   IsDeclared store = declared store t.name ≡ Some (object 7)
 
-  has_entry : (m n : ℤ) (more : List Payload) → IsDeclared (with_more m n more) → (i : ℕ) (u : Tree) → slice_get (t ∷ []) i ≡ Some u → HasEntry (with_more m n more) i u
-  has_entry m n more d zero u e = subst (λ (u : Tree). HasEntry (with_more m n more) 0 u) (some_is t u e) (object 7, d, refl)
-  has_entry m n more d (suc i) u e = absurd cc
+  has_entry : (more : List Payload) → IsDeclared (loaded_with more) → (i : ℕ) (u : Tree) → slice_get (t ∷ []) i ≡ Some u → HasEntry (loaded_with more) i u
+  has_entry more d zero u e = subst (λ (u : Tree). HasEntry (loaded_with more) 0 u) (some_is t u e) (object 7, d, refl)
+  has_entry more d (suc i) u e = absurd cc
 
-  all_known : (m n : ℤ) (more : List Payload) → Each IsKnown more → Each IsKnown (with_more m n more)
-  all_known m n more h = (
+  all_known : (more : List Payload) → Each IsKnown more → Each IsKnown (loaded_with more)
+  all_known more h = (
     plain payload.None refl,
     (
       known_class kind.NameError (0, lit< tt, refl),
@@ -217,23 +229,27 @@ module _ (t : Tree) where
         known_class kind.OverflowError (1, lit< tt, refl),
         (
           known_class kind.RecursionError (2, lit< tt, refl),
-          (known_class kind.TypeError (3, lit< tt, refl), (known_class kind.UnboundLocalError (4, lit< tt, refl), (plain (payload.Dict []) refl, (known_function, (plain (payload.Int m) refl, (plain (payload.Int n) refl, h)))))),
+          (known_class kind.TypeError (3, lit< tt, refl), (known_class kind.UnboundLocalError (4, lit< tt, refl), (plain (payload.Dict []) refl, (known_function, h)))),
         ),
       ),
     ),
   )
 
-  pub are_objects : (m n : ℤ) (more : List Payload) → IsDeclared (with_more m n more) → Each IsKnown more → AllFit (with_more m n more) → AreObjects (t ∷ []) (with_more m n more)
-  are_objects m n more d known fit =
+  pub are_loaded : (more : List Payload) → IsDeclared (loaded_with more) → Each IsKnown more → AllFit (loaded_with more) → AreObjects (t ∷ []) (loaded_with more)
+  are_loaded more d known fit =
       record {
-        functions = has_entry m n more d;
+        functions = has_entry more d;
         classes =
-            each_at (HasClass (with_more m n more)) error_kinds ((object 1, refl, refl), ((object 2, refl, refl), ((object 3, refl, refl), ((object 4, refl, refl), ((object 5, refl, refl), tt)))));
-        only_functions = λ f b e. (each_at IsKnown (with_more m n more) (all_known m n more known) f.number (payload.Function b) e).0 b refl;
-        only_classes = λ c b e. (each_at IsKnown (with_more m n more) (all_known m n more known) c.number (payload.Class b) e).1 b refl;
-        no_managers = λ v b e. (each_at IsKnown (with_more m n more) (all_known m n more known) v.number (payload.Manager b) e).2 b refl;
+            each_at (HasClass (loaded_with more)) error_kinds ((object 1, refl, refl), ((object 2, refl, refl), ((object 3, refl, refl), ((object 4, refl, refl), ((object 5, refl, refl), tt)))));
+        only_functions = λ f b e. (each_at IsKnown (loaded_with more) (all_known more known) f.number (payload.Function b) e).0 b refl;
+        only_classes = λ c b e. (each_at IsKnown (loaded_with more) (all_known more known) c.number (payload.Class b) e).1 b refl;
+        no_managers = λ v b e. (each_at IsKnown (loaded_with more) (all_known more known) v.number (payload.Manager b) e).2 b refl;
         fit = fit;
       }
+
+  -- the same with two numbers
+  pub are_objects : (m n : ℤ) (more : List Payload) → IsDeclared (with_more m n more) → Each IsKnown more → AllFit (with_more m n more) → AreObjects (t ∷ []) (with_more m n more)
+  are_objects m n more d known fit = are_loaded (payload.Int m ∷ payload.Int n ∷ more) d (plain (payload.Int m) refl, (plain (payload.Int n) refl, known)) fit
 
   -- up to the question for the sum
   pub asking_comes : (qs : List Question) (m n : ℤ) (more : List Payload) (rest : List Event) → slice_get qs 0 ≡ Some call → 0 < length qs → Comes qs (with_more m n more) (entered 1 (asked 1 (object 8) (object 9) [])) (state_after start (entered 1 (asked 1 (object 8) (object 9) []))) rest → Comes qs (with_more m n more) [] start (entered 1 (asked 1 (object 8) (object 9) rest))
@@ -244,15 +260,21 @@ module _ (t : Tree) where
   sum_comes qs m n more before s a w phase top asks given = (phase, top, (_, whole (m +ℤ n), asks, (_, _, codes "int", codes "int", refl, refl, refl, refl, refl), given))
 
   -- an activation of the script's function tells what that may
-  pub traced_by : (store : List Payload) (f : Obj) (vs : List Obj) (ts : List Own) → HasPayload store f (function_entry t.name 0) → Traces (t ∷ []) store f vs ts → IsTrace store t vs ts
-  traced_by store f vs ts p h =
+  pub traced_by : (globals : Obj) (store : List Payload) (f : Obj) (vs : List Obj) (ts : List Own) → HasPayload store f (function_entry t.name 0) → Traces (t ∷ []) globals store f vs ts → IsTrace (anywhere store globals) t vs ts
+  traced_by globals store f vs ts p h =
       let code : 0 ≡ h.0.code = code_of t.name h.0.name 0 h.0.code (sym p ∙ h.1) in
       let same : t ≡ h.2.0 = some_is _ _ (subst (λ (i : ℕ). slice_get (t ∷ []) i ≡ Some h.2.0) (sym code) h.2.1) in
-      subst (λ (u : Tree). IsTrace store u vs ts) (sym same) h.2.2
+      subst (λ (u : Tree). IsTrace (anywhere store globals) u vs ts) (sym same) h.2.2
 
   -- what a run of the script says of its activation
-  pub traced : (store : List Payload) (drives : List Drive) (events : List Event) → HasPayload store (object 7) (function_entry t.name 0) → slice_get (state_after start events).made 0 ≡ Some (record { function = object 7; args = object 8 ∷ object 9 ∷ [] }) → IsRunOf (t ∷ []) drives store events → IsTrace store t (object 8 ∷ object 9 ∷ []) (own_events 1 events)
-  traced store drives events p e r = traced_by store (object 7) (object 8 ∷ object 9 ∷ []) (own_events 1 events) p (r.run.tells 0 (record { function = object 7; args = object 8 ∷ object 9 ∷ [] }) e)
+  pub traced_with : (vs : List Obj) (store : List Payload) (drives : List Drive) (events : List Event) → HasPayload store (object 7) (function_entry t.name 0) → slice_get (state_after start events).made 0 ≡ Some (record { function = object 7; args = vs })
+      → (r : IsRunOf (t ∷ []) drives store events) → IsTrace (anywhere store r.globals) t vs (own_events 1 events)
+  traced_with vs store drives events p e r = traced_by r.globals store (object 7) vs (own_events 1 events) p (r.run.tells 0 (record { function = object 7; args = vs }) e)
+
+  -- the same of an activation with two arguments
+  pub traced : (store : List Payload) (drives : List Drive) (events : List Event) → HasPayload store (object 7) (function_entry t.name 0) → slice_get (state_after start events).made 0 ≡ Some (record { function = object 7; args = object 8 ∷ object 9 ∷ [] })
+      → (r : IsRunOf (t ∷ []) drives store events) → IsTrace (anywhere store r.globals) t (object 8 ∷ object 9 ∷ []) (own_events 1 events)
+  traced store drives events p e r = traced_with (object 8 ∷ object 9 ∷ []) store drives events p e r
 
   -- the entry of the function, where it is the script's
   pub entry_of : (store : List Payload) (f : Obj) → AreObjects (t ∷ []) store → declared store t.name ≡ Some f → HasPayload store f (function_entry t.name 0)
@@ -261,9 +283,9 @@ module _ (t : Tree) where
       subst (λ (f : Obj). HasPayload store f (function_entry t.name 0)) (some_is _ _ (sym entry.1 ∙ e)) entry.2
 
   -- nothing is declared under another number
-  undeclared : (n : ℕ) (m k : ℤ) (more : List Payload) (x : Name) → IsNoDeclaration n → declared_from 10 more x ≡ None → (v : Obj) → declared (with_more m k more) x ≡ Some v → eqb n v.number ≡ false
-  undeclared n m k more x past none =
-      not_chosen n 1 _ _ past.0 (not_chosen n 2 _ _ past.1 (not_chosen n 3 _ _ past.2 (not_chosen n 4 _ _ past.3 (not_chosen n 5 _ _ past.4 (not_chosen n 7 _ _ past.5 (none_chosen n (declared_from 10 more x) none))))))
+  pub undeclared : (n : ℕ) (more : List Payload) (x : Name) → IsNoDeclaration n → declared_from 8 more x ≡ None → (v : Obj) → declared (loaded_with more) x ≡ Some v → eqb n v.number ≡ false
+  undeclared n more x past none =
+      not_chosen n 1 _ _ past.0 (not_chosen n 2 _ _ past.1 (not_chosen n 3 _ _ past.2 (not_chosen n 4 _ _ past.3 (not_chosen n 5 _ _ past.4 (not_chosen n 7 _ _ past.5 (none_chosen n (declared_from 8 more x) none))))))
 
   -- the objects of drives that overflow, and more
   abbrev pub overflow_with : List Payload → List Payload
@@ -271,7 +293,7 @@ module _ (t : Tree) where
 
   pub new_in : (n : ℕ) (more : List Payload) (before : List Event) → ((x : Name) → declared_from 13 more x ≡ None) → Each (λ e. is_among n (event_numbers e) ≡ false) before → IsNoDeclaration n → IsNew (overflow_with more) before n
   new_in n more before none h past =
-      record { unnamed = each_at (λ e. is_among n (event_numbers e) ≡ false) before h; undeclared = λ x. undeclared n greatest (pos 1) (error_objects 2 more) x past (none x) }
+      record { unnamed = each_at (λ e. is_among n (event_numbers e) ≡ false) before h; undeclared = λ x. undeclared n (payload.Int greatest ∷ payload.Int (pos 1) ∷ error_objects 2 more) x past (none x) }
 
   -- what is raised
   pub is_raised : (n : ℕ) (more : List Payload) (before : List Event) → IsNew (overflow_with more) before n → HasPayload (overflow_with more) (object n) (error_entry 2) → IsRaised (overflow_with more) before kind.OverflowError (codes "integer out of range") (exception n)
@@ -287,7 +309,7 @@ module _ (t : Tree) where
 
   -- what the activation of a drive that raises tells
   abbrev pub RaiseIsTraced : List Payload → PyBaseExceptionRef → Type 0
-  RaiseIsTraced more e = IsTrace (overflow_with more) t (object 8 ∷ object 9 ∷ []) (Makes ∷ Resumes Start ∷ Asks 2 (Binary binary.Add (object 8) (object 9)) None ∷ Gets (got.Raise e) ∷ Ends 2 (ending.Raise e) ∷ [])
+  RaiseIsTraced more e = IsTrace (anywhere (overflow_with more) (object 6)) t (object 8 ∷ object 9 ∷ []) (Makes ∷ Resumes Start ∷ Asks 2 (Binary binary.Add (object 8) (object 9)) None ∷ Gets (got.Raise e) ∷ Ends 2 (ending.Raise e) ∷ [])
 
   -- its entry names what it should
   pub made_error : (more : List Payload) → IsMade (overflow_with more) (error_entry 2)
@@ -305,9 +327,9 @@ module _ (t : Tree) where
   overflow_fits : AllFit (overflow_with [])
   overflow_fits = all_fit (overflow_with []) refl (tt, (tt, (tt, (tt, (tt, (tt, (tt, (tt, (tt, (tt, (tt, (tt, (made_error [], tt)))))))))))))
 
-  overflow_tells : RaiseIsTraced [] (exception 12) → EachTells (Traces (t ∷ []) (overflow_with [])) (overflow_by (exception 12))
+  overflow_tells : RaiseIsTraced [] (exception 12) → EachTells (Traces (t ∷ []) (object 6) (overflow_with [])) (overflow_by (exception 12))
   unfolding own_events told_by
-  overflow_tells h = one_tells (Traces (t ∷ []) (overflow_with [])) (object 7) (object 8 ∷ object 9 ∷ []) (overflow_by (exception 12)) refl (_, refl, (t, refl, h))
+  overflow_tells h = one_tells (Traces (t ∷ []) (object 6) (overflow_with [])) (object 7) (object 8 ∷ object 9 ∷ []) (overflow_by (exception 12)) refl (_, refl, (t, refl, h))
 
   -- the run of one drive that overflows
   pub overflow_is_run : IsDeclared (overflow_with []) → RaiseIsTraced [] (exception 12) → IsRunOf (t ∷ []) (record overflowing { function = t.name } ∷ []) (overflow_with []) (overflow_by (exception 12))
@@ -315,6 +337,8 @@ module _ (t : Tree) where
       record {
         asked = call ∷ [];
         are_asked = ((d, (refl, (refl, tt))), tt);
+        globals = object 6;
+        is_dict = ([], refl);
         run =
             record {
               comes = first_raises (call ∷ []) [] [] refl (lit< tt) (λ x. refl) tt;

@@ -1,5 +1,6 @@
 -- what a script gives the compiler and the machine
 pub mod Closed
+pub mod Functions
 pub mod Objects
 -- what a machine's run is in the script's own words
 pub mod Made
@@ -20,4 +21,5 @@ mod ReprLemmas
 mod Journals
 mod WorkedLemmas
 mod WorkedShowLemmas
+mod WorkedLoopLemmas
 mod OneText

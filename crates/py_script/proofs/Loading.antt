@@ -1,17 +1,15 @@
 -- How a machine is loaded, declaration by declaration.
-use Rattle.std.proofs.Common.{◌≡◌, ◌<◌, ◌≤◌, ◌+◌, ℕ, zero, suc, List, [], ◌∷◌, ◌++◌, length, true, false, Some, refl, sym, ap, ◌∙◌, subst, arith, length-append, append_assoc, ◌⊎◌, inl, inr, get_or, take}
-use Rattle.std.specs.Prelude.{option_map, slice_get, map, Any, Result, Ok, Err, OnOk, OnErr, bytes_eq}
+use Rattle.std.proofs.Common.{◌≡◌, ◌<◌, ◌≤◌, ◌+◌, ℕ, zero, suc, List, [], ◌∷◌, ◌++◌, length, Some, refl, sym, ap, ◌∙◌, subst, arith, length-append, append_assoc, ◌⊎◌, inl, inr, get_or, take}
+use Rattle.std.specs.Prelude.{option_map, slice_get, map, Result, Ok, Err, OnOk, OnErr}
 use Rattle.std.proofs.lemmas.List.{map-append, length-map, length-take-le, take_all}
 use Rattle.std.proofs.lemmas.Grind.{take_at_read}
-use Rattle.std.proofs.lemmas.Option.{slice_get-map, slice_get-get_or, slice_get_read}
-use Rattle.std.proofs.lemmas.Slice.Eq.{bytes_eq-Decides}
-use Rattle.std.proofs.lemmas.Bool.Decides.{eqb_tells}
+use Rattle.std.proofs.lemmas.Option.{slice_get-map, slice_get-get_or}
 use Rattle.py_code.specs.declared.list.NoMemory.{NoMemory}
 use Rattle.py_check.specs.declared.annotated.Annotated.{Annotated}
 use Rattle.py_objects.specs.declared.payload.Payload.{Payload}
 use Rattle.py_objects.specs.declared.payload.Payload.TheVariants as payload
 use Rattle.py_objects.specs.declared.refs.PyObjectRef.{PyObjectRef}
-use Rattle.py_objects.specs.Objects.{Obj, Name, numbers, AllBelow, GrowsPlainly}
+use Rattle.py_objects.specs.Objects.{Obj, numbers, AllBelow, GrowsPlainly}
 use Rattle.py_frame.specs.Fitting.{IsSound}
 use Rattle.py_frame.proofs.Growing.{slice_get_grown}
 use Rattle.py_frame.proofs.PlainGrowth.{grows_plainly_refl, grows_plainly_by}
@@ -25,7 +23,7 @@ use Rattle.py_vm.specs.Codes.{Checked, plain_codes}
 use Rattle.py_vm.specs.Machine.{objects_of}
 use Rattle.py_vm.proofs.ReplyingLemmas.{newest}
 use Rattle.py_script.specs.Loaded.{AreCompiled, AreChecked, function_entries}
-use Rattle.py_script.specs.Session.{refs_from, IsValue}
+use Rattle.py_script.specs.Session.{IsValue}
 
 -- the entry of a list that is mapped
 pub entry_mapped : {A B : Type 0} (f : A → B) (xs : List A) (i : ℕ) (x : A) → slice_get xs i ≡ Some x → slice_get (map f xs) i ≡ Some (f x)
@@ -56,11 +54,21 @@ one_more (z ∷ xs) y x (suc i) h = elim (one_more xs y x i h) [ inl old ↦ inl
 sound_continues : (names names' : List (List ℕ)) (c : Annotated) → Continues names names' → IsSound names c → IsSound names' c
 sound_continues names names' c (more, is) sound =
     let size : length names' ≡ length names + length more = ap length is ∙ length-append names more in
-    record { typed = sound.typed; named = λ i id at. let low = sound.named i id at in omega (arith, low, size) }
+    record {
+      typed = sound.typed;
+      named = record {
+        locals = λ i id at. let low = sound.named.locals i id at in omega (arith, low, size);
+        globals = λ i id at. let low = sound.named.globals i id at in omega (arith, low, size);
+      };
+    }
+
+-- a list that goes on goes on also where that goes on
+continues_on : (a b c : List (List ℕ)) → Continues a b → Continues b c → Continues a c
+continues_on a b c (more, is) (rest, goes) = (more ++ rest, goes ∙ ap (λ l. l ++ rest) is ∙ append_assoc a more rest)
 
 -- so it fits its tree
 fits_continues : (names names' : List (List ℕ)) (c : Annotated) (t : Tree) → Continues names names' → Fits names c t → Fits names' c t
-fits_continues names names' c t grows fits = record { arity = fits.arity; sound = sound_continues names names' c grows fits.sound; traces = fits.traces }
+fits_continues names names' c t grows fits = record { arity = fits.arity; sound = sound_continues names names' c grows fits.sound; traces = λ table globals objects args ts on. fits.traces table globals objects args ts (continues_on names names' table grows on) }
 
 -- one more body is compiled, as the table goes on
 pub checked_more : (ts : List Tree) (names names' : List (List ℕ)) (cs : List Annotated) (t : Tree) (c : Annotated) → AreChecked ts (record { names = names; codes = cs }) → length cs ≡ length ts
@@ -76,19 +84,6 @@ pub checked_compiled : (ts : List Tree) (cs : Checked) → AreChecked ts cs → 
 checked_compiled ts cs all i t at =
     let k = all i t at in
     (k.0.code, entry_mapped (λ (a : Annotated). a.code) cs.codes i k.0 k.1, (k.0.notes, k.2))
-
-refs_suc : (k n : ℕ) → refs_from k n ++ record { number = k + n } ∷ [] ≡ refs_from k (suc n)
-refs_suc k zero = ap (λ m. record { number = m } ∷ []) (let e : k + 0 ≡ k = omega arith in e)
-refs_suc k (suc n) = ap (λ l. record { number = k } ∷ l) (ap (λ m. refs_from (suc k) n ++ record { number = m } ∷ []) (let e : k + suc n ≡ suc k + n = omega arith in e) ∙ refs_suc (suc k) n)
-
-pub refs_more : (k n : ℕ) → refs_from k n ++ record { number = k + n } ∷ [] ≡ refs_from k (n + 1)
-refs_more k n = refs_suc k n ∙ ap (refs_from k) (let e : suc n ≡ n + 1 = omega arith in e)
-
--- the function at a place
-pub ref_at : (k n i : ℕ) → i < n → slice_get (refs_from k n) i ≡ Some (record { number = k + i })
-ref_at k zero i low = absurd (omega (arith, low))
-ref_at k (suc n) zero low = ap (λ m. Some (record { number = m })) (let e : k ≡ k + 0 = omega arith in e)
-ref_at k (suc n) (suc i) low = ref_at (suc k) n i (omega (arith, low)) ∙ ap (λ m. Some (record { number = m })) (let e : suc k + i ≡ k + suc i = omega arith in e)
 
 entries_more_from : (i : ℕ) (ts : List Tree) (t : Tree) → function_entries i (ts ++ t ∷ []) ≡ function_entries i ts ++ payload.Function (record { name = t.name; code = i + length ts }) ∷ []
 entries_more_from i [] t = ap (λ n. payload.Function (record { name = t.name; code = n }) ∷ []) (let e : i ≡ i + 0 = omega arith in e)
@@ -143,23 +138,3 @@ next_entry first ds i d objects low is before =
     let new : List Payload = payload.Function (record { name = (declared_tree d).name; code = i }) ∷ [] in
     ap (λ os. os ++ new) before ∙ (append_assoc first (function_entries 0 front) new
     ∙ ap (λ es. first ++ es) (sym (ap (function_entries 0) (front_more declared_tree ds i d low is) ∙ entries_more front (declared_tree d) i (sym (front_length declared_tree ds i low)))))
-
--- a declaration that has the name is found
-pub named_at : (name : Name) (ts : List Tree) (i : ℕ) (t : Tree) → slice_get ts i ≡ Some t → bytes_eq name t.name ≡ true → (u : Tree) × (slice_get ts i ≡ Some u) × (u.name ≡ name)
-named_at name ts i t is hit = (t, is, sym ((bytes_eq-Decides name t.name).0 hit))
-
--- none of the declarations up to here has it
-pub none_more : (name : Name) (ts : List Tree) (i : ℕ) (t : Tree) → slice_get ts i ≡ Some t → bytes_eq name t.name ≡ false
-    → ((k : ℕ) (u : Tree) → k < i → slice_get ts k ≡ Some u → u.name ≡ name → ⊥) → (k : ℕ) (u : Tree) → k < i + 1 → slice_get ts k ≡ Some u → u.name ≡ name → ⊥
-none_more name ts i t is miss before k u low at same = elim (eqb_tells k i) [
-  | inl y ↦
-      let both : Some u ≡ Some t = sym at ∙ ap (slice_get ts) y.1 ∙ is in
-      let tree : u ≡ t = cc both in
-      let hit : bytes_eq name t.name ≡ true = (bytes_eq-Decides name t.name).1 (sym same ∙ ap (λ (x : Tree). x.name) tree) in
-      (let clash : true ≡ false = sym hit ∙ miss in cc clash)
-  | inr n ↦ let ne : k ≡ i → ⊥ = n.1 in before k u (omega (arith, low, ne)) at same
-]
-
--- but one does
-pub found_none : (name : Name) (ts : List Tree) (i : ℕ) → Any (λ t. t.name ≡ name) ts → ((k : ℕ) (u : Tree) → k < i → slice_get ts k ≡ Some u → u.name ≡ name → ⊥) → length ts ≤ i → ⊥
-found_none name ts i (k, t, low, is, same) before all = before k t (omega (arith, low, all)) (slice_get_read ts (length ts) k t refl low (sym is)) same

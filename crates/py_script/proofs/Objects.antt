@@ -1,8 +1,7 @@
 -- The objects of a script: as they are loaded, and as more come.
-use Rattle.std.proofs.Common.{◌≡◌, ◌<◌, ◌+◌, ◌-◌, ℕ, zero, suc, List, [], ◌∷◌, ◌++◌, length, Bool, true, false, cond, ◌||◌, Some, None, refl, sym, ap, ◌∙◌, subst, arith, ◌⊎◌, inl, inr, ◌≢◌}
-use Rattle.std.specs.Prelude.{option_map, slice_get, AllPairs, map, codes, bytes_eq, Contains}
-use Rattle.std.proofs.lemmas.Option.{slice_get_within, get_or_from_slice_get, slice_get-map}
-use Rattle.std.proofs.lemmas.Slice.Eq.{bytes_eq-Decides}
+use Rattle.std.proofs.Common.{◌≡◌, ◌+◌, ◌-◌, ℕ, zero, suc, List, [], ◌∷◌, ◌++◌, length, Bool, true, false, cond, ◌||◌, Some, None, refl, sym, ap, ◌∙◌, subst, arith, ◌⊎◌, inl, inr}
+use Rattle.std.specs.Prelude.{slice_get, map, codes, bytes_eq, Contains}
+use Rattle.std.proofs.lemmas.Option.{slice_get_within, get_or_from_slice_get}
 use Rattle.py_objects.specs.declared.payload.Payload.{Payload}
 use Rattle.py_objects.specs.declared.payload.Payload.TheVariants as payload
 use Rattle.py_objects.specs.declared.payload.ClassBody.{ClassBody}
@@ -23,17 +22,7 @@ use Rattle.py_vm.specs.declared.drive.Drive.TheVariants as question
 use Rattle.py_vm.proofs.RunLemmas.{declared_stays}
 use Rattle.py_script.specs.Whole.{IsOf, AreOf, Asks, AreAsked, AreObjects}
 use Rattle.py_script.specs.Loaded.{function_entries, script_objects}
-
--- a name that differs is another one
-other_name : (n m : Name) → (m ≡ n → ⊥) → bytes_eq n m ≡ false
-other_name n m differ = go (bytes_eq n m) refl
-  where
-    go : (b : Bool) → bytes_eq n m ≡ b → b ≡ false
-    go true h = absurd (differ (sym ((bytes_eq-Decides n m).0 h)))
-    go false h = refl
-
-same_name : (n : Name) → bytes_eq n n ≡ true
-same_name n = (bytes_eq-Decides n n).1 refl
+use Rattle.py_script.proofs.Functions.{other_name, same_name, AreDistinct, first_differs, others_differ}
 
 -- the entry of a function, behind those of the ones before it
 entry_at : (i : ℕ) (ts : List Tree) (j : ℕ) (t : Tree) → slice_get ts j ≡ Some t → slice_get (function_entries i ts) j ≡ Some (payload.Function (record { name = t.name; code = i + j }))
@@ -54,21 +43,16 @@ entry_of i (s ∷ ts) (suc j) p is =
     (h.0, h.1, h.2 ∙ ap (λ n. payload.Function (record { name = h.0.name; code = n })) (let e : suc i + j ≡ i + suc j = omega arith in e))
 
 -- names that differ are found at their places
-found_from : (k i : ℕ) (ts : List Tree) (j : ℕ) (t : Tree) → AllPairs (λ x y. x ≢ y) (map (λ s. s.name) ts) → slice_get ts j ≡ Some t → declared_from k (function_entries i ts) t.name ≡ Some (record { number = k + j })
+found_from : (k i : ℕ) (ts : List Tree) (j : ℕ) (t : Tree) → AreDistinct ts → slice_get ts j ≡ Some t → declared_from k (function_entries i ts) t.name ≡ Some (record { number = k + j })
 found_from k i [] j t differ is = absurd (cc is)
 found_from k i (s ∷ ts) zero t differ is =
     let same : s ≡ t = cc is in
     let hit : bytes_eq t.name s.name ≡ true = ap (λ (x : Tree). bytes_eq t.name x.name) same ∙ same_name t.name in
     ap (λ b. cond b (Some (record { number = k })) (declared_from (suc k) (function_entries (suc i) ts) t.name)) hit ∙ ap (λ n. Some (record { number = n })) (let e : k ≡ k + 0 = omega arith in e)
 found_from k i (s ∷ ts) (suc j) t differ is =
-    let names : List Name = map (λ (x : Tree). x.name) ts in
-    let at : slice_get names j ≡ Some t.name = slice_get-map (λ (x : Tree). x.name) ts j ∙ ap (λ o. option_map (λ (x : Tree). x.name) o) is in
-    let low : j < length names = slice_get_within names j t.name at in
-    let apart : s.name ≡ t.name → ⊥ = λ e. differ 0 (suc j) t.name (omega arith) (omega (arith, low)) (e ∙ sym (get_or_from_slice_get names j t.name t.name at)) in
-    let miss : bytes_eq t.name s.name ≡ false = other_name t.name s.name apart in
-    let later : AllPairs (λ (x y : Name). x ≢ y) names = λ a b d less below. differ (suc a) (suc b) d (omega (arith, less)) (omega (arith, below)) in
+    let miss : bytes_eq t.name s.name ≡ false = other_name t.name s.name (first_differs s ts j t differ is) in
     ap (λ b. cond b (Some (record { number = k })) (declared_from (suc k) (function_entries (suc i) ts) t.name)) miss
-    ∙ found_from (suc k) (suc i) ts j t later is ∙ ap (λ n. Some (record { number = n })) (let e : suc k + j ≡ k + suc j = omega arith in e)
+    ∙ found_from (suc k) (suc i) ts j t (others_differ s ts differ) is ∙ ap (λ n. Some (record { number = n })) (let e : suc k + j ≡ k + suc j = omega arith in e)
 
 both_false : (a b : Bool) → (a || b) ≡ false → (a ≡ false) × (b ≡ false)
 both_false true b h = absurd (let e : true ≡ false = h in cc e)
@@ -88,7 +72,7 @@ entry_behind : (ts : List Tree) (j : ℕ) → slice_get (script_objects ts) (7 +
 entry_behind ts j = ap (slice_get (script_objects ts)) (let e : 7 + j ≡ suc (suc (suc (suc (suc (suc (suc j)))))) = omega arith in e)
 
 -- the functions that are loaded are declared, in order
-pub functions_are : (ts : List Tree) → AllPairs (λ x y. x ≢ y) (map (λ s. s.name) ts) → (j : ℕ) (t : Tree) → slice_get ts j ≡ Some t → is_builtin_class t.name ≡ false
+pub functions_are : (ts : List Tree) → AreDistinct ts → (j : ℕ) (t : Tree) → slice_get ts j ≡ Some t → is_builtin_class t.name ≡ false
     → (declared (script_objects ts) t.name ≡ Some (record { number = 7 + j })) × HasPayload (script_objects ts) (record { number = 7 + j }) (payload.Function (record { name = t.name; code = j }))
 functions_are ts differ j t is none = (
   behind_classes t.name ts none ∙ found_from 7 0 ts j t differ is,
@@ -155,7 +139,7 @@ no_managers_at ts (suc (suc (suc (suc (suc (suc (suc j))))))) b is =
     cc h.2
 
 -- the objects that are loaded are a script's
-pub loaded_objects : (ts : List Tree) → AllPairs (λ x y. x ≢ y) (map (λ s. s.name) ts) → ((j : ℕ) (t : Tree) → slice_get ts j ≡ Some t → is_builtin_class t.name ≡ false) → AllFit (script_objects ts) → AreObjects ts (script_objects ts)
+pub loaded_objects : (ts : List Tree) → AreDistinct ts → ((j : ℕ) (t : Tree) → slice_get ts j ≡ Some t → is_builtin_class t.name ≡ false) → AllFit (script_objects ts) → AreObjects ts (script_objects ts)
 loaded_objects ts differ no_class fit = record {
   functions = λ j t is. let h = functions_are ts differ j t is (no_class j t is) in (_, h.0, h.1);
   classes = λ i k is. classes_are ts k;

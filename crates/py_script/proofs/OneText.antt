@@ -1,10 +1,12 @@
 -- Each whole run of one call of the worked function writes the same text.
 use Rattle.std.proofs.Common.{◌≡◌, ℕ, suc, List, [], ◌∷◌, ◌++◌, Option, Some, None, ◌<◌, ◌≤◌, refl, sym, ap, subst, inl, ◌∙◌, ⊎_elim, arith, length, append-nil}
-use Rattle.std.specs.Prelude.{ℤ, pos, ◌+ℤ◌, Bool, true, false, if◌then◌else◌, codes, slice_get}
+use Rattle.std.specs.Prelude.{ℤ, pos, ◌+ℤ◌, Bool, true, false, if◌then◌else◌, codes, slice_get, nat_lt}
+use Rattle.std.specs.List.{list_all}
 use Rattle.std.specs.Fmt.{signed_decimal}
 use Rattle.py_objects.specs.declared.refs.PyBaseExceptionRef.{PyBaseExceptionRef}
 use Rattle.py_objects.specs.declared.payload.Payload.{Payload}
 use Rattle.py_objects.specs.declared.payload.Payload.TheVariants as payload
+use Rattle.py_objects.specs.declared.payload.ErrorKind.{ErrorKind}
 use Rattle.py_objects.specs.declared.payload.ErrorKind.TheVariants.{OverflowError}
 use Rattle.py_code.specs.declared.operator.BinaryOperator.TheVariants as binary
 use Rattle.py_objects.specs.declared.request.Request.{Request}
@@ -18,10 +20,11 @@ use Rattle.py_objects.specs.declared.event.DriveAnswer.{DriveAnswer}
 use Rattle.py_objects.specs.declared.event.DriveAnswer.TheVariants as answer
 use Rattle.py_objects.specs.declared.event.Event.{Event}
 use Rattle.py_objects.specs.declared.event.Event.TheVariants as event
-use Rattle.py_objects.specs.Objects.{Obj, HasPayload, class_object, declared}
+use Rattle.py_objects.specs.Objects.{Obj, Name, HasPayload, class_object, declared, name_of, error_kinds}
 use Rattle.py_objects.specs.Own.{Own, Asks, Gets, Ends, whose, own_of, own_events, told_by}
 use Rattle.py_objects.specs.Telling.{Given, Failed, AfterValue, Asked, Answered, Answers}
 use Rattle.py_body.specs.Tree.{Tree}
+use Rattle.py_body.specs.Scene.{anywhere}
 use Rattle.py_body.specs.Trace.{IsBegun, Ended}
 use Rattle.py_vm.specs.declared.drive.Drive.{Drive as Question}
 use Rattle.py_vm.specs.declared.drive.Drive.TheVariants.{Call}
@@ -97,7 +100,7 @@ abbrev WritesAt : List Payload → List ℕ → GotAnswer → Type 0
 WritesAt store line w = (x : Ending) × ((ts : List Own) → EndedBy w ts → Ended x ts) × (result_text store 1 (answer_of x) ≡ line)
 
 -- a store, the questions that are asked, two numbers, and what is written of their sum
-module _ (store : List Payload) (qs : List Question) (m n : ℤ) (line : List ℕ) (given : (before : List Event) (w : GotAnswer) → Gives store before (whole (m +ℤ n)) w → WritesAt store line w) where
+module _ (store : List Payload) (globals : Obj) (qs : List Question) (m n : ℤ) (line : List ℕ) (given : (before : List Event) (w : GotAnswer) → Gives store before (whole (m +ℤ n)) w → WritesAt store line w) where
   idle_next : (before : List Event) (s : State) (e : Event) → s.phase ≡ Idle → MayCome qs store before s e → (e ≡ event.Drive (suc s.done)) × (s.done < length qs)
   idle_next before s (event.Drive d) p h = (ap event.Drive h.1, h.2)
   idle_next before s (event.Result d w) p h = absurd (cc h.2.1)
@@ -244,9 +247,9 @@ module _ (store : List Payload) (qs : List Question) (m n : ℤ) (line : List �
       subst (λ (x : Event). Answered (own_events 1 (x ∷ es)) K → Follows before (at 0 Asking (act (Some (Binary binary.Add a b)) ∷ []) made) (x ∷ es) → events_text store (x ∷ es) ≡ line) (sym is)
       (λ u l. end_behind sum.0 made _ es few (sum.1 (own_events 1 es) (got_it K k c.0 (own_events 1 es) u)) (l.0.1, l.1) ∙ sum.2) t h
 
-  question_behind : (a b : Obj) (K : AfterValue) (made : List Activation) (before es : List Event) → AreNumbers a b → length qs ≤ 1 → EndsIt K → Asked (Binary binary.Add a b) None (own_events 1 es) K → Follows before (at 0 Going (act None ∷ []) made) es → events_text store es ≡ line
-  question_behind a b K made before [] ab few k t h = absurd (cc h.1)
-  question_behind a b K made before (e ∷ es) ab few k t h =
+  question_behind : (units : ℕ → Bool) (a b : Obj) (K : AfterValue) (made : List Activation) (before es : List Event) → AreNumbers a b → length qs ≤ 1 → EndsIt K → Asked units (Binary binary.Add a b) None (own_events 1 es) K → Follows before (at 0 Going (act None ∷ []) made) es → events_text store es ≡ line
+  question_behind units a b K made before [] ab few k t h = absurd (cc h.1)
+  question_behind units a b K made before (e ∷ es) ab few k t h =
       let c = going_next before (at 0 Going (act None ∷ []) made) e refl h.0.0 in
       let own = told e c.1.0 es c.0 c.1.1 in
       ⊎_elim (λ none. let empty = none.0 in absurd cc)
@@ -255,16 +258,16 @@ module _ (store : List Payload) (qs : List Question) (m n : ℤ) (line : List �
       let rest : some.1 ≡ own_events 1 es = cc in
       let is : e ≡ event.Ask 1 (Binary binary.Add a b) None some.0 = asks_of e some.0 (Binary binary.Add a b) None which ∙ ap (λ (k : ℕ). event.Ask k (Binary binary.Add a b) None some.0) (sym c.0) in
       subst (λ (x : Event). Follows before (at 0 Going (act None ∷ []) made) (x ∷ es) → events_text store (x ∷ es) ≡ line) (sym is)
-      (λ l. answer_behind a b K made _ es ab few k (subst (λ (xs : List Own). Answered xs K) rest some.3) (l.0.1, l.1)) h)
+      (λ l. answer_behind a b K made _ es ab few k (subst (λ (xs : List Own). Answered xs K) rest some.4) (l.0.1, l.1)) h)
       t
 
-  entry_behind : (f a b : Obj) (before es : List Event) → AreNumbers a b → length qs ≤ 1 → IsBegun store function (a ∷ b ∷ []) (own_events 1 es) → Follows before (at 0 (Made f) [] (record { function = f; args = a ∷ b ∷ [] } ∷ [])) es → events_text store es ≡ line
+  entry_behind : (f a b : Obj) (before es : List Event) → AreNumbers a b → length qs ≤ 1 → IsBegun (anywhere store globals) function (a ∷ b ∷ []) (own_events 1 es) → Follows before (at 0 (Made f) [] (record { function = f; args = a ∷ b ∷ [] } ∷ [])) es → events_text store es ≡ line
   unfolding own_events told_by
   entry_behind f a b before [] ab few t h = absurd (cc h.1)
   entry_behind f a b before (e ∷ es) ab few t h =
-      subst (λ (x : Event). IsBegun store function (a ∷ b ∷ []) (own_events 1 (x ∷ es)) → Follows before (at 0 (Made f) [] (record { function = f; args = a ∷ b ∷ [] } ∷ [])) (x ∷ es) → events_text store (x ∷ es) ≡ line)
+      subst (λ (x : Event). IsBegun (anywhere store globals) function (a ∷ b ∷ []) (own_events 1 (x ∷ es)) → Follows before (at 0 (Made f) [] (record { function = f; args = a ∷ b ∷ [] } ∷ [])) (x ∷ es) → events_text store (x ∷ es) ≡ line)
       (sym (made_next before (at 0 (Made f) [] (record { function = f; args = a ∷ b ∷ [] } ∷ [])) e f refl h.0.0))
-      (λ u l. question_behind a b _ _ _ es ab few (λ v ts x. ⊎_elim (λ cut. inl cut.0) (λ more. more) x, λ e ts x. x) (⊎_elim (λ cut. inl (cut.0, refl)) (λ more. more) u.1) (l.0.1, l.1)) t h
+      (λ u l. question_behind _ a b _ _ _ es ab few (λ v ts x. ⊎_elim (λ cut. inl cut.0) (λ more. more) x, λ e ts x. x) (⊎_elim (λ cut. inl (cut.0, refl)) (λ more. more) u.1) (l.0.1, l.1)) t h
 
   -- the first question is the script's
   first_asked : (xs : List Question) (q : Question) → AreAsked store (call_of m n ∷ []) xs → slice_get xs 0 ≡ Some q → IsAsked store (call_of m n) q
@@ -273,7 +276,7 @@ module _ (store : List Payload) (qs : List Question) (m n : ℤ) (line : List �
 
   -- what the first activation that is made tells
   abbrev Tells : State → List Event → Type 0
-  Tells s es = (a : Activation) → slice_get (state_after s es).made 0 ≡ Some a → Traces trees store a.function a.args (own_events 1 es)
+  Tells s es = (a : Activation) → slice_get (state_after s es).made 0 ≡ Some a → Traces trees globals store a.function a.args (own_events 1 es)
 
   making : (f : Obj) (vs : List Obj) (before es : List Event) → AreObjects trees store → length qs ≤ 1 → IsAsked store (call_of m n) (Call f vs) → Tells (at 0 Asking [] []) (event.Make 1 f vs ∷ es) → Follows before (at 0 Asking [] []) (event.Make 1 f vs ∷ es) → events_text store (event.Make 1 f vs ∷ es) ≡ line
   unfolding own_events told_by
@@ -282,8 +285,8 @@ module _ (store : List Payload) (qs : List Question) (m n : ℤ) (line : List �
   making f (a ∷ b ∷ c ∷ vs) before es o few q t h = absurd q.1.1.1
   making f (a ∷ b ∷ []) before es o few q t h =
       let made : Activation = record { function = f; args = a ∷ b ∷ [] } in
-      let trace = traced_by function store f (a ∷ b ∷ []) _ (entry_of function store f o q.0) (t made (kept (at 0 (Made f) [] (made ∷ [])) es made refl)) in
-      entry_behind f a b _ es (q.1.0, q.1.1.0) few (begun store function (a ∷ b ∷ []) (own_events 1 es) trace) (h.0.1, h.1)
+      let trace = traced_by function globals store f (a ∷ b ∷ []) _ (entry_of function store f o q.0) (t made (kept (at 0 (Made f) [] (made ∷ [])) es made refl)) in
+      entry_behind f a b _ es (q.1.0, q.1.1.0) few (begun (anywhere store globals) function (a ∷ b ∷ []) (own_events 1 es) trace) (h.0.1, h.1)
 
   making_behind : (before es : List Event) → AreObjects trees store → AreAsked store (call_of m n ∷ []) qs → Tells (at 0 Asking [] []) es → Follows before (at 0 Asking [] []) es → events_text store es ≡ line
   making_behind before [] o asked t h = absurd (cc h.1)
@@ -317,37 +320,44 @@ of_value store i before (got.Raise e) h = absurd h
 -- the text of each sum in range
 pub text_of_sum : (m n : ℤ) → in_range (m +ℤ n) ≡ true → Writes m n (codes "1 returns " ++ (signed_decimal (m +ℤ n) ++ codes "\n"))
 text_of_sum m n i store es r d =
-    all_behind store r.asked m n _
+    all_behind store r.globals r.asked m n _
     (λ before w g. of_value store (m +ℤ n) before w (subst (λ (b : Bool). Gives store before (if b then Has (payload.Int (m +ℤ n)) else Fails OverflowError (codes "integer out of range")) w) i g))
     es r.are_objects r.are_asked (r.run.tells 0) (r.run.comes, d.done)
 
--- the class of the exception, by the name under which it is declared
-class_of : (ts : List Tree) (store : List Payload) (c : Obj) → AreObjects ts store → declared store (codes "OverflowError") ≡ Some c → HasPayload store c (class_entry OverflowError)
-class_of ts store c o e =
-    let entry = o.classes 1 OverflowError refl in
-    subst (λ (c : Obj). HasPayload store c (class_entry OverflowError)) (some_is _ _ (sym entry.1 ∙ e)) entry.2
+-- the class of an exception of a kind, by the name under which it is declared
+class_of : (ts : List Tree) (store : List Payload) (i : ℕ) (kind : ErrorKind) (c : Obj) → slice_get error_kinds i ≡ Some kind → AreObjects ts store → declared store (name_of kind) ≡ Some c → HasPayload store c (class_entry kind)
+class_of ts store i kind c at o e =
+    let entry = o.classes i kind at in
+    subst (λ (c : Obj). HasPayload store c (class_entry kind)) (some_is _ _ (sym entry.1 ∙ e)) entry.2
 
--- the exception is written
-pub raise_line : (ts : List Tree) (store : List Payload) → AreObjects ts store → (before : List Event) (e : PyBaseExceptionRef) → IsRaised store before OverflowError (codes "integer out of range") e → result_text store 1 (answer.Raises e) ≡ codes "1 raises OverflowError: integer out of range\n"
-raise_line ts store o before e h =
+-- an exception of the i-th kind with a text is written
+pub raise_line : (ts : List Tree) (store : List Payload) (i : ℕ) (kind : ErrorKind) (text : Name) → slice_get error_kinds i ≡ Some kind → list_all (λ c. nat_lt c 128) (name_of kind) ≡ true → list_all (λ c. nat_lt c 128) text ≡ true
+    → AreObjects ts store → (before : List Event) (e : PyBaseExceptionRef) → IsRaised store before kind text e
+    → result_text store 1 (answer.Raises e) ≡ codes "1" ++ ((codes " raises " ++ (name_of kind ++ (codes ": " ++ text))) ++ codes "\n")
+raise_line ts store i kind text at ascii_name ascii_text o before e h =
     ap (λ (p : Option Payload). numbered 1 (codes " raises " ++ raised store p)) h.entry
-    ∙ (ap (λ (p : Option Payload). numbered 1 (codes " raises " ++ (bytes_of (class_name p) ++ details store (items_of (payload_of store h.body.args))))) (class_of ts store (class_object h.body.class) o h.class)
-    ∙ (ap (λ (p : Option Payload). numbered 1 (codes " raises " ++ (bytes_of (codes "OverflowError") ++ details store (items_of p)))) h.args
-    ∙ (ap (λ (p : Option Payload). numbered 1 (codes " raises " ++ (bytes_of (codes "OverflowError") ++ (codes ": " ++ str_by (str_within 999 store) store h.argument p)))) h.message
-    ∙ (first_line (codes " raises " ++ (bytes_of (codes "OverflowError") ++ (codes ": " ++ bytes_of (codes "integer out of range"))))
-    ∙ (ap (λ (name : List ℕ). codes "1" ++ ((codes " raises " ++ (name ++ (codes ": " ++ bytes_of (codes "integer out of range")))) ++ codes "\n")) (ascii_bytes (codes "OverflowError") refl)
-    ∙ ap (λ (text : List ℕ). codes "1" ++ ((codes " raises " ++ (codes "OverflowError" ++ (codes ": " ++ text))) ++ codes "\n")) (ascii_bytes (codes "integer out of range") refl))))))
+    ∙ (ap (λ (p : Option Payload). numbered 1 (codes " raises " ++ (bytes_of (class_name p) ++ details store (items_of (payload_of store h.body.args))))) (class_of ts store i kind (class_object h.body.class) at o h.class)
+    ∙ (ap (λ (p : Option Payload). numbered 1 (codes " raises " ++ (bytes_of (name_of kind) ++ details store (items_of p)))) h.args
+    ∙ (ap (λ (p : Option Payload). numbered 1 (codes " raises " ++ (bytes_of (name_of kind) ++ (codes ": " ++ str_by (str_within 999 store) store h.argument p)))) h.message
+    ∙ (first_line (codes " raises " ++ (bytes_of (name_of kind) ++ (codes ": " ++ bytes_of text)))
+    ∙ (ap (λ (name : List ℕ). codes "1" ++ ((codes " raises " ++ (name ++ (codes ": " ++ bytes_of text))) ++ codes "\n")) (ascii_bytes (name_of kind) ascii_name)
+    ∙ ap (λ (t : List ℕ). codes "1" ++ ((codes " raises " ++ (name_of kind ++ (codes ": " ++ t))) ++ codes "\n")) (ascii_bytes text ascii_text))))))
+
+-- so is a sum that is out of range
+pub overflow_line : (ts : List Tree) (store : List Payload) → AreObjects ts store → (before : List Event) (e : PyBaseExceptionRef) → IsRaised store before OverflowError (codes "integer out of range") e
+    → result_text store 1 (answer.Raises e) ≡ codes "1 raises OverflowError: integer out of range\n"
+overflow_line ts store o before e h = raise_line ts store 1 OverflowError (codes "integer out of range") refl refl refl o before e h
 
 -- so is what a raise ends
 of_raise : (store : List Payload) → AreObjects trees store → (before : List Event) (w : GotAnswer) → Gives store before (Fails OverflowError (codes "integer out of range")) w → WritesAt store (codes "1 raises OverflowError: integer out of range\n") w
 of_raise store o before (got.Value v) h = absurd h
 of_raise store o before (got.Stop v) h = absurd h
-of_raise store o before (got.Raise e) h = (ending.Raise e, λ ts t. t, raise_line trees store o before e h)
+of_raise store o before (got.Raise e) h = (ending.Raise e, λ ts t. t, overflow_line trees store o before e h)
 
 -- the text of each sum out of range
 pub text_of_overflow : (m n : ℤ) → in_range (m +ℤ n) ≡ false → Writes m n (codes "1 raises OverflowError: integer out of range\n")
 text_of_overflow m n i store es r d =
-    all_behind store r.asked m n _
+    all_behind store r.globals r.asked m n _
     (λ before w g. of_raise store r.are_objects before w (subst (λ (b : Bool). Gives store before (if b then Has (payload.Int (m +ℤ n)) else Fails OverflowError (codes "integer out of range")) w) i g))
     es r.are_objects r.are_asked (r.run.tells 0) (r.run.comes, d.done)
 

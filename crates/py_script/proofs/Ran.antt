@@ -13,9 +13,9 @@ use Rattle.py_vm.specs.declared.journal.Journal.{Journal}
 use Rattle.py_vm.specs.declared.vm.VirtualMachine.{VirtualMachine}
 use Rattle.py_vm.specs.Run.{start, state_after, EachTells, IsDone}
 use Rattle.py_vm.specs.RowsOf.{RowsOf}
-use Rattle.py_vm.specs.Machine.{events_of, objects_of, changes_of, checked_of, codes_of, done_of}
+use Rattle.py_vm.specs.Machine.{events_of, objects_of, changes_of, checked_of, codes_of, globals_of, done_of}
 use Rattle.py_script.specs.declared.session.Session.{Session}
-use Rattle.py_script.specs.Whole.{IsRunOf, IsRun, RunsItsCodes}
+use Rattle.py_script.specs.Whole.{IsDict, IsRunOf, IsRun, RunsItsCodes}
 use Rattle.py_script.specs.Loaded.{AreCompiled}
 use Rattle.py_script.specs.Steps.{IsRunnable, HasRun}
 use Rattle.py_script.specs.Session.{IsLoaded, IsInRun, IsReady}
@@ -44,9 +44,11 @@ is_run s j vm r run h = record {
 runs_its_codes : (s : Script) (j : Journal) (vm : VirtualMachine) → IsInRun (trees_of s) (drives_of s) vm → Holds j vm → RunsItsCodes s j
 runs_its_codes s j vm (asked, run) h = record {
   compiled = subst (λ (k : Codes). AreCompiled (trees_of s) k) (sym h.codes) (checked_compiled (trees_of s) (checked_of vm) run.checked);
-  tells = subst (λ (es : List Event). EachTells (RowsOf j.codes j.objects) es) (sym h.events)
-      (subst (λ (os : List Payload). EachTells (RowsOf j.codes os) (events_of vm)) (sym h.objects)
-      (subst (λ (k : Codes). EachTells (RowsOf k (objects_of vm)) (events_of vm)) (sym h.codes) run.tells));
+  globals = globals_of vm;
+  is_dict = subst (λ (os : List Payload). IsDict os (globals_of vm)) (sym h.objects) run.is_dict;
+  tells = subst (λ (es : List Event). EachTells (RowsOf j.codes (globals_of vm) j.objects) es) (sym h.events)
+      (subst (λ (os : List Payload). EachTells (RowsOf j.codes (globals_of vm) os) (events_of vm)) (sym h.objects)
+      (subst (λ (k : Codes). EachTells (RowsOf k (globals_of vm) (objects_of vm)) (events_of vm)) (sym h.codes) run.tells));
 }
 
 comes_to : (s : Script) (turns : ℕ) (vm : VirtualMachine) (j : Journal) (r : Result Unit VmFault) → IsRun s j → RunsItsCodes s j → Holds j vm → length (events_of vm) ≤ turns → OnOk r (IsDone (length (drives_of s)) (events_of vm))

@@ -9,14 +9,14 @@ use Rattle.py_outside.specs.Transfer.{HasRead}
 use Rattle.py_script.specs.declared.fault.ScriptFault.{ScriptFault}
 use Rattle.py_script.specs.declared.fault.ScriptFault.TheVariants as fault
 use Rattle.py_script.specs.Steps.{IsRunnable, WasRead, IsParsed, IsReading}
-use Rattle.py_script.proofs.Closed.{body_short, body_closed}
+use Rattle.py_script.proofs.Closed.{body_short, body_compilable}
 use Rattle.py_script.proofs.Traced.{one_of_all}
 
 -- a script of few bytes can be run
 pub runnable : (bytes : List ℕ) (s : Script) → length bytes ≤ 2 ^ 20 → IsScript bytes s → IsWellFormed s → IsRunnable s
 runnable bytes s short is well = record {
   well = well;
-  closed = λ i t at. body_closed t (one_of_all IsWellDeclared (trees_of s) i t well.declared at)
+  closed = λ i t at. body_compilable t (one_of_all IsWellDeclared (trees_of s) i t well.declared at)
       (let few : statements t.suite ≤ length bytes = body_short bytes s i t is at in let most : length bytes ≤ 1048576 = short in omega (arith, few, most));
 }
 

@@ -10,15 +10,15 @@ use Rattle.py_objects.specs.declared.payload.Payload.TheVariants as payload
 use Rattle.py_objects.specs.declared.payload.FunctionBody.{FunctionBody}
 use Rattle.py_objects.specs.declared.event.Event.{Event}
 use Rattle.py_objects.specs.Objects.{Obj, HasPayload, declared}
-use Rattle.py_objects.specs.declared.event.Ending.TheVariants as ending
-use Rattle.py_objects.specs.Own.{Own, Ends, own_events}
-use Rattle.py_frame.specs.Rows.{NamedCode}
+use Rattle.py_objects.specs.Own.{Own, own_events}
+use Rattle.py_frame.specs.Rows.{Setting}
 use Rattle.py_frame.specs.RunOfRows.{RowsRun}
 use Rattle.py_body.specs.declared.atom.Atom.{Atom}
 use Rattle.py_body.specs.Tree.{Tree}
+use Rattle.py_body.specs.Scene.{anywhere, located}
 use Rattle.py_body.specs.Trace.{IsTrace}
 use Rattle.py_body.specs.Fits.{Fits}
-use Rattle.py_body.proofs.Carry.{trace_goes}
+use Rattle.py_body.proofs.Carry.{widens_anywhere, trace_goes}
 use Rattle.py_grammar.specs.Drive.{Drive}
 use Rattle.py_grammar.specs.WellFormed.{Calls, IsWellDriven}
 use Rattle.py_vm.specs.declared.drive.Drive.{Drive as Question}
@@ -71,16 +71,16 @@ function_of trees objects d f vs are well asks = go (called trees d well.calls)
         )
 
 -- what rows tell goes on to a run of them
-goes_on : (objects : List Payload) (c : NamedCode) (vs : List Obj) (own : List Own) → RowsTell objects c vs own → (more : List Own) × RowsRun objects c vs (own ++ more)
+goes_on : (objects : List Payload) (c : Setting) (vs : List Obj) (own : List Own) → RowsTell objects c vs own → (more : List Own) × RowsRun objects c vs (own ++ more)
 goes_on objects c vs own (inl rows) = ([], subst (λ (l : List Own). RowsRun objects c vs l) (sym (append-nil own)) rows)
-goes_on objects c vs own (inr (front, e, at, is, rows)) = (Ends at (ending.Raise e) ∷ [], rows)
+goes_on objects c vs own (inr (front, w, x, is, rows)) = (x ∷ [], rows)
 
 -- an activation of a function that was asked for has a tree's trace where its code's rows tell it
-traced : (trees : List Tree) (objects : List Payload) (codes : Codes) (d : Drive) (f : Obj) (vs : List Obj) (own : List Own) → AreObjects trees objects → AreCompiled trees codes → IsWellDriven trees d
-    → Asks objects d (question.Call f vs) → HasTold own → RowsOf codes objects f vs own → Traces trees objects f vs own
-traced trees objects codes d f vs own are compiled well asks told (b, has, c, is, tells) = go (function_of trees objects d f vs are well asks)
+traced : (trees : List Tree) (globals : Obj) (objects : List Payload) (codes : Codes) (d : Drive) (f : Obj) (vs : List Obj) (own : List Own) → AreObjects trees objects → AreCompiled trees codes → IsWellDriven trees d
+    → Asks objects d (question.Call f vs) → HasTold own → RowsOf codes globals objects f vs own → Traces trees globals objects f vs own
+traced trees globals objects codes d f vs own are compiled well asks told (b, has, c, is, tells) = go (function_of trees objects d f vs are well asks)
   where
-    go : (j : ℕ) × (t : Tree) × (slice_get trees j ≡ Some t) × HasPayload objects f (payload.Function (record { name = t.name; code = j })) × (length vs ≡ length t.params) → Traces trees objects f vs own
+    go : (j : ℕ) × (t : Tree) × (slice_get trees j ≡ Some t) × HasPayload objects f (payload.Function (record { name = t.name; code = j })) × (length vs ≡ length t.params) → Traces trees globals objects f vs own
     go (j, t, at, entry, arity) =
         let same_entry : Some (payload.Function b) ≡ Some (payload.Function (record { name = t.name; code = j })) = sym has ∙ entry in
         let inside : payload.Function b ≡ payload.Function (record { name = t.name; code = j }) = cc same_entry in
@@ -89,18 +89,18 @@ traced trees objects codes d f vs own are compiled well asks told (b, has, c, is
         let k = compiled j t at in
         let same_code : Some k.0 ≡ Some c = sym k.1 ∙ ap (slice_get codes.codes) (sym place) ∙ is in
         let fits = subst (λ (x : PyCode). (notes : List Note) × Fits codes.names (record { code = x; notes = notes }) t) (let e : k.0 ≡ c = cc same_code in e) k.2 in
-        let on = goes_on objects (record { code = c; names = codes.names }) vs own tells in
+        let on = goes_on objects (record { code = c; names = codes.names; globals = globals }) vs own tells in
         let more = on.0 in
-        let whole : IsTrace objects t vs (own ++ more) = fits.1.traces codes.names objects vs (own ++ more) arity on.1 in
-        let split : IsTrace objects t vs ((told.front ∷ told.behind) ++ more) = subst (λ (l : List Own). IsTrace objects t vs (l ++ more)) told.is whole in
-        let front : IsTrace objects t vs (told.front ∷ told.behind) = trace_goes objects objects t vs told.front told.behind more ([], sym (append-nil objects)) split in
-        (b, has, (t, ap (slice_get trees) place ∙ at, subst (IsTrace objects t vs) (sym told.is) front))
+        let whole : IsTrace (located c objects globals) t vs (own ++ more) = fits.1.traces codes.names globals objects vs (own ++ more) ([], sym (append-nil codes.names)) arity on.1 in
+        let split : IsTrace (located c objects globals) t vs ((told.front ∷ told.behind) ++ more) = subst (λ (l : List Own). IsTrace (located c objects globals) t vs (l ++ more)) told.is whole in
+        let front : IsTrace (anywhere objects globals) t vs (told.front ∷ told.behind) = trace_goes (located c objects globals) (anywhere objects globals) (widens_anywhere (located c objects globals) objects ([], sym (append-nil objects))) more t vs told.front told.behind split in
+        (b, has, (t, ap (slice_get trees) place ∙ at, subst (IsTrace (anywhere objects globals) t vs) (sym told.is) front))
 
 -- what activations tell by their rows they tell by their bodies
-pub tells_traces : (trees : List Tree) (drives : List Drive) (asked : List Question) (objects : List Payload) (codes : Codes) (events : List Event) → AreObjects trees objects → AreCompiled trees codes → All (IsWellDriven trees) drives
-    → AreAsked objects drives asked → Comes asked objects [] start events → EachTells (RowsOf codes objects) events → EachTells (Traces trees objects) events
-tells_traces trees drives asked objects codes events are compiled well are_asked comes tells i a made =
+pub tells_traces : (trees : List Tree) (drives : List Drive) (asked : List Question) (globals : Obj) (objects : List Payload) (codes : Codes) (events : List Event) → AreObjects trees objects → AreCompiled trees codes → All (IsWellDriven trees) drives
+    → AreAsked objects drives asked → Comes asked objects [] start events → EachTells (RowsOf codes globals objects) events → EachTells (Traces trees globals objects) events
+tells_traces trees drives asked globals objects codes events are compiled well are_asked comes tells i a made =
     let q = made_asked asked objects [] start events comes (λ j b is. absurd (cc is)) i a made in
     let d = asked_at objects drives asked q.0 (question.Call a.function a.args) are_asked q.1 in
-    traced trees objects codes d.0 a.function a.args (own_events (suc i) events) are compiled (one_of_all (IsWellDriven trees) drives q.0 d.0 well d.1) d.2
+    traced trees globals objects codes d.0 a.function a.args (own_events (suc i) events) are compiled (one_of_all (IsWellDriven trees) drives q.0 d.0 well d.1) d.2
     (activation_tells asked objects events i a comes made) (tells i a made)

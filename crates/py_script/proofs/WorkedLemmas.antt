@@ -14,6 +14,7 @@ use Rattle.py_objects.specs.declared.event.Event.{Event}
 use Rattle.py_objects.specs.declared.event.Event.TheVariants as event
 use Rattle.py_objects.specs.Objects.{Obj, AllFit, IsNew}
 use Rattle.py_objects.specs.Own.{Own, Asks, own_events, told_by}
+use Rattle.py_body.specs.Scene.{anywhere}
 use Rattle.py_body.specs.Trace.{IsTrace}
 use Rattle.py_grammar.specs.Grammar.{Declares, Drives}
 use Rattle.py_grammar.specs.Lines.{lines}
@@ -41,31 +42,35 @@ front_comes rest k =
     asking_comes function (call ∷ []) (pos 33) (pos 12) (payload.Int (pos 45) ∷ []) (event.Got 1 (got.Value (object 10)) ∷ event.End 1 (ending.Return (object 10)) 5 ∷ rest) refl (lit< tt)
     (sum_comes function (call ∷ []) (pos 33) (pos 12) (payload.Int (pos 45) ∷ []) asking (state_after start asking) 1 (got.Value (object 10)) refl refl refl refl, ((refl, refl), k))
 
-sum_traced : IsTrace objects function (object 8 ∷ object 9 ∷ []) (own_events 1 events)
+sum_traced : IsTrace (anywhere objects (object 6)) function (object 8 ∷ object 9 ∷ []) (own_events 1 events)
 unfolding own_events told_by
-sum_traced = (refl, (_, refl, (tt, inr (inr (2, _, refl, inr (got.Value (object 10), _, refl, inr (inr (5, refl))))))))
+sum_traced = (refl, (_, refl, (tt, inr (inr (2, _, refl, refl, inr (got.Value (object 10), _, refl, inr (inr (5, refl))))))))
 
-sum_tells : EachTells (Traces trees objects) events
-sum_tells = one_tells (Traces trees objects) (object 7) (object 8 ∷ object 9 ∷ []) events refl (_, refl, (function, refl, sum_traced))
+sum_tells : EachTells (Traces trees (object 6) objects) events
+sum_tells = one_tells (Traces trees (object 6) objects) (object 7) (object 8 ∷ object 9 ∷ []) events refl (_, refl, (function, refl, sum_traced))
 
 pub is_run : IsRunOf trees drives objects events
 is_run =
     record {
       asked = call ∷ [];
       are_asked = ((refl, (refl, (refl, tt))), tt);
+      globals = object 6;
+      is_dict = ([], refl);
       run = record { comes = front_comes (event.Result 1 (answer.Returns (object 10)) ∷ []) ((refl, refl, (By_return (object 10), refl, refl)), tt); tells = sum_tells; named = are_named objects events sum_fits refl };
       are_objects = sum_objects;
     }
 
-front_tells : EachTells (Traces trees objects) unfinished
+front_tells : EachTells (Traces trees (object 6) objects) unfinished
 unfolding own_events told_by
-front_tells = one_tells (Traces trees objects) (object 7) (object 8 ∷ object 9 ∷ []) unfinished refl (_, refl, (function, refl, sum_traced))
+front_tells = one_tells (Traces trees (object 6) objects) (object 7) (object 8 ∷ object 9 ∷ []) unfinished refl (_, refl, (function, refl, sum_traced))
 
 pub front_is_run : IsRunOf trees drives objects unfinished
 front_is_run =
     record {
       asked = call ∷ [];
       are_asked = ((refl, (refl, (refl, tt))), tt);
+      globals = object 6;
+      is_dict = ([], refl);
       run = record { comes = front_comes [] tt; tells = front_tells; named = are_named objects unfinished sum_fits refl };
       are_objects = sum_objects;
     }
@@ -73,8 +78,8 @@ front_is_run =
 pub no_round : IsRunOf trees drives objects with_round → ⊥
 unfolding own_events told_by
 no_round r =
-    let b = begun objects function (object 8 ∷ object 9 ∷ []) _ (traced function objects drives with_round refl refl r) in
-    ⊎_elim (λ a. cc a.0) (λ a. ⊎_elim (λ a. cc a.0) (λ a. cc a.2) a) b.1
+    let b = begun (anywhere objects r.globals) function (object 8 ∷ object 9 ∷ []) _ (traced function objects drives with_round refl refl r) in
+    ⊎_elim (λ a. cc a.0) (λ a. ⊎_elim (λ a. cc a.0) (λ a. cc a.3) a) b.1
 
 -- what is asked first has this request
 first_request : (at at' : ℕ) (r r' : Request) (own own' : Option PyBaseExceptionRef) (ts us : List Own) → Asks at r own ∷ ts ≡ Asks at' r' own' ∷ us → r ≡ r'
@@ -86,8 +91,8 @@ left_operand a b c d e = let same : a ≡ c = cc in ap (λ (v : Obj). v.number) 
 pub no_swapped_operands : IsRunOf trees drives objects swapped → ⊥
 unfolding own_events told_by
 no_swapped_operands r =
-    let b = begun objects function (object 8 ∷ object 9 ∷ []) _ (traced function objects drives swapped refl refl r) in
-    ⊎_elim (λ a. cc a.0) (λ a. ⊎_elim (λ a. cc a.0) (λ a. let e = left_operand _ _ _ _ (first_request _ _ _ _ _ _ _ _ a.2) in cc) a) b.1
+    let b = begun (anywhere objects r.globals) function (object 8 ∷ object 9 ∷ []) _ (traced function objects drives swapped refl refl r) in
+    ⊎_elim (λ a. cc a.0) (λ a. ⊎_elim (λ a. cc a.0) (λ a. let e = left_operand _ _ _ _ (first_request _ _ _ _ _ _ _ _ a.3) in cc) a) b.1
 
 pub no_drive_beyond : IsRunOf trees drives objects driven_twice → ⊥
 no_drive_beyond r = let few : length r.asked ≤ 1 = few_asked objects drives r.asked r.are_asked in let more : 1 < length r.asked = r.run.comes.1.1.1.1.1.1.1.0.2 in omega arith
@@ -102,7 +107,7 @@ pub no_manager : IsRunOf trees drives objects_with_manager events → ⊥
 no_manager r = r.are_objects.no_managers (object 11) _ refl
 
 raise_traced : (more : List Payload) (e : PyBaseExceptionRef) → RaiseIsTraced function more e
-raise_traced more e = (refl, (_, refl, (tt, inr (inr (2, _, refl, inr (got.Raise e, _, refl, inr (2, refl)))))))
+raise_traced more e = (refl, (_, refl, (tt, inr (inr (2, _, refl, refl, inr (got.Raise e, _, refl, inr (2, refl)))))))
 
 pub overflow_is_run : IsRunOf trees (overflowing ∷ []) overflow_objects (overflow_by (exception 12))
 overflow_is_run = overflow_run function refl (raise_traced [] (exception 12))
@@ -117,10 +122,10 @@ both_raise = raises 1 (exception 12) (raises 2 (exception 13) [])
 both_fit : AllFit both_objects
 both_fit = all_fit both_objects refl (tt, (tt, (tt, (tt, (tt, (tt, (tt, (tt, (tt, (tt, (tt, (tt, (made_error function (error_entry 2 ∷ []), (made_error function (error_entry 2 ∷ []), tt))))))))))))))
 
-both_tell : EachTells (Traces trees both_objects) both_raise
+both_tell : EachTells (Traces trees (object 6) both_objects) both_raise
 unfolding own_events told_by
-both_tell zero a e = subst (λ (a : Activation). Traces trees both_objects a.function a.args (own_events 1 both_raise)) (some_is _ a e) (_, refl, (function, refl, raise_traced (error_entry 2 ∷ []) (exception 12)))
-both_tell (suc zero) a e = subst (λ (a : Activation). Traces trees both_objects a.function a.args (own_events 2 both_raise)) (some_is _ a e) (_, refl, (function, refl, raise_traced (error_entry 2 ∷ []) (exception 13)))
+both_tell zero a e = subst (λ (a : Activation). Traces trees (object 6) both_objects a.function a.args (own_events 1 both_raise)) (some_is _ a e) (_, refl, (function, refl, raise_traced (error_entry 2 ∷ []) (exception 12)))
+both_tell (suc zero) a e = subst (λ (a : Activation). Traces trees (object 6) both_objects a.function a.args (own_events 2 both_raise)) (some_is _ a e) (_, refl, (function, refl, raise_traced (error_entry 2 ∷ []) (exception 13)))
 both_tell (suc (suc i)) a e = absurd cc
 
 -- the questions of the two drives
@@ -157,6 +162,8 @@ pub errors_are_run : IsRunOf trees (overflowing ∷ overflowing ∷ []) both_obj
 errors_are_run =
     record {
       asked = both_asked;
+      globals = object 6;
+      is_dict = ([], refl);
       are_asked = ((refl, (refl, (refl, tt))), ((refl, (refl, (refl, tt))), tt));
       run =
           record {

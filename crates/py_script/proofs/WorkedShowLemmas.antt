@@ -1,5 +1,5 @@
 -- What the definitions say of the journal with a shown value.
-use Rattle.std.proofs.Common.{◌≡◌, ℕ, List, [], ◌∷◌, Option, Some, None, ◌<◌, refl, sym, ap, subst, inl, inr, lit<, ⊎_elim, ◌∙◌, append-nil, length}
+use Rattle.std.proofs.Common.{◌≡◌, ℕ, List, [], ◌∷◌, Option, Some, None, ◌<◌, refl, sym, ap, subst, inr, lit<, ⊎_elim, ◌∙◌, append-nil, length}
 use Rattle.std.proofs.lemmas.Option.{slice_get_within}
 use Rattle.std.specs.Prelude.{pos, codes}
 use Rattle.py_objects.specs.declared.refs.PyBaseExceptionRef.{PyBaseExceptionRef}
@@ -17,11 +17,12 @@ use Rattle.py_objects.specs.declared.event.Event.{Event}
 use Rattle.py_objects.specs.declared.event.Event.TheVariants as event
 use Rattle.py_objects.specs.Objects.{Obj, HasPayload, event_numbers, AllBelow, AllFit, AreNamed}
 use Rattle.py_objects.specs.Own.{Own, Makes, Resumes, Asks, Gets, Ends, own_events, told_by}
-use Rattle.py_objects.specs.Telling.{AfterValue, Answers, Answered, Asked}
+use Rattle.py_objects.specs.Telling.{AfterValue, Answers}
 use Rattle.py_body.specs.declared.atom.Atom.TheVariants as atom
 use Rattle.py_body.specs.Tree.{show, nothing, first}
 use Rattle.py_body.specs.Binding.{Env, start_env, set_local}
 use Rattle.py_body.specs.Outcome.{Normal, Use, On_normal, RunsSuite}
+use Rattle.py_body.specs.Scene.{Scene, anywhere}
 use Rattle.py_body.specs.Trace.{IsTrace, EndsBy}
 use Rattle.py_grammar.specs.Grammar.{Declares, Drives}
 use Rattle.py_grammar.specs.Lines.{lines}
@@ -32,9 +33,9 @@ use Rattle.py_script.specs.Whole.{Traces, IsRunOf}
 use Rattle.py_script.specs.Text.{events_text, result_text}
 use Rattle.py_script.specs.Worked.{object, exception, entered, asked, greatest, overflow_by}
 use Rattle.py_script.specs.WorkedShow.{script, function, trees, drive, drives, objects, summed, shows, answered, ended, events_by, events, without_show, shown_twice, overflowing, overflow_objects, shown_behind_raise}
-use Rattle.py_script.proofs.Journals.{RaiseIsTraced, all_fit, are_objects, asking_comes, begun, call, decimal_1, decimal_45, each_at, gives_sum, gotten, one_tells, plain, some_is, sum_comes, traced}
+use Rattle.py_script.proofs.Journals.{RaiseIsTraced, all_fit, are_objects, asked_so, asking_comes, begun, call, decimal_1, decimal_45, each_at, gives_sum, one_tells, plain, some_is, sum_comes, traced}
 use Rattle.py_script.proofs.Journals.{overflow_is_run as overflow_run}
-use Rattle.py_script.proofs.OneText.{raise_line}
+use Rattle.py_script.proofs.OneText.{overflow_line}
 
 pub spelled : Spells (lines script) trees drives
 spelled = record { items = Declares function ∷ Drives drive ∷ []; spelled = refl; well = (refl, ((refl, (refl, tt)), (refl, tt))); declared = refl; driven = refl }
@@ -55,9 +56,9 @@ comes a r n m =
       ((refl, refl), ((refl, refl, (Show (object 10), Has payload.None, refl, refl, n)), ((refl, refl), ((refl, refl, (By_return r, refl, refl)), tt)))),
     )
 
-shown_traced : (a r : Obj) → IsNone r → IsTrace objects function (object 8 ∷ object 9 ∷ []) (own_events 1 (events_by (object 10) a r))
+shown_traced : (a r : Obj) → IsNone r → IsTrace (anywhere objects (object 6)) function (object 8 ∷ object 9 ∷ []) (own_events 1 (events_by (object 10) a r))
 unfolding own_events told_by
-shown_traced a r m = (refl, (_, refl, (tt, inr (inr (2, _, refl, inr (got.Value (object 10), _, refl, inr (inr (5, _, refl, inr (got.Value a, _, refl, inr (inr (r, m, inr (6, refl))))))))))))
+shown_traced a r m = (refl, (_, refl, (tt, inr (inr (2, _, refl, refl, inr (got.Value (object 10), _, refl, inr (inr (5, _, refl, refl, inr (got.Value a, _, refl, inr (inr (r, m, inr (6, refl))))))))))))
 
 named : (a r : Obj) → IsNone a → IsNone r → AreNamed objects (events_by (object 10) a r)
 named a r n m =
@@ -76,10 +77,12 @@ any_none a r n m =
     record {
       asked = call ∷ [];
       are_asked = ((refl, (refl, (refl, tt))), tt);
+      globals = object 6;
+      is_dict = ([], refl);
       run =
           record {
             comes = comes a r n m;
-            tells = one_tells (Traces trees objects) (object 7) (object 8 ∷ object 9 ∷ []) (events_by (object 10) a r) refl (_, refl, (function, refl, shown_traced a r m));
+            tells = one_tells (Traces trees (object 6) objects) (object 7) (object 8 ∷ object 9 ∷ []) (events_by (object 10) a r) refl (_, refl, (function, refl, shown_traced a r m));
             named = named a r n m;
           };
       are_objects = are_objects function (pos 33) (pos 12) (payload.Int (pos 45) ∷ payload.None ∷ []) refl (plain function _ refl, (plain function _ refl, tt)) fits;
@@ -88,44 +91,37 @@ any_none a r n m =
 pub text : events_text objects events ≡ codes "45\n1 returns None\n"
 text = simp (decimal_45, decimal_1)
 
--- what is asked and answered goes on as its answer
-asked_so : (r q : Request) (at : ℕ) (w : GotAnswer) (ts : List Own) (K : AfterValue) → Asked r None (Asks at q None ∷ Gets w ∷ ts) K → Answers w ts K
-asked_so r q at w ts K (inl cut) = absurd (cc cut.0)
-asked_so r q at w ts K (inr more) =
-    let rest : Gets w ∷ ts ≡ more.1 = cc more.2 in
-    gotten K w ts (subst (λ (xs : List Own). Answered xs K) (sym rest) more.3)
-
 -- the locals where the sum is this
 abbrev locals : Obj → Env
 locals v = set_local (codes "x") (Some v) (start_env function (object 8 ∷ object 9 ∷ []))
 
 -- what follows the sum, and what follows what is shown
-abbrev Shows : List Payload → Env → List Own → Type 0
-Shows store env ts = RunsSuite store (first 3 (show (atom.Name (codes "x"))) nothing) env None ts (EndsBy store)
+abbrev Shows : Scene → Env → List Own → Type 0
+Shows scene env ts = RunsSuite scene (first 3 (show (atom.Name (codes "x"))) nothing) env None ts (EndsBy scene)
 
-abbrev Finishes : List Payload → Env → List Own → Type 0
-Finishes store env ts = RunsSuite store nothing env None ts (EndsBy store)
+abbrev Finishes : Scene → Env → List Own → Type 0
+Finishes scene env ts = RunsSuite scene nothing env None ts (EndsBy scene)
 
 -- what follows the answer to the sum
-abbrev AfterSum : List Payload → AfterValue
-AfterSum store = Use (start_env function (object 8 ∷ object 9 ∷ [])) (On_normal (EndsBy store) (Shows store)) (λ v. On_normal (EndsBy store) (Shows store) (locals v) Normal)
+abbrev AfterSum : Scene → AfterValue
+AfterSum scene = Use (start_env function (object 8 ∷ object 9 ∷ [])) (On_normal (EndsBy scene) (Shows scene)) (λ v. On_normal (EndsBy scene) (Shows scene) (locals v) Normal)
 
-behind_sum : (store : List Payload) (w : GotAnswer) (ts : List Own) → IsTrace store function (object 8 ∷ object 9 ∷ []) (Makes ∷ Resumes Start ∷ Asks 2 (Binary binary.Add (object 8) (object 9)) None ∷ Gets w ∷ ts) → Answers w ts (AfterSum store)
-behind_sum store w ts h =
-    let b = begun store function (object 8 ∷ object 9 ∷ []) _ h in
-    ⊎_elim (λ cut. cc cut.0) (λ more. asked_so (Binary binary.Add (object 8) (object 9)) (Binary binary.Add (object 8) (object 9)) 2 w ts (AfterSum store) more) b.1
+behind_sum : (scene : Scene) (w : GotAnswer) (ts : List Own) → IsTrace scene function (object 8 ∷ object 9 ∷ []) (Makes ∷ Resumes Start ∷ Asks 2 (Binary binary.Add (object 8) (object 9)) None ∷ Gets w ∷ ts) → Answers w ts (AfterSum scene)
+behind_sum scene w ts h =
+    let b = begun scene function (object 8 ∷ object 9 ∷ []) _ h in
+    ⊎_elim (λ cut. cc cut.0) (λ more. asked_so _ (Binary binary.Add (object 8) (object 9)) (Binary binary.Add (object 8) (object 9)) 2 w ts (AfterSum scene) more) b.1
 
 -- the sum is shown first
-first_shown : (v : Obj) (o : Own) (ts : List Own) → Shows objects (locals v) (o ∷ ts) → (at : ℕ) × (o ≡ Asks at (Show v) None)
-first_shown v o ts h = ⊎_elim (λ cut. cc cut.0) (λ more. ⊎_elim (λ cut. cc cut.0) (λ asks. (asks.0, cc asks.2)) more) h
+first_shown : (scene : Scene) (v : Obj) (o : Own) (ts : List Own) → Shows scene (locals v) (o ∷ ts) → (at : ℕ) × (o ≡ Asks at (Show v) None)
+first_shown scene v o ts h = ⊎_elim (λ cut. cc cut.0) (λ more. ⊎_elim (λ cut. cc cut.0) (λ asks. (asks.0, cc asks.3)) more) h
 
-behind_show : (v q u : Obj) (ts : List Own) → Shows objects (locals v) (Asks 5 (Show q) None ∷ Gets (got.Value u) ∷ ts) → Finishes objects (locals v) ts
-behind_show v q u ts h =
-    ⊎_elim (λ cut. cc cut.0) (λ more. asked_so (Show v) (Show q) 5 (got.Value u) ts _ more) h
+behind_show : (scene : Scene) (v q u : Obj) (ts : List Own) → Shows scene (locals v) (Asks 5 (Show q) None ∷ Gets (got.Value u) ∷ ts) → Finishes scene (locals v) ts
+behind_show scene v q u ts h =
+    ⊎_elim (λ cut. cc cut.0) (λ more. asked_so _ (Show v) (Show q) 5 (got.Value u) ts _ more) h
 
 -- at its end the body returns None
-last_told : (v : Obj) (o : Own) (ts : List Own) → Finishes objects (locals v) (o ∷ ts) → (at : ℕ) × (r : Obj) × IsNone r × (o ≡ Ends at (ending.Return r))
-last_told v o ts h = ⊎_elim (λ cut. cc cut.0) (λ more. ⊎_elim (λ cut. cc cut) (λ end. ⊎_elim (λ cut. cc cut) (λ told. (told.0, end.0, end.1, cc told.1)) end.2) more) h
+last_told : (g v : Obj) (o : Own) (ts : List Own) → Finishes (anywhere objects g) (locals v) (o ∷ ts) → (at : ℕ) × (r : Obj) × IsNone r × (o ≡ Ends at (ending.Return r))
+last_told g v o ts h = ⊎_elim (λ cut. cc cut.0) (λ more. ⊎_elim (λ cut. cc cut) (λ end. ⊎_elim (λ cut. cc cut) (λ told. (told.0, end.0, end.1, cc told.1)) end.2) more) h
 
 shown_number : (at at' : ℕ) (v w : Obj) (own own' : Option PyBaseExceptionRef) → Asks at (Show v) own ≡ Asks at' (Show w) own' → v.number ≡ w.number
 shown_number at at' v w own own' e = let same : v ≡ w = cc in ap (λ (v : Obj). v.number) same
@@ -133,20 +129,20 @@ shown_number at at' v w own own' e = let same : v ≡ w = cc in ap (λ (v : Obj)
 pub no_show_dropped : IsRunOf trees drives objects without_show → ⊥
 unfolding own_events told_by
 no_show_dropped r =
-    let e = first_shown (object 10) _ _ (behind_sum objects (got.Value (object 10)) _ (traced function objects drives without_show refl refl r)) in
+    let e = first_shown (anywhere objects r.globals) (object 10) _ _ (behind_sum (anywhere objects r.globals) (got.Value (object 10)) _ (traced function objects drives without_show refl refl r)) in
     cc e.1
 
 pub no_other_value : IsRunOf trees drives objects (events_by (object 8) (object 0) (object 11)) → ⊥
 unfolding own_events told_by
 no_other_value r =
-    let e = first_shown (object 10) _ _ (behind_sum objects (got.Value (object 10)) _ (traced function objects drives (events_by (object 8) (object 0) (object 11)) refl refl r)) in
+    let e = first_shown (anywhere objects r.globals) (object 10) _ _ (behind_sum (anywhere objects r.globals) (got.Value (object 10)) _ (traced function objects drives (events_by (object 8) (object 0) (object 11)) refl refl r)) in
     let n = shown_number 5 e.0 (object 8) (object 10) None None e.1 in
     cc
 
 pub no_show_twice : IsRunOf trees drives objects shown_twice → ⊥
 unfolding own_events told_by
 no_show_twice r =
-    let e = last_told (object 10) _ _ (behind_show (object 10) (object 10) (object 0) _ (behind_sum objects (got.Value (object 10)) _ (traced function objects drives shown_twice refl refl r))) in
+    let e = last_told r.globals (object 10) _ _ (behind_show (anywhere objects r.globals) (object 10) (object 10) (object 0) _ (behind_sum (anywhere objects r.globals) (got.Value (object 10)) _ (traced function objects drives shown_twice refl refl r))) in
     cc e.3
 
 -- what is shown is answered by None
@@ -164,12 +160,12 @@ returned_one at at' v w e = cc
 pub no_other_end : IsRunOf trees drives objects (events_by (object 10) (object 0) (object 10)) → ⊥
 unfolding own_events told_by
 no_other_end r =
-    let e = last_told (object 10) _ _ (behind_show (object 10) (object 10) (object 0) _ (behind_sum objects (got.Value (object 10)) _ (traced function objects drives (events_by (object 10) (object 0) (object 10)) refl refl r))) in
+    let e = last_told r.globals (object 10) _ _ (behind_show (anywhere objects r.globals) (object 10) (object 10) (object 0) _ (behind_sum (anywhere objects r.globals) (got.Value (object 10)) _ (traced function objects drives (events_by (object 10) (object 0) (object 10)) refl refl r))) in
     let none = subst IsNone (sym (returned_one 6 e.0 (object 10) e.1 e.3)) e.2 in
     cc
 
 raise_traced : RaiseIsTraced function [] (exception 12)
-raise_traced = (refl, (_, refl, (tt, inr (inr (2, _, refl, inr (got.Raise (exception 12), _, refl, inr (2, refl)))))))
+raise_traced = (refl, (_, refl, (tt, inr (inr (2, _, refl, refl, inr (got.Raise (exception 12), _, refl, inr (2, refl)))))))
 
 pub raise_ends : IsRunOf trees (overflowing ∷ []) overflow_objects (overflow_by (exception 12))
 raise_ends = overflow_run function refl raise_traced
@@ -178,10 +174,10 @@ pub raise_text : events_text overflow_objects (overflow_by (exception 12)) ≡ c
 raise_text =
     let asking = entered 1 (asked 1 (object 8) (object 9) []) in
     append-nil (result_text overflow_objects 1 (answer.Raises (exception 12)))
-    ∙ raise_line trees overflow_objects raise_ends.are_objects asking (exception 12)
+    ∙ overflow_line trees overflow_objects raise_ends.are_objects asking (exception 12)
     (gives_sum overflow_objects asking (object 8) (object 9) greatest (pos 1) (got.Raise (exception 12)) refl refl raise_ends.run.comes.1.1.1.1.0.2)
 
 pub no_show_behind_a_raise : IsRunOf trees (overflowing ∷ []) overflow_objects shown_behind_raise → ⊥
 unfolding own_events told_by
 no_show_behind_a_raise r =
-    ⊎_elim (λ cut. cc cut) (λ end. cc end.1) (behind_sum overflow_objects (got.Raise (exception 12)) _ (traced function overflow_objects (overflowing ∷ []) shown_behind_raise refl refl r))
+    ⊎_elim (λ cut. cc cut) (λ end. cc end.1) (behind_sum (anywhere overflow_objects r.globals) (got.Raise (exception 12)) _ (traced function overflow_objects (overflowing ∷ []) shown_behind_raise refl refl r))

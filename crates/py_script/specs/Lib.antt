@@ -9,6 +9,7 @@ pub mod Causes
 -- scripts worked by hand
 pub mod Worked
 pub mod WorkedShow
+pub mod WorkedLoop
 -- what functions inside the crate promise each other
 pub mod Steps
 pub mod Loaded

@@ -4,7 +4,7 @@ use Rattle.std.specs.Io.KnownBytes.{Appends, Keeps, IsAtEnd}
 use Rattle.py_outside.specs.Faults.{Rose}
 use Rattle.py_outside.specs.Transfer.{AppendsFront}
 use Rattle.py_body.specs.Tree.{Tree}
-use Rattle.py_body.specs.Binding.{IsClosed}
+use Rattle.py_body.specs.Binding.{IsCompilable}
 use Rattle.py_grammar.specs.declared.script.Script.{Script}
 use Rattle.py_grammar.specs.Script.{IsScript, IsBadLine, trees_of}
 use Rattle.py_grammar.specs.WellFormed.{IsWellFormed}
@@ -17,13 +17,13 @@ use Rattle.py_script.specs.Whole.{IsRun, IsWhole, RunsItsCodes, IsEmpty}
 use Rattle.py_script.specs.Text.{text_of}
 
 -- each body of the trees can be compiled
-abbrev pub AllClosed : List Tree → Type 0
-AllClosed trees = (i : ℕ) (t : Tree) → slice_get trees i ≡ Some t → IsClosed t
+abbrev pub AllCompilable : List Tree → Type 0
+AllCompilable trees = (i : ℕ) (t : Tree) → slice_get trees i ≡ Some t → IsCompilable t
 
 -- a script that can be run: it keeps the rules, and its bodies can be compiled
 pub record IsRunnable (s : Script) : Type 0 where
   pub well : IsWellFormed s
-  pub closed : AllClosed (trees_of s)
+  pub closed : AllCompilable (trees_of s)
 
 -- what parsing bytes answers
 abbrev pub IsParsed : List ℕ → Result Script ScriptFault → Type 0

@@ -11,6 +11,7 @@ use Rattle.py_objects.specs.Objects.{Obj, HasPayload, declared, name_of, error_k
 use Rattle.py_body.specs.declared.atom.Atom.{Atom}
 use Rattle.py_body.specs.declared.atom.Atom.TheVariants as atom
 use Rattle.py_body.specs.Tree.{Tree}
+use Rattle.py_body.specs.Scene.{anywhere}
 use Rattle.py_body.specs.Trace.{IsTrace}
 use Rattle.py_grammar.specs.Drive.{Drive}
 use Rattle.py_grammar.specs.declared.script.Script.{Script}
@@ -57,15 +58,22 @@ pub record AreObjects (trees : List Tree) (objects : List Payload) : Type 0 wher
   pub no_managers : (m : Obj) (b : ManagerBody) → HasPayload objects m (payload.Manager b) → ⊥
   pub fit : AllFit objects
 
--- an activation's own events are a trace of the body of its function
-abbrev pub Traces : List Tree → List Payload → May
-Traces trees objects f vs own = (b : FunctionBody) × HasPayload objects f (payload.Function b) × ((t : Tree) × (slice_get trees b.code ≡ Some t) × IsTrace objects t vs own)
+-- an activation's own events are a trace of the body of its function, where this is the dict of the globals
+abbrev pub Traces : List Tree → Obj → List Payload → May
+Traces trees globals objects f vs own =
+    (b : FunctionBody) × HasPayload objects f (payload.Function b) × ((t : Tree) × (slice_get trees b.code ≡ Some t) × IsTrace (anywhere objects globals) t vs own)
+
+-- an object is a dict
+abbrev pub IsDict : List Payload → Obj → Type 0
+IsDict objects v = (ps : List (Obj × Obj)) × HasPayload objects v (payload.Dict ps)
 
 -- a prefix of a run of these declarations and drives
 pub record IsRunOf (trees : List Tree) (drives : List Drive) (objects : List Payload) (events : List Event) : Type 0 where
   pub asked : List Question
   pub are_asked : AreAsked objects drives asked
-  pub run : IsRunBy (Traces trees objects) asked objects events
+  pub globals : Obj  -- one and the same dict throughout
+  pub is_dict : IsDict objects globals
+  pub run : IsRunBy (Traces trees globals objects) asked objects events
   pub are_objects : AreObjects trees objects
 
 -- the journal is a prefix of a run of a script
@@ -81,7 +89,9 @@ IsWhole s j = IsDone (length (drives_of s)) j.events
 -- units, are a run of the rows of its code
 pub record RunsItsCodes (s : Script) (j : Journal) : Type 0 where
   pub compiled : AreCompiled (trees_of s) j.codes
-  pub tells : EachTells (RowsOf j.codes j.objects) j.events
+  pub globals : Obj
+  pub is_dict : IsDict j.objects globals
+  pub tells : EachTells (RowsOf j.codes globals j.objects) j.events
 
 -- the journal where nothing ran
 pub record IsEmpty (j : Journal) : Type 0 where

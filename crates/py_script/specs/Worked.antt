@@ -1,5 +1,5 @@
 -- A script worked by hand: its journal, and lists of events that look like one and are none.
-use Rattle.std.specs.Prelude.{ℕ, ◌-◌, ◌^◌, None, List, [], ◌∷◌, false, ℤ, pos, ◌≡◌, codes}
+use Rattle.std.specs.Prelude.{ℕ, ◌-◌, ◌^◌, Some, None, List, [], ◌∷◌, false, ℤ, pos, ◌≡◌, codes}
 use Rattle.py_objects.specs.declared.refs.PyBaseExceptionRef.{PyBaseExceptionRef}
 use Rattle.py_objects.specs.declared.payload.Payload.{Payload}
 use Rattle.py_objects.specs.declared.payload.Payload.TheVariants as payload
@@ -33,7 +33,7 @@ function =
     record {
       name = codes "f";
       params = codes "a" ∷ codes "b" ∷ [];
-      suite = first 2 (operate (codes "x") operator.Add (atom.Name (codes "a") ∷ atom.Name (codes "b") ∷ [])) (first 3 (give (atom.Name (codes "x"))) nothing);
+      suite = first 2 (operate (Some (codes "x")) operator.Add (atom.Name (codes "a") ∷ atom.Name (codes "b") ∷ [])) (first 3 (give (atom.Name (codes "x"))) nothing);
       line = 1;
     }
 
@@ -65,12 +65,15 @@ class_entry kind = payload.Class (record { name = name_of kind })
 abbrev pub function_entry : Name → ℕ → Payload
 function_entry name code = payload.Function (record { name = name; code = code })
 
--- None, the built-in classes, which have the numbers 1 to 5, the dict of the globals, 6, a function with number 7, and its
--- two arguments, 8 and 9
-abbrev pub objects_of : Payload → ℤ → ℤ → List Payload → List Payload
-objects_of f m n more =
+-- None, the built-in classes, which have the numbers 1 to 5, the dict of the globals, 6, a function with number 7, and more
+abbrev pub loaded : Payload → List Payload → List Payload
+loaded f more =
     payload.None ∷ class_entry NameError ∷ class_entry OverflowError ∷ class_entry RecursionError ∷ class_entry TypeError ∷ class_entry UnboundLocalError
-    ∷ payload.Dict [] ∷ f ∷ payload.Int m ∷ payload.Int n ∷ more
+    ∷ payload.Dict [] ∷ f ∷ more
+
+-- the same with the function's two arguments, 8 and 9
+abbrev pub objects_of : Payload → ℤ → ℤ → List Payload → List Payload
+objects_of f m n more = loaded f (payload.Int m ∷ payload.Int n ∷ more)
 
 -- the objects of the run, where the function has this entry; the sum has number 10
 abbrev pub objects_by : Payload → List Payload

@@ -1,5 +1,5 @@
 -- A script that shows, worked by hand: its journal, and lists of events that look like one and are none.
-use Rattle.std.specs.Prelude.{ℕ, None, List, [], ◌∷◌, pos, codes}
+use Rattle.std.specs.Prelude.{ℕ, Some, None, List, [], ◌∷◌, pos, codes}
 use Rattle.py_objects.specs.declared.payload.Payload.{Payload}
 use Rattle.py_objects.specs.declared.payload.Payload.TheVariants as payload
 use Rattle.py_objects.specs.declared.request.Request.TheVariants.{Show}
@@ -26,7 +26,7 @@ function =
     record {
       name = codes "g";
       params = codes "a" ∷ codes "b" ∷ [];
-      suite = first 2 (operate (codes "x") operator.Add (atom.Name (codes "a") ∷ atom.Name (codes "b") ∷ [])) (first 3 (show (atom.Name (codes "x"))) nothing);
+      suite = first 2 (operate (Some (codes "x")) operator.Add (atom.Name (codes "a") ∷ atom.Name (codes "b") ∷ [])) (first 3 (show (atom.Name (codes "x"))) nothing);
       line = 1;
     }
 

@@ -12,6 +12,7 @@ mod str_of;
 mod text;
 mod words;
 mod worked;
+mod worked_loop;
 mod worked_show;
 mod write;
 
@@ -28,6 +29,7 @@ pub use py_vm::Journal;
 pub use text::journal_text;
 pub use words::{Command, Words, command_of};
 pub use worked::worked_journals;
+pub use worked_loop::worked_loops;
 pub use worked_show::worked_shows;
 
 #[cfg(test)]

@@ -1,8 +1,9 @@
 //! A script in a machine: its declarations are loaded, and its drives are made one after another.
 
-ghost use Rattle.std.specs.Prelude.{◌≡◌, ◌≤◌, ◌<◌, ◌+◌, ◌++◌, Err, [], IfOk, OnOk, suc, map, length, slice_get, Some, All, Any, bytes_eq};
-ghost use Rattle.py_objects.specs.Objects.{HasPayload, numbers, AllBelow};
-ghost use Rattle.py_body.specs.Binding.{IsClosed};
+ghost use Rattle.std.specs.Prelude.{◌≡◌, ◌≤◌, ◌<◌, ◌+◌, ◌++◌, Err, [], IfOk, OnOk, suc, map, length, slice_get, Some, All};
+ghost use Rattle.py_objects.specs.Attrs.{value_of};
+ghost use Rattle.py_objects.specs.Objects.{Obj, HasPayload, numbers, AllBelow};
+ghost use Rattle.py_body.specs.Binding.{IsCompilable};
 ghost use Rattle.py_body.specs.Fits.{Fits};
 ghost use Rattle.py_body.specs.Naming.{Continues};
 ghost use Rattle.py_grammar.specs.Script.{declared_tree, drive_of, trees_of, drives_of};
@@ -13,24 +14,24 @@ ghost use Rattle.py_vm.specs.Stands.{Stands};
 ghost use Rattle.py_vm.specs.declared.fault.VmFault.TheVariants.{OutOfTurns};
 ghost use Rattle.py_script.specs.Whole.{IsOf, AreOf};
 ghost use Rattle.py_script.specs.Loaded.{AreChecked, function_entries};
-ghost use Rattle.py_script.specs.Steps.{AllClosed, IsRunnable, HasRun};
-ghost use Rattle.py_script.specs.Session.{refs_from, IsLoaded, IsInRun, IsNamedAt, IsReady, IsValue, OnlyGrew};
+ghost use Rattle.py_script.specs.Steps.{AllCompilable, IsRunnable, HasRun};
+ghost use Rattle.py_script.specs.Session.{functions_from, IsLoaded, IsInRun, IsReady, IsValue, OnlyGrew};
 
 use crate::read::empty_journal;
 use py_body::{Atom, AtomList, compile_body};
 use py_check::CheckedCode;
-use py_code::{Names, NoMemory, PyText, same_text};
+use py_code::{Names, NoMemory, PyText};
 use py_grammar::{Declaration, DriveLine, Script};
-use py_objects::{FunctionBody, ObjList, Payload, PyObjectRef};
+use py_objects::{AttrMap, FunctionBody, ObjList, Payload, PyObjectRef};
 use py_vm::{Drive, Journal, VirtualMachine, VmFault};
 use std::alloc::Global;
 
-/// A machine that holds the declarations of a script, with the functions that they are, in order.
+/// A machine that holds the declarations of a script, with the functions that they are, by their names.
 #[derive(Drop)]
 pub(crate) struct Session {
     pub(crate) alloc: Global,
     pub(crate) vm: VirtualMachine,
-    pub(crate) functions: ObjList,
+    pub(crate) functions: AttrMap,
 }
 
 /// The code of a declaration, whose names go into the table.
@@ -39,7 +40,7 @@ fn compile_one(
     names: &mut Names,
     declaration: &Declaration,
 ) -> Result<CheckedCode, NoMemory>
-    requires { IsClosed (declared_tree declaration.now) }
+    requires { IsCompilable (declared_tree declaration.now) }
     ensures fits { IfOk result (λ code. Fits names.new code (declared_tree declaration.now)) }
     ensures grows { Continues names.old names.new }
 {
@@ -55,7 +56,7 @@ fn compile_all(
     names: &mut Names,
     declarations: &[Declaration],
 ) -> Result<Vec<CheckedCode>, NoMemory>
-    requires { AllClosed (map declared_tree declarations.now) }
+    requires { AllCompilable (map declared_tree declarations.now) }
     ensures { IfOk result (λ codes. AreChecked (map declared_tree declarations.now) (record { names = names.new; codes = codes.items })) }
 {
     let mut codes = Vec::new(alloc);
@@ -96,24 +97,25 @@ fn function_body(
     }
 }
 
-/// Makes a function of each declaration, whose code is the one at its place.
+/// Makes a function of each declaration, whose code is the one at its place. Gives the functions by their names.
 fn add_functions(
     alloc: Global,
     vm: &mut VirtualMachine,
     declarations: &[Declaration],
-) -> Result<ObjList, NoMemory>
+) -> Result<AttrMap, NoMemory>
     requires { Stands vm.old }
-    ensures functions { IfOk result (λ functions. functions ≡ refs_from (length (objects_of vm.old)) (length declarations.now)) }
+    ensures functions { IfOk result (λ functions. functions ≡ functions_from (length (objects_of vm.old)) (map declared_tree declarations.now) []) }
     ensures objects { OnOk result (objects_of vm.new ≡ objects_of vm.old ++ function_entries 0 (map declared_tree declarations.now)) }
     ensures codes { checked_of vm.new ≡ checked_of vm.old }
     ensures events { events_of vm.new ≡ events_of vm.old }
     ensures stands { Stands vm.new }
 {
-    let mut functions = ObjList::new(alloc);
+    let mut functions = AttrMap::new(alloc);
     for (code, declaration) in declarations.iter().enumerate() {
+        let name = declaration.name().copy(alloc)?;
         let body = function_body(alloc, declaration, code)?;
         let function = vm.add_object(Payload::Function(body))?;
-        functions.push(function)?;
+        functions.insert(name, function)?;
     }
     Ok(functions)
 }
@@ -133,19 +135,6 @@ fn load_script(alloc: Global, script: &Script) -> Result<Session, NoMemory>
         vm,
         functions,
     })
-}
-
-/// The place of the declaration that has a name.
-fn place_of(declarations: &[Declaration], name: &PyText) -> usize
-    requires { Any (λ t. t.name ≡ name.now) (map declared_tree declarations.now) }
-    ensures { IsNamedAt (map declared_tree declarations.now) name.now result }
-{
-    for (place, declaration) in declarations.iter().enumerate() {
-        if same_text(name, declaration.name()) {
-            return place;
-        }
-    }
-    unreachable!()
 }
 
 impl Session {
@@ -196,13 +185,13 @@ impl Session {
         Ok(values)
     }
 
-    /// The function at a place.
-    fn function_at(&self, place: usize) -> PyObjectRef
-        requires { place < length self.now.functions }
-        ensures { slice_get self.now.functions place ≡ Some result }
+    /// The function that has a name.
+    fn function_named(&self, name: &PyText) -> PyObjectRef
+        requires { (f : Obj) × (value_of name.now self.now.functions ≡ Some f) }
+        ensures { value_of name.now self.now.functions ≡ Some result }
     {
-        match self.functions.get(place) {
-            Some(function) => *function,
+        match self.functions.get(name) {
+            Some(function) => function,
             None => unreachable!(),
         }
     }
@@ -223,8 +212,7 @@ impl Session {
         ensures ready { OnOk result (IsReady (trees_of script.now) (drives_of script.now) self.new × (done_of self.new.vm ≡ suc (done_of self.old.vm))) }
         ensures out_of_turns { result ≡ Err OutOfTurns → (length (events_of self.new.vm) ≡ length (events_of self.old.vm) + turns) × (done_of self.new.vm ≡ done_of self.old.vm) }
     {
-        let place = place_of(script.declarations.as_slice(), name);
-        let function = self.function_at(place);
+        let function = self.function_named(name);
         let args = match self.arguments(atoms.as_slice()) {
             Ok(args) => args,
             Err(_) => return Err(VmFault::NoMemory),

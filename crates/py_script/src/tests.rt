@@ -1,5 +1,8 @@
 //! Texts and notes at worked values; representations are those that Python prints.
 
+mod branches;
+mod names;
+mod operators;
 mod runs;
 mod scripts;
 

@@ -4,11 +4,15 @@ ghost use Rattle.std.specs.Prelude.{◌≤◌};
 
 use crate::*;
 use py_code::NoMemory;
+use py_objects::Event;
 use std::alloc::Global;
 use std::test::Fail;
 
 // A script of one drive, whose run has seven events and whose text has thirteen bytes.
 const SUM: &[u8] = b"def f a b\nx = (add a b)\nreturn x\nend\ncall f 33 12\n";
+
+// A script whose run doesn't end.
+const ENDLESS: &[u8] = b"def f\nwhile True\nend\nend\ncall f\n";
 
 const USAGE: &[u8] = b"usage: pyrun run [TURNS] or make SEED COUNT\n";
 
@@ -110,9 +114,10 @@ fn other_words_read_and_write_nothing(rt: HostRuntime) -> Result<(), Fail> {
 #[test]
 fn a_command_may_say_its_turns(rt: HostRuntime) -> Result<(), Fail> {
     let alloc = rt.alloc();
-    let rows: [(&[u8], &str, u8, &str, &str); 6] = [
+    let rows: [(&[u8], &str, u8, &str, &str); 7] = [
         (b"", "0", 0, "", ""),
         (SUM, "0", 4, "", "out of turns\n"),
+        (ENDLESS, "7", 4, "", "out of turns\n"),
         (SUM, "6", 4, "", "out of turns\n"),
         (SUM, "7", 0, "1 returns 45\n", ""),
         (SUM, "007", 0, "1 returns 45\n", ""),
@@ -186,6 +191,39 @@ fn run_in(alloc: Global, turns: u64, text: &mut SinkMemory) -> Result<(bool, usi
         Err(ScriptFault::OutOfTurns(journal)) => Ok((false, journal.events.len())),
         Err(_) => Err(NoMemory),
     }
+}
+
+/// What kind of event it is.
+fn kind(event: &Event) -> &'static str {
+    match event {
+        Event::Drive { .. } => "drive",
+        Event::Result { .. } => "result",
+        Event::Make { .. } => "make",
+        Event::Resume { .. } => "resume",
+        Event::Ask { .. } => "ask",
+        Event::Got { .. } => "got",
+        Event::Round { .. } => "round",
+        Event::Yield { .. } => "yield",
+        Event::End { .. } => "end",
+    }
+}
+
+#[test]
+fn each_round_of_a_loop_is_told_and_tested(rt: HostRuntime) -> Result<(), Fail> {
+    let alloc = rt.alloc();
+    let mut source = source(alloc, ENDLESS, &[], 100)?;
+    let mut text = sink(alloc, &[], 5)?;
+    let journal = match run_script(alloc, &mut source, &mut text, 7) {
+        Err(ScriptFault::OutOfTurns(journal)) => journal,
+        Err(_) => return Err(Fail::from(NoMemory)),
+        Ok(_) => panic!(rt; "a loop without an end ended"),
+    };
+    let kinds = ["drive", "make", "resume", "round", "ask", "got", "round"];
+    assert_eq!(rt; journal.events.len(), kinds.len());
+    for (event, expected) in journal.events.as_slice().iter().zip(kinds.as_slice()) {
+        assert_eq!(rt; kind(event), *expected);
+    }
+    Ok(())
 }
 
 #[test]

@@ -7,7 +7,7 @@ use std::process::Abort;
 use std::test::Fail;
 
 /// A run of the script has to be whole, with this text.
-fn assert_writes(
+pub(super) fn assert_writes(
     rt: &impl Abort,
     alloc: Global,
     script: &[u8],
@@ -21,7 +21,7 @@ fn assert_writes(
 }
 
 /// Each of these scripts has to have a whole run, with its text.
-fn assert_all_write(
+pub(super) fn assert_all_write(
     rt: &impl Abort,
     alloc: Global,
     rows: &[(&[u8], &str)],
@@ -196,6 +196,36 @@ fn drives_are_numbered_in_order(rt: HostRuntime) -> Result<(), Fail> {
     Ok(())
 }
 
+/// A run of the script has so many events, and in fewer turns it has to write the text of the last row that they reach.
+fn assert_stops(
+    rt: &impl Abort,
+    alloc: Global,
+    script: &[u8],
+    all: u64,
+    rows: &[(u64, &str)],
+) -> Result<(), NoMemory> {
+    for turns in 0..all.saturating_add(3) {
+        let mut written = "";
+        for (events, text) in rows {
+            if *events <= turns {
+                written = text;
+            }
+        }
+        let (status, note) = if turns < all {
+            (4, "out of turns\n")
+        } else {
+            (0, "")
+        };
+        let mut word = String::new(alloc);
+        write!(word, "{turns}")?;
+        let outcome = run_in_turns(alloc, script, word.as_str())?;
+        assert_eq!(rt; outcome.status, status, "in {turns}");
+        assert_eq!(rt; outcome.text.bytes(), written.as_bytes(), "in {turns}");
+        assert_eq!(rt; outcome.notes.bytes(), note.as_bytes(), "in {turns}");
+    }
+    Ok(())
+}
+
 #[test]
 fn a_run_stops_where_its_turns_end(rt: HostRuntime) -> Result<(), Fail> {
     // Eleven events of a drive that returns, then nine of one that raises.
@@ -216,27 +246,20 @@ fn a_run_stops_where_its_turns_end(rt: HostRuntime) -> Result<(), Fail> {
             "1\n3\n1 returns None\n170141183460469231731687303715884105727\n2 raises OverflowError: integer out of range\n",
         ),
     ];
-    let alloc = rt.alloc();
-    for turns in 0..23u64 {
-        let mut written = "";
-        for (events, text) in rows {
-            if events <= turns {
-                written = text;
-            }
-        }
-        let (status, note) = if turns < 20 {
-            (4, "out of turns\n")
-        } else {
-            (0, "")
-        };
-        let mut word = String::new(alloc);
-        write!(word, "{turns}")?;
-        let outcome = run_in_turns(alloc, SCRIPT, word.as_str())?;
-        assert_eq!(rt; outcome.status, status, "in {turns}");
-        assert_eq!(rt; outcome.text.bytes(), written.as_bytes(), "in {turns}");
-        assert_eq!(rt; outcome.notes.bytes(), note.as_bytes(), "in {turns}");
-    }
-    Ok(())
+    Ok(assert_stops(&rt, rt.alloc(), SCRIPT, 20, &rows)?)
+}
+
+#[test]
+fn a_loop_stops_where_its_turns_end(rt: HostRuntime) -> Result<(), Fail> {
+    // Seven events of each round, three of the last test, and five around them.
+    const SCRIPT: &[u8] = b"def f n\nwhile n\nshow n\nn = (sub n 1)\nend\nend\ncall f 2\n";
+    let rows: [(u64, &str); 4] = [
+        (0, ""),
+        (7, "2\n"),
+        (14, "2\n1\n"),
+        (22, "2\n1\n1 returns None\n"),
+    ];
+    Ok(assert_stops(&rt, rt.alloc(), SCRIPT, 22, &rows)?)
 }
 
 #[test]
@@ -265,7 +288,7 @@ fn blanks_comments_and_line_ends_change_nothing(rt: HostRuntime) -> Result<(), F
 #[test]
 fn what_is_no_script_is_noted_with_its_line(rt: HostRuntime) -> Result<(), Fail> {
     let alloc = rt.alloc();
-    let rows: [(&[u8], &str); 14] = [
+    let rows: [(&[u8], &str); 21] = [
         (b"def f\nbreak\nend\n", "malformed: line 2\n"),
         (b"def f\npass\n", "malformed: line 3\n"),
         (
@@ -284,7 +307,17 @@ fn what_is_no_script_is_noted_with_its_line(rt: HostRuntime) -> Result<(), Fail>
         (b"def f a\nend\n\ncall f 1 2\n", "malformed: line 4\n"),
         (b"def f a\nend\ncall f f\n", "malformed: line 3\n"),
         (b"def f\nend\ncall g\n", "malformed: line 3\n"),
-        (b"def f\nshow x\nx = 1\nend\n", "malformed: line 2\n"),
+        (b"while 1\nend\n", "malformed: line 1\n"),
+        (b"def f\nelse\nend\n", "malformed: line 2\n"),
+        (b"def f\nif TypeError\nend\nend\n", "malformed: line 2\n"),
+        (b"def f\nTypeError = 1\nend\n", "malformed: line 2\n"),
+        (b"def f\nx = (sub 1)\nend\n", "malformed: line 2\n"),
+        (b"def f\ndo 1\nend\n", "malformed: line 2\n"),
+        (
+            b"def f\nif 1\nelse\nelse\nend\nend\n",
+            "malformed: line 4\n",
+        ),
+        (b"def f\nwhile 1\nend\n", "malformed: line 4\n"),
         (b"# \xff\n", "malformed: line 1\n"),
     ];
     for (script, note) in rows {

@@ -8,5 +8,6 @@ returns-clause-grew c = record {
   grows = grown_by _ _ _ c.add_object.result c.requires.value c.add_object.ensures.added c.add_object.ensures.err;
   events = c.add_object.ensures.events;
   codes = c.add_object.ensures.codes;
+  globals = c.add_object.ensures.globals;
   functions = refl;
 }

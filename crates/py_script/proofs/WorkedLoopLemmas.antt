@@ -1,0 +1,234 @@
+-- What the definitions say of the journals with a loop and with an unknown name.
+use Rattle.std.proofs.Common.{◌≡◌, ℕ, zero, suc, List, [], ◌∷◌, None, Bool, true, false, refl, sym, subst, inl, inr, lit<, ⊎_elim, ◌∙◌, append-nil}
+use Rattle.std.specs.Prelude.{codes}
+use Rattle.py_objects.specs.declared.payload.Payload.TheVariants as payload
+use Rattle.py_objects.specs.declared.payload.ErrorKind.TheVariants as kind
+use Rattle.py_objects.specs.declared.request.Request.TheVariants.{Truth, Global}
+use Rattle.py_objects.specs.declared.event.ResumeHow.TheVariants.{Start}
+use Rattle.py_objects.specs.declared.event.GotAnswer.TheVariants as got
+use Rattle.py_objects.specs.declared.event.Ending.TheVariants as ending
+use Rattle.py_objects.specs.declared.event.DriveAnswer.TheVariants as answer
+use Rattle.py_objects.specs.declared.event.Event.{Event}
+use Rattle.py_objects.specs.Objects.{Obj, Name, HasPayload, name_of, event_numbers, is_among, IsMade, AllFit}
+use Rattle.py_objects.specs.Own.{Own, Makes, Resumes, Asks, Gets, Rounds, Ends, own_events, told_by}
+use Rattle.py_body.specs.declared.atom.Atom.TheVariants as atom
+use Rattle.py_body.specs.Tree.{show, nothing, first, Tree}
+use Rattle.py_body.specs.Scene.{Scene, anywhere}
+use Rattle.py_body.specs.Outcome.{After, Normal, On_normal, On_turn, Chooses, By_truth, Loops, RunsSuite}
+use Rattle.py_body.specs.Trace.{IsTrace, EndsBy}
+use Rattle.py_grammar.specs.Grammar.{Declares, Drives}
+use Rattle.py_grammar.specs.Lines.{lines}
+use Rattle.py_grammar.specs.Script.{Spells}
+use Rattle.py_vm.specs.declared.drive.Drive.{Drive as Question}
+use Rattle.py_vm.specs.declared.drive.Drive.TheVariants.{Call}
+use Rattle.py_vm.specs.Answers.{Has, Fails, unknown_text, IsRaised}
+use Rattle.py_vm.specs.Run.{By_raise, start, Comes}
+use Rattle.py_script.specs.Whole.{Traces, IsDict, IsRunOf}
+use Rattle.py_script.specs.Text.{events_text, result_text}
+use Rattle.py_script.specs.Worked.{object, exception, error_body}
+use Rattle.py_script.specs.WorkedLoop.{script, function_of, function, trees, drives, objects, events, without_round, untested, left_early, unknown_script, unknown_trees, unknown_error, raised_objects, unknown_objects, asked_in, asked, unknown_events}
+use Rattle.py_script.proofs.Journals.{all_fit, are_loaded, are_named, asked_so, begun, each_at, one_tells, plain, traced_with, undeclared}
+use Rattle.py_script.proofs.OneText.{raise_line}
+
+pub spelled : Spells (lines script) trees drives
+spelled = record { items = Declares function ∷ Drives (record { function = codes "f"; args = [] }) ∷ []; spelled = refl; well = (refl, (((refl, tt), tt), (refl, tt))); declared = refl; driven = refl }
+
+-- the question of the drive
+abbrev call : Question
+call = Call (object 7) []
+
+fits : AllFit objects
+fits = all_fit objects refl (tt, (tt, (tt, (tt, (tt, (tt, (tt, (tt, (tt, (tt, tt))))))))))
+
+comes : Comes (call ∷ []) objects [] start events
+comes = (
+  (refl, refl, lit< tt),
+  (
+    (refl, refl, refl, refl, (_, refl)),
+    ((object 7, refl, refl), ((refl, refl), ((refl, refl), ((refl, refl, (Truth (object 8), Has (payload.Bool true), refl, (payload.Bool true, refl, refl), refl)), ((refl, refl), tt))))),
+  ),
+)
+
+loop_traced : IsTrace (anywhere objects (object 6)) function [] (own_events 1 events)
+unfolding own_events told_by
+loop_traced =
+    (refl, (_, refl, (tt, inr (1, inr (0, _, refl, inr (object 8, refl, inr (2, _, refl, refl, inr (got.Value (object 9), _, refl, (true, refl, inr (inr (3, _, refl, inl (refl, refl))))))))))))
+
+pub is_run : IsRunOf trees drives objects events
+is_run =
+    record {
+      asked = call ∷ [];
+      are_asked = ((refl, tt), tt);
+      globals = object 6;
+      is_dict = ([], refl);
+      run = record { comes = comes; tells = one_tells (Traces trees (object 6) objects) (object 7) [] events refl (_, refl, (function, refl, loop_traced)); named = are_named objects events fits refl };
+      are_objects = are_loaded function (payload.Bool true ∷ payload.Bool true ∷ []) refl (plain function _ refl, (plain function _ refl, tt)) fits;
+    }
+
+-- what the loop's rounds may tell, where the globals are in this dict
+abbrev scene_of : Obj → Scene
+scene_of g = anywhere objects g
+
+-- what follows the loop
+abbrev Behind : Obj → After
+Behind g = On_normal (EndsBy (scene_of g)) (λ env ts. RunsSuite (scene_of g) nothing env None ts (EndsBy (scene_of g)))
+
+-- the loop, whose body is begun at most n times
+abbrev Going : Obj → ℕ → List Own → Type 0
+Going g n ts = Loops (scene_of g) 2 None (atom.Bool true) (λ env mid. RunsSuite (scene_of g) nothing env None mid) n [] ts (Behind g)
+
+-- what follows a test of the loop's
+abbrev Tested : Obj → ℕ → Bool → List Own → Type 0
+Tested g zero b ts = By_truth b ⊥ (Behind g [] Normal ts)
+Tested g (suc n) b ts = By_truth b (RunsSuite (scene_of g) nothing [] None ts (On_turn (Behind g) (λ env rest. Loops (scene_of g) 2 None (atom.Bool true) (λ env1 mid. RunsSuite (scene_of g) nothing env1 None mid) n env rest (Behind g)))) (Behind g [] Normal ts)
+
+abbrev Tests : Obj → ℕ → List Own → Type 0
+Tests g n ts = Chooses (scene_of g) 2 [] None (atom.Bool true) ts (Behind g) (Tested g n)
+
+-- the loop goes on by a round, which tests
+goes_round : (g : Obj) (n : ℕ) (x : Own) (ts : List Own) → Going g n (x ∷ ts) → (at : ℕ) × (x ≡ Rounds at) × Tests g n ts
+goes_round g zero x ts (inl cut) = absurd (cc cut.0)
+goes_round g zero x ts (inr (at, mid, is, tests)) = let rest : mid ≡ ts = cc is in (at, cc is, subst (λ (l : List Own). Tests g zero l) rest tests)
+goes_round g (suc n) x ts (inl cut) = absurd (cc cut.0)
+goes_round g (suc n) x ts (inr (at, mid, is, tests)) = let rest : mid ≡ ts = cc is in (at, cc is, subst (λ (l : List Own). Tests g (suc n) l) rest tests)
+
+-- a test asks for the truth of an object
+asks_truth : (g : Obj) (n : ℕ) (x : Own) (ts : List Own) → Tests g n (x ∷ ts) → (at : ℕ) × (v : Obj) × (x ≡ Asks at (Truth v) None)
+asks_truth g n x ts h =
+    ⊎_elim (λ cut. absurd (cc cut.0)) (λ loads. ⊎_elim (λ cut. absurd (cc cut.0)) (λ asks. (asks.0, loads.0, cc asks.3)) loads.2) h
+
+-- and goes on by the truth value that it gets
+by_truth : (g : Obj) (n at : ℕ) (q w : Obj) (ts : List Own) → Tests g n (Asks at (Truth q) None ∷ Gets (got.Value w) ∷ ts) → (b : Bool) × HasPayload objects w (payload.Bool b) × Tested g n b ts
+by_truth g n at q w ts h =
+    ⊎_elim (λ cut. absurd (cc cut.0)) (λ loads. asked_so _ (Truth loads.0) (Truth q) at (got.Value w) ts _ loads.2) h
+
+-- where that is true the next round follows
+next_round : (g : Obj) (n : ℕ) (x : Own) (ts : List Own) → Tested g n true (x ∷ ts) → (at : ℕ) × (x ≡ Rounds at)
+next_round g zero x ts h = absurd h
+next_round g (suc n) x ts h =
+    ⊎_elim (λ cut. absurd (cc cut.0)) (λ again. let r = goes_round g n x ts again in (r.0, r.1)) h
+
+-- what the activation of a run tells behind its entry, where the loop is begun
+begins_loop : (g : Obj) (x : Own) (ts : List Own) → IsTrace (scene_of g) function [] (Makes ∷ Resumes Start ∷ x ∷ ts) → (n : ℕ) × Going g n (x ∷ ts)
+begins_loop g x ts h = let b = begun (scene_of g) function [] _ h in ⊎_elim (λ cut. absurd (cc cut.0)) (λ going. going) b.1
+
+pub no_round_untold : IsRunOf trees drives objects without_round → ⊥
+unfolding own_events told_by
+no_round_untold r =
+    let going = begins_loop r.globals _ _ (traced_with function [] objects drives without_round refl refl r) in
+    let next = goes_round r.globals going.0 _ _ going.1 in
+    cc next.1
+
+pub no_round_untested : IsRunOf trees drives objects untested → ⊥
+unfolding own_events told_by
+no_round_untested r =
+    let going = begins_loop r.globals _ _ (traced_with function [] objects drives untested refl refl r) in
+    let next = goes_round r.globals going.0 _ _ going.1 in
+    let asks = asks_truth r.globals going.0 _ _ next.2 in
+    cc asks.2
+
+-- the second object is True alone
+is_true : (b : Bool) → HasPayload objects (object 9) (payload.Bool b) → b ≡ true
+is_true true h = refl
+is_true false h = absurd (cc h)
+
+pub no_end_where_it_is_true : IsRunOf trees drives objects left_early → ⊥
+unfolding own_events told_by
+no_end_where_it_is_true r =
+    let going = begins_loop r.globals _ _ (traced_with function [] objects drives left_early refl refl r) in
+    let next = goes_round r.globals going.0 _ _ going.1 in
+    let tested = by_truth r.globals going.0 2 (object 8) (object 9) _ next.2 in
+    let told = subst (λ (b : Bool). Tested r.globals going.0 b (Ends 4 (ending.Return (object 0)) ∷ [])) (is_true tested.0 tested.1) tested.2 in
+    let again = next_round r.globals going.0 _ _ told in
+    cc again.1
+
+-- ---- the unknown name
+
+abbrev unknown_function : Tree
+unknown_function = function_of (first 2 (show (atom.Name (codes "z"))) nothing)
+
+pub unknown_spelled : Spells (lines unknown_script) unknown_trees drives
+unknown_spelled = record { items = Declares unknown_function ∷ Drives (record { function = codes "f"; args = [] }) ∷ []; spelled = refl; well = (refl, ((refl, tt), (refl, tt))); declared = refl; driven = refl }
+
+-- the entry of the exception names what it should
+made_error : IsMade unknown_objects (unknown_error 1)
+made_error = record {
+  class = record { name = name_of kind.NameError };
+  is_class = refl;
+  is_declared = refl;
+  arguments = object 8 ∷ [];
+  are_arguments = refl;
+  cause = tt;
+  context = tt;
+  traceback = tt;
+}
+
+unknown_fits : AllFit unknown_objects
+unknown_fits = all_fit unknown_objects refl (tt, (tt, (tt, (tt, (tt, (tt, (tt, (tt, (tt, (tt, (made_error, tt)))))))))))
+
+-- the exception is new, and is what the question is answered
+unknown_raised : IsRaised unknown_objects (asked []) kind.NameError (codes "name 'z' is not defined") (exception 10)
+unknown_raised = record {
+  new = record {
+    unnamed = each_at (λ (e : Event). is_among 10 (event_numbers e) ≡ false) (asked []) (refl, (refl, (refl, (refl, tt))));
+    undeclared = λ x. undeclared unknown_function 10 (raised_objects 1) x (refl, refl, refl, refl, refl, refl) refl;
+  };
+  body = record (error_body 1) { args = object 9 };
+  entry = refl;
+  class = refl;
+  argument = object 8;
+  args = refl;
+  message = refl;
+}
+
+unknown_comes : Comes (call ∷ []) unknown_objects [] start unknown_events
+unknown_comes = (
+  (refl, refl, lit< tt),
+  (
+    (refl, refl, refl, refl, (_, refl)),
+    (
+      (object 7, refl, refl),
+      (
+        (refl, refl),
+        ((refl, refl, (Global (object 6) (codes "z"), Fails kind.NameError (unknown_text (codes "z")), refl, refl, unknown_raised)), ((refl, refl), ((refl, refl, (By_raise (exception 10), refl, refl)), tt))),
+      ),
+    ),
+  ),
+)
+
+unknown_traced : IsTrace (anywhere unknown_objects (object 6)) unknown_function [] (own_events 1 unknown_events)
+unfolding own_events told_by
+unknown_traced = (refl, (_, refl, (tt, inr (inr (0, _, refl, refl, inr (got.Raise (exception 10), _, refl, inr (0, refl)))))))
+
+pub unknown_is_run : IsRunOf unknown_trees drives unknown_objects unknown_events
+unknown_is_run =
+    record {
+      asked = call ∷ [];
+      are_asked = ((refl, tt), tt);
+      globals = object 6;
+      is_dict = ([], refl);
+      run =
+          record {
+            comes = unknown_comes;
+            tells = one_tells (Traces unknown_trees (object 6) unknown_objects) (object 7) [] unknown_events refl (_, refl, (unknown_function, refl, unknown_traced));
+            named = are_named unknown_objects unknown_events unknown_fits refl;
+          };
+      are_objects = are_loaded unknown_function (raised_objects 1) refl (plain unknown_function _ refl, (plain unknown_function _ refl, (plain unknown_function _ refl, tt))) unknown_fits;
+    }
+
+asked_object : (at at' : ℕ) (v w : Obj) (x : Name) (ts us : List Own) → Asks at (Global v x) None ∷ ts ≡ Asks at' (Global w x) None ∷ us → v ≡ w
+asked_object at at' v w x ts us e = let request : Global v x ≡ Global w x = cc e in cc request
+
+pub no_name_asked_of_none : IsRunOf unknown_trees drives unknown_objects (asked_in (object 0) []) → ⊥
+unfolding own_events told_by
+no_name_asked_of_none r =
+    let b = begun (anywhere unknown_objects r.globals) unknown_function [] _ (traced_with unknown_function [] unknown_objects drives (asked_in (object 0) []) refl refl r) in
+    ⊎_elim (λ cut. cc cut.0) (λ loads. ⊎_elim (λ cut. cc cut.0) (λ asks.
+    let same : object 0 ≡ r.globals = asked_object _ _ _ _ _ _ _ asks.3 in
+    let none = subst (IsDict unknown_objects) (sym same) r.is_dict in
+    cc none.1) loads) b.1
+
+pub unknown_line : events_text unknown_objects unknown_events ≡ codes "1 raises NameError: name 'z' is not defined\n"
+unknown_line =
+    append-nil (result_text unknown_objects 1 (answer.Raises (exception 10)))
+    ∙ raise_line unknown_trees unknown_objects 0 kind.NameError (codes "name 'z' is not defined") refl refl refl unknown_is_run.are_objects (asked []) (exception 10) unknown_raised

@@ -1,0 +1,113 @@
+-- Scripts with a loop without an end and with an unknown name, worked by hand: their journals, and lists of events that look
+-- like one and are none.
+use Rattle.std.specs.Prelude.{ℕ, None, List, [], ◌∷◌, Bool, true, codes}
+use Rattle.py_objects.specs.declared.payload.Payload.{Payload}
+use Rattle.py_objects.specs.declared.payload.Payload.TheVariants as payload
+use Rattle.py_objects.specs.declared.request.Request.TheVariants.{Truth, Global}
+use Rattle.py_objects.specs.declared.event.ResumeHow.TheVariants.{Start}
+use Rattle.py_objects.specs.declared.event.GotAnswer.TheVariants as got
+use Rattle.py_objects.specs.declared.event.Ending.TheVariants as ending
+use Rattle.py_objects.specs.declared.event.DriveAnswer.TheVariants as answer
+use Rattle.py_objects.specs.declared.event.Event.{Event}
+use Rattle.py_objects.specs.declared.event.Event.TheVariants as event
+use Rattle.py_objects.specs.Objects.{Obj}
+use Rattle.py_body.specs.declared.atom.Atom.TheVariants as atom
+use Rattle.py_body.specs.Tree.{Suite, show, loop, nothing, first, Tree}
+use Rattle.py_grammar.specs.Drive.{Drive}
+use Rattle.py_script.specs.Worked.{object, exception, error_body, function_entry, loaded}
+
+-- the bytes of the script whose loop doesn't end
+abbrev pub script : List ℕ
+script = codes "def f\nwhile True\nend\nend\ncall f\n"
+
+-- a function f without parameters
+abbrev pub function_of : Suite → Tree
+function_of s = record { name = codes "f"; params = []; suite = s; line = 1 }
+
+-- def f / while True / end / end
+abbrev pub function : Tree
+function = function_of (first 2 (loop (atom.Bool true) nothing) nothing)
+
+-- what the script declares
+abbrev pub trees : List Tree
+trees = function ∷ []
+
+-- what it drives: call f
+abbrev pub drives : List Drive
+drives = record { function = codes "f"; args = [] } ∷ []
+
+-- f has number 7, the True that is tested 8, and the answer 9
+abbrev pub objects_by : Bool → List Payload
+objects_by told = loaded (function_entry (codes "f") 0) (payload.Bool true ∷ payload.Bool told ∷ [])
+
+-- the objects of the run
+abbrev pub objects : List Payload
+objects = objects_by true
+
+-- the drive calls f, whose activation is entered; these events follow
+abbrev pub entered : List Event → List Event
+entered events = event.Drive 1 ∷ event.Make 1 (object 7) [] ∷ event.Resume 1 Start ∷ events
+
+-- a round begins, at this unit
+abbrev pub round : ℕ → List Event → List Event
+round at events = event.Round 1 at ∷ events
+
+-- the truth of the first True is asked for at the third unit, and the second object answers
+abbrev pub tested : List Event → List Event
+tested events = event.Ask 1 (Truth (object 8)) None 2 ∷ event.Got 1 (got.Value (object 9)) ∷ events
+
+-- the run as far as the second round: seven events
+abbrev pub events : List Event
+events = entered (round 0 (tested (round 3 [])))
+
+-- the first round isn't told
+abbrev pub without_round : List Event
+without_round = entered (tested (round 3 []))
+
+-- the first round is told twice, so that nothing is tested in it
+abbrev pub untested : List Event
+untested = entered (round 0 (round 3 (tested [])))
+
+-- the body ends, though the test was true
+abbrev pub left_early : List Event
+left_early = entered (round 0 (tested (event.End 1 (ending.Return (object 0)) 4 ∷ [])))
+
+-- the bytes of a script with a name that is nowhere
+abbrev pub unknown_script : List ℕ
+unknown_script = codes "def f\nshow z\nend\ncall f\n"
+
+-- def f / show z / end
+abbrev pub unknown_trees : List Tree
+unknown_trees = function_of (first 2 (show (atom.Name (codes "z"))) nothing) ∷ []
+
+-- the entry of an exception of the class with this number
+abbrev pub unknown_error : ℕ → Payload
+unknown_error class = payload.Exception (record (error_body class) { args = object 9 })
+
+-- the objects that the raise adds: the text 8, a tuple of it, 9, and the exception 10
+abbrev pub raised_objects : ℕ → List Payload
+raised_objects class = payload.Str (codes "name 'z' is not defined") ∷ payload.Tuple (object 8 ∷ []) ∷ unknown_error class ∷ []
+
+-- the objects of a run that raises
+abbrev pub unknown_by : ℕ → List Payload
+unknown_by class = loaded (function_entry (codes "f") 0) (raised_objects class)
+
+-- the objects where NameError is raised
+abbrev pub unknown_objects : List Payload
+unknown_objects = unknown_by 1
+
+-- the name is asked for at the first unit, in this object
+abbrev pub asked_in : Obj → List Event → List Event
+asked_in d events = entered (event.Ask 1 (Global d (codes "z")) None 0 ∷ events)
+
+-- in the dict of the globals
+abbrev pub asked : List Event → List Event
+asked events = asked_in (object 6) events
+
+-- the answer raises, which ends the body and the drive
+abbrev pub unknown_events : List Event
+unknown_events = asked (event.Got 1 (got.Raise (exception 10)) ∷ event.End 1 (ending.Raise (exception 10)) 0 ∷ event.Result 1 (answer.Raises (exception 10)) ∷ [])
+
+-- it gives a value
+abbrev pub unknown_given : List Event
+unknown_given = asked (event.Got 1 (got.Value (object 0)) ∷ [])
