@@ -3,7 +3,7 @@ use Rattle.std.specs.Prelude.{◌≡◌, ◌⊎◌, ℕ, zero, suc, ◌+◌, ◌
 use Rattle.std.specs.List.{list_all}
 use Rattle.py_code.specs.declared.unit.CodeUnit.{CodeUnit}
 use Rattle.py_code.specs.declared.instruction.Instruction.{Instruction}
-use Rattle.py_code.specs.declared.instruction.Instruction.TheVariants.{LoadConst, LoadFast, StoreFast, LoadGlobal, Pop, BinaryOperation, CompareOperation, PrintExpr, Jump, JumpIfTrue, JumpIfFalse, SetupLoop, PopBlock, ReturnValue, ReturnConst, ExtendedArg}
+use Rattle.py_code.specs.declared.instruction.Instruction.TheVariants.{LoadConst, LoadFast, StoreFast, LoadGlobal, Pop, BinaryOperation, CompareOperation, CallFunctionPositional, PrintExpr, Jump, JumpIfTrue, JumpIfFalse, SetupLoop, PopBlock, ReturnValue, ReturnConst, ExtendedArg}
 use Rattle.py_code.specs.declared.flags.TheConstants.CodeFlags.{HAS_VARARGS, HAS_VARKEYWORDS}
 use Rattle.py_code.specs.declared.operator.BinaryOperator.{BinaryOperator}
 use Rattle.py_code.specs.declared.operator.BinaryOperator.TheVariants as binary
@@ -77,6 +77,10 @@ takes_two [] blocks rest = false
 takes_two (k ∷ []) blocks rest = false
 takes_two (k ∷ l ∷ kinds) blocks rest = nat_le (top_level blocks) (length kinds) && rest kinds
 
+-- so many entries are there to be popped
+abbrev pub takes_many : ℕ → List Kind → List BlockNote → (List Kind → Bool) → Bool
+takes_many n kinds blocks rest = nat_le n (length kinds) && nat_le (top_level blocks) (length (drop n kinds)) && rest (drop n kinds)
+
 -- a constant is there that is loaded so far, and its kind is as it should be
 abbrev pub loads : Option Literal → (Kind → Bool) → Bool
 loads None rest = false
@@ -140,6 +144,7 @@ keeps_op sheet at BinaryOperation i kinds blocks =
     asks_operator (slice_get binary_operators i) && takes_two kinds blocks (λ rest. goes_on sheet (at + 1) (Any ∷ rest) blocks)
 keeps_op sheet at CompareOperation i kinds blocks =
     asks_comparison (slice_get comparison_operators i) && takes_two kinds blocks (λ rest. goes_on sheet (at + 1) (Any ∷ rest) blocks)
+keeps_op sheet at CallFunctionPositional k kinds blocks = takes_many (suc k) kinds blocks (λ rest. goes_on sheet (at + 1) (Any ∷ rest) blocks)
 keeps_op sheet at PrintExpr i kinds blocks = takes_one kinds blocks (λ rest. goes_on sheet (at + 1) rest blocks)
 keeps_op sheet at Jump to kinds blocks = jumps sheet to kinds blocks
 keeps_op sheet at JumpIfTrue to kinds blocks = takes_one kinds blocks (λ rest. jumps sheet to rest blocks && goes_on sheet (at + 1) rest blocks)

@@ -2,7 +2,7 @@
 use Rattle.std.specs.Prelude.{◌≡◌, ℕ, List, [], ◌∷◌, length}
 use Rattle.py_code.specs.declared.unit.CodeUnit.{CodeUnit}
 use Rattle.py_code.specs.declared.instruction.Instruction.{Instruction}
-use Rattle.py_code.specs.declared.instruction.Instruction.TheVariants.{LoadConst, LoadFast, Pop, BinaryOperation, Jump, JumpIfFalse, SetupLoop, PopBlock, ReturnValue, ReturnConst, ExtendedArg}
+use Rattle.py_code.specs.declared.instruction.Instruction.TheVariants.{LoadConst, LoadFast, LoadGlobal, Pop, BinaryOperation, CallFunctionPositional, Jump, JumpIfFalse, SetupLoop, PopBlock, ReturnValue, ReturnConst, ExtendedArg}
 use Rattle.py_code.specs.declared.literal.Literal.{Literal, None as NoneLiteral}
 use Rattle.py_check.specs.declared.note.Kind.{Kind}
 use Rattle.py_check.specs.declared.note.Kind.TheVariants.{Any, Exc}
@@ -66,6 +66,11 @@ sum_notes = nothing ∷ one ∷ two ∷ one ∷ []
 
 abbrev pub sum : Sheet
 sum = sheet sum_units sum_notes
+
+-- a global is called with the two parameters in order, where the operand is 2, and what it answers is returned
+abbrev pub calling : ℕ → Sheet
+calling count =
+    record (sheet (unit LoadGlobal 0 ∷ unit LoadFast 0 ∷ unit LoadFast 1 ∷ unit CallFunctionPositional count ∷ unit ReturnValue 0 ∷ []) (nothing ∷ one ∷ two ∷ holds (Any ∷ Any ∷ Any ∷ []) ∷ one ∷ [])) { max_stackdepth = 3 }
 
 -- a code with a prefix in front, which carries this byte
 abbrev pub prefixed : ℕ → Sheet → Sheet

@@ -10,7 +10,7 @@ ghost use Rattle.py_check.specs.declared.note.Pending.TheVariants as pending;
 ghost use Rattle.py_check.specs.declared.note.BlockNote.TheVariants as block;
 ghost use Rattle.py_check.specs.declared.note.Note.TheVariants as note;
 ghost use Rattle.py_check.specs.Constants.{tuple_kind};
-ghost use Rattle.py_check.specs.Worked.{Typed, Breaks, unit, sheet, holds, nothing, one, two, sum, sum_notes, in_loop, looping, loop_notes, loop_units, prefixed, loaded, loaded_later, returned_later, behind_the_end, guarded, handles};
+ghost use Rattle.py_check.specs.Worked.{Typed, Breaks, unit, sheet, holds, nothing, one, two, sum, sum_notes, calling, in_loop, looping, loop_notes, loop_units, prefixed, loaded, loaded_later, returned_later, behind_the_end, guarded, handles};
 
 /// The code of a small function keeps the rules on units, and others break them, each first at a certain unit.
 pub fn worked_notes()
@@ -69,6 +69,10 @@ pub fn worked_codes()
     ensures cells_of_no_parameter { Breaks (record sum { cellvars = 2; cell2arg = negsuc 0 ∷ pos 2 ∷ [] }) 0 }
     ensures cells_below { Breaks (record sum { cellvars = 2; cell2arg = negsuc 1 ∷ pos 1 ∷ [] }) 0 }
     ensures too_few_cells { Breaks (record sum { cellvars = 2; cell2arg = pos 1 ∷ [] }) 0 }
+    // A call takes as many arguments as its operand says, with the callee under them.
+    ensures calls { Typed (calling 2) }
+    ensures no_callee { Breaks (calling 3) 3 }
+    ensures argument_left { Breaks (calling 1) 3 }
 {}
 
 /// Codes whose notes have blocks keep the rules, and others break them, each first at a certain unit.
@@ -88,6 +92,7 @@ pub fn worked_blocks()
     ensures level_too_high { Breaks (guarded [] (block.Loop 1) note.Dead) 1 }
     ensures falling_level { Breaks (behind_the_end (unit op.ReturnConst 0 ∷ []) (note.Live (kind.Any ∷ []) (block.Loop 0 ∷ block.Loop 1 ∷ []) ∷ [])) 1 }
     ensures popped_below { Breaks (behind_the_end (unit op.Pop 0 ∷ unit op.ReturnConst 0 ∷ []) (note.Live (kind.Any ∷ []) (block.Loop 1 ∷ []) ∷ note.Live [] (block.Loop 1 ∷ []) ∷ [])) 1 }
+    ensures called_below { Breaks (behind_the_end (unit op.CallFunctionPositional 0 ∷ unit op.ReturnConst 0 ∷ []) (note.Live (kind.Any ∷ []) (block.Loop 1 ∷ []) ∷ note.Live (kind.Any ∷ []) (block.Loop 1 ∷ []) ∷ [])) 1 }
     // What may wait in a handler goes over to a note in which more may.
     ensures more_pending { Typed (behind_the_end (unit op.LoadFast 0 ∷ unit op.ReturnValue 0 ∷ []) (note.Live [] (block.FinallyHandler 0 (pending.Break 1 ∷ []) ∷ []) ∷ note.Live (kind.Any ∷ []) (block.FinallyHandler 0 (pending.Continue 1 ∷ pending.Break 1 ∷ []) ∷ []) ∷ [])) }
     ensures less_pending { Breaks (behind_the_end (unit op.LoadFast 0 ∷ unit op.ReturnValue 0 ∷ []) (note.Live [] (block.FinallyHandler 0 (pending.Break 1 ∷ []) ∷ []) ∷ note.Live (kind.Any ∷ []) (block.FinallyHandler 0 (pending.Continue 1 ∷ []) ∷ []) ∷ [])) 1 }
