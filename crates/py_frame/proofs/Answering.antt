@@ -4,7 +4,7 @@ use Rattle.std.specs.Prelude.{Option, None, slice_get, nat_le}
 use Rattle.py_code.specs.declared.code.PyCode.{PyCode}
 use Rattle.py_code.specs.declared.unit.CodeUnit.{CodeUnit}
 use Rattle.py_code.specs.declared.instruction.Instruction.{Instruction}
-use Rattle.py_code.specs.declared.instruction.Instruction.TheVariants.{LoadFast, LoadGlobal, BinaryOperation, CompareOperation, PrintExpr, JumpIfTrue, JumpIfFalse}
+use Rattle.py_code.specs.declared.instruction.Instruction.TheVariants.{LoadFast, LoadGlobal, BinaryOperation, CompareOperation, CallFunctionPositional, PrintExpr, JumpIfTrue, JumpIfFalse}
 use Rattle.py_objects.specs.declared.payload.Payload.{Payload}
 use Rattle.py_objects.specs.declared.payload.Payload.TheVariants as payload
 use Rattle.py_objects.specs.declared.refs.PyBaseExceptionRef.{PyBaseExceptionRef}
@@ -40,6 +40,7 @@ undecided objects LoadFast v s none = tt
 undecided objects LoadGlobal v s none = tt
 undecided objects BinaryOperation v s none = tt
 undecided objects CompareOperation v s none = tt
+undecided objects CallFunctionPositional v s none = tt
 undecided objects PrintExpr v s none = tt
 undecided objects JumpIfTrue v s none = cc
 undecided objects JumpIfFalse v s none = cc
@@ -62,6 +63,7 @@ truth_taken objects LoadFast v s b has = tt
 truth_taken objects LoadGlobal v s b has = tt
 truth_taken objects BinaryOperation v s b has = tt
 truth_taken objects CompareOperation v s b has = tt
+truth_taken objects CallFunctionPositional v s b has = tt
 truth_taken objects PrintExpr v s b has = tt
 truth_taken objects JumpIfTrue v s b has = (b, has)
 truth_taken objects JumpIfFalse v s b has = (b, has)
@@ -108,6 +110,7 @@ answered_rounds LoadFast v s = refl
 answered_rounds LoadGlobal v s = refl
 answered_rounds BinaryOperation v s = refl
 answered_rounds CompareOperation v s = refl
+answered_rounds CallFunctionPositional v s = refl
 answered_rounds PrintExpr v s = refl
 answered_rounds JumpIfTrue v s = λ b. decision_rounds b s
 answered_rounds JumpIfFalse v s = λ b. decision_rounds (not b) s
@@ -180,6 +183,7 @@ takes_answer objects code f v typed room LoadFast fits can = (let more : suc (le
 takes_answer objects code f v typed room LoadGlobal fits can = (let more : suc (length f.state.stack) ≤ code.code.code.max_stackdepth = note_room objects code _ typed fits.1 in omega arith)
 takes_answer objects code f v typed room BinaryOperation fits can = (let more : suc (length f.state.stack) ≤ code.code.code.max_stackdepth = note_room objects code _ typed fits.1 in omega arith)
 takes_answer objects code f v typed room CompareOperation fits can = (let more : suc (length f.state.stack) ≤ code.code.code.max_stackdepth = note_room objects code _ typed fits.1 in omega arith)
+takes_answer objects code f v typed room CallFunctionPositional fits can = (let more : suc (length f.state.stack) ≤ code.code.code.max_stackdepth = note_room objects code _ typed fits.1 in omega arith)
 takes_answer objects code f v typed room PrintExpr fits can = tt
 takes_answer objects code f v typed room JumpIfTrue fits can = can
 takes_answer objects code f v typed room JumpIfFalse fits can = can

@@ -72,7 +72,7 @@ type_level Loop level (note.FinallyHandler l pending) is = absurd is
 type_level Loop level (note.ExceptHandler l) is = absurd is
 
 -- the lower values are of the lower kinds
-kinds_dropped : (objects : List Payload) (n : ℕ) (vs : List Obj) (ks : List Kind) → HaveKinds objects vs ks → HaveKinds objects (drop n vs) (drop n ks)
+pub kinds_dropped : (objects : List Payload) (n : ℕ) (vs : List Obj) (ks : List Kind) → HaveKinds objects vs ks → HaveKinds objects (drop n vs) (drop n ks)
 kinds_dropped objects zero vs ks are = are
 kinds_dropped objects (suc n) [] [] are = tt
 kinds_dropped objects (suc n) [] (k ∷ ks) are = absurd are

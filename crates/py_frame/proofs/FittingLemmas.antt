@@ -1,11 +1,11 @@
 -- A frame that fits its note fits its note behind the next unit.
-use Rattle.std.proofs.Common.{◌≡◌, ℕ, suc, ◌+◌, ◌-◌, List, [], ◌∷◌, Bool, true, false, not, cond, Some, refl, sym, ap, subst, ◌∙◌, length, arith}
+use Rattle.std.proofs.Common.{◌≡◌, ℕ, suc, zero, ◌+◌, ◌-◌, List, [], ◌∷◌, Bool, true, false, not, cond, Some, refl, sym, ap, subst, ◌∙◌, length, take, drop, reverse, arith}
 use Rattle.std.specs.Prelude.{Option, None, slice_get, slice_set, nat_le, nat_lt, ◌&&◌}
 use Rattle.std.proofs.Math.ListN.{length-set}
 use Rattle.std.proofs.lemmas.Bool.{and_parts}
 use Rattle.py_code.specs.declared.unit.CodeUnit.{CodeUnit}
 use Rattle.py_code.specs.declared.instruction.Instruction.{Instruction}
-use Rattle.py_code.specs.declared.instruction.Instruction.TheVariants.{LoadConst, LoadFast, StoreFast, LoadGlobal, Pop, BinaryOperation, CompareOperation, PrintExpr, Jump, JumpIfTrue, JumpIfFalse, SetupLoop, PopBlock, ReturnValue, ReturnConst, ExtendedArg}
+use Rattle.py_code.specs.declared.instruction.Instruction.TheVariants.{LoadConst, LoadFast, StoreFast, LoadGlobal, Pop, BinaryOperation, CompareOperation, CallFunctionPositional, PrintExpr, Jump, JumpIfTrue, JumpIfFalse, SetupLoop, PopBlock, ReturnValue, ReturnConst, ExtendedArg}
 use Rattle.py_code.specs.declared.literal.Literal.{Literal, None as NoneLiteral, Bool as BoolLiteral, Int as IntLiteral, Str as StrLiteral, Tuple' as TupleLiteral, Code as CodeLiteral, Builtin as BuiltinLiteral}
 use Rattle.py_code.specs.declared.operator.BinaryOperator.{BinaryOperator}
 use Rattle.py_code.specs.declared.operator.ComparisonOperator.{ComparisonOperator}
@@ -25,17 +25,17 @@ use Rattle.py_check.specs.Constants.{is_loaded, kind_of}
 use Rattle.py_check.specs.Notes.{level_of}
 use Rattle.py_check.specs.Operands.{carried}
 use Rattle.py_check.specs.Sheet.{sheet_of}
-use Rattle.py_check.specs.Rules.{IsTyped, goes_on, jumps as may_jump, takes_one, takes_two, is_asked, asks_operator, is_compared, asks_comparison, bottom, is_popped, leaves_block, keeps_op}
+use Rattle.py_check.specs.Rules.{IsTyped, goes_on, jumps as may_jump, takes_one, takes_two, takes_many, is_asked, asks_operator, is_compared, asks_comparison, bottom, is_popped, leaves_block, keeps_op}
 use Rattle.py_check.specs.Rules as rules
 use Rattle.py_stack.specs.Stacks as stacks
 use Rattle.py_frame.specs.declared.block.Block.{Block}
 use Rattle.py_frame.specs.declared.block.BlockType.TheVariants.{Loop}
 use Rattle.py_frame.specs.declared.input.Expect.{Expect}
 use Rattle.py_frame.specs.declared.input.Expect.TheVariants as expect
-use Rattle.py_frame.specs.Rows.{State, Step, Goes, Tells, Stuck, Move, Plainly, Loads, Decides, next, landed, waiting, with_prefix, with_stack, payload_of, or_stuck, loads, set_in, name_of_local, name_of_global, load_fast, store_fast, load_global, pop, asked_operator, asked_comparison, binary_operation, compare_operation, print_expr, jumps, asks_to_jump, setup_loop, pop_block, return_value, act, unit_move, advance, jumps_if, answered, unit_answered}
+use Rattle.py_frame.specs.Rows.{State, Step, Goes, Tells, Stuck, Move, Plainly, Loads, Decides, next, landed, waiting, with_prefix, with_stack, payload_of, or_stuck, loads, set_in, name_of_local, name_of_global, load_fast, store_fast, load_global, pop, asked_operator, asked_comparison, binary_operation, compare_operation, calls, print_expr, jumps, asks_to_jump, setup_loop, pop_block, return_value, act, unit_move, advance, jumps_if, answered, unit_answered}
 use Rattle.py_frame.specs.Fitting.{HasKind, HaveKinds, AreBlocks, FitsNote, FitsOn, FitsStep, FitsMove, FitsAt}
 use Rattle.py_frame.proofs.KindLemmas.{kinds_counted}
-use Rattle.py_frame.proofs.BlockLemmas.{kinds_under}
+use Rattle.py_frame.proofs.BlockLemmas.{kinds_dropped, kinds_under}
 use Rattle.py_frame.proofs.TypingLemmas.{GoesOn, gone_on, none_carried, prefix_carried, fits_there, fits_at_label, unit_kept}
 
 -- what a unit leads to fits the code, where it leads anywhere
@@ -207,6 +207,29 @@ compare_fits objects code s all blocks (Some op) (b ∷ []) kinds here keeps are
 compare_fits objects code s all blocks (Some op) (b ∷ a ∷ stack) kinds here keeps are =
     asks_behind (waiting expect.Answer (next (with_stack stack s))) here refl (λ v. operands_on a b v stack kinds here refl keeps are)
 
+-- what lies under the value that lies under the first ones
+drop_under : (k : ℕ) (vs under : List Obj) (v : Obj) → drop k vs ≡ v ∷ under → drop (suc k) vs ≡ under
+drop_under zero [] under v is = cc
+drop_under zero (w ∷ vs) under v is = cc
+drop_under (suc k) [] under v is = cc
+drop_under (suc k) (w ∷ vs) under v is = drop_under k vs under v is
+
+-- what a call's answer leads to, where its callee and its arguments were so many of these kinds
+called_on : {objects : List Payload} {code : Annotated} {s : State} {all : List Kind} {blocks : List BlockNote} (n : ℕ) (v : Obj) (stack : List Obj) (kinds : List Kind)
+    → Here objects code s all blocks CallFunctionPositional → takes_many n kinds blocks (λ rest. goes_with code s (kind.Any ∷ rest) blocks) ≡ true → HaveKinds objects stack kinds
+    → FitsOn objects code (behind s (v ∷ drop n stack) s.blocks s.locals expect.Go)
+called_on {objects = objects} {s = s} {blocks = blocks} n v stack kinds here keeps are =
+    on_behind (kind.Any ∷ drop n kinds) blocks (v ∷ drop n stack) s.blocks s.locals expect.Go here refl (and_parts _ _ keeps).1 refl (tt, kinds_dropped objects n stack kinds are) here.opened refl
+
+-- a call
+call_fits : (objects : List Payload) (code : Annotated) (s : State) (all : List Kind) (blocks : List BlockNote) (k : ℕ) (args under stack : List Obj) (kinds : List Kind) → drop k stack ≡ under
+    → Here objects code s all blocks CallFunctionPositional → takes_many (suc k) kinds blocks (λ rest. goes_with code s (kind.Any ∷ rest) blocks) ≡ true → HaveKinds objects stack kinds
+    → FitsLed objects code (calls args under s)
+call_fits objects code s all blocks k args [] stack kinds is here keeps are = tt
+call_fits objects code s all blocks k args (f ∷ under) stack kinds is here keeps are =
+    asks_behind (waiting expect.Answer (next (with_stack under s))) here refl
+    (λ v. subst (λ (vs : List Obj). FitsOn objects code (behind s (v ∷ vs) s.blocks s.locals expect.Go)) (drop_under k stack under f is) (called_on (suc k) v stack kinds here keeps are))
+
 -- a value that is shown
 print_fits : (objects : List Payload) (code : Annotated) (s : State) (all : List Kind) (blocks : List BlockNote) (stack : List Obj) (kinds : List Kind) → Here objects code s all blocks PrintExpr
     → takes_one kinds blocks (λ rest. goes_with code s rest blocks) ≡ true → HaveKinds objects stack kinds → FitsLed objects code (print_expr stack s)
@@ -289,6 +312,8 @@ act_fits objects names globals code s kinds blocks BinaryOperation i here operan
 act_fits objects names globals code s kinds blocks CompareOperation i here operand keeps =
     let parts = and_parts (asks_comparison (slice_get comparison_operators i)) (takes_two kinds blocks (λ rest. goes_with code s (kind.Any ∷ rest) blocks)) keeps in
     compare_fits objects code s kinds blocks (asked_comparison (slice_get comparison_operators i)) s.stack kinds here parts.1 here.holds
+act_fits objects names globals code s kinds blocks CallFunctionPositional k here operand keeps =
+    call_fits objects code s kinds blocks k (reverse (take k s.stack)) (drop k s.stack) s.stack kinds refl here keeps here.holds
 act_fits objects names globals code s kinds blocks PrintExpr i here operand keeps = print_fits objects code s kinds blocks s.stack kinds here keeps here.holds
 act_fits objects names globals code s kinds blocks Jump to here operand keeps =
     step_led objects code (jumps to (next s)) (jumps_fit objects code to (next s) (on_label kinds blocks (landed to (next s)) here keeps refl here.goes here.holds here.opened refl))

@@ -1,10 +1,10 @@
 -- A unit leads on from its place, and tells what frames tell so far.
-use Rattle.std.proofs.Common.{◌≡◌, ◌≤◌, ◌-◌, ℕ, suc, List, [], ◌∷◌, Bool, true, false, cond, Some, refl, subst, length, arith}
+use Rattle.std.proofs.Common.{◌≡◌, ◌≤◌, ◌-◌, ℕ, suc, List, [], ◌∷◌, Bool, true, false, cond, Some, refl, subst, length, take, drop, reverse, arith}
 use Rattle.std.specs.Prelude.{Option, None, slice_get, slice_set, nat_le, nat_lt}
 use Rattle.std.proofs.lemmas.Bool.Decides.{nat_tests}
 use Rattle.py_code.specs.declared.unit.CodeUnit.{CodeUnit}
 use Rattle.py_code.specs.declared.instruction.Instruction.{Instruction}
-use Rattle.py_code.specs.declared.instruction.Instruction.TheVariants.{LoadConst, LoadFast, StoreFast, LoadGlobal, Pop, BinaryOperation, CompareOperation, PrintExpr, Jump, JumpIfTrue, JumpIfFalse, SetupLoop, PopBlock, ReturnValue, ReturnConst, ExtendedArg}
+use Rattle.py_code.specs.declared.instruction.Instruction.TheVariants.{LoadConst, LoadFast, StoreFast, LoadGlobal, Pop, BinaryOperation, CompareOperation, CallFunctionPositional, PrintExpr, Jump, JumpIfTrue, JumpIfFalse, SetupLoop, PopBlock, ReturnValue, ReturnConst, ExtendedArg}
 use Rattle.py_code.specs.declared.literal.Literal.{Literal}
 use Rattle.py_code.specs.declared.code.PyCode.{PyCode}
 use Rattle.py_code.specs.Literals.{literals_of}
@@ -19,7 +19,7 @@ use Rattle.py_check.specs.Rules.{is_asked, is_compared}
 use Rattle.py_frame.specs.declared.block.Block.{Block}
 use Rattle.py_frame.specs.declared.input.Expect.{Expect}
 use Rattle.py_frame.specs.declared.input.Expect.TheVariants as expect
-use Rattle.py_frame.specs.Rows.{Setting, State, Step, Goes, Tells, Stuck, Move, Plainly, Loads, Decides, next, landed, with_locals, with_stack, payload_of, or_stuck, loads, set_in, name_of_local, name_of_global, load_fast, store_fast, load_global, pop, asked_if, asked_operator, compared_if, asked_comparison, may_ask, asks_truth, binary_operation, compare_operation, print_expr, jumps, asks_to_jump, pop_block, return_value, act, unit_move, advance, is_decision, unit_decides, decides}
+use Rattle.py_frame.specs.Rows.{Setting, State, Step, Goes, Tells, Stuck, Move, Plainly, Loads, Decides, next, landed, with_locals, with_stack, payload_of, or_stuck, loads, set_in, name_of_local, name_of_global, load_fast, store_fast, load_global, pop, asked_if, asked_operator, compared_if, asked_comparison, may_ask, asks_truth, binary_operation, compare_operation, calls, print_expr, jumps, asks_to_jump, pop_block, return_value, act, unit_move, advance, is_decision, unit_decides, decides}
 use Rattle.py_frame.specs.UnitSteps.{MayLead}
 
 -- an event that a unit tells is a question that frames ask so far, a round or an end; the unit decides by the answers to
@@ -102,6 +102,11 @@ compare_behind : (op : Option ComparisonOperator) (stack : List Obj) (s : State)
 compare_behind None stack s = tt
 compare_behind (Some op) stack s = comparison_behind (is_compared op) op stack s refl
 
+-- a call
+call_behind : (args under : List Obj) (s : State) → IsBehind false s (calls args under s)
+call_behind args [] s = tt
+call_behind args (f ∷ stack) s = (refl, (refl, refl, refl))
+
 -- a value that is shown
 print_behind : (stack : List Obj) (s : State) → IsBehind false s (print_expr stack s)
 print_behind [] s = tt
@@ -139,6 +144,7 @@ act_behind setting LoadGlobal i s = global_behind setting.globals (name_of_globa
 act_behind setting Pop i s = pop_behind s.stack s
 act_behind setting BinaryOperation i s = binary_behind (slice_get binary_operators i) s.stack s
 act_behind setting CompareOperation i s = compare_behind (slice_get comparison_operators i) s.stack s
+act_behind setting CallFunctionPositional k s = call_behind (reverse (take k s.stack)) (drop k s.stack) s
 act_behind setting PrintExpr i s = print_behind s.stack s
 act_behind setting Jump to s = jump_behind to s
 act_behind setting JumpIfTrue to s = ask_behind to s.stack s

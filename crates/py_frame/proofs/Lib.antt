@@ -1,5 +1,7 @@
 -- a run goes over to more objects
 pub mod Growing
+-- parameters of codes
+pub mod SignatureLemmas
 -- runs one behind the other are one run
 pub mod Joining
 -- the numbers of a run name objects

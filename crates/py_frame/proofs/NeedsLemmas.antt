@@ -1,10 +1,11 @@
 -- A frame that fits its note has what its next unit needs.
-use Rattle.std.proofs.Common.{◌≡◌, ℕ, suc, ◌+◌, ◌<◌, ◌≤◌, List, [], ◌∷◌, Bool, true, Some, sym, subst, length, arith}
-use Rattle.std.specs.Prelude.{Option, None, slice_get, nat_lt, ◌&&◌}
+use Rattle.std.proofs.Common.{◌≡◌, ℕ, suc, ◌+◌, ◌<◌, ◌≤◌, List, [], ◌∷◌, Bool, true, Some, sym, subst, length, drop, arith}
+use Rattle.std.specs.Prelude.{Option, None, slice_get, nat_le, nat_lt, ◌&&◌}
 use Rattle.std.proofs.lemmas.Bool.{and_parts}
+use Rattle.std.proofs.lemmas.Bool.Decides.{nat_tests}
 use Rattle.py_code.specs.declared.unit.CodeUnit.{CodeUnit}
 use Rattle.py_code.specs.declared.instruction.Instruction.{Instruction}
-use Rattle.py_code.specs.declared.instruction.Instruction.TheVariants.{LoadConst, LoadFast, StoreFast, LoadGlobal, Pop, BinaryOperation, CompareOperation, PrintExpr, Jump, JumpIfTrue, JumpIfFalse, SetupLoop, PopBlock, ReturnValue, ReturnConst, ExtendedArg}
+use Rattle.py_code.specs.declared.instruction.Instruction.TheVariants.{LoadConst, LoadFast, StoreFast, LoadGlobal, Pop, BinaryOperation, CompareOperation, CallFunctionPositional, PrintExpr, Jump, JumpIfTrue, JumpIfFalse, SetupLoop, PopBlock, ReturnValue, ReturnConst, ExtendedArg}
 use Rattle.py_code.specs.declared.literal.Literal.{Literal}
 use Rattle.py_code.specs.Literals.{literals_of}
 use Rattle.py_code.specs.Operators.{binary_operators, comparison_operators}
@@ -19,7 +20,7 @@ use Rattle.py_check.specs.declared.annotated.Annotated.{Annotated}
 use Rattle.py_check.specs.Constants.{is_loaded, kind_of}
 use Rattle.py_check.specs.Notes.{deepest}
 use Rattle.py_check.specs.Sheet.{sheet_of}
-use Rattle.py_check.specs.Rules.{IsTyped, takes_one, takes_two, asks_operator, asks_comparison, leaves_block, keeps_op, jumps}
+use Rattle.py_check.specs.Rules.{IsTyped, takes_one, takes_two, takes_many, top_level, asks_operator, asks_comparison, leaves_block, keeps_op, jumps}
 use Rattle.py_check.specs.Rules as rules
 use Rattle.py_frame.specs.declared.block.Block.{Block}
 use Rattle.py_frame.specs.declared.input.Expect.TheVariants as expect
@@ -51,6 +52,11 @@ two_kinds [] blocks rest keeps = cc
 two_kinds (k ∷ []) blocks rest keeps = cc
 two_kinds (k ∷ l ∷ kinds) blocks rest keeps = omega arith
 
+many_kinds : (n : ℕ) (kinds : List Kind) (blocks : List BlockNote) (rest : List Kind → Bool) → takes_many n kinds blocks rest ≡ true → n ≤ length kinds
+many_kinds n kinds blocks rest keeps =
+    let is : nat_le n (length kinds) ≡ true = (and_parts _ (nat_le (top_level blocks) (length (drop n kinds))) (and_parts _ (rest (drop n kinds)) keeps).0).0 in
+    grind (arith, nat_tests, is)
+
 one_there : {objects : List Payload} {code : Annotated} {s : State} {kinds : List Kind} {blocks : List BlockNote} {op : Instruction} (rest : List Kind → Bool) → Here objects code s kinds blocks op
     → takes_one kinds blocks rest ≡ true → 0 < length s.stack
 one_there {objects = objects} {s = s} {kinds = kinds} {blocks = blocks} rest here keeps =
@@ -60,6 +66,11 @@ two_there : {objects : List Payload} {code : Annotated} {s : State} {kinds : Lis
     → takes_two kinds blocks rest ≡ true → 1 < length s.stack
 two_there {objects = objects} {s = s} {kinds = kinds} {blocks = blocks} rest here keeps =
     subst (λ (n : ℕ). 1 < n) (sym (kinds_counted objects s.stack kinds here.holds)) (two_kinds kinds blocks rest keeps)
+
+many_there : {objects : List Payload} {code : Annotated} {s : State} {kinds : List Kind} {blocks : List BlockNote} {op : Instruction} (k : ℕ) (rest : List Kind → Bool) → Here objects code s kinds blocks op
+    → takes_many (suc k) kinds blocks rest ≡ true → k < length s.stack
+many_there {objects = objects} {s = s} {kinds = kinds} {blocks = blocks} k rest here keeps =
+    subst (λ (n : ℕ). k < n) (sym (kinds_counted objects s.stack kinds here.holds)) (many_kinds (suc k) kinds blocks rest keeps)
 
 -- there is room where one more value may lie
 room_there : (objects : List Payload) (code : Annotated) (f : Framed) (kinds : List Kind) (blocks : List BlockNote) (k : Kind) (op : Instruction) → Here objects code f.state kinds blocks op
@@ -111,6 +122,7 @@ act_needs objects code f kinds blocks BinaryOperation i here places keeps =
 act_needs objects code f kinds blocks CompareOperation i here places keeps =
     let parts = and_parts (asks_comparison (slice_get comparison_operators i)) (takes_two kinds blocks (λ rest. goes_with code f.state (kind.Any ∷ rest) blocks)) keeps in
     (parts.0, two_there (λ rest. goes_with code f.state (kind.Any ∷ rest) blocks) here parts.1)
+act_needs objects code f kinds blocks CallFunctionPositional k here places keeps = many_there k (λ rest. goes_with code f.state (kind.Any ∷ rest) blocks) here keeps
 act_needs objects code f kinds blocks PrintExpr i here places keeps = one_there (λ rest. goes_with code f.state rest blocks) here keeps
 act_needs objects code f kinds blocks Jump to here places keeps = tt
 act_needs objects code f kinds blocks JumpIfTrue to here places keeps = one_there (λ rest. jumps (sheet_of code) to rest blocks && goes_with code f.state rest blocks) here keeps

@@ -1,10 +1,11 @@
 -- Where all numbers that go into a frame name objects, so do all that come out.
-use Rattle.std.proofs.Common.{◌≡◌, ◌<◌, ◌-◌, ℕ, zero, suc, List, [], ◌∷◌, Bool, true, false, not, cond, Some, refl, sym, subst, length, drop}
+use Rattle.std.proofs.Common.{◌≡◌, ◌<◌, ◌-◌, ◌++◌, ℕ, zero, suc, List, [], ◌∷◌, Bool, true, false, not, cond, Some, refl, sym, subst, length, take, drop, reverse, append-nil}
+use Rattle.std.proofs.lemmas.List.{reverse-append}
 use Rattle.std.specs.Prelude.{Option, None, slice_get, slice_set, nat_le, nat_lt}
 use Rattle.std.proofs.lemmas.Option.{slice_get_within}
 use Rattle.py_code.specs.declared.unit.CodeUnit.{CodeUnit}
 use Rattle.py_code.specs.declared.instruction.Instruction.{Instruction}
-use Rattle.py_code.specs.declared.instruction.Instruction.TheVariants.{LoadConst, LoadFast, StoreFast, LoadGlobal, Pop, BinaryOperation, CompareOperation, PrintExpr, Jump, JumpIfTrue, JumpIfFalse, SetupLoop, PopBlock, ReturnValue, ReturnConst, ExtendedArg}
+use Rattle.py_code.specs.declared.instruction.Instruction.TheVariants.{LoadConst, LoadFast, StoreFast, LoadGlobal, Pop, BinaryOperation, CompareOperation, CallFunctionPositional, PrintExpr, Jump, JumpIfTrue, JumpIfFalse, SetupLoop, PopBlock, ReturnValue, ReturnConst, ExtendedArg}
 use Rattle.py_code.specs.declared.literal.Literal.{Literal}
 use Rattle.py_code.specs.Literals.{literals_of}
 use Rattle.py_code.specs.Operators.{binary_operators, comparison_operators}
@@ -21,7 +22,7 @@ use Rattle.py_code.specs.declared.code.PyCode.{PyCode}
 use Rattle.py_frame.specs.declared.block.Block.{Block}
 use Rattle.py_frame.specs.declared.input.Expect.{Expect}
 use Rattle.py_frame.specs.declared.input.Expect.TheVariants as expect
-use Rattle.py_frame.specs.Rows.{Setting, State, Step, Goes, Tells, Stuck, Move, Plainly, Loads, Decides, next, landed, with_stack, with_locals, payload_of, or_stuck, loads, set_in, name_of_local, name_of_global, load_fast, store_fast, load_global, pop, asked_operator, asked_comparison, binary_operation, compare_operation, print_expr, jumps, asks_to_jump, pop_block, unwound_stack, return_value, act, unit_move, advance, jumps_if, answered, unit_answered, receive}
+use Rattle.py_frame.specs.Rows.{Setting, State, Step, Goes, Tells, Stuck, Move, Plainly, Loads, Decides, next, landed, with_stack, with_locals, payload_of, or_stuck, loads, set_in, name_of_local, name_of_global, load_fast, store_fast, load_global, pop, asked_operator, asked_comparison, binary_operation, compare_operation, calls, print_expr, jumps, asks_to_jump, pop_block, unwound_stack, return_value, act, unit_move, advance, jumps_if, answered, unit_answered, receive}
 use Rattle.py_frame.specs.RunOfRows.{Behind, ByStep, ByMove, Steps, Reaches, filled, started}
 use Rattle.py_frame.specs.Laws.{told_numbers, HearsBelow, TellsBelow, RunsStayBelow}
 
@@ -147,6 +148,29 @@ drop_below n zero stack below = below
 drop_below n (suc k) [] below = tt
 drop_below n (suc k) (v ∷ stack) below = drop_below n k stack below.1
 
+-- the upper ones
+take_below : (n k : ℕ) (stack : List Obj) → AllBelow n (numbers stack) → AllBelow n (numbers (take k stack))
+take_below n zero stack below = tt
+take_below n (suc k) [] below = tt
+take_below n (suc k) (v ∷ stack) below = (below.0, take_below n k stack below.1)
+
+-- one more value behind others
+last_below : (n : ℕ) (vs : List Obj) (v : Obj) → AllBelow n (numbers vs) → v.number < n → AllBelow n (numbers (vs ++ v ∷ []))
+last_below n [] v below low = (low, tt)
+last_below n (w ∷ vs) v below low = (below.0, last_below n vs v below.1 low)
+
+-- values the other way round
+reverse_below : (n : ℕ) (vs : List Obj) → AllBelow n (numbers vs) → AllBelow n (numbers (reverse vs))
+reverse_below n [] below = tt
+reverse_below n (v ∷ vs) below =
+    subst (λ (ws : List Obj). AllBelow n (numbers ws)) (sym (reverse-append (v ∷ []) vs)) (last_below n (reverse vs) v (reverse_below n vs below.1) below.0)
+
+-- a call
+call_below : (n : ℕ) (args under : List Obj) (s : State) → HoldsBelow n s → AllBelow n (numbers args) → AllBelow n (numbers under) → StepBelow n (calls args under s)
+call_below n args [] s holds given below = tt
+call_below n args (f ∷ stack) s holds given below =
+    ((below.0, subst (AllBelow n) (sym (append-nil (numbers args))) given), record { in_stack = below.1; in_locals = holds.in_locals })
+
 -- a block that ends
 block_below : (n : ℕ) (blocks : List Block) (s : State) → HoldsBelow n s → StepBelow n (pop_block blocks s)
 block_below n [] s holds = tt
@@ -172,6 +196,8 @@ act_below setting LoadGlobal i n s within holds = global_below n setting.globals
 act_below setting Pop i n s within holds = pop_below n s.stack s holds holds.in_stack
 act_below setting BinaryOperation i n s within holds = binary_below n (asked_operator (slice_get binary_operators i)) s.stack s holds holds.in_stack
 act_below setting CompareOperation i n s within holds = compare_below n (asked_comparison (slice_get comparison_operators i)) s.stack s holds holds.in_stack
+act_below setting CallFunctionPositional k n s within holds =
+    call_below n (reverse (take k s.stack)) (drop k s.stack) s holds (reverse_below n (take k s.stack) (take_below n k s.stack holds.in_stack)) (drop_below n k s.stack holds.in_stack)
 act_below setting PrintExpr i n s within holds = print_below n s.stack s holds holds.in_stack
 act_below setting Jump to n s within holds = jump_below n to (next s) (record { in_stack = holds.in_stack; in_locals = holds.in_locals })
 act_below setting JumpIfTrue to n s within holds = ask_below n to s.stack s holds holds.in_stack
@@ -203,6 +229,7 @@ answered_below n LoadFast v s below holds = record { in_stack = (below, holds.in
 answered_below n LoadGlobal v s below holds = record { in_stack = (below, holds.in_stack); in_locals = holds.in_locals }
 answered_below n BinaryOperation v s below holds = record { in_stack = (below, holds.in_stack); in_locals = holds.in_locals }
 answered_below n CompareOperation v s below holds = record { in_stack = (below, holds.in_stack); in_locals = holds.in_locals }
+answered_below n CallFunctionPositional v s below holds = record { in_stack = (below, holds.in_stack); in_locals = holds.in_locals }
 answered_below n PrintExpr v s below holds = holds
 answered_below n JumpIfTrue v s below holds = λ b. decision_below n b s holds
 answered_below n JumpIfFalse v s below holds = λ b. decision_below n (not b) s holds

@@ -4,6 +4,8 @@ pub mod Rows
 pub mod RunOfRows
 -- how a frame fits the notes of its code
 pub mod Fitting
+-- the parameters of a code
+pub mod Signature
 -- what a frame's step says
 pub mod Steps
 -- what a unit did, as its row

@@ -1,7 +1,7 @@
 -- What units of code do, an equation an instruction.
-use Rattle.std.specs.Prelude.{ℕ, suc, ◌-◌, Option, Some, None, List, [], ◌∷◌, slice_get, slice_set, length, nat_le, nat_lt, Bool, true, false, not, if◌then◌else◌, option_map, chars}
+use Rattle.std.specs.Prelude.{ℕ, suc, ◌-◌, Option, Some, None, List, [], ◌∷◌, slice_get, slice_set, length, take, drop, reverse, nat_le, nat_lt, Bool, true, false, not, if◌then◌else◌, option_map, chars}
 use Rattle.py_code.specs.declared.instruction.Instruction.{Instruction}
-use Rattle.py_code.specs.declared.instruction.Instruction.TheVariants.{LoadConst, LoadFast, StoreFast, LoadGlobal, Pop, BinaryOperation, CompareOperation, PrintExpr, Jump, JumpIfTrue, JumpIfFalse, SetupLoop, PopBlock, ReturnValue, ReturnConst, ExtendedArg}
+use Rattle.py_code.specs.declared.instruction.Instruction.TheVariants.{LoadConst, LoadFast, StoreFast, LoadGlobal, Pop, BinaryOperation, CompareOperation, CallFunctionPositional, PrintExpr, Jump, JumpIfTrue, JumpIfFalse, SetupLoop, PopBlock, ReturnValue, ReturnConst, ExtendedArg}
 use Rattle.py_code.specs.declared.unit.CodeUnit.{CodeUnit}
 use Rattle.py_code.specs.declared.literal.Literal.{Literal, None as NoneLiteral, Bool as BoolLiteral, Int as IntLiteral, Str as StrLiteral, Tuple' as TupleLiteral, Code as CodeLiteral, Builtin as BuiltinLiteral}
 use Rattle.py_code.specs.declared.operator.BinaryOperator.{BinaryOperator}
@@ -14,7 +14,9 @@ use Rattle.py_code.specs.Units.{with_byte}
 use Rattle.py_objects.specs.declared.payload.Payload.{Payload}
 use Rattle.py_objects.specs.declared.payload.Payload.TheVariants as payload
 use Rattle.py_objects.specs.declared.request.Request.{Request}
-use Rattle.py_objects.specs.declared.request.Request.TheVariants.{Binary, Compare, Global, Show, Truth, Unbound}
+use Rattle.py_objects.specs.declared.request.Request.TheVariants.{Binary, Call, Compare, Global, Show, Truth, Unbound}
+use Rattle.py_objects.specs.declared.request.Keywords.{Keywords}
+use Rattle.py_objects.specs.declared.request.Keywords.TheVariants as keywords
 use Rattle.py_objects.specs.declared.event.GotAnswer.{GotAnswer}
 use Rattle.py_objects.specs.declared.event.GotAnswer.TheVariants as got
 use Rattle.py_objects.specs.declared.event.Ending.TheVariants as ending
@@ -168,10 +170,26 @@ compare_operation (Some op) [] s = Stuck
 compare_operation (Some op) (b ∷ []) s = Stuck
 compare_operation (Some op) (b ∷ a ∷ stack) s = asks (Compare op a b) (with_stack stack s)
 
--- the questions that frames ask so far
+-- the callee lies under its arguments
+abbrev pub calls : List Obj → List Obj → State → Step
+calls args [] s = Stuck
+calls args (f ∷ stack) s = asks (Call f args keywords.None) (with_stack stack s)
+
+-- a call with so many arguments, the last of which is the top
+abbrev pub call_function : ℕ → List Obj → State → Step
+call_function k stack s = calls (reverse (take k stack)) (drop k stack) s
+
+-- whether there are no keyword arguments
+abbrev pub is_positional : Keywords → Bool
+is_positional keywords.None = true
+is_positional (keywords.Names names) = false
+is_positional (keywords.Dict d) = false
+
+-- the questions that frames ask so far; a call is asked without keyword arguments
 abbrev pub may_ask : Request → Bool
 may_ask (Binary op a b) = is_asked op
 may_ask (Compare op a b) = is_compared op
+may_ask (Call f vs named) = is_positional named
 may_ask (Global globals x) = true
 may_ask (Show v) = true
 may_ask (Truth v) = true
@@ -232,6 +250,7 @@ act setting LoadGlobal i s = Plainly (load_global setting.globals (name_of_globa
 act setting Pop i s = Plainly (pop s.stack s)
 act setting BinaryOperation i s = Plainly (binary_operation (asked_operator (slice_get binary_operators i)) s.stack s)
 act setting CompareOperation i s = Plainly (compare_operation (asked_comparison (slice_get comparison_operators i)) s.stack s)
+act setting CallFunctionPositional k s = Plainly (call_function k s.stack s)
 act setting PrintExpr i s = Plainly (print_expr s.stack s)
 act setting Jump to s = Plainly (jumps to (next s))
 act setting JumpIfTrue to s = Plainly (asks_to_jump to s.stack s)
@@ -261,6 +280,7 @@ answered LoadFast v s = Plainly (Goes (pushed v s))
 answered LoadGlobal v s = Plainly (Goes (pushed v s))
 answered BinaryOperation v s = Plainly (Goes (pushed v s))
 answered CompareOperation v s = Plainly (Goes (pushed v s))
+answered CallFunctionPositional v s = Plainly (Goes (pushed v s))
 answered PrintExpr v s = Plainly (Goes s)
 answered JumpIfTrue v s = Decides v (λ b. jumps_if b s)
 answered JumpIfFalse v s = Decides v (λ b. jumps_if (not b) s)

@@ -2,7 +2,7 @@
 use Rattle.std.specs.Prelude.{ℕ, ◌+◌, ◌<◌, ◌≡◌, Bool, true, Option, Some, None, List, [], ◌∷◌, slice_get, length}
 use Rattle.py_code.specs.declared.code.PyCode.{PyCode}
 use Rattle.py_code.specs.declared.instruction.Instruction.{Instruction}
-use Rattle.py_code.specs.declared.instruction.Instruction.TheVariants.{LoadConst, LoadFast, StoreFast, LoadGlobal, Pop, BinaryOperation, CompareOperation, PrintExpr, Jump, JumpIfTrue, JumpIfFalse, SetupLoop, PopBlock, ReturnValue, ReturnConst, ExtendedArg}
+use Rattle.py_code.specs.declared.instruction.Instruction.TheVariants.{LoadConst, LoadFast, StoreFast, LoadGlobal, Pop, BinaryOperation, CompareOperation, CallFunctionPositional, PrintExpr, Jump, JumpIfTrue, JumpIfFalse, SetupLoop, PopBlock, ReturnValue, ReturnConst, ExtendedArg}
 use Rattle.py_code.specs.declared.unit.CodeUnit.{CodeUnit}
 use Rattle.py_code.specs.declared.literal.Literal.{Literal}
 use Rattle.py_code.specs.Literals.{literals_of}
@@ -36,6 +36,7 @@ Needs code LoadGlobal i f = i < length code.code.names.items
 Needs code Pop i f = 0 < length f.state.stack
 Needs code BinaryOperation i f = (asks_operator (slice_get binary_operators i) ≡ true) × (1 < length f.state.stack)
 Needs code CompareOperation i f = (asks_comparison (slice_get comparison_operators i) ≡ true) × (1 < length f.state.stack)
+Needs code CallFunctionPositional k f = k < length f.state.stack
 Needs code PrintExpr i f = 0 < length f.state.stack
 Needs code Jump to f = Unit {0}
 Needs code JumpIfTrue to f = 0 < length f.state.stack
@@ -58,6 +59,7 @@ Takes objects LoadFast v f = 0 < f.room
 Takes objects LoadGlobal v f = 0 < f.room
 Takes objects BinaryOperation v f = 0 < f.room
 Takes objects CompareOperation v f = 0 < f.room
+Takes objects CallFunctionPositional v f = 0 < f.room
 Takes objects PrintExpr v f = Unit {0}
 Takes objects JumpIfTrue v f = (b : Bool) × HasPayload objects v (payload.Bool b)
 Takes objects JumpIfFalse v f = (b : Bool) × HasPayload objects v (payload.Bool b)

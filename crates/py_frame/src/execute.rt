@@ -83,6 +83,7 @@ impl<S: ValueStack + Drop> Frame<S> {
             Instruction::Pop => Ok(self.pop_top()),
             Instruction::BinaryOperation => Ok(self.binary_operation(arg)),
             Instruction::CompareOperation => Ok(self.compare_operation(arg)),
+            Instruction::CallFunctionPositional => self.call_function(alloc, arg as usize),
             Instruction::PrintExpr => Ok(self.print_expr()),
             Instruction::Jump => Ok(self.jump(arg)),
             Instruction::JumpIfTrue => Ok(self.asks_to_jump(arg)),

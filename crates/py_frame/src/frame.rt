@@ -1,6 +1,6 @@
 //! A frame: a running code's place, stack and locals.
 
-ghost use Rattle.std.specs.Prelude.{◌≡◌, ◌+◌, ◌-◌, ◌^◌, ◌<◌, ◌≤◌, [], ◌∷◌, length, slice_get, slice_set, Some, IfOk};
+ghost use Rattle.std.specs.Prelude.{◌≡◌, ◌+◌, ◌-◌, ◌^◌, ◌<◌, ◌≤◌, [], ◌∷◌, length, take, drop, reverse, slice_get, slice_set, Some, IfOk, OnOk, OnErr};
 ghost use Rattle.py_check.specs.Notes.{deepest};
 ghost use Rattle.py_stack.specs.Stacks.{bottom};
 ghost use Rattle.py_frame.specs.Rows.{landed, next, pushed, set_in, unwound, waiting, with_blocks, with_locals, with_prefix, with_stack};
@@ -13,7 +13,7 @@ use crate::filled::Filled;
 use crate::input::Expect;
 use py_check::CheckedCode;
 use py_code::{NoMemory, OpArg, OpArgState};
-use py_objects::{PyObjectRef, Scope};
+use py_objects::{ObjList, PyObjectRef, Scope};
 use py_stack::ValueStack;
 use std::alloc::Global;
 use std::marker::Model;
@@ -202,6 +202,18 @@ impl<S: ValueStack + Drop> Frame<S> {
     {
         let level = level.min(self.stack.len());
         self.stack.truncate(level);
+    }
+
+    /// Takes the top `count` values off the stack and hands them over, the lowest of them first.
+    pub(crate) fn pop_many(&mut self, alloc: Global, count: usize) -> Result<ObjList, NoMemory>
+        requires { count ≤ length self.old.state.stack }
+        ensures values { IfOk result (λ values. values ≡ reverse (take count self.old.state.stack)) }
+        ensures frame { OnOk result (self.new ≡ record self.old { state = with_stack (drop count self.old.state.stack) self.old.state; room = self.new.room }) }
+        ensures room { length self.new.state.stack + self.new.room ≡ length self.old.state.stack + self.old.room }
+        ensures err { OnErr result (self.new ≡ self.old) }
+    {
+        let from = self.stack.len() - count;
+        self.stack.drain(alloc, from)
     }
 
     /// How many values lie on the stack.

@@ -2,6 +2,7 @@
 #![tactic(auto)]
 
 mod block;
+mod calls;
 mod constants;
 mod data;
 mod execute;

@@ -36,7 +36,8 @@ impl<S: ValueStack + Drop> Frame<S> {
             Instruction::LoadFast
             | Instruction::LoadGlobal
             | Instruction::BinaryOperation
-            | Instruction::CompareOperation => {
+            | Instruction::CompareOperation
+            | Instruction::CallFunctionPositional => {
                 self.push(value);
                 UnitStep::Goes
             }
