@@ -1,17 +1,24 @@
 -- What may follow where a run is cut or ends inside of a statement.
-use Rattle.std.proofs.Common.{◌≡◌, ℕ, zero, suc, List, [], refl, inl}
+use Rattle.std.proofs.Common.{◌≡◌, ◌≤◌, ℕ, zero, suc, List, [], ◌∷◌, true, refl, ap, length, inl, arith}
 use Rattle.std.specs.Prelude.{Option, None, Some}
+use Rattle.py_code.specs.declared.operator.BinaryOperator.TheVariants as binary
+use Rattle.py_code.specs.declared.operator.ComparisonOperator.TheVariants as comparison
 use Rattle.py_objects.specs.declared.refs.PyBaseExceptionRef.{PyBaseExceptionRef}
+use Rattle.py_objects.specs.declared.request.Request.{Request}
+use Rattle.py_objects.specs.declared.request.Request.TheVariants.{Binary, Compare}
 use Rattle.py_objects.specs.declared.event.Ending.TheVariants as ending
 use Rattle.py_objects.specs.Objects.{Obj}
 use Rattle.py_objects.specs.Own.{Own}
 use Rattle.py_body.specs.declared.atom.Atom.{Atom}
 use Rattle.py_body.specs.declared.atom.Atom.TheVariants as atom
+use Rattle.py_body.specs.declared.atom.Operator.{Operator}
+use Rattle.py_body.specs.declared.atom.Operator.TheVariants as operator
 use Rattle.py_body.specs.Tree.{Name, Suite, nothing, first}
-use Rattle.py_body.specs.Binding.{Env, find_local}
+use Rattle.py_body.specs.Binding.{Env, find_local, takes_count}
 use Rattle.py_body.specs.Scene.{Scene}
-use Rattle.py_body.specs.Outcome.{Normal, Returns, Raises, Cut, After, Use, Named, Loads, Runner, On_normal, On_turn, Loops, RunsSuite}
+use Rattle.py_body.specs.Outcome.{Normal, Returns, Raises, Cut, After, Use, Named, Loads, LoadsAll, of_two, of_call, request_of, Requests_if, Runner, On_normal, On_turn, Loops, RunsSuite}
 use Rattle.py_body.specs.Trace.{Ended, EndsBy}
+use Rattle.py_body.proofs.Takes.{is_two, takes_call}
 
 -- what follows may be cut, also at its front, and a return or a raise ends it
 pub record Closes (K : After) : Type 0 where
@@ -66,3 +73,31 @@ cut_load scene line (atom.Bool b) h env K next closes stops = inl (refl, closes.
 cut_load scene line (atom.Int n) h env K next closes stops = inl (refl, closes.cut env)
 cut_load scene line (atom.Str s) h env K next closes stops = inl (refl, closes.cut env)
 cut_load scene line (atom.Name x) h env K next closes stops = cut_name scene line (find_local x env) x h env K next closes stops
+
+-- so are the loads of atoms
+pub cut_loads : (scene : Scene) (line : ℕ) (atoms : List Atom) (h : Option PyBaseExceptionRef) (env : Env) (K : After) (next : List Obj → List Own → Type 0) → Closes K
+    → ((vs : List Obj) → length vs ≡ length atoms → next vs []) → LoadsAll scene line env h atoms [] K next
+cut_loads scene line [] h env K next closes stops = stops [] refl
+cut_loads scene line (a ∷ atoms) h env K next closes stops =
+    cut_load scene line a h env K _ closes (λ v. cut_loads scene line atoms h env K (λ vs. next (v ∷ vs)) closes (λ vs same. stops (v ∷ vs) (ap suc same)))
+
+-- an operator that tells nothing is cut
+cut_two : (scene : Scene) (line : ℕ) (r : Obj → Obj → Request) (vs : List Obj) (h : Option PyBaseExceptionRef) (env : Env) (K : After) (next : Obj → List Own → Type 0) → Closes K → length vs ≡ 2
+    → Requests_if scene line (of_two r vs) h [] (Use env K next)
+cut_two scene line r [] h env K next closes two = absurd (omega (arith, two))
+cut_two scene line r (a ∷ []) h env K next closes two = absurd (omega (arith, two))
+cut_two scene line r (a ∷ b ∷ []) h env K next closes two = inl (refl, closes.cut env)
+cut_two scene line r (a ∷ b ∷ c ∷ vs) h env K next closes two = absurd (omega (arith, two))
+
+cut_call : (scene : Scene) (line : ℕ) (vs : List Obj) (h : Option PyBaseExceptionRef) (env : Env) (K : After) (next : Obj → List Own → Type 0) → Closes K → 1 ≤ length vs
+    → Requests_if scene line (of_call vs) h [] (Use env K next)
+cut_call scene line [] h env K next closes some = absurd (omega (arith, some))
+cut_call scene line (f ∷ vs) h env K next closes some = inl (refl, closes.cut env)
+
+pub cut_operator : (scene : Scene) (line : ℕ) (op : Operator) (vs : List Obj) (h : Option PyBaseExceptionRef) (env : Env) (K : After) (next : Obj → List Own → Type 0) → Closes K
+    → takes_count op (length vs) ≡ true → Requests_if scene line (request_of op vs) h [] (Use env K next)
+cut_operator scene line operator.Add vs h env K next closes takes = cut_two scene line (Binary binary.Add) vs h env K next closes (is_two (length vs) takes)
+cut_operator scene line operator.Sub vs h env K next closes takes = cut_two scene line (Binary binary.Subtract) vs h env K next closes (is_two (length vs) takes)
+cut_operator scene line operator.Lt vs h env K next closes takes = cut_two scene line (Compare comparison.Less) vs h env K next closes (is_two (length vs) takes)
+cut_operator scene line operator.Eq vs h env K next closes takes = cut_two scene line (Compare comparison.Equal) vs h env K next closes (is_two (length vs) takes)
+cut_operator scene line operator.Call vs h env K next closes takes = cut_call scene line vs h env K next closes (takes_call (length vs) takes).0

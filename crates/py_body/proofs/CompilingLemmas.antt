@@ -1,5 +1,5 @@
 -- What is emitted for a form.
-use Rattle.std.proofs.Common.{◌≡◌, ◌<◌, ◌≤◌, ◌+◌, ◌*◌, ◌^◌, ℕ, suc, Some, List, [], ◌∷◌, ◌++◌, refl, sym, ap, ◌∙◌, subst, length, take, get_or, arith, length-append, append-nil}
+use Rattle.std.proofs.Common.{◌≡◌, ◌<◌, ◌≤◌, ◌+◌, ◌*◌, ◌^◌, ℕ, suc, Some, List, [], ◌∷◌, ◌++◌, refl, sym, ap, ◌∙◌, subst, length, take, get_or, true, arith, length-append, append-nil}
 use Rattle.std.specs.Prelude.{Option}
 use Rattle.std.proofs.lemmas.List.{take_more}
 use Rattle.py_code.specs.declared.instruction.Instruction.{Instruction}
@@ -9,9 +9,8 @@ use Rattle.py_code.specs.declared.unit.CodeUnit.{CodeUnit}
 use Rattle.py_check.specs.Operands.{prefixes}
 use Rattle.py_body.specs.declared.atom.Atom.{Atom}
 use Rattle.py_body.specs.declared.atom.Operator.{Operator}
-use Rattle.py_body.specs.declared.atom.Operator.TheVariants as operator
 use Rattle.py_body.specs.Tree.{Name, Form, assign, operate, show, give, pass, branch, choice, loop, Suite, nothing, first, add, Tree}
-use Rattle.py_body.specs.Binding.{IsCompilable, arity_of, locals_of, statements, statements_in}
+use Rattle.py_body.specs.Binding.{IsCompilable, takes_count, locals_of, statements, statements_in}
 use Rattle.py_body.specs.Code.{Parts, Stands, StandsConst, LaidAtom, LaidAtoms, LaidOperator, LaidTarget, LaidForm, LaidSuite}
 use Rattle.py_body.specs.Emitting.{IsMatched, HasRoom, put, label_units, relabelled, Puts, Holds, Emits, EmitsConst, EmitsAtom, EmitsAtoms, EmitsOperation, EmitsTarget, EmitsTest, WhereFits, most_units, EmitsForm, EmitsSuite, IsEmitted}
 use Rattle.py_body.proofs.Bound.{length-bound_by, statements-add}
@@ -19,6 +18,7 @@ use Rattle.py_body.proofs.EmittingLemmas.{Then, StandsJump, joined, reworded, no
 use Rattle.py_body.proofs.Labels.{length-relabelled}
 use Rattle.py_body.proofs.Placed.{Continues-refl}
 use Rattle.py_body.proofs.Places.{stands_bound}
+use Rattle.py_body.proofs.Takes.{takes_few}
 
 -- ---- what stands where a part was emitted
 
@@ -34,11 +34,11 @@ load line a whole at next = LaidAtom whole line a at next
 abbrev loads : ℕ → List Atom → Piece
 loads line atoms whole at next = LaidAtoms whole line atoms at next
 
-abbrev ask : ℕ → Operator → Piece
-ask line op whole at next = LaidOperator whole line at op next
+abbrev ask : ℕ → Operator → ℕ → Piece
+ask line op count whole at next = LaidOperator whole line at op count next
 
 abbrev operation : ℕ → Operator → List Atom → Piece
-operation line op atoms whole at next = (asks : ℕ) × LaidAtoms whole line atoms at asks × LaidOperator whole line asks op next
+operation line op atoms whole at next = (asks : ℕ) × LaidAtoms whole line atoms at asks × LaidOperator whole line asks op (length atoms) next
 
 abbrev target : ℕ → Option Name → Piece
 target line x whole at next = LaidTarget whole line at x next
@@ -96,44 +96,38 @@ atoms_more old mid new atoms i a line low is so_far one =
 
 pub assignment_emitted : (width : ℕ) (old mid new : Parts) (x : Name) (a : Atom) (line : ℕ) → EmitsAtom old mid a line → EmitsTarget mid new (Some x) line → EmitsForm width old new (assign x a) line
 assignment_emitted width old mid new x a line loaded stored =
-    reworded old new (4 + 4) 24 (Then (length mid.units) (load line a) (target line (Some x))) (form width line (assign x a)) (omega arith)
+    reworded old new (4 + 4) most_units (Then (length mid.units) (load line a) (target line (Some x))) (form width line (assign x a)) (omega arith)
     (joined old mid new 4 4 (load line a) (target line (Some x)) loaded stored)
     (λ whole same (low, one, other) fits. (length mid.units, one, other))
 
-pub operation_emitted : (old mid new : Parts) (op : Operator) (atoms : List Atom) (line : ℕ) → EmitsAtoms old mid atoms line → Emits mid new 4 (λ whole at next. LaidOperator whole line at op next)
+pub operation_emitted : (old mid new : Parts) (op : Operator) (atoms : List Atom) (line : ℕ) → EmitsAtoms old mid atoms line → Emits mid new 4 (λ whole at next. LaidOperator whole line at op (length atoms) next)
     → EmitsOperation old new op atoms line
 operation_emitted old mid new op atoms line loaded asked =
-    reworded old new (4 * length atoms + 4) (4 * length atoms + 4) (Then (length mid.units) (loads line atoms) (ask line op)) (operation line op atoms) (omega arith)
-    (joined old mid new (4 * length atoms) 4 (loads line atoms) (ask line op) loaded asked)
+    reworded old new (4 * length atoms + 4) (4 * length atoms + 4) (Then (length mid.units) (loads line atoms) (ask line op (length atoms))) (operation line op atoms) (omega arith)
+    (joined old mid new (4 * length atoms) 4 (loads line atoms) (ask line op (length atoms)) loaded asked)
     (λ whole same (low, front, last). (length mid.units, front, last))
 
-arity_is_two : (op : Operator) → arity_of op ≡ 2
-arity_is_two operator.Add = refl
-arity_is_two operator.Sub = refl
-arity_is_two operator.Lt = refl
-arity_is_two operator.Eq = refl
-
-pub operate_emitted : (width : ℕ) (old mid new : Parts) (x : Option Name) (op : Operator) (atoms : List Atom) (line : ℕ) → length atoms ≡ arity_of op → EmitsOperation old mid op atoms line
+pub operate_emitted : (width : ℕ) (old mid new : Parts) (x : Option Name) (op : Operator) (atoms : List Atom) (line : ℕ) → takes_count op (length atoms) ≡ true → EmitsOperation old mid op atoms line
     → EmitsTarget mid new x line → EmitsForm width old new (operate x op atoms) line
-operate_emitted width old mid new x op atoms line arity asked stored =
-    reworded old new (4 * length atoms + 4 + 4) 24 (Then (length mid.units) (operation line op atoms) (target line x)) (form width line (operate x op atoms)) (omega (arith, arity, arity_is_two op))
+operate_emitted width old mid new x op atoms line takes asked stored =
+    reworded old new (4 * length atoms + 4 + 4) most_units (Then (length mid.units) (operation line op atoms) (target line x)) (form width line (operate x op atoms)) (let few = takes_few op (length atoms) takes in omega (arith, few))
     (joined old mid new (4 * length atoms + 4) 4 (operation line op atoms) (target line x) asked stored)
     (λ whole same (low, (k, front, last), store) fits. (k, length mid.units, front, last, store))
 
 pub show_emitted : (width : ℕ) (old mid new : Parts) (a : Atom) (line : ℕ) → EmitsAtom old mid a line → Puts mid new PrintExpr 0 line → EmitsForm width old new (show a) line
 show_emitted width old mid new a line loaded puts =
-    reworded old new (4 + 4) 24 (Then (length mid.units) (load line a) (unit line PrintExpr 0)) (form width line (show a)) (omega arith)
+    reworded old new (4 + 4) most_units (Then (length mid.units) (load line a) (unit line PrintExpr 0)) (form width line (show a)) (omega arith)
     (joined old mid new 4 4 (load line a) (unit line PrintExpr 0) loaded (unit_emitted mid new PrintExpr 0 line loaded.matched puts))
     (λ whole same (low, one, other) fits. (length mid.units, one, other))
 
 pub return_emitted : (width : ℕ) (old mid new : Parts) (a : Atom) (line : ℕ) → EmitsAtom old mid a line → Puts mid new ReturnValue 0 line → EmitsForm width old new (give a) line
 return_emitted width old mid new a line loaded puts =
-    reworded old new (4 + 4) 24 (Then (length mid.units) (load line a) (unit line ReturnValue 0)) (form width line (give a)) (omega arith)
+    reworded old new (4 + 4) most_units (Then (length mid.units) (load line a) (unit line ReturnValue 0)) (form width line (give a)) (omega arith)
     (joined old mid new 4 4 (load line a) (unit line ReturnValue 0) loaded (unit_emitted mid new ReturnValue 0 line loaded.matched puts))
     (λ whole same (low, one, other) fits. (length mid.units, one, other))
 
 pub pass_emitted : (width : ℕ) (old : Parts) (line : ℕ) → IsMatched old → EmitsForm width old old pass line
-pass_emitted width old line matched = none_emitted old 24 (form width line pass) matched (λ whole fits. refl)
+pass_emitted width old line matched = none_emitted old most_units (form width line pass) matched (λ whole fits. refl)
 
 -- ---- tests
 

@@ -4,14 +4,16 @@ use Rattle.py_code.specs.declared.code.PyCode.{PyCode}
 use Rattle.py_code.specs.declared.code.CodeObject.{CodeObject}
 use Rattle.py_code.specs.Literals.{literals_of}
 use Rattle.py_check.specs.declared.annotated.Annotated.{Annotated}
+use Rattle.py_frame.specs.Signature.{params_of}
+use Rattle.py_frame.proofs.SignatureLemmas.{params_stay}
 use Rattle.py_body.specs.Tree.{Name, Tree}
 use Rattle.py_body.specs.Binding.{IsCompilable, locals_of}
 use Rattle.py_body.specs.Code.{Parts, parts_with, IsLaid, IsPlain}
 use Rattle.py_body.specs.Depths.{notes_of}
 use Rattle.py_body.specs.Emitting.{IsEmitted}
 use Rattle.py_body.specs.Fits.{Fits}
-use Rattle.py_body.specs.Naming.{IsNamed}
-use Rattle.py_body.proofs.NamingLemmas.{NamesAll-below, NamesAll-grown}
+use Rattle.py_body.specs.Naming.{Continues, IsNamed}
+use Rattle.py_body.proofs.NamingLemmas.{NamesAll-below, NamesAll-grown, params_named}
 use Rattle.py_body.proofs.Tracing.{traces_laid}
 use Rattle.py_body.proofs.TypedCode.{typed_code}
 
@@ -43,6 +45,7 @@ pub fits_emitted : (table : List (List ℕ)) (globals : List Name) (code : Annot
     → code.notes ≡ notes_of code.code.code.instructions.items (length code.code.code.instructions.items) → IsNamed table globals code.code t → Fits table code t
 fits_emitted table globals code t compilable emitted laid plain noted named = record {
   arity = laid.arity;
+  params = params_named table globals code.code t laid.arity named;
   sound = record {
     typed = typed_code code t globals compilable emitted laid plain noted;
     named = record {
@@ -53,3 +56,7 @@ fits_emitted table globals code t compilable emitted laid plain noted named = re
   traces = λ grown dict objects args ts grows same run.
       traces_laid globals code.code t compilable laid grown dict (NamesAll-grown table grown _ globals grows named.names) (NamesAll-grown table grown _ (locals_of t) grows named.varnames) objects args ts same run;
 }
+
+-- the parameters stay where the table goes on
+pub params_continue : (table longer : List (List ℕ)) (code : Annotated) (t : Tree) → Continues table longer → Fits table code t → params_of longer code.code ≡ t.params
+params_continue table longer code t (more, is) fits = ap (λ (names : List (List ℕ)). params_of names code.code) is ∙ params_stay table more code.code fits.sound.named ∙ fits.params

@@ -78,7 +78,7 @@ length-relabelled at width label units =
     length-append (take at units) (with_label width label (drop at units)) ∙ ap (λ (n : ℕ). length (take at units) + n) (length-with_label width label (drop at units))
     ∙ sym (length-append (take at units) (drop at units)) ∙ ap length (take-append-drop at units)
 
-take-append : {A : Type 0} (xs ys : List A) → take (length xs) (xs ++ ys) ≡ xs
+pub take-append : {A : Type 0} (xs ys : List A) → take (length xs) (xs ++ ys) ≡ xs
 take-append [] ys = refl
 take-append {A} (x ∷ xs) ys = ap (λ (l : List A). x ∷ l) (take-append xs ys)
 

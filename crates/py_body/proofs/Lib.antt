@@ -12,6 +12,8 @@ pub mod Loads
 pub mod Choosing
 -- what a body's ends come to
 pub mod Closing
+-- operators run as those of the tree
+pub mod Operating
 -- laid code runs as its tree
 pub mod Running
 -- a run of laid code is a trace
@@ -20,6 +22,8 @@ pub mod Tracing
 pub mod Carry
 -- the suites of lists of statements
 pub mod Trees
+-- how many atoms an operator takes
+pub mod Takes
 -- the names that a body binds
 pub mod Placed
 pub mod Bound

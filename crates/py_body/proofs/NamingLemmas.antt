@@ -1,6 +1,6 @@
 -- Names in a table that grows.
-use Rattle.std.proofs.Common.{◌≡◌, ◌<◌, ◌+◌, ℕ, zero, suc, List, [], ◌∷◌, ◌++◌, Bool, true, false, cond, Some, refl, sym, ap, ◌∙◌, subst, length, take, get_or, arith, length-append, append-nil}
-use Rattle.std.specs.Prelude.{slice_get, bytes_eq, codes, encode_utf8, encode_utf8_all}
+use Rattle.std.proofs.Common.{◌≡◌, ◌<◌, ◌+◌, ℕ, zero, suc, List, [], ◌∷◌, ◌++◌, Bool, true, false, cond, Some, refl, sym, ap, ◌∙◌, subst, length, map, take, get_or, arith, length-append, append-nil}
+use Rattle.std.specs.Prelude.{Option, option_map, chars, slice_get, bytes_eq, codes, encode_utf8, encode_utf8_all}
 use Rattle.std.specs.Char.{IsScalar}
 use Rattle.std.specs.List.{list_any}
 use Rattle.std.proofs.Math.Utf8.{scalars}
@@ -12,10 +12,13 @@ use Rattle.py_code.specs.declared.code.CodeObject.{CodeObject}
 use Rattle.py_code.specs.declared.code.PyCode.{PyCode}
 use Rattle.py_code.specs.declared.names.NameId.{NameId}
 use Rattle.py_code.specs.Names.{interned}
+use Rattle.py_frame.specs.Rows.{name_in}
+use Rattle.py_frame.specs.Signature.{characters, params_of}
 use Rattle.py_body.specs.Tree.{Name, Tree}
 use Rattle.py_body.specs.Binding.{locals_of}
 use Rattle.py_body.specs.Naming.{Continues, IsNameOf, IsNameFor, NamesAll, IsNamed}
-use Rattle.py_body.proofs.Placed.{Continues-trans}
+use Rattle.py_body.proofs.Labels.{take-append}
+use Rattle.py_body.proofs.Placed.{Continues-bound_by, Continues-trans}
 use Rattle.py_body.proofs.Spelling.{slice_get-front}
 
 -- one more character
@@ -97,3 +100,28 @@ named_code path_known name_known vars_known all_known globals code object t same
   where
     later : (id : NameId) (text : List ℕ) → IsNameOf name_known id text → IsNameOf all_known id text
     later id text known = IsNameOf-grown vars_known all_known id text grown_last (IsNameOf-grown name_known vars_known id text grown_more known)
+
+-- ---- parameters
+
+named_params : (table : List (List ℕ)) (ids : List NameId) (xs : List Name) (n : ℕ) → NamesAll table ids xs → map (λ id. characters (name_in table (Some id))) (take n ids) ≡ take n xs
+named_params table [] [] zero named = refl
+named_params table [] [] (suc n) named = refl
+named_params table [] (x ∷ xs) n named = absurd named
+named_params table (id ∷ ids) [] n named = absurd named
+named_params table (id ∷ ids) (x ∷ xs) zero named = refl
+named_params table (id ∷ ids) (x ∷ xs) (suc n) (((low, is), spells), rest) =
+    let one : characters (name_in table (Some id)) ≡ x = ap (λ (o : Option (List ℕ)). characters (option_map chars o)) is ∙ spells in
+    let others = named_params table ids xs n rest in
+    λ k. one k ∷ others k
+
+-- the first locals of a body are its parameters
+params_first : (t : Tree) → take (length t.params) (locals_of t) ≡ t.params
+params_first t =
+    let (more, is) = Continues-bound_by t.suite t.params in
+    ap (take (length t.params)) is ∙ take-append t.params more
+
+-- the parameters of a code that is named for a body
+pub params_named : (table : List (List ℕ)) (globals : List Name) (code : PyCode) (t : Tree) → code.code.arg_count ≡ length t.params → IsNamed table globals code t → params_of table code ≡ t.params
+params_named table globals code t arity named =
+    ap (λ (n : ℕ). map (λ id. characters (name_in table (Some id))) (take n code.code.varnames.items)) arity
+    ∙ named_params table code.code.varnames.items (locals_of t) (length t.params) named.varnames ∙ params_first t

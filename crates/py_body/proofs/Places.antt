@@ -1,5 +1,5 @@
 -- Laid code takes the places from one on up to another.
-use Rattle.std.proofs.Common.{◌≡◌, ◌+◌, ◌<◌, ◌≤◌, ℕ, List, [], ◌∷◌, Bool, true, false, cond, Some, drop, arith}
+use Rattle.std.proofs.Common.{◌≡◌, ◌+◌, ◌<◌, ◌≤◌, ℕ, zero, suc, List, [], ◌∷◌, Bool, true, false, cond, Some, drop, length, arith}
 use Rattle.std.specs.Prelude.{Option, None}
 use Rattle.py_code.specs.declared.code.Decoded.{Decoded}
 use Rattle.py_code.specs.declared.instruction.Instruction.{Instruction}
@@ -10,7 +10,7 @@ use Rattle.py_body.specs.declared.atom.Atom.TheVariants as atom
 use Rattle.py_body.specs.declared.atom.Operator.{Operator}
 use Rattle.py_body.specs.declared.atom.Operator.TheVariants as operator
 use Rattle.py_body.specs.Tree.{Name, Form, assign, operate, show, give, pass, branch, choice, loop, Suite, nothing, first}
-use Rattle.py_body.specs.Code.{Parts, Stands, LaidName, LaidAtom, LaidAtoms, LaidTarget, LaidOperator, LaidForm, LaidSuite}
+use Rattle.py_body.specs.Code.{Parts, Stands, LaidName, LaidAtom, LaidAtoms, LaidTarget, LaidCall, LaidOperator, LaidForm, LaidSuite}
 use Rattle.py_body.proofs.Decoding.{decoded_is}
 
 -- a unit lies in front of the place behind it
@@ -46,17 +46,22 @@ module _ (parts : Parts) where
   target_bound line at None next laid = stands_bound line at _ _ next laid
   target_bound line at (Some x) next laid = stands_bound line at _ _ next laid
 
-  operator_bound : (line at : ℕ) (op : Operator) (next : ℕ) → LaidOperator parts line at op next → at < next
-  operator_bound line at operator.Add next laid = stands_bound line at _ _ next laid
-  operator_bound line at operator.Sub next laid = stands_bound line at _ _ next laid
-  operator_bound line at operator.Lt next laid = stands_bound line at _ _ next laid
-  operator_bound line at operator.Eq next laid = stands_bound line at _ _ next laid
+  call_bound : (line at count next : ℕ) → LaidCall parts line at count next → at < next
+  call_bound line at zero next laid = absurd laid
+  call_bound line at (suc k) next laid = stands_bound line at _ _ next laid
+
+  operator_bound : (line at : ℕ) (op : Operator) (count next : ℕ) → LaidOperator parts line at op count next → at < next
+  operator_bound line at operator.Add count next laid = stands_bound line at _ _ next laid
+  operator_bound line at operator.Sub count next laid = stands_bound line at _ _ next laid
+  operator_bound line at operator.Lt count next laid = stands_bound line at _ _ next laid
+  operator_bound line at operator.Eq count next laid = stands_bound line at _ _ next laid
+  operator_bound line at operator.Call count next laid = call_bound line at count next laid
 
   mutual
     form_bound : (f : Form) (line at next : ℕ) → LaidForm parts line f at next → at ≤ next
     form_bound (assign x a) line at next (stores, loads, stands) = omega (arith, atom_bound line a at stores loads, target_bound line stores (Some x) next stands)
     form_bound (operate x op atoms) line at next (asks, stores, loads, stands, target) =
-        omega (arith, atoms_bound line atoms at asks loads, operator_bound line asks op stores stands, target_bound line stores x next target)
+        omega (arith, atoms_bound line atoms at asks loads, operator_bound line asks op (length atoms) stores stands, target_bound line stores x next target)
     form_bound (show a) line at next (asks, loads, stands) = omega (arith, atom_bound line a at asks loads, stands_bound line asks _ _ next stands)
     form_bound (give a) line at next (ends, loads, stands) = omega (arith, atom_bound line a at ends loads, stands_bound line ends _ _ next stands)
     form_bound pass line at next same = omega (arith, same)

@@ -3,10 +3,7 @@ use Rattle.std.proofs.Common.{◌≡◌, ◌<◌, ◌≤◌, ◌-◌, ℕ, zero,
 use Rattle.std.specs.Prelude.{Option, None, Some, slice_set, nat_lt, nat_le}
 use Rattle.std.proofs.lemmas.Bool.{le-leb, lt-leb, ltb-true}
 use Rattle.std.proofs.lemmas.List.{length-set}
-use Rattle.py_code.specs.declared.instruction.Instruction.TheVariants.{StoreFast, Pop, JumpIfFalse, BinaryOperation, CompareOperation, PrintExpr, ReturnValue, Jump, SetupLoop, PopBlock}
-use Rattle.py_code.specs.declared.operator.BinaryOperator.TheVariants as binary
-use Rattle.py_code.specs.declared.operator.ComparisonOperator.TheVariants as comparison
-use Rattle.py_code.specs.Operators.{binary_number, comparison_number}
+use Rattle.py_code.specs.declared.instruction.Instruction.TheVariants.{StoreFast, Pop, JumpIfFalse, PrintExpr, ReturnValue, Jump, SetupLoop, PopBlock}
 use Rattle.py_objects.specs.declared.payload.Payload.{Payload}
 use Rattle.py_objects.specs.declared.event.Ending.TheVariants as ending
 use Rattle.py_objects.specs.declared.request.Request.TheVariants.{Show}
@@ -18,18 +15,18 @@ use Rattle.py_frame.specs.Rows.{Setting, State, Goes, Tells, Stuck, Plainly, unw
 use Rattle.py_frame.specs.RunOfRows.{ByStep, Reaches}
 use Rattle.py_body.specs.declared.atom.Atom.{Atom}
 use Rattle.py_body.specs.declared.atom.Operator.{Operator}
-use Rattle.py_body.specs.declared.atom.Operator.TheVariants as operator
 use Rattle.py_body.specs.Tree.{Name, Form, assign, operate, show, give, pass, branch, choice, loop, Suite, nothing, first}
-use Rattle.py_body.specs.Binding.{Env, set_local, bind, arity_of, FormTakes, SuiteTakes}
+use Rattle.py_body.specs.Binding.{Env, set_local, bind, takes_count, FormTakes, SuiteTakes}
 use Rattle.py_body.specs.Scene.{Scene, located}
-use Rattle.py_body.specs.Outcome.{After, Use, Normal, Requests, request_of_two, By_truth, Runner, On_normal, On_turn, Loops, Runs, RunsSuite}
+use Rattle.py_body.specs.Outcome.{After, Normal, By_truth, Runner, On_normal, On_turn, Loops, Runs, RunsSuite}
 use Rattle.py_body.specs.Code.{Parts, place, Stands, LaidAtom, LaidTarget, LaidOperator, LaidForm, LaidSuite, parts_with}
 use Rattle.py_body.specs.Naming.{NamesAll}
-use Rattle.py_body.proofs.Closing.{Closes, closes_next, closes_turn, cut_loop, cut_load}
+use Rattle.py_body.proofs.Closing.{Closes, closes_next, closes_turn, cut_loop, cut_operator}
 use Rattle.py_body.proofs.Decoding.{running, stands_run}
 use Rattle.py_body.proofs.Asking.{ended_run, asked_run}
 use Rattle.py_body.proofs.Env.{env_of, set_local-env_of}
 use Rattle.py_body.proofs.Loads.{atom_run}
+use Rattle.py_body.proofs.Operating.{atoms_run, operator_run}
 use Rattle.py_body.proofs.Choosing.{chooses_run}
 use Rattle.py_body.proofs.Places.{stands_bound, atom_bound, suite_bound}
 
@@ -110,42 +107,15 @@ module _ (objects : List Payload) (setting : Setting) (final : State) (globals v
 
   -- ---- operators
 
-  arity_is : (op : Operator) → arity_of op ≡ 2
-  arity_is operator.Add = refl
-  arity_is operator.Sub = refl
-  arity_is operator.Lt = refl
-  arity_is operator.Eq = refl
-
-  -- an operator asks for what comes of the two values on the stack
-  operator_run : (op : Operator) (K : After) (next : Obj → List Own → Type 0) (line at last to : ℕ) (v w : Obj) (blocks : List Block) (locals : List (Option Obj)) (n : ℕ) (ts : List Own)
-      → LaidOperator parts line at op to → Closes K
-      → Reaches objects setting n (running at last 0 (w ∷ v ∷ []) blocks locals) ts final
-      → ((u : Obj) (m : ℕ) (us : List Own) → m < n → Reaches objects setting m (running to to 0 (u ∷ []) blocks locals) us final → next u us)
-      → Requests scene line (request_of_two op v w) None ts (Use (env_of vars locals) K next)
-  operator_run operator.Add K next line at last to v w blocks locals n ts stands closes run later =
-      asked_run objects setting final globals vars K (env_of vars locals) next line at last to BinaryOperation (binary_number binary.Add) 0 _ (w ∷ v ∷ []) [] blocks locals n ts closes stands (λ k l p. refl) run later
-  operator_run operator.Sub K next line at last to v w blocks locals n ts stands closes run later =
-      asked_run objects setting final globals vars K (env_of vars locals) next line at last to BinaryOperation (binary_number binary.Subtract) 0 _ (w ∷ v ∷ []) [] blocks locals n ts closes stands (λ k l p. refl) run later
-  operator_run operator.Lt K next line at last to v w blocks locals n ts stands closes run later =
-      asked_run objects setting final globals vars K (env_of vars locals) next line at last to CompareOperation (comparison_number comparison.Less) 0 _ (w ∷ v ∷ []) [] blocks locals n ts closes stands (λ k l p. refl) run later
-  operator_run operator.Eq K next line at last to v w blocks locals n ts stands closes run later =
-      asked_run objects setting final globals vars K (env_of vars locals) next line at last to CompareOperation (comparison_number comparison.Equal) 0 _ (w ∷ v ∷ []) [] blocks locals n ts closes stands (λ k l p. refl) run later
-
-  operate_run : (line at to : ℕ) (x : Option Name) (op : Operator) (atoms : List Atom) → LaidForm parts line (operate x op atoms) at to → length atoms ≡ arity_of op
+  operate_run : (line at to : ℕ) (x : Option Name) (op : Operator) (atoms : List Atom) → LaidForm parts line (operate x op atoms) at to → takes_count op (length atoms) ≡ true
       → RunsFrom at to (λ K env ts. Runs scene line (operate x op atoms) env None ts K)
-  operate_run line at to x op [] laid arity K blocks n closes later locals last m ts most same run = absurd (omega (arith, arity, arity_is op))
-  operate_run line at to x op (a ∷ []) laid arity K blocks n closes later locals last m ts most same run = absurd (omega (arith, arity, arity_is op))
-  operate_run line at to x op (a ∷ b ∷ c ∷ atoms) laid arity K blocks n closes later locals last m ts most same run = absurd (omega (arith, arity, arity_is op))
-  operate_run line at to x op (a ∷ b ∷ []) (asks, stores, (mid, loads_a, (end, loads_b, is_asks)), stands, target) arity K blocks n closes later locals last m ts most same run =
-      atom_run objects setting final globals vars K closes _ line at last mid [] blocks locals m ts run
-      (λ v. cut_load scene line b None (env_of vars locals) K _ closes (λ w. inl (refl, closes.cut (env_of vars locals))))
-      (λ v j us less more.
-      atom_run objects setting final globals vars K closes _ line mid mid end (v ∷ []) blocks locals j us more (λ w. inl (refl, closes.cut (env_of vars locals)))
-      (λ w i rest fewer further.
-      operator_run op K _ line asks end stores v w blocks locals i rest stands closes (subst (λ (p : ℕ). Reaches objects setting i (running p end 0 (w ∷ v ∷ []) blocks locals) rest final) (sym is_asks) further)
-      (λ u h left few done. target_run line stores to x u K blocks locals stores h n left target closes (omega (arith, few, fewer, less, most)) same done later))
-      locals_named globals_named same b loads_b)
-      locals_named globals_named same a loads_a
+  operate_run line at to x op atoms (asks, stores, loads, stands, target) takes K blocks n closes later locals last m ts most same run =
+      atoms_run objects setting final globals vars line K closes blocks locals locals_named globals_named same atoms _ at last asks m [] ts loads run
+      (λ vs long. cut_operator scene line op vs None (env_of vars locals) K _ closes (subst (λ (count : ℕ). takes_count op count ≡ true) (sym long) takes))
+      (λ vs l j us long few more.
+      operator_run objects setting final globals vars line K closes blocks locals _ asks l stores j us
+      (λ u h left less done. target_run line stores to x u K blocks locals stores h n left target closes (omega (arith, less, few, most)) same done later)
+      op vs (subst (λ (count : ℕ). takes_count op count ≡ true) (sym long) takes) (subst (λ (count : ℕ). LaidOperator parts line asks op count stores) (sym long) stands) more)
 
   -- ---- loops
 

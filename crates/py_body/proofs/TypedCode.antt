@@ -1,5 +1,5 @@
 -- Laid code with the notes of its depths keeps the typing rules.
-use Rattle.std.proofs.Common.{◌≡◌, ◌<◌, ◌≤◌, ⊎_elim, ℕ, zero, suc, List, [], ◌∷◌, ◌++◌, true, Some, arith, refl, sym, ap, ◌∙◌, length, length-append}
+use Rattle.std.proofs.Common.{◌≡◌, ◌<◌, ◌≤◌, ⊎_elim, ℕ, zero, suc, List, [], ◌∷◌, ◌++◌, true, Some, arith, refl, sym, ap, ◌∙◌, subst, length, length-append}
 use Rattle.std.specs.Prelude.{slice_get}
 use Rattle.std.proofs.lemmas.Bool.{and_from, lt-ltb, le-leb, eq-eqb, cases_lt}
 use Rattle.py_code.proofs.NamesLemmas.{slice_get-append_before, slice_get-append_last}
@@ -15,7 +15,8 @@ use Rattle.py_body.specs.Code.{Parts, parts_with, IsLaid, IsPlain}
 use Rattle.py_body.specs.Emitting.{IsEmitted}
 use Rattle.py_body.specs.Depths.{any_note, depth_at, notes_of}
 use Rattle.py_body.proofs.Placed.{Continues-bound_by, suite_bound}
-use Rattle.py_body.proofs.Typing.{IsNoted}
+use Rattle.py_body.proofs.NoteLemmas.{most-above, most-least}
+use Rattle.py_body.proofs.Typing.{IsNoted, Kept}
 use Rattle.py_body.proofs.TypingRules.{some_unit, body_kept}
 
 -- ---- notes
@@ -59,7 +60,7 @@ module _ (code : Annotated) (t : Tree) (names : List Name) (compilable : IsCompi
     constants = refl;
     names = is_laid.globals;
     varnames = is_laid.locals;
-    depth = plain.max_stackdepth;
+    depth = λ at low. subst (λ (n : ℕ). (depth_at units at).values ≤ n) (sym plain.max_stackdepth) (most-above units (length units) at low);
     notes = note_is;
     spelled = emitted.matched.1;
   }
@@ -89,13 +90,16 @@ module _ (code : Annotated) (t : Tree) (names : List Name) (compilable : IsCompi
       let within : parameters sheet ≤ sheet.varnames = omega (arith, parameters_are, is_laid.locals, ap length on.1, length-append t.params on.0) in
       and_from _ _ (le-leb _ _ positional) (le-leb _ _ within)
 
+  kept : Kept (sheet_of code) parts noted 0 (length units)
+  kept = body_kept (sheet_of code) parts noted t.line t.suite (length units) is_laid.laid compilable.takes (suite_bound t.suite t.params)
+
   whole : keeps_whole (sheet_of code) ≡ true
   whole =
       and_from _ _ (and_from _ _ (and_from _ _ (and_from _ _ (and_from _ _ counts (ap is_start (note_is 0 is_there))) parameters_within) (ap (cells_fit (sheet_of code)) plain.cells.1))
-      (le-leb _ _ (omega (arith, plain.max_stackdepth)))) emitted.matched.2
+      (le-leb _ _ (omega (arith, plain.max_stackdepth, most-least units (length units) 256 (λ k low. (kept k (omega arith) low).1))))) emitted.matched.2
 
   pub typed_code : IsTyped code
   typed_code = record {
     whole = whole;
-    each = λ at low. body_kept (sheet_of code) parts noted t.line t.suite (length units) is_laid.laid compilable.takes (suite_bound t.suite t.params) at (omega arith) low;
+    each = λ at low. (kept at (omega arith) low).0;
   }

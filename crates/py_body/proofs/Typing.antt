@@ -15,7 +15,7 @@ use Rattle.py_check.specs.declared.note.BlockNote.TheVariants.{Loop}
 use Rattle.py_check.specs.Notes.{kind_fits, kinds_fit, blocks_fit, note_fits, same_kind, plain_kind}
 use Rattle.py_check.specs.Operands.{is_prefix_there, is_prefixed, prefixes, carried, carried_by, operand}
 use Rattle.py_check.specs.Sheet.{Sheet}
-use Rattle.py_check.specs.Rules.{has_room, levels_nest, lands, goes_on, jumps, bottom, handlers_land, top_level, takes_one, takes_two, keeps_op, keeps_both, keeps_at}
+use Rattle.py_check.specs.Rules.{has_room, levels_nest, lands, goes_on, jumps, bottom, handlers_land, top_level, takes_one, takes_two, takes_many, keeps_op, keeps_both, keeps_at}
 use Rattle.py_body.specs.declared.notes.Depth.{Depth}
 use Rattle.py_body.specs.Code.{Parts, Stands}
 use Rattle.py_body.specs.Emitting.{AreSpelled}
@@ -73,6 +73,9 @@ takes_one-loops n k kinds rest holds = and_from _ _ (le-leb _ _ (omega (arith, t
 pub takes_two-loops : (n : ℕ) (k l : Kind) (kinds : List Kind) (rest : List Kind → Bool) → rest kinds ≡ true → takes_two (k ∷ l ∷ kinds) (replicate n (Loop 0)) rest ≡ true
 takes_two-loops n k l kinds rest holds = and_from _ _ (le-leb _ _ (omega (arith, top_level-loops n))) holds
 
+pub takes_many-loops : (n loops : ℕ) (kinds : List Kind) (rest : List Kind → Bool) → n ≤ length kinds → rest (drop n kinds) ≡ true → takes_many n kinds (replicate loops (Loop 0)) rest ≡ true
+takes_many-loops n loops kinds rest there holds = and_from _ _ (and_from _ _ (le-leb _ _ there) (le-leb _ _ (omega (arith, top_level-loops loops)))) holds
+
 -- ---- places
 
 -- where no prefix stands in front, nothing is carried
@@ -90,7 +93,7 @@ pub record IsNoted (sheet : Sheet) (parts : Parts) : Type 0 where
   pub constants : sheet.constants ≡ parts.constants
   pub names : sheet.names ≡ length parts.names
   pub varnames : sheet.varnames ≡ length parts.vars
-  pub depth : sheet.max_stackdepth ≡ 2
+  pub depth : (at : ℕ) → at < length parts.units → (depth_at parts.units at).values ≤ sheet.max_stackdepth
   pub notes : (at : ℕ) → at < length parts.units → slice_get sheet.notes at ≡ Some (any_note (depth_at parts.units at))
   pub spelled : AreSpelled parts.units
 
@@ -98,9 +101,13 @@ module _ (sheet : Sheet) (parts : Parts) (noted : IsNoted sheet parts) where
   abbrev units : List CodeUnit
   units = parts.units
 
-  -- the units from one place up to another keep the rules
+  -- a unit keeps the rules, and at most 256 values lie in front of it
+  abbrev Keeps_at : ℕ → Type 0
+  Keeps_at k = (keeps_at sheet k ≡ true) × ((depth_at units k).values ≤ 256)
+
+  -- so do the units from one place up to another
   abbrev pub Kept : ℕ → ℕ → Type 0
-  Kept at next = (k : ℕ) → at ≤ k → k < next → keeps_at sheet k ≡ true
+  Kept at next = (k : ℕ) → at ≤ k → k < next → Keeps_at k
 
   pub Kept-joined : (at mid next : ℕ) → Kept at mid → Kept mid next → Kept at next
   Kept-joined at mid next front rest k low high = ⊎_elim (λ less. front k low less) (λ more. rest k more high) (cases_lt k mid)
@@ -111,16 +118,17 @@ module _ (sheet : Sheet) (parts : Parts) (noted : IsNoted sheet parts) where
     pub plain : is_prefixed units at ≡ false
 
   -- a unit that keeps the rules with its note
-  kept_at : (at : ℕ) (d : Depth) (u : CodeUnit) → at < length units → slice_get units at ≡ Some u → depth_at units at ≡ d → d.values ≤ 2
-      → keeps_op sheet at u.op (operand units at u) (kinds_at d) (blocks_at d) ≡ true → keeps_at sheet at ≡ true
+  kept_at : (at : ℕ) (d : Depth) (u : CodeUnit) → at < length units → slice_get units at ≡ Some u → depth_at units at ≡ d → d.values ≤ 256
+      → keeps_op sheet at u.op (operand units at u) (kinds_at d) (blocks_at d) ≡ true → Keeps_at at
   kept_at at d u low here is few keeps =
+      let same : (depth_at units at).values ≡ d.values = ap (λ (e : Depth). e.values) is in
       let note : slice_get sheet.notes at ≡ Some (any_note d) = noted.notes at low ∙ ap (λ (e : Depth). Some (any_note e)) is in
       let unit : slice_get sheet.units at ≡ Some u = ap (λ (us : List CodeUnit). slice_get us at) noted.units ∙ here in
-      let room : has_room sheet (kinds_at d) ≡ true = le-leb _ _ (omega (arith, length-replicate d.values Any, noted.depth, few)) in
+      let room : has_room sheet (kinds_at d) ≡ true = le-leb _ _ (omega (arith, length-replicate d.values Any, noted.depth at low, same)) in
       let nest : levels_nest (length (kinds_at d)) (blocks_at d) ≡ true = levels_nest-loops d.loops _ in
       let op : keeps_op sheet at u.op (operand sheet.units at u) (kinds_at d) (blocks_at d) ≡ true =
       ap (λ (us : List CodeUnit). keeps_op sheet at u.op (operand us at u) (kinds_at d) (blocks_at d)) noted.units ∙ keeps in
-      (λ k. keeps_both sheet at (unit k) (note k)) ∙ and_from _ _ (and_from _ _ (and_from _ _ room nest) (handlers_land-loops sheet d.loops (kinds_at d))) op
+      ((λ k. keeps_both sheet at (unit k) (note k)) ∙ and_from _ _ (and_from _ _ (and_from _ _ room nest) (handlers_land-loops sheet d.loops (kinds_at d))) op, omega (arith, same, few))
 
   -- control comes to a unit in front of which as much lies
   lands_at : (to : ℕ) (kinds : List Kind) (d : Depth) → to < length units → depth_at units to ≡ d → length kinds ≡ d.values → lands sheet to kinds (blocks_at d) ≡ true
@@ -128,8 +136,10 @@ module _ (sheet : Sheet) (parts : Parts) (noted : IsNoted sheet parts) where
       let note : slice_get sheet.notes to ≡ Some (any_note d) = noted.notes to low ∙ ap (λ (e : Depth). Some (any_note e)) is in
       ap (note_fits kinds (blocks_at d)) note ∙ note_fits-any kinds d same
 
-  goes : (to : ℕ) (kinds : List Kind) (d : Depth) → to < length units → depth_at units to ≡ d → length kinds ≡ d.values → d.values ≤ 2 → goes_on sheet to kinds (blocks_at d) ≡ true
-  goes to kinds d low is same few = and_from _ _ (le-leb _ _ (omega (arith, noted.depth, same, few))) (lands_at to kinds d low is same)
+  goes : (to : ℕ) (kinds : List Kind) (d : Depth) → to < length units → depth_at units to ≡ d → length kinds ≡ d.values → goes_on sheet to kinds (blocks_at d) ≡ true
+  goes to kinds d low is same =
+      let deep_as : (depth_at units to).values ≡ d.values = ap (λ (e : Depth). e.values) is in
+      and_from _ _ (le-leb _ _ (omega (arith, noted.depth to low, deep_as, same))) (lands_at to kinds d low is same)
 
   pub jumps_to : (to : ℕ) (kinds : List Kind) (d : Depth) → to < length units → Enters to d → length kinds ≡ d.values → jumps sheet to kinds (blocks_at d) ≡ true
   jumps_to to kinds d low enters same =
@@ -163,62 +173,67 @@ module _ (sheet : Sheet) (parts : Parts) (noted : IsNoted sheet parts) where
   stands_bounds line at arg next op stands = decoded_bounds (drop at units) at 0 arg next op refl stands.0
 
   -- behind a unit
-  depth_suc : (at : ℕ) (d : Depth) (u : CodeUnit) → slice_get units at ≡ Some u → depth_at units at ≡ d → depth_at units (suc at) ≡ depth_behind u.op d
-  depth_suc at d u here is = λ k. depth_left (here k) (is k)
+  depth_suc : (at : ℕ) (d : Depth) (u : CodeUnit) → slice_get units at ≡ Some u → depth_at units at ≡ d → depth_at units (suc at) ≡ depth_behind u.op (operand units at u) d
+  depth_suc at d u here is = λ k. depth_left units at (here k) (is k)
 
   carried_suc : (at state : ℕ) (u : CodeUnit) → slice_get units at ≡ Some u → carried units at ≡ state → carried units (suc at) ≡ cond (is_prefix u.op) (with_byte state u.arg) 0
   carried_suc at state u here built = λ k. carried_by (here k) (built k)
 
   -- behind an instruction and its prefixes
-  decoded_enters : (left : List CodeUnit) (at state arg next : ℕ) (d : Depth) (op : Instruction) → drop at units ≡ left → depth_at units at ≡ d
-      → decoded_from state at left ≡ Some (record { op = op; arg = record { 0 = arg }; next = next }) → Enters next (depth_behind op d)
-  decoded_enters [] at state arg next d op here is spelled = absurd (cc)
-  decoded_enters (u ∷ us) at state arg next d op here is spelled =
-      by (is_prefix u.op) refl spelled (λ deeper s. decoded_enters us (suc at) (with_byte state u.arg) arg next d op first.1 deeper s)
+  decoded_enters : (left : List CodeUnit) (at state arg next : ℕ) (d : Depth) (op : Instruction) → drop at units ≡ left → carried units at ≡ state → depth_at units at ≡ d
+      → decoded_from state at left ≡ Some (record { op = op; arg = record { 0 = arg }; next = next }) → Enters next (depth_behind op arg d)
+  decoded_enters [] at state arg next d op here built is spelled = absurd (cc)
+  decoded_enters (u ∷ us) at state arg next d op here built is spelled =
+      by (is_prefix u.op) refl spelled (λ built_more deeper s. decoded_enters us (suc at) (with_byte state u.arg) arg next d op first.1 built_more deeper s)
     where
       first : (slice_get units at ≡ Some u) × (drop (suc at) units ≡ us)
       first = slice_get-drop units at u us here
 
-      behind : depth_at units (suc at) ≡ depth_behind u.op d
+      behind : depth_at units (suc at) ≡ depth_behind u.op (operand units at u) d
       behind = depth_suc at d u first.0 is
+
+      built_here : operand units at u ≡ with_byte state u.arg
+      built_here = ap (λ (n : ℕ). with_byte n u.arg) built
 
       by : (b : Bool) → is_prefix u.op ≡ b
           → cond b (decoded_from (with_byte state u.arg) (at + 1) us) (Some (record { op = u.op; arg = record { 0 = with_byte state u.arg }; next = at + 1 })) ≡ Some (record { op = op; arg = record { 0 = arg }; next = next })
-          → (depth_at units (suc at) ≡ d → decoded_from (with_byte state u.arg) (suc at) us ≡ Some (record { op = op; arg = record { 0 = arg }; next = next }) → Enters next (depth_behind op d))
-          → Enters next (depth_behind op d)
+          → (carried units (suc at) ≡ with_byte state u.arg → depth_at units (suc at) ≡ d
+          → decoded_from (with_byte state u.arg) (suc at) us ≡ Some (record { op = op; arg = record { 0 = arg }; next = next }) → Enters next (depth_behind op arg d))
+          → Enters next (depth_behind op arg d)
       by true prefixed s later =
           let place : at + 1 ≡ suc at = add-one at in
-          later (behind ∙ ap (λ (o : Instruction). depth_behind o d) (prefix_is u.op prefixed)) (rw place at s)
+          later (carried_suc at state u first.0 built ∙ ap (λ (c : Bool). cond c (with_byte state u.arg) 0) prefixed)
+          (behind ∙ ap (λ (o : Instruction). depth_behind o (operand units at u) d) (prefix_is u.op prefixed)) (rw place at s)
       by false plain s later =
           let (is_op, is_arg, is_next) = decoded_is _ _ s in
-          let enters : Enters (suc at) (depth_behind op d) = record {
-            depth_is = behind ∙ ap (λ (o : Instruction). depth_behind o d) is_op;
+          let enters : Enters (suc at) (depth_behind op arg d) = record {
+            depth_is = behind ∙ λ k. depth_behind (is_op k) ((built_here ∙ is_arg) k) d;
             plain = ap is_prefix_there first.0 ∙ plain;
           } in
-          subst (λ (k : ℕ). Enters k (depth_behind op d)) (sym (add-one at) ∙ is_next) enters
+          subst (λ (k : ℕ). Enters k (depth_behind op arg d)) (sym (add-one at) ∙ is_next) enters
 
-  pub stands_enters : (line at arg next : ℕ) (d : Depth) (op : Instruction) → Stands parts line at op arg next → Enters at d → Enters next (depth_behind op d)
-  stands_enters line at arg next d op stands enters = decoded_enters (drop at units) at 0 arg next d op refl enters.depth_is stands.0
+  pub stands_enters : (line at arg next : ℕ) (d : Depth) (op : Instruction) → Stands parts line at op arg next → Enters at d → Enters next (depth_behind op arg d)
+  stands_enters line at arg next d op stands enters = decoded_enters (drop at units) at 0 arg next d op refl (carried_plain units at enters.plain) enters.depth_is stands.0
 
-  prefix_keeps : (at arg : ℕ) (d : Depth) (u : CodeUnit) → slice_get units at ≡ Some u → u.op ≡ ExtendedArg → depth_at units at ≡ d → d.values ≤ 2 → suc at < length units
+  prefix_keeps : (at arg : ℕ) (d : Depth) (u : CodeUnit) → slice_get units at ≡ Some u → u.op ≡ ExtendedArg → depth_at units at ≡ d → suc at < length units
       → keeps_op sheet at ExtendedArg arg (kinds_at d) (blocks_at d) ≡ true
-  prefix_keeps at arg d u here prefixed is few low =
+  prefix_keeps at arg d u here prefixed is low =
       let more : prefixes units (suc at) ≡ prefixes units at + 1 = rw (here, prefixed) refl in
       let less : prefixes sheet.units at < 3 = omega (arith, ap (λ (us : List CodeUnit). prefixes us at) noted.units, more, noted.spelled.few (suc at) (omega (arith, low))) in
-      let behind : depth_at units (suc at) ≡ d = depth_suc at d u here is ∙ ap (λ (op : Instruction). depth_behind op d) prefixed in
-      let next : goes_on sheet (suc at) (kinds_at d) (blocks_at d) ≡ true = goes (suc at) (kinds_at d) d low behind (length-replicate d.values Any) few in
+      let behind : depth_at units (suc at) ≡ d = depth_suc at d u here is ∙ ap (λ (op : Instruction). depth_behind op (operand units at u) d) prefixed in
+      let next : goes_on sheet (suc at) (kinds_at d) (blocks_at d) ≡ true = goes (suc at) (kinds_at d) d low behind (length-replicate d.values Any) in
       and_from _ _ (lt-ltb _ _ less) (subst (λ (to : ℕ). goes_on sheet to (kinds_at d) (blocks_at d) ≡ true) (sym (add-one at)) next)
 
   -- one unit
-  one_kept : (at : ℕ) → keeps_at sheet at ≡ true → Kept at (suc at)
-  one_kept at keeps k low high = let same : at ≡ k = omega (arith, low, high) in subst (λ (j : ℕ). keeps_at sheet j ≡ true) same keeps
+  one_kept : (at : ℕ) → Keeps_at at → Kept at (suc at)
+  one_kept at keeps k low high = let same : at ≡ k = omega (arith, low, high) in subst Keeps_at same keeps
 
   -- what an instruction asks of what lies in front of it
   abbrev pub Asks : Instruction → ℕ → ℕ → Depth → Type 0
   Asks op arg next d = (k : ℕ) → k + 1 ≡ next → keeps_op sheet k op arg (kinds_at d) (blocks_at d) ≡ true
 
   -- an instruction keeps the rules with its prefixes
-  decoded_kept : (left : List CodeUnit) (at state arg next : ℕ) (d : Depth) (op : Instruction) → drop at units ≡ left → carried units at ≡ state → depth_at units at ≡ d → d.values ≤ 2
+  decoded_kept : (left : List CodeUnit) (at state arg next : ℕ) (d : Depth) (op : Instruction) → drop at units ≡ left → carried units at ≡ state → depth_at units at ≡ d → d.values ≤ 256
       → decoded_from state at left ≡ Some (record { op = op; arg = record { 0 = arg }; next = next }) → Asks op arg next d → Kept at next
   decoded_kept [] at state arg next d op here built is few spelled asks = absurd (cc)
   decoded_kept (u ∷ us) at state arg next d op here built is few spelled asks =
@@ -245,9 +260,9 @@ module _ (sheet : Sheet) (parts : Parts) (noted : IsNoted sheet parts) where
           let is_op : u.op ≡ ExtendedArg = prefix_is u.op prefixed in
           let keeps : keeps_op sheet at u.op (operand units at u) (kinds_at d) (blocks_at d) ≡ true =
           ap (λ (o : Instruction). keeps_op sheet at o (operand units at u) (kinds_at d) (blocks_at d)) is_op
-          ∙ prefix_keeps at (operand units at u) d u first.0 is_op is few (omega (arith, bounds.0, bounds.1)) in
+          ∙ prefix_keeps at (operand units at u) d u first.0 is_op is (omega (arith, bounds.0, bounds.1)) in
           let more = later (carried_suc at state u first.0 built ∙ ap (λ (c : Bool). cond c (with_byte state u.arg) 0) prefixed)
-          (depth_suc at d u first.0 is ∙ ap (λ (o : Instruction). depth_behind o d) is_op) rest in
+          (depth_suc at d u first.0 is ∙ ap (λ (o : Instruction). depth_behind o (operand units at u) d) is_op) rest in
           Kept-joined at (suc at) next (one_kept at (kept_at at d u low first.0 is few keeps)) more
       by false plain s later =
           let (is_op, is_arg, is_next) = decoded_is _ _ s in
@@ -255,10 +270,10 @@ module _ (sheet : Sheet) (parts : Parts) (noted : IsNoted sheet parts) where
           (λ k. keeps_op sheet at (is_op k) ((built_here ∙ is_arg) k) (kinds_at d) (blocks_at d)) ∙ asks at is_next in
           subst (Kept at) (sym (add-one at) ∙ is_next) (one_kept at (kept_at at d u low first.0 is few keeps))
 
-  pub stands_kept : (line at arg next : ℕ) (d : Depth) (op : Instruction) → Stands parts line at op arg next → Enters at d → d.values ≤ 2 → Asks op arg next d → Kept at next
+  pub stands_kept : (line at arg next : ℕ) (d : Depth) (op : Instruction) → Stands parts line at op arg next → Enters at d → d.values ≤ 256 → Asks op arg next d → Kept at next
   stands_kept line at arg next d op stands enters few asks =
       decoded_kept (drop at units) at 0 arg next d op refl (carried_plain units at enters.plain) enters.depth_is few stands.0 asks
 
   -- control goes on behind a unit
-  pub goes_behind : (k next : ℕ) (kinds : List Kind) (d : Depth) → k + 1 ≡ next → next < length units → Enters next d → length kinds ≡ d.values → d.values ≤ 2 → goes_on sheet (k + 1) kinds (blocks_at d) ≡ true
-  goes_behind k next kinds d is_next low enters same few = ap (λ (to : ℕ). goes_on sheet to kinds (blocks_at d)) is_next ∙ goes next kinds d low enters.depth_is same few
+  pub goes_behind : (k next : ℕ) (kinds : List Kind) (d : Depth) → k + 1 ≡ next → next < length units → Enters next d → length kinds ≡ d.values → goes_on sheet (k + 1) kinds (blocks_at d) ≡ true
+  goes_behind k next kinds d is_next low enters same = ap (λ (to : ℕ). goes_on sheet to kinds (blocks_at d)) is_next ∙ goes next kinds d low enters.depth_is same

@@ -1,9 +1,9 @@
 -- How much lies behind laid code: what lies in front of it, but for the values that it takes and leaves.
-use Rattle.std.proofs.Common.{◌≡◌, ◌≤◌, ◌-◌, ℕ, suc, List, [], ◌∷◌, Bool, true, false, Some, None, refl, sym, ◌∙◌, subst, length, arith}
+use Rattle.std.proofs.Common.{◌≡◌, ◌≤◌, ◌-◌, ◌+◌, ℕ, zero, suc, List, [], ◌∷◌, Bool, true, false, Some, None, sym, subst, length, arith}
 use Rattle.std.specs.Prelude.{Option, bytes_eq}
 use Rattle.std.specs.List.{list_any}
 use Rattle.py_code.specs.declared.instruction.Instruction.{Instruction}
-use Rattle.py_code.specs.declared.instruction.Instruction.TheVariants.{LoadConst, LoadFast, StoreFast, LoadGlobal, Pop, BinaryOperation, CompareOperation, PrintExpr, Jump, JumpIfFalse, SetupLoop, PopBlock, ReturnValue}
+use Rattle.py_code.specs.declared.instruction.Instruction.TheVariants.{LoadConst, LoadFast, StoreFast, LoadGlobal, Pop, BinaryOperation, CompareOperation, PrintExpr, Jump, JumpIfFalse, SetupLoop, PopBlock, ReturnValue, CallFunctionPositional}
 use Rattle.py_check.specs.Sheet.{Sheet}
 use Rattle.py_body.specs.declared.atom.Atom.{Atom}
 use Rattle.py_body.specs.declared.atom.Atom.TheVariants as atom
@@ -11,9 +11,10 @@ use Rattle.py_body.specs.declared.atom.Operator.{Operator}
 use Rattle.py_body.specs.declared.atom.Operator.TheVariants as operator
 use Rattle.py_body.specs.declared.notes.Depth.{Depth}
 use Rattle.py_body.specs.Tree.{Name, Form, assign, operate, show, give, pass, branch, choice, loop, Suite, nothing, first}
-use Rattle.py_body.specs.Binding.{FormTakes, SuiteTakes, arity_of}
-use Rattle.py_body.specs.Code.{Parts, Stands, LaidName, LaidAtom, LaidAtoms, LaidTarget, LaidOperator, LaidForm, LaidSuite}
+use Rattle.py_body.specs.Binding.{FormTakes, SuiteTakes, takes_count}
+use Rattle.py_body.specs.Code.{Parts, Stands, LaidName, LaidAtom, LaidAtoms, LaidTarget, LaidCall, LaidOperator, LaidForm, LaidSuite}
 use Rattle.py_body.specs.Depths.{depth_behind}
+use Rattle.py_body.proofs.Takes.{is_two}
 use Rattle.py_body.proofs.Typing.{deep, IsNoted, Enters, stands_bounds, stands_enters}
 
 module _ (sheet : Sheet) (parts : Parts) (noted : IsNoted sheet parts) where
@@ -28,7 +29,7 @@ module _ (sheet : Sheet) (parts : Parts) (noted : IsNoted sheet parts) where
   Ends-joined : (at mid next : ℕ) (d later : Depth) → Ends at mid d → Ends mid next later → Ends at next later
   Ends-joined at mid next d later front rest = record { enters = rest.enters; bounds = omega (arith, front.bounds, rest.bounds) }
 
-  pub step : (line at arg next values loops : ℕ) (op : Instruction) → Stands parts line at op arg next → Enters_at at values loops → Ends at next (depth_behind op (deep values loops))
+  pub step : (line at arg next values loops : ℕ) (op : Instruction) → Stands parts line at op arg next → Enters_at at values loops → Ends at next (depth_behind op arg (deep values loops))
   step line at arg next values loops op stands enters = record {
     enters = stands_enters sheet parts noted line at arg next (deep values loops) op stands enters;
     bounds = omega (arith, (stands_bounds sheet parts noted line at arg next op stands).0);
@@ -45,11 +46,18 @@ module _ (sheet : Sheet) (parts : Parts) (noted : IsNoted sheet parts) where
   atom_ends (atom.Str s) line at next values loops (i, stands, is) enters = step line at i next values loops LoadConst stands enters
   atom_ends (atom.Name x) line at next values loops laid enters = name_ends (list_any (bytes_eq x) parts.vars) x line at next values loops laid enters
 
-  pub operator_ends : (op : Operator) (line at next loops : ℕ) → LaidOperator parts line at op next → Enters_at at 2 loops → Ends at next (deep 1 loops)
-  operator_ends operator.Add line at next loops stands enters = step line at _ next 2 loops BinaryOperation stands enters
-  operator_ends operator.Sub line at next loops stands enters = step line at _ next 2 loops BinaryOperation stands enters
-  operator_ends operator.Lt line at next loops stands enters = step line at _ next 2 loops CompareOperation stands enters
-  operator_ends operator.Eq line at next loops stands enters = step line at _ next 2 loops CompareOperation stands enters
+  pub call_ends : (count line at next loops : ℕ) → LaidCall parts line at count next → Enters_at at count loops → Ends at next (deep 1 loops)
+  call_ends zero line at next loops laid enters = absurd laid
+  call_ends (suc k) line at next loops laid enters =
+      let left : suc k - k ≡ 1 = omega arith in
+      subst (λ (n : ℕ). Ends at next (deep n loops)) left (step line at k next (suc k) loops CallFunctionPositional laid enters)
+
+  pub operator_ends : (op : Operator) (count : ℕ) → takes_count op count ≡ true → (line at next loops : ℕ) → LaidOperator parts line at op count next → Enters_at at count loops → Ends at next (deep 1 loops)
+  operator_ends operator.Add count takes line at next loops stands enters = step line at _ next 2 loops BinaryOperation stands (subst (λ (n : ℕ). Enters_at at n loops) (is_two count takes) enters)
+  operator_ends operator.Sub count takes line at next loops stands enters = step line at _ next 2 loops BinaryOperation stands (subst (λ (n : ℕ). Enters_at at n loops) (is_two count takes) enters)
+  operator_ends operator.Lt count takes line at next loops stands enters = step line at _ next 2 loops CompareOperation stands (subst (λ (n : ℕ). Enters_at at n loops) (is_two count takes) enters)
+  operator_ends operator.Eq count takes line at next loops stands enters = step line at _ next 2 loops CompareOperation stands (subst (λ (n : ℕ). Enters_at at n loops) (is_two count takes) enters)
+  operator_ends operator.Call count takes line at next loops laid enters = call_ends count line at next loops laid enters
 
   pub target_ends : (target : Option Name) (line at next loops : ℕ) → LaidTarget parts line at target next → Enters_at at 1 loops → Ends at next (deep 0 loops)
   target_ends None line at next loops stands enters = step line at 0 next 1 loops Pop stands enters
@@ -61,32 +69,20 @@ module _ (sheet : Sheet) (parts : Parts) (noted : IsNoted sheet parts) where
       let left : suc loops - 1 ≡ loops = omega arith in
       subst (λ (n : ℕ). Ends at next (deep 0 n)) left (step line at 0 next 0 (suc loops) PopBlock stands enters)
 
-  -- the loads of two atoms
-  abbrev pub LaidBoth : ℕ → ℕ → ℕ → Type 0
-  LaidBoth line at next = (a : Atom) × (b : Atom) × (mid : ℕ) × LaidAtom parts line a at mid × LaidAtom parts line b mid next
-
-  pub both_of : (atoms : List Atom) (line at next : ℕ) → length atoms ≡ 2 → LaidAtoms parts line atoms at next → LaidBoth line at next
-  both_of [] line at next two laid = absurd (omega (arith, two))
-  both_of (a ∷ []) line at next two laid = absurd (omega (arith, two))
-  both_of (a ∷ b ∷ c ∷ atoms) line at next two laid = absurd (omega (arith, two))
-  both_of (a ∷ b ∷ []) line at next two (mid, laid_a, (end, laid_b, is_next)) = (a, b, mid, laid_a, subst (LaidAtom parts line b mid) (sym is_next) laid_b)
-
-  pub arity_is : (op : Operator) → arity_of op ≡ 2
-  arity_is operator.Add = refl
-  arity_is operator.Sub = refl
-  arity_is operator.Lt = refl
-  arity_is operator.Eq = refl
-
-  pub both_end : (line at next loops : ℕ) → LaidBoth line at next → Enters_at at 0 loops → Ends at next (deep 2 loops)
-  both_end line at next loops (a, b, mid, laid_a, laid_b) enters =
-      let load = atom_ends a line at mid 0 loops laid_a enters in
-      Ends-joined at mid next _ _ load (atom_ends b line mid next 1 loops laid_b load.enters)
+  -- the loads of atoms, behind which so many values lie in all
+  pub atoms_end : (atoms : List Atom) (line at next values all loops : ℕ) → all ≡ values + length atoms → LaidAtoms parts line atoms at next → Enters_at at values loops → Ends at next (deep all loops)
+  atoms_end [] line at next values all loops is is_at enters =
+      let same : values ≡ all = omega (arith, is) in
+      record { enters = subst (λ (n : ℕ). Enters_at next n loops) same (subst (λ (k : ℕ). Enters_at k values loops) (sym is_at) enters); bounds = omega (arith, is_at) }
+  atoms_end (a ∷ atoms) line at next values all loops is (mid, one, rest) enters =
+      let load = atom_ends a line at mid values loops one enters in
+      Ends-joined at mid next _ _ load (atoms_end atoms line mid next (suc values) all loops (omega (arith, is)) rest load.enters)
 
   operate_ends : (x : Option Name) (op : Operator) (atoms : List Atom) (line at next loops : ℕ) → LaidForm parts line (operate x op atoms) at next → FormTakes (operate x op atoms)
       → Enters_at at 0 loops → Ends at next (deep 0 loops)
   operate_ends x op atoms line at next loops (asks, stores, loads_all, ask, store) takes enters =
-      let load = both_end line at asks loops (both_of atoms line at asks (takes ∙ arity_is op) loads_all) enters in
-      let asked = operator_ends op line asks stores loops ask load.enters in
+      let load = atoms_end atoms line at asks 0 (length atoms) loops (omega arith) loads_all enters in
+      let asked = operator_ends op (length atoms) takes line asks stores loops ask load.enters in
       Ends-joined at asks next _ _ load (Ends-joined asks stores next _ _ asked (target_ends x line stores next loops store asked.enters))
 
   mutual

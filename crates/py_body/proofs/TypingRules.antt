@@ -1,12 +1,13 @@
 -- The notes of laid code keep the rules: loads, statements, suites and whole bodies.
-use Rattle.std.proofs.Common.{◌≡◌, ◌<◌, ◌≤◌, ◌+◌, ℕ, suc, List, [], ◌∷◌, Bool, true, false, ◌&&◌, Some, None, refl, ap, ◌∙◌, length, arith}
+use Rattle.std.proofs.Common.{◌≡◌, ◌<◌, ◌≤◌, ◌+◌, ℕ, zero, suc, List, [], ◌∷◌, Bool, true, false, ◌&&◌, Some, None, refl, ap, ◌∙◌, subst, drop, length, arith}
 use Rattle.std.specs.Prelude.{Option, slice_get, nat_lt, bytes_eq}
 use Rattle.std.specs.List.{list_any}
 use Rattle.std.proofs.Math.ListN.{length-replicate}
 use Rattle.std.proofs.lemmas.Bool.{and_from, lt-ltb}
+use Rattle.std.proofs.lemmas.List.{length-drop}
 use Rattle.std.proofs.lemmas.Option.{slice_get_within}
 use Rattle.py_code.specs.declared.instruction.Instruction.{Instruction}
-use Rattle.py_code.specs.declared.instruction.Instruction.TheVariants.{LoadConst, LoadFast, StoreFast, LoadGlobal, Pop, BinaryOperation, CompareOperation, PrintExpr, Jump, JumpIfFalse, SetupLoop, PopBlock, ReturnValue, ReturnConst}
+use Rattle.py_code.specs.declared.instruction.Instruction.TheVariants.{LoadConst, LoadFast, StoreFast, LoadGlobal, Pop, BinaryOperation, CompareOperation, PrintExpr, Jump, JumpIfFalse, SetupLoop, PopBlock, ReturnValue, ReturnConst, CallFunctionPositional}
 use Rattle.py_code.specs.declared.literal.Literal.{Literal, None as NoneLiteral, Bool as BoolLiteral, Int as IntLiteral, Str as StrLiteral}
 use Rattle.py_code.specs.declared.unit.CodeUnit.{CodeUnit}
 use Rattle.py_check.specs.declared.note.Kind.{Kind}
@@ -19,12 +20,13 @@ use Rattle.py_body.specs.declared.atom.Atom.TheVariants as atom
 use Rattle.py_body.specs.declared.atom.Operator.{Operator}
 use Rattle.py_body.specs.declared.atom.Operator.TheVariants as operator
 use Rattle.py_body.specs.Tree.{Name, Form, assign, operate, show, give, pass, branch, choice, loop, Suite, nothing, first}
-use Rattle.py_body.specs.Binding.{FormTakes, SuiteTakes}
-use Rattle.py_body.specs.Code.{Parts, place, Stands, StandsConst, LaidName, LaidAtom, LaidTarget, LaidOperator, LaidForm, LaidSuite, LaidBody}
+use Rattle.py_body.specs.Binding.{FormTakes, SuiteTakes, takes_count}
+use Rattle.py_body.specs.Code.{Parts, place, Stands, StandsConst, LaidName, LaidAtom, LaidAtoms, LaidTarget, LaidCall, LaidOperator, LaidForm, LaidSuite, LaidBody}
 use Rattle.py_body.specs.Depths.{depth_behind}
 use Rattle.py_body.proofs.Placed.{placed_any, TargetPlaced, FormPlaced, SuitePlaced}
-use Rattle.py_body.proofs.Typing.{deep, kinds_at, blocks_at, takes_one-loops, takes_two-loops, IsNoted, Kept, Kept-joined, Enters, jumps_to, stands_bounds, stands_kept, Asks, goes_behind}
-use Rattle.py_body.proofs.TypingDepths.{Enters_at, LaidBoth, step, atom_ends, operator_ends, both_of, both_end, target_ends, popped_ends, arity_is, form_ends, suite_ends}
+use Rattle.py_body.proofs.Takes.{is_two, takes_few}
+use Rattle.py_body.proofs.Typing.{deep, kinds_at, blocks_at, takes_one-loops, takes_two-loops, takes_many-loops, IsNoted, Kept, Kept-joined, Enters, jumps_to, stands_bounds, stands_kept, Asks, goes_behind}
+use Rattle.py_body.proofs.TypingDepths.{Enters_at, step, atom_ends, atoms_end, call_ends, operator_ends, target_ends, popped_ends, form_ends, suite_ends}
 
 module _ (sheet : Sheet) (parts : Parts) (noted : IsNoted sheet parts) where
   abbrev units : List CodeUnit
@@ -43,54 +45,57 @@ module _ (sheet : Sheet) (parts : Parts) (noted : IsNoted sheet parts) where
   -- ---- one instruction, by what it leaves
 
   -- what lies behind is known to what the instruction asks
-  op_kept : (line at arg next values loops : ℕ) (op : Instruction) → Stands parts line at op arg next → In at values loops → values ≤ 2
-      → (Enters sheet parts noted next (depth_behind op (deep values loops)) → Asks sheet parts noted op arg next (deep values loops)) → Keeps at next
+  op_kept : (line at arg next values loops : ℕ) (op : Instruction) → Stands parts line at op arg next → In at values loops → values ≤ 256
+      → (Enters sheet parts noted next (depth_behind op arg (deep values loops)) → Asks sheet parts noted op arg next (deep values loops)) → Keeps at next
   op_kept line at arg next values loops op stands enters few asks =
       stands_kept sheet parts noted line at arg next (deep values loops) op stands enters few (asks (step sheet parts noted line at arg next values loops op stands enters).enters)
 
   -- control goes on behind it
-  on : (k next values loops : ℕ) (kinds : List Kind) → k + 1 ≡ next → next < length units → In next values loops → length kinds ≡ values → values ≤ 2 → goes_on sheet (k + 1) kinds (blocks_at (deep values loops)) ≡ true
-  on k next values loops kinds is_next low enters same few = goes_behind sheet parts noted k next kinds (deep values loops) is_next low enters same few
+  on : (k next values loops : ℕ) (kinds : List Kind) → k + 1 ≡ next → next < length units → In next values loops → length kinds ≡ values → goes_on sheet (k + 1) kinds (blocks_at (deep values loops)) ≡ true
+  on k next values loops kinds is_next low enters same = goes_behind sheet parts noted k next kinds (deep values loops) is_next low enters same
 
   -- the same behind a load
-  on_loaded : (k next values loops : ℕ) (kind : Kind) → k + 1 ≡ next → next < length units → In next (suc values) loops → values ≤ 1
+  on_loaded : (k next values loops : ℕ) (kind : Kind) → k + 1 ≡ next → next < length units → In next (suc values) loops
       → goes_on sheet (k + 1) (kind ∷ kinds_at (deep values loops)) (blocks_at (deep values loops)) ≡ true
-  on_loaded k next values loops kind is_next low enters few =
-      on k next (suc values) loops (kind ∷ kinds_at (deep values loops)) is_next low enters (omega (arith, length-replicate values Any)) (omega (arith, few))
+  on_loaded k next values loops kind is_next low enters =
+      on k next (suc values) loops (kind ∷ kinds_at (deep values loops)) is_next low enters (omega (arith, length-replicate values Any))
 
   -- ---- loads
 
-  const_kept : (line at next values loops : ℕ) (literal : Literal) → is_loaded literal ≡ true → StandsConst parts line at LoadConst literal next → In at values loops → values ≤ 1 → next < length units → Keeps at next
+  const_kept : (line at next values loops : ℕ) (literal : Literal) → is_loaded literal ≡ true → StandsConst parts line at LoadConst literal next → In at values loops → values ≤ 256 → next < length units → Keeps at next
   const_kept line at next values loops literal loaded (i, stands, is) enters few low =
       let constant : slice_get sheet.constants i ≡ Some literal = ap (λ (l : List Literal). slice_get l i) noted.constants ∙ is in
-      op_kept line at i next values loops LoadConst stands enters (omega (arith, few))
+      op_kept line at i next values loops LoadConst stands enters few
       (λ behind k is_next. ap (λ (o : Option Literal). loads o (λ kind. goes_on sheet (k + 1) (kind ∷ kinds_at (deep values loops)) (blocks_at (deep values loops)))) constant
-      ∙ and_from _ _ loaded (on_loaded k next values loops (kind_of literal) is_next low behind few))
+      ∙ and_from _ _ loaded (on_loaded k next values loops (kind_of literal) is_next low behind))
 
   has_local : (i : ℕ) → i < length parts.vars → nat_lt i sheet.varnames ≡ true
   has_local i below = lt-ltb _ _ (omega (arith, below, noted.varnames))
 
-  name_kept : (local : Bool) (x : Name) (line at next values loops : ℕ) → list_any (bytes_eq x) parts.vars ≡ local → LaidName local parts line x at next → In at values loops → values ≤ 1 → next < length units → Keeps at next
+  name_kept : (local : Bool) (x : Name) (line at next values loops : ℕ) → list_any (bytes_eq x) parts.vars ≡ local → LaidName local parts line x at next → In at values loops → values ≤ 256 → next < length units → Keeps at next
   name_kept true x line at next values loops known stands enters few low =
-      op_kept line at (place parts.vars x) next values loops LoadFast stands enters (omega (arith, few))
-      (λ behind k is_next. and_from _ _ (has_local (place parts.vars x) (placed_any parts.vars x known)) (on_loaded k next values loops Any is_next low behind few))
+      op_kept line at (place parts.vars x) next values loops LoadFast stands enters few
+      (λ behind k is_next. and_from _ _ (has_local (place parts.vars x) (placed_any parts.vars x known)) (on_loaded k next values loops Any is_next low behind))
   name_kept false x line at next values loops known (i, stands, is) enters few low =
       let below : nat_lt i sheet.names ≡ true = lt-ltb _ _ (omega (arith, slice_get_within parts.names i x is, noted.names)) in
-      op_kept line at i next values loops LoadGlobal stands enters (omega (arith, few))
-      (λ behind k is_next. and_from _ _ below (on_loaded k next values loops Any is_next low behind few))
+      op_kept line at i next values loops LoadGlobal stands enters few
+      (λ behind k is_next. and_from _ _ below (on_loaded k next values loops Any is_next low behind))
 
-  atom_kept : (a : Atom) (line at next values loops : ℕ) → LaidAtom parts line a at next → In at values loops → values ≤ 1 → next < length units → Keeps at next
+  atom_kept : (a : Atom) (line at next values loops : ℕ) → LaidAtom parts line a at next → In at values loops → values ≤ 256 → next < length units → Keeps at next
   atom_kept atom.None line at next values loops laid enters few low = const_kept line at next values loops NoneLiteral refl laid enters few low
   atom_kept (atom.Bool b) line at next values loops laid enters few low = const_kept line at next values loops (BoolLiteral b) refl laid enters few low
   atom_kept (atom.Int n) line at next values loops laid enters few low = const_kept line at next values loops (IntLiteral n) refl laid enters few low
   atom_kept (atom.Str s) line at next values loops laid enters few low = const_kept line at next values loops (StrLiteral s) refl laid enters few low
   atom_kept (atom.Name x) line at next values loops laid enters few low = name_kept (list_any (bytes_eq x) parts.vars) x line at next values loops refl laid enters few low
 
-  both_kept : (line at next loops : ℕ) → LaidBoth sheet parts noted line at next → In at 0 loops → next < length units → Keeps at next
-  both_kept line at next loops (a, b, mid, laid_a, laid_b) enters low =
-      let load = atom_ends sheet parts noted a line at mid 0 loops laid_a enters in
-      let later = atom_ends sheet parts noted b line mid next 1 loops laid_b load.enters in
-      then_kept at mid next (atom_kept a line at mid 0 loops laid_a enters (omega arith) (omega (arith, later.bounds, low))) (atom_kept b line mid next 1 loops laid_b load.enters (omega arith) low)
+  -- the loads of atoms, behind which so many values lie in all
+  atoms_kept : (atoms : List Atom) (line at next values all loops : ℕ) → all ≡ values + length atoms → all ≤ 256 → LaidAtoms parts line atoms at next → In at values loops → next < length units → Keeps at next
+  atoms_kept [] line at next values all loops is few is_at enters low = λ k above below. absurd (omega (arith, above, below, is_at))
+  atoms_kept (a ∷ atoms) line at next values all loops is few (mid, one, rest) enters low =
+      let load = atom_ends sheet parts noted a line at mid values loops one enters in
+      let later = atoms_end sheet parts noted atoms line mid next (suc values) all loops (omega (arith, is)) rest load.enters in
+      then_kept at mid next (atom_kept a line at mid values loops one enters (omega (arith, is, few)) (omega (arith, later.bounds, low)))
+      (atoms_kept atoms line mid next (suc values) all loops (omega (arith, is)) few rest load.enters low)
 
   -- ---- what is done with values
 
@@ -99,17 +104,33 @@ module _ (sheet : Sheet) (parts : Parts) (noted : IsNoted sheet parts) where
       → ((k : ℕ) → takes_two (Any ∷ Any ∷ []) (blocks_at (deep 2 loops)) (λ rest. goes_on sheet (k + 1) (Any ∷ rest) (blocks_at (deep 2 loops))) ≡ true → keeps_op sheet k op arg (Any ∷ Any ∷ []) (blocks_at (deep 2 loops)) ≡ true) → Keeps at next
   two_kept line at arg next loops op stands enters low behind keeps =
       op_kept line at arg next 2 loops op stands enters (omega arith)
-      (λ more k is_next. keeps k (takes_two-loops loops Any Any [] (λ rest. goes_on sheet (k + 1) (Any ∷ rest) (blocks_at (deep 2 loops))) (on k next 1 loops (Any ∷ []) is_next low behind refl (omega arith))))
+      (λ more k is_next. keeps k (takes_two-loops loops Any Any [] (λ rest. goes_on sheet (k + 1) (Any ∷ rest) (blocks_at (deep 2 loops))) (on k next 1 loops (Any ∷ []) is_next low behind refl)))
 
-  operator_kept : (op : Operator) (line at next loops : ℕ) → LaidOperator parts line at op next → In at 2 loops → next < length units → Keeps at next
-  operator_kept operator.Add line at next loops stands enters low = two_kept line at _ next loops BinaryOperation stands enters low (operator_ends sheet parts noted operator.Add line at next loops stands enters).enters (λ k takes. and_from _ _ refl takes)
-  operator_kept operator.Sub line at next loops stands enters low = two_kept line at _ next loops BinaryOperation stands enters low (operator_ends sheet parts noted operator.Sub line at next loops stands enters).enters (λ k takes. and_from _ _ refl takes)
-  operator_kept operator.Lt line at next loops stands enters low = two_kept line at _ next loops CompareOperation stands enters low (operator_ends sheet parts noted operator.Lt line at next loops stands enters).enters (λ k takes. and_from _ _ refl takes)
-  operator_kept operator.Eq line at next loops stands enters low = two_kept line at _ next loops CompareOperation stands enters low (operator_ends sheet parts noted operator.Eq line at next loops stands enters).enters (λ k takes. and_from _ _ refl takes)
+  -- a callee and its arguments are one
+  call_kept : (count line at next loops : ℕ) → count ≤ 256 → LaidCall parts line at count next → In at count loops → next < length units → Keeps at next
+  call_kept zero line at next loops few laid enters low = absurd laid
+  call_kept (suc k) line at next loops few laid enters low =
+      let kinds : List Kind = kinds_at (deep (suc k) loops) in
+      let many : length kinds ≡ suc k = length-replicate (suc k) Any in
+      let left : length (Any ∷ drop (suc k) kinds) ≡ 1 = omega (arith, many, length-drop (suc k) kinds) in
+      let behind = call_ends sheet parts noted (suc k) line at next loops laid enters in
+      op_kept line at k next (suc k) loops CallFunctionPositional laid enters few
+      (λ more j is_next. takes_many-loops (suc k) loops kinds (λ rest. goes_on sheet (j + 1) (Any ∷ rest) (blocks_at (deep (suc k) loops))) (omega (arith, many)) (on j next 1 loops (Any ∷ drop (suc k) kinds) is_next low behind.enters left))
+
+  operator_kept : (op : Operator) (count : ℕ) → takes_count op count ≡ true → (line at next loops : ℕ) → LaidOperator parts line at op count next → In at count loops → next < length units → Keeps at next
+  operator_kept operator.Add count takes line at next loops stands enters low =
+      two_kept line at _ next loops BinaryOperation stands (subst (λ (n : ℕ). In at n loops) (is_two count takes) enters) low (operator_ends sheet parts noted operator.Add count takes line at next loops stands enters).enters (λ k two. and_from _ _ refl two)
+  operator_kept operator.Sub count takes line at next loops stands enters low =
+      two_kept line at _ next loops BinaryOperation stands (subst (λ (n : ℕ). In at n loops) (is_two count takes) enters) low (operator_ends sheet parts noted operator.Sub count takes line at next loops stands enters).enters (λ k two. and_from _ _ refl two)
+  operator_kept operator.Lt count takes line at next loops stands enters low =
+      two_kept line at _ next loops CompareOperation stands (subst (λ (n : ℕ). In at n loops) (is_two count takes) enters) low (operator_ends sheet parts noted operator.Lt count takes line at next loops stands enters).enters (λ k two. and_from _ _ refl two)
+  operator_kept operator.Eq count takes line at next loops stands enters low =
+      two_kept line at _ next loops CompareOperation stands (subst (λ (n : ℕ). In at n loops) (is_two count takes) enters) low (operator_ends sheet parts noted operator.Eq count takes line at next loops stands enters).enters (λ k two. and_from _ _ refl two)
+  operator_kept operator.Call count takes line at next loops laid enters low = call_kept count line at next loops (takes_few operator.Call count takes) laid enters low
 
   -- one value is taken, and control goes on
   taken : (k next loops : ℕ) → k + 1 ≡ next → next < length units → In next 0 loops → takes_one (Any ∷ []) (blocks_at (deep 1 loops)) (λ rest. goes_on sheet (k + 1) rest (blocks_at (deep 1 loops))) ≡ true
-  taken k next loops is_next low enters = takes_one-loops loops Any [] (λ rest. goes_on sheet (k + 1) rest (blocks_at (deep 1 loops))) (on k next 0 loops [] is_next low enters refl (omega arith))
+  taken k next loops is_next low enters = takes_one-loops loops Any [] (λ rest. goes_on sheet (k + 1) rest (blocks_at (deep 1 loops))) (on k next 0 loops [] is_next low enters refl)
 
   target_kept : (target : Option Name) (line at next loops : ℕ) → LaidTarget parts line at target next → TargetPlaced parts.vars target → In at 1 loops → next < length units → Keeps at next
   target_kept None line at next loops stands placed enters low = op_kept line at 0 next 1 loops Pop stands enters (omega arith) (λ behind k is_next. taken k next loops is_next low behind)
@@ -121,7 +142,7 @@ module _ (sheet : Sheet) (parts : Parts) (noted : IsNoted sheet parts) where
   test_kept line at to next loops stands enters low_to enters_to low =
       op_kept line at to next 1 loops JumpIfFalse stands enters (omega arith)
       (λ behind k is_next. takes_one-loops loops Any [] (λ rest. jumps sheet to rest (blocks_at (deep 1 loops)) && goes_on sheet (k + 1) rest (blocks_at (deep 1 loops)))
-      (and_from _ _ (jumps_to sheet parts noted to [] (deep 0 loops) low_to enters_to refl) (on k next 0 loops [] is_next low behind refl (omega arith))))
+      (and_from _ _ (jumps_to sheet parts noted to [] (deep 0 loops) low_to enters_to refl) (on k next 0 loops [] is_next low behind refl)))
 
   jump_kept : (line at to next loops : ℕ) → Stands parts line at Jump to next → In at 0 loops → to < length units → In to 0 loops → Keeps at next
   jump_kept line at to next loops stands enters low_to enters_to =
@@ -129,26 +150,25 @@ module _ (sheet : Sheet) (parts : Parts) (noted : IsNoted sheet parts) where
 
   setup_kept : (line at next loops : ℕ) → Stands parts line at SetupLoop 0 next → In at 0 loops → next < length units → Keeps at next
   setup_kept line at next loops stands enters low =
-      op_kept line at 0 next 0 loops SetupLoop stands enters (omega arith) (λ behind k is_next. on k next 0 (suc loops) [] is_next low behind refl (omega arith))
+      op_kept line at 0 next 0 loops SetupLoop stands enters (omega arith) (λ behind k is_next. on k next 0 (suc loops) [] is_next low behind refl)
 
   popped_kept : (line at next loops : ℕ) → Stands parts line at PopBlock 0 next → In at 0 (suc loops) → next < length units → Keeps at next
   popped_kept line at next loops stands enters low =
       let behind = popped_ends sheet parts noted line at next loops stands enters in
-      op_kept line at 0 next 0 (suc loops) PopBlock stands enters (omega arith) (λ more k is_next. and_from _ _ refl (on k next 0 loops [] is_next low behind.enters refl (omega arith)))
+      op_kept line at 0 next 0 (suc loops) PopBlock stands enters (omega arith) (λ more k is_next. and_from _ _ refl (on k next 0 loops [] is_next low behind.enters refl))
 
   -- ---- statements
 
   operate_kept : (x : Option Name) (op : Operator) (atoms : List Atom) (line at next loops : ℕ) → LaidForm parts line (operate x op atoms) at next → FormTakes (operate x op atoms)
       → TargetPlaced parts.vars x → In at 0 loops → next < length units → Keeps at next
   operate_kept x op atoms line at next loops (asks, stores, loads_all, ask, store) takes placed enters low =
-      let both = both_of sheet parts noted atoms line at asks (takes ∙ arity_is sheet parts noted op) loads_all in
-      let load = both_end sheet parts noted line at asks loops both enters in
-      let asked = operator_ends sheet parts noted op line asks stores loops ask load.enters in
+      let load = atoms_end sheet parts noted atoms line at asks 0 (length atoms) loops (omega arith) loads_all enters in
+      let asked = operator_ends sheet parts noted op (length atoms) takes line asks stores loops ask load.enters in
       let stored = target_ends sheet parts noted x line stores next loops store asked.enters in
       let low_stores : stores < length units = omega (arith, stored.bounds, low) in
       let low_asks : asks < length units = omega (arith, asked.bounds, low_stores) in
-      then_kept at asks next (both_kept line at asks loops both enters low_asks)
-      (then_kept asks stores next (operator_kept op line asks stores loops ask load.enters low_stores) (target_kept x line stores next loops store placed asked.enters low))
+      then_kept at asks next (atoms_kept atoms line at asks 0 (length atoms) loops (omega arith) (takes_few op (length atoms) takes) loads_all enters low_asks)
+      (then_kept asks stores next (operator_kept op (length atoms) takes line asks stores loops ask load.enters low_stores) (target_kept x line stores next loops store placed asked.enters low))
 
   -- the load of an atom, and what is done with it
   loaded_kept : (a : Atom) (line at mid next loops : ℕ) → LaidAtom parts line a at mid → In at 0 loops → mid < length units → (In mid 1 loops → Keeps mid next) → Keeps at next

@@ -1,17 +1,18 @@
 -- The names that a body binds, its locals, and which bodies can be compiled.
-use Rattle.std.specs.Prelude.{ℕ, suc, ◌+◌, ◌≤◌, Option, Some, None, List, [], ◌∷◌, ◌++◌, ◌≡◌, ◌≢◌, length, bytes_eq, if◌then◌else◌, AllPairs}
+use Rattle.std.specs.Prelude.{ℕ, suc, ◌+◌, ◌≤◌, Bool, true, ◌&&◌, ◌==◌, nat_le, Option, Some, None, List, [], ◌∷◌, ◌++◌, ◌≡◌, ◌≢◌, length, bytes_eq, if◌then◌else◌, AllPairs}
 use Rattle.std.specs.List.{list_any}
 use Rattle.py_objects.specs.Objects.{Obj}
 use Rattle.py_body.specs.declared.atom.Operator.{Operator}
 use Rattle.py_body.specs.declared.atom.Operator.TheVariants as operator
 use Rattle.py_body.specs.Tree.{Name, Form, assign, operate, show, give, pass, branch, choice, loop, Suite, nothing, first, Tree}
 
--- how many arguments an operator takes
-abbrev pub arity_of : Operator → ℕ
-arity_of operator.Add = 2
-arity_of operator.Sub = 2
-arity_of operator.Lt = 2
-arity_of operator.Eq = 2
+-- whether an operator takes so many atoms: one of two operands two, a call its callee and at most 255 arguments
+abbrev pub takes_count : Operator → ℕ → Bool
+takes_count operator.Add n = n == 2
+takes_count operator.Sub n = n == 2
+takes_count operator.Lt n = n == 2
+takes_count operator.Eq n = n == 2
+takes_count operator.Call n = nat_le 1 n && nat_le n 256
 
 -- a name behind others, unless it is one of them
 abbrev pub bound : List Name → Name → List Name
@@ -72,10 +73,10 @@ abbrev pub start_env : Tree → List Obj → Env
 start_env t args = begun (locals_of t) args
 
 abbrev mutual
-  -- each operator of a statement has as many arguments as it takes
+  -- each operator of a statement has as many atoms as it takes
   pub FormTakes : Form → Type 0
   FormTakes (assign x a) = Unit {0}
-  FormTakes (operate x op atoms) = length atoms ≡ arity_of op
+  FormTakes (operate x op atoms) = takes_count op (length atoms) ≡ true
   FormTakes (show a) = Unit {0}
   FormTakes (give a) = Unit {0}
   FormTakes pass = Unit {0}
@@ -103,7 +104,7 @@ abbrev mutual
   statements nothing = 0
   statements (first n f more) = statements_in f + statements more
 
--- a body that can be compiled: its parameters differ and are at most 255, its operators have as many arguments as they take,
+-- a body that can be compiled: its parameters differ and are at most 255, its operators have as many atoms as they take,
 -- and it has no more statements than the longest script
 pub record IsCompilable (t : Tree) : Type 0 where
   pub distinct : AllPairs (λ x y. x ≢ y) t.params

@@ -1,9 +1,9 @@
 -- Where the code of each form stands. The label of a jump is the place that it goes to.
-use Rattle.std.specs.Prelude.{ℕ, suc, ◌<◌, ◌≤◌, ◌^◌, Bool, true, false, Option, Some, None, List, [], ◌∷◌, ◌≡◌, slice_get, length, drop, bytes_eq, if◌then◌else◌}
+use Rattle.std.specs.Prelude.{ℕ, zero, suc, ◌<◌, ◌≤◌, ◌^◌, Bool, true, false, Option, Some, None, List, [], ◌∷◌, ◌≡◌, slice_get, length, drop, bytes_eq, if◌then◌else◌}
 use Rattle.std.specs.List.{list_any}
 use Rattle.py_code.specs.declared.unit.CodeUnit.{CodeUnit}
 use Rattle.py_code.specs.declared.instruction.Instruction.{Instruction}
-use Rattle.py_code.specs.declared.instruction.Instruction.TheVariants.{LoadConst, LoadFast, StoreFast, LoadGlobal, Pop, BinaryOperation, CompareOperation, PrintExpr, Jump, JumpIfFalse, SetupLoop, PopBlock, ReturnValue, ReturnConst}
+use Rattle.py_code.specs.declared.instruction.Instruction.TheVariants.{LoadConst, LoadFast, StoreFast, LoadGlobal, Pop, BinaryOperation, CompareOperation, PrintExpr, Jump, JumpIfFalse, SetupLoop, PopBlock, ReturnValue, ReturnConst, CallFunctionPositional}
 use Rattle.py_code.specs.declared.literal.Literal.{Literal, None as NoneLiteral, Bool as BoolLiteral, Int as IntLiteral, Str as StrLiteral}
 use Rattle.py_code.specs.declared.operator.BinaryOperator.TheVariants as binary
 use Rattle.py_code.specs.declared.operator.ComparisonOperator.TheVariants as comparison
@@ -17,6 +17,7 @@ use Rattle.py_body.specs.declared.atom.Operator.{Operator}
 use Rattle.py_body.specs.declared.atom.Operator.TheVariants as operator
 use Rattle.py_body.specs.Tree.{Name, Form, assign, operate, show, give, pass, branch, choice, loop, Suite, nothing, first, Tree}
 use Rattle.py_body.specs.Binding.{locals_of}
+use Rattle.py_body.specs.Depths.{most_values}
 
 -- the parts of a code that its units refer to
 pub record Parts : Type 0 where
@@ -71,19 +72,25 @@ abbrev pub LaidTarget : Parts → ℕ → ℕ → Option Name → ℕ → Type 0
 LaidTarget parts line at None next = Stands parts line at Pop 0 next
 LaidTarget parts line at (Some x) next = Stands parts line at StoreFast (place parts.vars x) next
 
--- the unit that an operator is
-abbrev pub LaidOperator : Parts → ℕ → ℕ → Operator → ℕ → Type 0
-LaidOperator parts line at operator.Add next = Stands parts line at BinaryOperation (binary_number binary.Add) next
-LaidOperator parts line at operator.Sub next = Stands parts line at BinaryOperation (binary_number binary.Subtract) next
-LaidOperator parts line at operator.Lt next = Stands parts line at CompareOperation (comparison_number comparison.Less) next
-LaidOperator parts line at operator.Eq next = Stands parts line at CompareOperation (comparison_number comparison.Equal) next
+-- the unit of a call of so many atoms, the callee and k arguments
+abbrev pub LaidCall : Parts → ℕ → ℕ → ℕ → ℕ → Type 0
+LaidCall parts line at zero next = ⊥
+LaidCall parts line at (suc k) next = Stands parts line at CallFunctionPositional k next
+
+-- the unit that an operator of so many atoms is
+abbrev pub LaidOperator : Parts → ℕ → ℕ → Operator → ℕ → ℕ → Type 0
+LaidOperator parts line at operator.Add count next = Stands parts line at BinaryOperation (binary_number binary.Add) next
+LaidOperator parts line at operator.Sub count next = Stands parts line at BinaryOperation (binary_number binary.Subtract) next
+LaidOperator parts line at operator.Lt count next = Stands parts line at CompareOperation (comparison_number comparison.Less) next
+LaidOperator parts line at operator.Eq count next = Stands parts line at CompareOperation (comparison_number comparison.Equal) next
+LaidOperator parts line at operator.Call count next = LaidCall parts line at count next
 
 abbrev mutual
   -- the code of a statement of this line
   pub LaidForm : Parts → ℕ → Form → ℕ → ℕ → Type 0
   LaidForm parts line (assign x a) at next = (stores : ℕ) × LaidAtom parts line a at stores × LaidTarget parts line stores (Some x) next
   LaidForm parts line (operate x op atoms) at next =
-      (asks : ℕ) × (stores : ℕ) × LaidAtoms parts line atoms at asks × LaidOperator parts line asks op stores × LaidTarget parts line stores x next
+      (asks : ℕ) × (stores : ℕ) × LaidAtoms parts line atoms at asks × LaidOperator parts line asks op (length atoms) stores × LaidTarget parts line stores x next
   LaidForm parts line (show a) at next = (asks : ℕ) × LaidAtom parts line a at asks × Stands parts line asks PrintExpr 0 next
   LaidForm parts line (give a) at next = (ends : ℕ) × LaidAtom parts line a at ends × Stands parts line ends ReturnValue 0 next
   LaidForm parts line pass at next = next ≡ at
@@ -129,11 +136,11 @@ pub record IsLaid (names : List Name) (code : PyCode) (t : Tree) : Type 0 where
   pub located : length code.code.locations.items ≡ length code.code.instructions.items
 
 -- what the code of a body says of itself: it makes a scope (flag 1), knows its locals by their places (flag 32), and
--- needs a stack of two
+-- its stack has a place for each of the most values that lie in front of a unit
 pub record IsPlain (code : PyCode) (t : Tree) : Type 0 where
   pub flags : code.code.flags ≡ 33
   pub first_line_number : code.code.first_line_number ≡ Some t.line
-  pub max_stackdepth : code.code.max_stackdepth ≡ 2
+  pub max_stackdepth : code.code.max_stackdepth ≡ most_values code.code.instructions.items (length code.code.instructions.items)
   pub posonlyarg_count : code.code.posonlyarg_count ≡ 0
   pub kwonlyarg_count : code.code.kwonlyarg_count ≡ 0
   pub cells : (code.code.cellvars.items ≡ []) × (code.code.cell2arg.items ≡ []) × (code.code.freevars.items ≡ [])

@@ -151,7 +151,7 @@ EmitsAtoms old new atoms line = Emits old new (4 * length atoms) (λ whole at ne
 -- an operator behind the loads of its atoms
 abbrev pub EmitsOperation : Parts → Parts → Operator → List Atom → ℕ → Type 0
 EmitsOperation old new op atoms line =
-    Emits old new (4 * length atoms + 4) (λ whole at next. (asks : ℕ) × LaidAtoms whole line atoms at asks × LaidOperator whole line asks op next)
+    Emits old new (4 * length atoms + 4) (λ whole at next. (asks : ℕ) × LaidAtoms whole line atoms at asks × LaidOperator whole line asks op (length atoms) next)
 
 -- where a value goes
 abbrev pub EmitsTarget : Parts → Parts → Option Name → ℕ → Type 0
@@ -168,9 +168,9 @@ pub record EmitsTest (width : ℕ) (old new : Parts) (a : Atom) (line at : ℕ) 
 abbrev pub WhereFits : ℕ → (Parts → ℕ → ℕ → Type 0) → Parts → ℕ → ℕ → Type 0
 WhereFits width Laid whole at next = next < 256 ^ suc width → Laid whole at next
 
--- no statement takes more units of its own than this
+-- no statement takes more units of its own than this: 256 loads, a call and a store, each with up to three prefixes
 abbrev pub most_units : ℕ
-most_units = 24
+most_units = 1032
 
 abbrev pub EmitsForm : ℕ → Parts → Parts → Form → ℕ → Type 0
 EmitsForm width old new f line = Emits old new (most_units * statements_in f) (WhereFits width (λ whole at next. LaidForm whole line f at next))

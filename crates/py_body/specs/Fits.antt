@@ -6,16 +6,18 @@ use Rattle.py_objects.specs.Own.{Own}
 use Rattle.py_check.specs.declared.annotated.Annotated.{Annotated}
 use Rattle.py_frame.specs.RunOfRows.{RowsRun}
 use Rattle.py_frame.specs.Fitting.{IsSound}
+use Rattle.py_frame.specs.Signature.{params_of}
 use Rattle.py_body.specs.Tree.{Tree}
 use Rattle.py_body.specs.Scene.{located}
 use Rattle.py_body.specs.Trace.{IsTrace}
 use Rattle.py_body.specs.Naming.{Continues}
 
--- the code keeps the typing rules with its notes, its names are in the table, and each run of its rows, whole or cut, from any
--- arguments and whatever answers come, is a trace of the body in which each unit that asks has its statement's line; all this
--- where the table may have grown since
+-- the code has the body's parameters, keeps the typing rules with its notes, its names are in the table, and each run of its
+-- rows, whole or cut, from any arguments and whatever answers come, is a trace of the body in which each unit that asks has its
+-- statement's line; all this where the table may have grown since
 pub record Fits (names : List (List ℕ)) (code : Annotated) (t : Tree) : Type 0 where
   pub arity : code.code.code.arg_count ≡ length t.params
+  pub params : params_of names code.code ≡ t.params
   pub sound : IsSound names code
   pub traces : (table : List (List ℕ)) (globals : Obj) (objects : List Payload) (args : List Obj) (ts : List Own) → Continues names table → length args ≡ length t.params
       → RowsRun objects (record { code = code.code; names = table; globals = globals }) args ts → IsTrace (located code.code objects globals) t args ts

@@ -1,14 +1,15 @@
 -- What a tree may do. Each relation takes what may follow as its last argument: Runs scene line form env h ts K says that the
 -- form, begun with the locals env while the exception h is handled, may tell the events at the front of ts, and that K
 -- holds of the locals, the outcome and the events behind them. It may be cut where nothing is left to tell.
--- (Python Language Reference, 4.1, 4.2, 6.10, 6.16, 7 and 8.1, 8.2)
+-- (Python Language Reference, 4.1, 4.2, 6.3.4, 6.10, 6.16, 7 and 8.1, 8.2)
 use Rattle.std.specs.Prelude.{ℕ, zero, suc, Bool, true, false, Option, Some, None, List, [], ◌∷◌, ◌≡◌, ◌⊎◌}
 use Rattle.py_objects.specs.declared.refs.PyBaseExceptionRef.{PyBaseExceptionRef}
 use Rattle.py_objects.specs.declared.payload.Payload.TheVariants as payload
 use Rattle.py_code.specs.declared.operator.BinaryOperator.TheVariants as binary
 use Rattle.py_code.specs.declared.operator.ComparisonOperator.TheVariants as comparison
+use Rattle.py_objects.specs.declared.request.Keywords.TheVariants as keywords
 use Rattle.py_objects.specs.declared.request.Request.{Request}
-use Rattle.py_objects.specs.declared.request.Request.TheVariants.{Binary, Compare, Global, Show, Truth, Unbound}
+use Rattle.py_objects.specs.declared.request.Request.TheVariants.{Binary, Call, Compare, Global, Show, Truth, Unbound}
 use Rattle.py_objects.specs.Objects.{Obj, HasPayload}
 use Rattle.py_objects.specs.Own.{Own}
 use Rattle.py_objects.specs.Telling.{Given, Failed, Stopped, AfterValue, IsLiteral, Asked, Rounded}
@@ -60,19 +61,25 @@ LoadsAll scene line env h [] ts K next = next [] ts
 LoadsAll scene line env h (a ∷ atoms) ts K next =
     Loads scene line env h a ts (Use env K (λ v mid. LoadsAll scene line env h atoms mid K (λ vs. next (v ∷ vs))))
 
--- the request that an operator of two operands is
-abbrev pub request_of_two : Operator → Obj → Obj → Request
-request_of_two operator.Add a b = Binary binary.Add a b
-request_of_two operator.Sub a b = Binary binary.Subtract a b
-request_of_two operator.Lt a b = Compare comparison.Less a b
-request_of_two operator.Eq a b = Compare comparison.Equal a b
+-- a request of two operands, where there are two
+abbrev pub of_two : (Obj → Obj → Request) → List Obj → Option Request
+of_two r [] = None
+of_two r (a ∷ []) = None
+of_two r (a ∷ b ∷ []) = Some (r a b)
+of_two r (a ∷ b ∷ c ∷ vs) = None
+
+-- the call of the first with the others
+abbrev pub of_call : List Obj → Option Request
+of_call [] = None
+of_call (f ∷ vs) = Some (Call f vs keywords.None)
 
 -- the request that an operator is, where it has as many operands as it takes
 abbrev pub request_of : Operator → List Obj → Option Request
-request_of op [] = None
-request_of op (a ∷ []) = None
-request_of op (a ∷ b ∷ []) = Some (request_of_two op a b)
-request_of op (a ∷ b ∷ c ∷ vs) = None
+request_of operator.Add vs = of_two (Binary binary.Add) vs
+request_of operator.Sub vs = of_two (Binary binary.Subtract) vs
+request_of operator.Lt vs = of_two (Compare comparison.Less) vs
+request_of operator.Eq vs = of_two (Compare comparison.Equal) vs
+request_of operator.Call vs = of_call vs
 
 abbrev pub Requests_if : Scene → ℕ → Option Request → Option PyBaseExceptionRef → List Own → AfterValue → Type 0
 Requests_if scene line None h ts K = ⊥

@@ -28,7 +28,7 @@ pub fn compile_body(alloc: Global, names: &mut Names, body: &Body) -> Result<Ann
     ensures grows { Continues names.old names.new }
 {
     let emitter = emit_body(alloc, body)?;
-    let notes = notes_of(alloc, emitter.units.as_slice())?;
+    let noted = notes_of(alloc, emitter.units.as_slice())?;
     let source_path = names.intern("<script>")?;
     let obj_name = intern_text(alloc, names, &body.name)?;
     let varnames = intern_all(alloc, names, emitter.locals.as_slice())?;
@@ -42,7 +42,7 @@ pub fn compile_body(alloc: Global, names: &mut Names, body: &Body) -> Result<Ann
         kwonlyarg_count: 0,
         source_path,
         first_line_number: Some(body.line),
-        max_stackdepth: 2,
+        max_stackdepth: noted.most_values,
         obj_name,
         cell2arg: Vec::new(alloc),
         constants: emitter.constants,
@@ -51,7 +51,10 @@ pub fn compile_body(alloc: Global, names: &mut Names, body: &Body) -> Result<Ann
         cellvars: Vec::new(alloc),
         freevars: Vec::new(alloc),
     });
-    Ok(Annotated { code, notes })
+    Ok(Annotated {
+        code,
+        notes: noted.notes,
+    })
 }
 
 /// The units of a body with all that they refer to.

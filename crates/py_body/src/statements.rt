@@ -1,11 +1,11 @@
 //! The code of each form of statement.
 
-ghost use Rattle.std.specs.Prelude.{◌≡◌, ◌+◌, ◌*◌, ◌≤◌, length, false, Some, None, IfOk, OnOk};
-ghost use Rattle.py_code.specs.declared.instruction.Instruction.TheVariants.{BinaryOperation, CompareOperation, LoadConst};
+ghost use Rattle.std.specs.Prelude.{◌≡◌, ◌+◌, ◌*◌, ◌≤◌, length, true, false, Some, None, IfOk, OnOk};
+ghost use Rattle.py_code.specs.declared.instruction.Instruction.TheVariants.{BinaryOperation, CallFunctionPositional, CompareOperation, LoadConst};
 ghost use Rattle.py_code.specs.Operators.{binary_number, comparison_number};
 ghost use Rattle.py_check.specs.Constants.{has_code};
 ghost use Rattle.py_body.specs.Tree.{assign, branch, choice, form_of, give, loop, operate, show, suite_of};
-ghost use Rattle.py_body.specs.Binding.{arity_of, FormTakes, SuiteTakes, statements, statements_in};
+ghost use Rattle.py_body.specs.Binding.{takes_count, FormTakes, SuiteTakes, statements, statements_in};
 ghost use Rattle.py_body.specs.Code.{LaidOperator};
 ghost use Rattle.py_body.specs.Emitting.{parts_of, most_units, HasRoom, IsMatched, Emits, EmitsAtom, EmitsAtoms, EmitsConst, EmitsForm, EmitsOperation, EmitsSuite, EmitsTest, EmitsUnit};
 
@@ -145,7 +145,7 @@ impl Emitter {
         line: u32,
     ) -> Result<(), NoMemory>
         requires room { HasRoom (parts_of self.old) most_units }
-        requires takes { length atoms.now ≡ arity_of operator }
+        requires takes { takes_count operator (length atoms.now) ≡ true }
         ensures code { OnOk result (EmitsForm self.old.width (parts_of self.old) (parts_of self.new) (operate (Some name.now) operator atoms.now) line) }
         ensures width { self.new.width ≡ self.old.width }
     {
@@ -161,7 +161,7 @@ impl Emitter {
         line: u32,
     ) -> Result<(), NoMemory>
         requires room { HasRoom (parts_of self.old) most_units }
-        requires takes { length atoms.now ≡ arity_of operator }
+        requires takes { takes_count operator (length atoms.now) ≡ true }
         ensures code { OnOk result (EmitsForm self.old.width (parts_of self.old) (parts_of self.new) (operate None operator atoms.now) line) }
         ensures width { self.new.width ≡ self.old.width }
     {
@@ -196,18 +196,20 @@ impl Emitter {
         atoms: &AtomList,
         line: u32,
     ) -> Result<(), NoMemory>
-        requires { HasRoom (parts_of self.old) (4 * length atoms.now) }
+        requires room { HasRoom (parts_of self.old) (4 * length atoms.now) }
+        requires takes { takes_count operator (length atoms.now) ≡ true }
         ensures code { OnOk result (EmitsOperation (parts_of self.old) (parts_of self.new) operator atoms.now line) }
         ensures width { self.new.width ≡ self.old.width }
     {
         self.compile_atoms(atoms, line)?;
-        self.emit_operator(operator, line)
+        self.emit_operator(operator, atoms.len() as u32, line)
     }
 
-    /// Adds the unit that an operator is.
-    fn emit_operator(&mut self, operator: Operator, line: u32) -> Result<(), NoMemory>
-        requires { IsMatched (parts_of self.old) }
-        ensures code { OnOk result (Emits (parts_of self.old) (parts_of self.new) 4 (λ whole at next. LaidOperator whole line at operator next)) }
+    /// Adds the unit that an operator of so many atoms is.
+    fn emit_operator(&mut self, operator: Operator, count: u32, line: u32) -> Result<(), NoMemory>
+        requires matched { IsMatched (parts_of self.old) }
+        requires takes { takes_count operator count ≡ true }
+        ensures code { OnOk result (Emits (parts_of self.old) (parts_of self.new) 4 (λ whole at next. LaidOperator whole line at operator count next)) }
         ensures width { self.new.width ≡ self.old.width }
     {
         match operator {
@@ -215,7 +217,17 @@ impl Emitter {
             Operator::Sub => self.emit_binary(BinaryOperator::Subtract, line),
             Operator::Lt => self.emit_comparison(ComparisonOperator::Less, line),
             Operator::Eq => self.emit_comparison(ComparisonOperator::Equal, line),
+            Operator::Call => self.emit_call(count - 1, line),
         }
+    }
+
+    /// Adds the call of a callee with as many arguments.
+    fn emit_call(&mut self, arguments: u32, line: u32) -> Result<(), NoMemory>
+        requires { IsMatched (parts_of self.old) }
+        ensures code { OnOk result (EmitsUnit (parts_of self.old) (parts_of self.new) CallFunctionPositional arguments line) }
+        ensures width { self.new.width ≡ self.old.width }
+    {
+        self.emit(Instruction::CallFunctionPositional, arguments, line)
     }
 
     /// Adds an operator of two values.

