@@ -179,7 +179,7 @@ pub script_ran : (text : Text) (ts : List Tree) (ds : List Drive) (rows : List R
 script_ran text ts ds rows s e =
     let f : Some rows ≡ Some (items_rows s.items) = sym e ∙ s.spelled in
     let g : rows ≡ items_rows s.items = cc f in
-    ap (run start) g ∙ items_read s.items [] [] s.well ∙ ap (λ x. Some (state x (drives_in s.items) None)) (sym s.declared) ∙ ap (λ x. Some (state ts x None)) (sym s.driven)
+    ap (run start) g ∙ items_read s.items [] [] 0 refl s.well ∙ ap (λ x. Some (state x (drives_in s.items) None)) (sym s.declared) ∙ ap (λ x. Some (state ts x None)) (sym s.driven)
 
 -- no script goes on with a line that is refused
 pub refused : (front : Text) (st : State) (l : List ℕ) → Been front st → takes_line st (after 1 front) (says l) ≡ None → BeginsLines (front ++ l ∷ []) → ⊥

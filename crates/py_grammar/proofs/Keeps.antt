@@ -1,24 +1,24 @@
 -- What the rules on scripts keep for the layers above.
-use Rattle.std.proofs.Common.{◌≡◌, ◌≢◌, ◌<◌, ℕ, List, [], ◌∷◌, ◌++◌, length, Bool, true, false, ◌&&◌, not, refl, sym, ◌∙◌, append_assoc, append-nil, subst, arith, map, get_or, suc, zero}
+use Rattle.std.proofs.Common.{◌≡◌, ◌≢◌, ◌<◌, ℕ, List, [], ◌∷◌, ◌++◌, ◌+◌, Some, slice_get, length, Bool, true, false, ◌&&◌, not, refl, sym, ◌∙◌, append_assoc, append-nil, subst, arith, map, get_or, suc, zero}
 use Rattle.std.proofs.lemmas.List.{map-append}
 use Rattle.std.proofs.lemmas.List.Elements.{All-nil, All-cons}
 use Rattle.std.proofs.lemmas.List.Kept.{AllPairs-cons}
 use Rattle.std.proofs.lemmas.List.Quantifiers.{all_pairs_push}
 use Rattle.std.proofs.lemmas.List.Folds.{Any-from_list_any, list_any-append}
-use Rattle.std.proofs.lemmas.Bool.{eqb-true, leb-true, and_parts, or_parts, or_left}
+use Rattle.std.proofs.lemmas.Bool.{leb-true, and_parts, or_parts, or_left}
 use Rattle.std.proofs.lemmas.Slice.Eq.{bytes_eq-Decides}
-use Rattle.std.specs.Prelude.{All, Any, bytes_eq, nat_le, ◌==◌}
+use Rattle.std.specs.Prelude.{All, Any, bytes_eq, nat_le}
 use Rattle.std.specs.List.{list_any, list_all}
-use Rattle.py_body.specs.declared.atom.Atom.{Atom}
-use Rattle.py_body.specs.declared.atom.Atom.TheVariants as atom
 use Rattle.py_body.specs.Tree.{Name, Form, assign, operate, show, give, pass, branch, choice, loop, Suite, nothing, first, Tree}
-use Rattle.py_body.specs.Binding.{FormTakes, SuiteTakes, arity_of}
+use Rattle.py_body.specs.Binding.{FormTakes, SuiteTakes, takes_count}
+use Rattle.py_grammar.specs.declared.drive.DriveAtom.{DriveAtom}
+use Rattle.py_grammar.specs.declared.drive.DriveAtom.TheVariants as drive
 use Rattle.py_grammar.specs.declared.script.Script.{Script}
 use Rattle.py_grammar.specs.Drive.{Drive}
-use Rattle.py_grammar.specs.Rules.{is_among, all_differ, declares, is_builtin_class, may_declare, takes, is_literal, may_drive, is_usable, is_bindable_if, may_operate}
+use Rattle.py_grammar.specs.Rules.{is_among, all_differ, declares, is_builtin_class, may_declare, is_drivable, may_drive, is_usable, is_bindable_if, may_operate}
 use Rattle.py_grammar.specs.Grammar.{Item, Declares, Drives, WellForm, WellSuite, WellItems, trees_in, drives_in}
 use Rattle.py_grammar.specs.Script.{Text, Spells, IsScript}
-use Rattle.py_grammar.specs.WellFormed.{IsLiteral, AreDistinct, IsWellDeclared, Calls, IsWellDriven, AreWellFormed, IsWellFormed}
+use Rattle.py_grammar.specs.WellFormed.{AreDistinct, IsWellDeclared, IsDrivable, IsWellDriven, AreWellFormed, IsWellFormed}
 
 -- what a test tells that fails
 
@@ -43,12 +43,12 @@ all_by_test : {X : Type 0} (p : X → Bool) (P : X → Type 0) → ((x : X) → 
 all_by_test p P f [] h = All-nil P
 all_by_test p P f (x ∷ xs) h = All-cons P x xs (f x (and_parts (p x) (list_all p xs) h).0) (all_by_test p P f xs (and_parts (p x) (list_all p xs) h).1)
 
--- operators take as many arguments as they should
+-- operators take so many atoms
 mutual
   form_keeps : (blocks : ℕ) (f : Form) → WellForm blocks f → FormTakes f
   form_keeps blocks (assign x a) w = tt
   form_keeps blocks (operate x op atoms) w =
-      eqb-true (length atoms) (arity_of op) (and_parts (length atoms == arity_of op) (list_all is_usable atoms) (and_parts (is_bindable_if x) (may_operate op atoms) w).1).0
+      (and_parts (takes_count op (length atoms)) (list_all is_usable atoms) (and_parts (is_bindable_if x) (may_operate op atoms) w).1).0
   form_keeps blocks (show a) w = tt
   form_keeps blocks (give a) w = tt
   form_keeps blocks pass w = tt
@@ -93,58 +93,71 @@ names_push ts t h w =
     subst AreDistinct (sym (map-append (λ t. t.name) ts (t ∷ []))) (all_pairs_push (λ x y. x ≢ y) (map (λ t. t.name) ts) t.name w (not_declared t.name ts h))
 
 -- the names of all declarations, behind those that are there
-names_keep : (is : List Item) (ts : List Tree) → WellItems ts is → AreDistinct (map (λ t. t.name) ts) → AreDistinct (map (λ t. t.name) (ts ++ trees_in is))
-names_keep [] ts w v = subst (λ x. AreDistinct (map (λ t. t.name) x)) (sym (append-nil ts)) v
-names_keep (Declares t ∷ is) ts w v =
-    subst (λ x. AreDistinct (map (λ t. t.name) x)) (append_assoc ts (t ∷ []) (trees_in is)) (names_keep is (ts ++ t ∷ []) w.1.1 (names_push ts t (new_by_test ts t w.0) v))
-names_keep (Drives d ∷ is) ts w v = names_keep is ts w.1 v
+names_keep : (is : List Item) (ts : List Tree) (made : ℕ) → WellItems ts made is → AreDistinct (map (λ t. t.name) ts) → AreDistinct (map (λ t. t.name) (ts ++ trees_in is))
+names_keep [] ts made w v = subst (λ x. AreDistinct (map (λ t. t.name) x)) (sym (append-nil ts)) v
+names_keep (Declares t ∷ is) ts made w v =
+    subst (λ x. AreDistinct (map (λ t. t.name) x)) (append_assoc ts (t ∷ []) (trees_in is)) (names_keep is (ts ++ t ∷ []) made w.1.1 (names_push ts t (new_by_test ts t w.0) v))
+names_keep (Drives d ∷ is) ts made w v = names_keep is ts (suc made) w.1 v
 
 -- all declarations of the items
-trees_keep : (is : List Item) (ts : List Tree) → WellItems ts is → All IsWellDeclared (trees_in is)
-trees_keep [] ts w = All-nil IsWellDeclared
-trees_keep (Declares t ∷ is) ts w = All-cons IsWellDeclared t (trees_in is) (declared_keeps ts t w.0 w.1.0) (trees_keep is (ts ++ t ∷ []) w.1.1)
-trees_keep (Drives d ∷ is) ts w = trees_keep is ts w.1
+trees_keep : (is : List Item) (ts : List Tree) (made : ℕ) → WellItems ts made is → All IsWellDeclared (trees_in is)
+trees_keep [] ts made w = All-nil IsWellDeclared
+trees_keep (Declares t ∷ is) ts made w = All-cons IsWellDeclared t (trees_in is) (declared_keeps ts t w.0 w.1.0) (trees_keep is (ts ++ t ∷ []) made w.1.1)
+trees_keep (Drives d ∷ is) ts made w = trees_keep is ts (suc made) w.1
 
--- what takes these arguments is called by the drive
-calls_by_test : (d : Drive) (t : Tree) → takes d.function (length d.args) t ≡ true → Calls d t
-calls_by_test d t h = record {
-  function = sym ((bytes_eq-Decides d.function t.name).0 (and_parts (bytes_eq d.function t.name) (length t.params == length d.args) h).0);
-  count = eqb-true (length t.params) (length d.args) (and_parts (bytes_eq d.function t.name) (length t.params == length d.args) h).1;
-}
+-- a name that is declared here is so with more behind
+declared_by_test : (x : Name) (ts more : List Tree) → declares x ts ≡ true → Any (λ t. t.name ≡ x) (ts ++ more)
+declared_by_test x ts more h =
+    let named : Tree → Bool = λ t. bytes_eq x t.name in
+    let a = Any-from_list_any named (ts ++ more) (list_any-append named ts more ∙ or_left (list_any named ts) (list_any named more) h) in
+    (a.0, a.1, a.2, a.3, sym ((bytes_eq-Decides x a.1.name).0 a.4))
 
-any_calls : (d : Drive) (ts : List Tree) → list_any (takes d.function (length d.args)) ts ≡ true → Any (Calls d) ts
-any_calls d ts h = let a = Any-from_list_any (takes d.function (length d.args)) ts h in (a.0, a.1, a.2, a.3, calls_by_test d a.1 a.4)
-
-literal_by_test : (a : Atom) → is_literal a ≡ true → IsLiteral a
-literal_by_test atom.None h = tt
-literal_by_test (atom.Bool b) h = tt
-literal_by_test (atom.Int n) h = tt
-literal_by_test (atom.Str s) h = tt
-literal_by_test (atom.Name x) h = cc
+drivable_by_test : (ts more : List Tree) (made : ℕ) (a : DriveAtom) → is_drivable ts made a ≡ true → IsDrivable (ts ++ more) made a
+drivable_by_test ts more made drive.None h = tt
+drivable_by_test ts more made (drive.Bool b) h = tt
+drivable_by_test ts more made (drive.Int n) h = tt
+drivable_by_test ts more made (drive.Str s) h = tt
+drivable_by_test ts more made (drive.Name x) h = declared_by_test x ts more h
+drivable_by_test ts more made (drive.Drive n) h = (leb-true 1 n (and_parts (nat_le 1 n) (nat_le n made) h).0, leb-true n made (and_parts (nat_le 1 n) (nat_le n made) h).1)
 
 -- a drive, behind these declarations and with others to follow
-drive_keeps : (ts more : List Tree) (d : Drive) → may_drive ts d.function d.args ≡ true → IsWellDriven (ts ++ more) d
-drive_keeps ts more d h =
-    let called : Bool = list_any (takes d.function (length d.args)) ts in
-    let literals : Bool = list_all is_literal d.args in
+drive_keeps : (ts more : List Tree) (made : ℕ) (d : Drive) → may_drive ts made d.function d.args ≡ true → IsWellDriven (ts ++ more) made d
+drive_keeps ts more made d h =
+    let called : Bool = declares d.function ts in
+    let few : Bool = nat_le (length d.args) 255 in
+    let drivable : Bool = list_all (is_drivable ts made) d.args in
+    let front : (called && few) ≡ true = (and_parts (called && few) drivable h).0 in
     record {
-      calls = any_calls d (ts ++ more) (list_any-append (takes d.function (length d.args)) ts more ∙ or_left called (list_any (takes d.function (length d.args)) more) (and_parts called literals h).0);
-      literals = all_by_test is_literal IsLiteral literal_by_test d.args (and_parts called literals h).1;
+      function = declared_by_test d.function ts more (and_parts called few front).0;
+      few = leb-true (length d.args) 255 (and_parts called few front).1;
+      args = all_by_test (is_drivable ts made) (IsDrivable (ts ++ more) made) (drivable_by_test ts more made) d.args (and_parts (called && few) drivable h).1;
     }
 
--- all drives of the items
-drives_keep : (is : List Item) (ts : List Tree) → WellItems ts is → All (IsWellDriven (ts ++ trees_in is)) (drives_in is)
-drives_keep [] ts w = All-nil (IsWellDriven (ts ++ []))
-drives_keep (Declares t ∷ is) ts w = subst (λ x. All (IsWellDriven x) (drives_in is)) (append_assoc ts (t ∷ []) (trees_in is)) (drives_keep is (ts ++ t ∷ []) w.1.1)
-drives_keep (Drives d ∷ is) ts w = All-cons (IsWellDriven (ts ++ trees_in is)) d (drives_in is) (drive_keeps ts (trees_in is) d w.0) (drives_keep is ts w.1)
+-- each drive of the items, behind the declarations and the drives in front of it
+drives_keep : (is : List Item) (ts : List Tree) (made : ℕ) → WellItems ts made is → (i : ℕ) (d : Drive) → slice_get (drives_in is) i ≡ Some d → IsWellDriven (ts ++ trees_in is) (made + i) d
+drives_keep [] ts made w i d at = cc at
+drives_keep (Declares t ∷ is) ts made w i d at =
+    subst (λ x. IsWellDriven x (made + i) d) (append_assoc ts (t ∷ []) (trees_in is)) (drives_keep is (ts ++ t ∷ []) made w.1.1 i d at)
+drives_keep (Drives d ∷ is) ts made w zero e at =
+    let same : d ≡ e = cc at in
+    let none : made ≡ made + 0 = omega arith in
+    subst (IsWellDriven (ts ++ trees_in is) (made + 0)) same (subst (λ n. IsWellDriven (ts ++ trees_in is) n d) none (drive_keeps ts (trees_in is) made d w.0))
+drives_keep (Drives d ∷ is) ts made w (suc i) e at =
+    let one : suc made + i ≡ made + suc i = omega arith in
+    subst (λ n. IsWellDriven (ts ++ trees_in is) n e) one (drives_keep is ts (suc made) w.1 i e at)
+
+driven_from_none : (is : List Item) → WellItems [] 0 is → (i : ℕ) (d : Drive) → slice_get (drives_in is) i ≡ Some d → IsWellDriven (trees_in is) i d
+driven_from_none is w i d at =
+    let none : 0 + i ≡ i = omega arith in
+    subst (λ n. IsWellDriven (trees_in is) n d) none (drives_keep is [] 0 w i d at)
 
 -- what is spelled by lines keeps it
 pub spelled_keeps : (text : Text) (ts : List Tree) (ds : List Drive) → Spells text ts ds → AreWellFormed ts ds
 spelled_keeps text ts ds s =
     let w : AreWellFormed (trees_in s.items) (drives_in s.items) = record {
-      declared = trees_keep s.items [] s.well;
-      distinct = names_keep s.items [] s.well (distinct_by_test [] refl);
-      driven = drives_keep s.items [] s.well;
+      declared = trees_keep s.items [] 0 s.well;
+      distinct = names_keep s.items [] 0 s.well (distinct_by_test [] refl);
+      driven = λ i d at. driven_from_none s.items s.well i d at;
     } in
     subst (λ x. AreWellFormed x ds) (sym s.declared) (subst (λ x. AreWellFormed (trees_in s.items) x) (sym s.driven) w)
 

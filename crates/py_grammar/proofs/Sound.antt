@@ -1,5 +1,5 @@
 -- What the reader has is what it has read.
-use Rattle.std.proofs.Common.{◌≡◌, ℕ, suc, length, List, [], ◌∷◌, ◌++◌, Option, Some, None, Bool, true, false, ◌&&◌, refl, sym, ap, ◌∙◌, append_assoc, append-nil, subst, rules}
+use Rattle.std.proofs.Common.{◌≡◌, ℕ, suc, length, List, [], ◌∷◌, ◌++◌, ◌+◌, arith, Option, Some, None, Bool, true, false, ◌&&◌, refl, sym, ap, ◌∙◌, append_assoc, append-nil, subst, rules}
 use Rattle.py_body.specs.Tree.{Form, assign, operate, show, give, pass, Suite, nothing, first, joined, add, Tree}
 use Rattle.py_grammar.specs.declared.line.Line.{Line}
 use Rattle.py_grammar.specs.declared.line.Line.TheVariants as line
@@ -143,7 +143,7 @@ pub record Came (rows : List Row) (ts : List Tree) (ds : List Drive) (i : Option
   pub spelled : rows ≡ items_rows items ++ inside_rows i
   pub declared : ts ≡ trees_in items
   pub driven : ds ≡ drives_in items
-  pub well : WellItems [] items
+  pub well : WellItems [] 0 items
   pub well_open : WellInside ts i
 
 -- what one list of items behind another has
@@ -161,24 +161,35 @@ drives_in-append [] js = refl
 drives_in-append (Declares t ∷ is) js = drives_in-append is js
 drives_in-append (Drives d ∷ is) js = ap (λ r. d ∷ r) (drives_in-append is js)
 
-well_append : (is js : List Item) (ts : List Tree) → WellItems ts is → WellItems (ts ++ trees_in is) js → WellItems ts (is ++ js)
-well_append [] js ts w v = subst (λ x. WellItems x js) (append-nil ts) v
-well_append (Declares t ∷ is) js ts w v = (w.0, (w.1.0, well_append is js (ts ++ t ∷ []) w.1.1 (subst (λ x. WellItems x js) (sym (append_assoc ts (t ∷ []) (trees_in is))) v)))
-well_append (Drives d ∷ is) js ts w v = (w.0, well_append is js ts w.1 v)
+well_append : (is js : List Item) (ts : List Tree) (made : ℕ) → WellItems ts made is → WellItems (ts ++ trees_in is) (made + length (drives_in is)) js → WellItems ts made (is ++ js)
+well_append [] js ts made w v =
+    let none : made + 0 ≡ made = omega arith in
+    subst (λ n. WellItems ts n js) none (subst (λ x. WellItems x (made + 0) js) (append-nil ts) v)
+well_append (Declares t ∷ is) js ts made w v =
+    (w.0, (w.1.0, well_append is js (ts ++ t ∷ []) made w.1.1 (subst (λ x. WellItems x (made + length (drives_in is)) js) (sym (append_assoc ts (t ∷ []) (trees_in is))) v)))
+well_append (Drives d ∷ is) js ts made w v =
+    let one : made + suc (length (drives_in is)) ≡ suc made + length (drives_in is) = omega arith in
+    (w.0, well_append is js ts (suc made) w.1 (subst (λ n. WellItems (ts ++ trees_in is) n js) one v))
 
 abbrev pub CameTo : List Row → Option State → Type 0
 CameTo rows None = Unit {0}
 CameTo rows (Some s) = Came rows s.trees s.drives s.inside
 
+-- items behind none
+well_behind : (is js : List Item) → WellItems [] 0 is → WellItems (trees_in is) (length (drives_in is)) js → WellItems [] 0 (is ++ js)
+well_behind is js w v =
+    let none : length (drives_in is) ≡ 0 + length (drives_in is) = omega arith in
+    well_append is js [] 0 w (subst (λ n. WellItems (trees_in is) n js) none v)
+
 -- one more item
 one_item : (rows all : List Row) (ts : List Tree) (ds : List Drive) (i : Option Open) (it : Item) (c : Came rows ts ds i)
-    → all ≡ items_rows c.items ++ item_rows it → WellItems ts (it ∷ []) → Came all (ts ++ trees_in (it ∷ [])) (ds ++ drives_in (it ∷ [])) None
+    → all ≡ items_rows c.items ++ item_rows it → WellItems ts (length ds) (it ∷ []) → Came all (ts ++ trees_in (it ∷ [])) (ds ++ drives_in (it ∷ [])) None
 one_item rows all ts ds i it c e w = record {
   items = c.items ++ it ∷ [];
   spelled = e ∙ ap (λ r. items_rows c.items ++ r) (sym (append-nil (item_rows it))) ∙ sym (items_rows-append c.items (it ∷ [])) ∙ sym (append-nil _);
   declared = ap (λ x. x ++ trees_in (it ∷ [])) c.declared ∙ sym (trees_in-append c.items (it ∷ []));
   driven = ap (λ x. x ++ drives_in (it ∷ [])) c.driven ∙ sym (drives_in-append c.items (it ∷ []));
-  well = well_append c.items (it ∷ []) [] c.well (subst (λ x. WellItems x (it ∷ [])) c.declared w);
+  well = well_behind c.items (it ∷ []) c.well (subst (λ n. WellItems (trees_in c.items) n (it ∷ [])) (ap length c.driven) (subst (λ x. WellItems x (length ds) (it ∷ [])) c.declared w));
   well_open = tt;
 }
 

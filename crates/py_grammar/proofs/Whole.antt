@@ -1,7 +1,8 @@
 -- The reader takes the rows of every script.
-use Rattle.std.proofs.Common.{◌≡◌, ℕ, suc, length, List, [], ◌∷◌, ◌++◌, Option, Some, None, refl, sym, ap, ◌∙◌, append_assoc, append-nil}
+use Rattle.std.proofs.Common.{◌≡◌, ℕ, suc, length, List, [], ◌∷◌, ◌++◌, Option, Some, None, refl, sym, ap, ◌∙◌, append_assoc, append-nil, length-append, subst, arith, true}
 use Rattle.py_body.specs.Tree.{Name, Form, assign, operate, show, give, pass, branch, choice, loop, Suite, nothing, first, joined, add, Tree}
 use Rattle.py_grammar.specs.Drive.{Drive}
+use Rattle.py_grammar.specs.Rules.{may_drive}
 use Rattle.py_grammar.specs.Grammar.{Row, Item, Declares, Drives, suite_rows, form_rows, end_row, else_row, items_rows, trees_in, drives_in, WellForm, WellSuite, WellItems}
 use Rattle.py_grammar.specs.Reader.{Head, in_if, in_else, in_while, Block, State, state, accept}
 
@@ -68,12 +69,13 @@ module _ (ts : List Tree) (ds : List Drive) (line : ℕ) (name : Name) (params :
         ∙ ap (λ c. run (within bs c) rest) (joined_assoc done (first n f nothing) more)
 
 -- every script is read
-pub items_read : (is : List Item) (ts : List Tree) (ds : List Drive) → WellItems ts is → run (state ts ds None) (items_rows is) ≡ Some (state (ts ++ trees_in is) (ds ++ drives_in is) None)
-items_read [] ts ds w = rw (append-nil ts, append-nil ds) refl
-items_read (Declares t ∷ is) ts ds w =
+pub items_read : (is : List Item) (ts : List Tree) (ds : List Drive) (made : ℕ) → length ds ≡ made → WellItems ts made is → run (state ts ds None) (items_rows is) ≡ Some (state (ts ++ trees_in is) (ds ++ drives_in is) None)
+items_read [] ts ds made e w = rw (append-nil ts, append-nil ds) refl
+items_read (Declares t ∷ is) ts ds made e w =
     rw w.0 (ap (run (within ts ds t.line t.name t.params [] nothing)) (append_assoc (suite_rows t.suite) (end_row ∷ []) (items_rows is))
     ∙ suite_read ts ds t.line t.name t.params t.suite [] nothing (end_row ∷ items_rows is) w.1.0
-    ∙ items_read is (ts ++ t ∷ []) ds w.1.1
+    ∙ items_read is (ts ++ t ∷ []) ds made e w.1.1
     ∙ ap (λ x. Some (state x (ds ++ drives_in is) None)) (append_assoc ts (t ∷ []) (trees_in is)))
-items_read (Drives d ∷ is) ts ds w =
-    rw w.0 (items_read is ts (ds ++ d ∷ []) w.1 ∙ ap (λ x. Some (state (ts ++ trees_in is) x None)) (append_assoc ds (d ∷ []) (drives_in is)))
+items_read (Drives d ∷ is) ts ds made e w =
+    let may : may_drive ts (length ds) d.function d.args ≡ true = subst (λ n. may_drive ts n d.function d.args ≡ true) (sym e) w.0 in
+    rw may (items_read is ts (ds ++ d ∷ []) (suc made) (omega (arith, e, length-append ds (d ∷ []))) w.1 ∙ ap (λ x. Some (state (ts ++ trees_in is) x None)) (append_assoc ds (d ∷ []) (drives_in is)))

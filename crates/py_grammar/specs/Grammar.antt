@@ -99,8 +99,8 @@ abbrev mutual
   WellSuite blocks nothing = Unit {0}
   WellSuite blocks (first n f more) = WellForm blocks f × WellSuite blocks more
 
--- so do the items that follow these declarations
-abbrev pub WellItems : List Tree → List Item → Type 0
-WellItems ts [] = Unit {0}
-WellItems ts (Declares t ∷ is) = (may_declare ts t.name t.params ≡ true) × (WellSuite 1 t.suite × WellItems (ts ++ t ∷ []) is)
-WellItems ts (Drives d ∷ is) = (may_drive ts d.function d.args ≡ true) × WellItems ts is
+-- so do the items that follow these declarations and so many drives
+abbrev pub WellItems : List Tree → ℕ → List Item → Type 0
+WellItems ts made [] = Unit {0}
+WellItems ts made (Declares t ∷ is) = (may_declare ts t.name t.params ≡ true) × (WellSuite 1 t.suite × WellItems (ts ++ t ∷ []) made is)
+WellItems ts made (Drives d ∷ is) = (may_drive ts made d.function d.args ≡ true) × WellItems ts (suc made) is

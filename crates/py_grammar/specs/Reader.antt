@@ -155,7 +155,7 @@ outside ts ds n (line.If a) = None
 outside ts ds n line.Else = None
 outside ts ds n (line.While a) = None
 outside ts ds n (line.Def f ps) = only_if (may_declare ts f ps) (state ts ds (Some (opened n f ps)))
-outside ts ds n (line.Call f args) = only_if (may_drive ts f args) (state ts (ds ++ record { function = f; args = args } ∷ []) None)
+outside ts ds n (line.Call f args) = only_if (may_drive ts (length ds) f args) (state ts (ds ++ record { function = f; args = args } ∷ []) None)
 
 abbrev pub accept_at : List Tree → List Drive → Option Open → ℕ → Line → Option State
 accept_at ts ds None n l = outside ts ds n l

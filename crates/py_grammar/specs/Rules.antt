@@ -1,11 +1,13 @@
 -- The rules on lines that look at what stands before them, each a test.
-use Rattle.std.specs.Prelude.{ℕ, Option, Some, None, List, [], ◌∷◌, length, Bool, true, false, ◌||◌, ◌&&◌, not, ◌==◌, nat_le, nat_lt, bytes_eq, codes}
+use Rattle.std.specs.Prelude.{ℕ, Option, Some, None, List, [], ◌∷◌, length, Bool, true, ◌||◌, ◌&&◌, not, nat_le, nat_lt, bytes_eq, codes}
 use Rattle.std.specs.List.{list_any, list_all}
 use Rattle.py_body.specs.declared.atom.Atom.{Atom}
 use Rattle.py_body.specs.declared.atom.Atom.TheVariants as atom
 use Rattle.py_body.specs.declared.atom.Operator.{Operator}
 use Rattle.py_body.specs.Tree.{Name, Tree}
-use Rattle.py_body.specs.Binding.{arity_of}
+use Rattle.py_body.specs.Binding.{takes_count}
+use Rattle.py_grammar.specs.declared.drive.DriveAtom.{DriveAtom}
+use Rattle.py_grammar.specs.declared.drive.DriveAtom.TheVariants as drive
 
 abbrev pub is_among : Name → List Name → Bool
 is_among x ys = list_any (bytes_eq x) ys
@@ -29,21 +31,20 @@ is_builtin_class f =
 abbrev pub may_declare : List Tree → Name → List Name → Bool
 may_declare ts f ps = not (declares f ts) && not (is_builtin_class f) && all_differ ps && nat_le (length ps) 255
 
--- whether a function has this name and takes this many arguments
-abbrev pub takes : Name → ℕ → Tree → Bool
-takes f n t = bytes_eq f t.name && (length t.params == n)
+-- whether, behind these declarations and so many drives, a drive may have this argument:
+-- a literal, the name of a declaration, or the number of a drive
+abbrev pub is_drivable : List Tree → ℕ → DriveAtom → Bool
+is_drivable ts made drive.None = true
+is_drivable ts made (drive.Bool b) = true
+is_drivable ts made (drive.Int n) = true
+is_drivable ts made (drive.Str s) = true
+is_drivable ts made (drive.Name x) = declares x ts
+is_drivable ts made (drive.Drive n) = nat_le 1 n && nat_le n made
 
-abbrev pub is_literal : Atom → Bool
-is_literal atom.None = true
-is_literal (atom.Bool b) = true
-is_literal (atom.Int n) = true
-is_literal (atom.Str s) = true
-is_literal (atom.Name x) = false
-
--- whether, behind these declarations, a drive may call this function with these arguments:
--- a declared function takes as many, and each is a literal
-abbrev pub may_drive : List Tree → Name → List Atom → Bool
-may_drive ts f args = list_any (takes f (length args)) ts && list_all is_literal args
+-- whether, behind these declarations and so many drives, a drive may call this function with these arguments:
+-- the function is declared, and it has at most 255 arguments, each of which may stand here
+abbrev pub may_drive : List Tree → ℕ → Name → List DriveAtom → Bool
+may_drive ts made f args = declares f ts && nat_le (length args) 255 && list_all (is_drivable ts made) args
 
 -- whether an atom may stand in a body: it isn't the name of a built-in class
 abbrev pub is_usable : Atom → Bool
@@ -61,9 +62,9 @@ abbrev pub is_bindable_if : Option Name → Bool
 is_bindable_if None = true
 is_bindable_if (Some x) = is_bindable x
 
--- whether an operator may take these atoms: it takes as many, and each may stand in a body
+-- whether an operator may take these atoms: it takes so many, and each may stand in a body
 abbrev pub may_operate : Operator → List Atom → Bool
-may_operate op atoms = (length atoms == arity_of op) && list_all is_usable atoms
+may_operate op atoms = takes_count op (length atoms) && list_all is_usable atoms
 
 -- whether one more block may be opened where so many are open, the body itself among them
 abbrev pub has_room : ℕ → Bool

@@ -6,12 +6,14 @@ use Rattle.py_body.specs.declared.atom.Atom.TheVariants as atom
 use Rattle.py_body.specs.declared.atom.Operator.{Operator}
 use Rattle.py_body.specs.declared.atom.Operator.TheVariants as operator
 use Rattle.py_body.specs.Tree.{Name}
+use Rattle.py_grammar.specs.declared.drive.DriveAtom.{DriveAtom}
+use Rattle.py_grammar.specs.declared.drive.DriveAtom.TheVariants as drive
 use Rattle.py_grammar.specs.declared.line.Line.{Line}
 use Rattle.py_grammar.specs.declared.line.Line.TheVariants as line
 use Rattle.py_grammar.specs.declared.line.LineRead.{LineRead}
 use Rattle.py_grammar.specs.declared.line.LineRead.TheVariants.{Blank, Said, Malformed}
 use Rattle.py_grammar.specs.Tokens.{Lexeme, Open, Close, Equals, Word, is_blank, tokens_of}
-use Rattle.py_grammar.specs.Words.{is_name, number_of, quoted_text}
+use Rattle.py_grammar.specs.Words.{is_name, number_of, drive_number, quoted_text}
 
 abbrev pub name_of : Lexeme → Option Name
 name_of (Word w) = if is_name w then Some w else None
@@ -45,12 +47,31 @@ atom_of Open = None
 atom_of Close = None
 atom_of Equals = None
 
+-- an atom of a body, as a drive has it
+abbrev pub drive_atom : Atom → DriveAtom
+drive_atom atom.None = drive.None
+drive_atom (atom.Bool b) = drive.Bool b
+drive_atom (atom.Int n) = drive.Int n
+drive_atom (atom.Str s) = drive.Str s
+drive_atom (atom.Name x) = drive.Name x
+
+-- the drive that a word names by its number, or else the atom that it is
+abbrev pub word_drive_atom : List ℕ → Option DriveAtom
+word_drive_atom w = or_else (option_map drive.Drive (drive_number w)) (option_map drive_atom (word_atom w))
+
+abbrev pub drive_atom_of : Lexeme → Option DriveAtom
+drive_atom_of (Word w) = word_drive_atom w
+drive_atom_of Open = None
+drive_atom_of Close = None
+drive_atom_of Equals = None
+
 abbrev pub word_operator : List ℕ → Option Operator
 word_operator w =
     if bytes_eq w (codes "add") then Some operator.Add
     else if bytes_eq w (codes "sub") then Some operator.Sub
     else if bytes_eq w (codes "lt") then Some operator.Lt
     else if bytes_eq w (codes "eq") then Some operator.Eq
+    else if bytes_eq w (codes "call") then Some operator.Call
     else None
 
 abbrev pub operator_of : Lexeme → Option Operator
@@ -86,10 +107,10 @@ abbrev pub def_form : List Lexeme → Option Line
 def_form [] = None
 def_form (name ∷ params) = both line.Def (name_of name) (each name_of params)
 
--- a name and the atoms of arguments
+-- a name and the arguments of a drive
 abbrev pub call_form : List Lexeme → Option Line
 call_form [] = None
-call_form (name ∷ args) = both line.Call (name_of name) (each atom_of args)
+call_form (name ∷ args) = both line.Call (name_of name) (each drive_atom_of args)
 
 abbrev pub is_open : Lexeme → Bool
 is_open Open = true

@@ -46,7 +46,7 @@ rows_from n (l ∷ ls) = with_read n (says l) (rows_from (suc n) ls)
 pub record Spells (text : Text) (trees : List Tree) (drives : List Drive) : Type 0 where
   pub items : List Item
   pub spelled : rows_from 1 text ≡ Some (items_rows items)
-  pub well : WellItems [] items
+  pub well : WellItems [] 0 items
   pub declared : trees ≡ trees_in items
   pub driven : drives ≡ drives_in items
 

@@ -1,20 +1,13 @@
 -- What every script keeps, as the layers above need it.
-use Rattle.std.specs.Prelude.{◌≡◌, ◌≢◌, ◌≤◌, List, length, false, All, Any, AllPairs, map}
-use Rattle.py_body.specs.declared.atom.Atom.{Atom}
-use Rattle.py_body.specs.declared.atom.Atom.TheVariants as atom
+use Rattle.std.specs.Prelude.{◌≡◌, ◌≢◌, ◌≤◌, ℕ, List, Some, length, false, All, Any, AllPairs, map, slice_get}
 use Rattle.py_body.specs.Tree.{Name, Tree}
 use Rattle.py_body.specs.Binding.{SuiteTakes}
+use Rattle.py_grammar.specs.declared.drive.DriveAtom.{DriveAtom}
+use Rattle.py_grammar.specs.declared.drive.DriveAtom.TheVariants as drive
 use Rattle.py_grammar.specs.declared.script.Script.{Script}
 use Rattle.py_grammar.specs.Drive.{Drive}
 use Rattle.py_grammar.specs.Rules.{is_builtin_class}
 use Rattle.py_grammar.specs.Script.{trees_of, drives_of}
-
-abbrev pub IsLiteral : Atom → Type 0
-IsLiteral atom.None = Unit {0}
-IsLiteral (atom.Bool b) = Unit {0}
-IsLiteral (atom.Int n) = Unit {0}
-IsLiteral (atom.Str s) = Unit {0}
-IsLiteral (atom.Name x) = ⊥
 
 -- no two are the same
 abbrev pub AreDistinct : List Name → Type 0
@@ -27,21 +20,26 @@ pub record IsWellDeclared (t : Tree) : Type 0 where
   pub few : length t.params ≤ 255
   pub takes : SuiteTakes t.suite
 
--- a drive calls this function with as many literals as it has parameters
-pub record Calls (d : Drive) (t : Tree) : Type 0 where
-  pub function : t.name ≡ d.function
-  pub count : length t.params ≡ length d.args
+-- among these declarations and behind so many drives, an argument of a drive is a literal, the name of a declaration or the number of a drive
+abbrev pub IsDrivable : List Tree → ℕ → DriveAtom → Type 0
+IsDrivable trees made drive.None = Unit {0}
+IsDrivable trees made (drive.Bool b) = Unit {0}
+IsDrivable trees made (drive.Int n) = Unit {0}
+IsDrivable trees made (drive.Str s) = Unit {0}
+IsDrivable trees made (drive.Name x) = Any (λ t. t.name ≡ x) trees
+IsDrivable trees made (drive.Drive n) = (1 ≤ n) × (n ≤ made)
 
--- a drive calls one of these functions, with literals
-pub record IsWellDriven (trees : List Tree) (d : Drive) : Type 0 where
-  pub calls : Any (Calls d) trees
-  pub literals : All IsLiteral d.args
+-- behind so many drives, a drive calls one of these functions
+pub record IsWellDriven (trees : List Tree) (made : ℕ) (d : Drive) : Type 0 where
+  pub function : Any (λ t. t.name ≡ d.function) trees
+  pub few : length d.args ≤ 255
+  pub args : All (IsDrivable trees made) d.args
 
 -- declarations and drives
 pub record AreWellFormed (trees : List Tree) (drives : List Drive) : Type 0 where
   pub declared : All IsWellDeclared trees
   pub distinct : AreDistinct (map (λ t. t.name) trees)
-  pub driven : All (IsWellDriven trees) drives
+  pub driven : (i : ℕ) (d : Drive) → slice_get drives i ≡ Some d → IsWellDriven trees i d
 
 -- a script
 abbrev pub IsWellFormed : Script → Type 0

@@ -1,5 +1,5 @@
 -- The words of a script: names, numbers and texts.
-use Rattle.std.specs.Prelude.{ℕ, ◌+◌, ◌-◌, ◌*◌, List, [], ◌∷◌, Bool, false, not, ◌||◌, ◌&&◌, if◌then◌else◌, ◌==◌, ◌^◌, nat_le, length, bytes_eq, codes, fold, Option, Some, None, ℤ, pos, negsuc, neg_ℤ, int_le, option_map}
+use Rattle.std.specs.Prelude.{ℕ, ◌+◌, ◌-◌, ◌*◌, List, [], ◌∷◌, Bool, false, not, ◌||◌, ◌&&◌, if◌then◌else◌, ◌==◌, ◌^◌, nat_le, nat_lt, length, bytes_eq, codes, fold, Option, Some, None, ℤ, pos, negsuc, neg_ℤ, int_le, option_map}
 use Rattle.std.specs.List.{list_all}
 
 -- whether a byte is one of these and those between them
@@ -76,9 +76,14 @@ digits_number digits = if are_digits digits then Some (value_of digits) else Non
 abbrev pub is_whole : ℤ → Bool
 is_whole n = int_le (negsuc (2 ^ 127 - 1)) n && int_le n (pos (2 ^ 127 - 1))
 
-abbrev pub in_range : Option ℤ → Option ℤ
-in_range None = None
-in_range (Some n) = if is_whole n then Some n else None
+-- whether a number has at most 64 bits
+abbrev pub is_short : ℕ → Bool
+is_short n = nat_lt n (2 ^ 64)
+
+-- a value that passes a test
+abbrev pub passing : {X : Type 0} → (X → Bool) → Option X → Option X
+passing p None = None
+passing p (Some x) = if p x then Some x else None
 
 -- digits, with a minus in front or without
 abbrev pub signed_number : List ℕ → Option ℤ
@@ -89,7 +94,16 @@ signed_number (b ∷ bs) =
 
 -- the number that a word spells, of at most 128 bits
 abbrev pub number_of : List ℕ → Option ℤ
-number_of word = in_range (signed_number word)
+number_of word = passing is_whole (signed_number word)
+
+-- the number that digits spell, of at most 64 bits
+abbrev pub short_number : List ℕ → Option ℕ
+short_number digits = passing is_short (digits_number digits)
+
+-- the number of the drive that a word names: $, then digits
+abbrev pub drive_number : List ℕ → Option ℕ
+drive_number [] = None
+drive_number (b ∷ bs) = if b == 36 then short_number bs else None
 
 -- whether a byte stands in a text: printable ASCII but for ' and \
 abbrev pub stands_in_text : ℕ → Bool

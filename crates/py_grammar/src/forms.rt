@@ -10,10 +10,11 @@ ghost use Rattle.py_grammar.specs.declared.line.Line.{Line};
 ghost use Rattle.py_grammar.specs.declared.line.Line.TheVariants.{Assign};
 ghost use Rattle.py_grammar.specs.declared.line.LineRead.TheVariants.{Blank, Malformed};
 ghost use Rattle.py_grammar.specs.Says.{each, alone, only_atom, before_close as before_close_in, begins_equals as begin_equals};
-ghost use Rattle.py_grammar.specs.Says.{in_parentheses, operate_form, do_form, value_form, def_form, call_form, assign_form, line_form, says};
+ghost use Rattle.py_grammar.specs.Says.{in_parentheses, operate_form, do_form, value_form, def_form, assign_form, line_form, says};
 ghost use Rattle.py_grammar.specs.Forms.{opening_form};
 
 use crate::comment::{is_comment, is_utf8};
+use crate::drive_forms::call_line;
 use crate::line::{Line, LineRead};
 use crate::token::{Token, tokens_of};
 use crate::words::{is_name, number_of, quoted_text};
@@ -22,7 +23,7 @@ use py_code::{NoMemory, PyText, text_of};
 use std::alloc::Global;
 
 /// The name that a token is.
-fn name_of(alloc: Global, token: &Token<'_>) -> Result<Option<PyText>, NoMemory>
+pub fn name_of(alloc: Global, token: &Token<'_>) -> Result<Option<PyText>, NoMemory>
     ensures { IfOk result (λ name. name ≡ name_in (lexeme_of token.now)) }
 {
     match token {
@@ -57,7 +58,7 @@ fn constant_atom(word: &[u8]) -> Option<Atom>
 }
 
 /// The constant, the number, the text or the name that a word is.
-fn word_atom(alloc: Global, word: &[u8]) -> Result<Option<Atom>, NoMemory>
+pub fn word_atom(alloc: Global, word: &[u8]) -> Result<Option<Atom>, NoMemory>
     ensures { IfOk result (λ atom. atom ≡ word_atom_in word.now) }
 {
     if let Some(constant) = constant_atom(word) {
@@ -144,19 +145,6 @@ fn def_line(alloc: Global, tokens: &[Token<'_>]) -> Result<Option<Line>, NoMemor
     }
 }
 
-/// The line of a `call` with these tokens behind it.
-fn call_line(alloc: Global, tokens: &[Token<'_>]) -> Result<Option<Line>, NoMemory>
-    ensures { IfOk result (λ line. line ≡ call_form (map lexeme_of tokens.now)) }
-{
-    let Some((name, args)) = tokens.split_first() else {
-        return Ok(None);
-    };
-    match (name_of(alloc, name)?, atoms_of(alloc, args)?) {
-        (Some(name), Some(args)) => Ok(Some(Line::Call(name, args))),
-        _ => Ok(None),
-    }
-}
-
 /// The operator that a word is.
 fn word_operator(word: &[u8]) -> Option<Operator>
     ensures { result ≡ word_operator_in word.now }
@@ -172,6 +160,9 @@ fn word_operator(word: &[u8]) -> Option<Operator>
     }
     if word == b"eq".as_slice() {
         return Some(Operator::Eq);
+    }
+    if word == b"call".as_slice() {
+        return Some(Operator::Call);
     }
     None
 }

@@ -2,6 +2,8 @@
 #![tactic(auto)]
 
 mod comment;
+mod drive;
+mod drive_forms;
 mod fault;
 mod forms;
 mod line;
@@ -17,7 +19,7 @@ mod tests;
 mod token;
 mod words;
 
+pub use drive::{DriveAtom, DriveAtomList};
 pub use fault::ParseFault;
-pub use name_table::NameTable;
 pub use parse::{one_script, parse_script};
 pub use script::{DeclList, Declaration, DriveLine, DriveList, Script};

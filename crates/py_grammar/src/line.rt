@@ -3,6 +3,7 @@
 ghost use Rattle.std.specs.Prelude.{◌≡◌};
 ghost use Rattle.py_grammar.specs.Reader.{is_end as is_end_line};
 
+use crate::drive::DriveAtomList;
 use py_body::{Atom, AtomList, Operator, ParamList};
 use py_code::PyText;
 
@@ -32,7 +33,7 @@ pub enum Line {
     /// `def f p ..`.
     Def(PyText, ParamList),
     /// `call f a ..`.
-    Call(PyText, AtomList),
+    Call(PyText, DriveAtomList),
 }
 
 impl Line {

@@ -1,8 +1,8 @@
 //! A table of names, in the order in which they came.
 //! A name is looked up by its hash, so a look-up among many names takes no longer than one among few.
 
-ghost use Rattle.std.specs.Prelude.{◌≡◌, ◌≢◌, ℕ, [], Some, slice_get, OnOk, OnErr, IfSome, IfNone};
-ghost use Rattle.py_code.specs.Names.{interned, place_of, TextsDiffer};
+ghost use Rattle.std.specs.Prelude.{◌≡◌, [], OnOk, OnErr};
+ghost use Rattle.py_code.specs.Names.{interned};
 ghost use Rattle.py_grammar.specs.Rules.{is_among};
 
 use indexmap::IndexSet;
@@ -10,7 +10,7 @@ use py_code::{NoMemory, PyText};
 use std::alloc::Global;
 use std::marker::Model;
 
-/// Distinct names, each with its place, from 0. Seen as their list.
+/// Distinct names. Seen as their list.
 #[derive(Drop)]
 pub struct NameTable {
     alloc: Global,
@@ -19,14 +19,11 @@ pub struct NameTable {
 
 impl Model for NameTable {
     ghost use Rattle.std.specs.Prelude.{List, map};
-    ghost use Rattle.py_code.specs.Names.{TextsDiffer};
     ghost use Rattle.py_body.specs.Tree.{Name};
 
     ghost Value = { List Name };
 
     ghost view = { λ t. map (λ name. name.items) t.names.keys };
-
-    ghost invariant = { λ t. TextsDiffer (map (λ name. name.items) t.names.keys) };
 }
 
 impl NameTable {
@@ -38,16 +35,6 @@ impl NameTable {
             alloc,
             names: IndexSet::new(alloc),
         }
-    }
-
-    /// The place where a name stands.
-    pub fn place(&self, name: &PyText) -> Option<usize>
-        ensures place { result ≡ place_of self.now name.now }
-        ensures found { IfSome result (λ at. slice_get self.now at ≡ Some name.now) }
-        ensures absent { IfNone result ((at : ℕ) → slice_get self.now at ≢ Some name.now) }
-        ensures differ { TextsDiffer self.now }
-    {
-        self.names.get_index_of(name.as_slice())
     }
 
     /// Whether a name stands in the table.

@@ -130,7 +130,7 @@ impl Reader {
                 }))
             }
             Line::Call(function, args) => {
-                if !may_drive(&names, &whole.declarations, &function, &args) {
+                if !may_drive(&names, &whole, &function, &args) {
                     return Ok(None);
                 }
                 let mut whole = whole;

@@ -1,16 +1,17 @@
 //! The rules on lines that look at what stands before them.
 
-ghost use Rattle.std.specs.Prelude.{◌≡◌, map, length, bytes_eq};
+ghost use Rattle.std.specs.Prelude.{◌≡◌, length, bytes_eq};
 ghost use Rattle.std.specs.List.{list_any, list_all};
-ghost use Rattle.py_body.specs.Binding.{arity_of as arity_in};
-ghost use Rattle.py_grammar.specs.Script.{declared_tree};
+ghost use Rattle.py_body.specs.Binding.{takes_count as takes_count_in};
+ghost use Rattle.py_grammar.specs.Script.{trees_of, drives_of};
 ghost use Rattle.py_grammar.specs.Rules.{is_among as is_among_names, all_differ as do_all_differ, is_builtin_class as is_builtin};
-ghost use Rattle.py_grammar.specs.Rules.{takes as takes_count, is_literal as is_literal_atom, may_drive as may_be_driven};
+ghost use Rattle.py_grammar.specs.Rules.{may_drive as may_be_driven};
 ghost use Rattle.py_grammar.specs.Rules.{is_bindable as is_bindable_name, is_usable as is_usable_atom, may_operate as may_be_operated};
-ghost use Rattle.py_grammar.specs.Tables.{may_head, names_of};
+ghost use Rattle.py_grammar.specs.Tables.{may_head, names_of, is_drivable_by, may_call as may_be_called};
 
+use crate::drive::{DriveAtom, DriveAtomList};
 use crate::name_table::NameTable;
-use crate::script::{DeclList, Declaration};
+use crate::script::Script;
 use py_body::{Atom, AtomList, Operator, ParamList};
 use py_code::{PyText, same_text};
 
@@ -74,53 +75,39 @@ pub fn may_declare(names: &NameTable, name: &PyText, params: &ParamList) -> bool
         && all_differ(params.as_slice())
 }
 
-/// How many arguments a function takes.
-fn takes(declaration: &Declaration) -> usize
-    ensures { result ≡ length (declared_tree declaration.now).params }
-{
-    match declaration {
-        Declaration::Function(body) => body.params.len(),
-    }
-}
-
-/// Whether one of these declarations, of which the table has the names, is a function of this name with so many parameters.
-fn is_callable(names: &NameTable, declarations: &DeclList, name: &PyText, count: usize) -> bool
-    requires { names.now ≡ names_of (map declared_tree declarations.now) }
-    ensures { result ≡ list_any (takes_count name.now count) (map declared_tree declarations.now) }
-{
-    let Some(place) = names.place(name) else {
-        return false;
-    };
-    match declarations.get(place) {
-        Some(declaration) => takes(declaration) == count,
-        None => false,
-    }
-}
-
-fn is_literal(atom: &Atom) -> bool
-    ensures { result ≡ is_literal_atom atom.now }
+/// Whether a drive may have this argument, behind declarations with the names of the table and so many drives.
+fn is_drivable(names: &NameTable, made: usize, atom: &DriveAtom) -> bool
+    ensures { result ≡ is_drivable_by names.now made atom.now }
 {
     match atom {
-        Atom::None => true,
-        Atom::Bool(_) => true,
-        Atom::Int(_) => true,
-        Atom::Str(_) => true,
-        Atom::Name(_) => false,
+        DriveAtom::None => true,
+        DriveAtom::Bool(_) => true,
+        DriveAtom::Int(_) => true,
+        DriveAtom::Str(_) => true,
+        DriveAtom::Name(name) => names.contains(name),
+        DriveAtom::Drive(number) => 1 <= *number && *number <= made as u64,
     }
 }
 
-fn are_literals(atoms: &[Atom]) -> bool
-    ensures { result ≡ list_all is_literal_atom atoms.now }
+fn are_drivable(names: &NameTable, made: usize, atoms: &[DriveAtom]) -> bool
+    ensures { result ≡ list_all (is_drivable_by names.now made) atoms.now }
 {
-    atoms.iter().all(is_literal)
+    atoms.iter().all(|atom| is_drivable(names, made, atom))
 }
 
-/// Whether a drive may call this function with these arguments, behind these declarations, of which the table has the names.
-pub fn may_drive(names: &NameTable, declarations: &DeclList, name: &PyText, args: &AtomList) -> bool
-    requires { names.now ≡ names_of (map declared_tree declarations.now) }
-    ensures { result ≡ may_be_driven (map declared_tree declarations.now) name.now args.now }
+/// Whether a drive may call this function with these arguments, behind declarations with the names of the table and so many drives.
+fn may_call(names: &NameTable, made: usize, name: &PyText, args: &DriveAtomList) -> bool
+    ensures { result ≡ may_be_called names.now made name.now args.now }
 {
-    is_callable(names, declarations, name, args.len()) && are_literals(args.as_slice())
+    args.len() <= 255 && names.contains(name) && are_drivable(names, made, args.as_slice())
+}
+
+/// Whether a drive may call this function with these arguments, behind a script of whose declarations the table has the names.
+pub fn may_drive(names: &NameTable, whole: &Script, name: &PyText, args: &DriveAtomList) -> bool
+    requires { names.now ≡ names_of (trees_of whole.now) }
+    ensures { result ≡ may_be_driven (trees_of whole.now) (length (drives_of whole.now)) name.now args.now }
+{
+    may_call(names, whole.drives.len(), name, args)
 }
 
 /// Whether a name may be bound in a body.
@@ -143,15 +130,17 @@ pub fn is_usable(atom: &Atom) -> bool
     }
 }
 
-/// How many arguments an operator takes.
-fn arity(op: Operator) -> usize
-    ensures { result ≡ arity_in op }
+/// Whether an operator takes so many atoms.
+fn takes_count(op: Operator, count: usize) -> bool
+    ensures { result ≡ takes_count_in op count }
 {
     match op {
-        Operator::Add => 2,
-        Operator::Sub => 2,
-        Operator::Lt => 2,
-        Operator::Eq => 2,
+        Operator::Add => count == 2,
+        Operator::Sub => count == 2,
+        Operator::Lt => count == 2,
+        Operator::Eq => count == 2,
+        // The callee, and at most 255 arguments.
+        Operator::Call => 1 <= count && count <= 256,
     }
 }
 
@@ -165,5 +154,5 @@ fn are_usable(atoms: &[Atom]) -> bool
 pub fn may_operate(op: Operator, atoms: &AtomList) -> bool
     ensures { result ≡ may_be_operated op atoms.now }
 {
-    atoms.len() == arity(op) && are_usable(atoms.as_slice())
+    takes_count(op, atoms.len()) && are_usable(atoms.as_slice())
 }

@@ -3,7 +3,8 @@
 ghost use Rattle.std.specs.Prelude.{◌≡◌};
 ghost use Rattle.py_grammar.specs.Script.{declared_tree};
 
-use py_body::{AtomList, Body};
+use crate::drive::DriveAtomList;
+use py_body::Body;
 use py_code::{ItemList, PyText};
 
 /// What a script declares.
@@ -31,7 +32,7 @@ pub type DeclList = ItemList<Declaration>;
 #[derive(Drop)]
 pub enum DriveLine {
     /// `call f a ..`: a function by its name, and its arguments.
-    Call(PyText, AtomList),
+    Call(PyText, DriveAtomList),
 }
 
 /// Drives in order.

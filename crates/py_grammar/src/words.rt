@@ -5,7 +5,7 @@ ghost use Rattle.std.specs.List.{list_all};
 ghost use Rattle.py_grammar.specs.Words.{starts_name as starts_name_byte, continues_name as continues_name_byte, is_spelled_as_name as is_spelled};
 ghost use Rattle.py_grammar.specs.Words.{is_constant_word as is_constant, is_declaring_word as is_declaring, is_block_word as is_block};
 ghost use Rattle.py_grammar.specs.Words.{is_jump_word as is_jump, is_statement_word as is_statement, is_inner_word as is_inner};
-ghost use Rattle.py_grammar.specs.Words.{is_reserved as is_reserved_word, is_name as is_name_word, number_of as number_in, quoted_text as quoted_text_in, stands_in_text as stands_in_text_byte};
+ghost use Rattle.py_grammar.specs.Words.{is_reserved as is_reserved_word, is_name as is_name_word, number_of as number_in, short_number as short_number_in, drive_number as drive_number_in, quoted_text as quoted_text_in, stands_in_text as stands_in_text_byte};
 
 fn starts_name(byte: u8) -> bool
     ensures { result ≡ starts_name_byte byte }
@@ -128,6 +128,31 @@ pub fn number_of(word: &[u8]) -> Option<i128>
         return None;
     };
     text.parse().ok()
+}
+
+/// The number that digits spell, of at most 64 bits.
+fn short_number(digits: &[u8]) -> Option<u64>
+    ensures { result ≡ short_number_in digits.now }
+{
+    if digits.starts_with(b"+") {
+        return None;
+    }
+    let Ok(text) = str::from_utf8(digits) else {
+        return None;
+    };
+    text.parse().ok()
+}
+
+/// The number of the drive that a word names: `$`, then digits.
+pub fn drive_number(word: &[u8]) -> Option<u64>
+    ensures { result ≡ drive_number_in word.now }
+{
+    let (first, digits) = word.split_first()?;
+    if *first == b'$' {
+        short_number(digits)
+    } else {
+        None
+    }
 }
 
 fn stands_in_text(byte: u8) -> bool

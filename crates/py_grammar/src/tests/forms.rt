@@ -1,6 +1,13 @@
 //! The forms of lines, with too few and too many tokens.
 
-use super::first_wrong;
+/// Texts by what they are about, each with its bad line, or with 0 where it is a script.
+pub const TABLES: &[&[(&[u8], u64)]] = &[
+    STATEMENTS,
+    BLOCKS,
+    KEYWORDS_AS_TARGETS,
+    CALLS,
+    DECLARATIONS_AND_DRIVES,
+];
 
 const STATEMENTS: &[(&[u8], u64)] = &[
     (b"def f a\nx = a\nend\n", 0),
@@ -115,6 +122,46 @@ const KEYWORDS_AS_TARGETS: &[(&[u8], u64)] = &[
     (b"call = 1\n", 1),
 ];
 
+const CALLS: &[(&[u8], u64)] = &[
+    (
+        b"def f g a\nx = (call g a)\ndo (call g)\nreturn x\nend\n",
+        0,
+    ),
+    (
+        b"def f\nx = (call f 1 'a b' None True y)\ndo(call f f)\ndo ( call f )\nend\n",
+        0,
+    ),
+    (
+        b"def f\nx = (call 1)\ndo (call None 2)\ndo (call 'f' x)\nend\n",
+        0,
+    ),
+    (b"def f call\ncall = (call call call)\nend\n", 0),
+    (b"def f\ndo (call)\nend\n", 2),
+    (b"def f\nx = (call)\nend\n", 2),
+    (b"def f\nx = (call f\nend\n", 2),
+    (b"def f\nx = call f\nend\n", 2),
+    (b"def f\nx = call f)\nend\n", 2),
+    (b"def f\nx = (call f) 1\nend\n", 2),
+    (b"def f\nx = (call = f)\nend\n", 2),
+    (b"def f\nx = (Call f)\nend\n", 2),
+    (b"def f\nx = ('call' f)\nend\n", 2),
+    (b"def f\nx = f(1)\nend\n", 2),
+    (b"def f\nx = (call f())\nend\n", 2),
+    (b"def f\nx = (call f(1))\nend\n", 2),
+    (b"def f\nx = (call (call f))\nend\n", 2),
+    (b"def f\nx = ((call f) 1)\nend\n", 2),
+    (b"def f\ndo (call f (add 1 2))\nend\n", 2),
+    (b"def f\ndo call f\nend\n", 2),
+    (b"def f\ncall f\nend\n", 2),
+    (b"def f\nshow (call f)\nend\n", 2),
+    (b"def f\nreturn (call f)\nend\n", 2),
+    (b"def f\nif (call f)\nend\nend\n", 2),
+    (b"def f\nx = $1\nend\n", 2),
+    (b"def f\nend\ncall f\ndef g\nshow $1\nend\n", 5),
+    (b"def f\nend\ncall f\ndef g\ndo (call f $1)\nend\n", 5),
+    (b"def f\nend\ncall f\ndef g\ndo (call $1)\nend\n", 5),
+];
+
 const DECLARATIONS_AND_DRIVES: &[(&[u8], u64)] = &[
     (b"def f\nend\n", 0),
     (b"def f a b c\nend\ncall f 1 'b' None\n", 0),
@@ -136,6 +183,10 @@ const DECLARATIONS_AND_DRIVES: &[(&[u8], u64)] = &[
     (b"def f a\nend\ncall f (1)\n", 3),
     (b"def f a\nend\ncall f = 1\n", 3),
     (b"def f\nend\nf\n", 3),
+    (b"def f\nend\ncall f\ncall $1\n", 4),
+    (b"def f\nend\ncall f\ncall f ($1)\n", 4),
+    (b"def f\nend\ncall f\ncall f $1 = 1\n", 4),
+    (b"def f\nend\ncall f\n$1\n", 4),
     (b"x = 1\n", 1),
     (b"x = (add 1 2)\n", 1),
     (b"show 1\n", 1),
@@ -146,23 +197,3 @@ const DECLARATIONS_AND_DRIVES: &[(&[u8], u64)] = &[
     (b"else\n", 1),
     (b"while 1\nend\n", 1),
 ];
-
-#[test]
-fn a_statement_has_a_form(rt: HostRuntime) {
-    assert_eq!(rt; first_wrong(rt.alloc(), STATEMENTS), None);
-}
-
-#[test]
-fn a_block_has_a_head_and_an_end(rt: HostRuntime) {
-    assert_eq!(rt; first_wrong(rt.alloc(), BLOCKS), None);
-}
-
-#[test]
-fn a_word_that_is_not_reserved_may_be_assigned_to(rt: HostRuntime) {
-    assert_eq!(rt; first_wrong(rt.alloc(), KEYWORDS_AS_TARGETS), None);
-}
-
-#[test]
-fn a_declaration_or_a_drive_stands_outside(rt: HostRuntime) {
-    assert_eq!(rt; first_wrong(rt.alloc(), DECLARATIONS_AND_DRIVES), None);
-}

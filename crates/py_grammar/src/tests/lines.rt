@@ -1,6 +1,7 @@
 //! Where lines end, and lines that say nothing.
 
-use super::first_wrong;
+/// Texts by what they are about, each with its bad line, or with 0 where it is a script.
+pub const TABLES: &[&[(&[u8], u64)]] = &[ENDS, COMMENTS];
 
 const ENDS: &[(&[u8], u64)] = &[
     (b"", 0),
@@ -71,13 +72,3 @@ const COMMENTS: &[(&[u8], u64)] = &[
     (b"def f\n# a\n", 3),
     (b"def f\n# end", 3),
 ];
-
-#[test]
-fn a_line_ends_at_its_lf(rt: HostRuntime) {
-    assert_eq!(rt; first_wrong(rt.alloc(), ENDS), None);
-}
-
-#[test]
-fn a_comment_has_its_line_for_itself(rt: HostRuntime) {
-    assert_eq!(rt; first_wrong(rt.alloc(), COMMENTS), None);
-}

@@ -1,19 +1,19 @@
-//! The table of names: which places names have.
+//! The table of names: which names are in it.
 
-use crate::NameTable;
+use crate::name_table::NameTable;
 use py_code::{NoMemory, text_of};
 use std::alloc::Global;
 
 const WORDS: &[&[u8]] = &[b"f", b"g", b"f", b"gg", b"G", b"g", b"f1"];
 
-const PLACES: &[(&[u8], Option<usize>)] = &[
-    (b"f", Some(0)),
-    (b"g", Some(1)),
-    (b"gg", Some(2)),
-    (b"G", Some(3)),
-    (b"f1", Some(4)),
-    (b"F", None),
-    (b"", None),
+const FOUND: &[(&[u8], bool)] = &[
+    (b"f", true),
+    (b"g", true),
+    (b"gg", true),
+    (b"G", true),
+    (b"f1", true),
+    (b"F", false),
+    (b"", false),
 ];
 
 /// A table in which these words were put in turn.
@@ -25,34 +25,14 @@ fn table_of(alloc: Global, words: &[&[u8]]) -> Result<NameTable, NoMemory> {
     Ok(table)
 }
 
-/// How many of these words don't have the place beside them.
-fn misplaced(
-    alloc: Global,
-    table: &NameTable,
-    places: &[(&[u8], Option<usize>)],
-) -> Result<usize, NoMemory> {
-    let mut wrong: usize = 0;
-    for (word, place) in places {
-        let name = text_of(alloc, word)?;
-        if table.place(&name) != *place || table.contains(&name) != place.is_some() {
-            wrong = wrong.saturating_add(1);
-        }
-    }
-    Ok(wrong)
-}
-
 #[test]
-fn a_name_keeps_the_place_that_it_first_had(rt: HostRuntime) -> Result<(), NoMemory> {
+fn a_table_has_the_names_that_were_put_into_it(rt: HostRuntime) -> Result<(), NoMemory> {
     let table = table_of(rt.alloc(), WORDS)?;
-    assert_eq!(rt; misplaced(rt.alloc(), &table, PLACES)?, 0);
-    Ok(())
-}
-
-#[test]
-fn an_empty_table_has_no_name(rt: HostRuntime) -> Result<(), NoMemory> {
-    let name = text_of(rt.alloc(), b"f")?;
-    let table = NameTable::new(rt.alloc());
-    assert_eq!(rt; table.place(&name), None);
-    assert!(rt; !table.contains(&name));
+    let empty = NameTable::new(rt.alloc());
+    for (word, found) in FOUND {
+        let name = text_of(rt.alloc(), word)?;
+        assert_eq!(rt; table.contains(&name), *found);
+        assert!(rt; !empty.contains(&name));
+    }
     Ok(())
 }

@@ -1,9 +1,7 @@
 //! The rules on what stands before a line.
 
-ghost use Rattle.std.specs.Prelude.{◌<◌};
-
-use super::{bad_line, first_wrong};
-use std::alloc::{AllocError, Global};
+/// Texts by what they are about, each with its bad line, or with 0 where it is a script.
+pub const TABLES: &[&[(&[u8], u64)]] = &[NAMES_IN_BODIES, BLOCKS, DECLARED_NAMES, DRIVES, BODIES];
 
 const NAMES_IN_BODIES: &[(&[u8], u64)] = &[
     (b"def f a\nx = a\nshow x\ny = (add x a)\nreturn y\nend\n", 0),
@@ -26,6 +24,11 @@ const NAMES_IN_BODIES: &[(&[u8], u64)] = &[
     (b"def f\nx = OverflowError\nend\n", 2),
     (b"def f\nx = (add 1 NameError)\nend\n", 2),
     (b"def f\ndo (add TypeError 1)\nend\n", 2),
+    (b"def f\ndo (call TypeError)\nend\n", 2),
+    (b"def f\nx = (call TypeError 1)\nend\n", 2),
+    (b"def f\nx = (call f NameError)\nend\n", 2),
+    (b"def f\ndo (call f 1 OverflowError 2)\nend\n", 2),
+    (b"def f\nTypeError = (call f)\nend\n", 2),
     (b"def f\npass\nreturn UnboundLocalError\nend\n", 3),
     (b"def f\nif RecursionError\nend\nend\n", 2),
     (b"def f\nif 1\nwhile TypeError\nend\nend\nend\n", 3),
@@ -74,27 +77,41 @@ const DECLARED_NAMES: &[(&[u8], u64)] = &[
 
 const DRIVES: &[(&[u8], u64)] = &[
     (b"def f\nend\ncall f\ncall f\n", 0),
+    (b"def f a\nend\ncall f None True False -1 'b c' f\n", 0),
+    (b"def f\nend\ncall f 1\ncall f 1 2 3\n", 0),
+    (b"def f a b\nend\ncall f\ncall f 1\ncall f 1 2 3\n", 0),
+    (b"def f\nend\ncall f\ncall f $1\ncall f $2 $1 $2\n", 0),
+    (b"def f\nend\n\ncall f\n# a\n\ncall f $1\n", 0),
+    (b"def f\nend\ndef g\nend\ncall f g\ncall g f g\n", 0),
     (
-        b"def f\nend\ncall f\ndef g a\nend\ncall g 1\ncall f\ncall g 'b'\n",
+        b"def f\nend\ncall f\ndef g a\nend\ncall g f $1\ncall f g $2\n",
         0,
     ),
-    (b"def g\nend\ndef f a b\nend\ncall f True -1\n", 0),
+    (b"def call\nend\ncall call call\ncall call $1\n", 0),
     (b"call f\n", 1),
     (b"call f\ndef f\nend\n", 1),
     (b"def f\nend\ncall g\n", 3),
     (b"def f\nend\ncall g\ndef g\nend\n", 3),
     (b"def f\nend\ncall F\n", 3),
     (b"def f\nend\ncall TypeError\n", 3),
-    (b"def f\nend\ncall f 1\n", 3),
-    (b"def f a\nend\ncall f\n", 3),
-    (b"def f a\nend\ncall f 1 2\n", 3),
-    (b"def f a b\nend\ncall f 1\n", 3),
-    (b"def f a\nend\ndef g\nend\ncall g 1\n", 5),
+    (b"def f\nend\ncall f TypeError\n", 3),
+    (b"def f\nend\ncall f 1 RecursionError\n", 3),
+    (b"def f TypeError\nend\ncall f TypeError\n", 3),
     (b"def f a\nend\ncall f x\n", 3),
     (b"def f a\nend\ncall f a\n", 3),
-    (b"def f a\nend\ncall f f\n", 3),
+    (b"def f\nx = 1\nend\ncall f x\n", 4),
     (b"def f a b\nend\ncall f 1 b\n", 3),
-    (b"def f\nend\ncall f\ncall f\ncall f 1\n", 5),
+    (b"def f\nend\ncall f g\ndef g\nend\n", 3),
+    (b"def f\nend\ncall f f\ncall f f g\ndef g\nend\n", 4),
+    (b"def f\nend\ncall f $0\n", 3),
+    (b"def f\nend\ncall f\ncall f $0\n", 4),
+    (b"def f\nend\ncall f\ncall f $00\n", 4),
+    (b"def f\nend\ncall f $1\n", 3),
+    (b"def f\nend\ncall f $1\ncall f\n", 3),
+    (b"def f\nend\ncall f\ncall f $2\n", 4),
+    (b"def f\nend\ncall f\ncall f 1 $1 $2\ncall f\n", 4),
+    (b"def f\nend\ncall f\ncall f $1\ncall f $3\n", 5),
+    (b"def f\nend\ndef g\nend\ncall f\ncall f $2\n", 6),
 ];
 
 const BODIES: &[(&[u8], u64)] = &[
@@ -114,75 +131,3 @@ const BODIES: &[(&[u8], u64)] = &[
     (b"def f\nend\ndef g\nx = 1\n", 5),
     (b"def f\nend\ncall f\ndef g a\n\n# end\n", 7),
 ];
-
-#[test]
-fn no_line_of_a_body_has_the_name_of_a_built_in_class(rt: HostRuntime) {
-    assert_eq!(rt; first_wrong(rt.alloc(), NAMES_IN_BODIES), None);
-}
-
-#[test]
-fn an_else_belongs_to_the_innermost_if(rt: HostRuntime) {
-    assert_eq!(rt; first_wrong(rt.alloc(), BLOCKS), None);
-}
-
-#[test]
-fn a_name_is_declared_once(rt: HostRuntime) {
-    assert_eq!(rt; first_wrong(rt.alloc(), DECLARED_NAMES), None);
-}
-
-#[test]
-fn a_drive_calls_a_function_declared_before(rt: HostRuntime) {
-    assert_eq!(rt; first_wrong(rt.alloc(), DRIVES), None);
-}
-
-#[test]
-fn a_body_is_statements_up_to_its_end(rt: HostRuntime) {
-    assert_eq!(rt; first_wrong(rt.alloc(), BODIES), None);
-}
-
-/// `def f` with so many parameters, and its `end`.
-fn def_with(alloc: Global, params: u16) -> Result<Vec<u8>, AllocError>
-    requires { params < 260 }
-{
-    let mut text = Vec::new(alloc);
-    text.extend_from_slice(b"def f")?;
-    for number in 0..params {
-        text.push(b' ')?;
-        text.push(b'a' + (number / 26) as u8)?;
-        text.push(b'A' + (number % 26) as u8)?;
-    }
-    text.extend_from_slice(b"\nend\n")?;
-    Ok(text)
-}
-
-#[test]
-fn a_function_has_at_most_255_parameters(rt: HostRuntime) -> Result<(), AllocError> {
-    let alloc = rt.alloc();
-    assert_eq!(rt; bad_line(alloc, def_with(alloc, 255)?.as_slice()), 0);
-    assert_eq!(rt; bad_line(alloc, def_with(alloc, 256)?.as_slice()), 1);
-    Ok(())
-}
-
-/// A function with so many blocks, each inside the one before it.
-fn nested(alloc: Global, blocks: u16) -> Result<Vec<u8>, AllocError>
-    requires { blocks < 100 }
-{
-    let mut text = Vec::new(alloc);
-    text.extend_from_slice(b"def f")?;
-    for _ in 0..blocks {
-        text.extend_from_slice(b"\nif 1")?;
-    }
-    for _ in 0..blocks {
-        text.extend_from_slice(b"\nend")?;
-    }
-    text.extend_from_slice(b"\nend\n")?;
-    Ok(text)
-}
-
-#[test]
-fn at_most_64_blocks_are_open_with_the_body(rt: HostRuntime) -> Result<(), AllocError> {
-    let alloc = rt.alloc();
-    assert_eq!(rt; bad_line(alloc, nested(alloc, 63)?.as_slice()), 0);
-    assert_eq!(rt; bad_line(alloc, nested(alloc, 64)?.as_slice()), 65);
-    Ok(())
-}

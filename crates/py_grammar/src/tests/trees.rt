@@ -1,11 +1,11 @@
 //! What scripts hold.
 
-use crate::{Declaration, DriveLine, Script, one_script, parse_script};
+use crate::{Declaration, DriveAtom, DriveAtomList, DriveLine, Script, one_script, parse_script};
 use py_body::{Atom, AtomList, Body, Operator, Stmt, StmtForm, StmtList};
 
 const SCRIPT: &[u8] =
     b"\n# two functions\ndef f a b\nx = (add a -007)\n\ny = 'c d'\nshow y\npass\nreturn None\nend
-call f 33 False\ndef g\nend\ncall g\ncall f '' True\n";
+call f 33 False\ndef g\nend\ncall g\ncall f '' True None -5 g $02\n";
 
 const BLOCKS: &[u8] = b"def f a
 if a
@@ -24,7 +24,8 @@ do (lt a 4)
 end
 ";
 
-const OPERATORS: &[u8] = b"def f\nx = (add 1 2)\nx = (sub 1 2)\nx = (lt 1 2)\nx = (eq 1 2)\nend\n";
+const OPERATORS: &[u8] =
+    b"def f\nx = (add 1 2)\nx = (sub 1 2)\nx = (lt 1 2)\nx = (eq 1 2)\nx = (call g 2)\nend\n";
 
 /// A function of a script.
 fn function(script: &Script, place: usize) -> Option<&Body> {
@@ -77,8 +78,25 @@ fn are(atoms: &AtomList, wanted: &[(&str, i128, &[char])]) -> bool {
     atoms.len() == wanted.len() && pairs.all(|(atom, want)| is(atom, *want))
 }
 
+/// The same of an argument of a drive.
+fn argument_parts(atom: &DriveAtom) -> (&'static str, i128, &[char]) {
+    match atom {
+        DriveAtom::None => ("None", 0, &[]),
+        DriveAtom::Bool(value) => ("Bool", i128::from(*value), &[]),
+        DriveAtom::Int(number) => ("Int", *number, &[]),
+        DriveAtom::Str(text) => ("Str", 0, text.as_slice()),
+        DriveAtom::Name(name) => ("Name", 0, name.as_slice()),
+        DriveAtom::Drive(number) => ("Drive", i128::from(*number), &[]),
+    }
+}
+
+fn are_arguments(atoms: &DriveAtomList, wanted: &[(&str, i128, &[char])]) -> bool {
+    let mut pairs = atoms.as_slice().iter().zip(wanted);
+    atoms.len() == wanted.len() && pairs.all(|(atom, want)| argument_parts(atom) == *want)
+}
+
 #[test]
-fn a_statement_keeps_its_line_and_its_form(rt: HostRuntime) {
+fn a_statement_keeps_its_line_its_form_and_its_atoms(rt: HostRuntime) {
     let Ok(script) = parse_script(rt.alloc(), SCRIPT) else {
         return assert!(rt; false);
     };
@@ -94,6 +112,23 @@ fn a_statement_keeps_its_line_and_its_form(rt: HostRuntime) {
         (9, "return"),
     ];
     assert!(rt; reads(&body.suite, wanted));
+    let [operated, assigned, ..] = body.suite.as_slice() else {
+        return assert!(rt; false);
+    };
+    match &operated.form {
+        StmtForm::Operate(target, Operator::Add, atoms) => {
+            assert_eq!(rt; target.as_slice(), ['x'].as_slice());
+            assert!(rt; are(atoms, &[("Name", 0, &['a']), ("Int", -7, &[])]));
+        }
+        _ => assert!(rt; false),
+    }
+    match &assigned.form {
+        StmtForm::Assign(target, atom) => {
+            assert_eq!(rt; target.as_slice(), ['y'].as_slice());
+            assert!(rt; is(atom, ("Str", 0, &['c', ' ', 'd'])));
+        }
+        _ => assert!(rt; false),
+    }
 }
 
 #[test]
@@ -146,7 +181,13 @@ fn an_operator_is_read_by_its_word(rt: HostRuntime) {
     let Some(body) = function(&script, 0) else {
         return assert!(rt; false);
     };
-    let wanted = [Operator::Add, Operator::Sub, Operator::Lt, Operator::Eq];
+    let wanted = [
+        Operator::Add,
+        Operator::Sub,
+        Operator::Lt,
+        Operator::Eq,
+        Operator::Call,
+    ];
     let stmts = body.suite.as_slice();
     assert_eq!(rt; stmts.len(), wanted.len());
     for (stmt, want) in stmts.iter().zip(wanted) {
@@ -155,50 +196,26 @@ fn an_operator_is_read_by_its_word(rt: HostRuntime) {
 }
 
 #[test]
-fn a_statement_keeps_its_names_and_atoms(rt: HostRuntime) {
-    let Ok(script) = parse_script(rt.alloc(), SCRIPT) else {
-        return assert!(rt; false);
-    };
-    let Some(body) = function(&script, 0) else {
-        return assert!(rt; false);
-    };
-    let [operated, assigned, ..] = body.suite.as_slice() else {
-        return assert!(rt; false);
-    };
-    match &operated.form {
-        StmtForm::Operate(target, Operator::Add, atoms) => {
-            assert_eq!(rt; target.as_slice(), ['x'].as_slice());
-            assert!(rt; are(atoms, &[("Name", 0, &['a']), ("Int", -7, &[])]));
-        }
-        _ => assert!(rt; false),
-    }
-    match &assigned.form {
-        StmtForm::Assign(target, atom) => {
-            assert_eq!(rt; target.as_slice(), ['y'].as_slice());
-            assert!(rt; is(atom, ("Str", 0, &['c', ' ', 'd'])));
-        }
-        _ => assert!(rt; false),
-    }
-}
-
-#[test]
-fn a_drive_keeps_its_function_and_its_literals(rt: HostRuntime) {
+fn a_drive_keeps_its_function_and_its_arguments(rt: HostRuntime) {
+    one_script(SCRIPT);
     let Ok(script) = parse_script(rt.alloc(), SCRIPT) else {
         return assert!(rt; false);
     };
     assert_eq!(rt; script.declarations.len(), 2);
     assert_eq!(rt; script.drives.len(), 3);
+    let wanted: &[(&str, i128, &[char])] = &[
+        ("Str", 0, &[]),
+        ("Bool", 1, &[]),
+        ("None", 0, &[]),
+        ("Int", -5, &[]),
+        ("Name", 0, &['g']),
+        ("Drive", 2, &[]),
+    ];
     match script.drives.get(2) {
         Some(DriveLine::Call(name, args)) => {
             assert_eq!(rt; name.as_slice(), ['f'].as_slice());
-            assert!(rt; are(args, &[("Str", 0, &[]), ("Bool", 1, &[])]));
+            assert!(rt; are_arguments(args, wanted));
         }
         None => assert!(rt; false),
     }
-}
-
-#[test]
-fn bytes_are_one_script(rt: HostRuntime) {
-    one_script(SCRIPT);
-    assert!(rt; parse_script(rt.alloc(), SCRIPT).is_ok());
 }

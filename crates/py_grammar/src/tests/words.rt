@@ -1,7 +1,17 @@
 //! Words and marks: names, constants, numbers, texts.
 
-use super::{bad_line, first_wrong};
+use super::bad_line;
 use std::alloc::{AllocError, Global};
+
+/// Texts by what they are about, each with its bad line, or with 0 where it is a script.
+pub const TABLES: &[&[(&[u8], u64)]] = &[
+    NAMES,
+    CONSTANTS,
+    NUMBERS,
+    DRIVE_NUMBERS,
+    TEXTS,
+    MARKS_AND_BLANKS,
+];
 
 const NAMES: &[(&[u8], u64)] = &[
     (b"def _f9 a_1 B\nreturn a_1\nend\ncall _f9 1 2\n", 0),
@@ -90,6 +100,41 @@ const NUMBERS: &[(&[u8], u64)] = &[
     (b"def f a\nend\ncall f \xd9\xa1\n", 3),
 ];
 
+const DRIVE_NUMBERS: &[(&[u8], u64)] = &[
+    (b"def f\nend\ncall f\ncall f $1\n", 0),
+    (b"def f\nend\ncall f\ncall f $01\n", 0),
+    (b"def f\nend\ncall f\n call  f\t$1 \n", 0),
+    (
+        b"def f\nend\ncall f\ncall f $00000000000000000000000000000000000001\n",
+        0,
+    ),
+    (b"def f\nend\ncall f '$1' '$' '$x'\n", 0),
+    (b"def f\nend\ncall f\ncall f $\n", 4),
+    (b"def f\nend\ncall f\ncall f $ 1\n", 4),
+    (b"def f\nend\ncall f\ncall f $+1\n", 4),
+    (b"def f\nend\ncall f\ncall f $-1\n", 4),
+    (b"def f\nend\ncall f\ncall f -$1\n", 4),
+    (b"def f\nend\ncall f\ncall f $$1\n", 4),
+    (b"def f\nend\ncall f\ncall f $1$1\n", 4),
+    (b"def f\nend\ncall f\ncall f 1$\n", 4),
+    (b"def f\nend\ncall f\ncall f $1.0\n", 4),
+    (b"def f\nend\ncall f\ncall f $1,\n", 4),
+    (b"def f\nend\ncall f\ncall f $x\n", 4),
+    (b"def f\nend\ncall f\ncall f $f\n", 4),
+    (b"def f\nend\ncall f\ncall f $0x1\n", 4),
+    (b"def f\nend\ncall f\ncall f $'1'\n", 4),
+    (b"def f\nend\ncall f\ncall f $\xd9\xa1\n", 4),
+    (b"def f\nend\ncall f\ncall f $18446744073709551615\n", 4),
+    (b"def f\nend\ncall f\ncall f $18446744073709551617\n", 4),
+    (
+        b"def f\nend\ncall f\ncall f $340282366920938463463374607431768211457\n",
+        4,
+    ),
+    (b"def $1\nend\n", 1),
+    (b"def f $1\nend\n", 1),
+    (b"def f\n$1 = 1\nend\n", 2),
+];
+
 const TEXTS: &[(&[u8], u64)] = &[
     (b"def f\nreturn ''\nend\n", 0),
     (b"def f\nreturn 'a b'\nend\n", 0),
@@ -148,31 +193,6 @@ const MARKS_AND_BLANKS: &[(&[u8], u64)] = &[
     (b"deff\nend\n", 1),
     (b"\x0bdef f\nend\n", 1),
 ];
-
-#[test]
-fn a_name_is_letters_digits_and_underscores(rt: HostRuntime) {
-    assert_eq!(rt; first_wrong(rt.alloc(), NAMES), None);
-}
-
-#[test]
-fn a_constant_is_none_true_or_false(rt: HostRuntime) {
-    assert_eq!(rt; first_wrong(rt.alloc(), CONSTANTS), None);
-}
-
-#[test]
-fn a_number_has_at_most_128_bits(rt: HostRuntime) {
-    assert_eq!(rt; first_wrong(rt.alloc(), NUMBERS), None);
-}
-
-#[test]
-fn a_text_is_printable_ascii_in_quotes(rt: HostRuntime) {
-    assert_eq!(rt; first_wrong(rt.alloc(), TEXTS), None);
-}
-
-#[test]
-fn blanks_part_words_and_marks_part_themselves(rt: HostRuntime) {
-    assert_eq!(rt; first_wrong(rt.alloc(), MARKS_AND_BLANKS), None);
-}
 
 const RESERVED: &[&[u8]] = &[
     b"None",
