@@ -1,5 +1,7 @@
 -- what a question is answered
 pub mod Answers
+-- what calls come to
+pub mod Calls
 -- which event may come next, and what a run is
 pub mod Run
 -- what activations tell by the rows of their code
@@ -15,3 +17,4 @@ pub mod Stands
 pub mod Turns
 pub mod Replying
 pub mod Declaring
+pub mod Pops

@@ -1,24 +1,37 @@
 -- A run: a condition on a finished list of events, by the one kind of event that may come next. What an activation may tell
 -- is a parameter.
-use Rattle.std.specs.Prelude.{ℕ, suc, ◌<◌, Option, Some, None, List, [], ◌∷◌, ◌++◌, ◌≡◌, slice_get, length}
+use Rattle.std.specs.Prelude.{ℕ, suc, ◌+◌, ◌<◌, Option, Some, None, option_map, List, [], ◌∷◌, ◌++◌, ◌≡◌, slice_get, length}
 use Rattle.py_objects.specs.declared.refs.PyBaseExceptionRef.{PyBaseExceptionRef}
 use Rattle.py_objects.specs.declared.payload.Payload.{Payload}
-use Rattle.py_objects.specs.declared.payload.Payload.TheVariants as payload
-use Rattle.py_objects.specs.declared.payload.FunctionBody.{FunctionBody}
+use Rattle.py_objects.specs.declared.request.Keywords.TheVariants as keywords
 use Rattle.py_objects.specs.declared.request.Request.{Request}
+use Rattle.py_objects.specs.declared.request.Request.TheVariants as request
 use Rattle.py_objects.specs.declared.event.ResumeHow.{ResumeHow}
 use Rattle.py_objects.specs.declared.event.ResumeHow.TheVariants as how
 use Rattle.py_objects.specs.declared.event.Ending.{Ending}
 use Rattle.py_objects.specs.declared.event.Ending.TheVariants as ending
+use Rattle.py_objects.specs.declared.event.GotAnswer.{GotAnswer}
+use Rattle.py_objects.specs.declared.event.GotAnswer.TheVariants as got
 use Rattle.py_objects.specs.declared.event.DriveAnswer.{DriveAnswer}
 use Rattle.py_objects.specs.declared.event.DriveAnswer.TheVariants as answer
 use Rattle.py_objects.specs.declared.event.Event.{Event}
 use Rattle.py_objects.specs.declared.event.Event.TheVariants as event
-use Rattle.py_objects.specs.Objects.{Obj, HasPayload, AreNamed}
+use Rattle.py_objects.specs.Objects.{Obj, AreNamed}
 use Rattle.py_objects.specs.Own.{Own, own_events}
 use Rattle.py_vm.specs.declared.drive.Drive.{Drive}
 use Rattle.py_vm.specs.declared.drive.Drive.TheVariants.{Call}
-use Rattle.py_vm.specs.Answers.{Reply, Replies, Gives}
+use Rattle.py_vm.specs.Answers.{Reply, Gives}
+use Rattle.py_vm.specs.Calls.{Signature, Says, Enters, Calls, Comes_to}
+
+-- a drive, made while the host had so many enters that it hadn't left
+pub record Posed : Type 0 where
+  pub drive : Drive
+  pub entered : ℕ
+
+-- what a run is of: the signatures of functions, by their codes, and the drives that were begun
+pub record Plan : Type 0 where
+  pub signatures : List Signature
+  pub asked : List Posed
 
 -- how an activation was left
 pub data Left : Type 0 where
@@ -91,48 +104,80 @@ abbrev pub IsTop : ℕ → List Act → Type 0
 IsTop n [] = ⊥
 IsTop n (a ∷ stack) = a.number ≡ n
 
--- what the innermost activation asks
-abbrev pub question : List Act → Option Request
-question [] = None
-question (a ∷ stack) = a.asks
+-- the question of a drive
+abbrev pub request_of : Drive → Request
+request_of (Call f vs) = request.Call f vs keywords.None
+
+-- the open question, if there is one: the innermost activation's, or the drive's where none runs
+abbrev pub open_in : Option Posed → List Act → Option Request
+open_in q [] = option_map (λ (p : Posed). request_of p.drive) q
+open_in q (a ∷ stack) = a.asks
+
+abbrev pub question : Plan → State → Option Request
+question plan s = open_in (slice_get plan.asked s.done) s.stack
+
+-- how many activations count as running: those that run, and the host's
+abbrev pub entered_in : Option Posed → ℕ
+entered_in None = 0
+entered_in (Some p) = p.entered
+
+abbrev pub depth : Plan → State → ℕ
+depth plan s = entered_in (slice_get plan.asked s.done) + length s.stack
 
 -- the innermost activation is this one, and goes on
 abbrev pub Goes_on : State → ℕ → Type 0
 Goes_on s a = (s.phase ≡ Going) × IsTop a s.stack
 
--- a function is entered as soon as it is made; nothing else is entered so far
-abbrev pub Enters : ResumeHow → ℕ → State → Type 0
-Enters how.Start a s = (f : Obj) × (s.phase ≡ Made f) × (a ≡ length s.made)
-Enters (how.Send v) a s = ⊥
-Enters (how.Throw e) a s = ⊥
+-- a function starts as soon as it is made; nothing else is entered so far
+abbrev pub Starts : ResumeHow → ℕ → State → Type 0
+Starts how.Start a s = (f : Obj) × (s.phase ≡ Made f) × (a ≡ length s.made)
+Starts (how.Send v) a s = ⊥
+Starts (how.Throw e) a s = ⊥
 
--- the answer of a call, by how the activation that it entered was left
-abbrev pub Answers_call : Left → DriveAnswer → Type 0
-Answers_call (By_yield v) w = ⊥
-Answers_call (By_return v) w = w ≡ answer.Returns v
-Answers_call (By_raise e) w = w ≡ answer.Raises e
+-- the answer to a call, by how the activation that it entered was left
+abbrev pub Passes : Left → GotAnswer → Type 0
+Passes (By_yield v) w = ⊥
+Passes (By_return v) w = w ≡ got.Value v
+Passes (By_raise e) w = w ≡ got.Raise e
 
--- this event is of the one kind that may come next. `asked` has the questions of the drives that were begun, `before` the
--- events so far
-abbrev pub MayCome : List Drive → List Payload → List Event → State → Event → Type 0
-MayCome asked objects before s (event.Drive d) = (s.phase ≡ Idle) × (d ≡ suc s.done) × (s.done < length asked)
-MayCome asked objects before s (event.Make a f vs) =
-    (s.phase ≡ Asking) × (s.stack ≡ []) × (a ≡ suc (length s.made)) × (slice_get asked s.done ≡ Some (Call f vs))
-    × ((b : FunctionBody) × HasPayload objects f (payload.Function b))
-MayCome asked objects before s (event.Resume a h) = Enters h a s
-MayCome asked objects before s (event.Ask a r own at) = Goes_on s a
-MayCome asked objects before s (event.Round a at) = Goes_on s a
-MayCome asked objects before s (event.Yield a v at) = Goes_on s a
-MayCome asked objects before s (event.End a e at) = Goes_on s a
-MayCome asked objects before s (event.Got a w) =
-    (s.phase ≡ Asking) × IsTop a s.stack × ((r : Request) × (reply : Reply) × (question s.stack ≡ Some r) × Replies objects r reply × Gives objects before reply w)
-MayCome asked objects before s (event.Result d w) =
-    (d ≡ suc s.done) × (s.stack ≡ []) × ((left : Left) × (s.phase ≡ Due left) × Answers_call left w)
+-- the open question gets this answer: at once, or where the activation that it entered was left
+abbrev pub Answers : Plan → List Payload → List Event → State → Phase → Request → GotAnswer → Type 0
+Answers plan objects before s Idle r w = ⊥
+Answers plan objects before s Asking r w = (reply : Reply) × Comes_to plan.signatures (depth plan s) objects r (Says reply) × Gives objects before reply w
+Answers plan objects before s Going r w = ⊥
+Answers plan objects before s (Made f) r w = ⊥
+Answers plan objects before s (Due left) r w = (f : Obj) × (vs : List Obj) × (r ≡ request.Call f vs keywords.None) × Passes left w
+
+-- the result of a drive that calls, as the answer to its call
+abbrev pub as_got : DriveAnswer → Option GotAnswer
+as_got (answer.Returns v) = Some (got.Value v)
+as_got (answer.Yields v) = None
+as_got (answer.Stops v) = None
+as_got answer.Closes = None
+as_got (answer.Raises e) = Some (got.Raise e)
+as_got (answer.Reported text) = None
+
+-- this event is of the one kind that may come next; `before` has the events so far
+abbrev pub MayCome : Plan → List Payload → List Event → State → Event → Type 0
+MayCome plan objects before s (event.Drive d) = (s.phase ≡ Idle) × (d ≡ suc s.done) × (s.done < length plan.asked)
+MayCome plan objects before s (event.Make a f vs) =
+    (s.phase ≡ Asking) × (a ≡ suc (length s.made)) × (question plan s ≡ Some (request.Call f vs keywords.None))
+    × Calls plan.signatures (depth plan s) objects f vs Enters
+MayCome plan objects before s (event.Resume a h) = Starts h a s
+MayCome plan objects before s (event.Ask a r own at) = Goes_on s a
+MayCome plan objects before s (event.Round a at) = Goes_on s a
+MayCome plan objects before s (event.Yield a v at) = Goes_on s a
+MayCome plan objects before s (event.End a e at) = Goes_on s a
+MayCome plan objects before s (event.Got a w) =
+    IsTop a s.stack × ((r : Request) × (question plan s ≡ Some r) × Answers plan objects before s s.phase r w)
+MayCome plan objects before s (event.Result d w) =
+    (d ≡ suc s.done) × (s.stack ≡ [])
+    × ((r : Request) × (g : GotAnswer) × (question plan s ≡ Some r) × (as_got w ≡ Some g) × Answers plan objects before s s.phase r g)
 
 -- each event may come where it stands, behind those before
-abbrev pub Comes : List Drive → List Payload → List Event → State → List Event → Type 0
-Comes asked objects before s [] = Unit {0}
-Comes asked objects before s (e ∷ es) = MayCome asked objects before s e × Comes asked objects (before ++ e ∷ []) (after s e) es
+abbrev pub Comes : Plan → List Payload → List Event → State → List Event → Type 0
+Comes plan objects before s [] = Unit {0}
+Comes plan objects before s (e ∷ es) = MayCome plan objects before s e × Comes plan objects (before ++ e ∷ []) (after s e) es
 
 -- what an activation of a function with these arguments may tell
 abbrev pub May : Type 1
@@ -142,9 +187,9 @@ May = Obj → List Obj → List Own → Type 0
 abbrev pub EachTells : May → List Event → Type 0
 EachTells may events = (i : ℕ) (a : Activation) → slice_get (state_after start events).made i ≡ Some a → may a.function a.args (own_events (suc i) events)
 
--- a prefix of a run of drives that ask this, where what activations may tell is given
-pub record IsRunBy (may : May) (asked : List Drive) (objects : List Payload) (events : List Event) : Type 0 where
-  pub comes : Comes asked objects [] start events
+-- a prefix of a run, where what activations may tell is given
+pub record IsRunBy (may : May) (plan : Plan) (objects : List Payload) (events : List Event) : Type 0 where
+  pub comes : Comes plan objects [] start events
   pub tells : EachTells may events
   pub named : AreNamed objects events
 

@@ -3,14 +3,21 @@
 
 mod answer;
 mod arithmetic;
+mod binding;
+mod callers;
+mod calls;
 mod codes;
 mod comparison;
 mod drive;
 mod exceptions;
 mod fault;
+mod frames;
 mod journal;
 mod names;
+mod objects;
+mod recursion;
 mod stage;
+mod state;
 mod text;
 mod turn;
 mod type_names;
@@ -18,8 +25,10 @@ mod values;
 mod vm;
 
 pub use drive::Drive;
-pub use fault::VmFault;
+pub use fault::{PyResult, VmFault};
+pub use frames::FrameList;
 pub use journal::Journal;
+pub use state::PyGlobalState;
 pub use vm::VirtualMachine;
 
 #[cfg(test)]

@@ -1,71 +1,70 @@
 //! One turn of the machine: one event.
 
-ghost use Rattle.std.specs.Prelude.{◌≡◌, ◌≤◌, [], length, IfOk, OnOk, OnErr};
-ghost use Rattle.py_vm.specs.Stands.{CanCall, IsQuestion, Keeps};
-ghost use Rattle.py_vm.specs.Turns.{begun_by, Made_one, IsFreshFor, entered_by, ended_by, asked_by, rounded_by, IsStepped, Went_on, got_by, Answered, answer_by, result_by, CanGo, CanReply, IsReady, Turned, Halts, IsBusy, Turns};
+ghost use Rattle.std.specs.Prelude.{◌≡◌, ◌≤◌, ◌∷◌, length, IfOk, OnOk, OnErr};
+ghost use Rattle.py_objects.specs.Objects.{HasPayload, AllBelow};
+ghost use Rattle.py_vm.specs.declared.drive.Drive.TheVariants.{Call};
+ghost use Rattle.py_vm.specs.Stands.{AreRunnable, IsQuestion, Keeps, drive_numbers, IsReadable, IsCallable};
+ghost use Rattle.py_vm.specs.Turns.{begun_by, IsCallee, Made_one, IsFreshFor, entered_by, Ended_one, asked_by, rounded_by, IsStepped, Went_on, got_by, Opened, Answered, Finished, passed, result_of, result_by, CanGo, CanReply, IsReady, Turned, Halts, IsBusy, Turns};
 
-use crate::answer::{give, reply_to};
-use crate::stage::{Running, Stage};
+use crate::answer::give;
+use crate::calls::{Course, called, course_of};
+use crate::drive::Drive;
+use crate::stage::{Halted, Running, Stage};
 use crate::values::entry;
 use crate::vm::VirtualMachine;
 use py_code::NoMemory;
 use py_frame::{Answer, Frame, FrameStep, Input, OwnStack, positional};
 use py_objects::{
-    DriveAnswer, Ending, Event, ObjList, Payload, PyBaseExceptionRef, PyObjectRef, Request,
-    ResumeHow, Scope,
+    DriveAnswer, Ending, Event, FrameRef, ObjList, Payload, PyBaseExceptionRef, PyObjectRef,
+    Request, ResumeHow, Scope,
 };
 
 impl VirtualMachine {
     /// Adds one event to a drive, and gives the drive's answer where that event is its result.
-    pub(crate) fn advance(&mut self) -> Result<Option<DriveAnswer>, NoMemory>
+    pub(crate) fn advance(&mut self, drive: &Drive) -> Result<Option<DriveAnswer>, NoMemory>
         requires keeps { Keeps self.old self.old.stage }
         requires busy { IsBusy self.old.stage }
-        ensures ok { IfOk result (λ answer. Turns self.old self.old.stage answer self.new) }
+        requires callable { IsCallable self.old drive.now }
+        ensures ok { IfOk result (λ answer. Turns self.old drive.now self.old.stage answer self.new) }
         ensures err { OnErr result (Halts self.old self.new) }
     {
-        let answer = self.turn()?;
+        let answer = self.turn(drive)?;
         Ok(answer)
     }
 
     /// The turn of each stage.
-    fn turn(&mut self) -> Result<Option<DriveAnswer>, NoMemory>
-        requires { IsReady self.old self.old.stage }
-        ensures ok { IfOk result (λ answer. Turned self.old self.old.stage answer self.new) }
+    fn turn(&mut self, drive: &Drive) -> Result<Option<DriveAnswer>, NoMemory>
+        requires { IsReady self.old drive.now self.old.stage }
+        ensures ok { IfOk result (λ answer. Turned self.old drive.now self.old.stage answer self.new) }
         ensures err { OnErr result (Halts self.old self.new) }
     {
         match std::mem::replace(&mut self.stage, Stage::Idle) {
             Stage::Idle => unreachable!(),
-            Stage::Begins(function, args) => {
-                self.begin(function, args)?;
+            Stage::Begins => {
+                self.begin()?;
                 Ok(None)
             }
-            Stage::Asking(function, args) => {
-                self.make(function, args)?;
-                Ok(None)
-            }
+            Stage::Asking => self.open(drive),
             Stage::Made(running, _) => {
-                self.enter(running)?;
+                self.start(running)?;
                 Ok(None)
             }
             Stage::Going(running, input) => {
                 self.go(running, input)?;
                 Ok(None)
             }
-            Stage::Waiting(running, place) => {
-                self.answer(running, place)?;
+            Stage::Waiting(halted) => {
+                self.answer(halted)?;
                 Ok(None)
             }
-            Stage::Due(ending) => {
-                self.finish(ending)?;
-                Ok(Some(answer_by(ending)))
-            }
+            Stage::Due(ending) => self.finish(ending),
         }
     }
 
     /// The drive begins.
-    fn begin(&mut self, function: PyObjectRef, args: ObjList) -> Result<(), NoMemory>
+    fn begin(&mut self) -> Result<(), NoMemory>
         requires { self.old.done ≤ length self.old.events }
-        ensures ok { OnOk result (self.new ≡ begun_by self.old function args) }
+        ensures ok { OnOk result (self.new ≡ begun_by self.old) }
         ensures err { OnErr result (Halts self.old self.new) }
     {
         // A list's length has 63 bits, so the count of drives doesn't pass its end.
@@ -73,15 +72,40 @@ impl VirtualMachine {
         self.events.push(Event::Drive {
             drive: self.done + 1,
         })?;
-        self.stage = Stage::Asking(function, args);
+        self.stage = Stage::Asking;
         Ok(())
+    }
+
+    /// What the drive asks is answered, which is its result, or an activation is made for it.
+    fn open(&mut self, drive: &Drive) -> Result<Option<DriveAnswer>, NoMemory>
+        requires done { self.old.done ≤ length self.old.events }
+        requires made { self.old.made ≤ length self.old.events }
+        requires can { CanReply self.old }
+        requires below { AllBelow (length self.old.store.made) (drive_numbers drive.now) }
+        ensures ok { IfOk result (λ answer. Opened self.old drive.now answer self.new) }
+        ensures err { OnErr result (Halts self.old self.new) }
+    {
+        let (callee, args) = call_of(drive);
+        let depth = self.current_recursion_depth();
+        match called(self.alloc, &self.store, &self.codes, callee, args, depth)? {
+            Course::Says(reply) => {
+                let answer = give(self.alloc, &mut self.store, self.exceptions, reply)?;
+                self.result(result_of(answer))?;
+                Ok(Some(result_of(answer)))
+            }
+            Course::Enters(function, args) => {
+                self.make(function, args)?;
+                Ok(None)
+            }
+        }
     }
 
     /// An activation of the function is made.
     fn make(&mut self, function: PyObjectRef, args: ObjList) -> Result<(), NoMemory>
         requires counted { self.old.made ≤ length self.old.events }
-        requires unchanged { self.old.store.changes ≡ [] }
-        requires callable { CanCall self.old.codes self.old.store.made function args }
+        requires readable { IsReadable self.old.store }
+        requires runnable { AreRunnable self.old.codes self.old.store.made }
+        requires callee { IsCallee self.old.store.made function }
         ensures ok { OnOk result (Made_one self.old function args self.new) }
         ensures err { OnErr result (Halts self.old self.new) }
     {
@@ -99,10 +123,11 @@ impl VirtualMachine {
     }
 
     /// The activation that was made is entered.
-    fn enter(&mut self, running: Running) -> Result<(), NoMemory>
+    fn start(&mut self, running: Running) -> Result<(), NoMemory>
         ensures ok { OnOk result (self.new ≡ entered_by self.old running) }
         ensures err { OnErr result (Halts self.old self.new) }
     {
+        self.frames.push(running.entry)?;
         self.events.push(Event::Resume {
             act: running.act,
             how: ResumeHow::Start,
@@ -160,7 +185,7 @@ impl VirtualMachine {
             own,
             at: running.frame.lasti().saturating_sub(1),
         })?;
-        self.stage = Stage::Waiting(running, place);
+        self.stage = Stage::Waiting(Halted { running, place });
         Ok(())
     }
 
@@ -179,7 +204,7 @@ impl VirtualMachine {
 
     /// The activation ends.
     fn ended(&mut self, running: Running, ending: Ending) -> Result<(), NoMemory>
-        ensures ok { OnOk result (self.new ≡ ended_by self.old running ending) }
+        ensures ok { OnOk result (Ended_one self.old running ending self.new) }
         ensures err { OnErr result (Halts self.old self.new) }
     {
         self.events.push(Event::End {
@@ -187,24 +212,40 @@ impl VirtualMachine {
             ending,
             at: running.frame.lasti().saturating_sub(1),
         })?;
+        self.frames.pop();
         self.stage = Stage::Due(ending);
         Ok(())
     }
 
-    /// What the activation asked by the event at this place is answered.
-    fn answer(&mut self, running: Running, place: usize) -> Result<(), NoMemory>
+    /// What the activation asked is answered, or an activation is made for it.
+    fn answer(&mut self, halted: Halted) -> Result<(), NoMemory>
+        requires made { self.old.made ≤ length self.old.events }
         requires can { CanReply self.old }
-        requires asked { IsQuestion self.old.store.made self.old.events place }
-        ensures ok { OnOk result (Answered self.old running place self.new) }
+        requires asked { IsQuestion self.old.store.made self.old.events halted.place }
+        ensures ok { OnOk result (Answered self.old halted self.new) }
         ensures err { OnErr result (Halts self.old self.new) }
     {
-        let Some(Event::Ask { request, .. }) = self.events.get(place) else {
+        let depth = self.current_recursion_depth();
+        let Some(Event::Ask { request, .. }) = self.events.get(halted.place) else {
             unreachable!();
         };
-        let reply = reply_to(self.alloc, &self.store, &self.declarations, request)?;
-        let answer = give(self.alloc, &mut self.store, self.exceptions, reply)?;
-        self.got(running, answer)?;
-        Ok(())
+        match course_of(
+            self.alloc,
+            &self.store,
+            &self.declarations,
+            &self.codes,
+            request,
+            depth,
+        )? {
+            Course::Says(reply) => {
+                let answer = give(self.alloc, &mut self.store, self.exceptions, reply)?;
+                self.got(halted.running, answer)
+            }
+            Course::Enters(function, args) => {
+                self.callers.push(halted)?;
+                self.make(function, args)
+            }
+        }
     }
 
     /// The activation gets an answer.
@@ -220,50 +261,98 @@ impl VirtualMachine {
         Ok(())
     }
 
-    /// The drive has its result.
-    fn finish(&mut self, ending: Ending) -> Result<(), NoMemory>
+    /// An activation was left: its caller gets the answer, or the drive has its result.
+    fn finish(&mut self, ending: Ending) -> Result<Option<DriveAnswer>, NoMemory>
         requires { self.old.done ≤ length self.old.events }
-        ensures ok { OnOk result (self.new ≡ result_by self.old (answer_by ending)) }
+        ensures ok { IfOk result (λ answer. Finished self.old ending self.old.callers answer self.new) }
+        ensures err { OnErr result (Halts self.old self.new) }
+    {
+        let answer = passed(ending);
+        match self.callers.pop() {
+            Some(halted) => {
+                self.got(halted.running, answer)?;
+                Ok(None)
+            }
+            None => {
+                self.result(result_of(answer))?;
+                Ok(Some(result_of(answer)))
+            }
+        }
+    }
+
+    /// The drive has its result.
+    fn result(&mut self, answer: DriveAnswer) -> Result<(), NoMemory>
+        requires { self.old.done ≤ length self.old.events }
+        ensures ok { OnOk result (self.new ≡ result_by self.old answer) }
         ensures err { OnErr result (Halts self.old self.new) }
     {
         let _events = self.events.as_slice().len();
         let drive = self.done + 1;
-        self.events.push(Event::Result {
-            drive,
-            answer: answer_by(ending),
-        })?;
+        self.events.push(Event::Result { drive, answer })?;
         self.done = drive;
         self.stage = Stage::Idle;
         Ok(())
     }
 
-    /// An activation of a function, which hasn't begun.
-    fn fresh(&self, act: u64, function: PyObjectRef, args: &ObjList) -> Result<Running, NoMemory>
-        requires unchanged { self.now.store.changes ≡ [] }
-        requires callable { CanCall self.now.codes self.now.store.made function args.now }
-        ensures { IfOk result (λ running. IsFreshFor self.now act function args.now running) }
+    /// An activation of a function, which hasn't begun, with its frame's object.
+    fn fresh(
+        &mut self,
+        act: u64,
+        function: PyObjectRef,
+        args: &ObjList,
+    ) -> Result<Running, NoMemory>
+        requires readable { IsReadable self.old.store }
+        requires runnable { AreRunnable self.old.codes self.old.store.made }
+        requires callee { IsCallee self.old.store.made function }
+        ensures ok { IfOk result (λ running. IsFreshFor self.old act function args.now running self.new) }
+        ensures err { OnErr result (Halts self.old self.new) }
     {
         let Payload::Function(body) = entry(&self.store, function) else {
             unreachable!();
         };
-        let Some(code) = self.codes.get(body.code) else {
+        let number = body.code;
+        let Some(code) = self.codes.get(number) else {
             unreachable!();
         };
         let size = code.code().co_stacksize() as usize;
         let stack = OwnStack::new(self.alloc, size)?;
         let scope = Scope::new(None, self.globals);
-        let mut frame = Frame::new(self.alloc, code, body.code, scope, stack)?;
+        let mut frame = Frame::new(self.alloc, code, number, scope, stack)?;
         frame.fill(positional(self.alloc, code, args)?);
-        Ok(Running { act, frame })
+        let object = self.store.add(Payload::Frame(number as u64))?;
+        let entry = FrameRef {
+            number: object.number,
+        };
+        Ok(Running { act, entry, frame })
     }
 }
 
-/// What a call comes to whose activation ended like this.
-fn answer_by(ending: Ending) -> DriveAnswer
-    ensures { result ≡ answer_by ending }
+/// The object that a drive calls, and the arguments.
+fn call_of(drive: &Drive) -> (PyObjectRef, &ObjList)
+    ensures { drive.now ≡ Call result.0 result.1.now }
+{
+    let Drive::Call(callee, args) = drive;
+    (*callee, args)
+}
+
+/// What a drive that calls comes to by an answer.
+fn result_of(answer: Answer) -> DriveAnswer
+    ensures { result ≡ result_of answer }
+{
+    match answer {
+        Answer::Value(value) => DriveAnswer::Returns(value),
+        Answer::Stop(value) => DriveAnswer::Stops(value),
+        Answer::Fresh(exception) => DriveAnswer::Raises(exception),
+        Answer::Passed(exception) => DriveAnswer::Raises(exception),
+    }
+}
+
+/// How an ending is passed on to the question that entered the activation.
+fn passed(ending: Ending) -> Answer
+    ensures { result ≡ passed ending }
 {
     match ending {
-        Ending::Return(value) => DriveAnswer::Returns(value),
-        Ending::Raise(exception) => DriveAnswer::Raises(exception),
+        Ending::Return(value) => Answer::Value(value),
+        Ending::Raise(exception) => Answer::Passed(exception),
     }
 }

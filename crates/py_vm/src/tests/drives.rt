@@ -1,24 +1,24 @@
-//! Small codes, driven from event to event.
+//! Small codes that call one another, driven from event to event.
 
-ghost use Rattle.std.specs.Prelude.{◌≡◌, ℕ, [], ◌∷◌, List, length, map, IfOk};
+ghost use Rattle.std.specs.Prelude.{◌≡◌, ◌≤◌, ℕ, [], ◌∷◌, List, false, length, map, IfOk, OnOk};
 ghost use Rattle.py_code.specs.declared.instruction.Instruction.TheVariants as op;
 ghost use Rattle.py_check.specs.declared.note.Note.TheVariants as note;
 ghost use Rattle.py_check.specs.Sheet.{sheet_of};
-ghost use Rattle.py_check.specs.declared.note.BlockNote.TheVariants.{Loop};
-ghost use Rattle.py_check.specs.Worked.{looping, nothing, one, sheet, sum, unit};
-ghost use Rattle.py_frame.specs.Fitting.{AreNames, IsSound};
-ghost use Rattle.py_vm.specs.Machine.{checked_of};
+ghost use Rattle.py_check.specs.Worked.{calling, sheet, sum_notes, unit};
+ghost use Rattle.py_frame.specs.Fitting.{AreNames};
+ghost use Rattle.py_objects.specs.Objects.{AllBelow, numbers};
+ghost use Rattle.py_vm.specs.Machine.{checked_of, entered_of, events_of, failed_of};
 ghost use Rattle.py_vm.specs.Stands.{Stands};
 
 use crate::*;
-use py_check::{Annotated, BlockList, BlockNote, CheckedCode, Kind, KindList, Note, NoteList};
+use py_check::{Annotated, BlockList, CheckedCode, Kind, KindList, Note, NoteList};
 use py_code::{
     CodeFlags, CodeObject, CodeUnit, Instruction, Literal, LiteralList, NameId, Names, NoMemory,
     PyCode, same_text, text_of,
 };
 use py_objects::{
-    DriveAnswer, Event, FunctionBody, GotAnswer, ObjList, Payload, PyBaseExceptionRef, PyObjectRef,
-    Request,
+    Change, DriveAnswer, Edit, Ending, Event, FunctionBody, GotAnswer, ObjList, PairList, Payload,
+    PyBaseExceptionRef, PyObjectRef,
 };
 use std::alloc::Global;
 use std::test::Fail;
@@ -48,14 +48,14 @@ fn note_of(alloc: Global, entries: &[Kind]) -> Result<Note, NoMemory>
     })
 }
 
-/// A code of two parameters, a third local, the name of a global and the constant None, each unit on line 1.
+/// A code of two parameters, the name of a global and the constant None, with room for three values, each unit on line 1.
 fn code_of(
     alloc: Global,
     instructions: Vec<CodeUnit>,
     notes: NoteList,
 ) -> Result<Annotated, NoMemory>
-    ensures sheet { IfOk result (λ code. sheet_of code ≡ record (sheet instructions.items notes) { varnames = 3 }) }
-    ensures names { IfOk result (λ code. (names : List (List ℕ)) → length names ≡ 3 → AreNames names code.code) }
+    ensures sheet { IfOk result (λ code. sheet_of code ≡ record (sheet instructions.items notes) { max_stackdepth = 3 }) }
+    ensures names { IfOk result (λ code. (names : List (List ℕ)) → length names ≡ 2 → AreNames names code.code) }
 {
     let mut locations = Vec::new(alloc);
     for _ in 0..instructions.len() {
@@ -64,7 +64,6 @@ fn code_of(
     let mut varnames = Vec::new(alloc);
     varnames.push(NameId { index: 0 })?;
     varnames.push(NameId { index: 1 })?;
-    varnames.push(NameId { index: 2 })?;
     let mut names = Vec::new(alloc);
     names.push(NameId { index: 0 })?;
     let mut constants = LiteralList::new(alloc);
@@ -78,7 +77,7 @@ fn code_of(
         kwonlyarg_count: 0,
         source_path: NameId { index: 0 },
         first_line_number: None,
-        max_stackdepth: 2,
+        max_stackdepth: 3,
         obj_name: NameId { index: 0 },
         cell2arg: Vec::new(alloc),
         constants,
@@ -90,15 +89,15 @@ fn code_of(
     Ok(Annotated { code, notes })
 }
 
-/// A code that returns the sum of its two parameters.
-fn sum(alloc: Global) -> Result<Annotated, NoMemory>
-    ensures sheet { IfOk result (λ code. sheet_of code ≡ record sum { varnames = 3 }) }
-    ensures names { IfOk result (λ code. (names : List (List ℕ)) → length names ≡ 3 → AreNames names code.code) }
+/// A code that returns the difference of its two parameters.
+fn difference(alloc: Global) -> Result<Annotated, NoMemory>
+    ensures sheet { IfOk result (λ code. sheet_of code ≡ record (sheet (unit op.LoadFast 0 ∷ unit op.LoadFast 1 ∷ unit op.BinaryOperation 7 ∷ unit op.ReturnValue 0 ∷ []) sum_notes) { max_stackdepth = 3 }) }
+    ensures names { IfOk result (λ code. (names : List (List ℕ)) → length names ≡ 2 → AreNames names code.code) }
 {
     let units = [
         (Instruction::LoadFast, 0),
         (Instruction::LoadFast, 1),
-        (Instruction::BinaryOperation, 6),
+        (Instruction::BinaryOperation, 7),
         (Instruction::ReturnValue, 0),
     ];
     let mut notes = NoteList::new(alloc);
@@ -110,166 +109,175 @@ fn sum(alloc: Global) -> Result<Annotated, NoMemory>
 }
 
 /// The same, checked.
-fn sum_code(alloc: Global) -> Result<CheckedCode, NoMemory>
-    ensures { IfOk result (λ code. (names : List (List ℕ)) → length names ≡ 3 → IsSound names code) }
+fn difference_code(alloc: Global) -> Result<CheckedCode, NoMemory>
+    ensures { IfOk result (λ code. (names : List (List ℕ)) → length names ≡ 2 → AreNames names code.code) }
 {
-    let code = sum(alloc)?;
+    let code = difference(alloc)?;
     Ok(CheckedCode::of(code))
 }
 
-/// A code that shows the first of its two parameters, and returns it.
-fn shown(alloc: Global) -> Result<Annotated, NoMemory>
-    ensures sheet { IfOk result (λ code. sheet_of code ≡ record (sheet (unit op.LoadFast 0 ∷ unit op.PrintExpr 0 ∷ unit op.LoadFast 0 ∷ unit op.ReturnValue 0 ∷ []) (nothing ∷ one ∷ nothing ∷ one ∷ [])) { varnames = 3 }) }
-    ensures names { IfOk result (λ code. (names : List (List ℕ)) → length names ≡ 3 → AreNames names code.code) }
+/// A code that calls `v` with its two parameters, and returns what that answers.
+fn call_of_v(alloc: Global) -> Result<Annotated, NoMemory>
+    ensures sheet { IfOk result (λ code. sheet_of code ≡ calling 2) }
+    ensures names { IfOk result (λ code. (names : List (List ℕ)) → length names ≡ 2 → AreNames names code.code) }
 {
     let units = [
+        (Instruction::LoadGlobal, 0),
         (Instruction::LoadFast, 0),
-        (Instruction::PrintExpr, 0),
-        (Instruction::LoadFast, 0),
+        (Instruction::LoadFast, 1),
+        (Instruction::CallFunctionPositional, 2),
         (Instruction::ReturnValue, 0),
     ];
     let mut notes = NoteList::new(alloc);
     notes.push(note_of(alloc, &[])?)?;
     notes.push(note_of(alloc, &[Kind::Any])?)?;
-    notes.push(note_of(alloc, &[])?)?;
+    notes.push(note_of(alloc, &[Kind::Any, Kind::Any])?)?;
+    notes.push(note_of(alloc, &[Kind::Any, Kind::Any, Kind::Any])?)?;
     notes.push(note_of(alloc, &[Kind::Any])?)?;
     code_of(alloc, units_of(alloc, &units)?, notes)
 }
 
 /// The same, checked.
-fn shown_code(alloc: Global) -> Result<CheckedCode, NoMemory>
-    ensures { IfOk result (λ code. (names : List (List ℕ)) → length names ≡ 3 → IsSound names code) }
+fn calling_code(alloc: Global) -> Result<CheckedCode, NoMemory>
+    ensures { IfOk result (λ code. (names : List (List ℕ)) → length names ≡ 2 → AreNames names code.code) }
 {
-    let code = shown(alloc)?;
+    let code = call_of_v(alloc)?;
     Ok(CheckedCode::of(code))
 }
 
-/// A code that returns its third local, which nothing sets.
-fn unset(alloc: Global) -> Result<Annotated, NoMemory>
-    ensures sheet { IfOk result (λ code. sheet_of code ≡ record (sheet (unit op.LoadFast 2 ∷ unit op.ReturnValue 0 ∷ []) (nothing ∷ one ∷ [])) { varnames = 3 }) }
-    ensures names { IfOk result (λ code. (names : List (List ℕ)) → length names ≡ 3 → AreNames names code.code) }
-{
-    let units = [(Instruction::LoadFast, 2), (Instruction::ReturnValue, 0)];
-    let mut notes = NoteList::new(alloc);
-    notes.push(note_of(alloc, &[])?)?;
-    notes.push(note_of(alloc, &[Kind::Any])?)?;
-    code_of(alloc, units_of(alloc, &units)?, notes)
-}
-
-/// The same, checked.
-fn unset_code(alloc: Global) -> Result<CheckedCode, NoMemory>
-    ensures { IfOk result (λ code. (names : List (List ℕ)) → length names ≡ 3 → IsSound names code) }
-{
-    let code = unset(alloc)?;
-    Ok(CheckedCode::of(code))
-}
-
-/// A note of these entries in a loop.
-fn loop_note(alloc: Global, entries: &[Kind]) -> Result<Note, NoMemory>
-    ensures { IfOk result (λ made. made ≡ note.Live entries.now (Loop 0 ∷ [])) }
-{
-    let mut kinds = KindList::new(alloc);
-    for kind in entries {
-        kinds.push(*kind)?;
-    }
-    let mut blocks = BlockList::new(alloc);
-    blocks.push(BlockNote::Loop { level: 0 })?;
-    Ok(Note::Live { kinds, blocks })
-}
-
-/// A code that loops while its first parameter is true, and returns None.
-fn looping(alloc: Global) -> Result<Annotated, NoMemory>
-    ensures sheet { IfOk result (λ code. sheet_of code ≡ record looping { varnames = 3 }) }
-    ensures names { IfOk result (λ code. (names : List (List ℕ)) → length names ≡ 3 → AreNames names code.code) }
-{
-    let units = [
-        (Instruction::SetupLoop, 0),
-        (Instruction::LoadFast, 0),
-        (Instruction::JumpIfFalse, 4),
-        (Instruction::Jump, 1),
-        (Instruction::PopBlock, 0),
-        (Instruction::ReturnConst, 0),
-    ];
-    let mut notes = NoteList::new(alloc);
-    notes.push(note_of(alloc, &[])?)?;
-    notes.push(loop_note(alloc, &[])?)?;
-    notes.push(loop_note(alloc, &[Kind::Any])?)?;
-    notes.push(loop_note(alloc, &[])?)?;
-    notes.push(loop_note(alloc, &[])?)?;
-    notes.push(note_of(alloc, &[])?)?;
-    code_of(alloc, units_of(alloc, &units)?, notes)
-}
-
-/// The same, checked.
-fn looping_code(alloc: Global) -> Result<CheckedCode, NoMemory>
-    ensures { IfOk result (λ code. (names : List (List ℕ)) → length names ≡ 3 → IsSound names code) }
-{
-    let code = looping(alloc)?;
-    Ok(CheckedCode::of(code))
-}
-
-/// Whether an event is the begin of a round, by the unit at this place.
-fn is_round(event: Option<&Event>, place: u32) -> bool {
-    match event {
-        Some(Event::Round { act: 1, at }) => *at == place,
-        _ => false,
-    }
-}
-
-/// Whether an event asks for a value to be shown.
-fn shows(event: Option<&Event>, value: PyObjectRef) -> bool {
-    match event {
-        Some(
-            Event::Ask {
-                request: Request::Show(shown),
-                ..
-            },
-        ) => *shown == value,
-        _ => false,
-    }
-}
-
-/// Whether an event gives this answer.
-fn is_answered(event: Option<&Event>, expected: GotAnswer) -> bool {
-    match event {
-        Some(Event::Got { answer, .. }) => *answer == expected,
-        _ => false,
-    }
-}
-
-/// A machine whose codes' locals are called `v`, `w` and `x`.
+/// A machine whose codes' locals are called `v` and `w`.
 fn machine(alloc: Global) -> Result<VirtualMachine, NoMemory>
     ensures stands { IfOk result Stands }
-    ensures names { IfOk result (λ vm. length (checked_of vm).names ≡ 3) }
+    ensures names { IfOk result (λ vm. length (checked_of vm).names ≡ 2) }
+    ensures events { IfOk result (λ vm. events_of vm ≡ []) }
+    ensures works { IfOk result (λ vm. failed_of vm ≡ false) }
 {
     let mut names = Names::new(alloc);
     names.intern("v")?;
     names.intern("w")?;
-    names.intern("x")?;
     let vm = VirtualMachine::new(alloc, names)?;
     Ok(vm)
 }
 
-/// What a code comes to from this number and 2 in so many turns, and what happened.
-fn driven(
+/// A function of this name and code.
+fn add_function(
     alloc: Global,
+    vm: &mut VirtualMachine,
+    name: &[u8],
     code: CheckedCode,
-    first: i128,
-    turns: u64,
-) -> Result<(Journal, Result<DriveAnswer, VmFault>), NoMemory>
-    requires { (names : List (List ℕ)) → length names ≡ 3 → IsSound names code }
+) -> Result<PyObjectRef, Fail>
+    requires stands { Stands vm.old }
+    requires two { length (checked_of vm.old).names ≡ 2 }
+    requires named { (names : List (List ℕ)) → length names ≡ 2 → AreNames names code.code }
+    ensures stands { Stands vm.new }
+    ensures two { OnOk result (length (checked_of vm.new).names ≡ 2) }
+{
+    let name = text_of(alloc, name)?;
+    let code = vm.add_code(code)?;
+    let function = vm.add_object(Payload::Function(FunctionBody { name, code }))?;
+    Ok(function)
+}
+
+/// A machine with a function `v` that subtracts, a function `w` that calls it, and the numbers 40 and 2. Behind None, five classes and the
+/// globals these have the numbers 7 to 10.
+fn set_up(alloc: Global) -> Result<VirtualMachine, Fail>
+    ensures { IfOk result Stands }
 {
     let mut vm = machine(alloc)?;
-    let code = vm.add_code(code)?;
-    let name = text_of(alloc, b"f")?;
-    let function = vm.add_object(Payload::Function(FunctionBody { name, code }))?;
-    let left = vm.add_object(Payload::Int(first))?;
-    let right = vm.add_object(Payload::Int(2))?;
-    let mut args = ObjList::new(alloc);
-    args.push(left)?;
-    args.push(right)?;
-    let answer = vm.drive(Drive::Call(function, args), turns);
-    Ok((vm.journal(), answer))
+    add_function(alloc, &mut vm, b"v", difference_code(alloc)?)?;
+    add_function(alloc, &mut vm, b"w", calling_code(alloc)?)?;
+    vm.add_object(Payload::Int(40))?;
+    vm.add_object(Payload::Int(2))?;
+    Ok(vm)
+}
+
+/// A list of the objects at these places, where there are so many objects.
+fn list_of(alloc: Global, places: &[u64], there: u64) -> Result<ObjList, NoMemory>
+    ensures { IfOk result (λ list. AllBelow there (numbers list)) }
+{
+    let mut list = ObjList::new(alloc);
+    for place in places {
+        if *place >= there {
+            return Err(NoMemory);
+        }
+        list.push(PyObjectRef { number: *place })?;
+    }
+    Ok(list)
+}
+
+/// What a call of `w` with these objects comes to in so many turns.
+fn call(
+    alloc: Global,
+    vm: &mut VirtualMachine,
+    args: &[u64],
+    turns: u64,
+) -> Result<PyResult<DriveAnswer>, NoMemory>
+    requires { Stands vm.old }
+    ensures { Stands vm.new }
+{
+    let there = vm.store().len();
+    if there <= 8 {
+        return Err(NoMemory);
+    }
+    let args = list_of(alloc, args, there)?;
+    let drive = Drive::Call(PyObjectRef { number: 8 }, args);
+    Ok(vm.drive(&drive, turns))
+}
+
+/// Enters a place so many times.
+fn enter_all(vm: &mut VirtualMachine, levels: u16) -> PyResult<()>
+    requires { Stands vm.old }
+    ensures stands { Stands vm.new }
+    ensures entered { OnOk result (levels ≤ entered_of vm.new) }
+{
+    for _ in 0..levels {
+        vm.enter("in a test")?;
+    }
+    Ok(())
+}
+
+/// A letter for the kind of an event, and whose it is. A raise has another letter than a value.
+fn told(event: &Event) -> (u8, u64) {
+    match event {
+        Event::Drive { drive } => (b'D', *drive),
+        Event::Result {
+            drive,
+            answer: DriveAnswer::Returns(_),
+        } => (b'V', *drive),
+        Event::Result { drive, .. } => (b'X', *drive),
+        Event::Make { act, .. } => (b'M', *act),
+        Event::Resume { act, .. } => (b'R', *act),
+        Event::Ask { act, .. } => (b'A', *act),
+        Event::Got {
+            act,
+            answer: GotAnswer::Raise(_),
+        } => (b'H', *act),
+        Event::Got { act, .. } => (b'G', *act),
+        Event::Round { act, .. } => (b'O', *act),
+        Event::Yield { act, .. } => (b'Y', *act),
+        Event::End {
+            act,
+            ending: Ending::Return(_),
+            ..
+        } => (b'E', *act),
+        Event::End { act, .. } => (b'F', *act),
+    }
+}
+
+/// Whether the events are those of these letters and digits.
+fn are_told(journal: &Journal, expected: &[u8]) -> bool {
+    let mut left = expected;
+    for event in journal.events.as_slice() {
+        let [letter, digit, more @ ..] = left else {
+            return false;
+        };
+        let (kind, whose) = told(event);
+        if kind != *letter || whose.saturating_add(48) != u64::from(*digit) {
+            return false;
+        }
+        left = more;
+    }
+    left.is_empty()
 }
 
 /// Whether an exception is of the class with this number, and this text is its one argument.
@@ -297,104 +305,122 @@ fn is_raised(
     Ok(same && args.len() == 1 && body.class.number == class)
 }
 
+/// Whether a change puts a value under a key into the dict 6, behind so many events.
+fn puts(change: Option<&Change>, after: u64, key: u64, value: u64) -> bool {
+    match change {
+        Some(
+            Change {
+                after: events,
+                object: PyObjectRef { number: 6 },
+                edit: Edit::Put(text, object),
+            },
+        ) => *events == after && text.number == key && object.number == value,
+        _ => false,
+    }
+}
+
+/// Puts a name and a number into the dict of the globals.
+fn set_number(vm: &mut VirtualMachine, name: &str, number: i128) -> PyResult<()>
+    requires { Stands vm.old }
+    ensures { Stands vm.new }
+{
+    let value = vm.add_object(Payload::Int(number))?;
+    let globals = vm.globals();
+    vm.set_global(globals, name, value)
+}
+
 #[test]
-fn a_call_is_done_in_seven_turns(rt: HostRuntime) -> Result<(), Fail> {
+fn a_call_comes_to_its_events(rt: HostRuntime) -> Result<(), Fail> {
     let alloc = rt.alloc();
-    for turns in 0..7 {
-        let (journal, answer) = driven(alloc, sum_code(alloc)?, 40, turns)?;
-        assert!(rt; journal.events.len() as u64 == turns);
+    // The enters, the arguments, and what is told.
+    let cases: [(u16, &[u64], &[u8]); 5] = [
+        (0, &[9, 10], b"D1M1R1A1G1A1M2R2A2G2E2G1E1V1"),
+        (0, &[9, 0], b"D1M1R1A1G1A1M2R2A2H2F2H1F1X1"),
+        (0, &[9], b"D1X1"),
+        (999, &[9, 10], b"D1M1R1A1G1A1H1F1X1"),
+        (1000, &[9, 10], b"D1X1"),
+    ];
+    for (enters, args, expected) in cases {
+        let mut vm = set_up(alloc)?;
+        enter_all(&mut vm, enters)?;
+        let answer = call(alloc, &mut vm, args, 14)?;
+        assert!(rt; answer.is_ok());
+        assert!(rt; are_told(&vm.journal(), expected));
+    }
+    Ok(())
+}
+
+#[test]
+fn turns_run_out_between_any_two_events(rt: HostRuntime) -> Result<(), Fail> {
+    let alloc = rt.alloc();
+    // How many frames there are behind each event.
+    let frames = [0, 0, 0, 1, 1, 1, 1, 1, 2, 2, 2, 1, 1, 0];
+    let mut turns = 0;
+    for count in frames {
+        let mut vm = set_up(alloc)?;
+        let answer = call(alloc, &mut vm, &[9, 10], turns)?;
         assert!(rt; matches!(answer, Err(VmFault::OutOfTurns)));
-    }
-    for turns in 7..9 {
-        let (journal, answer) = driven(alloc, sum_code(alloc)?, 40, turns)?;
-        assert!(rt; journal.events.len() == 7);
-        // The sum stands behind the function and the operands.
-        assert!(rt; matches!(answer, Ok(DriveAnswer::Returns(PyObjectRef { number: 10 }))));
+        assert!(rt; vm.events() == turns);
+        assert!(rt; vm.frames().len() == count);
+        assert!(rt; vm.current_recursion_depth() == count);
+        assert!(rt; vm.current_frame().is_some() == (count > 0));
+        // It has failed.
+        let answer = call(alloc, &mut vm, &[9, 10], 14)?;
+        assert!(rt; matches!(answer, Err(VmFault::Failed)));
+        assert!(rt; vm.events() == turns);
+        turns = turns.saturating_add(1);
     }
     Ok(())
 }
 
 #[test]
-fn a_shown_value_is_answered_by_none(rt: HostRuntime) -> Result<(), Fail> {
-    let alloc = rt.alloc();
-    for turns in 0..7 {
-        let (journal, answer) = driven(alloc, shown_code(alloc)?, 40, turns)?;
-        assert!(rt; journal.events.len() as u64 == turns);
-        assert!(rt; matches!(answer, Err(VmFault::OutOfTurns)));
-    }
-    let (journal, answer) = driven(alloc, shown_code(alloc)?, 40, 7)?;
-    assert!(rt; journal.events.len() == 7);
-    assert!(rt; shows(journal.events.get(3), PyObjectRef { number: 8 }));
-    let none = GotAnswer::Value(PyObjectRef { number: 0 });
-    assert!(rt; is_answered(journal.events.get(4), none));
-    // The first operand stands behind None, five classes, the globals and the function; nothing stands behind the second.
-    assert!(rt; matches!(answer, Ok(DriveAnswer::Returns(PyObjectRef { number: 8 }))));
-    assert!(rt; journal.objects.len() == 10);
-    Ok(())
-}
-
-#[test]
-fn each_round_of_a_loop_is_told_once(rt: HostRuntime) -> Result<(), Fail> {
-    let alloc = rt.alloc();
-    let (journal, answer) = driven(alloc, looping_code(alloc)?, 0, 8)?;
-    assert!(rt; journal.events.len() == 8);
-    assert!(rt; is_round(journal.events.get(3), 0));
-    let no = GotAnswer::Value(PyObjectRef { number: 10 });
-    assert!(rt; is_answered(journal.events.get(5), no));
-    assert!(rt; matches!(answer, Ok(DriveAnswer::Returns(_))));
-    // Set up, and then a round whenever the value was true.
-    let (journal, answer) = driven(alloc, looping_code(alloc)?, 40, 11)?;
-    assert!(rt; matches!(answer, Err(VmFault::OutOfTurns)));
-    let rounds = [(3, 0), (6, 3), (9, 3)];
-    for (event, place) in rounds {
-        assert!(rt; is_round(journal.events.get(event), place));
-    }
-    assert!(rt; journal.events.len() == 11);
-    assert!(rt; matches!(journal.events.get(7), Some(Event::Ask { .. })));
-    Ok(())
-}
-
-#[test]
-fn an_unset_local_raises(rt: HostRuntime) -> Result<(), Fail> {
-    let alloc = rt.alloc();
-    let (journal, answer) = driven(alloc, unset_code(alloc)?, 40, 7)?;
-    assert!(rt; journal.events.len() == 7);
-    // The exception stands behind the operands, its text and its arguments, and the fifth class is its own.
-    let raised = PyBaseExceptionRef { number: 12 };
-    assert!(rt; is_answered(journal.events.get(4), GotAnswer::Raise(raised)));
-    assert!(rt;
-        matches!(
-            answer,
-            Ok(DriveAnswer::Raises(PyBaseExceptionRef { number: 12 }))
-        )
-    );
-    let text = b"local variable 'x' referenced before assignment";
-    assert!(rt; is_raised(alloc, &journal, raised, 5, text)?);
-    assert!(rt; journal.objects.len() == 13);
-    Ok(())
-}
-
-#[test]
-fn codes_and_objects_are_numbered_in_order(rt: HostRuntime) -> Result<(), Fail> {
+fn the_host_enters_1000_levels(rt: HostRuntime) -> Result<(), Fail> {
     let alloc = rt.alloc();
     let mut vm = machine(alloc)?;
-    assert!(rt; vm.names().len() == 3);
-    assert!(rt; vm.add_code(sum_code(alloc)?)? == 0);
-    assert!(rt; vm.add_code(unset_code(alloc)?)? == 1);
-    // None, five classes and the globals stand in front.
-    assert!(rt; vm.store().len() == 7);
-    assert!(rt; vm.add_object(Payload::Int(7))?.number == 7);
-    assert!(rt; vm.events() == 0);
+    enter_all(&mut vm, 1000)?;
+    let Err(VmFault::Exception(raised)) = vm.enter("in a test") else {
+        return Err(Fail::from(NoMemory));
+    };
+    assert!(rt; vm.current_recursion_depth() == 1000);
+    vm.leave();
+    assert!(rt; vm.current_recursion_depth() == 999);
+    assert!(rt; vm.enter("in a test").is_ok());
+    let text = b"maximum recursion depth exceeded in a test";
+    assert!(rt; is_raised(alloc, &vm.journal(), raised, 3, text)?);
+    Ok(())
+}
+
+#[test]
+fn globals_are_set_behind_the_events_so_far(rt: HostRuntime) -> Result<(), Fail> {
+    let alloc = rt.alloc();
+    let mut vm = set_up(alloc)?;
+    set_number(&mut vm, "x", 1)?;
+    let answer = call(alloc, &mut vm, &[9, 10], 14)?;
+    // Two frames stand in front of the difference.
+    assert!(rt; matches!(answer, Ok(DriveAnswer::Returns(PyObjectRef { number: 15 }))));
+    set_number(&mut vm, "y", 2)?;
     let journal = vm.journal();
+    assert!(rt; matches!(journal.objects.get(15), Some(Payload::Int(38))));
+    assert!(rt; journal.changes.len() == 2);
+    assert!(rt; puts(journal.changes.get(0), 0, 12, 11));
+    assert!(rt; puts(journal.changes.get(1), 14, 17, 16));
+    assert!(rt; journal.objects.len() == 18);
     assert!(rt; journal.codes.len() == 2);
-    assert!(rt; journal.codes.names().len() == 3);
-    let units = journal
-        .codes
-        .get(1)
-        .map(|code| code.code.instructions.len());
-    assert!(rt; units == Some(2));
-    assert!(rt; journal.objects.len() == 8);
-    assert!(rt; journal.changes.len() == 0);
-    assert!(rt; journal.events.len() == 0);
+    Ok(())
+}
+
+#[test]
+fn a_machine_begins_with_seven_objects(rt: HostRuntime) -> Result<(), Fail> {
+    let alloc = rt.alloc();
+    let mut vm = machine(alloc)?;
+    assert!(rt; vm.names().len() == 2);
+    assert!(rt; vm.store().len() == 7);
+    assert!(rt; vm.globals().number == 6);
+    assert!(rt; vm.state().int_max_str_digits == 4300);
+    let class = vm.declared(&text_of(alloc, b"TypeError")?);
+    assert!(rt; matches!(class, Some(PyObjectRef { number: 4 })));
+    let globals = vm.add_object(Payload::Dict(PairList::new(alloc)))?;
+    vm.use_globals(globals)?;
+    assert!(rt; vm.globals().number == 7);
     Ok(())
 }

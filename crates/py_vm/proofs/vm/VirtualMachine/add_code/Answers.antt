@@ -1,8 +1,8 @@
-use Rattle.py_vm.proofs.StandsLemmas.{code_added, codes_still}
+use Rattle.std.proofs.Common.{subst}
+use Rattle.py_check.specs.Rules.{IsTyped}
+use Rattle.py_vm.proofs.StandsLemmas.{code_idle}
 use Rattle.py_vm.proofs.vm.VirtualMachine.add_code.Goals as goal
 
-pub returns-in_err-push-clause-stands : goal.returns-in_err-push-clause-stands
-returns-in_err-push-clause-stands c = codes_still c.args.self.now c.push.new.self c.in_err-push.ensures.err c.requires
-
-pub returns-clause-stands : goal.returns-clause-stands
-returns-clause-stands c = code_added c.args.self.now c.push.new.self _ c.in_ok-push.ensures.added c.requires
+pub returns-in-Ok-clause-stands : goal.returns-in-Ok-clause-stands
+returns-in-Ok-clause-stands c works =
+    code_idle c.args.self.now c.push.new.self c.args.code c.in-Ok.ensures.added (record { typed = subst IsTyped c.code.view_is c.code.invariant.0; named = c.requires.named }) (c.requires.stands works)
