@@ -14,8 +14,9 @@ use Rattle.py_objects.specs.declared.payload.ManagerBody.{ManagerBody}
 use Rattle.py_objects.specs.declared.payload.ErrorKind.{ErrorKind}
 use Rattle.py_objects.specs.declared.payload.ErrorKind.TheVariants as kind
 use Rattle.py_code.specs.declared.operator.BinaryOperator.TheVariants as binary
+use Rattle.py_objects.specs.declared.request.Keywords.TheVariants as keywords
 use Rattle.py_objects.specs.declared.request.Request.{Request}
-use Rattle.py_objects.specs.declared.request.Request.TheVariants.{Binary}
+use Rattle.py_objects.specs.declared.request.Request.TheVariants.{Binary, Call as Calling}
 use Rattle.py_objects.specs.declared.event.ResumeHow.TheVariants.{Start}
 use Rattle.py_objects.specs.declared.event.GotAnswer.{GotAnswer}
 use Rattle.py_objects.specs.declared.event.GotAnswer.TheVariants as got
@@ -29,11 +30,11 @@ use Rattle.py_body.specs.Tree.{Tree}
 use Rattle.py_body.specs.Scene.{Scene, anywhere}
 use Rattle.py_body.specs.Trace.{IsTrace, IsBegun}
 use Rattle.py_grammar.specs.Drive.{Drive}
-use Rattle.py_vm.specs.declared.drive.Drive.{Drive as Question}
 use Rattle.py_vm.specs.declared.drive.Drive.TheVariants.{Call}
 use Rattle.py_vm.specs.Answers.{Reply, Replies, Gives, IsRaised, sum, whole}
-use Rattle.py_vm.specs.Run.{By_raise, Activation, Asking, IsTop, MayCome, State, question, start, state_after, Comes, EachTells}
-use Rattle.py_script.specs.Whole.{AreAsked, AreObjects, Traces, IsRunOf}
+use Rattle.py_vm.specs.Calls.{Signature, Course, Says, Enters, refusal, bound_at, CallsAs, Calls, Comes_to}
+use Rattle.py_vm.specs.Run.{Posed, Plan, Activation, Phase, Asking, IsTop, Answers as IsAnswered, MayCome, State, question, start, state_after, Comes, EachTells}
+use Rattle.py_script.specs.Whole.{AreAsked, AreGlobals, AreObjects, Traces, IsRunOf, plan_of, signature_of}
 use Rattle.py_script.specs.Text.{bytes_of}
 use Rattle.py_script.specs.Worked.{object, exception, class_entry, function_entry, loaded, objects_of, entered, asked, greatest, overflowing, error_body, error_entry, error_objects, raising_by, raised, raises, overflow_by}
 
@@ -94,10 +95,10 @@ pub are_named : (store : List Payload) (events : List Event) → AllFit store �
 are_named store events fit h = record { in_events = each_below event_numbers (length store) events h; in_payloads = λ i p e. (fit i p e).0 }
 
 -- a class is a built-in one
-abbrev IsBuiltIn : Payload → Type 0
+abbrev pub IsBuiltIn : Payload → Type 0
 IsBuiltIn p = (b : ClassBody) → p ≡ payload.Class b → Contains (map name_of error_kinds) b.name
 
-body_of : (a b : FunctionBody) → payload.Function a ≡ payload.Function b → a ≡ b
+pub body_of : (a b : FunctionBody) → payload.Function a ≡ payload.Function b → a ≡ b
 body_of a b e = cc
 
 pub code_of : (a b : Name) (i j : ℕ) → Some (function_entry a i) ≡ Some (function_entry b j) → i ≡ j
@@ -106,15 +107,15 @@ code_of a b i j e = ap (λ (b : FunctionBody). b.code) (body_of _ _ (some_is _ _
 class_of : (a b : ClassBody) → payload.Class a ≡ payload.Class b → a ≡ b
 class_of a b e = cc
 
-built_in : (kind : ErrorKind) → Contains (map name_of error_kinds) (name_of kind) → IsBuiltIn (class_entry kind)
+pub built_in : (kind : ErrorKind) → Contains (map name_of error_kinds) (name_of kind) → IsBuiltIn (class_entry kind)
 built_in kind h b e = subst (λ (b : ClassBody). Contains (map name_of error_kinds) b.name) (class_of _ b e) h
 
-abbrev HasClass : List Payload → ErrorKind → Type 0
+abbrev pub HasClass : List Payload → ErrorKind → Type 0
 HasClass store k = (c : Obj) × (declared store (name_of k) ≡ Some c) × HasPayload store c (class_entry k)
 
 -- the question of a drive of the function with the two numbers
-abbrev pub call : Question
-call = Call (object 7) (object 8 ∷ object 9 ∷ [])
+abbrev pub call : Posed
+call = record { drive = Call (object 7) (object 10 ∷ object 11 ∷ []); entered = 0 }
 
 -- the one activation tells what it may
 pub one_tells : (may : Obj → List Obj → List Own → Type 0) (f : Obj) (vs : List Obj) (events : List Event) → (state_after start events).made ≡ record { function = f; args = vs } ∷ [] → may f vs (own_events 1 events) → EachTells may events
@@ -148,18 +149,18 @@ asked_so units r q at w ts K (inr more) =
     gotten K w ts (subst (λ (xs : List Own). Answered xs K) (sym rest) more.4)
 
 -- no more drives are begun than the script has
-pub few_asked : (store : List Payload) (ds : List Drive) (qs : List Question) → AreAsked store ds qs → length qs ≤ length ds
-few_asked store ds [] h = omega arith
-few_asked store [] (q ∷ qs) h = absurd h
-few_asked store (d ∷ ds) (q ∷ qs) h = let few = few_asked store ds qs h.1 in omega arith
+pub few_asked : (store : List Payload) (events : List Event) (ds : List Drive) (qs : List Posed) → AreAsked store events ds qs → length qs ≤ length ds
+few_asked store events ds [] h = omega arith
+few_asked store events [] (q ∷ qs) h = absurd h
+few_asked store events (d ∷ ds) (q ∷ qs) h = let few = few_asked store events ds qs h.1 in omega arith
 
 -- a choice of an object that isn't this one
-not_chosen : (n i : ℕ) (b : Bool) (rest : Option Obj) → eqb n i ≡ false → ((v : Obj) → rest ≡ Some v → eqb n v.number ≡ false) → (v : Obj) → (if b then Some (object i) else rest) ≡ Some v → eqb n v.number ≡ false
+pub not_chosen : (n i : ℕ) (b : Bool) (rest : Option Obj) → eqb n i ≡ false → ((v : Obj) → rest ≡ Some v → eqb n v.number ≡ false) → (v : Obj) → (if b then Some (object i) else rest) ≡ Some v → eqb n v.number ≡ false
 not_chosen n i true rest h k v e = subst (λ (v : Obj). eqb n v.number ≡ false) (some_is (object i) v e) h
 not_chosen n i false rest h k v e = k v e
 
 -- nothing is chosen
-none_chosen : (n : ℕ) (rest : Option Obj) → rest ≡ None → (v : Obj) → rest ≡ Some v → eqb n v.number ≡ false
+pub none_chosen : (n : ℕ) (rest : Option Obj) → rest ≡ None → (v : Obj) → rest ≡ Some v → eqb n v.number ≡ false
 none_chosen n rest h v e = absurd cc
 
 -- the number is none of the classes' and the function's
@@ -173,10 +174,33 @@ reply_of_sum store a b i j reply p q r =
     let right : r.1 ≡ payload.Int j = some_is _ _ (sym r.5 ∙ q) in
     sym (some_is _ _ r.8) ∙ (ap (λ (x : Payload). sum x r.1 r.2 r.3) left ∙ ap (λ (x : Payload). sum (payload.Int i) x r.2 r.3) right)
 
-pub gives_sum : (store : List Payload) (before : List Event) (a b : Obj) (i j : ℤ) (w : GotAnswer) → HasPayload store a (payload.Int i) → HasPayload store b (payload.Int j) → ((r : Request) × (reply : Reply) × (Some (Binary binary.Add a b) ≡ Some r) × Replies store r reply × Gives store before reply w) → Gives store before (whole (i +ℤ j)) w
-gives_sum store before a b i j w p q h =
+-- what is no call is replied to
+pub replied : (ss : List Signature) (d : ℕ) (store : List Payload) (r : Request) (reply : Reply) → ((f : Obj) (vs : List Obj) → r ≡ Calling f vs keywords.None → ⊥) → Comes_to ss d store r (Says reply) → Replies store r reply
+replied ss d store r reply other (inl (q, is, h)) = let same : reply ≡ q = cc in subst (Replies store r) (sym same) h
+replied ss d store r reply other (inr (f, vs, is, h)) = absurd (other f vs is)
+
+-- what is called comes to what the call does
+pub called : (ss : List Signature) (d : ℕ) (store : List Payload) (f : Obj) (vs : List Obj) (c : Course) → Comes_to ss d store (Calling f vs keywords.None) c → Calls ss d store f vs c
+called ss d store f vs c (inl (reply, is, h)) = absurd h
+called ss d store f vs c (inr (g, ws, is, h)) =
+    let function : f ≡ g = cc is in
+    let args : vs ≡ ws = cc is in
+    subst (λ (f : Obj). Calls ss d store f vs c) (sym function) (subst (λ (vs : List Obj). Calls ss d store g vs c) (sym args) h)
+
+-- a call of a function comes to what its signature says
+pub course_is : (ss : List Signature) (d : ℕ) (store : List Payload) (f : Obj) (b : FunctionBody) (s : Signature) (vs : List Obj) (c : Course) → HasPayload store f (payload.Function b) → slice_get ss b.code ≡ Some s → Calls ss d store f vs c → c ≡ bound_at (refusal b.name s.params (length vs)) d
+course_is ss d store f b s vs c entry signed h =
+    let same : h.0 ≡ payload.Function b = some_is _ _ (sym h.1 ∙ entry) in
+    let by = subst (λ (p : Payload). CallsAs ss d store f p vs c) same h.2 in
+    let is : by.0 ≡ s = some_is _ _ (sym by.1 ∙ signed) in
+    by.2 ∙ ap (λ (s : Signature). bound_at (refusal b.name s.params (length vs)) d) is
+
+pub gives_sum : (plan : Plan) (store : List Payload) (before : List Event) (s : State) (a b : Obj) (i j : ℤ) (w : GotAnswer) → HasPayload store a (payload.Int i) → HasPayload store b (payload.Int j)
+    → ((r : Request) × (Some (Binary binary.Add a b) ≡ Some r) × IsAnswered plan store before s Asking r w) → Gives store before (whole (i +ℤ j)) w
+gives_sum plan store before s a b i j w p q h =
+    let answered = subst (λ (r : Request). IsAnswered plan store before s Asking r w) (sym (some_is _ _ h.1)) h.2 in
     subst (λ (reply : Reply). Gives store before reply w)
-    (reply_of_sum store a b i j h.1 p q (subst (λ (r : Request). Replies store r h.1) (sym (some_is _ _ h.2)) h.3)) h.4
+    (reply_of_sum store a b i j answered.0 p q (replied _ _ store (Binary binary.Add a b) answered.0 (λ f vs e. cc) answered.1)) answered.2
 
 -- the script's only function
 module _ (t : Tree) where
@@ -206,11 +230,11 @@ module _ (t : Tree) where
 
   -- the objects of the script with two numbers, and more
   abbrev pub with_more : ℤ → ℤ → List Payload → List Payload
-  with_more m n more = objects_of (function_entry t.name 0) m n more
+  with_more m n more = objects_of t.name (function_entry t.name 0) m n more
 
   -- the objects of the script, and more
   abbrev pub loaded_with : List Payload → List Payload
-  loaded_with more = loaded (function_entry t.name 0) more
+  loaded_with more = loaded t.name (function_entry t.name 0) more
 
   -- the function is declared under its name
   abbrev pub IsDeclared : List Payload → Type 0
@@ -229,7 +253,7 @@ module _ (t : Tree) where
         known_class kind.OverflowError (1, lit< tt, refl),
         (
           known_class kind.RecursionError (2, lit< tt, refl),
-          (known_class kind.TypeError (3, lit< tt, refl), (known_class kind.UnboundLocalError (4, lit< tt, refl), (plain (payload.Dict []) refl, (known_function, h)))),
+          (known_class kind.TypeError (3, lit< tt, refl), (known_class kind.UnboundLocalError (4, lit< tt, refl), (plain (payload.Dict []) refl, (known_function, (plain (payload.Str t.name) refl, (plain (payload.Dict ((object 8, object 7) ∷ [])) refl, h)))))),
         ),
       ),
     ),
@@ -249,15 +273,29 @@ module _ (t : Tree) where
 
   -- the same with two numbers
   pub are_objects : (m n : ℤ) (more : List Payload) → IsDeclared (with_more m n more) → Each IsKnown more → AllFit (with_more m n more) → AreObjects (t ∷ []) (with_more m n more)
-  are_objects m n more d known fit = are_loaded (payload.Int m ∷ payload.Int n ∷ more) d (plain (payload.Int m) refl, (plain (payload.Int n) refl, known)) fit
+  are_objects m n more d known fit = are_loaded (payload.Int m ∷ payload.Int n ∷ payload.Frame 0 ∷ more) d (plain (payload.Int m) refl, (plain (payload.Int n) refl, (plain (payload.Frame 0) refl, known))) fit
+
+  -- the globals bind the function
+  pub are_globals : (more : List Payload) → IsDeclared (loaded_with more) → AreGlobals (t ∷ []) (loaded_with more) (object 9)
+  are_globals more d = ((object 8, object 7) ∷ [], refl, (refl, d, tt))
+
+  -- the two numbers are taken
+  abbrev pub Binds : List Payload → Type 0
+  Binds store = Calls (map signature_of (t ∷ [])) 0 store (object 7) (object 10 ∷ object 11 ∷ []) Enters
+
+  -- a run of the script whose first drive asks this
+  abbrev pub plan_with : List Posed → Plan
+  plan_with qs = plan_of (t ∷ []) (call ∷ qs)
 
   -- up to the question for the sum
-  pub asking_comes : (qs : List Question) (m n : ℤ) (more : List Payload) (rest : List Event) → slice_get qs 0 ≡ Some call → 0 < length qs → Comes qs (with_more m n more) (entered 1 (asked 1 (object 8) (object 9) [])) (state_after start (entered 1 (asked 1 (object 8) (object 9) []))) rest → Comes qs (with_more m n more) [] start (entered 1 (asked 1 (object 8) (object 9) rest))
-  asking_comes qs m n more rest q few k = ((refl, refl, few), ((refl, refl, refl, q, (_, refl)), ((object 7, refl, refl), ((refl, refl), k))))
+  pub asking_comes : (qs : List Posed) (m n : ℤ) (more : List Payload) (rest : List Event) → 0 < length (call ∷ qs) → Binds (with_more m n more) → Comes (plan_with qs) (with_more m n more) (entered 1 (asked 1 (object 10) (object 11) [])) (state_after start (entered 1 (asked 1 (object 10) (object 11) []))) rest → Comes (plan_with qs) (with_more m n more) [] start (entered 1 (asked 1 (object 10) (object 11) rest))
+  asking_comes qs m n more rest few binds k = ((refl, refl, few), ((refl, refl, refl, binds), ((object 7, refl, refl), ((refl, refl), k))))
 
   -- what gives the sum may answer that question
-  pub sum_comes : (qs : List Question) (m n : ℤ) (more : List Payload) (before : List Event) (s : State) (a : ℕ) (w : GotAnswer) → s.phase ≡ Asking → IsTop a s.stack → question s.stack ≡ Some (Binary binary.Add (object 8) (object 9)) → Gives (with_more m n more) before (whole (m +ℤ n)) w → MayCome qs (with_more m n more) before s (event.Got a w)
-  sum_comes qs m n more before s a w phase top asks given = (phase, top, (_, whole (m +ℤ n), asks, (_, _, codes "int", codes "int", refl, refl, refl, refl, refl), given))
+  pub sum_comes : (plan : Plan) (m n : ℤ) (more : List Payload) (before : List Event) (s : State) (a : ℕ) (w : GotAnswer) → s.phase ≡ Asking → IsTop a s.stack → question plan s ≡ Some (Binary binary.Add (object 10) (object 11)) → Gives (with_more m n more) before (whole (m +ℤ n)) w → MayCome plan (with_more m n more) before s (event.Got a w)
+  sum_comes plan m n more before s a w phase top asks given =
+      let reply = whole (m +ℤ n) in
+      (top, (_, asks, subst (λ (p : Phase). IsAnswered plan (with_more m n more) before s p (Binary binary.Add (object 10) (object 11)) w) (sym phase) (reply, inl (reply, refl, (_, _, codes "int", codes "int", refl, refl, refl, refl, refl)), given)))
 
   -- an activation of the script's function tells what that may
   pub traced_by : (globals : Obj) (store : List Payload) (f : Obj) (vs : List Obj) (ts : List Own) → HasPayload store f (function_entry t.name 0) → Traces (t ∷ []) globals store f vs ts → IsTrace (anywhere store globals) t vs ts
@@ -272,9 +310,9 @@ module _ (t : Tree) where
   traced_with vs store drives events p e r = traced_by r.globals store (object 7) vs (own_events 1 events) p (r.run.tells 0 (record { function = object 7; args = vs }) e)
 
   -- the same of an activation with two arguments
-  pub traced : (store : List Payload) (drives : List Drive) (events : List Event) → HasPayload store (object 7) (function_entry t.name 0) → slice_get (state_after start events).made 0 ≡ Some (record { function = object 7; args = object 8 ∷ object 9 ∷ [] })
-      → (r : IsRunOf (t ∷ []) drives store events) → IsTrace (anywhere store r.globals) t (object 8 ∷ object 9 ∷ []) (own_events 1 events)
-  traced store drives events p e r = traced_with (object 8 ∷ object 9 ∷ []) store drives events p e r
+  pub traced : (store : List Payload) (drives : List Drive) (events : List Event) → HasPayload store (object 7) (function_entry t.name 0) → slice_get (state_after start events).made 0 ≡ Some (record { function = object 7; args = object 10 ∷ object 11 ∷ [] })
+      → (r : IsRunOf (t ∷ []) drives store events) → IsTrace (anywhere store r.globals) t (object 10 ∷ object 11 ∷ []) (own_events 1 events)
+  traced store drives events p e r = traced_with (object 10 ∷ object 11 ∷ []) store drives events p e r
 
   -- the entry of the function, where it is the script's
   pub entry_of : (store : List Payload) (f : Obj) → AreObjects (t ∷ []) store → declared store t.name ≡ Some f → HasPayload store f (function_entry t.name 0)
@@ -283,33 +321,33 @@ module _ (t : Tree) where
       subst (λ (f : Obj). HasPayload store f (function_entry t.name 0)) (some_is _ _ (sym entry.1 ∙ e)) entry.2
 
   -- nothing is declared under another number
-  pub undeclared : (n : ℕ) (more : List Payload) (x : Name) → IsNoDeclaration n → declared_from 8 more x ≡ None → (v : Obj) → declared (loaded_with more) x ≡ Some v → eqb n v.number ≡ false
+  pub undeclared : (n : ℕ) (more : List Payload) (x : Name) → IsNoDeclaration n → declared_from 10 more x ≡ None → (v : Obj) → declared (loaded_with more) x ≡ Some v → eqb n v.number ≡ false
   undeclared n more x past none =
-      not_chosen n 1 _ _ past.0 (not_chosen n 2 _ _ past.1 (not_chosen n 3 _ _ past.2 (not_chosen n 4 _ _ past.3 (not_chosen n 5 _ _ past.4 (not_chosen n 7 _ _ past.5 (none_chosen n (declared_from 8 more x) none))))))
+      not_chosen n 1 _ _ past.0 (not_chosen n 2 _ _ past.1 (not_chosen n 3 _ _ past.2 (not_chosen n 4 _ _ past.3 (not_chosen n 5 _ _ past.4 (not_chosen n 7 _ _ past.5 (none_chosen n (declared_from 10 more x) none))))))
 
   -- the objects of drives that overflow, and more
   abbrev pub overflow_with : List Payload → List Payload
-  overflow_with more = raising_by (function_entry t.name 0) 2 more
+  overflow_with more = raising_by t.name (function_entry t.name 0) 2 more
 
-  pub new_in : (n : ℕ) (more : List Payload) (before : List Event) → ((x : Name) → declared_from 13 more x ≡ None) → Each (λ e. is_among n (event_numbers e) ≡ false) before → IsNoDeclaration n → IsNew (overflow_with more) before n
+  pub new_in : (n : ℕ) (more : List Payload) (before : List Event) → ((x : Name) → declared_from 16 more x ≡ None) → Each (λ e. is_among n (event_numbers e) ≡ false) before → IsNoDeclaration n → IsNew (overflow_with more) before n
   new_in n more before none h past =
-      record { unnamed = each_at (λ e. is_among n (event_numbers e) ≡ false) before h; undeclared = λ x. undeclared n (payload.Int greatest ∷ payload.Int (pos 1) ∷ error_objects 2 more) x past (none x) }
+      record { unnamed = each_at (λ e. is_among n (event_numbers e) ≡ false) before h; undeclared = λ x. undeclared n (payload.Int greatest ∷ payload.Int (pos 1) ∷ payload.Frame 0 ∷ error_objects 2 more) x past (none x) }
 
   -- what is raised
   pub is_raised : (n : ℕ) (more : List Payload) (before : List Event) → IsNew (overflow_with more) before n → HasPayload (overflow_with more) (object n) (error_entry 2) → IsRaised (overflow_with more) before kind.OverflowError (codes "integer out of range") (exception n)
-  is_raised n more before new entry = record { new = new; body = error_body 2; entry = entry; class = refl; argument = object 10; args = refl; message = refl }
+  is_raised n more before new entry = record { new = new; body = error_body 2; entry = entry; class = refl; argument = object 13; args = refl; message = refl }
 
   -- the first of the drives
-  pub first_raises : (qs : List Question) (more : List Payload) (rest : List Event) → slice_get qs 0 ≡ Some call → 0 < length qs → ((x : Name) → declared_from 13 more x ≡ None) → Comes qs (overflow_with more) (overflow_by (exception 12)) (state_after start (overflow_by (exception 12))) rest → Comes qs (overflow_with more) [] start (raises 1 (exception 12) rest)
-  first_raises qs more rest q few none k =
-      let asking = entered 1 (asked 1 (object 8) (object 9) []) in
-      let new = new_in 12 more asking none (refl, (refl, (refl, (refl, tt)))) (refl, refl, refl, refl, refl, refl) in
-      asking_comes qs greatest (pos 1) (error_objects 2 more) (raised 1 (exception 12) rest) q few
-      (sum_comes qs greatest (pos 1) (error_objects 2 more) asking (state_after start asking) 1 (got.Raise (exception 12)) refl refl refl (is_raised 12 more asking new refl), ((refl, refl), ((refl, refl, (By_raise (exception 12), refl, refl)), k)))
+  pub first_raises : (qs : List Posed) (more : List Payload) (rest : List Event) → 0 < length (call ∷ qs) → Binds (overflow_with more) → ((x : Name) → declared_from 16 more x ≡ None) → Comes (plan_with qs) (overflow_with more) (overflow_by (exception 15)) (state_after start (overflow_by (exception 15))) rest → Comes (plan_with qs) (overflow_with more) [] start (raises 1 (exception 15) rest)
+  first_raises qs more rest few binds none k =
+      let asking = entered 1 (asked 1 (object 10) (object 11) []) in
+      let new = new_in 15 more asking none (refl, (refl, (refl, (refl, tt)))) (refl, refl, refl, refl, refl, refl) in
+      asking_comes qs greatest (pos 1) (error_objects 2 more) (raised 1 (exception 15) rest) few binds
+      (sum_comes (plan_with qs) greatest (pos 1) (error_objects 2 more) asking (state_after start asking) 1 (got.Raise (exception 15)) refl refl refl (is_raised 15 more asking new refl), ((refl, refl), ((refl, refl, (_, got.Raise (exception 15), refl, refl, (_, _, refl, refl))), k)))
 
   -- what the activation of a drive that raises tells
   abbrev pub RaiseIsTraced : List Payload → PyBaseExceptionRef → Type 0
-  RaiseIsTraced more e = IsTrace (anywhere (overflow_with more) (object 6)) t (object 8 ∷ object 9 ∷ []) (Makes ∷ Resumes Start ∷ Asks 2 (Binary binary.Add (object 8) (object 9)) None ∷ Gets (got.Raise e) ∷ Ends 2 (ending.Raise e) ∷ [])
+  RaiseIsTraced more e = IsTrace (anywhere (overflow_with more) (object 9)) t (object 10 ∷ object 11 ∷ []) (Makes ∷ Resumes Start ∷ Asks 2 (Binary binary.Add (object 10) (object 11)) None ∷ Gets (got.Raise e) ∷ Ends 2 (ending.Raise e) ∷ [])
 
   -- its entry names what it should
   pub made_error : (more : List Payload) → IsMade (overflow_with more) (error_entry 2)
@@ -317,7 +355,7 @@ module _ (t : Tree) where
     class = record { name = name_of kind.OverflowError };
     is_class = refl;
     is_declared = refl;
-    arguments = object 10 ∷ [];
+    arguments = object 13 ∷ [];
     are_arguments = refl;
     cause = tt;
     context = tt;
@@ -325,25 +363,25 @@ module _ (t : Tree) where
   }
 
   overflow_fits : AllFit (overflow_with [])
-  overflow_fits = all_fit (overflow_with []) refl (tt, (tt, (tt, (tt, (tt, (tt, (tt, (tt, (tt, (tt, (tt, (tt, (made_error [], tt)))))))))))))
+  overflow_fits = all_fit (overflow_with []) refl (tt, (tt, (tt, (tt, (tt, (tt, (tt, (tt, (tt, (tt, (tt, (tt, (tt, (tt, (tt, (made_error [], tt))))))))))))))))
 
-  overflow_tells : RaiseIsTraced [] (exception 12) → EachTells (Traces (t ∷ []) (object 6) (overflow_with [])) (overflow_by (exception 12))
+  overflow_tells : RaiseIsTraced [] (exception 15) → EachTells (Traces (t ∷ []) (object 9) (overflow_with [])) (overflow_by (exception 15))
   unfolding own_events told_by
-  overflow_tells h = one_tells (Traces (t ∷ []) (object 6) (overflow_with [])) (object 7) (object 8 ∷ object 9 ∷ []) (overflow_by (exception 12)) refl (_, refl, (t, refl, h))
+  overflow_tells h = one_tells (Traces (t ∷ []) (object 9) (overflow_with [])) (object 7) (object 10 ∷ object 11 ∷ []) (overflow_by (exception 15)) refl (_, refl, (t, refl, h))
 
   -- the run of one drive that overflows
-  pub overflow_is_run : IsDeclared (overflow_with []) → RaiseIsTraced [] (exception 12) → IsRunOf (t ∷ []) (record overflowing { function = t.name } ∷ []) (overflow_with []) (overflow_by (exception 12))
-  overflow_is_run d h =
+  pub overflow_is_run : IsDeclared (overflow_with []) → Binds (overflow_with []) → RaiseIsTraced [] (exception 15) → IsRunOf (t ∷ []) (record overflowing { function = t.name } ∷ []) (overflow_with []) (overflow_by (exception 15))
+  overflow_is_run d binds h =
       record {
         asked = call ∷ [];
-        are_asked = ((d, (refl, (refl, tt))), tt);
-        globals = object 6;
-        is_dict = ([], refl);
+        are_asked = (((d, (refl, (refl, tt))), refl), tt);
+        globals = object 9;
+        are_globals = are_globals (payload.Int greatest ∷ payload.Int (pos 1) ∷ payload.Frame 0 ∷ error_objects 2 []) d;
         run =
             record {
-              comes = first_raises (call ∷ []) [] [] refl (lit< tt) (λ x. refl) tt;
+              comes = first_raises [] [] [] (lit< tt) binds (λ x. refl) tt;
               tells = overflow_tells h;
-              named = are_named (overflow_with []) (overflow_by (exception 12)) overflow_fits refl;
+              named = are_named (overflow_with []) (overflow_by (exception 15)) overflow_fits refl;
             };
         are_objects = are_objects greatest (pos 1) (error_objects 2 []) d (plain _ refl, (plain _ refl, (plain _ refl, tt))) overflow_fits;
       }

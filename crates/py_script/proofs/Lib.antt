@@ -7,6 +7,7 @@ pub mod Made
 pub mod Traced
 pub mod Loading
 pub mod Driven
+pub mod Loaded
 pub mod Ran
 -- the words of a command line
 mod Turns
@@ -23,3 +24,4 @@ mod WorkedLemmas
 mod WorkedShowLemmas
 mod WorkedLoopLemmas
 mod OneText
+mod WorkedCallLemmas

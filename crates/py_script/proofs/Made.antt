@@ -1,5 +1,5 @@
--- The activations of a run: each is asked by a drive, and has own events.
-use Rattle.std.proofs.Common.{◌≡◌, ◌<◌, ◌≤◌, ◌+◌, ℕ, suc, List, [], ◌∷◌, ◌++◌, length, Bool, true, false, Some, refl, sym, ap, ◌∙◌, subst, arith, length-append, ◌⊎◌, inl, inr, eqb, eq-eqb}
+-- The activations of a run have own events.
+use Rattle.std.proofs.Common.{◌≡◌, ◌<◌, ◌≤◌, ◌+◌, ℕ, suc, List, [], ◌∷◌, ◌++◌, length, Bool, true, false, Some, refl, sym, ap, ◌∙◌, subst, arith, length-append, inl, inr, eqb, eq-eqb}
 use Rattle.std.specs.Prelude.{slice_get}
 use Rattle.std.proofs.lemmas.Bool.Decides.{eqb_tells}
 use Rattle.std.proofs.lemmas.Option.{slice_get_within}
@@ -8,34 +8,7 @@ use Rattle.py_objects.specs.declared.event.Event.{Event}
 use Rattle.py_objects.specs.declared.event.Event.TheVariants as event
 use Rattle.py_objects.specs.Objects.{Obj}
 use Rattle.py_objects.specs.Own.{Own, Makes, own_if, told_by, own_events}
-use Rattle.py_vm.specs.declared.drive.Drive.{Drive as Question}
-use Rattle.py_vm.specs.declared.drive.Drive.TheVariants as question
-use Rattle.py_vm.specs.Run.{Activation, State, start, after, state_after, Comes}
-use Rattle.py_script.proofs.Loading.{one_more}
-
--- each activation is one that a drive asked for
-abbrev pub AllAsked : List Question → List Activation → Type 0
-AllAsked asked made = (i : ℕ) (a : Activation) → slice_get made i ≡ Some a → (k : ℕ) × (slice_get asked k ≡ Some (question.Call a.function a.args))
-
-asked_more : (asked : List Question) (made : List Activation) (f : Obj) (vs : List Obj) (k : ℕ) → slice_get asked k ≡ Some (question.Call f vs) → AllAsked asked made → AllAsked asked (made ++ record { function = f; args = vs } ∷ [])
-asked_more asked made f vs k h all i a is = go (one_more made (record { function = f; args = vs }) a i is)
-  where
-    go : (slice_get made i ≡ Some a) ⊎ ((i ≡ length made) × (record { function = f; args = vs } ≡ a)) → (j : ℕ) × (slice_get asked j ≡ Some (question.Call a.function a.args))
-    go (inl old) = all i a old
-    go (inr (at, new)) = (k, subst (λ (x : Activation). slice_get asked k ≡ Some (question.Call x.function x.args)) new h)
-
-pub made_asked : (asked : List Question) (objects : List Payload) (before : List Event) (s : State) (es : List Event) → Comes asked objects before s es → AllAsked asked s.made → AllAsked asked (state_after s es).made
-made_asked asked objects before s [] comes all = all
-made_asked asked objects before s (event.Drive d ∷ es) comes all = made_asked asked objects _ (after s (event.Drive d)) es comes.1 all
-made_asked asked objects before s (event.Result d w ∷ es) comes all = made_asked asked objects _ (after s (event.Result d w)) es comes.1 all
-made_asked asked objects before s (event.Make a f vs ∷ es) comes all =
-    made_asked asked objects _ (after s (event.Make a f vs)) es comes.1 (asked_more asked s.made f vs s.done comes.0.3 all)
-made_asked asked objects before s (event.Resume a h ∷ es) comes all = made_asked asked objects _ (after s (event.Resume a h)) es comes.1 all
-made_asked asked objects before s (event.Ask a r own at ∷ es) comes all = made_asked asked objects _ (after s (event.Ask a r own at)) es comes.1 all
-made_asked asked objects before s (event.Got a w ∷ es) comes all = made_asked asked objects _ (after s (event.Got a w)) es comes.1 all
-made_asked asked objects before s (event.Round a at ∷ es) comes all = made_asked asked objects _ (after s (event.Round a at)) es comes.1 all
-made_asked asked objects before s (event.Yield a v at ∷ es) comes all = made_asked asked objects _ (after s (event.Yield a v at)) es comes.1 all
-made_asked asked objects before s (event.End a e at ∷ es) comes all = made_asked asked objects _ (after s (event.End a e at)) es comes.1 all
+use Rattle.py_vm.specs.Run.{Plan, Activation, State, start, after, state_after, Comes}
 
 -- some event was told
 pub record HasTold (ts : List Own) : Type 0 where
@@ -70,18 +43,18 @@ make_tells s a f vs es numbered tell i low high = go (eqb (suc i) a) refl
         above : length (after s (event.Make a f vs)).made ≡ length s.made + 1 → (i ≡ length s.made → ⊥) → length (after s (event.Make a f vs)).made ≤ i
         above grown apart = elim (eqb_tells i (length s.made)) [ inl y ↦ absurd (apart y.1) | inr n ↦ let ne : i ≡ length s.made → ⊥ = n.1 in omega (arith, grown, low, ne) ]
 
-pub made_tell : (asked : List Question) (objects : List Payload) (before : List Event) (s : State) (es : List Event) → Comes asked objects before s es → MadeTell s es
-made_tell asked objects before s [] comes = λ i low high. absurd (omega (arith, low, high))
-made_tell asked objects before s (event.Drive d ∷ es) comes = still_tell s (event.Drive d) es refl (made_tell asked objects _ (after s (event.Drive d)) es comes.1)
-made_tell asked objects before s (event.Result d w ∷ es) comes = still_tell s (event.Result d w) es refl (made_tell asked objects _ (after s (event.Result d w)) es comes.1)
-made_tell asked objects before s (event.Make a f vs ∷ es) comes = make_tells s a f vs es comes.0.2 (made_tell asked objects _ (after s (event.Make a f vs)) es comes.1)
-made_tell asked objects before s (event.Resume a h ∷ es) comes = still_tell s (event.Resume a h) es refl (made_tell asked objects _ (after s (event.Resume a h)) es comes.1)
-made_tell asked objects before s (event.Ask a r own at ∷ es) comes = still_tell s (event.Ask a r own at) es refl (made_tell asked objects _ (after s (event.Ask a r own at)) es comes.1)
-made_tell asked objects before s (event.Got a w ∷ es) comes = still_tell s (event.Got a w) es refl (made_tell asked objects _ (after s (event.Got a w)) es comes.1)
-made_tell asked objects before s (event.Round a at ∷ es) comes = still_tell s (event.Round a at) es refl (made_tell asked objects _ (after s (event.Round a at)) es comes.1)
-made_tell asked objects before s (event.Yield a v at ∷ es) comes = still_tell s (event.Yield a v at) es refl (made_tell asked objects _ (after s (event.Yield a v at)) es comes.1)
-made_tell asked objects before s (event.End a e at ∷ es) comes = still_tell s (event.End a e at) es refl (made_tell asked objects _ (after s (event.End a e at)) es comes.1)
+pub made_tell : (plan : Plan) (objects : List Payload) (before : List Event) (s : State) (es : List Event) → Comes plan objects before s es → MadeTell s es
+made_tell plan objects before s [] comes = λ i low high. absurd (omega (arith, low, high))
+made_tell plan objects before s (event.Drive d ∷ es) comes = still_tell s (event.Drive d) es refl (made_tell plan objects _ (after s (event.Drive d)) es comes.1)
+made_tell plan objects before s (event.Result d w ∷ es) comes = still_tell s (event.Result d w) es refl (made_tell plan objects _ (after s (event.Result d w)) es comes.1)
+made_tell plan objects before s (event.Make a f vs ∷ es) comes = make_tells s a f vs es comes.0.1 (made_tell plan objects _ (after s (event.Make a f vs)) es comes.1)
+made_tell plan objects before s (event.Resume a h ∷ es) comes = still_tell s (event.Resume a h) es refl (made_tell plan objects _ (after s (event.Resume a h)) es comes.1)
+made_tell plan objects before s (event.Ask a r own at ∷ es) comes = still_tell s (event.Ask a r own at) es refl (made_tell plan objects _ (after s (event.Ask a r own at)) es comes.1)
+made_tell plan objects before s (event.Got a w ∷ es) comes = still_tell s (event.Got a w) es refl (made_tell plan objects _ (after s (event.Got a w)) es comes.1)
+made_tell plan objects before s (event.Round a at ∷ es) comes = still_tell s (event.Round a at) es refl (made_tell plan objects _ (after s (event.Round a at)) es comes.1)
+made_tell plan objects before s (event.Yield a v at ∷ es) comes = still_tell s (event.Yield a v at) es refl (made_tell plan objects _ (after s (event.Yield a v at)) es comes.1)
+made_tell plan objects before s (event.End a e at ∷ es) comes = still_tell s (event.End a e at) es refl (made_tell plan objects _ (after s (event.End a e at)) es comes.1)
 
 -- each activation of a whole list of events has told
-pub activation_tells : (asked : List Question) (objects : List Payload) (es : List Event) (i : ℕ) (a : Activation) → Comes asked objects [] start es → slice_get (state_after start es).made i ≡ Some a → HasTold (own_events (suc i) es)
-activation_tells asked objects es i a comes made = made_tell asked objects [] start es comes i (omega arith) (slice_get_within (state_after start es).made i a made)
+pub activation_tells : (plan : Plan) (objects : List Payload) (es : List Event) (i : ℕ) (a : Activation) → Comes plan objects [] start es → slice_get (state_after start es).made i ≡ Some a → HasTold (own_events (suc i) es)
+activation_tells plan objects es i a comes made = made_tell plan objects [] start es comes i (omega arith) (slice_get_within (state_after start es).made i a made)

@@ -9,18 +9,26 @@ use Rattle.py_objects.specs.declared.payload.FunctionBody.{FunctionBody}
 use Rattle.py_objects.specs.declared.payload.ManagerBody.{ManagerBody}
 use Rattle.py_objects.specs.declared.payload.ErrorKind.{ErrorKind}
 use Rattle.py_objects.specs.declared.payload.ErrorKind.TheVariants.{NameError, OverflowError, RecursionError, TypeError, UnboundLocalError}
-use Rattle.py_objects.specs.Objects.{Obj, Name, HasPayload, declares, declared, declared_from, name_of, error_kinds, AllFit, GrowsPlainly}
-use Rattle.py_frame.proofs.Growing.{payload_grown}
+use Rattle.py_objects.specs.declared.event.DriveAnswer.{DriveAnswer}
+use Rattle.py_objects.specs.declared.event.DriveAnswer.TheVariants as answer
+use Rattle.py_objects.specs.declared.event.Event.{Event}
+use Rattle.py_objects.specs.declared.event.Event.TheVariants as event
+use Rattle.py_objects.specs.Objects.{Obj, Name, HasPayload, declares, declared, declared_from, name_of, error_kinds, pair_numbers, AllBelow, AllFit, GrowsPlainly}
+use Rattle.py_frame.proofs.Growing.{slice_get_grown, payload_grown}
 use Rattle.py_frame.proofs.PlainGrowth.{plainly_grows, slice_get_split}
-use Rattle.py_body.specs.declared.atom.Atom.{Atom}
-use Rattle.py_body.specs.declared.atom.Atom.TheVariants as atom
+use Rattle.py_body.specs.Naming.{Continues}
 use Rattle.py_body.specs.Tree.{Tree}
+use Rattle.py_grammar.specs.declared.drive.DriveAtom.{DriveAtom}
+use Rattle.py_grammar.specs.declared.drive.DriveAtom.TheVariants as atom
 use Rattle.py_grammar.specs.Drive.{Drive}
 use Rattle.py_grammar.specs.Rules.{is_builtin_class}
 use Rattle.py_vm.specs.declared.drive.Drive.{Drive as Question}
 use Rattle.py_vm.specs.declared.drive.Drive.TheVariants as question
+use Rattle.py_vm.specs.Run.{Posed}
+use Rattle.py_vm.proofs.ReplyingLemmas.{declared_within}
 use Rattle.py_vm.proofs.RunLemmas.{declared_stays}
-use Rattle.py_script.specs.Whole.{IsOf, AreOf, Asks, AreAsked, AreObjects}
+use Rattle.py_script.specs.Whole.{IsLeft, IsLeftBy, IsOf, AreOf, AsksThis, Asks, AreAsked, AreBindings, AreGlobals, AreObjects}
+use Rattle.py_script.specs.Session.{AreDeclared}
 use Rattle.py_script.specs.Loaded.{function_entries, script_objects}
 use Rattle.py_script.proofs.Functions.{other_name, same_name, AreDistinct, first_differs, others_differ}
 
@@ -168,37 +176,87 @@ objects_grow ts objects objects' grows are = record {
   fit = grows.fit are.fit;
 }
 
-of_grows : (objects objects' : List Payload) (a : Atom) (v : Obj) → GrowsPlainly objects objects' → IsOf objects a v → IsOf objects' a v
-of_grows objects objects' atom.None v grows is = payload_grown objects objects' v _ (plainly_grows objects objects' grows) is
-of_grows objects objects' (atom.Bool b) v grows is = payload_grown objects objects' v _ (plainly_grows objects objects' grows) is
-of_grows objects objects' (atom.Int n) v grows is = payload_grown objects objects' v _ (plainly_grows objects objects' grows) is
-of_grows objects objects' (atom.Str s) v grows is = payload_grown objects objects' v _ (plainly_grows objects objects' grows) is
-of_grows objects objects' (atom.Name x) v grows is = declared_stays objects objects' x grows ∙ is
+-- what is declared stays so
+pub are_declared : (ts : List Tree) (objects : List Payload) → AreObjects ts objects → AreDeclared objects ts
+are_declared ts objects are j t is = let h = are.functions j t is in (h.0, h.1)
 
-pub are_of_grow : (objects objects' : List Payload) (atoms : List Atom) (vs : List Obj) → GrowsPlainly objects objects' → AreOf objects atoms vs → AreOf objects' atoms vs
-are_of_grow objects objects' [] [] grows of = of
-are_of_grow objects objects' [] (v ∷ vs) grows of = of
-are_of_grow objects objects' (a ∷ atoms) [] grows of = of
-are_of_grow objects objects' (a ∷ atoms) (v ∷ vs) grows of = (of_grows objects objects' a v grows of.0, are_of_grow objects objects' atoms vs grows of.1)
+module _ (objects objects' : List Payload) (events events' : List Event) (grows : GrowsPlainly objects objects') (on : Continues events events') where
+  -- an object stays what it is
+  stays : (v : Obj) (p : Payload) → HasPayload objects v p → HasPayload objects' v p
+  stays v p has = payload_grown objects objects' v p (plainly_grows objects objects' grows) has
+
+  left_grows : (w : DriveAnswer) (v : Obj) → IsLeft objects w v → IsLeft objects' w v
+  left_grows (answer.Returns w) v is = is
+  left_grows (answer.Yields w) v is = is
+  left_grows (answer.Stops None) v is = stays v payload.None is
+  left_grows (answer.Stops (Some w)) v is = is
+  left_grows answer.Closes v is = stays v payload.None is
+  left_grows (answer.Raises e) v is = is
+  left_grows (answer.Reported text) v is = stays v payload.None is
+
+  -- so is what a drive left
+  pub left_by_grows : (n : ℕ) (v : Obj) → IsLeftBy objects events n v → IsLeftBy objects' events' n v
+  left_by_grows n v (i, w, here, is) = (i, w, ap (λ es. slice_get es i) on.1 ∙ slice_get_grown events on.0 i (event.Result n w) here, left_grows w v is)
+
+  of_grows : (a : DriveAtom) (v : Obj) → IsOf objects events a v → IsOf objects' events' a v
+  of_grows atom.None v is = stays v payload.None is
+  of_grows (atom.Bool b) v is = stays v (payload.Bool b) is
+  of_grows (atom.Int n) v is = stays v (payload.Int n) is
+  of_grows (atom.Str s) v is = stays v (payload.Str s) is
+  of_grows (atom.Name x) v is = declared_stays objects objects' x grows ∙ is
+  of_grows (atom.Drive n) v is = left_by_grows n v is
+
+  pub are_of_grow : (atoms : List DriveAtom) (vs : List Obj) → AreOf objects events atoms vs → AreOf objects' events' atoms vs
+  are_of_grow [] [] of = of
+  are_of_grow [] (v ∷ vs) of = of
+  are_of_grow (a ∷ atoms) [] of = of
+  are_of_grow (a ∷ atoms) (v ∷ vs) of = (of_grows a v of.0, are_of_grow atoms vs of.1)
+
+  asks_this_grows : (d : Drive) (q : Question) → AsksThis objects events d q → AsksThis objects' events' d q
+  asks_this_grows d (question.Call f vs) asks = (declared_stays objects objects' d.function grows ∙ asks.0, are_of_grow d.args vs asks.1)
+
+  -- questions of drives stay so
+  pub asked_grow : (ds : List Drive) (qs : List Posed) → AreAsked objects events ds qs → AreAsked objects' events' ds qs
+  asked_grow ds [] are = tt
+  asked_grow [] (q ∷ qs) are = are
+  asked_grow (d ∷ ds) (q ∷ qs) are = ((asks_this_grows d q.drive are.0.0, are.0.1), asked_grow ds qs are.1)
+
+  pub bindings_grow : (ts : List Tree) (ps : List (Obj × Obj)) → AreBindings objects ts ps → AreBindings objects' ts ps
+  bindings_grow [] [] are = are
+  bindings_grow [] (p ∷ ps) are = are
+  bindings_grow (t ∷ ts) [] are = are
+  bindings_grow (t ∷ ts) (p ∷ ps) are = (stays p.0 (payload.Str t.name) are.0, declared_stays objects objects' t.name grows ∙ are.1, bindings_grow ts ps are.2)
+
+  -- the globals stay so
+  pub globals_grow : (ts : List Tree) (globals : Obj) → AreGlobals ts objects globals → AreGlobals ts objects' globals
+  globals_grow ts globals (ps, dict, are) = (ps, stays globals (payload.Dict ps) dict, bindings_grow ts ps are)
 
 -- one more atom has its object
-pub are_of_more : (objects : List Payload) (atoms : List Atom) (vs : List Obj) (a : Atom) (v : Obj) → AreOf objects atoms vs → IsOf objects a v → AreOf objects (atoms ++ a ∷ []) (vs ++ v ∷ [])
-are_of_more objects [] [] a v of is = (is, tt)
-are_of_more objects [] (w ∷ vs) a v of is = absurd of
-are_of_more objects (b ∷ atoms) [] a v of is = absurd of
-are_of_more objects (b ∷ atoms) (w ∷ vs) a v of is = (of.0, are_of_more objects atoms vs a v of.1 is)
-
-asks_grow : (objects objects' : List Payload) (d : Drive) (q : Question) → GrowsPlainly objects objects' → Asks objects d q → Asks objects' d q
-asks_grow objects objects' d (question.Call f vs) grows asks = (declared_stays objects objects' d.function grows ∙ asks.0, are_of_grow objects objects' d.args vs grows asks.1)
-
-pub asked_grow : (objects objects' : List Payload) (ds : List Drive) (qs : List Question) → GrowsPlainly objects objects' → AreAsked objects ds qs → AreAsked objects' ds qs
-asked_grow objects objects' ds [] grows are = tt
-asked_grow objects objects' [] (q ∷ qs) grows are = are
-asked_grow objects objects' (d ∷ ds) (q ∷ qs) grows are = (asks_grow objects objects' d q grows are.0, asked_grow objects objects' ds qs grows are.1)
+pub are_of_more : (objects : List Payload) (events : List Event) (atoms : List DriveAtom) (vs : List Obj) (a : DriveAtom) (v : Obj) → AreOf objects events atoms vs → IsOf objects events a v → AreOf objects events (atoms ++ a ∷ []) (vs ++ v ∷ [])
+are_of_more objects events [] [] a v of is = (is, tt)
+are_of_more objects events [] (w ∷ vs) a v of is = absurd of
+are_of_more objects events (b ∷ atoms) [] a v of is = absurd of
+are_of_more objects events (b ∷ atoms) (w ∷ vs) a v of is = (of.0, are_of_more objects events atoms vs a v of.1 is)
 
 -- one more drive is begun
-pub asked_more : (objects : List Payload) (ds : List Drive) (qs : List Question) (d : Drive) (q : Question) → AreAsked objects ds qs → slice_get ds (length qs) ≡ Some d → Asks objects d q → AreAsked objects ds (qs ++ q ∷ [])
-asked_more objects [] [] d q are is asks = absurd (cc is)
-asked_more objects (e ∷ ds) [] d q are is asks = let same : e ≡ d = cc is in (subst (λ (x : Drive). Asks objects x q) (sym same) asks, tt)
-asked_more objects [] (p ∷ qs) d q are is asks = absurd are
-asked_more objects (e ∷ ds) (p ∷ qs) d q are is asks = (are.0, asked_more objects ds qs d q are.1 is asks)
+pub asked_more : (objects : List Payload) (events : List Event) (ds : List Drive) (qs : List Posed) (d : Drive) (q : Posed) → AreAsked objects events ds qs → slice_get ds (length qs) ≡ Some d → Asks objects events d q → AreAsked objects events ds (qs ++ q ∷ [])
+asked_more objects events [] [] d q are is asks = absurd (cc is)
+asked_more objects events (e ∷ ds) [] d q are is asks = let same : e ≡ d = cc is in (subst (λ (x : Drive). Asks objects events x q) (sym same) asks, tt)
+asked_more objects events [] (p ∷ qs) d q are is asks = absurd are
+asked_more objects events (e ∷ ds) (p ∷ qs) d q are is asks = (are.0, asked_more objects events ds qs d q are.1 is asks)
+
+-- one more name is bound
+pub bindings_more : (objects : List Payload) (ts : List Tree) (ps : List (Obj × Obj)) (t : Tree) (p : Obj × Obj) → AreBindings objects ts ps → HasPayload objects p.0 (payload.Str t.name) → declared objects t.name ≡ Some p.1
+    → AreBindings objects (ts ++ t ∷ []) (ps ++ p ∷ [])
+bindings_more objects [] [] t p are key value = (key, value, tt)
+bindings_more objects [] (q ∷ ps) t p are key value = absurd are
+bindings_more objects (u ∷ ts) [] t p are key value = absurd are
+bindings_more objects (u ∷ ts) (q ∷ ps) t p are key value = (are.0, are.1, bindings_more objects ts ps t p are.2 key value)
+
+-- they name objects
+pub bindings_below : (objects : List Payload) (ts : List Tree) (ps : List (Obj × Obj)) → AreBindings objects ts ps → AllBelow (length objects) (pair_numbers ps)
+bindings_below objects [] [] are = tt
+bindings_below objects [] (p ∷ ps) are = absurd are
+bindings_below objects (t ∷ ts) [] are = absurd are
+bindings_below objects (t ∷ ts) (p ∷ ps) are =
+    (slice_get_within objects p.0.number (payload.Str t.name) are.0, (declared_within objects t.name p.1 are.1, bindings_below objects ts ps are.2))

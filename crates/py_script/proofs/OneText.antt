@@ -1,6 +1,6 @@
 -- Each whole run of one call of the worked function writes the same text.
 use Rattle.std.proofs.Common.{◌≡◌, ℕ, suc, List, [], ◌∷◌, ◌++◌, Option, Some, None, ◌<◌, ◌≤◌, refl, sym, ap, subst, inl, ◌∙◌, ⊎_elim, arith, length, append-nil}
-use Rattle.std.specs.Prelude.{ℤ, pos, ◌+ℤ◌, Bool, true, false, if◌then◌else◌, codes, slice_get, nat_lt}
+use Rattle.std.specs.Prelude.{ℤ, map, pos, ◌+ℤ◌, Bool, true, false, if◌then◌else◌, codes, slice_get, nat_lt}
 use Rattle.std.specs.List.{list_all}
 use Rattle.std.specs.Fmt.{signed_decimal}
 use Rattle.py_objects.specs.declared.refs.PyBaseExceptionRef.{PyBaseExceptionRef}
@@ -9,8 +9,9 @@ use Rattle.py_objects.specs.declared.payload.Payload.TheVariants as payload
 use Rattle.py_objects.specs.declared.payload.ErrorKind.{ErrorKind}
 use Rattle.py_objects.specs.declared.payload.ErrorKind.TheVariants.{OverflowError}
 use Rattle.py_code.specs.declared.operator.BinaryOperator.TheVariants as binary
+use Rattle.py_objects.specs.declared.request.Keywords.TheVariants as keywords
 use Rattle.py_objects.specs.declared.request.Request.{Request}
-use Rattle.py_objects.specs.declared.request.Request.TheVariants.{Binary}
+use Rattle.py_objects.specs.declared.request.Request.TheVariants.{Binary, Call as Calling}
 use Rattle.py_objects.specs.declared.event.ResumeHow.TheVariants as how
 use Rattle.py_objects.specs.declared.event.GotAnswer.{GotAnswer}
 use Rattle.py_objects.specs.declared.event.GotAnswer.TheVariants as got
@@ -28,12 +29,13 @@ use Rattle.py_body.specs.Scene.{anywhere}
 use Rattle.py_body.specs.Trace.{IsBegun, Ended}
 use Rattle.py_vm.specs.declared.drive.Drive.{Drive as Question}
 use Rattle.py_vm.specs.declared.drive.Drive.TheVariants.{Call}
-use Rattle.py_vm.specs.Answers.{Reply, Has, Fails, Replies, Gives, IsRaised, whole, in_range}
-use Rattle.py_vm.specs.Run.{Left, left_by, Phase, Idle, Asking, Going, Made, Due, Act, Activation, State, start, after, state_after, question, IsTop, MayCome, Comes, Answers_call}
-use Rattle.py_script.specs.Whole.{AreAsked, Asks as IsAsked, AreObjects, Traces}
+use Rattle.py_vm.specs.Calls.{Says, Comes_to, entry_at}
+use Rattle.py_vm.specs.Answers.{Reply, Has, Fails, Gives, IsRaised, whole, in_range}
+use Rattle.py_vm.specs.Run.{Posed, Plan, Left, left_by, Phase, Idle, Asking, Going, Made, Due, Act, Activation, State, start, after, state_after, request_of, open_in, question, entered_in, depth, IsTop, Passes, as_got, Answers as IsAnswered, MayCome, Comes}
+use Rattle.py_script.specs.Whole.{AreAsked, AsksThis, AreObjects, Traces, plan_of, signature_of}
 use Rattle.py_script.specs.Text.{bytes_of, class_name, details, events_text, items_of, numbered, payload_of, raised, repr_within, result_text, shown, str_by, str_within}
 use Rattle.py_script.specs.Worked.{Writes, call_of, class_entry, events, exception, function, greatest, objects, overflow_by, overflow_objects, trees}
-use Rattle.py_script.proofs.Journals.{ascii_bytes, begun, decimal_1, decimal_45, entry_of, few_asked, gives_sum, gotten, some_is, traced_by}
+use Rattle.py_script.proofs.Journals.{ascii_bytes, begun, called, course_is, decimal_1, decimal_45, entry_of, few_asked, gives_sum, gotten, some_is, traced_by}
 use Rattle.py_script.proofs.WorkedLemmas.{is_run, overflow_is_run}
 
 -- how a drive's answer tells an ending
@@ -41,9 +43,23 @@ abbrev answer_of : Ending → DriveAnswer
 answer_of (ending.Return v) = answer.Returns v
 answer_of (ending.Raise e) = answer.Raises e
 
-answers : (x : Ending) (w : DriveAnswer) → Answers_call (left_by x) w → w ≡ answer_of x
-answers (ending.Return v) w h = h
-answers (ending.Raise e) w h = h
+answers : (x : Ending) (w : DriveAnswer) (g : GotAnswer) → as_got w ≡ Some g → Passes (left_by x) g → w ≡ answer_of x
+answers (ending.Return v) (answer.Returns u) g e h = cc
+answers (ending.Return v) (answer.Yields u) g e h = absurd (cc e)
+answers (ending.Return v) (answer.Stops u) g e h = absurd (cc e)
+answers (ending.Return v) answer.Closes g e h = absurd (cc e)
+answers (ending.Return v) (answer.Raises u) g e h = absurd cc
+answers (ending.Return v) (answer.Reported text) g e h = absurd (cc e)
+answers (ending.Raise x) (answer.Returns u) g e h = absurd cc
+answers (ending.Raise x) (answer.Yields u) g e h = absurd (cc e)
+answers (ending.Raise x) (answer.Stops u) g e h = absurd (cc e)
+answers (ending.Raise x) answer.Closes g e h = absurd (cc e)
+answers (ending.Raise x) (answer.Raises u) g e h = cc
+answers (ending.Raise x) (answer.Reported text) g e h = absurd (cc e)
+
+-- the drive that makes a call
+pub call_is : (d : Question) (f : Obj) (vs : List Obj) → request_of d ≡ Calling f vs keywords.None → d ≡ Call f vs
+call_is (Call g ws) f vs e = cc
 
 -- an answer that ends the body which gets it, by a return or by a raise
 abbrev EndedBy : GotAnswer → List Own → Type 0
@@ -99,89 +115,102 @@ kept s (event.End b x at ∷ es) a h = kept (after s (event.End b x at)) es a h
 abbrev WritesAt : List Payload → List ℕ → GotAnswer → Type 0
 WritesAt store line w = (x : Ending) × ((ts : List Own) → EndedBy w ts → Ended x ts) × (result_text store 1 (answer_of x) ≡ line)
 
--- a store, the questions that are asked, two numbers, and what is written of their sum
-module _ (store : List Payload) (globals : Obj) (qs : List Question) (m n : ℤ) (line : List ℕ) (given : (before : List Event) (w : GotAnswer) → Gives store before (whole (m +ℤ n)) w → WritesAt store line w) where
-  idle_next : (before : List Event) (s : State) (e : Event) → s.phase ≡ Idle → MayCome qs store before s e → (e ≡ event.Drive (suc s.done)) × (s.done < length qs)
+-- a store, the questions that are asked in a journal, two numbers, and what is written of their sum
+module _ (store : List Payload) (globals : Obj) (journal : List Event) (qs : List Posed) (m n : ℤ) (line : List ℕ) (given : (before : List Event) (w : GotAnswer) → Gives store before (whole (m +ℤ n)) w → WritesAt store line w) where
+  -- what the run is of
+  abbrev plan : Plan
+  plan = plan_of trees qs
+
+  -- a question is answered in this phase
+  abbrev In : List Event → State → Phase → Request → GotAnswer → Type 0
+  In before s p r w = IsAnswered plan store before s p r w
+
+  idle_next : (before : List Event) (s : State) (e : Event) → s.phase ≡ Idle → MayCome plan store before s e → (e ≡ event.Drive (suc s.done)) × (s.done < length qs)
   idle_next before s (event.Drive d) p h = (ap event.Drive h.1, h.2)
-  idle_next before s (event.Result d w) p h = absurd (cc h.2.1)
+  idle_next before s (event.Result d w) p h = absurd (subst (λ (x : Phase). In before s x h.2.0 h.2.1) p h.2.4)
   idle_next before s (event.Make a f vs) p h = absurd (cc h.0)
   idle_next before s (event.Resume a how.Start) p h = absurd (cc h.1)
   idle_next before s (event.Resume a (how.Send v)) p h = absurd h
   idle_next before s (event.Resume a (how.Throw x)) p h = absurd h
   idle_next before s (event.Ask a r own at) p h = absurd (cc h.0)
-  idle_next before s (event.Got a w) p h = absurd (cc h.0)
+  idle_next before s (event.Got a w) p h = absurd (subst (λ (x : Phase). In before s x h.1.0 w) p h.1.2)
   idle_next before s (event.Round a at) p h = absurd (cc h.0)
   idle_next before s (event.Yield a v at) p h = absurd (cc h.0)
   idle_next before s (event.End a x at) p h = absurd (cc h.0)
 
-  -- a drive's question is open
-  asked_next : (before : List Event) (s : State) (e : Event) → s.phase ≡ Asking → s.stack ≡ [] → MayCome qs store before s e → (f : Obj) × (vs : List Obj) × (e ≡ event.Make (suc (length s.made)) f vs) × (slice_get qs s.done ≡ Some (Call f vs))
-  asked_next before s (event.Drive d) p q h = absurd (cc h.0)
-  asked_next before s (event.Result d w) p q h = absurd (cc h.2.1)
-  asked_next before s (event.Make a f vs) p q h = (f, vs, ap (λ (k : ℕ). event.Make k f vs) h.2, h.3)
-  asked_next before s (event.Resume a how.Start) p q h = absurd (cc h.1)
-  asked_next before s (event.Resume a (how.Send v)) p q h = absurd h
-  asked_next before s (event.Resume a (how.Throw x)) p q h = absurd h
-  asked_next before s (event.Ask a r own at) p q h = absurd (cc h.0)
-  asked_next before s (event.Got a w) p q h = absurd (subst (IsTop a) q h.1)
-  asked_next before s (event.Round a at) p q h = absurd (cc h.0)
-  asked_next before s (event.Yield a v at) p q h = absurd (cc h.0)
-  asked_next before s (event.End a x at) p q h = absurd (cc h.0)
+  -- the open question isn't replied to
+  abbrev Enters_only : State → Type 0
+  Enters_only s = (r : Request) (reply : Reply) → question plan s ≡ Some r → Comes_to plan.signatures (depth plan s) store r (Says reply) → ⊥
 
-  made_next : (before : List Event) (s : State) (e : Event) (f : Obj) → s.phase ≡ Made f → MayCome qs store before s e → e ≡ event.Resume (length s.made) how.Start
+  -- a drive's question is open
+  asked_next : (before : List Event) (s : State) (e : Event) → s.phase ≡ Asking → s.stack ≡ [] → Enters_only s → MayCome plan store before s e → (f : Obj) × (vs : List Obj) × (e ≡ event.Make (suc (length s.made)) f vs) × (question plan s ≡ Some (Calling f vs keywords.None))
+  asked_next before s (event.Drive d) p q none h = absurd (cc h.0)
+  asked_next before s (event.Result d w) p q none h = let a = subst (λ (x : Phase). In before s x h.2.0 h.2.1) p h.2.4 in absurd (none h.2.0 a.0 h.2.2 a.1)
+  asked_next before s (event.Make a f vs) p q none h = (f, vs, ap (λ (k : ℕ). event.Make k f vs) h.1, h.2)
+  asked_next before s (event.Resume a how.Start) p q none h = absurd (cc h.1)
+  asked_next before s (event.Resume a (how.Send v)) p q none h = absurd h
+  asked_next before s (event.Resume a (how.Throw x)) p q none h = absurd h
+  asked_next before s (event.Ask a r own at) p q none h = absurd (cc h.0)
+  asked_next before s (event.Got a w) p q none h = absurd (subst (IsTop a) q h.0)
+  asked_next before s (event.Round a at) p q none h = absurd (cc h.0)
+  asked_next before s (event.Yield a v at) p q none h = absurd (cc h.0)
+  asked_next before s (event.End a x at) p q none h = absurd (cc h.0)
+
+  made_next : (before : List Event) (s : State) (e : Event) (f : Obj) → s.phase ≡ Made f → MayCome plan store before s e → e ≡ event.Resume (length s.made) how.Start
   made_next before s (event.Drive d) f p h = absurd (cc h.0)
-  made_next before s (event.Result d w) f p h = absurd (cc h.2.1)
+  made_next before s (event.Result d w) f p h = absurd (subst (λ (x : Phase). In before s x h.2.0 h.2.1) p h.2.4)
   made_next before s (event.Make a g vs) f p h = absurd (cc h.0)
   made_next before s (event.Resume a how.Start) f p h = ap (λ (k : ℕ). event.Resume k how.Start) h.2
   made_next before s (event.Resume a (how.Send v)) f p h = absurd h
   made_next before s (event.Resume a (how.Throw x)) f p h = absurd h
   made_next before s (event.Ask a r own at) f p h = absurd (cc h.0)
-  made_next before s (event.Got a w) f p h = absurd (cc h.0)
+  made_next before s (event.Got a w) f p h = absurd (subst (λ (x : Phase). In before s x h.1.0 w) p h.1.2)
   made_next before s (event.Round a at) f p h = absurd (cc h.0)
   made_next before s (event.Yield a v at) f p h = absurd (cc h.0)
   made_next before s (event.End a x at) f p h = absurd (cc h.0)
 
   -- the innermost activation tells something
-  going_next : (before : List Event) (s : State) (e : Event) → s.phase ≡ Going → MayCome qs store before s e → IsTop (whose e) s.stack × ((o : Own) × (own_of e ≡ o ∷ []))
+  going_next : (before : List Event) (s : State) (e : Event) → s.phase ≡ Going → MayCome plan store before s e → IsTop (whose e) s.stack × ((o : Own) × (own_of e ≡ o ∷ []))
   going_next before s (event.Drive d) p h = absurd (cc h.0)
-  going_next before s (event.Result d w) p h = absurd (cc h.2.1)
+  going_next before s (event.Result d w) p h = absurd (subst (λ (x : Phase). In before s x h.2.0 h.2.1) p h.2.4)
   going_next before s (event.Make a f vs) p h = absurd (cc h.0)
   going_next before s (event.Resume a how.Start) p h = absurd (cc h.1)
   going_next before s (event.Resume a (how.Send v)) p h = absurd h
   going_next before s (event.Resume a (how.Throw x)) p h = absurd h
   going_next before s (event.Ask a r own at) p h = (h.1, (_, refl))
-  going_next before s (event.Got a w) p h = absurd (cc h.0)
+  going_next before s (event.Got a w) p h = absurd (subst (λ (x : Phase). In before s x h.1.0 w) p h.1.2)
   going_next before s (event.Round a at) p h = (h.1, (_, refl))
   going_next before s (event.Yield a v at) p h = (h.1, (_, refl))
   going_next before s (event.End a x at) p h = (h.1, (_, refl))
 
-  -- an activation's question is open
-  got_next : (before : List Event) (s : State) (e : Event) (top : Act) → s.phase ≡ Asking → s.stack ≡ top ∷ [] → MayCome qs store before s e → (w : GotAnswer) × (e ≡ event.Got (whose e) w) × IsTop (whose e) s.stack × ((r : Request) × (reply : Reply) × (question s.stack ≡ Some r) × Replies store r reply × Gives store before reply w)
-  got_next before s (event.Drive d) top p q h = absurd (cc h.0)
-  got_next before s (event.Result d w) top p q h = absurd (cc h.2.1)
-  got_next before s (event.Make a f vs) top p q h = absurd (cc h.1)
-  got_next before s (event.Resume a how.Start) top p q h = absurd (cc h.1)
-  got_next before s (event.Resume a (how.Send v)) top p q h = absurd h
-  got_next before s (event.Resume a (how.Throw x)) top p q h = absurd h
-  got_next before s (event.Ask a r own at) top p q h = absurd (cc h.0)
-  got_next before s (event.Got a w) top p q h = (w, refl, h.1, h.2)
-  got_next before s (event.Round a at) top p q h = absurd (cc h.0)
-  got_next before s (event.Yield a v at) top p q h = absurd (cc h.0)
-  got_next before s (event.End a x at) top p q h = absurd (cc h.0)
+  -- an activation's question for a sum is open
+  got_next : (before : List Event) (s : State) (e : Event) (top : Act) (a b : Obj) → s.phase ≡ Asking → s.stack ≡ top ∷ [] → top.asks ≡ Some (Binary binary.Add a b) → MayCome plan store before s e
+      → (w : GotAnswer) × (e ≡ event.Got (whose e) w) × IsTop (whose e) s.stack × ((r : Request) × (question plan s ≡ Some r) × In before s Asking r w)
+  got_next before s (event.Drive d) top x y p q t h = absurd (cc h.0)
+  got_next before s (event.Result d w) top x y p q t h = absurd (cc h.1)
+  got_next before s (event.Make a f vs) top x y p q t h = absurd (let c = subst (λ (acts : List Act). open_in (slice_get qs s.done) acts ≡ Some (Calling f vs keywords.None)) q h.2 in cc)
+  got_next before s (event.Resume a how.Start) top x y p q t h = absurd (cc h.1)
+  got_next before s (event.Resume a (how.Send v)) top x y p q t h = absurd h
+  got_next before s (event.Resume a (how.Throw u)) top x y p q t h = absurd h
+  got_next before s (event.Ask a r own at) top x y p q t h = absurd (cc h.0)
+  got_next before s (event.Got a w) top x y p q t h = (w, refl, h.0, (h.1.0, h.1.1, subst (λ (x : Phase). In before s x h.1.0 w) p h.1.2))
+  got_next before s (event.Round a at) top x y p q t h = absurd (cc h.0)
+  got_next before s (event.Yield a v at) top x y p q t h = absurd (cc h.0)
+  got_next before s (event.End a u at) top x y p q t h = absurd (cc h.0)
 
   -- an activation was left
-  due_next : (before : List Event) (s : State) (e : Event) (left : Left) → s.phase ≡ Due left → MayCome qs store before s e → (w : DriveAnswer) × (e ≡ event.Result (suc s.done) w) × Answers_call left w
-  due_next before s (event.Drive d) left p h = absurd (cc h.0)
-  due_next before s (event.Result d w) left p h = (w, ap (λ (k : ℕ). event.Result k w) h.0, let same : h.2.0 ≡ left = cc h.2.1 in subst (λ (l : Left). Answers_call l w) same h.2.2)
-  due_next before s (event.Make a f vs) left p h = absurd (cc h.0)
-  due_next before s (event.Resume a how.Start) left p h = absurd (cc h.1)
-  due_next before s (event.Resume a (how.Send v)) left p h = absurd h
-  due_next before s (event.Resume a (how.Throw x)) left p h = absurd h
-  due_next before s (event.Ask a r own at) left p h = absurd (cc h.0)
-  due_next before s (event.Got a w) left p h = absurd (cc h.0)
-  due_next before s (event.Round a at) left p h = absurd (cc h.0)
-  due_next before s (event.Yield a v at) left p h = absurd (cc h.0)
-  due_next before s (event.End a x at) left p h = absurd (cc h.0)
+  due_next : (before : List Event) (s : State) (e : Event) (left : Left) → s.phase ≡ Due left → s.stack ≡ [] → MayCome plan store before s e → (w : DriveAnswer) × (e ≡ event.Result (suc s.done) w) × ((g : GotAnswer) × (as_got w ≡ Some g) × Passes left g)
+  due_next before s (event.Drive d) left p q h = absurd (cc h.0)
+  due_next before s (event.Result d w) left p q h = (w, ap (λ (k : ℕ). event.Result k w) h.0, let a = subst (λ (x : Phase). In before s x h.2.0 h.2.1) p h.2.4 in (h.2.1, h.2.3, a.3))
+  due_next before s (event.Make a f vs) left p q h = absurd (cc h.0)
+  due_next before s (event.Resume a how.Start) left p q h = absurd (cc h.1)
+  due_next before s (event.Resume a (how.Send v)) left p q h = absurd h
+  due_next before s (event.Resume a (how.Throw x)) left p q h = absurd h
+  due_next before s (event.Ask a r own at) left p q h = absurd (cc h.0)
+  due_next before s (event.Got a w) left p q h = absurd (subst (IsTop a) q h.0)
+  due_next before s (event.Round a at) left p q h = absurd (cc h.0)
+  due_next before s (event.Yield a v at) left p q h = absurd (cc h.0)
+  due_next before s (event.End a x at) left p q h = absurd (cc h.0)
 
   -- a state in which so many drives are done
   abbrev at : ℕ → Phase → List Act → List Activation → State
@@ -193,18 +222,18 @@ module _ (store : List Payload) (globals : Obj) (qs : List Question) (m n : ℤ)
 
   -- these events may follow, and one drive is done then
   abbrev Follows : List Event → State → List Event → Type 0
-  Follows before s es = Comes qs store before s es × ((state_after s es).done ≡ 1)
+  Follows before s es = Comes plan store before s es × ((state_after s es).done ≡ 1)
 
-  ended : (made : List Activation) (before es : List Event) → length qs ≤ 1 → Comes qs store before (at 1 Idle [] made) es → es ≡ []
+  ended : (made : List Activation) (before es : List Event) → length qs ≤ 1 → Comes plan store before (at 1 Idle [] made) es → es ≡ []
   ended made before [] few h = refl
   ended made before (e ∷ es) few h = let more = (idle_next before (at 1 Idle [] made) e refl h.0).1 in absurd (omega arith)
 
   result_behind : (x : Ending) (made : List Activation) (before es : List Event) → length qs ≤ 1 → Follows before (at 0 (Due (left_by x)) [] made) es → events_text store es ≡ result_text store 1 (answer_of x)
   result_behind x made before [] few h = absurd (cc h.1)
   result_behind x made before (e ∷ es) few h =
-      let c = due_next before (at 0 (Due (left_by x)) [] made) e (left_by x) refl h.0.0 in
-      let is : e ≡ event.Result 1 (answer_of x) = c.1 ∙ ap (λ (w : DriveAnswer). event.Result 1 w) (answers x c.0 c.2) in
-      let none = ended made (before ++ event.Result 1 (answer_of x) ∷ []) es few (subst (λ (y : Event). Comes qs store (before ++ y ∷ []) (after (at 0 (Due (left_by x)) [] made) y) es) is h.0.1) in
+      let c = due_next before (at 0 (Due (left_by x)) [] made) e (left_by x) refl refl h.0.0 in
+      let is : e ≡ event.Result 1 (answer_of x) = c.1 ∙ ap (λ (w : DriveAnswer). event.Result 1 w) (answers x c.0 c.2.0 c.2.1 c.2.2) in
+      let none = ended made (before ++ event.Result 1 (answer_of x) ∷ []) es few (subst (λ (y : Event). Comes plan store (before ++ y ∷ []) (after (at 0 (Due (left_by x)) [] made) y) es) is h.0.1) in
       subst (λ (y : Event). events_text store (y ∷ es) ≡ result_text store 1 (answer_of x)) (sym is)
       (subst (λ (ys : List Event). events_text store (event.Result 1 (answer_of x) ∷ ys) ≡ result_text store 1 (answer_of x)) (sym none) (append-nil (result_text store 1 (answer_of x))))
 
@@ -241,8 +270,8 @@ module _ (store : List Payload) (globals : Obj) (qs : List Question) (m n : ℤ)
   unfolding own_events told_by
   answer_behind a b K made before [] ab few k t h = absurd (cc h.1)
   answer_behind a b K made before (e ∷ es) ab few k t h =
-      let c = got_next before (at 0 Asking (act (Some (Binary binary.Add a b)) ∷ []) made) e (act (Some (Binary binary.Add a b))) refl refl h.0.0 in
-      let sum = given before c.0 (gives_sum store before a b m n c.0 ab.0 ab.1 c.3) in
+      let c = got_next before (at 0 Asking (act (Some (Binary binary.Add a b)) ∷ []) made) e (act (Some (Binary binary.Add a b))) a b refl refl refl h.0.0 in
+      let sum = given before c.0 (gives_sum plan store before (at 0 Asking (act (Some (Binary binary.Add a b)) ∷ []) made) a b m n c.0 ab.0 ab.1 c.3) in
       let is : e ≡ event.Got 1 c.0 = c.1 ∙ ap (λ (k : ℕ). event.Got k c.0) (sym c.2) in
       subst (λ (x : Event). Answered (own_events 1 (x ∷ es)) K → Follows before (at 0 Asking (act (Some (Binary binary.Add a b)) ∷ []) made) (x ∷ es) → events_text store (x ∷ es) ≡ line) (sym is)
       (λ u l. end_behind sum.0 made _ es few (sum.1 (own_events 1 es) (got_it K k c.0 (own_events 1 es) u)) (l.0.1, l.1) ∙ sum.2) t h
@@ -270,15 +299,35 @@ module _ (store : List Payload) (globals : Obj) (qs : List Question) (m n : ℤ)
       (λ u l. question_behind _ a b _ _ _ es ab few (λ v ts x. ⊎_elim (λ cut. inl cut.0) (λ more. more) x, λ e ts x. x) (⊎_elim (λ cut. inl (cut.0, refl)) (λ more. more) u.1) (l.0.1, l.1)) t h
 
   -- the first question is the script's
-  first_asked : (xs : List Question) (q : Question) → AreAsked store (call_of m n ∷ []) xs → slice_get xs 0 ≡ Some q → IsAsked store (call_of m n) q
-  first_asked [] q h e = absurd cc
-  first_asked (x ∷ xs) q h e = subst (IsAsked store (call_of m n)) (some_is x q e) h.0
+  first_asked : (xs : List Posed) (f : Obj) (vs : List Obj) → AreAsked store journal (call_of m n ∷ []) xs → open_in (slice_get xs 0) [] ≡ Some (Calling f vs keywords.None) → AsksThis store journal (call_of m n) (Call f vs)
+  first_asked [] f vs h e = absurd cc
+  first_asked (x ∷ xs) f vs h e = subst (AsksThis store journal (call_of m n)) (call_is x.drive f vs (some_is _ _ e)) h.0.0
+
+  -- it is made by a host that has entered nothing
+  none_entered : (xs : List Posed) → AreAsked store journal (call_of m n ∷ []) xs → entered_in (slice_get xs 0) ≡ 0
+  none_entered [] h = refl
+  none_entered (x ∷ xs) h = h.0.1
+
+  -- so many arguments as the function takes are not refused
+  not_refused : (d : Question) (r : Request) (reply : Reply) (k : ℕ) → AreObjects trees store → k ≡ 0 → AsksThis store journal (call_of m n) d → request_of d ≡ r → Comes_to (map signature_of trees) k store r (Says reply) → ⊥
+  not_refused (Call f []) r reply k o zero q is h = absurd q.1
+  not_refused (Call f (a ∷ [])) r reply k o zero q is h = absurd q.1.1
+  not_refused (Call f (a ∷ b ∷ c ∷ vs)) r reply k o zero q is h = absurd q.1.1.1
+  not_refused (Call f (a ∷ b ∷ [])) r reply k o zero q is h =
+      let calls = called (map signature_of trees) k store f (a ∷ b ∷ []) (Says reply) (subst (λ (x : Request). Comes_to (map signature_of trees) k store x (Says reply)) (sym is) h) in
+      let course : Says reply ≡ entry_at k = course_is (map signature_of trees) k store f (record { name = codes "f"; code = 0 }) (signature_of function) (a ∷ b ∷ []) (Says reply) (entry_of function store f o q.0) refl calls in
+      let enters : Says reply ≡ entry_at 0 = subst (λ (k : ℕ). Says reply ≡ entry_at k) zero course in
+      cc
+
+  enters_only : (xs : List Posed) (r : Request) (reply : Reply) (k : ℕ) → AreObjects trees store → AreAsked store journal (call_of m n ∷ []) xs → k ≡ 0 → open_in (slice_get xs 0) [] ≡ Some r → Comes_to (map signature_of trees) k store r (Says reply) → ⊥
+  enters_only [] r reply k o h zero e c = absurd cc
+  enters_only (x ∷ xs) r reply k o h zero e c = not_refused x.drive r reply k o zero h.0.0 (some_is _ _ e) c
 
   -- what the first activation that is made tells
   abbrev Tells : State → List Event → Type 0
   Tells s es = (a : Activation) → slice_get (state_after s es).made 0 ≡ Some a → Traces trees globals store a.function a.args (own_events 1 es)
 
-  making : (f : Obj) (vs : List Obj) (before es : List Event) → AreObjects trees store → length qs ≤ 1 → IsAsked store (call_of m n) (Call f vs) → Tells (at 0 Asking [] []) (event.Make 1 f vs ∷ es) → Follows before (at 0 Asking [] []) (event.Make 1 f vs ∷ es) → events_text store (event.Make 1 f vs ∷ es) ≡ line
+  making : (f : Obj) (vs : List Obj) (before es : List Event) → AreObjects trees store → length qs ≤ 1 → AsksThis store journal (call_of m n) (Call f vs) → Tells (at 0 Asking [] []) (event.Make 1 f vs ∷ es) → Follows before (at 0 Asking [] []) (event.Make 1 f vs ∷ es) → events_text store (event.Make 1 f vs ∷ es) ≡ line
   unfolding own_events told_by
   making f [] before es o few q t h = absurd q.1
   making f (a ∷ []) before es o few q t h = absurd q.1.1
@@ -288,14 +337,15 @@ module _ (store : List Payload) (globals : Obj) (qs : List Question) (m n : ℤ)
       let trace = traced_by function globals store f (a ∷ b ∷ []) _ (entry_of function store f o q.0) (t made (kept (at 0 (Made f) [] (made ∷ [])) es made refl)) in
       entry_behind f a b _ es (q.1.0, q.1.1.0) few (begun (anywhere store globals) function (a ∷ b ∷ []) (own_events 1 es) trace) (h.0.1, h.1)
 
-  making_behind : (before es : List Event) → AreObjects trees store → AreAsked store (call_of m n ∷ []) qs → Tells (at 0 Asking [] []) es → Follows before (at 0 Asking [] []) es → events_text store es ≡ line
+  making_behind : (before es : List Event) → AreObjects trees store → AreAsked store journal (call_of m n ∷ []) qs → Tells (at 0 Asking [] []) es → Follows before (at 0 Asking [] []) es → events_text store es ≡ line
   making_behind before [] o asked t h = absurd (cc h.1)
   making_behind before (e ∷ es) o asked t h =
-      let c = asked_next before (at 0 Asking [] []) e refl refl h.0.0 in
+      let none = none_entered qs asked in
+      let c = asked_next before (at 0 Asking [] []) e refl refl (λ r reply q x. enters_only qs r reply _ o asked (omega arith) q x) h.0.0 in
       subst (λ (x : Event). Tells (at 0 Asking [] []) (x ∷ es) → Follows before (at 0 Asking [] []) (x ∷ es) → events_text store (x ∷ es) ≡ line) (sym c.2)
-      (λ u l. making c.0 c.1 before es o (few_asked store (call_of m n ∷ []) qs asked) (first_asked qs _ asked c.3) u l) t h
+      (λ u l. making c.0 c.1 before es o (few_asked store journal (call_of m n ∷ []) qs asked) (first_asked qs c.0 c.1 asked c.3) u l) t h
 
-  all_behind : (es : List Event) → AreObjects trees store → AreAsked store (call_of m n ∷ []) qs → Tells start es → Follows [] start es → events_text store es ≡ line
+  all_behind : (es : List Event) → AreObjects trees store → AreAsked store journal (call_of m n ∷ []) qs → Tells start es → Follows [] start es → events_text store es ≡ line
   unfolding own_events told_by
   all_behind [] o asked t h = absurd (cc h.1)
   all_behind (e ∷ es) o asked t h =
@@ -320,7 +370,7 @@ of_value store i before (got.Raise e) h = absurd h
 -- the text of each sum in range
 pub text_of_sum : (m n : ℤ) → in_range (m +ℤ n) ≡ true → Writes m n (codes "1 returns " ++ (signed_decimal (m +ℤ n) ++ codes "\n"))
 text_of_sum m n i store es r d =
-    all_behind store r.globals r.asked m n _
+    all_behind store r.globals es r.asked m n _
     (λ before w g. of_value store (m +ℤ n) before w (subst (λ (b : Bool). Gives store before (if b then Has (payload.Int (m +ℤ n)) else Fails OverflowError (codes "integer out of range")) w) i g))
     es r.are_objects r.are_asked (r.run.tells 0) (r.run.comes, d.done)
 
@@ -330,18 +380,24 @@ class_of ts store i kind c at o e =
     let entry = o.classes i kind at in
     subst (λ (c : Obj). HasPayload store c (class_entry kind)) (some_is _ _ (sym entry.1 ∙ e)) entry.2
 
--- an exception of the i-th kind with a text is written
+-- an exception of the i-th kind with a text is written, as the result of any drive
+pub raise_line_of : (d : ℕ) (ts : List Tree) (store : List Payload) (i : ℕ) (kind : ErrorKind) (text : Name) → slice_get error_kinds i ≡ Some kind → list_all (λ c. nat_lt c 128) (name_of kind) ≡ true → list_all (λ c. nat_lt c 128) text ≡ true
+    → AreObjects ts store → (before : List Event) (e : PyBaseExceptionRef) → IsRaised store before kind text e
+    → result_text store d (answer.Raises e) ≡ numbered d (codes " raises " ++ (name_of kind ++ (codes ": " ++ text)))
+raise_line_of d ts store i kind text at ascii_name ascii_text o before e h =
+    ap (λ (p : Option Payload). numbered d (codes " raises " ++ raised store p)) h.entry
+    ∙ (ap (λ (p : Option Payload). numbered d (codes " raises " ++ (bytes_of (class_name p) ++ details store (items_of (payload_of store h.body.args))))) (class_of ts store i kind (class_object h.body.class) at o h.class)
+    ∙ (ap (λ (p : Option Payload). numbered d (codes " raises " ++ (bytes_of (name_of kind) ++ details store (items_of p)))) h.args
+    ∙ (ap (λ (p : Option Payload). numbered d (codes " raises " ++ (bytes_of (name_of kind) ++ (codes ": " ++ str_by (str_within 999 store) store h.argument p)))) h.message
+    ∙ (ap (λ (name : List ℕ). numbered d (codes " raises " ++ (name ++ (codes ": " ++ bytes_of text)))) (ascii_bytes (name_of kind) ascii_name)
+    ∙ ap (λ (t : List ℕ). numbered d (codes " raises " ++ (name_of kind ++ (codes ": " ++ t)))) (ascii_bytes text ascii_text)))))
+
+-- the same of the only drive
 pub raise_line : (ts : List Tree) (store : List Payload) (i : ℕ) (kind : ErrorKind) (text : Name) → slice_get error_kinds i ≡ Some kind → list_all (λ c. nat_lt c 128) (name_of kind) ≡ true → list_all (λ c. nat_lt c 128) text ≡ true
     → AreObjects ts store → (before : List Event) (e : PyBaseExceptionRef) → IsRaised store before kind text e
     → result_text store 1 (answer.Raises e) ≡ codes "1" ++ ((codes " raises " ++ (name_of kind ++ (codes ": " ++ text))) ++ codes "\n")
 raise_line ts store i kind text at ascii_name ascii_text o before e h =
-    ap (λ (p : Option Payload). numbered 1 (codes " raises " ++ raised store p)) h.entry
-    ∙ (ap (λ (p : Option Payload). numbered 1 (codes " raises " ++ (bytes_of (class_name p) ++ details store (items_of (payload_of store h.body.args))))) (class_of ts store i kind (class_object h.body.class) at o h.class)
-    ∙ (ap (λ (p : Option Payload). numbered 1 (codes " raises " ++ (bytes_of (name_of kind) ++ details store (items_of p)))) h.args
-    ∙ (ap (λ (p : Option Payload). numbered 1 (codes " raises " ++ (bytes_of (name_of kind) ++ (codes ": " ++ str_by (str_within 999 store) store h.argument p)))) h.message
-    ∙ (first_line (codes " raises " ++ (bytes_of (name_of kind) ++ (codes ": " ++ bytes_of text)))
-    ∙ (ap (λ (name : List ℕ). codes "1" ++ ((codes " raises " ++ (name ++ (codes ": " ++ bytes_of text))) ++ codes "\n")) (ascii_bytes (name_of kind) ascii_name)
-    ∙ ap (λ (t : List ℕ). codes "1" ++ ((codes " raises " ++ (name_of kind ++ (codes ": " ++ t))) ++ codes "\n")) (ascii_bytes text ascii_text))))))
+    raise_line_of 1 ts store i kind text at ascii_name ascii_text o before e h ∙ first_line (codes " raises " ++ (name_of kind ++ (codes ": " ++ text)))
 
 -- so is a sum that is out of range
 pub overflow_line : (ts : List Tree) (store : List Payload) → AreObjects ts store → (before : List Event) (e : PyBaseExceptionRef) → IsRaised store before OverflowError (codes "integer out of range") e
@@ -357,7 +413,7 @@ of_raise store o before (got.Raise e) h = (ending.Raise e, λ ts t. t, overflow_
 -- the text of each sum out of range
 pub text_of_overflow : (m n : ℤ) → in_range (m +ℤ n) ≡ false → Writes m n (codes "1 raises OverflowError: integer out of range\n")
 text_of_overflow m n i store es r d =
-    all_behind store r.globals r.asked m n _
+    all_behind store r.globals es r.asked m n _
     (λ before w g. of_raise store r.are_objects before w (subst (λ (b : Bool). Gives store before (if b then Has (payload.Int (m +ℤ n)) else Fails OverflowError (codes "integer out of range")) w) i g))
     es r.are_objects r.are_asked (r.run.tells 0) (r.run.comes, d.done)
 
@@ -365,5 +421,5 @@ text_of_overflow m n i store es r d =
 pub text : events_text objects events ≡ codes "1 returns 45\n"
 text = text_of_sum (pos 33) (pos 12) refl objects events is_run (record { done = refl; idle = refl }) ∙ ap (λ (ds : List ℕ). codes "1 returns " ++ (ds ++ codes "\n")) decimal_45
 
-pub overflow_text : events_text overflow_objects (overflow_by (exception 12)) ≡ codes "1 raises OverflowError: integer out of range\n"
-overflow_text = text_of_overflow greatest (pos 1) refl overflow_objects (overflow_by (exception 12)) overflow_is_run (record { done = refl; idle = refl })
+pub overflow_text : events_text overflow_objects (overflow_by (exception 15)) ≡ codes "1 raises OverflowError: integer out of range\n"
+overflow_text = text_of_overflow greatest (pos 1) refl overflow_objects (overflow_by (exception 15)) overflow_is_run (record { done = refl; idle = refl })

@@ -19,58 +19,61 @@ use Rattle.py_body.specs.Trace.{IsTrace}
 use Rattle.py_grammar.specs.Grammar.{Declares, Drives}
 use Rattle.py_grammar.specs.Lines.{lines}
 use Rattle.py_grammar.specs.Script.{Spells}
-use Rattle.py_vm.specs.declared.drive.Drive.{Drive as Question}
-use Rattle.py_vm.specs.Run.{By_return, By_raise, Activation, start, state_after, Comes, EachTells}
-use Rattle.py_script.specs.Whole.{AreObjects, Traces, IsRunOf}
+use Rattle.py_vm.specs.Run.{Posed, Plan, Activation, start, state_after, Comes, EachTells}
+use Rattle.py_script.specs.Whole.{AreObjects, Traces, IsRunOf, plan_of}
 use Rattle.py_script.specs.Worked.{script, function, trees, call_of, drives, object, exception, function_entry, objects_by, objects, objects_with_manager, entered, asked, events, unfinished, with_round, swapped, driven_twice, greatest, overflowing, error_entry, error_objects, raising_objects, overflow_objects, raises, overflow_by}
-use Rattle.py_script.proofs.Journals.{RaiseIsTraced, all_fit, are_named, are_objects, asking_comes, begun, call, code_of, entry_of, few_asked, first_raises, gives_sum, is_raised, made_error, new_in, one_tells, plain, some_is, sum_comes, traced}
+use Rattle.py_script.proofs.Journals.{RaiseIsTraced, all_fit, are_globals, are_named, are_objects, asking_comes, begun, call, code_of, entry_of, few_asked, first_raises, gives_sum, is_raised, made_error, new_in, one_tells, plain, plan_with, some_is, sum_comes, traced}
 use Rattle.py_script.proofs.Journals.{overflow_is_run as overflow_run}
 
 pub spelled : Spells (lines script) trees drives
 spelled = record { items = Declares function ∷ Drives (call_of (pos 33) (pos 12)) ∷ []; spelled = refl; well = (refl, ((refl, (refl, tt)), (refl, tt))); declared = refl; driven = refl }
 
 sum_fits : AllFit objects
-sum_fits = all_fit objects refl (tt, (tt, (tt, (tt, (tt, (tt, (tt, (tt, (tt, (tt, (tt, tt)))))))))))
+sum_fits = all_fit objects refl (tt, (tt, (tt, (tt, (tt, (tt, (tt, (tt, (tt, (tt, (tt, (tt, (tt, (tt, tt))))))))))))))
 
 sum_objects : AreObjects trees objects
 sum_objects = are_objects function (pos 33) (pos 12) (payload.Int (pos 45) ∷ []) refl (plain function (payload.Int (pos 45)) refl, tt) sum_fits
 
+-- what the run is of
+abbrev plan : Plan
+plan = plan_with function []
+
 -- up to the activation's end
-front_comes : (rest : List Event) → Comes (call ∷ []) objects unfinished (state_after start unfinished) rest → Comes (call ∷ []) objects [] start (unfinished ++ rest)
+front_comes : (rest : List Event) → Comes plan objects unfinished (state_after start unfinished) rest → Comes plan objects [] start (unfinished ++ rest)
 front_comes rest k =
-    let asking = entered 1 (asked 1 (object 8) (object 9) []) in
-    asking_comes function (call ∷ []) (pos 33) (pos 12) (payload.Int (pos 45) ∷ []) (event.Got 1 (got.Value (object 10)) ∷ event.End 1 (ending.Return (object 10)) 5 ∷ rest) refl (lit< tt)
-    (sum_comes function (call ∷ []) (pos 33) (pos 12) (payload.Int (pos 45) ∷ []) asking (state_after start asking) 1 (got.Value (object 10)) refl refl refl refl, ((refl, refl), k))
+    let asking = entered 1 (asked 1 (object 10) (object 11) []) in
+    asking_comes function [] (pos 33) (pos 12) (payload.Int (pos 45) ∷ []) (event.Got 1 (got.Value (object 13)) ∷ event.End 1 (ending.Return (object 13)) 5 ∷ rest) (lit< tt) (_, refl, (_, refl, refl))
+    (sum_comes function plan (pos 33) (pos 12) (payload.Int (pos 45) ∷ []) asking (state_after start asking) 1 (got.Value (object 13)) refl refl refl refl, ((refl, refl), k))
 
-sum_traced : IsTrace (anywhere objects (object 6)) function (object 8 ∷ object 9 ∷ []) (own_events 1 events)
+sum_traced : IsTrace (anywhere objects (object 9)) function (object 10 ∷ object 11 ∷ []) (own_events 1 events)
 unfolding own_events told_by
-sum_traced = (refl, (_, refl, (tt, inr (inr (2, _, refl, refl, inr (got.Value (object 10), _, refl, inr (inr (5, refl))))))))
+sum_traced = (refl, (_, refl, (tt, inr (inr (2, _, refl, refl, inr (got.Value (object 13), _, refl, inr (inr (5, refl))))))))
 
-sum_tells : EachTells (Traces trees (object 6) objects) events
-sum_tells = one_tells (Traces trees (object 6) objects) (object 7) (object 8 ∷ object 9 ∷ []) events refl (_, refl, (function, refl, sum_traced))
+sum_tells : EachTells (Traces trees (object 9) objects) events
+sum_tells = one_tells (Traces trees (object 9) objects) (object 7) (object 10 ∷ object 11 ∷ []) events refl (_, refl, (function, refl, sum_traced))
 
 pub is_run : IsRunOf trees drives objects events
 is_run =
     record {
       asked = call ∷ [];
-      are_asked = ((refl, (refl, (refl, tt))), tt);
-      globals = object 6;
-      is_dict = ([], refl);
-      run = record { comes = front_comes (event.Result 1 (answer.Returns (object 10)) ∷ []) ((refl, refl, (By_return (object 10), refl, refl)), tt); tells = sum_tells; named = are_named objects events sum_fits refl };
+      are_asked = (((refl, (refl, (refl, tt))), refl), tt);
+      globals = object 9;
+      are_globals = are_globals function (payload.Int (pos 33) ∷ payload.Int (pos 12) ∷ payload.Frame 0 ∷ payload.Int (pos 45) ∷ []) refl;
+      run = record { comes = front_comes (event.Result 1 (answer.Returns (object 13)) ∷ []) ((refl, refl, (_, got.Value (object 13), refl, refl, (_, _, refl, refl))), tt); tells = sum_tells; named = are_named objects events sum_fits refl };
       are_objects = sum_objects;
     }
 
-front_tells : EachTells (Traces trees (object 6) objects) unfinished
+front_tells : EachTells (Traces trees (object 9) objects) unfinished
 unfolding own_events told_by
-front_tells = one_tells (Traces trees (object 6) objects) (object 7) (object 8 ∷ object 9 ∷ []) unfinished refl (_, refl, (function, refl, sum_traced))
+front_tells = one_tells (Traces trees (object 9) objects) (object 7) (object 10 ∷ object 11 ∷ []) unfinished refl (_, refl, (function, refl, sum_traced))
 
 pub front_is_run : IsRunOf trees drives objects unfinished
 front_is_run =
     record {
       asked = call ∷ [];
-      are_asked = ((refl, (refl, (refl, tt))), tt);
-      globals = object 6;
-      is_dict = ([], refl);
+      are_asked = (((refl, (refl, (refl, tt))), refl), tt);
+      globals = object 9;
+      are_globals = are_globals function (payload.Int (pos 33) ∷ payload.Int (pos 12) ∷ payload.Frame 0 ∷ payload.Int (pos 45) ∷ []) refl;
       run = record { comes = front_comes [] tt; tells = front_tells; named = are_named objects unfinished sum_fits refl };
       are_objects = sum_objects;
     }
@@ -78,7 +81,7 @@ front_is_run =
 pub no_round : IsRunOf trees drives objects with_round → ⊥
 unfolding own_events told_by
 no_round r =
-    let b = begun (anywhere objects r.globals) function (object 8 ∷ object 9 ∷ []) _ (traced function objects drives with_round refl refl r) in
+    let b = begun (anywhere objects r.globals) function (object 10 ∷ object 11 ∷ []) _ (traced function objects drives with_round refl refl r) in
     ⊎_elim (λ a. cc a.0) (λ a. ⊎_elim (λ a. cc a.0) (λ a. cc a.3) a) b.1
 
 -- what is asked first has this request
@@ -91,11 +94,11 @@ left_operand a b c d e = let same : a ≡ c = cc in ap (λ (v : Obj). v.number) 
 pub no_swapped_operands : IsRunOf trees drives objects swapped → ⊥
 unfolding own_events told_by
 no_swapped_operands r =
-    let b = begun (anywhere objects r.globals) function (object 8 ∷ object 9 ∷ []) _ (traced function objects drives swapped refl refl r) in
+    let b = begun (anywhere objects r.globals) function (object 10 ∷ object 11 ∷ []) _ (traced function objects drives swapped refl refl r) in
     ⊎_elim (λ a. cc a.0) (λ a. ⊎_elim (λ a. cc a.0) (λ a. let e = left_operand _ _ _ _ (first_request _ _ _ _ _ _ _ _ a.3) in cc) a) b.1
 
 pub no_drive_beyond : IsRunOf trees drives objects driven_twice → ⊥
-no_drive_beyond r = let few : length r.asked ≤ 1 = few_asked objects drives r.asked r.are_asked in let more : 1 < length r.asked = r.run.comes.1.1.1.1.1.1.1.0.2 in omega arith
+no_drive_beyond r = let few : length r.asked ≤ 1 = few_asked objects driven_twice drives r.asked r.are_asked in let more : 1 < length r.asked = r.run.comes.1.1.1.1.1.1.1.0.2 in omega arith
 
 pub no_other_code : IsRunOf trees drives (objects_by (function_entry (codes "f") 1)) events → ⊥
 no_other_code r = let e = code_of (codes "f") (codes "f") 1 0 (entry_of function _ (object 7) r.are_objects refl) in cc
@@ -104,54 +107,57 @@ pub no_other_name : IsRunOf trees drives (objects_by (function_entry (codes "g")
 no_other_name r = let entry = r.are_objects.functions 0 function refl in let e = entry.1 in cc
 
 pub no_manager : IsRunOf trees drives objects_with_manager events → ⊥
-no_manager r = r.are_objects.no_managers (object 11) _ refl
+no_manager r = r.are_objects.no_managers (object 14) _ refl
 
 raise_traced : (more : List Payload) (e : PyBaseExceptionRef) → RaiseIsTraced function more e
 raise_traced more e = (refl, (_, refl, (tt, inr (inr (2, _, refl, refl, inr (got.Raise e, _, refl, inr (2, refl)))))))
 
-pub overflow_is_run : IsRunOf trees (overflowing ∷ []) overflow_objects (overflow_by (exception 12))
-overflow_is_run = overflow_run function refl (raise_traced [] (exception 12))
+pub overflow_is_run : IsRunOf trees (overflowing ∷ []) overflow_objects (overflow_by (exception 15))
+overflow_is_run = overflow_run function refl (_, refl, (_, refl, refl)) (raise_traced [] (exception 15))
 
 -- the objects of two drives that raise, and their run
 abbrev both_objects : List Payload
 both_objects = raising_objects 2 (error_entry 2 ∷ [])
 
 abbrev both_raise : List Event
-both_raise = raises 1 (exception 12) (raises 2 (exception 13) [])
+both_raise = raises 1 (exception 15) (raises 2 (exception 16) [])
 
 both_fit : AllFit both_objects
-both_fit = all_fit both_objects refl (tt, (tt, (tt, (tt, (tt, (tt, (tt, (tt, (tt, (tt, (tt, (tt, (made_error function (error_entry 2 ∷ []), (made_error function (error_entry 2 ∷ []), tt))))))))))))))
+both_fit = all_fit both_objects refl (tt, (tt, (tt, (tt, (tt, (tt, (tt, (tt, (tt, (tt, (tt, (tt, (tt, (tt, (tt, (made_error function (error_entry 2 ∷ []), (made_error function (error_entry 2 ∷ []), tt)))))))))))))))))
 
-both_tell : EachTells (Traces trees (object 6) both_objects) both_raise
+both_tell : EachTells (Traces trees (object 9) both_objects) both_raise
 unfolding own_events told_by
-both_tell zero a e = subst (λ (a : Activation). Traces trees (object 6) both_objects a.function a.args (own_events 1 both_raise)) (some_is _ a e) (_, refl, (function, refl, raise_traced (error_entry 2 ∷ []) (exception 12)))
-both_tell (suc zero) a e = subst (λ (a : Activation). Traces trees (object 6) both_objects a.function a.args (own_events 2 both_raise)) (some_is _ a e) (_, refl, (function, refl, raise_traced (error_entry 2 ∷ []) (exception 13)))
+both_tell zero a e = subst (λ (a : Activation). Traces trees (object 9) both_objects a.function a.args (own_events 1 both_raise)) (some_is _ a e) (_, refl, (function, refl, raise_traced (error_entry 2 ∷ []) (exception 15)))
+both_tell (suc zero) a e = subst (λ (a : Activation). Traces trees (object 9) both_objects a.function a.args (own_events 2 both_raise)) (some_is _ a e) (_, refl, (function, refl, raise_traced (error_entry 2 ∷ []) (exception 16)))
 both_tell (suc (suc i)) a e = absurd cc
 
 -- the questions of the two drives
-abbrev both_asked : List Question
+abbrev both_asked : List Posed
 both_asked = call ∷ call ∷ []
+
+abbrev both_plan : Plan
+both_plan = plan_with function (call ∷ [])
 
 -- up to the second drive's question
 abbrev second_asks : List Event
-second_asks = raises 1 (exception 12) (entered 2 (asked 2 (object 8) (object 9) []))
+second_asks = raises 1 (exception 15) (entered 2 (asked 2 (object 10) (object 11) []))
 
-second_new : IsNew both_objects second_asks 13
-second_new = new_in function 13 (error_entry 2 ∷ []) second_asks (λ x. refl) (refl, (refl, (refl, (refl, (refl, (refl, (refl, (refl, (refl, (refl, (refl, tt))))))))))) (refl, refl, refl, refl, refl, refl)
+second_new : IsNew both_objects second_asks 16
+second_new = new_in function 16 (error_entry 2 ∷ []) second_asks (λ x. refl) (refl, (refl, (refl, (refl, (refl, (refl, (refl, (refl, (refl, (refl, (refl, tt))))))))))) (refl, refl, refl, refl, refl, refl)
 
-second_raises : Comes both_asked both_objects (overflow_by (exception 12)) (state_after start (overflow_by (exception 12))) (raises 2 (exception 13) [])
+second_raises : Comes both_plan both_objects (overflow_by (exception 15)) (state_after start (overflow_by (exception 15))) (raises 2 (exception 16) [])
 second_raises = (
   (refl, refl, lit< tt),
   (
-    (refl, refl, refl, refl, (_, refl)),
+    (refl, refl, refl, (_, refl, (_, refl, refl))),
     (
       (object 7, refl, refl),
       (
         (refl, refl),
         (
-          sum_comes function both_asked greatest (pos 1) (error_objects 2 (error_entry 2 ∷ [])) second_asks (state_after start second_asks) 2 (got.Raise (exception 13)) refl refl refl
-              (is_raised function 13 (error_entry 2 ∷ []) second_asks second_new refl),
-          ((refl, refl), ((refl, refl, (By_raise (exception 13), refl, refl)), tt)),
+          sum_comes function both_plan greatest (pos 1) (error_objects 2 (error_entry 2 ∷ [])) second_asks (state_after start second_asks) 2 (got.Raise (exception 16)) refl refl refl
+              (is_raised function 16 (error_entry 2 ∷ []) second_asks second_new refl),
+          ((refl, refl), ((refl, refl, (_, got.Raise (exception 16), refl, refl, (_, _, refl, refl))), tt)),
         ),
       ),
     ),
@@ -162,20 +168,20 @@ pub errors_are_run : IsRunOf trees (overflowing ∷ overflowing ∷ []) both_obj
 errors_are_run =
     record {
       asked = both_asked;
-      globals = object 6;
-      is_dict = ([], refl);
-      are_asked = ((refl, (refl, (refl, tt))), ((refl, (refl, (refl, tt))), tt));
+      globals = object 9;
+      are_globals = are_globals function (payload.Int greatest ∷ payload.Int (pos 1) ∷ payload.Frame 0 ∷ error_objects 2 (error_entry 2 ∷ [])) refl;
+      are_asked = (((refl, (refl, (refl, tt))), refl), (((refl, (refl, (refl, tt))), refl), tt));
       run =
           record {
-            comes = first_raises function both_asked (error_entry 2 ∷ []) (raises 2 (exception 13) []) refl (lit< tt) (λ x. refl) second_raises;
+            comes = first_raises function (call ∷ []) (error_entry 2 ∷ []) (raises 2 (exception 16) []) (lit< tt) (_, refl, (_, refl, refl)) (λ x. refl) second_raises;
             tells = both_tell;
             named = are_named both_objects both_raise both_fit refl;
           };
       are_objects = are_objects function greatest (pos 1) (error_objects 2 (error_entry 2 ∷ [])) refl (plain function _ refl, (plain function _ refl, (plain function _ refl, (plain function _ refl, tt)))) both_fit;
     }
 
-pub no_error_twice : IsRunOf trees (overflowing ∷ overflowing ∷ []) both_objects (raises 1 (exception 12) (raises 2 (exception 12) [])) → ⊥
+pub no_error_twice : IsRunOf trees (overflowing ∷ overflowing ∷ []) both_objects (raises 1 (exception 15) (raises 2 (exception 15) [])) → ⊥
 no_error_twice r =
-    let given = gives_sum both_objects second_asks (object 8) (object 9) greatest (pos 1) (got.Raise (exception 12)) refl refl r.run.comes.1.1.1.1.1.1.1.1.1.1.1.0.2 in
-    let named = given.new.unnamed 4 (event.Got 1 (got.Raise (exception 12))) refl in
+    let given = gives_sum (plan_of trees r.asked) both_objects second_asks (state_after start second_asks) (object 10) (object 11) greatest (pos 1) (got.Raise (exception 15)) refl refl r.run.comes.1.1.1.1.1.1.1.1.1.1.1.0.1 in
+    let named = given.new.unnamed 4 (event.Got 1 (got.Raise (exception 15))) refl in
     cc

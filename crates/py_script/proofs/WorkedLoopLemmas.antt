@@ -19,50 +19,56 @@ use Rattle.py_body.specs.Trace.{IsTrace, EndsBy}
 use Rattle.py_grammar.specs.Grammar.{Declares, Drives}
 use Rattle.py_grammar.specs.Lines.{lines}
 use Rattle.py_grammar.specs.Script.{Spells}
-use Rattle.py_vm.specs.declared.drive.Drive.{Drive as Question}
 use Rattle.py_vm.specs.declared.drive.Drive.TheVariants.{Call}
 use Rattle.py_vm.specs.Answers.{Has, Fails, unknown_text, IsRaised}
-use Rattle.py_vm.specs.Run.{By_raise, start, Comes}
-use Rattle.py_script.specs.Whole.{Traces, IsDict, IsRunOf}
+use Rattle.py_vm.specs.Run.{Posed, Plan, start, Comes}
+use Rattle.py_script.specs.Whole.{AreGlobals, Traces, IsRunOf, plan_of}
 use Rattle.py_script.specs.Text.{events_text, result_text}
 use Rattle.py_script.specs.Worked.{object, exception, error_body}
 use Rattle.py_script.specs.WorkedLoop.{script, function_of, function, trees, drives, objects, events, without_round, untested, left_early, unknown_script, unknown_trees, unknown_error, raised_objects, unknown_objects, asked_in, asked, unknown_events}
-use Rattle.py_script.proofs.Journals.{all_fit, are_loaded, are_named, asked_so, begun, each_at, one_tells, plain, traced_with, undeclared}
+use Rattle.py_script.proofs.Journals.{all_fit, are_globals, are_loaded, are_named, asked_so, begun, each_at, one_tells, plain, traced_with, undeclared}
 use Rattle.py_script.proofs.OneText.{raise_line}
 
 pub spelled : Spells (lines script) trees drives
 spelled = record { items = Declares function ∷ Drives (record { function = codes "f"; args = [] }) ∷ []; spelled = refl; well = (refl, (((refl, tt), tt), (refl, tt))); declared = refl; driven = refl }
 
 -- the question of the drive
-abbrev call : Question
-call = Call (object 7) []
+abbrev call : Posed
+call = record { drive = Call (object 7) []; entered = 0 }
+
+-- what the run is of
+abbrev plan : Plan
+plan = plan_of trees (call ∷ [])
 
 fits : AllFit objects
-fits = all_fit objects refl (tt, (tt, (tt, (tt, (tt, (tt, (tt, (tt, (tt, (tt, tt))))))))))
+fits = all_fit objects refl (tt, (tt, (tt, (tt, (tt, (tt, (tt, (tt, (tt, (tt, (tt, (tt, (tt, tt)))))))))))))
 
-comes : Comes (call ∷ []) objects [] start events
+comes : Comes plan objects [] start events
 comes = (
   (refl, refl, lit< tt),
   (
-    (refl, refl, refl, refl, (_, refl)),
-    ((object 7, refl, refl), ((refl, refl), ((refl, refl), ((refl, refl, (Truth (object 8), Has (payload.Bool true), refl, (payload.Bool true, refl, refl), refl)), ((refl, refl), tt))))),
+    (refl, refl, refl, (_, refl, (_, refl, refl))),
+    (
+      (object 7, refl, refl),
+      ((refl, refl), ((refl, refl), ((refl, (Truth (object 11), refl, (Has (payload.Bool true), inl (Has (payload.Bool true), refl, (payload.Bool true, refl, refl)), refl))), ((refl, refl), tt)))),
+    ),
   ),
 )
 
-loop_traced : IsTrace (anywhere objects (object 6)) function [] (own_events 1 events)
+loop_traced : IsTrace (anywhere objects (object 9)) function [] (own_events 1 events)
 unfolding own_events told_by
 loop_traced =
-    (refl, (_, refl, (tt, inr (1, inr (0, _, refl, inr (object 8, refl, inr (2, _, refl, refl, inr (got.Value (object 9), _, refl, (true, refl, inr (inr (3, _, refl, inl (refl, refl))))))))))))
+    (refl, (_, refl, (tt, inr (1, inr (0, _, refl, inr (object 11, refl, inr (2, _, refl, refl, inr (got.Value (object 12), _, refl, (true, refl, inr (inr (3, _, refl, inl (refl, refl))))))))))))
 
 pub is_run : IsRunOf trees drives objects events
 is_run =
     record {
       asked = call ∷ [];
-      are_asked = ((refl, tt), tt);
-      globals = object 6;
-      is_dict = ([], refl);
-      run = record { comes = comes; tells = one_tells (Traces trees (object 6) objects) (object 7) [] events refl (_, refl, (function, refl, loop_traced)); named = are_named objects events fits refl };
-      are_objects = are_loaded function (payload.Bool true ∷ payload.Bool true ∷ []) refl (plain function _ refl, (plain function _ refl, tt)) fits;
+      are_asked = (((refl, tt), refl), tt);
+      globals = object 9;
+      are_globals = are_globals function (payload.Frame 0 ∷ payload.Bool true ∷ payload.Bool true ∷ []) refl;
+      run = record { comes = comes; tells = one_tells (Traces trees (object 9) objects) (object 7) [] events refl (_, refl, (function, refl, loop_traced)); named = are_named objects events fits refl };
+      are_objects = are_loaded function (payload.Frame 0 ∷ payload.Bool true ∷ payload.Bool true ∷ []) refl (plain function _ refl, (plain function _ refl, (plain function _ refl, tt))) fits;
     }
 
 -- what the loop's rounds may tell, where the globals are in this dict
@@ -128,7 +134,7 @@ no_round_untested r =
     cc asks.2
 
 -- the second object is True alone
-is_true : (b : Bool) → HasPayload objects (object 9) (payload.Bool b) → b ≡ true
+is_true : (b : Bool) → HasPayload objects (object 12) (payload.Bool b) → b ≡ true
 is_true true h = refl
 is_true false h = absurd (cc h)
 
@@ -137,7 +143,7 @@ unfolding own_events told_by
 no_end_where_it_is_true r =
     let going = begins_loop r.globals _ _ (traced_with function [] objects drives left_early refl refl r) in
     let next = goes_round r.globals going.0 _ _ going.1 in
-    let tested = by_truth r.globals going.0 2 (object 8) (object 9) _ next.2 in
+    let tested = by_truth r.globals going.0 2 (object 11) (object 12) _ next.2 in
     let told = subst (λ (b : Bool). Tested r.globals going.0 b (Ends 4 (ending.Return (object 0)) ∷ [])) (is_true tested.0 tested.1) tested.2 in
     let again = next_round r.globals going.0 _ _ told in
     cc again.1
@@ -156,7 +162,7 @@ made_error = record {
   class = record { name = name_of kind.NameError };
   is_class = refl;
   is_declared = refl;
-  arguments = object 8 ∷ [];
+  arguments = object 11 ∷ [];
   are_arguments = refl;
   cause = tt;
   context = tt;
@@ -164,56 +170,59 @@ made_error = record {
 }
 
 unknown_fits : AllFit unknown_objects
-unknown_fits = all_fit unknown_objects refl (tt, (tt, (tt, (tt, (tt, (tt, (tt, (tt, (tt, (tt, (made_error, tt)))))))))))
+unknown_fits = all_fit unknown_objects refl (tt, (tt, (tt, (tt, (tt, (tt, (tt, (tt, (tt, (tt, (tt, (tt, (tt, (made_error, tt))))))))))))))
 
 -- the exception is new, and is what the question is answered
-unknown_raised : IsRaised unknown_objects (asked []) kind.NameError (codes "name 'z' is not defined") (exception 10)
+unknown_raised : IsRaised unknown_objects (asked []) kind.NameError (codes "name 'z' is not defined") (exception 13)
 unknown_raised = record {
   new = record {
-    unnamed = each_at (λ (e : Event). is_among 10 (event_numbers e) ≡ false) (asked []) (refl, (refl, (refl, (refl, tt))));
-    undeclared = λ x. undeclared unknown_function 10 (raised_objects 1) x (refl, refl, refl, refl, refl, refl) refl;
+    unnamed = each_at (λ (e : Event). is_among 13 (event_numbers e) ≡ false) (asked []) (refl, (refl, (refl, (refl, tt))));
+    undeclared = λ x. undeclared unknown_function 13 (payload.Frame 0 ∷ raised_objects 1) x (refl, refl, refl, refl, refl, refl) refl;
   };
-  body = record (error_body 1) { args = object 9 };
+  body = record (error_body 1) { args = object 12 };
   entry = refl;
   class = refl;
-  argument = object 8;
+  argument = object 11;
   args = refl;
   message = refl;
 }
 
-unknown_comes : Comes (call ∷ []) unknown_objects [] start unknown_events
+unknown_comes : Comes (plan_of unknown_trees (call ∷ [])) unknown_objects [] start unknown_events
 unknown_comes = (
   (refl, refl, lit< tt),
   (
-    (refl, refl, refl, refl, (_, refl)),
+    (refl, refl, refl, (_, refl, (_, refl, refl))),
     (
       (object 7, refl, refl),
       (
         (refl, refl),
-        ((refl, refl, (Global (object 6) (codes "z"), Fails kind.NameError (unknown_text (codes "z")), refl, refl, unknown_raised)), ((refl, refl), ((refl, refl, (By_raise (exception 10), refl, refl)), tt))),
+        (
+          (refl, (Global (object 9) (codes "z"), refl, (Fails kind.NameError (unknown_text (codes "z")), inl (Fails kind.NameError (unknown_text (codes "z")), refl, refl), unknown_raised))),
+          ((refl, refl), ((refl, refl, (_, got.Raise (exception 13), refl, refl, (_, _, refl, refl))), tt)),
+        ),
       ),
     ),
   ),
 )
 
-unknown_traced : IsTrace (anywhere unknown_objects (object 6)) unknown_function [] (own_events 1 unknown_events)
+unknown_traced : IsTrace (anywhere unknown_objects (object 9)) unknown_function [] (own_events 1 unknown_events)
 unfolding own_events told_by
-unknown_traced = (refl, (_, refl, (tt, inr (inr (0, _, refl, refl, inr (got.Raise (exception 10), _, refl, inr (0, refl)))))))
+unknown_traced = (refl, (_, refl, (tt, inr (inr (0, _, refl, refl, inr (got.Raise (exception 13), _, refl, inr (0, refl)))))))
 
 pub unknown_is_run : IsRunOf unknown_trees drives unknown_objects unknown_events
 unknown_is_run =
     record {
       asked = call ∷ [];
-      are_asked = ((refl, tt), tt);
-      globals = object 6;
-      is_dict = ([], refl);
+      are_asked = (((refl, tt), refl), tt);
+      globals = object 9;
+      are_globals = are_globals unknown_function (payload.Frame 0 ∷ raised_objects 1) refl;
       run =
           record {
             comes = unknown_comes;
-            tells = one_tells (Traces unknown_trees (object 6) unknown_objects) (object 7) [] unknown_events refl (_, refl, (unknown_function, refl, unknown_traced));
+            tells = one_tells (Traces unknown_trees (object 9) unknown_objects) (object 7) [] unknown_events refl (_, refl, (unknown_function, refl, unknown_traced));
             named = are_named unknown_objects unknown_events unknown_fits refl;
           };
-      are_objects = are_loaded unknown_function (raised_objects 1) refl (plain unknown_function _ refl, (plain unknown_function _ refl, (plain unknown_function _ refl, tt))) unknown_fits;
+      are_objects = are_loaded unknown_function (payload.Frame 0 ∷ raised_objects 1) refl (plain unknown_function _ refl, (plain unknown_function _ refl, (plain unknown_function _ refl, (plain unknown_function _ refl, tt)))) unknown_fits;
     }
 
 asked_object : (at at' : ℕ) (v w : Obj) (x : Name) (ts us : List Own) → Asks at (Global v x) None ∷ ts ≡ Asks at' (Global w x) None ∷ us → v ≡ w
@@ -225,10 +234,10 @@ no_name_asked_of_none r =
     let b = begun (anywhere unknown_objects r.globals) unknown_function [] _ (traced_with unknown_function [] unknown_objects drives (asked_in (object 0) []) refl refl r) in
     ⊎_elim (λ cut. cc cut.0) (λ loads. ⊎_elim (λ cut. cc cut.0) (λ asks.
     let same : object 0 ≡ r.globals = asked_object _ _ _ _ _ _ _ asks.3 in
-    let none = subst (IsDict unknown_objects) (sym same) r.is_dict in
+    let none = subst (AreGlobals unknown_trees unknown_objects) (sym same) r.are_globals in
     cc none.1) loads) b.1
 
 pub unknown_line : events_text unknown_objects unknown_events ≡ codes "1 raises NameError: name 'z' is not defined\n"
 unknown_line =
-    append-nil (result_text unknown_objects 1 (answer.Raises (exception 10)))
-    ∙ raise_line unknown_trees unknown_objects 0 kind.NameError (codes "name 'z' is not defined") refl refl refl unknown_is_run.are_objects (asked []) (exception 10) unknown_raised
+    append-nil (result_text unknown_objects 1 (answer.Raises (exception 13)))
+    ∙ raise_line unknown_trees unknown_objects 0 kind.NameError (codes "name 'z' is not defined") refl refl refl unknown_is_run.are_objects (asked []) (exception 13) unknown_raised

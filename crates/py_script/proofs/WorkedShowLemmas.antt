@@ -1,5 +1,5 @@
 -- What the definitions say of the journal with a shown value.
-use Rattle.std.proofs.Common.{◌≡◌, ℕ, List, [], ◌∷◌, Option, Some, None, ◌<◌, refl, sym, ap, subst, inr, lit<, ⊎_elim, ◌∙◌, append-nil, length}
+use Rattle.std.proofs.Common.{◌≡◌, ℕ, List, [], ◌∷◌, Option, Some, None, ◌<◌, refl, sym, ap, subst, inl, inr, lit<, ⊎_elim, ◌∙◌, append-nil, length}
 use Rattle.std.proofs.lemmas.Option.{slice_get_within}
 use Rattle.std.specs.Prelude.{pos, codes}
 use Rattle.py_objects.specs.declared.refs.PyBaseExceptionRef.{PyBaseExceptionRef}
@@ -27,13 +27,13 @@ use Rattle.py_body.specs.Trace.{IsTrace, EndsBy}
 use Rattle.py_grammar.specs.Grammar.{Declares, Drives}
 use Rattle.py_grammar.specs.Lines.{lines}
 use Rattle.py_grammar.specs.Script.{Spells}
-use Rattle.py_vm.specs.Answers.{Reply, Has, Replies, Gives}
-use Rattle.py_vm.specs.Run.{By_return, start, state_after, Comes}
-use Rattle.py_script.specs.Whole.{Traces, IsRunOf}
+use Rattle.py_vm.specs.Answers.{Reply, Has, Gives}
+use Rattle.py_vm.specs.Run.{Plan, Asking, State, Answers as IsAnswered, start, state_after, Comes}
+use Rattle.py_script.specs.Whole.{Traces, IsRunOf, plan_of}
 use Rattle.py_script.specs.Text.{events_text, result_text}
 use Rattle.py_script.specs.Worked.{object, exception, entered, asked, greatest, overflow_by}
 use Rattle.py_script.specs.WorkedShow.{script, function, trees, drive, drives, objects, summed, shows, answered, ended, events_by, events, without_show, shown_twice, overflowing, overflow_objects, shown_behind_raise}
-use Rattle.py_script.proofs.Journals.{RaiseIsTraced, all_fit, are_objects, asked_so, asking_comes, begun, call, decimal_1, decimal_45, each_at, gives_sum, one_tells, plain, some_is, sum_comes, traced}
+use Rattle.py_script.proofs.Journals.{RaiseIsTraced, all_fit, are_globals, are_objects, asked_so, asking_comes, begun, call, decimal_1, decimal_45, each_at, gives_sum, one_tells, plain, plan_with, replied, some_is, sum_comes, traced}
 use Rattle.py_script.proofs.Journals.{overflow_is_run as overflow_run}
 use Rattle.py_script.proofs.OneText.{overflow_line}
 
@@ -41,48 +41,52 @@ pub spelled : Spells (lines script) trees drives
 spelled = record { items = Declares function ∷ Drives drive ∷ []; spelled = refl; well = (refl, ((refl, (refl, tt)), (refl, tt))); declared = refl; driven = refl }
 
 fits : AllFit objects
-fits = all_fit objects refl (tt, (tt, (tt, (tt, (tt, (tt, (tt, (tt, (tt, (tt, (tt, (tt, tt))))))))))))
+fits = all_fit objects refl (tt, (tt, (tt, (tt, (tt, (tt, (tt, (tt, (tt, (tt, (tt, (tt, (tt, (tt, (tt, tt)))))))))))))))
 
 -- an object that is None
 abbrev IsNone : Obj → Type 0
 IsNone v = HasPayload objects v payload.None
 
-comes : (a r : Obj) → IsNone a → IsNone r → Comes (call ∷ []) objects [] start (events_by (object 10) a r)
+-- what the run is of
+abbrev plan : Plan
+plan = plan_with function []
+
+comes : (a r : Obj) → IsNone a → IsNone r → Comes plan objects [] start (events_by (object 13) a r)
 comes a r n m =
-    let asking = entered 1 (asked 1 (object 8) (object 9) []) in
+    let asking = entered 1 (asked 1 (object 10) (object 11) []) in
     let more = payload.Int (pos 45) ∷ payload.None ∷ [] in
-    asking_comes function (call ∷ []) (pos 33) (pos 12) more (event.Got 1 (got.Value (object 10)) ∷ shows (object 10) (answered a (ended r))) refl (lit< tt) (
-      sum_comes function (call ∷ []) (pos 33) (pos 12) more asking (state_after start asking) 1 (got.Value (object 10)) refl refl refl refl,
-      ((refl, refl), ((refl, refl, (Show (object 10), Has payload.None, refl, refl, n)), ((refl, refl), ((refl, refl, (By_return r, refl, refl)), tt)))),
+    asking_comes function [] (pos 33) (pos 12) more (event.Got 1 (got.Value (object 13)) ∷ shows (object 13) (answered a (ended r))) (lit< tt) (_, refl, (_, refl, refl)) (
+      sum_comes function plan (pos 33) (pos 12) more asking (state_after start asking) 1 (got.Value (object 13)) refl refl refl refl,
+      ((refl, refl), ((refl, (Show (object 13), refl, (Has payload.None, inl (Has payload.None, refl, refl), n))), ((refl, refl), ((refl, refl, (_, got.Value r, refl, refl, (_, _, refl, refl))), tt)))),
     )
 
-shown_traced : (a r : Obj) → IsNone r → IsTrace (anywhere objects (object 6)) function (object 8 ∷ object 9 ∷ []) (own_events 1 (events_by (object 10) a r))
+shown_traced : (a r : Obj) → IsNone r → IsTrace (anywhere objects (object 9)) function (object 10 ∷ object 11 ∷ []) (own_events 1 (events_by (object 13) a r))
 unfolding own_events told_by
-shown_traced a r m = (refl, (_, refl, (tt, inr (inr (2, _, refl, refl, inr (got.Value (object 10), _, refl, inr (inr (5, _, refl, refl, inr (got.Value a, _, refl, inr (inr (r, m, inr (6, refl))))))))))))
+shown_traced a r m = (refl, (_, refl, (tt, inr (inr (2, _, refl, refl, inr (got.Value (object 13), _, refl, inr (inr (5, _, refl, refl, inr (got.Value a, _, refl, inr (inr (r, m, inr (6, refl))))))))))))
 
-named : (a r : Obj) → IsNone a → IsNone r → AreNamed objects (events_by (object 10) a r)
+named : (a r : Obj) → IsNone a → IsNone r → AreNamed objects (events_by (object 13) a r)
 named a r n m =
     let below : a.number < length objects = slice_get_within objects a.number payload.None n in
     let returned : r.number < length objects = slice_get_within objects r.number payload.None m in
     record {
       in_events =
-          each_at (λ (e : Event). AllBelow (length objects) (event_numbers e)) (events_by (object 10) a r)
+          each_at (λ (e : Event). AllBelow (length objects) (event_numbers e)) (events_by (object 13) a r)
           (tt, ((lit< tt, (lit< tt, (lit< tt, tt))), (tt, ((lit< tt, (lit< tt, tt)), ((lit< tt, tt), ((lit< tt, tt), ((below, tt), ((returned, tt), ((returned, tt), tt)))))))));
       in_payloads = λ i p e. (fits i p e).0;
     }
 
 -- any None answers the show, and any None is returned
-pub any_none : (a r : Obj) → IsNone a → IsNone r → IsRunOf trees drives objects (events_by (object 10) a r)
+pub any_none : (a r : Obj) → IsNone a → IsNone r → IsRunOf trees drives objects (events_by (object 13) a r)
 any_none a r n m =
     record {
       asked = call ∷ [];
-      are_asked = ((refl, (refl, (refl, tt))), tt);
-      globals = object 6;
-      is_dict = ([], refl);
+      are_asked = (((refl, (refl, (refl, tt))), refl), tt);
+      globals = object 9;
+      are_globals = are_globals function (payload.Int (pos 33) ∷ payload.Int (pos 12) ∷ payload.Frame 0 ∷ payload.Int (pos 45) ∷ payload.None ∷ []) refl;
       run =
           record {
             comes = comes a r n m;
-            tells = one_tells (Traces trees (object 6) objects) (object 7) (object 8 ∷ object 9 ∷ []) (events_by (object 10) a r) refl (_, refl, (function, refl, shown_traced a r m));
+            tells = one_tells (Traces trees (object 9) objects) (object 7) (object 10 ∷ object 11 ∷ []) (events_by (object 13) a r) refl (_, refl, (function, refl, shown_traced a r m));
             named = named a r n m;
           };
       are_objects = are_objects function (pos 33) (pos 12) (payload.Int (pos 45) ∷ payload.None ∷ []) refl (plain function _ refl, (plain function _ refl, tt)) fits;
@@ -93,7 +97,7 @@ text = simp (decimal_45, decimal_1)
 
 -- the locals where the sum is this
 abbrev locals : Obj → Env
-locals v = set_local (codes "x") (Some v) (start_env function (object 8 ∷ object 9 ∷ []))
+locals v = set_local (codes "x") (Some v) (start_env function (object 10 ∷ object 11 ∷ []))
 
 -- what follows the sum, and what follows what is shown
 abbrev Shows : Scene → Env → List Own → Type 0
@@ -104,12 +108,12 @@ Finishes scene env ts = RunsSuite scene nothing env None ts (EndsBy scene)
 
 -- what follows the answer to the sum
 abbrev AfterSum : Scene → AfterValue
-AfterSum scene = Use (start_env function (object 8 ∷ object 9 ∷ [])) (On_normal (EndsBy scene) (Shows scene)) (λ v. On_normal (EndsBy scene) (Shows scene) (locals v) Normal)
+AfterSum scene = Use (start_env function (object 10 ∷ object 11 ∷ [])) (On_normal (EndsBy scene) (Shows scene)) (λ v. On_normal (EndsBy scene) (Shows scene) (locals v) Normal)
 
-behind_sum : (scene : Scene) (w : GotAnswer) (ts : List Own) → IsTrace scene function (object 8 ∷ object 9 ∷ []) (Makes ∷ Resumes Start ∷ Asks 2 (Binary binary.Add (object 8) (object 9)) None ∷ Gets w ∷ ts) → Answers w ts (AfterSum scene)
+behind_sum : (scene : Scene) (w : GotAnswer) (ts : List Own) → IsTrace scene function (object 10 ∷ object 11 ∷ []) (Makes ∷ Resumes Start ∷ Asks 2 (Binary binary.Add (object 10) (object 11)) None ∷ Gets w ∷ ts) → Answers w ts (AfterSum scene)
 behind_sum scene w ts h =
-    let b = begun scene function (object 8 ∷ object 9 ∷ []) _ h in
-    ⊎_elim (λ cut. cc cut.0) (λ more. asked_so _ (Binary binary.Add (object 8) (object 9)) (Binary binary.Add (object 8) (object 9)) 2 w ts (AfterSum scene) more) b.1
+    let b = begun scene function (object 10 ∷ object 11 ∷ []) _ h in
+    ⊎_elim (λ cut. cc cut.0) (λ more. asked_so _ (Binary binary.Add (object 10) (object 11)) (Binary binary.Add (object 10) (object 11)) 2 w ts (AfterSum scene) more) b.1
 
 -- the sum is shown first
 first_shown : (scene : Scene) (v : Obj) (o : Own) (ts : List Own) → Shows scene (locals v) (o ∷ ts) → (at : ℕ) × (o ≡ Asks at (Show v) None)
@@ -129,55 +133,57 @@ shown_number at at' v w own own' e = let same : v ≡ w = cc in ap (λ (v : Obj)
 pub no_show_dropped : IsRunOf trees drives objects without_show → ⊥
 unfolding own_events told_by
 no_show_dropped r =
-    let e = first_shown (anywhere objects r.globals) (object 10) _ _ (behind_sum (anywhere objects r.globals) (got.Value (object 10)) _ (traced function objects drives without_show refl refl r)) in
+    let e = first_shown (anywhere objects r.globals) (object 13) _ _ (behind_sum (anywhere objects r.globals) (got.Value (object 13)) _ (traced function objects drives without_show refl refl r)) in
     cc e.1
 
-pub no_other_value : IsRunOf trees drives objects (events_by (object 8) (object 0) (object 11)) → ⊥
+pub no_other_value : IsRunOf trees drives objects (events_by (object 10) (object 0) (object 14)) → ⊥
 unfolding own_events told_by
 no_other_value r =
-    let e = first_shown (anywhere objects r.globals) (object 10) _ _ (behind_sum (anywhere objects r.globals) (got.Value (object 10)) _ (traced function objects drives (events_by (object 8) (object 0) (object 11)) refl refl r)) in
-    let n = shown_number 5 e.0 (object 8) (object 10) None None e.1 in
+    let e = first_shown (anywhere objects r.globals) (object 13) _ _ (behind_sum (anywhere objects r.globals) (got.Value (object 13)) _ (traced function objects drives (events_by (object 10) (object 0) (object 14)) refl refl r)) in
+    let n = shown_number 5 e.0 (object 10) (object 13) None None e.1 in
     cc
 
 pub no_show_twice : IsRunOf trees drives objects shown_twice → ⊥
 unfolding own_events told_by
 no_show_twice r =
-    let e = last_told r.globals (object 10) _ _ (behind_show (anywhere objects r.globals) (object 10) (object 10) (object 0) _ (behind_sum (anywhere objects r.globals) (got.Value (object 10)) _ (traced function objects drives shown_twice refl refl r))) in
+    let e = last_told r.globals (object 13) _ _ (behind_show (anywhere objects r.globals) (object 13) (object 13) (object 0) _ (behind_sum (anywhere objects r.globals) (got.Value (object 13)) _ (traced function objects drives shown_twice refl refl r))) in
     cc e.3
 
 -- what is shown is answered by None
-gives_none : (store : List Payload) (before : List Event) (v : Obj) (w : GotAnswer) → ((r : Request) × (reply : Reply) × (Some (Show v) ≡ Some r) × Replies store r reply × Gives store before reply w) → Gives store before (Has payload.None) w
-gives_none store before v w h = subst (λ (reply : Reply). Gives store before reply w) (subst (λ (r : Request). Replies store r h.1) (sym (some_is _ _ h.2)) h.3) h.4
+gives_none : (plan : Plan) (store : List Payload) (before : List Event) (s : State) (v : Obj) (w : GotAnswer) → ((r : Request) × (Some (Show v) ≡ Some r) × IsAnswered plan store before s Asking r w) → Gives store before (Has payload.None) w
+gives_none plan store before s v w h =
+    let answered = subst (λ (r : Request). IsAnswered plan store before s Asking r w) (sym (some_is _ _ h.1)) h.2 in
+    subst (λ (reply : Reply). Gives store before reply w) (replied _ _ store (Show v) answered.0 (λ f vs e. cc) answered.1) answered.2
 
-pub no_other_answer : IsRunOf trees drives objects (events_by (object 10) (object 10) (object 11)) → ⊥
+pub no_other_answer : IsRunOf trees drives objects (events_by (object 13) (object 13) (object 14)) → ⊥
 no_other_answer r =
-    let e = gives_none objects (summed (shows (object 10) [])) (object 10) (got.Value (object 10)) r.run.comes.1.1.1.1.1.1.0.2 in
+    let e = gives_none (plan_of trees r.asked) objects (summed (shows (object 13) [])) (state_after start (summed (shows (object 13) []))) (object 13) (got.Value (object 13)) r.run.comes.1.1.1.1.1.1.0.1 in
     cc
 
 returned_one : (at at' : ℕ) (v w : Obj) → Ends at (ending.Return v) ≡ Ends at' (ending.Return w) → v ≡ w
 returned_one at at' v w e = cc
 
-pub no_other_end : IsRunOf trees drives objects (events_by (object 10) (object 0) (object 10)) → ⊥
+pub no_other_end : IsRunOf trees drives objects (events_by (object 13) (object 0) (object 13)) → ⊥
 unfolding own_events told_by
 no_other_end r =
-    let e = last_told r.globals (object 10) _ _ (behind_show (anywhere objects r.globals) (object 10) (object 10) (object 0) _ (behind_sum (anywhere objects r.globals) (got.Value (object 10)) _ (traced function objects drives (events_by (object 10) (object 0) (object 10)) refl refl r))) in
-    let none = subst IsNone (sym (returned_one 6 e.0 (object 10) e.1 e.3)) e.2 in
+    let e = last_told r.globals (object 13) _ _ (behind_show (anywhere objects r.globals) (object 13) (object 13) (object 0) _ (behind_sum (anywhere objects r.globals) (got.Value (object 13)) _ (traced function objects drives (events_by (object 13) (object 0) (object 13)) refl refl r))) in
+    let none = subst IsNone (sym (returned_one 6 e.0 (object 13) e.1 e.3)) e.2 in
     cc
 
-raise_traced : RaiseIsTraced function [] (exception 12)
-raise_traced = (refl, (_, refl, (tt, inr (inr (2, _, refl, refl, inr (got.Raise (exception 12), _, refl, inr (2, refl)))))))
+raise_traced : RaiseIsTraced function [] (exception 15)
+raise_traced = (refl, (_, refl, (tt, inr (inr (2, _, refl, refl, inr (got.Raise (exception 15), _, refl, inr (2, refl)))))))
 
-pub raise_ends : IsRunOf trees (overflowing ∷ []) overflow_objects (overflow_by (exception 12))
-raise_ends = overflow_run function refl raise_traced
+pub raise_ends : IsRunOf trees (overflowing ∷ []) overflow_objects (overflow_by (exception 15))
+raise_ends = overflow_run function refl (_, refl, (_, refl, refl)) raise_traced
 
-pub raise_text : events_text overflow_objects (overflow_by (exception 12)) ≡ codes "1 raises OverflowError: integer out of range\n"
+pub raise_text : events_text overflow_objects (overflow_by (exception 15)) ≡ codes "1 raises OverflowError: integer out of range\n"
 raise_text =
-    let asking = entered 1 (asked 1 (object 8) (object 9) []) in
-    append-nil (result_text overflow_objects 1 (answer.Raises (exception 12)))
-    ∙ overflow_line trees overflow_objects raise_ends.are_objects asking (exception 12)
-    (gives_sum overflow_objects asking (object 8) (object 9) greatest (pos 1) (got.Raise (exception 12)) refl refl raise_ends.run.comes.1.1.1.1.0.2)
+    let asking = entered 1 (asked 1 (object 10) (object 11) []) in
+    append-nil (result_text overflow_objects 1 (answer.Raises (exception 15)))
+    ∙ overflow_line trees overflow_objects raise_ends.are_objects asking (exception 15)
+    (gives_sum (plan_of trees raise_ends.asked) overflow_objects asking (state_after start asking) (object 10) (object 11) greatest (pos 1) (got.Raise (exception 15)) refl refl raise_ends.run.comes.1.1.1.1.0.1)
 
 pub no_show_behind_a_raise : IsRunOf trees (overflowing ∷ []) overflow_objects shown_behind_raise → ⊥
 unfolding own_events told_by
 no_show_behind_a_raise r =
-    ⊎_elim (λ cut. cc cut) (λ end. cc end.1) (behind_sum (anywhere overflow_objects r.globals) (got.Raise (exception 12)) _ (traced function overflow_objects (overflowing ∷ []) shown_behind_raise refl refl r))
+    ⊎_elim (λ cut. cc cut) (λ end. cc end.1) (behind_sum (anywhere overflow_objects r.globals) (got.Raise (exception 15)) _ (traced function overflow_objects (overflowing ∷ []) shown_behind_raise refl refl r))

@@ -10,6 +10,7 @@ pub mod Causes
 pub mod Worked
 pub mod WorkedShow
 pub mod WorkedLoop
+pub mod WorkedCall
 -- what functions inside the crate promise each other
 pub mod Steps
 pub mod Loaded

@@ -1,5 +1,5 @@
 -- What a machine holds once a script's declarations are loaded.
-use Rattle.std.specs.Prelude.{ℕ, suc, Some, List, [], ◌∷◌, ◌++◌, ◌≡◌, slice_get}
+use Rattle.std.specs.Prelude.{ℕ, suc, Some, List, [], ◌∷◌, ◌++◌, ◌≡◌, slice_get, length}
 use Rattle.py_code.specs.Codes.{Codes}
 use Rattle.py_code.specs.declared.code.PyCode.{PyCode}
 use Rattle.py_objects.specs.declared.payload.Payload.{Payload}
@@ -20,12 +20,12 @@ function_entries i (t ∷ ts) = payload.Function (record { name = t.name; code =
 abbrev pub script_objects : List Tree → List Payload
 script_objects ts = first_objects ++ function_entries 0 ts
 
--- the codes at the places of the bodies fit them, each with some notes
-abbrev pub AreCompiled : List Tree → Codes → Type 0
-AreCompiled ts cs =
-    (i : ℕ) (t : Tree) → slice_get ts i ≡ Some t
-    → (c : PyCode) × (slice_get cs.codes i ≡ Some c) × ((notes : List Note) × Fits cs.names (record { code = c; notes = notes }) t)
+-- there is a code for each body, and the one at its place fits it, with some notes
+pub record AreCompiled (ts : List Tree) (cs : Codes) : Type 0 where
+  pub count : length cs.codes ≡ length ts
+  pub fit : (i : ℕ) (t : Tree) → slice_get ts i ≡ Some t → (c : PyCode) × (slice_get cs.codes i ≡ Some c) × ((notes : List Note) × Fits cs.names (record { code = c; notes = notes }) t)
 
 -- the same with the notes that the codes have
-abbrev pub AreChecked : List Tree → Checked → Type 0
-AreChecked ts cs = (i : ℕ) (t : Tree) → slice_get ts i ≡ Some t → (c : Annotated) × (slice_get cs.codes i ≡ Some c) × Fits cs.names c t
+pub record AreChecked (ts : List Tree) (cs : Checked) : Type 0 where
+  pub count : length cs.codes ≡ length ts
+  pub fit : (i : ℕ) (t : Tree) → slice_get ts i ≡ Some t → (c : Annotated) × (slice_get cs.codes i ≡ Some c) × Fits cs.names c t

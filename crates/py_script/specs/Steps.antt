@@ -58,6 +58,8 @@ abbrev pub HasRun : Script → ℕ → Journal → Result Unit VmFault → Type 
 HasRun s turns j (Ok _) = IsRun s j × IsWhole s j × (length j.events ≤ turns) × RunsItsCodes s j
 HasRun s turns j (Err vm_fault.OutOfTurns) = IsRun s j × (IsWhole s j → ⊥) × (length j.events ≡ turns) × RunsItsCodes s j
 HasRun s turns j (Err vm_fault.NoMemory) = IsEmpty j ⊎ (IsRun s j × (length j.events ≤ turns) × RunsItsCodes s j)
+HasRun s turns j (Err vm_fault.Failed) = ⊥
+HasRun s turns j (Err (vm_fault.Exception e)) = ⊥
 
 -- what writing the text of a journal answers, by the bytes that the sink had taken and its faults, before and after
 abbrev pub IsWriting : Option (List ℕ) → Option (List ℕ) → ℕ → ℕ → Journal → Result Journal ScriptFault → Type 0

@@ -1,51 +1,93 @@
 -- What a script means: which journals are runs of it.
-use Rattle.std.specs.Prelude.{ℕ, ◌≤◌, Some, List, [], ◌∷◌, ◌≡◌, slice_get, length, map, Contains}
+use Rattle.std.specs.Prelude.{ℕ, ◌≤◌, Some, None, List, [], ◌∷◌, ◌≡◌, slice_get, length, map, Contains}
 use Rattle.py_objects.specs.declared.payload.Payload.{Payload}
 use Rattle.py_objects.specs.declared.payload.Payload.TheVariants as payload
 use Rattle.py_objects.specs.declared.payload.ClassBody.{ClassBody}
 use Rattle.py_objects.specs.declared.payload.FunctionBody.{FunctionBody}
 use Rattle.py_objects.specs.declared.payload.ManagerBody.{ManagerBody}
 use Rattle.py_objects.specs.declared.payload.ErrorKind.{ErrorKind}
+use Rattle.py_objects.specs.declared.event.DriveAnswer.{DriveAnswer}
+use Rattle.py_objects.specs.declared.event.DriveAnswer.TheVariants as answer
 use Rattle.py_objects.specs.declared.event.Event.{Event}
-use Rattle.py_objects.specs.Objects.{Obj, HasPayload, declared, name_of, error_kinds, AllFit}
-use Rattle.py_body.specs.declared.atom.Atom.{Atom}
-use Rattle.py_body.specs.declared.atom.Atom.TheVariants as atom
+use Rattle.py_objects.specs.declared.event.Event.TheVariants as event
+use Rattle.py_objects.specs.Objects.{Obj, HasPayload, as_object, declared, name_of, error_kinds, AllFit}
 use Rattle.py_body.specs.Tree.{Tree}
 use Rattle.py_body.specs.Scene.{anywhere}
 use Rattle.py_body.specs.Trace.{IsTrace}
+use Rattle.py_grammar.specs.declared.drive.DriveAtom.{DriveAtom}
+use Rattle.py_grammar.specs.declared.drive.DriveAtom.TheVariants as atom
 use Rattle.py_grammar.specs.Drive.{Drive}
 use Rattle.py_grammar.specs.declared.script.Script.{Script}
 use Rattle.py_grammar.specs.Script.{trees_of, drives_of, IsScript}
 use Rattle.py_vm.specs.declared.drive.Drive.{Drive as Question}
 use Rattle.py_vm.specs.declared.drive.Drive.TheVariants as question
 use Rattle.py_vm.specs.declared.journal.Journal.{Journal}
-use Rattle.py_vm.specs.Run.{May, EachTells, IsRunBy, IsDone}
+use Rattle.py_vm.specs.Calls.{Signature}
+use Rattle.py_vm.specs.Run.{Posed, Plan, May, EachTells, IsRunBy, IsDone}
 use Rattle.py_vm.specs.RowsOf.{RowsOf}
 use Rattle.py_script.specs.Loaded.{AreCompiled}
 
--- an object of an atom of a drive: any one of a literal's value, the declared one of a name
-abbrev pub IsOf : List Payload → Atom → Obj → Type 0
-IsOf objects atom.None v = HasPayload objects v payload.None
-IsOf objects (atom.Bool b) v = HasPayload objects v (payload.Bool b)
-IsOf objects (atom.Int n) v = HasPayload objects v (payload.Int n)
-IsOf objects (atom.Str s) v = HasPayload objects v (payload.Str s)
-IsOf objects (atom.Name x) v = declared objects x ≡ Some v
+-- what the answer of a drive leaves for `$N`: its value or its exception, None where there is none
+abbrev pub IsLeft : List Payload → DriveAnswer → Obj → Type 0
+IsLeft objects (answer.Returns w) v = v ≡ w
+IsLeft objects (answer.Yields w) v = v ≡ w
+IsLeft objects (answer.Stops None) v = HasPayload objects v payload.None
+IsLeft objects (answer.Stops (Some w)) v = v ≡ w
+IsLeft objects answer.Closes v = HasPayload objects v payload.None
+IsLeft objects (answer.Raises e) v = v ≡ as_object e
+IsLeft objects (answer.Reported text) v = HasPayload objects v payload.None
 
-abbrev pub AreOf : List Payload → List Atom → List Obj → Type 0
-AreOf objects [] [] = Unit {0}
-AreOf objects [] (v ∷ vs) = ⊥
-AreOf objects (a ∷ atoms) [] = ⊥
-AreOf objects (a ∷ atoms) (v ∷ vs) = IsOf objects a v × AreOf objects atoms vs
+-- the drive of this number came to an answer that leaves this object
+abbrev pub IsLeftBy : List Payload → List Event → ℕ → Obj → Type 0
+IsLeftBy objects events n v = (i : ℕ) × (w : DriveAnswer) × (slice_get events i ≡ Some (event.Result n w)) × IsLeft objects w v
+
+-- an object of an argument of a drive: any one of a literal's value, the declared one of a name, what an earlier drive left
+abbrev pub IsOf : List Payload → List Event → DriveAtom → Obj → Type 0
+IsOf objects events atom.None v = HasPayload objects v payload.None
+IsOf objects events (atom.Bool b) v = HasPayload objects v (payload.Bool b)
+IsOf objects events (atom.Int n) v = HasPayload objects v (payload.Int n)
+IsOf objects events (atom.Str s) v = HasPayload objects v (payload.Str s)
+IsOf objects events (atom.Name x) v = declared objects x ≡ Some v
+IsOf objects events (atom.Drive n) v = IsLeftBy objects events n v
+
+abbrev pub AreOf : List Payload → List Event → List DriveAtom → List Obj → Type 0
+AreOf objects events [] [] = Unit {0}
+AreOf objects events [] (v ∷ vs) = ⊥
+AreOf objects events (a ∷ atoms) [] = ⊥
+AreOf objects events (a ∷ atoms) (v ∷ vs) = IsOf objects events a v × AreOf objects events atoms vs
 
 -- the question that a drive of a script asks
-abbrev pub Asks : List Payload → Drive → Question → Type 0
-Asks objects d (question.Call f vs) = (declared objects d.function ≡ Some f) × AreOf objects d.args vs
+abbrev pub AsksThis : List Payload → List Event → Drive → Question → Type 0
+AsksThis objects events d (question.Call f vs) = (declared objects d.function ≡ Some f) × AreOf objects events d.args vs
+
+-- the same, asked by a host that has entered nothing
+abbrev pub Asks : List Payload → List Event → Drive → Posed → Type 0
+Asks objects events d q = AsksThis objects events d q.drive × (q.entered ≡ 0)
 
 -- the questions of a script's drives in order, as far as they were begun
-abbrev pub AreAsked : List Payload → List Drive → List Question → Type 0
-AreAsked objects ds [] = Unit {0}
-AreAsked objects [] (q ∷ qs) = ⊥
-AreAsked objects (d ∷ ds) (q ∷ qs) = Asks objects d q × AreAsked objects ds qs
+abbrev pub AreAsked : List Payload → List Event → List Drive → List Posed → Type 0
+AreAsked objects events ds [] = Unit {0}
+AreAsked objects events [] (q ∷ qs) = ⊥
+AreAsked objects events (d ∷ ds) (q ∷ qs) = Asks objects events d q × AreAsked objects events ds qs
+
+-- the signature of a function
+abbrev pub signature_of : Tree → Signature
+signature_of t = record { params = t.params }
+
+-- what a run of these declarations is of, where the drives that were begun ask this
+abbrev pub plan_of : List Tree → List Posed → Plan
+plan_of trees asked = record { signatures = map signature_of trees; asked = asked }
+
+-- pairs bind the declared names, as texts, to their objects, in order
+abbrev pub AreBindings : List Payload → List Tree → List (Obj × Obj) → Type 0
+AreBindings objects [] [] = Unit {0}
+AreBindings objects [] (p ∷ ps) = ⊥
+AreBindings objects (t ∷ ts) [] = ⊥
+AreBindings objects (t ∷ ts) (p ∷ ps) = HasPayload objects p.0 (payload.Str t.name) × (declared objects t.name ≡ Some p.1) × AreBindings objects ts ps
+
+-- the globals: a dict that holds the declarations and nothing else
+abbrev pub AreGlobals : List Tree → List Payload → Obj → Type 0
+AreGlobals trees objects globals = (ps : List (Obj × Obj)) × HasPayload objects globals (payload.Dict ps) × AreBindings objects trees ps
 
 -- the objects of a script: each name that it declares, and each built-in class, has its entry; no other function or class is
 -- there, and no manager; a function's entry has the place of its body; each entry names objects that are there, of the kinds
@@ -63,17 +105,13 @@ abbrev pub Traces : List Tree → Obj → List Payload → May
 Traces trees globals objects f vs own =
     (b : FunctionBody) × HasPayload objects f (payload.Function b) × ((t : Tree) × (slice_get trees b.code ≡ Some t) × IsTrace (anywhere objects globals) t vs own)
 
--- an object is a dict
-abbrev pub IsDict : List Payload → Obj → Type 0
-IsDict objects v = (ps : List (Obj × Obj)) × HasPayload objects v (payload.Dict ps)
-
 -- a prefix of a run of these declarations and drives
 pub record IsRunOf (trees : List Tree) (drives : List Drive) (objects : List Payload) (events : List Event) : Type 0 where
-  pub asked : List Question
-  pub are_asked : AreAsked objects drives asked
+  pub asked : List Posed
+  pub are_asked : AreAsked objects events drives asked
   pub globals : Obj  -- one and the same dict throughout
-  pub is_dict : IsDict objects globals
-  pub run : IsRunBy (Traces trees globals objects) asked objects events
+  pub are_globals : AreGlobals trees objects globals
+  pub run : IsRunBy (Traces trees globals objects) (plan_of trees asked) objects events
   pub are_objects : AreObjects trees objects
 
 -- the journal is a prefix of a run of a script
@@ -90,7 +128,7 @@ IsWhole s j = IsDone (length (drives_of s)) j.events
 pub record RunsItsCodes (s : Script) (j : Journal) : Type 0 where
   pub compiled : AreCompiled (trees_of s) j.codes
   pub globals : Obj
-  pub is_dict : IsDict j.objects globals
+  pub are_globals : AreGlobals (trees_of s) j.objects globals
   pub tells : EachTells (RowsOf j.codes globals j.objects) j.events
 
 -- the journal where nothing ran

@@ -18,6 +18,7 @@ use Rattle.py_objects.specs.Objects.{Obj, Name, name_of}
 use Rattle.py_body.specs.declared.atom.Atom.TheVariants as atom
 use Rattle.py_body.specs.declared.atom.Operator.TheVariants as operator
 use Rattle.py_body.specs.Tree.{Tree, operate, give, nothing, first}
+use Rattle.py_grammar.specs.declared.drive.DriveAtom.TheVariants as argument
 use Rattle.py_grammar.specs.Drive.{Drive}
 use Rattle.py_vm.specs.Run.{IsDone}
 use Rattle.py_script.specs.Whole.{IsRunOf}
@@ -43,7 +44,7 @@ trees = function ∷ []
 
 -- call f with two numbers
 abbrev pub call_of : ℤ → ℤ → Drive
-call_of m n = record { function = codes "f"; args = atom.Int m ∷ atom.Int n ∷ [] }
+call_of m n = record { function = codes "f"; args = argument.Int m ∷ argument.Int n ∷ [] }
 
 -- what it drives: call f 33 12
 abbrev pub drives : List Drive
@@ -65,19 +66,23 @@ class_entry kind = payload.Class (record { name = name_of kind })
 abbrev pub function_entry : Name → ℕ → Payload
 function_entry name code = payload.Function (record { name = name; code = code })
 
--- None, the built-in classes, which have the numbers 1 to 5, the dict of the globals, 6, a function with number 7, and more
-abbrev pub loaded : Payload → List Payload → List Payload
-loaded f more =
+-- None, the built-in classes, which have the numbers 1 to 5, the empty dict of a new machine, 6, and more
+abbrev pub built_in : List Payload → List Payload
+built_in more =
     payload.None ∷ class_entry NameError ∷ class_entry OverflowError ∷ class_entry RecursionError ∷ class_entry TypeError ∷ class_entry UnboundLocalError
-    ∷ payload.Dict [] ∷ f ∷ more
+    ∷ payload.Dict [] ∷ more
 
--- the same with the function's two arguments, 8 and 9
-abbrev pub objects_of : Payload → ℤ → ℤ → List Payload → List Payload
-objects_of f m n more = loaded f (payload.Int m ∷ payload.Int n ∷ more)
+-- the same with a function, 7, its name, 8, the dict of the globals that binds it, 9, and more
+abbrev pub loaded : Name → Payload → List Payload → List Payload
+loaded name f more = built_in (f ∷ payload.Str name ∷ payload.Dict ((object 8, object 7) ∷ []) ∷ more)
 
--- the objects of the run, where the function has this entry; the sum has number 10
+-- the same with the function's two arguments, 10 and 11, and the frame of its activation, 12
+abbrev pub objects_of : Name → Payload → ℤ → ℤ → List Payload → List Payload
+objects_of name f m n more = loaded name f (payload.Int m ∷ payload.Int n ∷ payload.Frame 0 ∷ more)
+
+-- the objects of the run, where the function has this entry; the sum has number 13
 abbrev pub objects_by : Payload → List Payload
-objects_by f = objects_of f (pos 33) (pos 12) (payload.Int (pos 45) ∷ [])
+objects_by f = objects_of (codes "f") f (pos 33) (pos 12) (payload.Int (pos 45) ∷ [])
 
 -- the objects of the run
 abbrev pub objects : List Payload
@@ -86,12 +91,12 @@ objects = objects_by (function_entry (codes "f") 0)
 -- the same with a manager, which the script doesn't declare
 abbrev pub objects_with_manager : List Payload
 objects_with_manager =
-    objects_of (function_entry (codes "f") 0) (pos 33) (pos 12)
+    objects_of (codes "f") (function_entry (codes "f") 0) (pos 33) (pos 12)
     (payload.Int (pos 45) ∷ payload.Manager (record { name = codes "m"; enter = object 7; exit = object 7 }) ∷ [])
 
 -- the n-th drive calls the function, whose n-th activation is entered; these events follow
 abbrev pub entered : ℕ → List Event → List Event
-entered n events = event.Drive n ∷ event.Make n (object 7) (object 8 ∷ object 9 ∷ []) ∷ event.Resume n Start ∷ events
+entered n events = event.Drive n ∷ event.Make n (object 7) (object 10 ∷ object 11 ∷ []) ∷ event.Resume n Start ∷ events
 
 -- its body asks for the sum of two objects, at its third unit
 abbrev pub asked : ℕ → Obj → Obj → List Event → List Event
@@ -107,31 +112,31 @@ raised n e events = event.Got n (got.Raise e) ∷ event.End n (ending.Raise e) 2
 
 -- a run of the drive, in which this object is the sum
 abbrev pub events_by : Obj → List Event
-events_by v = entered 1 (asked 1 (object 8) (object 9) (returned 1 v []))
+events_by v = entered 1 (asked 1 (object 10) (object 11) (returned 1 v []))
 
 -- the run of the script
 abbrev pub events : List Event
-events = events_by (object 10)
+events = events_by (object 13)
 
 -- the same without its last event
 abbrev pub unfinished : List Event
-unfinished = entered 1 (asked 1 (object 8) (object 9) (event.Got 1 (got.Value (object 10)) ∷ event.End 1 (ending.Return (object 10)) 5 ∷ []))
+unfinished = entered 1 (asked 1 (object 10) (object 11) (event.Got 1 (got.Value (object 13)) ∷ event.End 1 (ending.Return (object 13)) 5 ∷ []))
 
 -- a loop goes round, where the body has none
 abbrev pub with_round : List Event
-with_round = entered 1 (event.Round 1 0 ∷ asked 1 (object 8) (object 9) (returned 1 (object 10) []))
+with_round = entered 1 (event.Round 1 0 ∷ asked 1 (object 10) (object 11) (returned 1 (object 13) []))
 
 -- the result stands where the activation's end is missing
 abbrev pub without_end : List Event
-without_end = entered 1 (asked 1 (object 8) (object 9) (event.Got 1 (got.Value (object 10)) ∷ event.Result 1 (answer.Returns (object 10)) ∷ []))
+without_end = entered 1 (asked 1 (object 10) (object 11) (event.Got 1 (got.Value (object 13)) ∷ event.Result 1 (answer.Returns (object 13)) ∷ []))
 
 -- the body asks for the sum of 12 and 33
 abbrev pub swapped : List Event
-swapped = entered 1 (asked 1 (object 9) (object 8) (returned 1 (object 10) []))
+swapped = entered 1 (asked 1 (object 11) (object 10) (returned 1 (object 13) []))
 
 -- a second drive begins, which the script hasn't
 abbrev pub driven_twice : List Event
-driven_twice = entered 1 (asked 1 (object 8) (object 9) (returned 1 (object 10) (event.Drive 2 ∷ [])))
+driven_twice = entered 1 (asked 1 (object 10) (object 11) (returned 1 (object 13) (event.Drive 2 ∷ [])))
 
 -- the greatest whole number
 abbrev pub greatest : ℤ
@@ -141,25 +146,25 @@ greatest = pos (2 ^ 127 - 1)
 abbrev pub overflowing : Drive
 overflowing = call_of greatest (pos 1)
 
--- an exception of the class with this number, with the arguments 11 and no links
+-- an exception of the class with this number, with the arguments 14 and no links
 abbrev pub error_body : ℕ → ExceptionBody
-error_body class = record { class = record { number = class }; args = object 11; cause = None; context = None; suppress = false; traceback = None; attrs = [] }
+error_body class = record { class = record { number = class }; args = object 14; cause = None; context = None; suppress = false; traceback = None; attrs = [] }
 
 -- its entry
 abbrev pub error_entry : ℕ → Payload
 error_entry class = payload.Exception (error_body class)
 
--- the objects that a raise adds: the text 10, a tuple of it, 11, and an exception of the class with this number, 12
+-- the objects that a raise adds: the text 13, a tuple of it, 14, and an exception of the class with this number, 15
 abbrev pub error_objects : ℕ → List Payload → List Payload
-error_objects class more = payload.Str (codes "integer out of range") ∷ payload.Tuple (object 10 ∷ []) ∷ error_entry class ∷ more
+error_objects class more = payload.Str (codes "integer out of range") ∷ payload.Tuple (object 13 ∷ []) ∷ error_entry class ∷ more
 
--- the objects of a run that raises, where the function has this entry
-abbrev pub raising_by : Payload → ℕ → List Payload → List Payload
-raising_by f class more = objects_of f greatest (pos 1) (error_objects class more)
+-- the objects of a run that raises, where the function has this name and this entry
+abbrev pub raising_by : Name → Payload → ℕ → List Payload → List Payload
+raising_by name f class more = objects_of name f greatest (pos 1) (error_objects class more)
 
 -- the same of the script's function
 abbrev pub raising_objects : ℕ → List Payload → List Payload
-raising_objects class more = raising_by (function_entry (codes "f") 0) class more
+raising_objects class more = raising_by (codes "f") (function_entry (codes "f") 0) class more
 
 -- the objects where OverflowError is raised
 abbrev pub overflow_objects : List Payload
@@ -167,7 +172,7 @@ overflow_objects = raising_objects 2 []
 
 -- the n-th drive raises an exception, and these events follow
 abbrev pub raises : ℕ → PyBaseExceptionRef → List Event → List Event
-raises n e events = entered n (asked n (object 8) (object 9) (raised n e events))
+raises n e events = entered n (asked n (object 10) (object 11) (raised n e events))
 
 -- the run in which the drive raises this exception
 abbrev pub overflow_by : PyBaseExceptionRef → List Event

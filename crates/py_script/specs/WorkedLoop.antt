@@ -36,9 +36,13 @@ trees = function ∷ []
 abbrev pub drives : List Drive
 drives = record { function = codes "f"; args = [] } ∷ []
 
--- f has number 7, the True that is tested 8, and the answer 9
+-- the objects of a run of f, the frame of whose activation has number 10, and more
+abbrev pub objects_with : List Payload → List Payload
+objects_with more = loaded (codes "f") (function_entry (codes "f") 0) (payload.Frame 0 ∷ more)
+
+-- the True that is tested has number 11, and the answer 12
 abbrev pub objects_by : Bool → List Payload
-objects_by told = loaded (function_entry (codes "f") 0) (payload.Bool true ∷ payload.Bool told ∷ [])
+objects_by told = objects_with (payload.Bool true ∷ payload.Bool told ∷ [])
 
 -- the objects of the run
 abbrev pub objects : List Payload
@@ -54,7 +58,7 @@ round at events = event.Round 1 at ∷ events
 
 -- the truth of the first True is asked for at the third unit, and the second object answers
 abbrev pub tested : List Event → List Event
-tested events = event.Ask 1 (Truth (object 8)) None 2 ∷ event.Got 1 (got.Value (object 9)) ∷ events
+tested events = event.Ask 1 (Truth (object 11)) None 2 ∷ event.Got 1 (got.Value (object 12)) ∷ events
 
 -- the run as far as the second round: seven events
 abbrev pub events : List Event
@@ -82,15 +86,15 @@ unknown_trees = function_of (first 2 (show (atom.Name (codes "z"))) nothing) ∷
 
 -- the entry of an exception of the class with this number
 abbrev pub unknown_error : ℕ → Payload
-unknown_error class = payload.Exception (record (error_body class) { args = object 9 })
+unknown_error class = payload.Exception (record (error_body class) { args = object 12 })
 
--- the objects that the raise adds: the text 8, a tuple of it, 9, and the exception 10
+-- the objects that the raise adds: the text 11, a tuple of it, 12, and the exception 13
 abbrev pub raised_objects : ℕ → List Payload
-raised_objects class = payload.Str (codes "name 'z' is not defined") ∷ payload.Tuple (object 8 ∷ []) ∷ unknown_error class ∷ []
+raised_objects class = payload.Str (codes "name 'z' is not defined") ∷ payload.Tuple (object 11 ∷ []) ∷ unknown_error class ∷ []
 
 -- the objects of a run that raises
 abbrev pub unknown_by : ℕ → List Payload
-unknown_by class = loaded (function_entry (codes "f") 0) (raised_objects class)
+unknown_by class = objects_with (raised_objects class)
 
 -- the objects where NameError is raised
 abbrev pub unknown_objects : List Payload
@@ -102,11 +106,11 @@ asked_in d events = entered (event.Ask 1 (Global d (codes "z")) None 0 ∷ event
 
 -- in the dict of the globals
 abbrev pub asked : List Event → List Event
-asked events = asked_in (object 6) events
+asked events = asked_in (object 9) events
 
 -- the answer raises, which ends the body and the drive
 abbrev pub unknown_events : List Event
-unknown_events = asked (event.Got 1 (got.Raise (exception 10)) ∷ event.End 1 (ending.Raise (exception 10)) 0 ∷ event.Result 1 (answer.Raises (exception 10)) ∷ [])
+unknown_events = asked (event.Got 1 (got.Raise (exception 13)) ∷ event.End 1 (ending.Raise (exception 13)) 0 ∷ event.Result 1 (answer.Raises (exception 13)) ∷ [])
 
 -- it gives a value
 abbrev pub unknown_given : List Event

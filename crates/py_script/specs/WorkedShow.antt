@@ -42,13 +42,13 @@ drive = record (call_of (pos 33) (pos 12)) { function = codes "g" }
 abbrev pub drives : List Drive
 drives = drive ∷ []
 
--- the objects of the run; the sum has number 10, and 11 is the None that is returned
+-- the objects of the run; the sum has number 13, and 14 is the None that is returned
 abbrev pub objects : List Payload
-objects = objects_of (function_entry (codes "g") 0) (pos 33) (pos 12) (payload.Int (pos 45) ∷ payload.None ∷ [])
+objects = objects_of (codes "g") (function_entry (codes "g") 0) (pos 33) (pos 12) (payload.Int (pos 45) ∷ payload.None ∷ [])
 
 -- the drive calls g, whose body gets the sum of its arguments; these events follow
 abbrev pub summed : List Event → List Event
-summed events = entered 1 (asked 1 (object 8) (object 9) (event.Got 1 (got.Value (object 10)) ∷ events))
+summed events = entered 1 (asked 1 (object 10) (object 11) (event.Got 1 (got.Value (object 13)) ∷ events))
 
 -- the body shows this object, at its sixth unit
 abbrev pub shows : Obj → List Event → List Event
@@ -68,15 +68,15 @@ events_by v a r = summed (shows v (answered a (ended r)))
 
 -- the run of the script
 abbrev pub events : List Event
-events = events_by (object 10) (object 0) (object 11)
+events = events_by (object 13) (object 0) (object 14)
 
 -- nothing is shown
 abbrev pub without_show : List Event
-without_show = summed (ended (object 11))
+without_show = summed (ended (object 14))
 
 -- the sum is shown twice
 abbrev pub shown_twice : List Event
-shown_twice = summed (shows (object 10) (answered (object 0) (shows (object 10) (answered (object 0) (ended (object 11))))))
+shown_twice = summed (shows (object 13) (answered (object 0) (shows (object 13) (answered (object 0) (ended (object 14))))))
 
 -- a drive that adds 1 to the greatest whole number
 abbrev pub overflowing : Drive
@@ -84,8 +84,8 @@ overflowing = record overflowing_f { function = codes "g" }
 
 -- the objects where OverflowError is raised
 abbrev pub overflow_objects : List Payload
-overflow_objects = raising_by (function_entry (codes "g") 0) 2 []
+overflow_objects = raising_by (codes "g") (function_entry (codes "g") 0) 2 []
 
 -- the body gets an exception, and shows its first argument behind that
 abbrev pub shown_behind_raise : List Event
-shown_behind_raise = entered 1 (asked 1 (object 8) (object 9) (event.Got 1 (got.Raise (exception 12)) ∷ shows (object 8) []))
+shown_behind_raise = entered 1 (asked 1 (object 10) (object 11) (event.Got 1 (got.Raise (exception 15)) ∷ shows (object 10) []))

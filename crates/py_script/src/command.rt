@@ -32,6 +32,9 @@ pub fn run_script<S: Source, K: Sink>(
         Ok(()) => write_text(alloc, sink, journal),
         Err(VmFault::OutOfTurns) => Err(ScriptFault::OutOfTurns(write_text(alloc, sink, journal)?)),
         Err(VmFault::NoMemory) => Err(ScriptFault::NoMemory(journal)),
+        // A session is run once, and the raise of a drive is its answer.
+        Err(VmFault::Failed) => unreachable!(),
+        Err(VmFault::Exception(_)) => unreachable!(),
     }
 }
 

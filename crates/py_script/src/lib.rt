@@ -12,6 +12,7 @@ mod str_of;
 mod text;
 mod words;
 mod worked;
+mod worked_call;
 mod worked_loop;
 mod worked_show;
 mod write;
@@ -29,6 +30,7 @@ pub use py_vm::Journal;
 pub use text::journal_text;
 pub use words::{Command, Words, command_of};
 pub use worked::worked_journals;
+pub use worked_call::worked_calls;
 pub use worked_loop::worked_loops;
 pub use worked_show::worked_shows;
 

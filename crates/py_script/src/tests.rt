@@ -1,6 +1,7 @@
 //! Texts and notes at worked values; representations are those that Python prints.
 
 mod branches;
+mod calls;
 mod names;
 mod operators;
 mod runs;
@@ -237,12 +238,7 @@ fn each_outcome_has_its_note(rt: HostRuntime) -> Result<(), Fail> {
     let empty = journal(alloc, Vec::new(alloc))?;
     let ran = note(alloc, CommandResult::Ran(empty))?;
     assert_eq!(rt; ran.bytes(), b"".as_slice());
-    Ok(())
-}
-
-#[test]
-fn a_note_ends_at_a_fault(rt: HostRuntime) -> Result<(), Fail> {
-    let alloc = rt.alloc();
+    // A note ends at a fault.
     let mut fails = Vec::new(alloc);
     fails.push(2u64)?;
     let mut notes = SinkMemory::new(alloc, fails, 5, 100)?;

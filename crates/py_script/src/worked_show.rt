@@ -20,17 +20,17 @@ pub fn worked_shows()
     ensures is_whole { IsDone 1 events }
     ensures text { events_text objects events ≡ codes "45\n1 returns None\n" }
     // Any None answers the show, and any None is returned.
-    ensures any_none_is_returned { (a : Obj) → (r : Obj) → HasPayload objects a payload.None → HasPayload objects r payload.None → IsRunOf trees drives objects (events_by (object 10) a r) }
+    ensures any_none_is_returned { (a : Obj) → (r : Obj) → HasPayload objects a payload.None → HasPayload objects r payload.None → IsRunOf trees drives objects (events_by (object 13) a r) }
     // The sum is shown once, None answers that, and None is returned.
     ensures no_show_dropped { IsRunOf trees drives objects without_show → ⊥ }
     ensures no_show_twice { IsRunOf trees drives objects shown_twice → ⊥ }
-    ensures no_other_value_shown { IsRunOf trees drives objects (events_by (object 8) (object 0) (object 11)) → ⊥ }
-    ensures no_answer_but_none { IsRunOf trees drives objects (events_by (object 10) (object 10) (object 11)) → ⊥ }
-    ensures no_end_by_the_shown_value { IsRunOf trees drives objects (events_by (object 10) (object 0) (object 10)) → ⊥ }
+    ensures no_other_value_shown { IsRunOf trees drives objects (events_by (object 10) (object 0) (object 14)) → ⊥ }
+    ensures no_answer_but_none { IsRunOf trees drives objects (events_by (object 13) (object 13) (object 14)) → ⊥ }
+    ensures no_end_by_the_shown_value { IsRunOf trees drives objects (events_by (object 13) (object 0) (object 13)) → ⊥ }
     // A sum out of range raises, and the raise ends the body where it asked.
-    ensures raise_ends { IsRunOf trees (overflowing ∷ []) overflow_objects (overflow_by (exception 12)) }
-    ensures raise_is_whole { IsDone 1 (overflow_by (exception 12)) }
-    ensures raise_text { events_text overflow_objects (overflow_by (exception 12)) ≡ codes "1 raises OverflowError: integer out of range\n" }
+    ensures raise_ends { IsRunOf trees (overflowing ∷ []) overflow_objects (overflow_by (exception 15)) }
+    ensures raise_is_whole { IsDone 1 (overflow_by (exception 15)) }
+    ensures raise_text { events_text overflow_objects (overflow_by (exception 15)) ≡ codes "1 raises OverflowError: integer out of range\n" }
     ensures no_statement_behind_a_raise { IsRunOf trees (overflowing ∷ []) overflow_objects shown_behind_raise → ⊥ }
     // None is shown without a line.
     ensures none_is_not_shown { events_text objects (shows (object 0) []) ≡ [] }

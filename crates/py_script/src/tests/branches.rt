@@ -5,8 +5,9 @@ use super::scripts::{assert_all_write, assert_writes};
 use std::test::Fail;
 
 #[test]
-fn a_branch_is_taken_by_the_truth_of_its_value(rt: HostRuntime) -> Result<(), Fail> {
-    let rows: [(&[u8], &str); 5] = [
+fn lines_run_while_their_value_is_true(rt: HostRuntime) -> Result<(), Fail> {
+    let rows: [(&[u8], &str); 12] = [
+        // A branch is taken by the truth of its value.
         (
             b"def f v\nif v\nreturn 1\nelse\nreturn 2\nend\nend\ncall f None\ncall f True\ncall f False\ncall f 0\ncall f 1\ncall f -1\ncall f ''\ncall f 'a'\n",
             "1 returns 2\n2 returns 1\n3 returns 2\n4 returns 2\n5 returns 1\n6 returns 1\n7 returns 2\n8 returns 1\n",
@@ -27,13 +28,7 @@ fn a_branch_is_taken_by_the_truth_of_its_value(rt: HostRuntime) -> Result<(), Fa
             b"def f a\nif a\nelse\nshow 1\nend\nend\ncall f 0\ncall f 1\n",
             "1\n1 returns None\n2 returns None\n",
         ),
-    ];
-    Ok(assert_all_write(&rt, rt.alloc(), &rows)?)
-}
-
-#[test]
-fn a_loop_goes_on_while_its_value_is_true(rt: HostRuntime) -> Result<(), Fail> {
-    let rows: [(&[u8], &str); 7] = [
+        // A loop goes on while its value is true.
         (
             b"def f n\nwhile n\nshow n\nn = (sub n 1)\nend\nreturn n\nend\ncall f 3\ncall f 0\n",
             "3\n2\n1\n1 returns 0\n2 returns 0\n",

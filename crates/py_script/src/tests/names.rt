@@ -4,8 +4,9 @@ use super::scripts::assert_all_write;
 use std::test::Fail;
 
 #[test]
-fn a_name_that_no_line_binds_is_a_function(rt: HostRuntime) -> Result<(), Fail> {
-    let rows: [(&[u8], &str); 5] = [
+fn a_name_is_a_local_or_a_function(rt: HostRuntime) -> Result<(), Fail> {
+    let rows: [(&[u8], &str); 9] = [
+        // A name that no line binds is a function.
         (
             b"def f\nreturn f\nend\ncall f\n",
             "1 returns <function f>\n",
@@ -26,13 +27,7 @@ fn a_name_that_no_line_binds_is_a_function(rt: HostRuntime) -> Result<(), Fail> 
             b"def f\nx = (add y z)\nend\ncall f\n",
             "1 raises NameError: name 'y' is not defined\n",
         ),
-    ];
-    Ok(assert_all_write(&rt, rt.alloc(), &rows)?)
-}
-
-#[test]
-fn a_local_is_unset_until_a_line_binds_it(rt: HostRuntime) -> Result<(), Fail> {
-    let rows: [(&[u8], &str); 4] = [
+        // A local is unset until a line binds it.
         (
             b"def f\nshow y\ny = 1\nend\ncall f\n",
             "1 raises UnboundLocalError: local variable 'y' referenced before assignment\n",

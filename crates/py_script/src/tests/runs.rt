@@ -4,7 +4,6 @@ ghost use Rattle.std.specs.Prelude.{◌≤◌};
 
 use crate::*;
 use py_code::NoMemory;
-use py_objects::Event;
 use std::alloc::Global;
 use std::test::Fail;
 
@@ -33,7 +32,7 @@ fn source(alloc: Global, bytes: &[u8], fails: &[u64], most: usize) -> Result<Sou
 fn sink(alloc: Global, fails: &[u64], most: usize) -> Result<SinkMemory, NoMemory>
     requires { 1 ≤ most }
 {
-    SinkMemory::new(alloc, fails.to_vec(alloc)?, most, 4000)
+    SinkMemory::new(alloc, fails.to_vec(alloc)?, most, 40_000)
 }
 
 /// What the words come to over a source and a sink.
@@ -82,87 +81,67 @@ pub(super) fn run(alloc: Global, script: &[u8]) -> Result<Outcome, NoMemory> {
 }
 
 #[test]
-fn other_words_read_and_write_nothing(rt: HostRuntime) -> Result<(), Fail> {
+fn a_command_does_what_its_words_say(rt: HostRuntime) -> Result<(), Fail> {
     let alloc = rt.alloc();
-    let mut source = source(alloc, SUM, &[], 100)?;
-    let rows: [&[&str]; 13] = [
-        &[],
-        &[""],
-        &["Run"],
-        &["runs"],
-        &["make"],
-        &["7"],
-        &["run", ""],
-        &["run", "+7"],
-        &["run", "-7"],
-        &["run", "7x"],
-        &["run", "18446744073709551616"],
-        &["runs", "7"],
-        &["run", "7", "7"],
+    let rows: [(&[u8], &[&str], u8, &str, &[u8]); 20] = [
+        (SUM, &[], 64, "", USAGE),
+        (SUM, &[""], 64, "", USAGE),
+        (SUM, &["Run"], 64, "", USAGE),
+        (SUM, &["runs"], 64, "", USAGE),
+        (SUM, &["make"], 64, "", USAGE),
+        (SUM, &["7"], 64, "", USAGE),
+        (SUM, &["run", ""], 64, "", USAGE),
+        (SUM, &["run", "+7"], 64, "", USAGE),
+        (SUM, &["run", "-7"], 64, "", USAGE),
+        (SUM, &["run", "7x"], 64, "", USAGE),
+        (SUM, &["run", "18446744073709551616"], 64, "", USAGE),
+        (SUM, &["runs", "7"], 64, "", USAGE),
+        (SUM, &["run", "7", "7"], 64, "", USAGE),
+        (b"", &["run", "0"], 0, "", b""),
+        (SUM, &["run", "0"], 4, "", b"out of turns\n"),
+        (ENDLESS, &["run", "7"], 4, "", b"out of turns\n"),
+        (SUM, &["run", "6"], 4, "", b"out of turns\n"),
+        (SUM, &["run", "7"], 0, "1 returns 45\n", b""),
+        (SUM, &["run", "007"], 0, "1 returns 45\n", b""),
+        (
+            SUM,
+            &["run", "18446744073709551615"],
+            0,
+            "1 returns 45\n",
+            b"",
+        ),
     ];
-    for words in rows {
+    for (script, words, status, written, note) in rows {
+        let mut source = source(alloc, script, &[], 100)?;
         let text = sink(alloc, &[], 5)?;
         let outcome = command_over(alloc, words, &mut source, text)?;
-        assert_eq!(rt; outcome.status, 64);
-        assert_eq!(rt; outcome.text.bytes(), b"".as_slice());
-        assert_eq!(rt; outcome.notes.bytes(), USAGE);
+        assert_eq!(rt; outcome.status, status);
+        assert_eq!(rt; outcome.text.bytes(), written.as_bytes());
+        assert_eq!(rt; outcome.notes.bytes(), note);
     }
-    assert_eq!(rt; read_bytes(alloc, &mut source)?.as_slice(), SUM);
     Ok(())
 }
 
 #[test]
-fn a_command_may_say_its_turns(rt: HostRuntime) -> Result<(), Fail> {
+fn a_fault_of_a_stream_is_noted(rt: HostRuntime) -> Result<(), Fail> {
     let alloc = rt.alloc();
-    let rows: [(&[u8], &str, u8, &str, &str); 7] = [
-        (b"", "0", 0, "", ""),
-        (SUM, "0", 4, "", "out of turns\n"),
-        (ENDLESS, "7", 4, "", "out of turns\n"),
-        (SUM, "6", 4, "", "out of turns\n"),
-        (SUM, "7", 0, "1 returns 45\n", ""),
-        (SUM, "007", 0, "1 returns 45\n", ""),
-        (SUM, "18446744073709551615", 0, "1 returns 45\n", ""),
+    // The read that fails: the first, one in mid-stream, and the one that would find the end. The write that fails, at one byte a
+    // write: the front of the text was taken, and the last one comes behind it.
+    let rows: [(u64, u64, u8, &[u8], &[u8]); 7] = [
+        (1, 100, 5, b"", b"read fault\n"),
+        (3, 100, 5, b"", b"read fault\n"),
+        (11, 100, 5, b"", b"read fault\n"),
+        (100, 1, 6, b"", b"write fault\n"),
+        (100, 2, 6, b"1", b"write fault\n"),
+        (100, 13, 6, b"1 returns 45", b"write fault\n"),
+        (100, 14, 0, b"1 returns 45\n", b""),
     ];
-    for (script, turns, status, text, note) in rows {
-        let outcome = run_in_turns(alloc, script, turns)?;
-        assert_eq!(rt; outcome.status, status, "in {turns}");
-        assert_eq!(rt; outcome.text.bytes(), text.as_bytes());
-        assert_eq!(rt; outcome.notes.bytes(), note.as_bytes());
-    }
-    Ok(())
-}
-
-#[test]
-fn a_read_that_fails_is_noted(rt: HostRuntime) -> Result<(), Fail> {
-    let alloc = rt.alloc();
-    // The read that fails: the first, one in mid-stream, and the one that would find the end.
-    for call in [1u64, 3, 11] {
-        let mut source = source(alloc, SUM, &[call], 5)?;
-        let text = sink(alloc, &[], 5)?;
+    for (read, write, status, taken, note) in rows {
+        let mut source = source(alloc, SUM, &[read], 5)?;
+        let text = sink(alloc, &[write], 1)?;
         let outcome = run_over(alloc, &mut source, text)?;
-        assert_eq!(rt; outcome.status, 5, "at {call}");
-        assert_eq!(rt; outcome.text.bytes(), b"".as_slice());
-        assert_eq!(rt; outcome.notes.bytes(), b"read fault\n".as_slice());
-    }
-    Ok(())
-}
-
-#[test]
-fn a_write_that_fails_leaves_the_front_of_the_text(rt: HostRuntime) -> Result<(), Fail> {
-    let alloc = rt.alloc();
-    let whole = b"1 returns 45\n".as_slice();
-    for taken in 0..14usize {
-        // One byte a call: the last call that is to fail comes behind the text.
-        let (status, note) = if taken < 13 {
-            (6, b"write fault\n".as_slice())
-        } else {
-            (0, b"".as_slice())
-        };
-        let mut source = source(alloc, SUM, &[], 100)?;
-        let text = sink(alloc, &[taken as u64 + 1], 1)?;
-        let outcome = run_over(alloc, &mut source, text)?;
-        assert_eq!(rt; outcome.status, status, "at {taken}");
-        assert_eq!(rt; outcome.text.bytes(), &whole[..taken]);
+        assert_eq!(rt; outcome.status, status, "at {read} and {write}");
+        assert_eq!(rt; outcome.text.bytes(), taken);
         assert_eq!(rt; outcome.notes.bytes(), note);
     }
     Ok(())
@@ -179,70 +158,6 @@ fn a_byte_above_the_limit_is_too_long(rt: HostRuntime) -> Result<(), Fail> {
         let outcome = run_over(alloc, &mut source, text)?;
         assert_eq!(rt; outcome.status, status);
         assert_eq!(rt; outcome.notes.bytes(), note);
-    }
-    Ok(())
-}
-
-/// Whether a run in at most so many turns is whole, and how many events it has.
-fn run_in(alloc: Global, turns: u64, text: &mut SinkMemory) -> Result<(bool, usize), NoMemory> {
-    let mut source = source(alloc, SUM, &[], 100)?;
-    match run_script(alloc, &mut source, text, turns) {
-        Ok(journal) => Ok((true, journal.events.len())),
-        Err(ScriptFault::OutOfTurns(journal)) => Ok((false, journal.events.len())),
-        Err(_) => Err(NoMemory),
-    }
-}
-
-/// What kind of event it is.
-fn kind(event: &Event) -> &'static str {
-    match event {
-        Event::Drive { .. } => "drive",
-        Event::Result { .. } => "result",
-        Event::Make { .. } => "make",
-        Event::Resume { .. } => "resume",
-        Event::Ask { .. } => "ask",
-        Event::Got { .. } => "got",
-        Event::Round { .. } => "round",
-        Event::Yield { .. } => "yield",
-        Event::End { .. } => "end",
-    }
-}
-
-#[test]
-fn each_round_of_a_loop_is_told_and_tested(rt: HostRuntime) -> Result<(), Fail> {
-    let alloc = rt.alloc();
-    let mut source = source(alloc, ENDLESS, &[], 100)?;
-    let mut text = sink(alloc, &[], 5)?;
-    let journal = match run_script(alloc, &mut source, &mut text, 7) {
-        Err(ScriptFault::OutOfTurns(journal)) => journal,
-        Err(_) => return Err(Fail::from(NoMemory)),
-        Ok(_) => panic!(rt; "a loop without an end ended"),
-    };
-    let kinds = ["drive", "make", "resume", "round", "ask", "got", "round"];
-    assert_eq!(rt; journal.events.len(), kinds.len());
-    for (event, expected) in journal.events.as_slice().iter().zip(kinds.as_slice()) {
-        assert_eq!(rt; kind(event), *expected);
-    }
-    Ok(())
-}
-
-#[test]
-fn a_run_is_cut_at_its_turns(rt: HostRuntime) -> Result<(), Fail> {
-    let alloc = rt.alloc();
-    let whole = b"1 returns 45\n".as_slice();
-    for (turns, ran, events, written) in [
-        (0, false, 0, 0),
-        (6, false, 6, 0),
-        (7, true, 7, 13),
-        (8, true, 7, 13),
-    ] {
-        let mut text = sink(alloc, &[], 5)?;
-        assert_eq!(rt;
-            run_in(alloc, turns, &mut text)?,
-            (ran, events),
-            "in {turns}"
-        );
-        assert_eq!(rt; text.bytes(), &whole[..written]);
     }
     Ok(())
 }

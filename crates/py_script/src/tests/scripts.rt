@@ -33,8 +33,9 @@ pub(super) fn assert_all_write(
 }
 
 #[test]
-fn a_function_returns_a_value(rt: HostRuntime) -> Result<(), Fail> {
-    let rows: [(&[u8], &str); 9] = [
+fn a_script_writes_its_text(rt: HostRuntime) -> Result<(), Fail> {
+    let rows: [(&[u8], &str); 35] = [
+        // A function returns a value.
         (b"", ""),
         (b"def f\nreturn 7\nend\n", ""),
         (b"def f\nreturn 7\nend\ncall f\n", "1 returns 7\n"),
@@ -56,24 +57,12 @@ fn a_function_returns_a_value(rt: HostRuntime) -> Result<(), Fail> {
             b"def f a\nreturn a\nend\ncall f None\ncall f True\ncall f False\ncall f ''\n",
             "1 returns None\n2 returns True\n3 returns False\n4 returns ''\n",
         ),
-    ];
-    Ok(assert_all_write(&rt, rt.alloc(), &rows)?)
-}
-
-#[test]
-fn a_body_without_a_return_returns_none(rt: HostRuntime) -> Result<(), Fail> {
-    let rows: [(&[u8], &str); 4] = [
+        // A body without a return returns None.
         (b"def f\nend\ncall f\n", "1 returns None\n"),
         (b"def f\npass\nend\ncall f\n", "1 returns None\n"),
         (b"def f a\nx = a\nend\ncall f 1\n", "1 returns None\n"),
         (b"def f a\nshow a\nend\ncall f 1\n", "1\n1 returns None\n"),
-    ];
-    Ok(assert_all_write(&rt, rt.alloc(), &rows)?)
-}
-
-#[test]
-fn what_is_shown_has_a_line_unless_it_is_none(rt: HostRuntime) -> Result<(), Fail> {
-    let rows: [(&[u8], &str); 5] = [
+        // What is shown has a line, unless it is None.
         (
             b"def f\nshow 1\nshow 'two'\nshow True\nreturn 4\nend\ncall f\n",
             "1\n'two'\nTrue\n1 returns 4\n",
@@ -94,13 +83,7 @@ fn what_is_shown_has_a_line_unless_it_is_none(rt: HostRuntime) -> Result<(), Fai
             b"def f a\nshow a\nend\ncall f 1\ncall f 2\n",
             "1\n1 returns None\n2\n2 returns None\n",
         ),
-    ];
-    Ok(assert_all_write(&rt, rt.alloc(), &rows)?)
-}
-
-#[test]
-fn a_name_has_the_value_that_it_was_given_last(rt: HostRuntime) -> Result<(), Fail> {
-    let rows: [(&[u8], &str); 5] = [
+        // A name has the value that it was given last.
         (
             b"def f a\na = 2\nreturn a\nend\ncall f 1\n",
             "1 returns 2\n",
@@ -118,13 +101,7 @@ fn a_name_has_the_value_that_it_was_given_last(rt: HostRuntime) -> Result<(), Fa
             b"def f call\ncall = (add call 1)\nreturn call\nend\ncall f 1\n",
             "1 returns 2\n",
         ),
-    ];
-    Ok(assert_all_write(&rt, rt.alloc(), &rows)?)
-}
-
-#[test]
-fn a_drive_calls_the_function_that_it_names(rt: HostRuntime) -> Result<(), Fail> {
-    let rows: [(&[u8], &str); 2] = [
+        // A drive calls the function that it names.
         (
             b"def f a\nreturn a\nend\ndef g a\nx = (add a a)\nreturn x\nend\ncall g 4\ncall f 4\ncall g 5\n",
             "1 returns 8\n2 returns 4\n3 returns 10\n",
@@ -133,67 +110,39 @@ fn a_drive_calls_the_function_that_it_names(rt: HostRuntime) -> Result<(), Fail>
             b"def f\nreturn 1\nend\ncall f\ndef g\nreturn 2\nend\ncall g\ncall f\n",
             "1 returns 1\n2 returns 2\n3 returns 1\n",
         ),
+        // Blanks, comments and line ends change nothing.
+        (b"", ""),
+        (b"\n \t\n\r\n", ""),
+        (b"# nothing\n  # else\n", ""),
+        (
+            b"def f a\r\n\r\nreturn a\r\nend\r\ncall f 5\r\n",
+            "1 returns 5\n",
+        ),
+        (
+            b"\tdef\tf  a \n\treturn\ta\t\n end\t\n\tcall\tf\t6\n",
+            "1 returns 6\n",
+        ),
+        (b"def f\nreturn 8\nend\ncall f", "1 returns 8\n"),
+        (
+            b"# f\ndef f a\n# caf\xc3\xa9\nreturn a\nend\n#\ncall f 9\n#",
+            "1 returns 9\n",
+        ),
+        // What comes of a `do` is dropped.
+        (
+            b"def f a\ndo (add a 1)\nreturn a\nend\ncall f 1\n",
+            "1 returns 1\n",
+        ),
+        (
+            b"def f a\ndo (sub a 1)\nend\ncall f 'a'\n",
+            "1 raises TypeError: '-' not supported between instances of 'str' and 'int'\n",
+        ),
+        // A function equals itself alone.
+        (
+            b"def f\nend\ndef g\nend\ndef h\nx = (eq f f)\nshow x\nx = (eq f g)\nshow x\nx = (eq f 1)\nshow x\ndo (lt f f)\nend\ncall h\n",
+            "True\nFalse\nFalse\n1 raises TypeError: '<' not supported between instances of 'function' and 'function'\n",
+        ),
     ];
     Ok(assert_all_write(&rt, rt.alloc(), &rows)?)
-}
-
-#[test]
-fn add_is_exact_within_128_bits(rt: HostRuntime) -> Result<(), Fail> {
-    const ADD: &str = "def f a b\nx = (add a b)\nshow 1\nreturn x\nend\ncall f ";
-    let alloc = rt.alloc();
-    let rows = [
-        ("33 12", "1\n1 returns 45\n"),
-        ("True True", "1\n1 returns 2\n"),
-        ("False -3", "1\n1 returns -3\n"),
-        ("'' 'it'", "1\n1 returns 'it'\n"),
-        (
-            "170141183460469231731687303715884105726 1",
-            "1\n1 returns 170141183460469231731687303715884105727\n",
-        ),
-        (
-            "170141183460469231731687303715884105727 1",
-            "1 raises OverflowError: integer out of range\n",
-        ),
-        (
-            "-170141183460469231731687303715884105727 -1",
-            "1\n1 returns -170141183460469231731687303715884105728\n",
-        ),
-        (
-            "-170141183460469231731687303715884105728 -1",
-            "1 raises OverflowError: integer out of range\n",
-        ),
-        (
-            "170141183460469231731687303715884105727 -170141183460469231731687303715884105728",
-            "1\n1 returns -1\n",
-        ),
-        (
-            "1 'a'",
-            "1 raises TypeError: '+' not supported between instances of 'int' and 'str'\n",
-        ),
-        (
-            "None True",
-            "1 raises TypeError: '+' not supported between instances of 'NoneType' and 'bool'\n",
-        ),
-    ];
-    for (args, text) in rows {
-        let mut script = String::new(alloc);
-        write!(script, "{ADD}{args}\n")?;
-        assert_writes(&rt, alloc, script.as_bytes(), text)?;
-    }
-    Ok(())
-}
-
-#[test]
-fn drives_are_numbered_in_order(rt: HostRuntime) -> Result<(), Fail> {
-    let alloc = rt.alloc();
-    let mut script = String::from_str(alloc, "def f a\nreturn a\nend\n")?;
-    let mut text = String::new(alloc);
-    for drive in 1..51u64 {
-        write!(script, "call f {}\n", drive * 1000)?;
-        write!(text, "{drive} returns {}\n", drive * 1000)?;
-    }
-    assert_writes(&rt, alloc, script.as_bytes(), text.as_str())?;
-    Ok(())
 }
 
 /// A run of the script has so many events, and in fewer turns it has to write the text of the last row that they reach.
@@ -228,11 +177,9 @@ fn assert_stops(
 
 #[test]
 fn a_run_stops_where_its_turns_end(rt: HostRuntime) -> Result<(), Fail> {
-    // Eleven events of a drive that returns, then nine of one that raises.
-    const SCRIPT: &[u8] =
-        b"def f a b\nshow a\nx = (add a b)\nshow x\nend\ncall f 1 2\ncall f 170141183460469231731687303715884105727 1\n";
-    // How many events a run has at least whose text is this.
-    let rows: [(u64, &str); 6] = [
+    let alloc = rt.alloc();
+    // Eleven events of a drive that returns, then nine of one that raises: how many events a run has at least whose text is this.
+    let raises: [(u64, &str); 6] = [
         (0, ""),
         (4, "1\n"),
         (8, "1\n3\n"),
@@ -246,49 +193,56 @@ fn a_run_stops_where_its_turns_end(rt: HostRuntime) -> Result<(), Fail> {
             "1\n3\n1 returns None\n170141183460469231731687303715884105727\n2 raises OverflowError: integer out of range\n",
         ),
     ];
-    Ok(assert_stops(&rt, rt.alloc(), SCRIPT, 20, &rows)?)
-}
-
-#[test]
-fn a_loop_stops_where_its_turns_end(rt: HostRuntime) -> Result<(), Fail> {
+    assert_stops(
+        &rt,
+        alloc,
+        b"def f a b\nshow a\nx = (add a b)\nshow x\nend\ncall f 1 2\ncall f 170141183460469231731687303715884105727 1\n",
+        20,
+        &raises,
+    )?;
     // Seven events of each round, three of the last test, and five around them.
-    const SCRIPT: &[u8] = b"def f n\nwhile n\nshow n\nn = (sub n 1)\nend\nend\ncall f 2\n";
-    let rows: [(u64, &str); 4] = [
+    let loops: [(u64, &str); 4] = [
         (0, ""),
         (7, "2\n"),
         (14, "2\n1\n"),
         (22, "2\n1\n1 returns None\n"),
     ];
-    Ok(assert_stops(&rt, rt.alloc(), SCRIPT, 22, &rows)?)
-}
-
-#[test]
-fn blanks_comments_and_line_ends_change_nothing(rt: HostRuntime) -> Result<(), Fail> {
-    let rows: [(&[u8], &str); 7] = [
-        (b"", ""),
-        (b"\n \t\n\r\n", ""),
-        (b"# nothing\n  # else\n", ""),
+    assert_stops(
+        &rt,
+        alloc,
+        b"def f n\nwhile n\nshow n\nn = (sub n 1)\nend\nend\ncall f 2\n",
+        22,
+        &loops,
+    )?;
+    // Six events up to the call, three of the callee, and five behind it.
+    let calls: [(u64, &str); 3] = [(0, ""), (11, "7\n"), (14, "7\n1 returns 7\n")];
+    assert_stops(
+        &rt,
+        alloc,
+        b"def g a\nreturn a\nend\ndef f\nx = (call g 7)\nshow x\nreturn x\nend\ncall f\n",
+        14,
+        &calls,
+    )?;
+    // Two events of a drive that is refused, then five of one that isn't.
+    let refused: [(u64, &str); 3] = [
+        (0, ""),
         (
-            b"def f a\r\n\r\nreturn a\r\nend\r\ncall f 5\r\n",
-            "1 returns 5\n",
+            2,
+            "1 raises TypeError: f() takes 0 positional arguments but 1 were given\n",
         ),
         (
-            b"\tdef\tf  a \n\treturn\ta\t\n end\t\n\tcall\tf\t6\n",
-            "1 returns 6\n",
-        ),
-        (b"def f\nreturn 8\nend\ncall f", "1 returns 8\n"),
-        (
-            b"# f\ndef f a\n# caf\xc3\xa9\nreturn a\nend\n#\ncall f 9\n#",
-            "1 returns 9\n",
+            7,
+            "1 raises TypeError: f() takes 0 positional arguments but 1 were given\n2 returns None\n",
         ),
     ];
-    Ok(assert_all_write(&rt, rt.alloc(), &rows)?)
+    assert_stops(&rt, alloc, b"def f\nend\ncall f 1\ncall f\n", 7, &refused)?;
+    Ok(())
 }
 
 #[test]
 fn what_is_no_script_is_noted_with_its_line(rt: HostRuntime) -> Result<(), Fail> {
     let alloc = rt.alloc();
-    let rows: [(&[u8], &str); 21] = [
+    let rows: [(&[u8], &str); 26] = [
         (b"def f\nbreak\nend\n", "malformed: line 2\n"),
         (b"def f\npass\n", "malformed: line 3\n"),
         (
@@ -304,8 +258,19 @@ fn what_is_no_script_is_noted_with_its_line(rt: HostRuntime) -> Result<(), Fail>
         (b"def TypeError\nend\n", "malformed: line 1\n"),
         (b"def f", "malformed: line 2\n"),
         (b"def f\nend\ndef f\nend\n", "malformed: line 3\n"),
-        (b"def f a\nend\n\ncall f 1 2\n", "malformed: line 4\n"),
-        (b"def f a\nend\ncall f f\n", "malformed: line 3\n"),
+        (b"def f a\nend\n\ncall f g\n", "malformed: line 4\n"),
+        (b"def f a\nend\ncall f $1\n", "malformed: line 3\n"),
+        (
+            b"def f a\nend\ncall f 1\ncall f $0\n",
+            "malformed: line 4\n",
+        ),
+        (
+            b"def f a\nend\ncall f 1\ncall f $2\n",
+            "malformed: line 4\n",
+        ),
+        (b"def f\nshow $1\nend\n", "malformed: line 2\n"),
+        (b"def f\nx = (call)\nend\n", "malformed: line 2\n"),
+        (b"def f\ndo (call TypeError)\nend\n", "malformed: line 2\n"),
         (b"def f\nend\ncall g\n", "malformed: line 3\n"),
         (b"while 1\nend\n", "malformed: line 1\n"),
         (b"def f\nelse\nend\n", "malformed: line 2\n"),

@@ -1,16 +1,14 @@
-use Rattle.std.proofs.Common.{◌≡◌, ◌++◌, [], length, map, take}
+use Rattle.std.proofs.Common.{◌≡◌, ◌++◌, map, take}
 use Rattle.py_grammar.specs.Script.{declared_tree}
-use Rattle.py_vm.specs.Machine.{events_of, objects_of, checked_of}
-use Rattle.py_vm.specs.Stands.{Stands}
+use Rattle.py_vm.specs.Machine.{objects_of, checked_of}
 use Rattle.py_script.specs.Loaded.{function_entries}
-use Rattle.py_script.specs.Session.{functions_from}
+use Rattle.py_script.specs.Session.{IsStill, IsWorking}
 use Rattle.py_script.proofs.session.add_functions.Given as goal
 
 abbrev pub invariant-loop-code : goal.invariant-loop-code
 invariant-loop-code l = record {
-  functions : l.functions ≡ functions_from (length (objects_of l.fn.vm)) (map declared_tree (take l.code l.declarations)) [];
+  working : IsWorking l.vm;
   objects : objects_of l.vm ≡ objects_of l.fn.vm ++ function_entries 0 (map declared_tree (take l.code l.declarations));
   codes : checked_of l.vm ≡ checked_of l.fn.vm;
-  events : events_of l.vm ≡ events_of l.fn.vm;
-  stands : Stands l.vm;
+  still : IsStill l.fn.vm l.vm;
 }

@@ -7,7 +7,7 @@ pub returns-clause-spelled : goal.returns-clause-spelled
 returns-clause-spelled c = spelled
 
 pub returns-clause-is_run : goal.returns-clause-is_run
-returns-clause-is_run c = any_none (object 0) (object 11) refl refl
+returns-clause-is_run c = any_none (object 0) (object 14) refl refl
 
 pub returns-clause-text : goal.returns-clause-text
 returns-clause-text c = text

@@ -1,0 +1,30 @@
+use Rattle.std.proofs.Common.{◌≡◌, ◌++◌, map, sym, subst}
+use Rattle.std.specs.Prelude.{All}
+use Rattle.py_check.specs.declared.annotated.Annotated.{Annotated}
+use Rattle.py_frame.specs.Fitting.{AreNames}
+use Rattle.py_grammar.specs.Script.{declared_tree}
+use Rattle.py_vm.specs.Codes.{Checked}
+use Rattle.py_vm.specs.Machine.{objects_of}
+use Rattle.py_script.specs.Loaded.{AreChecked, function_entries}
+use Rattle.py_script.proofs.Loading.{of_trees, codes_named}
+use Rattle.py_script.proofs.Loaded.{has_functions}
+use Rattle.py_script.proofs.session.load_functions.Goals as goal
+
+pub add_codes-requires-clause-named : goal.add_codes-requires-clause-named
+add_codes-requires-clause-named c =
+    let all : Checked = record { names = c.compile_all.new.names; codes = c.in_ok-codes.codes.items } in
+    let checked : AreChecked (map declared_tree c.as_slice.result.now) all = c.in_ok-codes.ensures in
+    subst (λ (k : Checked). All (λ (code : Annotated). AreNames k.names code.code) c.in_ok-codes.codes.items) (sym c.in_ok-vm.ensures.codes) (codes_named (map declared_tree c.as_slice.result.now) all checked)
+
+pub returns : goal.returns
+returns c =
+    let first = c.in_ok-vm.ensures in
+    let coded = c.in_ok-add_codes.ensures in
+    let made = c.in_ok-add_functions.ensures in
+    let before = c.add_codes.new.vm in
+    let vm = c.add_functions.new.vm in
+    let names = c.compile_all.new.names in
+    let codes = c.in_ok-codes.codes.items in
+    let checked = of_trees (λ ts. AreChecked ts (record { names = names; codes = codes })) _ _ c.as_slice.ensures c.in_ok-codes.ensures in
+    let objects = of_trees (λ ts. objects_of vm ≡ objects_of before ++ function_entries 0 ts) _ _ c.as_slice-2.ensures made.objects in
+    has_functions c.args.script.now c.in_ok-vm.vm before vm names codes first.codes first.objects first.events first.changes first.entered checked coded.codes coded.objects coded.still made.working objects made.codes made.still

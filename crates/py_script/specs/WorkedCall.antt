@@ -1,0 +1,130 @@
+-- A script whose function calls another one, worked by hand: its journal, and lists of events that look like one and are none.
+use Rattle.std.specs.Prelude.{ℕ, Some, None, List, [], ◌∷◌, pos, ◌≡◌, slice_get, length, codes}
+use Rattle.py_objects.specs.declared.payload.Payload.{Payload}
+use Rattle.py_objects.specs.declared.payload.Payload.TheVariants as payload
+use Rattle.py_objects.specs.declared.payload.FunctionBody.{FunctionBody}
+use Rattle.py_objects.specs.declared.request.Keywords.TheVariants as keywords
+use Rattle.py_objects.specs.declared.request.Request.TheVariants.{Call, Global}
+use Rattle.py_objects.specs.declared.event.ResumeHow.TheVariants.{Start}
+use Rattle.py_objects.specs.declared.event.GotAnswer.TheVariants as got
+use Rattle.py_objects.specs.declared.event.Ending.TheVariants as ending
+use Rattle.py_objects.specs.declared.event.DriveAnswer.TheVariants as answer
+use Rattle.py_objects.specs.declared.event.Event.{Event}
+use Rattle.py_objects.specs.declared.event.Event.TheVariants as event
+use Rattle.py_objects.specs.Objects.{Obj, HasPayload}
+use Rattle.py_body.specs.declared.atom.Atom.TheVariants as atom
+use Rattle.py_body.specs.declared.atom.Operator.TheVariants as operator
+use Rattle.py_body.specs.Tree.{Tree, operate, give, nothing, first}
+use Rattle.py_grammar.specs.declared.drive.DriveAtom.TheVariants as argument
+use Rattle.py_grammar.specs.Drive.{Drive}
+use Rattle.py_vm.specs.Calls.{Signature}
+use Rattle.py_vm.specs.Run.{Plan}
+use Rattle.py_script.specs.Worked.{object, exception, built_in, function_entry, error_body}
+
+-- the bytes of the script
+abbrev pub script : List ℕ
+script = codes "def g a b\nreturn a\nend\ndef f\nx = (call g 7 8)\nreturn x\nend\ncall f\ncall g $1 9\ncall f $1\n"
+
+-- def g a b / return a / end
+abbrev pub callee : Tree
+callee = record { name = codes "g"; params = codes "a" ∷ codes "b" ∷ []; suite = first 2 (give (atom.Name (codes "a"))) nothing; line = 1 }
+
+-- def f / x = (call g 7 8) / return x / end
+abbrev pub caller : Tree
+caller =
+    record {
+      name = codes "f";
+      params = [];
+      suite = first 5 (operate (Some (codes "x")) operator.Call (atom.Name (codes "g") ∷ atom.Int (pos 7) ∷ atom.Int (pos 8) ∷ [])) (first 6 (give (atom.Name (codes "x"))) nothing);
+      line = 4;
+    }
+
+-- what the script declares
+abbrev pub trees : List Tree
+trees = callee ∷ caller ∷ []
+
+-- what it drives: call f, call g $1 9, call f $1
+abbrev pub drives : List Drive
+drives =
+    record { function = codes "f"; args = [] } ∷ record { function = codes "g"; args = argument.Drive 1 ∷ argument.Int (pos 9) ∷ [] }
+    ∷ record { function = codes "f"; args = argument.Drive 1 ∷ [] } ∷ []
+
+-- the names of the functions, 9 and 10, the dict of the globals, 11, the frame of f, 12, its numbers, 13 and 14, the frame of g, 15,
+-- the number of the second drive, 16, and the frame of g again, 17
+abbrev pub values : List Payload → List Payload
+values more =
+    payload.Str (codes "g") ∷ payload.Str (codes "f") ∷ payload.Dict ((object 9, object 7) ∷ (object 10, object 8) ∷ []) ∷ payload.Frame 1 ∷ payload.Int (pos 7)
+    ∷ payload.Int (pos 8) ∷ payload.Frame 0 ∷ payload.Int (pos 9) ∷ payload.Frame 0 ∷ more
+
+-- what the refusal of the third drive adds: its text, 18, a tuple of it, 19, and the exception, 20
+abbrev pub refusal_objects : List Payload
+refusal_objects =
+    payload.Str (codes "f() takes 0 positional arguments but 1 were given") ∷ payload.Tuple (object 18 ∷ []) ∷ payload.Exception (record (error_body 4) { args = object 19 }) ∷ []
+
+-- the objects of the run: g has number 7 and f has 8
+abbrev pub objects : List Payload
+objects = built_in (function_entry (codes "g") 0 ∷ function_entry (codes "f") 1 ∷ values refusal_objects)
+
+-- the first drive calls f, whose body gets g and calls it with its two numbers; these events follow
+abbrev pub asking : List Event → List Event
+asking events =
+    event.Drive 1 ∷ event.Make 1 (object 8) [] ∷ event.Resume 1 Start ∷ event.Ask 1 (Global (object 11) (codes "g")) None 0 ∷ event.Got 1 (got.Value (object 7))
+    ∷ event.Ask 1 (Call (object 7) (object 13 ∷ object 14 ∷ []) keywords.None) None 3 ∷ events
+
+-- an activation of g is made with this number and these arguments
+abbrev pub making : ℕ → List Obj → List Event → List Event
+making n args events = asking (event.Make n (object 7) args ∷ events)
+
+-- it is entered
+abbrev pub entering : List Event → List Event
+entering events = making 2 (object 13 ∷ object 14 ∷ []) (event.Resume 2 Start ∷ events)
+
+-- g returns its first argument, at its second unit
+abbrev pub left : List Event → List Event
+left events = entering (event.End 2 (ending.Return (object 13)) 1 ∷ events)
+
+-- f gets it and returns it, and this is the result of the drive
+abbrev pub returned : Obj → List Event → List Event
+returned v events = left (event.Got 1 (got.Value (object 13)) ∷ event.End 1 (ending.Return (object 13)) 6 ∷ event.Result 1 (answer.Returns v) ∷ events)
+
+-- the second drive calls g with this object in front of 9, which is returned
+abbrev pub again : Obj → List Event → List Event
+again v events =
+    returned (object 13)
+    (event.Drive 2 ∷ event.Make 3 (object 7) (v ∷ object 16 ∷ []) ∷ event.Resume 3 Start ∷ event.End 3 (ending.Return v) 1 ∷ event.Result 2 (answer.Returns v) ∷ events)
+
+-- the run of the script: the third drive is refused
+abbrev pub events : List Event
+events = again (object 13) (event.Drive 3 ∷ event.Result 3 (answer.Raises (exception 20)) ∷ [])
+
+-- g is made twice
+abbrev pub made_twice : List Event
+made_twice = making 2 (object 13 ∷ object 14 ∷ []) (event.Make 3 (object 7) (object 13 ∷ object 14 ∷ []) ∷ [])
+
+-- f gets what g returns in front of the end of g
+abbrev pub answered_early : List Event
+answered_early = entering (event.Got 1 (got.Value (object 13)) ∷ event.End 2 (ending.Return (object 13)) 1 ∷ [])
+
+-- the activation of g has number 3
+abbrev pub numbered_on : List Event
+numbered_on = making 3 (object 13 ∷ object 14 ∷ []) []
+
+-- g is never entered
+abbrev pub never_entered : List Event
+never_entered = making 2 (object 13 ∷ object 14 ∷ []) (event.End 2 (ending.Return (object 13)) 1 ∷ [])
+
+-- g is made with its arguments in another order
+abbrev pub swapped : List Event
+swapped = making 2 (object 14 ∷ object 13 ∷ []) []
+
+-- an activation is made of the drive that is refused
+abbrev pub refused_made : List Event
+refused_made = again (object 13) (event.Drive 3 ∷ event.Make 4 (object 8) (object 13 ∷ []) ∷ [])
+
+-- a function is called with as many arguments as it takes
+pub record IsFull (plan : Plan) (objects : List Payload) (f : Obj) (vs : List Obj) : Type 0 where
+  pub body : FunctionBody
+  pub is_function : HasPayload objects f (payload.Function body)
+  pub signature : Signature
+  pub signed : slice_get plan.signatures body.code ≡ Some signature
+  pub count : length vs ≡ length signature.params

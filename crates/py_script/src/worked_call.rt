@@ -1,0 +1,37 @@
+//! A journal of functions that call that was worked by hand, and what the definitions say of it.
+
+ghost use Rattle.std.specs.Prelude.{◌≡◌, [], List, codes};
+ghost use Rattle.py_objects.specs.declared.payload.Payload.{Payload};
+ghost use Rattle.py_objects.specs.Objects.{Obj};
+ghost use Rattle.py_grammar.specs.Lines.{lines};
+ghost use Rattle.py_grammar.specs.Script.{Spells};
+ghost use Rattle.py_vm.specs.Calls.{Enters, Calls};
+ghost use Rattle.py_vm.specs.Run.{Plan, State, depth, IsDone};
+ghost use Rattle.py_script.specs.Whole.{IsRunOf};
+ghost use Rattle.py_script.specs.Text.{events_text};
+ghost use Rattle.py_script.specs.Worked.{object};
+ghost use Rattle.py_script.specs.WorkedCall.{script, trees, drives, objects, returned, again, events, made_twice, answered_early, numbered_on, never_entered, swapped, refused_made, IsFull};
+
+/// The journal of a function that calls another one, of a drive whose argument an earlier drive left, and of a drive that
+/// is refused, is a whole run of its script. What differs from it in one thing is none. At most a thousand activations run.
+pub fn worked_calls()
+    // The script, and its journal.
+    ensures spelled { Spells (lines script) trees drives }
+    ensures is_run { IsRunOf trees drives objects events }
+    ensures is_whole { IsDone 3 events }
+    ensures text { events_text objects events ≡ codes "1 returns 7\n2 returns 7\n3 raises TypeError: f() takes 0 positional arguments but 1 were given\n" }
+    // The callee is made once, with the next number and its arguments in order, is entered, and ends before the caller goes on.
+    ensures no_callee_made_twice { IsRunOf trees drives objects made_twice → ⊥ }
+    ensures no_other_number { IsRunOf trees drives objects numbered_on → ⊥ }
+    ensures no_swapped_arguments { IsRunOf trees drives objects swapped → ⊥ }
+    ensures no_callee_never_entered { IsRunOf trees drives objects never_entered → ⊥ }
+    ensures no_answer_before_the_end { IsRunOf trees drives objects answered_early → ⊥ }
+    // A drive's result is what its function returned, and what the drives after it name by its number.
+    ensures no_other_result { IsRunOf trees drives objects (returned (object 7) []) → ⊥ }
+    ensures no_other_object_of_a_drive { IsRunOf trees drives objects (again (object 7) []) → ⊥ }
+    // What is refused is never made.
+    ensures no_activation_of_a_refused_drive { IsRunOf trees drives objects refused_made → ⊥ }
+    // A function that gets its own number of arguments is entered where 999 activations run, and not where 1000 do.
+    ensures entry_at_999 { (plan : Plan) → (s : State) → (store : List Payload) → (f : Obj) → (vs : List Obj) → IsFull plan store f vs → depth plan s ≡ 999 → Calls plan.signatures (depth plan s) store f vs Enters }
+    ensures no_entry_at_1000 { (plan : Plan) → (s : State) → (store : List Payload) → (f : Obj) → (vs : List Obj) → IsFull plan store f vs → depth plan s ≡ 1000 → Calls plan.signatures (depth plan s) store f vs Enters → ⊥ }
+{}
