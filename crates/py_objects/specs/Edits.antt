@@ -38,60 +38,25 @@ edited_exception (edit.Link field v) e = linked field v e
 edited_exception (edit.Flag b) e = record e { suppress = b }
 edited_exception (edit.Args v) e = record e { args = v }
 edited_exception (edit.Attr x v) e = record e { attrs = with_attr x v e.attrs }
-edited_exception (edit.Append v) e = e
-edited_exception (edit.SetAt i v) e = e
-edited_exception (edit.RemoveAt i) e = e
-edited_exception (edit.Put k v) e = e
-edited_exception (edit.Drop k) e = e
-edited_exception (edit.Cell v) e = e
-edited_exception (edit.Place n) e = e
-edited_exception (edit.State s) e = e
+edited_exception _ e = e
 
 -- a traceback after an edit
 abbrev pub edited_traceback : Edit → TracebackBody → TracebackBody
 edited_traceback (edit.Link field v) t = led_on field v t
-edited_traceback (edit.Flag b) t = t
-edited_traceback (edit.Args v) t = t
-edited_traceback (edit.Attr x v) t = t
-edited_traceback (edit.Append v) t = t
-edited_traceback (edit.SetAt i v) t = t
-edited_traceback (edit.RemoveAt i) t = t
-edited_traceback (edit.Put k v) t = t
-edited_traceback (edit.Drop k) t = t
-edited_traceback (edit.Cell v) t = t
-edited_traceback (edit.Place n) t = t
-edited_traceback (edit.State s) t = t
+edited_traceback _ t = t
 
 -- a dict's pairs after an edit, where these are the objects
 abbrev pub edited_pairs : List Payload → Edit → List (Obj × Obj) → List (Obj × Obj)
-edited_pairs objects (edit.Link field v) ps = ps
-edited_pairs objects (edit.Flag b) ps = ps
-edited_pairs objects (edit.Args v) ps = ps
-edited_pairs objects (edit.Attr x v) ps = ps
-edited_pairs objects (edit.Append v) ps = ps
-edited_pairs objects (edit.SetAt i v) ps = ps
-edited_pairs objects (edit.RemoveAt i) ps = ps
 edited_pairs objects (edit.Put k v) ps = put objects k v ps
 edited_pairs objects (edit.Drop k) ps = dropped objects k ps
-edited_pairs objects (edit.Cell v) ps = ps
-edited_pairs objects (edit.Place n) ps = ps
-edited_pairs objects (edit.State s) ps = ps
+edited_pairs objects _ ps = ps
 
 -- a payload after an edit; one that the edit doesn't fit stays
 abbrev pub edited : List Payload → Edit → Payload → Payload
-edited objects x payload.None = payload.None
-edited objects x (payload.Bool b) = payload.Bool b
-edited objects x (payload.Int n) = payload.Int n
-edited objects x (payload.Str s) = payload.Str s
-edited objects x (payload.Tuple vs) = payload.Tuple vs
 edited objects x (payload.Dict ps) = payload.Dict (edited_pairs objects x ps)
-edited objects x (payload.Class c) = payload.Class c
-edited objects x (payload.Function f) = payload.Function f
-edited objects x (payload.Manager m) = payload.Manager m
-edited objects x (payload.Frame c) = payload.Frame c
-edited objects x (payload.Generator g) = payload.Generator g
 edited objects x (payload.Exception e) = payload.Exception (edited_exception x e)
 edited objects x (payload.Traceback t) = payload.Traceback (edited_traceback x t)
+edited objects x p = p
 
 -- the edits that fit an exception
 abbrev pub FitsException : Edit → Type 0
@@ -163,17 +128,14 @@ EditFits x (payload.Traceback t) = FitsTraceback x
 -- the numbers that an edit names
 abbrev pub edit_numbers : Edit → List ℕ
 edit_numbers (edit.Link field v) = numbers_if v
-edit_numbers (edit.Flag b) = []
 edit_numbers (edit.Args v) = v.number ∷ []
 edit_numbers (edit.Attr x v) = numbers_if v
 edit_numbers (edit.Append v) = v.number ∷ []
 edit_numbers (edit.SetAt i v) = v.number ∷ []
-edit_numbers (edit.RemoveAt i) = []
 edit_numbers (edit.Put k v) = k.number ∷ v.number ∷ []
 edit_numbers (edit.Drop k) = k.number ∷ []
 edit_numbers (edit.Cell v) = numbers_if v
-edit_numbers (edit.Place n) = []
-edit_numbers (edit.State s) = []
+edit_numbers _ = []
 
 -- an edit that takes no memory
 abbrev pub IsInPlace : Edit → Type 0

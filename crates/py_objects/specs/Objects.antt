@@ -44,19 +44,10 @@ Grows old new = (more : List Payload) × (new ≡ old ++ more)
 
 -- the name that a payload declares, where it is a declaration
 abbrev pub declares : Payload → Option Name
-declares payload.None = None
-declares (payload.Bool b) = None
-declares (payload.Int n) = None
-declares (payload.Str s) = None
-declares (payload.Tuple vs) = None
-declares (payload.Dict ps) = None
 declares (payload.Class c) = Some c.name
 declares (payload.Function f) = Some f.name
 declares (payload.Manager m) = Some m.name
-declares (payload.Frame c) = None
-declares (payload.Generator g) = None
-declares (payload.Exception e) = None
-declares (payload.Traceback t) = None
+declares _ = None
 
 -- whether a name is the one that is declared, if any
 abbrev pub is_name : Name → Option Name → Bool

@@ -12,19 +12,10 @@ use Rattle.py_objects.specs.Edits.{EditFits, FitsException, FitsTraceback, edit_
 
 -- whether some edit fits a payload of this kind
 abbrev pub may_change : Payload → Bool
-may_change payload.None = false
-may_change (payload.Bool b) = false
-may_change (payload.Int n) = false
-may_change (payload.Str s) = false
-may_change (payload.Tuple vs) = false
 may_change (payload.Dict ps) = true
-may_change (payload.Class c) = false
-may_change (payload.Function f) = false
-may_change (payload.Manager m) = false
-may_change (payload.Frame c) = false
-may_change (payload.Generator g) = false
 may_change (payload.Exception e) = true
 may_change (payload.Traceback t) = true
+may_change _ = false
 
 -- a payload, where it may change
 abbrev pub original_of : Payload → Option Payload
@@ -56,19 +47,8 @@ AreMarked mark (c ∷ cs) = (c.after ≤ mark) × AreMarked mark cs
 
 -- the numbers that the pairs of a dict name
 abbrev pub dict_numbers : Payload → List ℕ
-dict_numbers payload.None = []
-dict_numbers (payload.Bool b) = []
-dict_numbers (payload.Int n) = []
-dict_numbers (payload.Str s) = []
-dict_numbers (payload.Tuple vs) = []
 dict_numbers (payload.Dict ps) = pair_numbers ps
-dict_numbers (payload.Class c) = []
-dict_numbers (payload.Function f) = []
-dict_numbers (payload.Manager m) = []
-dict_numbers (payload.Frame c) = []
-dict_numbers (payload.Generator g) = []
-dict_numbers (payload.Exception e) = []
-dict_numbers (payload.Traceback t) = []
+dict_numbers _ = []
 
 -- each pair of a dict names objects below a number
 abbrev pub DictsBelow : ℕ → List Payload → Type 0

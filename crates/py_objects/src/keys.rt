@@ -3,7 +3,7 @@
 ghost use Rattle.std.specs.Prelude.{◌≡◌, ◌<◌, length, FitsSigned, IfSome, option_map, option_copied};
 ghost use Rattle.std.specs.Int.{w128};
 ghost use Rattle.py_objects.specs.Keys.{place_of_key};
-ghost use Rattle.py_objects.specs.Values.{is_none_payload, number_of, text_of, same_key, same_value};
+ghost use Rattle.py_objects.specs.Values.{is_none, number_of, text_of, same_key, same_value};
 
 use crate::payload::Payload;
 use crate::refs::PyObjectRef;
@@ -55,7 +55,7 @@ impl Payload {
 
     /// Whether it is `None`.
     fn is_none(&self) -> bool
-        ensures { result ≡ is_none_payload self.now }
+        ensures { result ≡ is_none self.now }
     {
         matches!(self, Payload::None)
     }
