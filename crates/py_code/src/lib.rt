@@ -22,7 +22,10 @@ pub use names::{NameId, Names};
 pub use operator::{
     BinaryOperator, ComparisonOperator, ConversionFlag, RaiseKind, TestOperator, UnaryOperator,
 };
-pub use text::{PyText, same_text, text_of, text_of_str};
+pub use text::{
+    PyText, push_bytes, push_decimal, push_text, push_utf8, same_text, text_of, text_of_str,
+    utf8_of,
+};
 pub use unit::{CodeUnit, Label, OpArg, OpArgState};
 
 #[cfg(test)]

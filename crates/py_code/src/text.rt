@@ -1,6 +1,7 @@
-//! Texts: lists of characters.
+//! Texts: lists of characters, made of bytes and strings, grown at their end, and written in UTF-8.
 
-ghost use Rattle.std.specs.Prelude.{◌≡◌, IfOk, bytes_eq, chars};
+ghost use Rattle.std.specs.Prelude.{◌≡◌, ◌++◌, IfOk, OnOk, bytes_eq, chars, decimal, encode_utf8, encode_utf8_all, string_bytes};
+ghost use Rattle.std.specs.Char.{IsScalar};
 
 use crate::list::{ItemList, NoMemory};
 use std::alloc::Global;
@@ -20,9 +21,7 @@ pub fn text_of(alloc: Global, bytes: &[u8]) -> Result<PyText, NoMemory>
     ensures { IfOk result (λ text. text ≡ bytes.now) }
 {
     let mut text = PyText::new(alloc);
-    for byte in bytes {
-        text.push(char::from(*byte))?;
-    }
+    push_bytes(&mut text, bytes)?;
     Ok(text)
 }
 
@@ -32,4 +31,63 @@ pub fn text_of_str(alloc: Global, string: &str) -> Result<PyText, NoMemory>
 {
     let characters: Vec<char> = string.chars().collect(alloc)?;
     Ok(PyText::of(characters))
+}
+
+/// Puts a text behind another.
+pub fn push_text(text: &mut PyText, more: &PyText) -> Result<(), NoMemory>
+    ensures { OnOk result (text.new ≡ text.old ++ more.now) }
+{
+    for character in more.as_slice() {
+        text.push(*character)?;
+    }
+    Ok(())
+}
+
+/// Puts bytes, each of which is one character, behind a text.
+pub fn push_bytes(text: &mut PyText, more: &[u8]) -> Result<(), NoMemory>
+    ensures { OnOk result (text.new ≡ text.old ++ more.now) }
+{
+    for byte in more {
+        text.push(char::from(*byte))?;
+    }
+    Ok(())
+}
+
+/// Puts the decimal digits of a number behind a text.
+pub fn push_decimal(text: &mut PyText, number: usize) -> Result<(), NoMemory>
+    ensures { OnOk result (text.new ≡ text.old ++ decimal number) }
+{
+    let mut digits = String::new(text.allocator());
+    write!(digits, "{number}")?;
+    push_bytes(text, digits.as_bytes())
+}
+
+/// A text in UTF-8.
+pub fn utf8_of(alloc: Global, text: &PyText) -> Result<String, NoMemory>
+    ensures text { IfOk result (λ string. string_bytes string ≡ encode_utf8_all text.now) }
+    ensures spells { OnOk result (chars (encode_utf8_all text.now) ≡ text.now) }
+{
+    let mut string = String::new(alloc);
+    push_utf8(&mut string, text)?;
+    Ok(string)
+}
+
+/// Puts a text behind a string, in UTF-8.
+pub fn push_utf8(string: &mut String, text: &PyText) -> Result<(), NoMemory>
+    ensures text { OnOk result (string_bytes string.new ≡ string_bytes string.old ++ encode_utf8_all text.now) }
+    ensures spells { OnOk result (chars (encode_utf8_all text.now) ≡ text.now) }
+{
+    for character in text.as_slice() {
+        push_character(string, *character)?;
+    }
+    Ok(())
+}
+
+/// Puts a character behind a string.
+fn push_character(string: &mut String, character: char) -> Result<(), NoMemory>
+    ensures text { OnOk result (string_bytes string.new ≡ string_bytes string.old ++ encode_utf8 character) }
+    ensures scalar { IsScalar character }
+{
+    string.push(character)?;
+    Ok(())
 }
