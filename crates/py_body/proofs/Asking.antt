@@ -16,7 +16,8 @@ use Rattle.py_frame.specs.Rows.{Setting, State, Tells, Move, Plainly, unwound, a
 use Rattle.py_frame.specs.RunOfRows.{Reaches}
 use Rattle.py_body.specs.Tree.{Name}
 use Rattle.py_body.specs.Binding.{Env}
-use Rattle.py_body.specs.Scene.{Scene, located}
+use Rattle.py_body.specs.Scene.{Scene}
+use Rattle.py_body.specs.Fits.{located}
 use Rattle.py_body.specs.Outcome.{After, Use, Requests}
 use Rattle.py_body.specs.Code.{Parts, Stands, parts_with}
 use Rattle.py_body.proofs.Closing.{Closes}

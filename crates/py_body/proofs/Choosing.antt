@@ -12,7 +12,8 @@ use Rattle.py_frame.specs.Rows.{Setting, State, Goes, Tells, jumps_if}
 use Rattle.py_frame.specs.RunOfRows.{ByStep, Reaches}
 use Rattle.py_body.specs.declared.atom.Atom.{Atom}
 use Rattle.py_body.specs.Tree.{Name}
-use Rattle.py_body.specs.Scene.{Scene, located}
+use Rattle.py_body.specs.Scene.{Scene}
+use Rattle.py_body.specs.Fits.{located}
 use Rattle.py_body.specs.Outcome.{After, Tests, Chooses}
 use Rattle.py_body.specs.Code.{Parts, Stands, LaidAtom, parts_with}
 use Rattle.py_body.specs.Naming.{NamesAll}

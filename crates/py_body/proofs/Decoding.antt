@@ -14,7 +14,7 @@ use Rattle.py_frame.specs.declared.block.Block.{Block}
 use Rattle.py_frame.specs.declared.input.Expect.TheVariants as expect
 use Rattle.py_frame.specs.Rows.{Setting, State, Move, act, unit_move}
 use Rattle.py_frame.specs.RunOfRows.{ByMove, Reaches}
-use Rattle.py_body.specs.Scene.{is_line}
+use Rattle.py_body.specs.Fits.{is_line}
 use Rattle.py_body.specs.Code.{Parts, Stands, parts_with}
 use Rattle.py_body.specs.Tree.{Name}
 

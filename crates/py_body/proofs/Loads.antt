@@ -20,7 +20,8 @@ use Rattle.py_body.specs.declared.atom.Atom.{Atom}
 use Rattle.py_body.specs.declared.atom.Atom.TheVariants as atom
 use Rattle.py_body.specs.Tree.{Name}
 use Rattle.py_body.specs.Binding.{Env, find_local}
-use Rattle.py_body.specs.Scene.{Scene, located}
+use Rattle.py_body.specs.Scene.{Scene}
+use Rattle.py_body.specs.Fits.{located}
 use Rattle.py_body.specs.Outcome.{After, Use, Named, Loads}
 use Rattle.py_body.specs.Code.{Parts, place, Stands, StandsConst, LaidName, LaidAtom, parts_with}
 use Rattle.py_body.specs.Naming.{NamesAll}

@@ -19,7 +19,8 @@ use Rattle.py_body.specs.declared.atom.Operator.{Operator}
 use Rattle.py_body.specs.declared.atom.Operator.TheVariants as operator
 use Rattle.py_body.specs.Tree.{Name}
 use Rattle.py_body.specs.Binding.{takes_count}
-use Rattle.py_body.specs.Scene.{Scene, located}
+use Rattle.py_body.specs.Scene.{Scene}
+use Rattle.py_body.specs.Fits.{located}
 use Rattle.py_body.specs.Outcome.{After, Use, LoadsAll, of_two, of_call, request_of, Requests_if}
 use Rattle.py_body.specs.Code.{Parts, LaidAtoms, LaidCall, LaidOperator, parts_with}
 use Rattle.py_body.specs.Naming.{NamesAll}

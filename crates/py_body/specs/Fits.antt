@@ -1,5 +1,6 @@
 -- Code that does what a body does.
-use Rattle.std.specs.Prelude.{ℕ, List, ◌≡◌, length}
+use Rattle.std.specs.Prelude.{ℕ, Bool, false, Option, Some, None, List, ◌≡◌, length, slice_get, eqb}
+use Rattle.py_code.specs.declared.code.PyCode.{PyCode}
 use Rattle.py_objects.specs.declared.payload.Payload.{Payload}
 use Rattle.py_objects.specs.Objects.{Obj}
 use Rattle.py_objects.specs.Own.{Own}
@@ -8,9 +9,18 @@ use Rattle.py_frame.specs.RunOfRows.{RowsRun}
 use Rattle.py_frame.specs.Fitting.{IsSound}
 use Rattle.py_frame.specs.Signature.{params_of}
 use Rattle.py_body.specs.Tree.{Tree}
-use Rattle.py_body.specs.Scene.{located}
+use Rattle.py_body.specs.Scene.{Scene}
 use Rattle.py_body.specs.Trace.{IsTrace}
 use Rattle.py_body.specs.Naming.{Continues}
+
+-- whether this line is the one that is there
+abbrev pub is_line : ℕ → Option ℕ → Bool
+is_line line None = false
+is_line line (Some other) = eqb line other
+
+-- each unit asks for a statement of the line that the code has for it
+abbrev pub located : PyCode → List Payload → Obj → Scene
+located code objects globals = record { objects = objects; globals = globals; is_of = λ at line. is_line line (slice_get code.code.locations.items at) }
 
 -- the code has the body's parameters, keeps the typing rules with its notes, its names are in the table, and each run of its
 -- rows, whole or cut, from any arguments and whatever answers come, is a trace of the body in which each unit that asks has its

@@ -14,9 +14,9 @@ use Rattle.py_objects.specs.Own.{Own, own_events}
 use Rattle.py_frame.specs.Rows.{Setting}
 use Rattle.py_frame.specs.RunOfRows.{RowsRun}
 use Rattle.py_body.specs.Tree.{Tree}
-use Rattle.py_body.specs.Scene.{anywhere, located}
+use Rattle.py_body.specs.Scene.{anywhere}
 use Rattle.py_body.specs.Trace.{IsTrace}
-use Rattle.py_body.specs.Fits.{Fits}
+use Rattle.py_body.specs.Fits.{Fits, located}
 use Rattle.py_body.proofs.Carry.{widens_anywhere, trace_goes}
 use Rattle.py_vm.specs.Run.{Posed, Activation, start, Comes, EachTells}
 use Rattle.py_vm.specs.RowsOf.{RowsTell, RowsOf}
