@@ -1,6 +1,6 @@
 -- Texts in a table, and what interning makes of it.
 use Rattle.std.proofs.Common.{◌≡◌, ◌≢◌, ◌<◌, ◌≤◌, ◌+◌, ℕ, zero, suc, List, [], ◌∷◌, ◌++◌, Bool, true, false, cond, not, ◌||◌, Some, None, refl, sym, ap, ◌∙◌, map, length, get_or, slice_get, arith, ◌⊎◌, inl, inr}
-use Rattle.std.specs.Prelude.{Option, String, bytes_eq, position, string_bytes, string_eq}
+use Rattle.std.specs.Prelude.{Option, IfSome, bytes_eq, position}
 use Rattle.std.specs.List.{list_any, position_or_len}
 use Rattle.std.proofs.lemmas.Bool.{cases_lt}
 use Rattle.std.proofs.lemmas.Bool.Decides.{nat_tests}
@@ -75,6 +75,10 @@ found_text texts text at found =
     let same = (bytes_eq-Decides text (get_or texts (position_or_len (bytes_eq text) texts) [])).0 passes in
     let stored = slice_get-get_or texts at [] below in
     cc
+
+pub found_if : (texts : List (List ℕ)) (text : List ℕ) (found : Option ℕ) → found ≡ place_of texts text → IfSome found (λ at. slice_get texts at ≡ Some text)
+found_if texts text None is = tt
+found_if texts text (Some at) is = found_text texts text at (sym is)
 
 -- a text without a place stands nowhere
 pub absent_text : (texts : List (List ℕ)) (text : List ℕ) → place_of texts text ≡ None → (at : ℕ) → slice_get texts at ≢ Some text
@@ -157,30 +161,34 @@ TextsDiffer-interned texts text differ = by (list_any (bytes_eq text) texts) ref
     by true _ = differ
     by false none = TextsDiffer-append texts text none differ
 
--- ---- a table that is a set of strings
+-- ---- a table that is a set of keys, each of which has a text
 
-module _ {Y : Type 0} (keys : List (String Y)) (texts : List (List ℕ)) (view : map string_bytes keys ≡ texts) where
+module _ {K : Type 0} (text_in : K → List ℕ) (keys : List K) (texts : List (List ℕ)) (view : map text_in keys ≡ texts) where
   -- what a look-up finds
-  pub place_of-view : (text : List ℕ) (found : Option ℕ) → found ≡ position (λ key. bytes_eq text (string_bytes key)) keys → found ≡ place_of texts text
-  place_of-view text found at = at ∙ sym (position-map string_bytes (bytes_eq text) keys) ∙ ap (λ ts. place_of ts text) view
+  pub place_of-view : (text : List ℕ) (found : Option ℕ) → found ≡ position (λ key. bytes_eq text (text_in key)) keys → found ≡ place_of texts text
+  place_of-view text found at = at ∙ sym (position-map text_in (bytes_eq text) keys) ∙ ap (λ ts. place_of ts text) view
 
-  module _ (new : List (String Y)) (key : String Y) (text : List ℕ) (is : string_bytes key ≡ text) (made : new ≡ insert_key string_eq keys key) where
+  -- and whether there is one
+  pub list_any-view : (text : List ℕ) (found : Bool) → found ≡ list_any (λ key. bytes_eq text (text_in key)) keys → found ≡ list_any (bytes_eq text) texts
+  list_any-view text found at = at ∙ sym (list_any-map text_in (bytes_eq text) keys) ∙ ap (list_any (bytes_eq text)) view
+
+  module _ (new : List K) (key : K) (text : List ℕ) (is : text_in key ≡ text) (made : new ≡ insert_key (λ k j. bytes_eq (text_in k) (text_in j)) keys key) where
     -- what an insertion leaves
-    pub interned-view : map string_bytes new ≡ interned texts text
+    pub interned-view : map text_in new ≡ interned texts text
     interned-view =
-        ap (map string_bytes) made ∙ by (list_any (string_eq key) keys) (list_any-map string_bytes (bytes_eq (string_bytes key)) keys)
-        ∙ ap (λ ts. interned ts (string_bytes key)) view ∙ ap (interned texts) is
+        ap (map text_in) made ∙ by (list_any (λ j. bytes_eq (text_in key) (text_in j)) keys) (list_any-map text_in (bytes_eq (text_in key)) keys)
+        ∙ ap (λ ts. interned ts (text_in key)) view ∙ ap (interned texts) is
       where
-        by : (b : Bool) → list_any (bytes_eq (string_bytes key)) (map string_bytes keys) ≡ b
-            → map string_bytes (cond b keys (keys ++ key ∷ [])) ≡ interned (map string_bytes keys) (string_bytes key)
-        by true some = sym (ap (λ b. cond b (map string_bytes keys) (map string_bytes keys ++ string_bytes key ∷ [])) some)
+        by : (b : Bool) → list_any (bytes_eq (text_in key)) (map text_in keys) ≡ b
+            → map text_in (cond b keys (keys ++ key ∷ [])) ≡ interned (map text_in keys) (text_in key)
+        by true some = sym (ap (λ b. cond b (map text_in keys) (map text_in keys ++ text_in key ∷ [])) some)
         by false none =
-            map-append string_bytes keys (key ∷ [])
-            ∙ sym (ap (λ b. cond b (map string_bytes keys) (map string_bytes keys ++ string_bytes key ∷ [])) none)
+            map-append text_in keys (key ∷ [])
+            ∙ sym (ap (λ b. cond b (map text_in keys) (map text_in keys ++ text_in key ∷ [])) none)
 
     -- and where the key then stands
-    pub place_of-inserted : (at : ℕ) → at ≡ position_or_len (string_eq key) keys → place_of (map string_bytes new) text ≡ Some at
+    pub place_of-inserted : (at : ℕ) → at ≡ position_or_len (λ j. bytes_eq (text_in key) (text_in j)) keys → place_of (map text_in new) text ≡ Some at
     place_of-inserted at place =
         ap (λ ts. place_of ts text) interned-view ∙ place_of-interned texts text
-        ∙ ap Some (ap (position_or_len (bytes_eq text)) (sym view) ∙ position_or_len-map string_bytes (bytes_eq text) keys
-        ∙ ap (λ t. position_or_len (λ k. bytes_eq t (string_bytes k)) keys) (sym is) ∙ sym place)
+        ∙ ap Some (ap (position_or_len (bytes_eq text)) (sym view) ∙ position_or_len-map text_in (bytes_eq text) keys
+        ∙ ap (λ t. position_or_len (λ k. bytes_eq t (text_in k)) keys) (sym is) ∙ sym place)

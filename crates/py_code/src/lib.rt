@@ -7,6 +7,7 @@ mod flags;
 mod instruction;
 mod list;
 mod literal;
+mod name_set;
 mod names;
 mod operator;
 mod text;
@@ -18,6 +19,7 @@ pub use flags::{CodeFlags, MakeFunctionFlags};
 pub use instruction::Instruction;
 pub use list::{ItemList, NoMemory};
 pub use literal::{BuiltinFn, Literal, LiteralList};
+pub use name_set::NameSet;
 pub use names::{NameId, Names};
 pub use operator::{
     BinaryOperator, ComparisonOperator, ConversionFlag, RaiseKind, TestOperator, UnaryOperator,
