@@ -1,5 +1,8 @@
 //! What an object is.
 
+ghost use Rattle.std.specs.Prelude.{◌≡◌};
+ghost use Rattle.py_objects.specs.Objects.{name_of};
+
 use crate::attr_map::AttrMap;
 use crate::pair_list::PairList;
 use crate::refs::{FrameRef, ObjList, PyObjectRef, PyTypeRef};
@@ -96,6 +99,21 @@ pub enum ErrorKind {
     RecursionError,
     TypeError,
     UnboundLocalError,
+}
+
+impl ErrorKind {
+    /// The class's name, in ASCII.
+    pub fn name(self) -> &'static [u8]
+        ensures { result.now ≡ name_of self }
+    {
+        match self {
+            ErrorKind::NameError => b"NameError".as_slice(),
+            ErrorKind::OverflowError => b"OverflowError".as_slice(),
+            ErrorKind::RecursionError => b"RecursionError".as_slice(),
+            ErrorKind::TypeError => b"TypeError".as_slice(),
+            ErrorKind::UnboundLocalError => b"UnboundLocalError".as_slice(),
+        }
+    }
 }
 
 /// An exception that is to be made: its class, and its one argument, a text.
