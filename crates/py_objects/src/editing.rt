@@ -18,7 +18,7 @@ use std::alloc::Global;
 
 impl ExceptionBody {
     /// The same exception in a body of its own.
-    fn copy(&self) -> Result<ExceptionBody, NoMemory>
+    pub(crate) fn copy(&self) -> Result<ExceptionBody, NoMemory>
         ensures { IfOk result (λ copy. copy ≡ self.now) }
     {
         Ok(ExceptionBody {

@@ -5,6 +5,7 @@ mod attr_map;
 mod edit;
 mod editing;
 mod event;
+mod history;
 mod keys;
 mod pair_list;
 mod payload;
@@ -16,6 +17,7 @@ mod store;
 pub use attr_map::AttrMap;
 pub use edit::{AwaitState, Change, ChangeList, Edit, History, LinkField};
 pub use event::{DriveAnswer, Ending, Event, EventList, GotAnswer, ResumeHow};
+pub use history::objects_at;
 pub use pair_list::PairList;
 pub use payload::{
     ClassBody, CoroBody, CoroKind, ErrorKind, ExceptionBody, Fault, FunctionBody, ManagerBody,
