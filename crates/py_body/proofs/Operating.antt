@@ -5,7 +5,7 @@ use Rattle.std.proofs.lemmas.List.{length-reverse, reverse-append, reverse-rever
 use Rattle.py_code.specs.declared.instruction.Instruction.TheVariants.{BinaryOperation, CompareOperation, CallFunctionPositional}
 use Rattle.py_code.specs.declared.operator.BinaryOperator.TheVariants as binary
 use Rattle.py_code.specs.declared.operator.ComparisonOperator.TheVariants as comparison
-use Rattle.py_code.specs.Operators.{binary_number, comparison_number}
+use Rattle.py_code.specs.Numbers.{binary_number, comparison_number}
 use Rattle.py_objects.specs.declared.payload.Payload.{Payload}
 use Rattle.py_objects.specs.declared.request.Keywords.TheVariants as keywords
 use Rattle.py_objects.specs.declared.request.Request.TheVariants.{Binary, Call, Compare}

@@ -9,7 +9,7 @@ use Rattle.py_code.specs.declared.operator.BinaryOperator.TheVariants as binary
 use Rattle.py_code.specs.declared.operator.ComparisonOperator.TheVariants as comparison
 use Rattle.py_code.specs.declared.code.PyCode.{PyCode}
 use Rattle.py_code.specs.Literals.{literals_of}
-use Rattle.py_code.specs.Operators.{binary_number, comparison_number}
+use Rattle.py_code.specs.Numbers.{binary_number, comparison_number}
 use Rattle.py_code.specs.Units.{decoded_from}
 use Rattle.py_body.specs.declared.atom.Atom.{Atom}
 use Rattle.py_body.specs.declared.atom.Atom.TheVariants as atom

@@ -2,7 +2,7 @@
 
 ghost use Rattle.std.specs.Prelude.{◌≡◌, ◌+◌, ◌*◌, ◌≤◌, length, true, false, Some, None, IfOk, OnOk};
 ghost use Rattle.py_code.specs.declared.instruction.Instruction.TheVariants.{BinaryOperation, CallFunctionPositional, CompareOperation, LoadConst};
-ghost use Rattle.py_code.specs.Operators.{binary_number, comparison_number};
+ghost use Rattle.py_code.specs.Numbers.{binary_number, comparison_number};
 ghost use Rattle.py_check.specs.Constants.{has_code};
 ghost use Rattle.py_body.specs.Tree.{assign, branch, choice, form_of, give, loop, operate, show, suite_of};
 ghost use Rattle.py_body.specs.Binding.{takes_count, FormTakes, SuiteTakes, statements, statements_in};
@@ -236,7 +236,7 @@ impl Emitter {
         ensures code { OnOk result (EmitsUnit (parts_of self.old) (parts_of self.new) BinaryOperation (binary_number operator) line) }
         ensures width { self.new.width ≡ self.old.width }
     {
-        self.emit(Instruction::BinaryOperation, operator.number(), line)
+        self.emit(Instruction::BinaryOperation, u32::from(operator), line)
     }
 
     /// Adds a comparison of two values.
@@ -245,7 +245,7 @@ impl Emitter {
         ensures code { OnOk result (EmitsUnit (parts_of self.old) (parts_of self.new) CompareOperation (comparison_number operator) line) }
         ensures width { self.new.width ≡ self.old.width }
     {
-        self.emit(Instruction::CompareOperation, operator.number(), line)
+        self.emit(Instruction::CompareOperation, u32::from(operator), line)
     }
 
     /// Adds the loads of atoms in order.

@@ -1,7 +1,8 @@
 -- units, and the arguments that prefixes build
 pub mod Units
--- the numbers of operators
+-- operators, and their numbers
 pub mod Operators
+pub mod Numbers
 -- the constants of a code
 pub mod Literals
 -- a table of names as a list

@@ -1,91 +1,14 @@
--- The numbers by which an argument names an operator.
-use Rattle.std.specs.Prelude.{ℕ, List, [], ◌∷◌}
+-- The operators that an argument names, in the order of their numbers.
+use Rattle.std.specs.Prelude.{List, [], ◌∷◌}
 use Rattle.py_code.specs.declared.operator.BinaryOperator.{BinaryOperator}
 use Rattle.py_code.specs.declared.operator.ComparisonOperator.{ComparisonOperator}
-use Rattle.py_code.specs.declared.operator.UnaryOperator.{UnaryOperator}
-use Rattle.py_code.specs.declared.operator.TestOperator.{TestOperator}
-use Rattle.py_code.specs.declared.operator.ConversionFlag.{ConversionFlag}
-use Rattle.py_code.specs.declared.operator.RaiseKind.{RaiseKind}
 use Rattle.py_code.specs.declared.operator.BinaryOperator.TheVariants as Binary
 use Rattle.py_code.specs.declared.operator.ComparisonOperator.TheVariants as Comparison
-use Rattle.py_code.specs.declared.operator.UnaryOperator.TheVariants as Unary
-use Rattle.py_code.specs.declared.operator.TestOperator.TheVariants as Test
-use Rattle.py_code.specs.declared.operator.ConversionFlag.TheVariants as Conversion
-use Rattle.py_code.specs.declared.operator.RaiseKind.TheVariants as Raise
 
 -- each binary operator, at its number
 abbrev pub binary_operators : List BinaryOperator
 binary_operators = Binary.Power ∷ Binary.Multiply ∷ Binary.MatrixMultiply ∷ Binary.Divide ∷ Binary.FloorDivide ∷ Binary.Modulo ∷ Binary.Add ∷ Binary.Subtract ∷ Binary.Lshift ∷ Binary.Rshift ∷ Binary.And ∷ Binary.Xor ∷ Binary.Or ∷ []
 
--- its number
-abbrev pub binary_number : BinaryOperator → ℕ
-binary_number Binary.Power = 0
-binary_number Binary.Multiply = 1
-binary_number Binary.MatrixMultiply = 2
-binary_number Binary.Divide = 3
-binary_number Binary.FloorDivide = 4
-binary_number Binary.Modulo = 5
-binary_number Binary.Add = 6
-binary_number Binary.Subtract = 7
-binary_number Binary.Lshift = 8
-binary_number Binary.Rshift = 9
-binary_number Binary.And = 10
-binary_number Binary.Xor = 11
-binary_number Binary.Or = 12
-
 -- each comparison, at its number
 abbrev pub comparison_operators : List ComparisonOperator
 comparison_operators = Comparison.Less ∷ Comparison.Greater ∷ Comparison.Equal ∷ Comparison.LessOrEqual ∷ Comparison.GreaterOrEqual ∷ Comparison.NotEqual ∷ []
-
--- its number
-abbrev pub comparison_number : ComparisonOperator → ℕ
-comparison_number Comparison.Less = 0
-comparison_number Comparison.Greater = 1
-comparison_number Comparison.Equal = 2
-comparison_number Comparison.LessOrEqual = 3
-comparison_number Comparison.GreaterOrEqual = 4
-comparison_number Comparison.NotEqual = 5
-
--- each unary operator, at its number
-abbrev pub unary_operators : List UnaryOperator
-unary_operators = Unary.Not ∷ Unary.Invert ∷ Unary.Minus ∷ Unary.Plus ∷ []
-
--- its number
-abbrev pub unary_number : UnaryOperator → ℕ
-unary_number Unary.Not = 0
-unary_number Unary.Invert = 1
-unary_number Unary.Minus = 2
-unary_number Unary.Plus = 3
-
--- each test, at its number
-abbrev pub test_operators : List TestOperator
-test_operators = Test.In ∷ Test.NotIn ∷ Test.Is ∷ Test.IsNot ∷ Test.ExceptionMatch ∷ []
-
--- its number
-abbrev pub test_number : TestOperator → ℕ
-test_number Test.In = 0
-test_number Test.NotIn = 1
-test_number Test.Is = 2
-test_number Test.IsNot = 3
-test_number Test.ExceptionMatch = 4
-
--- each conversion, at its number
-abbrev pub conversion_flags : List ConversionFlag
-conversion_flags = Conversion.None ∷ Conversion.Str ∷ Conversion.Ascii ∷ Conversion.Repr ∷ []
-
--- its number
-abbrev pub conversion_number : ConversionFlag → ℕ
-conversion_number Conversion.None = 0
-conversion_number Conversion.Str = 1
-conversion_number Conversion.Ascii = 2
-conversion_number Conversion.Repr = 3
-
--- each kind of raise, at its number
-abbrev pub raise_kinds : List RaiseKind
-raise_kinds = Raise.Reraise ∷ Raise.Raise ∷ Raise.RaiseCause ∷ []
-
--- its number
-abbrev pub raise_number : RaiseKind → ℕ
-raise_number Raise.Reraise = 0
-raise_number Raise.Raise = 1
-raise_number Raise.RaiseCause = 2

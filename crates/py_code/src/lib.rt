@@ -22,7 +22,8 @@ pub use literal::{BuiltinFn, Literal, LiteralList};
 pub use name_set::NameSet;
 pub use names::{NameId, Names};
 pub use operator::{
-    BinaryOperator, ComparisonOperator, ConversionFlag, RaiseKind, TestOperator, UnaryOperator,
+    BinaryOperator, ComparisonOperator, ConversionFlag, NoOperator, RaiseKind, TestOperator,
+    UnaryOperator,
 };
 pub use text::{
     PyText, push_bytes, push_decimal, push_text, push_utf8, same_text, text_of, text_of_str,

@@ -1,6 +1,12 @@
 //! Operators, as the argument of an instruction numbers them.
-ghost use Rattle.std.specs.Prelude.{◌≡◌, ◌≤◌, ◌↔◌, IsNone, IfSome, slice_get};
-ghost use Rattle.py_code.specs.Operators.{binary_number, binary_operators, comparison_number, comparison_operators, conversion_flags, conversion_number, raise_kinds, raise_number, test_number, test_operators, unary_number, unary_operators};
+
+ghost use Rattle.std.specs.Prelude.{◌≡◌, slice_get, Some};
+ghost use Rattle.py_code.specs.Operators.{binary_operators, comparison_operators};
+ghost use Rattle.py_code.specs.Numbers.{binary_number, comparison_number, conversion_flags, conversion_number, raise_kinds, raise_number, test_number, test_operators, unary_number, unary_operators, Numbers, Reads};
+
+/// A number that stands for no operator.
+#[derive(Clone, Copy, Debug, PartialEq, Eq)]
+pub struct NoOperator(pub u32);
 
 /// An operator of two values, named as the symbol that Python writes.
 #[derive(Clone, Copy, Debug, PartialEq, Eq)]
@@ -20,13 +26,11 @@ pub enum BinaryOperator {
     Or,
 }
 
-impl BinaryOperator {
-    /// The number that stands for the operator.
-    pub fn number(self) -> u32
-        ensures number { result ≡ binary_number self }
-        ensures undone { slice_get binary_operators result ≡ Some self }
-    {
-        match self {
+impl From<BinaryOperator> for u32 {
+    ghost from_gives = { Numbers binary_operators binary_number };
+
+    fn from(operator: BinaryOperator) -> u32 {
+        match operator {
             BinaryOperator::Power => 0,
             BinaryOperator::Multiply => 1,
             BinaryOperator::MatrixMultiply => 2,
@@ -42,28 +46,29 @@ impl BinaryOperator {
             BinaryOperator::Or => 12,
         }
     }
+}
 
-    /// The operator that a number stands for.
-    pub fn of_number(number: u32) -> Option<BinaryOperator>
-        ensures operator { result ≡ slice_get binary_operators number }
-        ensures undone { IfSome result (λ operator. binary_number operator ≡ number) }
-        ensures none { IsNone result ↔ (13 ≤ number) }
-    {
+impl TryFrom<u32> for BinaryOperator {
+    type Error = NoOperator;
+
+    ghost try_from_gives = { Reads binary_operators binary_number };
+
+    fn try_from(number: u32) -> Result<BinaryOperator, NoOperator> {
         match number {
-            0 => Some(BinaryOperator::Power),
-            1 => Some(BinaryOperator::Multiply),
-            2 => Some(BinaryOperator::MatrixMultiply),
-            3 => Some(BinaryOperator::Divide),
-            4 => Some(BinaryOperator::FloorDivide),
-            5 => Some(BinaryOperator::Modulo),
-            6 => Some(BinaryOperator::Add),
-            7 => Some(BinaryOperator::Subtract),
-            8 => Some(BinaryOperator::Lshift),
-            9 => Some(BinaryOperator::Rshift),
-            10 => Some(BinaryOperator::And),
-            11 => Some(BinaryOperator::Xor),
-            12 => Some(BinaryOperator::Or),
-            _ => None,
+            0 => Ok(BinaryOperator::Power),
+            1 => Ok(BinaryOperator::Multiply),
+            2 => Ok(BinaryOperator::MatrixMultiply),
+            3 => Ok(BinaryOperator::Divide),
+            4 => Ok(BinaryOperator::FloorDivide),
+            5 => Ok(BinaryOperator::Modulo),
+            6 => Ok(BinaryOperator::Add),
+            7 => Ok(BinaryOperator::Subtract),
+            8 => Ok(BinaryOperator::Lshift),
+            9 => Ok(BinaryOperator::Rshift),
+            10 => Ok(BinaryOperator::And),
+            11 => Ok(BinaryOperator::Xor),
+            12 => Ok(BinaryOperator::Or),
+            _ => Err(NoOperator(number)),
         }
     }
 }
@@ -79,13 +84,11 @@ pub enum ComparisonOperator {
     NotEqual,
 }
 
-impl ComparisonOperator {
-    /// The number that stands for the operator.
-    pub fn number(self) -> u32
-        ensures number { result ≡ comparison_number self }
-        ensures undone { slice_get comparison_operators result ≡ Some self }
-    {
-        match self {
+impl From<ComparisonOperator> for u32 {
+    ghost from_gives = { Numbers comparison_operators comparison_number };
+
+    fn from(operator: ComparisonOperator) -> u32 {
+        match operator {
             ComparisonOperator::Less => 0,
             ComparisonOperator::Greater => 1,
             ComparisonOperator::Equal => 2,
@@ -94,21 +97,22 @@ impl ComparisonOperator {
             ComparisonOperator::NotEqual => 5,
         }
     }
+}
 
-    /// The operator that a number stands for.
-    pub fn of_number(number: u32) -> Option<ComparisonOperator>
-        ensures operator { result ≡ slice_get comparison_operators number }
-        ensures undone { IfSome result (λ operator. comparison_number operator ≡ number) }
-        ensures none { IsNone result ↔ (6 ≤ number) }
-    {
+impl TryFrom<u32> for ComparisonOperator {
+    type Error = NoOperator;
+
+    ghost try_from_gives = { Reads comparison_operators comparison_number };
+
+    fn try_from(number: u32) -> Result<ComparisonOperator, NoOperator> {
         match number {
-            0 => Some(ComparisonOperator::Less),
-            1 => Some(ComparisonOperator::Greater),
-            2 => Some(ComparisonOperator::Equal),
-            3 => Some(ComparisonOperator::LessOrEqual),
-            4 => Some(ComparisonOperator::GreaterOrEqual),
-            5 => Some(ComparisonOperator::NotEqual),
-            _ => None,
+            0 => Ok(ComparisonOperator::Less),
+            1 => Ok(ComparisonOperator::Greater),
+            2 => Ok(ComparisonOperator::Equal),
+            3 => Ok(ComparisonOperator::LessOrEqual),
+            4 => Ok(ComparisonOperator::GreaterOrEqual),
+            5 => Ok(ComparisonOperator::NotEqual),
+            _ => Err(NoOperator(number)),
         }
     }
 }
@@ -122,32 +126,31 @@ pub enum UnaryOperator {
     Plus,
 }
 
-impl UnaryOperator {
-    /// The number that stands for the operator.
-    pub fn number(self) -> u32
-        ensures number { result ≡ unary_number self }
-        ensures undone { slice_get unary_operators result ≡ Some self }
-    {
-        match self {
+impl From<UnaryOperator> for u32 {
+    ghost from_gives = { Numbers unary_operators unary_number };
+
+    fn from(operator: UnaryOperator) -> u32 {
+        match operator {
             UnaryOperator::Not => 0,
             UnaryOperator::Invert => 1,
             UnaryOperator::Minus => 2,
             UnaryOperator::Plus => 3,
         }
     }
+}
 
-    /// The operator that a number stands for.
-    pub fn of_number(number: u32) -> Option<UnaryOperator>
-        ensures operator { result ≡ slice_get unary_operators number }
-        ensures undone { IfSome result (λ operator. unary_number operator ≡ number) }
-        ensures none { IsNone result ↔ (4 ≤ number) }
-    {
+impl TryFrom<u32> for UnaryOperator {
+    type Error = NoOperator;
+
+    ghost try_from_gives = { Reads unary_operators unary_number };
+
+    fn try_from(number: u32) -> Result<UnaryOperator, NoOperator> {
         match number {
-            0 => Some(UnaryOperator::Not),
-            1 => Some(UnaryOperator::Invert),
-            2 => Some(UnaryOperator::Minus),
-            3 => Some(UnaryOperator::Plus),
-            _ => None,
+            0 => Ok(UnaryOperator::Not),
+            1 => Ok(UnaryOperator::Invert),
+            2 => Ok(UnaryOperator::Minus),
+            3 => Ok(UnaryOperator::Plus),
+            _ => Err(NoOperator(number)),
         }
     }
 }
@@ -163,13 +166,11 @@ pub enum TestOperator {
     ExceptionMatch,
 }
 
-impl TestOperator {
-    /// The number that stands for the operator.
-    pub fn number(self) -> u32
-        ensures number { result ≡ test_number self }
-        ensures undone { slice_get test_operators result ≡ Some self }
-    {
-        match self {
+impl From<TestOperator> for u32 {
+    ghost from_gives = { Numbers test_operators test_number };
+
+    fn from(operator: TestOperator) -> u32 {
+        match operator {
             TestOperator::In => 0,
             TestOperator::NotIn => 1,
             TestOperator::Is => 2,
@@ -177,20 +178,21 @@ impl TestOperator {
             TestOperator::ExceptionMatch => 4,
         }
     }
+}
 
-    /// The operator that a number stands for.
-    pub fn of_number(number: u32) -> Option<TestOperator>
-        ensures operator { result ≡ slice_get test_operators number }
-        ensures undone { IfSome result (λ operator. test_number operator ≡ number) }
-        ensures none { IsNone result ↔ (5 ≤ number) }
-    {
+impl TryFrom<u32> for TestOperator {
+    type Error = NoOperator;
+
+    ghost try_from_gives = { Reads test_operators test_number };
+
+    fn try_from(number: u32) -> Result<TestOperator, NoOperator> {
         match number {
-            0 => Some(TestOperator::In),
-            1 => Some(TestOperator::NotIn),
-            2 => Some(TestOperator::Is),
-            3 => Some(TestOperator::IsNot),
-            4 => Some(TestOperator::ExceptionMatch),
-            _ => None,
+            0 => Ok(TestOperator::In),
+            1 => Ok(TestOperator::NotIn),
+            2 => Ok(TestOperator::Is),
+            3 => Ok(TestOperator::IsNot),
+            4 => Ok(TestOperator::ExceptionMatch),
+            _ => Err(NoOperator(number)),
         }
     }
 }
@@ -205,32 +207,31 @@ pub enum ConversionFlag {
     Repr,
 }
 
-impl ConversionFlag {
-    /// The number that stands for the flag.
-    pub fn number(self) -> u32
-        ensures number { result ≡ conversion_number self }
-        ensures undone { slice_get conversion_flags result ≡ Some self }
-    {
-        match self {
+impl From<ConversionFlag> for u32 {
+    ghost from_gives = { Numbers conversion_flags conversion_number };
+
+    fn from(operator: ConversionFlag) -> u32 {
+        match operator {
             ConversionFlag::None => 0,
             ConversionFlag::Str => 1,
             ConversionFlag::Ascii => 2,
             ConversionFlag::Repr => 3,
         }
     }
+}
 
-    /// The flag that a number stands for.
-    pub fn of_number(number: u32) -> Option<ConversionFlag>
-        ensures flag { result ≡ slice_get conversion_flags number }
-        ensures undone { IfSome result (λ flag. conversion_number flag ≡ number) }
-        ensures none { IsNone result ↔ (4 ≤ number) }
-    {
+impl TryFrom<u32> for ConversionFlag {
+    type Error = NoOperator;
+
+    ghost try_from_gives = { Reads conversion_flags conversion_number };
+
+    fn try_from(number: u32) -> Result<ConversionFlag, NoOperator> {
         match number {
-            0 => Some(ConversionFlag::None),
-            1 => Some(ConversionFlag::Str),
-            2 => Some(ConversionFlag::Ascii),
-            3 => Some(ConversionFlag::Repr),
-            _ => None,
+            0 => Ok(ConversionFlag::None),
+            1 => Ok(ConversionFlag::Str),
+            2 => Ok(ConversionFlag::Ascii),
+            3 => Ok(ConversionFlag::Repr),
+            _ => Err(NoOperator(number)),
         }
     }
 }
@@ -246,30 +247,29 @@ pub enum RaiseKind {
     RaiseCause,
 }
 
-impl RaiseKind {
-    /// The number that stands for the kind.
-    pub fn number(self) -> u32
-        ensures number { result ≡ raise_number self }
-        ensures undone { slice_get raise_kinds result ≡ Some self }
-    {
-        match self {
+impl From<RaiseKind> for u32 {
+    ghost from_gives = { Numbers raise_kinds raise_number };
+
+    fn from(operator: RaiseKind) -> u32 {
+        match operator {
             RaiseKind::Reraise => 0,
             RaiseKind::Raise => 1,
             RaiseKind::RaiseCause => 2,
         }
     }
+}
 
-    /// The kind that a number stands for.
-    pub fn of_number(number: u32) -> Option<RaiseKind>
-        ensures kind { result ≡ slice_get raise_kinds number }
-        ensures undone { IfSome result (λ kind. raise_number kind ≡ number) }
-        ensures none { IsNone result ↔ (3 ≤ number) }
-    {
+impl TryFrom<u32> for RaiseKind {
+    type Error = NoOperator;
+
+    ghost try_from_gives = { Reads raise_kinds raise_number };
+
+    fn try_from(number: u32) -> Result<RaiseKind, NoOperator> {
         match number {
-            0 => Some(RaiseKind::Reraise),
-            1 => Some(RaiseKind::Raise),
-            2 => Some(RaiseKind::RaiseCause),
-            _ => None,
+            0 => Ok(RaiseKind::Reraise),
+            1 => Ok(RaiseKind::Raise),
+            2 => Ok(RaiseKind::RaiseCause),
+            _ => Err(NoOperator(number)),
         }
     }
 }

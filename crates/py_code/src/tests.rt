@@ -91,25 +91,22 @@ fn a_known_text_keeps_its_place(rt: HostRuntime) -> Result<(), Fail> {
 
 #[test]
 fn an_operator_has_its_number(rt: HostRuntime) {
-    assert_eq!(rt; BinaryOperator::of_number(6), Some(BinaryOperator::Add));
-    assert_eq!(rt; BinaryOperator::of_number(13), None);
+    assert_eq!(rt; BinaryOperator::try_from(6), Ok(BinaryOperator::Add));
+    assert_eq!(rt; BinaryOperator::try_from(13), Err(NoOperator(13)));
     assert_eq!(rt;
-        ComparisonOperator::of_number(2),
-        Some(ComparisonOperator::Equal)
+        ComparisonOperator::try_from(2),
+        Ok(ComparisonOperator::Equal)
     );
-    assert_eq!(rt; UnaryOperator::of_number(2), Some(UnaryOperator::Minus));
-    assert_eq!(rt;
-        TestOperator::of_number(4),
-        Some(TestOperator::ExceptionMatch)
-    );
-    assert_eq!(rt; ConversionFlag::of_number(3), Some(ConversionFlag::Repr));
-    assert_eq!(rt; RaiseKind::of_number(1), Some(RaiseKind::Raise));
-    assert_eq!(rt; BinaryOperator::Or.number(), 12);
-    assert_eq!(rt; ComparisonOperator::NotEqual.number(), 5);
-    assert_eq!(rt; UnaryOperator::Plus.number(), 3);
-    assert_eq!(rt; TestOperator::Is.number(), 2);
-    assert_eq!(rt; ConversionFlag::Ascii.number(), 2);
-    assert_eq!(rt; RaiseKind::RaiseCause.number(), 2);
+    assert_eq!(rt; UnaryOperator::try_from(2), Ok(UnaryOperator::Minus));
+    assert_eq!(rt; TestOperator::try_from(4), Ok(TestOperator::ExceptionMatch));
+    assert_eq!(rt; ConversionFlag::try_from(3), Ok(ConversionFlag::Repr));
+    assert_eq!(rt; RaiseKind::try_from(1), Ok(RaiseKind::Raise));
+    assert_eq!(rt; u32::from(BinaryOperator::Or), 12);
+    assert_eq!(rt; u32::from(ComparisonOperator::NotEqual), 5);
+    assert_eq!(rt; u32::from(UnaryOperator::Plus), 3);
+    assert_eq!(rt; u32::from(TestOperator::Is), 2);
+    assert_eq!(rt; u32::from(ConversionFlag::Ascii), 2);
+    assert_eq!(rt; u32::from(RaiseKind::RaiseCause), 2);
 }
 
 #[test]

@@ -104,9 +104,9 @@ fn asked_operator(number: u32) -> BinaryOperator
     requires { asks_operator (slice_get binary_operators number) ≡ true }
     ensures { asked_operator (slice_get binary_operators number) ≡ Some result }
 {
-    match BinaryOperator::of_number(number) {
-        Some(operator) => operator,
-        None => unreachable!(),
+    match BinaryOperator::try_from(number) {
+        Ok(operator) => operator,
+        Err(_) => unreachable!(),
     }
 }
 
@@ -115,8 +115,8 @@ fn asked_comparison(number: u32) -> ComparisonOperator
     requires { asks_comparison (slice_get comparison_operators number) ≡ true }
     ensures { asked_comparison (slice_get comparison_operators number) ≡ Some result }
 {
-    match ComparisonOperator::of_number(number) {
-        Some(operator) => operator,
-        None => unreachable!(),
+    match ComparisonOperator::try_from(number) {
+        Ok(operator) => operator,
+        Err(_) => unreachable!(),
     }
 }

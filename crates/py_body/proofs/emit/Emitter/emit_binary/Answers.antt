@@ -8,6 +8,6 @@ use Rattle.py_body.proofs.emit.Emitter.emit_binary.Goals as goal
 pub returns-clause-code : goal.returns-clause-code
 returns-clause-code c =
     on_ok_weaker c.emit.result
-    (λ puts. subst (λ (arg : ℕ). EmitsUnit (parts_of c.args.self.now) (parts_of c.emit.new.self) BinaryOperation arg c.args.line) c.number.ensures.number
-    (unit_emitted (parts_of c.args.self.now) (parts_of c.emit.new.self) BinaryOperation c.number.result c.args.line c.requires puts))
+    (λ puts. subst (λ (arg : ℕ). EmitsUnit (parts_of c.args.self.now) (parts_of c.emit.new.self) BinaryOperation arg c.args.line) c.from.ensures.0
+    (unit_emitted (parts_of c.args.self.now) (parts_of c.emit.new.self) BinaryOperation c.from.result c.args.line c.requires puts))
     c.emit.ensures.puts
