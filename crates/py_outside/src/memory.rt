@@ -1,9 +1,11 @@
 //! A source and a sink in memory, which fail where they are told to.
 
-ghost use Rattle.std.specs.Prelude.{◌≡◌, ◌+◌, ◌≤◌, ◌<◌, ◌↔◌, ◌++◌, ◌⊎◌, length, take, drop, [], Some, IsTrue, IsErr, IfOk, OnErr, Contains};
+ghost use Rattle.std.specs.Prelude.{◌≡◌, ◌+◌, ◌≤◌, ◌<◌, ◌↔◌, ◌++◌, ◌⊎◌, length, take, drop, [], Some, false, IsTrue, IsErr, IfOk, OnOk, OnErr, Contains};
 ghost use Rattle.std.specs.Io.{ReadsAtMost, WritesAtMost};
 ghost use Rattle.std.specs.Io.KnownBytes.{ReadConsumes, WriteAppends};
-ghost use Rattle.py_outside.specs.Faults.{HasCause, StaysSound, MeetsNoFault, one_more};
+ghost use Rattle.py_outside.specs.Counting.{HasCause, StaysSound, MeetsNoFault};
+ghost use Rattle.py_outside.specs.Ends.{TellsEnd};
+ghost use Rattle.py_outside.specs.Faults.{one_more};
 ghost use Rattle.py_outside.specs.Memory.{source_after, failed_source, sink_after, failed_sink, readable, writable, none_listed, sure_of};
 
 use crate::sink::{Sink, WriteFailed};
@@ -29,6 +31,7 @@ pub struct SourceMemory {
     most: usize,
     calls: u64,
     faults: u64,
+    at_end: bool,
 }
 
 impl Model for SourceMemory {
@@ -39,7 +42,7 @@ impl Model for SourceMemory {
 
     ghost coded = { source_code };
 
-    ghost view = { λ s. record { left = drop s.start s.bytes.items; fails = s.fails.items; most = s.most; calls = s.calls; faults = s.faults } };
+    ghost view = { λ s. record { left = drop s.start s.bytes.items; fails = s.fails.items; most = s.most; calls = s.calls; faults = s.faults; at_end = s.at_end } };
 
     ghost invariant = { λ s. (s.start ≤ vec_len s.bytes) × (1 ≤ s.most) };
 }
@@ -49,7 +52,7 @@ impl SourceMemory {
     /// `most` bytes.
     pub fn new(bytes: Vec<u8>, fails: Vec<u64>, most: usize) -> SourceMemory
         requires { 1 ≤ most }
-        ensures { result ≡ record { left = bytes.items; fails = fails.items; most = most; calls = 0; faults = 0 } }
+        ensures { result ≡ record { left = bytes.items; fails = fails.items; most = most; calls = 0; faults = 0; at_end = false } }
     {
         SourceMemory {
             bytes,
@@ -58,6 +61,7 @@ impl SourceMemory {
             most,
             calls: 0,
             faults: 0,
+            at_end: false,
         }
     }
 }
@@ -69,6 +73,8 @@ impl Source for SourceMemory {
 
     ghost reads = { λ s. s.calls };
 
+    ghost at_end = { λ s. s.at_end };
+
     ghost is_sound = { λ s. none_listed s.fails };
 
     /// Moves as many bytes as are left, fit and may be moved by one call.
@@ -76,6 +82,8 @@ impl Source for SourceMemory {
         ensures bound { ReadsAtMost result room.new }
         ensures bytes { ReadConsumes (Some self.old.left) (Some self.new.left) result room.new }
         ensures cause { HasCause self.old.faults self.new.faults result }
+        ensures kept { OnOk result (self.new.faults ≡ self.old.faults) }
+        ensures end { TellsEnd room.old self.old.at_end self.new.at_end result }
         ensures turns { self.new.calls ≤ self.old.calls + 1 }
         ensures sound { IsTrue (none_listed self.old.fails) → StaysSound self.old.faults self.new.faults (none_listed self.new.fails) result }
 
@@ -94,12 +102,14 @@ impl Source for SourceMemory {
         self.calls = self.calls.saturating_add(1);
         if is_listed(&self.fails, self.calls) {
             self.faults = self.faults.saturating_add(1);
+            self.at_end = false;
             return Err(ReadFailed);
         }
         let rest = &self.bytes[self.start..];
         let count = rest.len().min(room.len()).min(self.most);
         room[..count].copy_from_slice(&rest[..count]);
         self.start += count;
+        self.at_end = count == 0;
         Ok(count)
     }
 }

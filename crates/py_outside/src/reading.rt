@@ -1,8 +1,8 @@
 //! Reading a source to its end.
 
-ghost use Rattle.std.specs.Prelude.{◌≡◌, ◌+◌, ◌-◌, ◌^◌, ◌<◌, ◌≤◌, length, vec_len, IfOk, OnErr, IfSome, IsErrOf, IsTrue};
+ghost use Rattle.std.specs.Prelude.{◌≡◌, ◌==◌, ◌+◌, ◌-◌, ◌^◌, ◌<◌, ◌≤◌, length, vec_len, IfOk, OnOk, OnErr, IfSome, IsErrOf, IsTrue};
 ghost use Rattle.py_outside.specs.Faults.{Rose};
-ghost use Rattle.py_outside.specs.Transfer.{Takes, HasRead, LosesUpTo, IsUntouched};
+ghost use Rattle.py_outside.specs.Reading.{Takes, HasRead, LosesUpTo, IsCounted, IsUntouched};
 ghost use Rattle.py_outside.specs.declared.reading.ReadError.TheVariants.{NoMemory};
 
 use crate::source::Source;
@@ -38,8 +38,10 @@ fn read_piece<S: Source>(source: &mut S, bytes: &mut Vec<u8>) -> Result<usize, R
     requires { vec_len bytes.old ≤ LIMIT }
     ensures takes { IfOk result (λ count. Takes (S.left source.old) (S.left source.new) bytes.old.items bytes.new.items count) }
     ensures bound { vec_len bytes.new ≤ LIMIT + 1 }
+    ensures end { IfOk result (λ count. S.at_end source.new ≡ (count == 0)) }
     ensures later { S.faults source.old ≤ S.faults source.new }
     ensures fault { IsErrOf result ReadError.Fault → Rose (S.faults source.old) (S.faults source.new) }
+    ensures counted { IsCounted (S.faults source.old) (S.faults source.new) result }
     ensures not_long { IsErrOf result ReadError.TooLong → ⊥ }
     ensures turns { S.reads source.new ≤ S.reads source.old + 1 }
     ensures err { OnErr result (LosesUpTo (S.left source.old) (S.left source.new) (LIMIT + 1 - vec_len bytes.old)) }
@@ -64,9 +66,12 @@ pub fn read_bytes<S: Source>(alloc: Global, source: &mut S) -> Result<Vec<u8>, R
     ensures err { OnErr result (LosesUpTo (S.left source.old) (S.left source.new) (2 ^ 20 + 1)) }
     ensures long { IsErrOf result ReadError.TooLong → IfSome (S.left source.old) (λ all. 2 ^ 20 < length all) }
 
-    // Faults are counted by the source alone.
+    // The source has told its end.
+    ensures end { OnOk result (IsTrue (S.at_end source.new)) }
+    // Faults are counted by the source alone, and no read failed without an answer that says so.
     ensures fault { IsErrOf result ReadError.Fault → Rose (S.faults source.old) (S.faults source.new) }
     ensures later { S.faults source.old ≤ S.faults source.new }
+    ensures counted { IsCounted (S.faults source.old) (S.faults source.new) result }
     ensures turns { S.reads source.new ≤ S.reads source.old + (2 ^ 20 + 1) }
     ensures sound { IsTrue (S.is_sound source.old) → IsUntouched (S.faults source.old) (S.faults source.new) (S.is_sound source.new) result }
 {

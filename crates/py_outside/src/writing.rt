@@ -2,7 +2,7 @@
 
 ghost use Rattle.std.specs.Prelude.{◌≤◌, length, OnOk, OnErr};
 ghost use Rattle.std.specs.Io.KnownBytes.{Appends};
-ghost use Rattle.py_outside.specs.Faults.{HasCause, MeetsNoFault};
+ghost use Rattle.py_outside.specs.Counting.{HasCause, MeetsNoFault};
 ghost use Rattle.py_outside.specs.Transfer.{AppendsFront};
 
 use crate::sink::{Sink, WriteFailed};

@@ -5,7 +5,7 @@ use Rattle.py_body.specs.Binding.{statements}
 use Rattle.py_grammar.specs.declared.script.Script.{Script}
 use Rattle.py_grammar.specs.Script.{IsScript, trees_of}
 use Rattle.py_grammar.specs.WellFormed.{IsWellFormed, IsWellDeclared}
-use Rattle.py_outside.specs.Transfer.{HasRead}
+use Rattle.py_outside.specs.Reading.{HasRead}
 use Rattle.py_script.specs.declared.fault.ScriptFault.{ScriptFault}
 use Rattle.py_script.specs.declared.fault.ScriptFault.TheVariants as fault
 use Rattle.py_script.specs.Steps.{IsRunnable, WasRead, IsParsed, IsReading}

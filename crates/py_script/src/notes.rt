@@ -2,7 +2,8 @@
 
 ghost use Rattle.std.specs.Prelude.{◌≡◌, ◌≤◌, ◌++◌, ◌⊎◌, OnOk, codes, decimal};
 ghost use Rattle.std.specs.Io.KnownBytes.{Appends};
-ghost use Rattle.py_outside.specs.Faults.{HasCause, Rose};
+ghost use Rattle.py_outside.specs.Counting.{HasCause};
+ghost use Rattle.py_outside.specs.Faults.{Rose};
 ghost use Rattle.py_script.specs.Causes.{note_in};
 
 use crate::fault::{CommandResult, ScriptFault};

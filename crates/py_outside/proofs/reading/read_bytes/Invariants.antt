@@ -8,8 +8,7 @@ invariant-loop-turn g l = record {
   short : vec_len l.bytes ≤ LIMIT;
   moved : l._turn ≤ vec_len l.bytes;
   consumed : Consumes (g.S.Source.left l.fn.source) (g.S.Source.left l.source) l.bytes.items;
-  later : g.S.Source.faults l.fn.source ≤ g.S.Source.faults l.source;
   reads : g.S.Source.reads l.source ≤ g.S.Source.reads l.fn.source + l._turn;
-  same : IsTrue (g.S.Source.is_sound l.fn.source) → g.S.Source.faults l.source ≡ g.S.Source.faults l.fn.source;
+  counted : g.S.Source.faults l.source ≡ g.S.Source.faults l.fn.source;
   sound : IsTrue (g.S.Source.is_sound l.fn.source) → IsTrue (g.S.Source.is_sound l.source);
 }

@@ -1,0 +1,12 @@
+-- What a read tells of the end of its source.
+use Rattle.std.specs.Prelude.{◌≡◌, ℕ, ◌<◌, ◌==◌, Bool, false, List, length, Result, Ok, Err}
+
+-- a read that moved nothing has come to the end; one that failed has not
+abbrev pub is_end : {E : Type 0} → Result ℕ E → Bool
+is_end (Ok count) = count == 0
+is_end (Err e) = false
+
+-- a read with room tells whether the source is at its end; one without tells nothing, and what the last one told stays
+pub record TellsEnd {E : Type 0} (room : List ℕ) (before now : Bool) (result : Result ℕ E) : Type 0 where
+  pub told : 0 < length room → now ≡ is_end result
+  pub kept : length room ≡ 0 → now ≡ before
