@@ -1,5 +1,5 @@
 -- The rules that notes keep, and codes whose notes keep them.
-use Rattle.std.specs.Prelude.{◌≡◌, ◌⊎◌, ℕ, zero, suc, ◌+◌, ◌-◌, ◌^◌, ◌<◌, nat_lt, nat_le, List, [], ◌∷◌, length, drop, slice_get, Bool, true, false, not, ◌&&◌, ◌==◌, Option, Some, None, if◌then◌else◌, ℤ, pos, negsuc, bit_and}
+use Rattle.std.specs.Prelude.{◌≡◌, ℕ, suc, ◌+◌, ◌^◌, ◌<◌, nat_lt, nat_le, List, [], ◌∷◌, length, drop, slice_get, Bool, true, false, not, ◌&&◌, ◌==◌, Option, Some, None, if◌then◌else◌, ℤ, pos, negsuc, bit_and}
 use Rattle.std.specs.List.{list_all}
 use Rattle.py_code.specs.declared.unit.CodeUnit.{CodeUnit}
 use Rattle.py_code.specs.declared.instruction.Instruction.{Instruction}
@@ -9,6 +9,7 @@ use Rattle.py_code.specs.declared.operator.BinaryOperator.{BinaryOperator}
 use Rattle.py_code.specs.declared.operator.BinaryOperator.TheVariants as binary
 use Rattle.py_code.specs.declared.operator.ComparisonOperator.{ComparisonOperator}
 use Rattle.py_code.specs.declared.operator.ComparisonOperator.TheVariants as comparison
+pub use Rattle.py_code.specs.Bottom.{bottom}
 use Rattle.py_code.specs.Operators.{binary_operators, comparison_operators}
 use Rattle.py_code.specs.declared.literal.Literal.{Literal}
 use Rattle.py_check.specs.declared.note.Kind.{Kind}
@@ -44,10 +45,6 @@ goes_on sheet to kinds blocks = has_room sheet kinds && lands sheet to kinds blo
 abbrev pub jumps : Sheet → ℕ → List Kind → List BlockNote → Bool
 jumps sheet to kinds blocks = is_label sheet.units to && lands sheet to kinds blocks
 
--- the lowest entries
-abbrev pub bottom : ℕ → List Kind → List Kind
-bottom level kinds = drop (length kinds - level) kinds
-
 -- what leaves a block may come to its handler, where these kinds lie under the block and these blocks around it
 abbrev pub handler_lands : Sheet → BlockNote → List Kind → List BlockNote → Bool
 handler_lands sheet (Loop level) kinds blocks = true
@@ -73,9 +70,8 @@ takes_one [] blocks rest = false
 takes_one (k ∷ kinds) blocks rest = nat_le (top_level blocks) (length kinds) && rest kinds
 
 abbrev pub takes_two : List Kind → List BlockNote → (List Kind → Bool) → Bool
-takes_two [] blocks rest = false
-takes_two (k ∷ []) blocks rest = false
 takes_two (k ∷ l ∷ kinds) blocks rest = nat_le (top_level blocks) (length kinds) && rest kinds
+takes_two _ blocks rest = false
 
 -- so many entries are there to be popped
 abbrev pub takes_many : ℕ → List Kind → List BlockNote → (List Kind → Bool) → Bool
@@ -88,19 +84,9 @@ loads (Some literal) rest = is_loaded literal && rest (kind_of literal)
 
 -- the operators of two operands that run so far
 abbrev pub is_asked : BinaryOperator → Bool
-is_asked binary.Power = false
-is_asked binary.Multiply = false
-is_asked binary.MatrixMultiply = false
-is_asked binary.Divide = false
-is_asked binary.FloorDivide = false
-is_asked binary.Modulo = false
 is_asked binary.Add = true
 is_asked binary.Subtract = true
-is_asked binary.Lshift = false
-is_asked binary.Rshift = false
-is_asked binary.And = false
-is_asked binary.Xor = false
-is_asked binary.Or = false
+is_asked _ = false
 
 abbrev pub asks_operator : Option BinaryOperator → Bool
 asks_operator None = false
@@ -109,11 +95,8 @@ asks_operator (Some op) = is_asked op
 -- the comparisons that run so far
 abbrev pub is_compared : ComparisonOperator → Bool
 is_compared comparison.Less = true
-is_compared comparison.Greater = false
 is_compared comparison.Equal = true
-is_compared comparison.LessOrEqual = false
-is_compared comparison.GreaterOrEqual = false
-is_compared comparison.NotEqual = false
+is_compared _ = false
 
 abbrev pub asks_comparison : Option ComparisonOperator → Bool
 asks_comparison None = false
@@ -124,8 +107,7 @@ abbrev pub is_popped : BlockNote → Bool
 is_popped (Loop level) = true
 is_popped (TryExcept level handler) = true
 is_popped (Finally level handler) = true
-is_popped (FinallyHandler level pending) = false
-is_popped (ExceptHandler level) = false
+is_popped _ = false
 
 -- the innermost block may end, with what lies above its level
 abbrev pub leaves_block : Sheet → ℕ → List Kind → List BlockNote → Bool
@@ -165,9 +147,8 @@ keeps_behind sheet at unit (Live kinds blocks) =
 
 -- a unit and its note are there, and keep the rules
 abbrev pub keeps_both : Sheet → ℕ → Option CodeUnit → Option Note → Bool
-keeps_both sheet at None _ = false
-keeps_both sheet at (Some unit) None = false
 keeps_both sheet at (Some unit) (Some note) = keeps_behind sheet at unit note
+keeps_both sheet at _ _ = false
 
 -- the unit at a place keeps the rules on units
 abbrev pub keeps_at : Sheet → ℕ → Bool
@@ -175,11 +156,8 @@ keeps_at sheet at = keeps_both sheet at (slice_get sheet.units at) (slice_get sh
 
 -- a code is entered without values and blocks
 abbrev pub is_start : Option Note → Bool
-is_start None = false
-is_start (Some Dead) = false
 is_start (Some (Live [] [])) = true
-is_start (Some (Live [] (b ∷ blocks))) = false
-is_start (Some (Live (k ∷ kinds) blocks)) = false
+is_start _ = false
 
 -- there are as many locations and notes as units, at least one, and not too many for labels
 abbrev pub counts_match : Sheet → Bool
@@ -214,21 +192,7 @@ keeps_whole sheet =
     counts_match sheet && is_start (slice_get sheet.notes 0) && parameters_fit sheet && cells_fit sheet sheet.cell2arg
     && nat_le sheet.max_stackdepth 65535 && list_all (λ c. not (has_code c)) sheet.constants
 
--- a unit keeps the rules; those on the whole code count as unit 0's
-abbrev pub keeps_all_at : Sheet → ℕ → Bool
-keeps_all_at sheet zero = keeps_whole sheet && keeps_at sheet 0
-keeps_all_at sheet (suc at) = keeps_at sheet (suc at)
-
-abbrev pub keeps : Annotated → ℕ → Bool
-keeps code at = keeps_all_at (sheet_of code) at
-
 -- the code and each of its units keep the rules
 pub record IsTyped (code : Annotated) : Type 0 where
   pub whole : keeps_whole (sheet_of code) ≡ true
   pub each : (at : ℕ) → at < length code.code.code.instructions.items → keeps_at (sheet_of code) at ≡ true
-
--- the first unit that breaks a rule
-pub record BreaksFirst (code : Annotated) (at : ℕ) : Type 0 where
-  pub within : (at ≡ 0) ⊎ (at < length code.code.code.instructions.items)
-  pub breaks : keeps code at ≡ false
-  pub before : (k : ℕ) → k < at → keeps code k ≡ true

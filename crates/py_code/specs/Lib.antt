@@ -1,5 +1,8 @@
--- units, and the arguments that prefixes build
+-- the arguments that prefixes build, and the units behind them
+pub mod Arguments
 pub mod Units
+-- what lies lowest on a stack
+pub mod Bottom
 -- operators, and their numbers
 pub mod Operators
 pub mod Numbers

@@ -1,18 +1,8 @@
--- Units of code, and the arguments that prefixes build.
-use Rattle.std.specs.Prelude.{ℕ, ◌+◌, ◌*◌, ◌%◌, ◌^◌, List, [], ◌∷◌, Bool, true, false, Option, Some, None, if◌then◌else◌}
+-- Units of code behind their prefixes.
+use Rattle.std.specs.Prelude.{ℕ, ◌+◌, List, [], ◌∷◌, Option, Some, None, if◌then◌else◌}
 use Rattle.py_code.specs.declared.unit.CodeUnit.{CodeUnit}
-use Rattle.py_code.specs.declared.instruction.Instruction.{Instruction}
-use Rattle.py_code.specs.declared.instruction.Instruction.TheVariants.{ExtendedArg}
 use Rattle.py_code.specs.declared.code.Decoded.{Decoded}
-
--- an argument with one more byte behind it: the low 32 bits
-abbrev pub with_byte : ℕ → ℕ → ℕ
-with_byte state arg = (state * 256 + arg) % 2 ^ 32
-
--- whether a unit only carries a part of the next one's argument
-abbrev pub is_prefix : Instruction → Bool
-is_prefix ExtendedArg = true
-is_prefix _ = false
+pub use Rattle.py_code.specs.Arguments.{with_byte, is_prefix}
 
 -- the unit behind the prefixes that the units begin with, where the argument so far and the
 -- place of the first unit are given

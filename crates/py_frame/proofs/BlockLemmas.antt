@@ -10,7 +10,8 @@ use Rattle.py_check.specs.declared.note.Kind.{Kind}
 use Rattle.py_check.specs.declared.note.Note.{Note}
 use Rattle.py_check.specs.declared.note.BlockNote.{BlockNote}
 use Rattle.py_check.specs.declared.note.BlockNote.TheVariants as note
-use Rattle.py_check.specs.Notes.{block_number, level_of, handler_of, pending_of, is_subset, block_fits, blocks_fit, block_count, deepest}
+use Rattle.py_check.specs.Notes.{block_number, level_of, handler_of, pending_of, is_subset, block_fits, blocks_fit}
+use Rattle.py_check.specs.Depths.{block_count, deepest}
 use Rattle.py_check.specs.Rules.{bottom}
 use Rattle.py_stack.specs.Stacks as stacks
 use Rattle.py_frame.specs.declared.block.Block.{Block}

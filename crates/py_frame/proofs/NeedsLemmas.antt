@@ -18,7 +18,7 @@ use Rattle.py_check.specs.declared.note.BlockNote.TheVariants as note
 use Rattle.py_check.specs.declared.note.Note.TheVariants.{Live}
 use Rattle.py_check.specs.declared.annotated.Annotated.{Annotated}
 use Rattle.py_check.specs.Constants.{is_loaded, kind_of}
-use Rattle.py_check.specs.Notes.{deepest}
+use Rattle.py_check.specs.Depths.{deepest}
 use Rattle.py_check.specs.Sheet.{sheet_of}
 use Rattle.py_check.specs.Rules.{IsTyped, takes_one, takes_two, takes_many, top_level, asks_operator, asks_comparison, leaves_block, keeps_op, jumps}
 use Rattle.py_check.specs.Rules as rules

@@ -9,7 +9,7 @@ use Rattle.py_objects.specs.declared.event.GotAnswer.TheVariants as got
 use Rattle.py_objects.specs.Objects.{Obj, Grows}
 use Rattle.py_objects.specs.Own.{Own}
 use Rattle.py_check.specs.declared.annotated.Annotated.{Annotated}
-use Rattle.py_check.specs.Notes.{deepest}
+use Rattle.py_check.specs.Depths.{deepest}
 use Rattle.py_check.specs.Rules.{IsTyped}
 use Rattle.py_frame.specs.declared.input.Expect.{Expect}
 use Rattle.py_frame.specs.declared.input.Expect.TheVariants as expect

@@ -7,7 +7,7 @@ use Rattle.py_objects.specs.declared.payload.Payload.{Payload}
 use Rattle.py_objects.specs.Objects.{Obj}
 use Rattle.py_check.specs.declared.note.Kind.{Kind}
 use Rattle.py_check.specs.declared.annotated.Annotated.{Annotated}
-use Rattle.py_check.specs.Notes.{deepest}
+use Rattle.py_check.specs.Depths.{deepest}
 use Rattle.py_check.specs.Sheet.{Sheet, sheet_of}
 use Rattle.py_check.specs.Worked.{Typed}
 use Rattle.py_frame.specs.Rows.{with_locals}

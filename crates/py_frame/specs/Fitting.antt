@@ -15,7 +15,7 @@ use Rattle.py_check.specs.declared.note.BlockNote.{BlockNote}
 use Rattle.py_check.specs.declared.note.BlockNote.TheVariants as note
 use Rattle.py_check.specs.declared.note.Note.TheVariants.{Live}
 use Rattle.py_check.specs.declared.annotated.Annotated.{Annotated}
-use Rattle.py_check.specs.Notes.{deepest}
+use Rattle.py_check.specs.Depths.{deepest}
 use Rattle.py_check.specs.Operands.{carried}
 use Rattle.py_check.specs.Rules.{IsTyped}
 use Rattle.py_frame.specs.declared.block.Block.{Block}

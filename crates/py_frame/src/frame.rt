@@ -1,7 +1,7 @@
 //! A frame: a running code's place, stack and locals.
 
 ghost use Rattle.std.specs.Prelude.{◌≡◌, ◌+◌, ◌-◌, ◌^◌, ◌<◌, ◌≤◌, [], ◌∷◌, length, take, drop, reverse, slice_get, slice_set, Some, IfOk, OnOk, OnErr};
-ghost use Rattle.py_check.specs.Notes.{deepest};
+ghost use Rattle.py_check.specs.Depths.{deepest};
 ghost use Rattle.py_stack.specs.Stacks.{bottom};
 ghost use Rattle.py_frame.specs.Rows.{landed, next, pushed, set_in, unwound, waiting, with_blocks, with_locals, with_prefix, with_stack};
 ghost use Rattle.py_frame.specs.Fitting.{unfilled};

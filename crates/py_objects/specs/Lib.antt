@@ -9,9 +9,10 @@ pub mod Telling
 pub mod Scopes
 pub mod Attrs
 pub mod Pairs
--- what can be read off payloads, which keys are one, and what changes do to payloads
+-- what can be read off payloads, which keys are one, what changes do to payloads, and which fit
 pub mod Values
 pub mod Keys
+pub mod Changes
 pub mod Edits
 -- how a store keeps what its objects were made as
 pub mod Originals

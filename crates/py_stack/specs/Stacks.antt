@@ -1,5 +1,6 @@
 -- Stacks as lists with the top first, and their entries counted from the bottom.
-use Rattle.std.specs.Prelude.{ℕ, ◌-◌, List, [], length, take, drop, reverse}
+use Rattle.std.specs.Prelude.{ℕ, ◌-◌, List, [], length, take, reverse}
+pub use Rattle.py_code.specs.Bottom.{bottom}
 use Rattle.py_objects.specs.Objects.{Obj}
 
 -- a stack
@@ -10,10 +11,6 @@ pub record Stack : Type 0 where
 -- a stack without entries
 abbrev pub empty : ℕ → Stack
 empty size = record { list = []; room = size }
-
--- the lowest n entries
-abbrev pub bottom : ℕ → List Obj → List Obj
-bottom n list = drop (length list - n) list
 
 -- the entries above the lowest n, the lowest of them first
 abbrev pub above : ℕ → List Obj → List Obj
