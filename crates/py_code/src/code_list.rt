@@ -1,6 +1,7 @@
 //! The codes of a program, with the names that they use.
 
-ghost use Rattle.std.specs.Prelude.{◌≡◌, [], ◌∷◌, ◌++◌, length, slice_get, option_copied, OnOk, OnErr};
+ghost use Rattle.std.specs.Prelude.{◌≡◌, ◌==◌, [], ◌∷◌, ◌++◌, length, slice_get, option_copied, OnOk, OnErr};
+ghost use Rattle.std.specs.Slice.Iter.{iter_rest};
 ghost use Rattle.py_code.specs.Codes.{Codes};
 
 use crate::code::PyCode;
@@ -8,10 +9,11 @@ use crate::list::NoMemory;
 use crate::names::Names;
 use std::alloc::Global;
 use std::marker::Model;
+use std::slice;
 
 /// Codes in order, and the table that their names are places in. A constant refers to a code by
 /// its place, from 0.
-#[derive(Drop)]
+#[derive(Debug, Drop)]
 pub struct CodeList {
     names: Names,
     items: Vec<PyCode>,
@@ -52,10 +54,8 @@ impl CodeList {
         ensures added { OnOk result (self.new ≡ record self.old { codes = self.old.codes ++ code ∷ [] }) }
         ensures err { OnErr result (self.new ≡ self.old) }
     {
-        match self.items.push(code) {
-            Ok(()) => Ok(()),
-            Err(_) => Err(NoMemory),
-        }
+        self.items.push(code)?;
+        Ok(())
     }
 
     /// How many codes there are.
@@ -63,6 +63,20 @@ impl CodeList {
         ensures { result ≡ length self.now.codes }
     {
         self.items.len()
+    }
+
+    /// Whether there are none.
+    pub fn is_empty(&self) -> bool
+        ensures { result ≡ (length self.now.codes == 0) }
+    {
+        self.items.is_empty()
+    }
+
+    /// The codes in order, one after another.
+    pub fn iter(&self) -> slice::Iter<'_, PyCode>
+        ensures { iter_rest result ≡ self.now.codes }
+    {
+        self.items.iter()
     }
 
     /// The code at a place, from 0.

@@ -24,7 +24,7 @@ impl<T: Drop> From<AllocFailed<T>> for NoMemory {
 }
 
 /// Items in order, seen as their list.
-#[derive(Drop)]
+#[derive(Debug, Drop)]
 pub struct ItemList<T> {
     items: Vec<T>,
 }

@@ -1,11 +1,13 @@
 //! The constants of a code.
 
-ghost use Rattle.std.specs.Prelude.{◌≡◌, [], ◌∷◌, ◌++◌, length, slice_get, OnOk, OnErr, option_copied};
+ghost use Rattle.std.specs.Prelude.{◌≡◌, ◌==◌, [], ◌∷◌, ◌++◌, length, slice_get, OnOk, OnErr, option_copied};
+ghost use Rattle.std.specs.Slice.Iter.{iter_rest};
 ghost use Rattle.py_code.specs.Literals.{literals_of};
 
 use crate::list::NoMemory;
 use crate::text::PyText;
 use std::alloc::Global;
+use std::slice;
 
 /// A function that the machine itself carries out.
 #[derive(Clone, Copy, Debug, PartialEq, Eq)]
@@ -34,7 +36,7 @@ pub enum BuiltinFn {
 }
 
 /// A constant.
-#[derive(Drop)]
+#[derive(Debug, Drop)]
 #[cycle(literal)]
 pub enum Literal {
     None,
@@ -48,7 +50,7 @@ pub enum Literal {
 }
 
 /// Constants in order.
-#[derive(Drop)]
+#[derive(Debug, Drop)]
 #[cycle(literal)]
 pub struct LiteralList {
     items: Vec<Literal>,
@@ -71,6 +73,20 @@ impl LiteralList {
         self.items.len()
     }
 
+    /// Whether there are none.
+    pub fn is_empty(&self) -> bool
+        ensures { result ≡ (length (literals_of self.now) == 0) }
+    {
+        self.items.is_empty()
+    }
+
+    /// The constants in order, one after another.
+    pub fn iter(&self) -> slice::Iter<'_, Literal>
+        ensures { iter_rest result ≡ literals_of self.now }
+    {
+        self.items.iter()
+    }
+
     /// The constant at a place, from 0.
     pub fn get(&self, at: usize) -> Option<&Literal>
         ensures { option_copied result ≡ slice_get (literals_of self.now) at }
@@ -83,9 +99,7 @@ impl LiteralList {
         ensures added { OnOk result (literals_of self.new ≡ literals_of self.old ++ literal ∷ []) }
         ensures err { OnErr result (literals_of self.new ≡ literals_of self.old) }
     {
-        match self.items.push(literal) {
-            Ok(()) => Ok(()),
-            Err(_) => Err(NoMemory),
-        }
+        self.items.push(literal)?;
+        Ok(())
     }
 }

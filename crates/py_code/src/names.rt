@@ -1,6 +1,6 @@
 //! The table of names.
 
-ghost use Rattle.std.specs.Prelude.{◌≡◌, ◌≢◌, ◌<◌, ℕ, [], length, slice_get, IfOk, OnOk, OnErr, IfSome, IfNone, option_map};
+ghost use Rattle.std.specs.Prelude.{◌≡◌, ◌==◌, ◌≢◌, ◌<◌, ℕ, [], length, slice_get, IfOk, OnOk, OnErr, IfSome, IfNone, option_map};
 ghost use Rattle.py_code.specs.Names.{interned, place_of, TextsDiffer};
 
 use crate::list::NoMemory;
@@ -15,7 +15,7 @@ pub struct NameId {
 }
 
 /// Distinct texts, each known by its place. Seen as the list of their bytes.
-#[derive(Drop)]
+#[derive(Debug, Drop)]
 pub struct Names {
     alloc: Global,
     texts: IndexSet<String>,
@@ -48,6 +48,13 @@ impl Names {
         ensures { result ≡ length self.now }
     {
         self.texts.len()
+    }
+
+    /// Whether there are none.
+    pub fn is_empty(&self) -> bool
+        ensures { result ≡ (length self.now == 0) }
+    {
+        self.texts.is_empty()
     }
 
     /// The text of a name.

@@ -1,6 +1,6 @@
 //! The attributes of an object.
 
-ghost use Rattle.std.specs.Prelude.{◌≡◌, [], length, IfOk, OnOk, OnErr};
+ghost use Rattle.std.specs.Prelude.{◌≡◌, ◌==◌, [], length, IfOk, OnOk, OnErr};
 ghost use Rattle.py_objects.specs.Attrs.{inserted, value_of, without};
 
 use crate::refs::PyObjectRef;
@@ -10,7 +10,7 @@ use std::alloc::Global;
 use std::marker::Model;
 
 /// Values by their names, in the order in which the names came. Seen as the list of both.
-#[derive(Drop)]
+#[derive(Debug, Drop)]
 pub struct AttrMap {
     /// The names by their characters.
     entries: IndexMap<Vec<char>, PyObjectRef>,
@@ -48,6 +48,13 @@ impl AttrMap {
         ensures { result ≡ length self.now }
     {
         self.entries.len()
+    }
+
+    /// Whether there are none.
+    pub fn is_empty(&self) -> bool
+        ensures { result ≡ (length self.now == 0) }
+    {
+        self.entries.is_empty()
     }
 
     /// The value of a name, where it is known.

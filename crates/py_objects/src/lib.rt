@@ -13,6 +13,7 @@ mod refs;
 mod request;
 mod scope;
 mod store;
+mod values;
 
 pub use attr_map::AttrMap;
 pub use edit::{AwaitState, Change, ChangeList, Edit, History, LinkField};

@@ -1,15 +1,17 @@
 //! The pairs of a dict.
 
-ghost use Rattle.std.specs.Prelude.{◌≡◌, ◌<◌, [], ◌∷◌, ◌++◌, length, slice_get, option_copied, remove, IfOk, OnOk, OnErr};
+ghost use Rattle.std.specs.Prelude.{◌≡◌, ◌==◌, ◌<◌, [], ◌∷◌, ◌++◌, length, slice_get, option_copied, remove, IfOk, OnOk, OnErr};
+ghost use Rattle.std.specs.Slice.Iter.{iter_rest};
 ghost use Rattle.py_objects.specs.Pairs.{with_value};
 
 use crate::refs::PyObjectRef;
 use py_code::NoMemory;
 use std::alloc::Global;
 use std::marker::Model;
+use std::slice;
 
 /// Keys with their values, in order.
-#[derive(Drop)]
+#[derive(Debug, Drop)]
 pub struct PairList {
     items: Vec<(PyObjectRef, PyObjectRef)>,
 }
@@ -37,10 +39,8 @@ impl PairList {
         ensures added { OnOk result (self.new ≡ self.old ++ pair ∷ []) }
         ensures err { OnErr result (self.new ≡ self.old) }
     {
-        match self.items.push(pair) {
-            Ok(()) => Ok(()),
-            Err(_) => Err(NoMemory),
-        }
+        self.items.push(pair)?;
+        Ok(())
     }
 
     /// How many pairs there are.
@@ -48,6 +48,20 @@ impl PairList {
         ensures { result ≡ length self.now }
     {
         self.items.len()
+    }
+
+    /// Whether there are none.
+    pub fn is_empty(&self) -> bool
+        ensures { result ≡ (length self.now == 0) }
+    {
+        self.items.is_empty()
+    }
+
+    /// The pairs in order, one after another.
+    pub fn iter(&self) -> slice::Iter<'_, (PyObjectRef, PyObjectRef)>
+        ensures { iter_rest result ≡ self.now }
+    {
+        self.items.iter()
     }
 
     /// The pair at a place, from 0.

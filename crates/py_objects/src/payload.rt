@@ -9,7 +9,7 @@ use crate::refs::{FrameRef, ObjList, PyObjectRef, PyTypeRef};
 use py_code::{ItemList, PyText};
 
 /// What an object is. Names are texts; other objects are named by their numbers.
-#[derive(Drop)]
+#[derive(Debug, Drop)]
 pub enum Payload {
     None,
     Bool(bool),
@@ -32,20 +32,20 @@ pub enum Payload {
 pub type PayloadList = ItemList<Payload>;
 
 /// A class.
-#[derive(Drop)]
+#[derive(Debug, Drop)]
 pub struct ClassBody {
     pub name: PyText,
 }
 
 /// A function, with the number of its code among the codes of the run.
-#[derive(Drop)]
+#[derive(Debug, Drop)]
 pub struct FunctionBody {
     pub name: PyText,
     pub code: usize,
 }
 
 /// A context manager: the functions that a `with` enters and leaves it by.
-#[derive(Drop)]
+#[derive(Debug, Drop)]
 pub struct ManagerBody {
     pub name: PyText,
     pub enter: PyObjectRef,
@@ -61,7 +61,7 @@ pub enum CoroKind {
 }
 
 /// A generator, with the number of its activation.
-#[derive(Drop)]
+#[derive(Debug, Drop)]
 pub struct CoroBody {
     pub activation: u64,
     pub name: PyText,
@@ -70,7 +70,7 @@ pub struct CoroBody {
 
 /// An exception: its class, its arguments as one tuple, its links, and its attributes (Python Language Reference, 4.2 and
 /// 7.8).
-#[derive(Drop)]
+#[derive(Debug, Drop)]
 pub struct ExceptionBody {
     pub class: PyTypeRef,
     pub args: PyObjectRef,
@@ -117,7 +117,7 @@ impl ErrorKind {
 }
 
 /// An exception that is to be made: its class, and its one argument, a text.
-#[derive(Drop)]
+#[derive(Debug, Drop)]
 pub struct Fault {
     pub kind: ErrorKind,
     pub text: PyText,
