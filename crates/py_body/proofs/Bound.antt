@@ -1,11 +1,14 @@
 -- The places of names, and how many names a body binds.
-use Rattle.std.proofs.Common.{◌≡◌, ◌<◌, ◌≤◌, ◌+◌, ℕ, suc, List, [], ◌∷◌, ◌++◌, Bool, true, false, cond, not, ◌||◌, Some, None, refl, sym, ap, length, length-append, arith}
+use Rattle.std.proofs.Common.{◌≡◌, ◌<◌, ◌≤◌, ◌+◌, ℕ, suc, List, [], ◌∷◌, ◌++◌, Bool, true, false, cond, not, ◌||◌, Some, None, refl, sym, ap, ◌∙◌, length, length-append, arith}
 use Rattle.std.specs.Prelude.{Option, bytes_eq, position, unwrap_or, nat_lt, slice_get}
 use Rattle.std.specs.List.{list_any, position_or_len}
 use Rattle.std.proofs.lemmas.Bool.{ltb-false}
 use Rattle.std.proofs.lemmas.Slice.Eq.{bytes_eq-Decides}
-use Rattle.py_body.specs.Tree.{Name, Form, assign, operate, show, give, pass, branch, choice, loop, Suite, nothing, first, add}
-use Rattle.py_body.specs.Binding.{bound, bound_if, bound_in, bound_by, statements_in, statements}
+use Rattle.py_code.specs.Names.{interned, place_of}
+use Rattle.py_body.specs.Tree.{Name, Form, assign, operate, show, give, pass, branch, choice, loop, Suite, nothing, first}
+use Rattle.py_body.specs.Suites.{add}
+use Rattle.py_body.specs.Binding.{bound, bound_if, bound_in, bound_by}
+use Rattle.py_body.specs.Compilable.{statements_in, statements}
 use Rattle.py_body.specs.Code.{place}
 use Rattle.py_body.proofs.Placed.{placed_any}
 
@@ -55,12 +58,18 @@ place-within (y ∷ ys) x = by (bytes_eq x y) (place-within ys x)
     by true later = omega arith
     by false later = omega (arith, later)
 
-pub place-position : (vars : List Name) (x : Name) → unwrap_or (position (bytes_eq x) vars) (length vars) ≡ place vars x
-place-position vars x = rw (place-or_len vars x) (by (nat_lt (place vars x) (length vars)) refl)
+pub place_position : (vars : List Name) (x : Name) → unwrap_or (position (bytes_eq x) vars) (length vars) ≡ place vars x
+place_position vars x = rw (place-or_len vars x) (by (nat_lt (place vars x) (length vars)) refl)
   where
     by : (b : Bool) → nat_lt (place vars x) (length vars) ≡ b → unwrap_or (cond b (Some (place vars x)) None) (length vars) ≡ place vars x
     by true low = refl
     by false high = omega (arith, ltb-false _ _ high, place-within vars x)
+
+-- and where it finds it in a set behind an insertion
+pub place_inserted : (old new : List Name) (x : Name) (at : ℕ) → new ≡ interned old x → place_of new x ≡ Some at → at ≡ place (bound old x) x
+place_inserted old new x at is found =
+    let P : Option ℕ → ℕ = λ o. unwrap_or o (length new) in
+    sym (sym (place_position new x) ∙ ap P found) ∙ ap (λ (names : List Name). place names x) is
 
 -- ---- how many names statements bind
 

@@ -9,8 +9,10 @@ use Rattle.py_code.specs.declared.unit.CodeUnit.{CodeUnit}
 use Rattle.py_check.specs.Operands.{prefixes}
 use Rattle.py_body.specs.declared.atom.Atom.{Atom}
 use Rattle.py_body.specs.declared.atom.Operator.{Operator}
-use Rattle.py_body.specs.Tree.{Name, Form, assign, operate, show, give, pass, branch, choice, loop, Suite, nothing, first, add, Tree}
-use Rattle.py_body.specs.Binding.{IsCompilable, takes_count, locals_of, statements, statements_in}
+use Rattle.py_body.specs.Tree.{Name, Form, assign, operate, show, give, pass, branch, choice, loop, Suite, nothing, first, Tree}
+use Rattle.py_body.specs.Suites.{add}
+use Rattle.py_body.specs.Binding.{takes_count, locals_of}
+use Rattle.py_body.specs.Compilable.{IsCompilable, statements, statements_in}
 use Rattle.py_body.specs.Code.{Parts, Stands, StandsConst, LaidAtom, LaidAtoms, LaidOperator, LaidTarget, LaidForm, LaidSuite}
 use Rattle.py_body.specs.Emitting.{IsMatched, HasRoom, put, label_units, relabelled, Puts, Holds, Emits, EmitsConst, EmitsAtom, EmitsAtoms, EmitsOperation, EmitsTarget, EmitsTest, WhereFits, most_units, EmitsForm, EmitsSuite, IsEmitted}
 use Rattle.py_body.proofs.Bound.{length-bound_by, statements-add}

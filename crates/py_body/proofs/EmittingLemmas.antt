@@ -8,7 +8,7 @@ use Rattle.py_code.specs.declared.instruction.Instruction.{Instruction}
 use Rattle.py_code.specs.declared.literal.Literal.{Literal}
 use Rattle.py_code.specs.Units.{decoded_from, is_prefix}
 use Rattle.py_body.specs.Tree.{Name}
-use Rattle.py_body.specs.Naming.{Continues}
+use Rattle.py_body.specs.Fits.{Continues}
 use Rattle.py_body.specs.Code.{Parts, Stands}
 use Rattle.py_body.specs.Emitting.{AreSpelled, HaveNoCode, IsMatched, located, put, Spells, Puts, label_units, with_label, relabelled, StandsIn, Emits, EmitsUnit}
 use Rattle.py_body.proofs.Placed.{Continues-refl, Continues-trans}

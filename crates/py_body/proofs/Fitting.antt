@@ -7,12 +7,13 @@ use Rattle.py_check.specs.declared.annotated.Annotated.{Annotated}
 use Rattle.py_frame.specs.Signature.{params_of}
 use Rattle.py_frame.proofs.SignatureLemmas.{params_stay}
 use Rattle.py_body.specs.Tree.{Name, Tree}
-use Rattle.py_body.specs.Binding.{IsCompilable, locals_of}
+use Rattle.py_body.specs.Binding.{locals_of}
+use Rattle.py_body.specs.Compilable.{IsCompilable}
 use Rattle.py_body.specs.Code.{Parts, parts_with, IsLaid, IsPlain}
 use Rattle.py_body.specs.Depths.{notes_of}
 use Rattle.py_body.specs.Emitting.{IsEmitted}
-use Rattle.py_body.specs.Fits.{Fits}
-use Rattle.py_body.specs.Naming.{Continues, IsNamed}
+use Rattle.py_body.specs.Fits.{Fits, Continues}
+use Rattle.py_body.specs.Naming.{IsNamed}
 use Rattle.py_body.proofs.NamingLemmas.{NamesAll-below, NamesAll-grown, params_named}
 use Rattle.py_body.proofs.Tracing.{traces_laid}
 use Rattle.py_body.proofs.TypedCode.{typed_code}

@@ -29,8 +29,8 @@ pub mod Placed
 pub mod Bound
 -- names in a table that grows
 pub mod NamingLemmas
--- names and their texts
-pub mod EncodedNames
+-- the names of parameters
+pub mod Parameters
 -- units that are spelled
 pub mod Spelling
 -- labels as they are spelled

@@ -16,7 +16,8 @@ use Rattle.py_frame.specs.Rows.{name_in}
 use Rattle.py_frame.specs.Signature.{characters, params_of}
 use Rattle.py_body.specs.Tree.{Name, Tree}
 use Rattle.py_body.specs.Binding.{locals_of}
-use Rattle.py_body.specs.Naming.{Continues, IsNameOf, IsNameFor, NamesAll, IsNamed}
+use Rattle.py_body.specs.Naming.{IsNameOf, IsNameFor, NamesAll, IsNamed}
+use Rattle.py_body.specs.Fits.{Continues}
 use Rattle.py_body.proofs.Labels.{take-append}
 use Rattle.py_body.proofs.Placed.{Continues-bound_by, Continues-trans}
 use Rattle.py_body.proofs.Spelling.{slice_get-front}

@@ -8,7 +8,7 @@ use Rattle.py_code.specs.declared.literal.Literal.{Literal}
 use Rattle.py_check.specs.Constants.{has_code}
 use Rattle.py_body.specs.declared.atom.Atom.TheVariants as atom
 use Rattle.py_body.specs.Tree.{Name}
-use Rattle.py_body.specs.Naming.{Continues}
+use Rattle.py_body.specs.Fits.{Continues}
 use Rattle.py_body.specs.Binding.{bound}
 use Rattle.py_body.specs.Code.{Parts, place, Stands, LaidName}
 use Rattle.py_body.specs.Emitting.{IsMatched, Puts, with_global, EmitsAtom, EmitsConst, EmitsTarget}

@@ -1,11 +1,11 @@
 -- The names that a body binds have places among its locals.
-use Rattle.std.proofs.Common.{◌≡◌, ◌<◌, zero, suc, List, [], ◌∷◌, ◌++◌, Bool, true, false, cond, ◌||◌, Some, None, refl, sym, ap, ◌∙◌, length, append_assoc, append-nil, arith, true≢false}
-use Rattle.std.specs.Prelude.{Option, bytes_eq, Contains}
+use Rattle.std.proofs.Common.{◌≡◌, ◌<◌, suc, List, [], ◌∷◌, ◌++◌, Bool, true, false, cond, ◌||◌, Some, None, refl, sym, ap, ◌∙◌, length, append_assoc, append-nil, arith}
+use Rattle.std.specs.Prelude.{Option, bytes_eq}
 use Rattle.std.specs.List.{list_any}
 use Rattle.std.proofs.lemmas.Slice.Eq.{bytes_eq-Decides}
 use Rattle.py_body.specs.Tree.{Name, Form, assign, operate, show, give, pass, branch, choice, loop, Suite, nothing, first}
 use Rattle.py_body.specs.Binding.{bound, bound_if, bound_in, bound_by}
-use Rattle.py_body.specs.Naming.{Continues}
+use Rattle.py_body.specs.Fits.{Continues}
 use Rattle.py_body.specs.Code.{place}
 
 -- ---- lists that go on
@@ -58,16 +58,6 @@ place-append (y ∷ ys) more x below = by (bytes_eq x y) (place-append ys more x
 
 pub placed_on : (names vars : List Name) (x : Name) → Continues names vars → IsPlaced names x → IsPlaced vars x
 placed_on names vars x (more, is) below = rw is (place-append names more x below)
-
--- a name that is there has a place
-pub placed_known : (names : List Name) (x : Name) → Contains names x → IsPlaced names x
-placed_known [] x (k, low, at) = absurd (omega (arith, low))
-placed_known (y ∷ ys) x known = by (bytes_eq x y) refl known (placed_known ys x)
-  where
-    by : (b : Bool) → bytes_eq x y ≡ b → Contains (y ∷ ys) x → (Contains ys x → IsPlaced ys x) → cond b 0 (suc (place ys x)) < suc (length ys)
-    by true is found later = omega arith
-    by false is (zero, low, at) later = absurd (true≢false (sym ((bytes_eq-Decides x y).1 (sym at)) ∙ is))
-    by false is (suc k, low, at) later = omega (arith, later (k, omega (arith, low), at))
 
 pub placed_any : (names : List Name) (x : Name) → list_any (bytes_eq x) names ≡ true → IsPlaced names x
 placed_any [] x some = absurd (cc)

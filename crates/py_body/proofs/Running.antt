@@ -16,7 +16,8 @@ use Rattle.py_frame.specs.RunOfRows.{ByStep, Reaches}
 use Rattle.py_body.specs.declared.atom.Atom.{Atom}
 use Rattle.py_body.specs.declared.atom.Operator.{Operator}
 use Rattle.py_body.specs.Tree.{Name, Form, assign, operate, show, give, pass, branch, choice, loop, Suite, nothing, first}
-use Rattle.py_body.specs.Binding.{Env, set_local, bind, takes_count, FormTakes, SuiteTakes}
+use Rattle.py_body.specs.Binding.{Env, set_local, bind, takes_count}
+use Rattle.py_body.specs.Compilable.{FormTakes, SuiteTakes}
 use Rattle.py_body.specs.Scene.{Scene}
 use Rattle.py_body.specs.Fits.{located}
 use Rattle.py_body.specs.Outcome.{After, Normal, By_truth, Runner, On_normal, On_turn, Loops, Runs, RunsSuite}

@@ -12,7 +12,8 @@ use Rattle.py_objects.specs.Own.{Own, Ends}
 use Rattle.py_frame.specs.Rows.{Setting, State, Tells, unwound}
 use Rattle.py_frame.specs.RunOfRows.{RowsRun, started, filled, Reaches}
 use Rattle.py_body.specs.Tree.{Name, Tree}
-use Rattle.py_body.specs.Binding.{Env, locals_of, start_env, IsCompilable}
+use Rattle.py_body.specs.Binding.{Env, locals_of, start_env}
+use Rattle.py_body.specs.Compilable.{IsCompilable}
 use Rattle.py_body.specs.Scene.{Scene}
 use Rattle.py_body.specs.Fits.{located}
 use Rattle.py_body.specs.Outcome.{Normal, RunsSuite}

@@ -6,8 +6,9 @@ use Rattle.py_body.specs.declared.stmt.StmtList.{StmtList, StmtList', Row_of-Stm
 use Rattle.py_body.specs.declared.stmt.StmtForm.{StmtForm}
 use Rattle.py_body.specs.declared.stmt.StmtForm.TheOpen.{StmtList-F}
 use Rattle.py_body.specs.declared.stmt.StmtForm.TheViews.{roll-StmtList, the_lemmas}
-use Rattle.py_body.specs.Binding.{FormTakes, SuiteTakes, statements, statements_in}
-use Rattle.py_body.specs.Tree.{add, first, form_of, list_suite, row_suite, suite_of}
+use Rattle.py_body.specs.Compilable.{FormTakes, SuiteTakes, statements, statements_in}
+use Rattle.py_body.specs.Tree.{first, form_of, row_suite, suite_of}
+use Rattle.py_body.specs.Suites.{add, list_suite}
 
 row_is_list : (n : _) (row : Row_of-Stmt n) → row_suite row ≡ list_suite (items-the_row-Stmt n row)
 row_is_list n end_of-Stmt = refl

@@ -10,7 +10,8 @@ use Rattle.py_check.specs.declared.note.Note.{Note}
 use Rattle.py_check.specs.Sheet.{Sheet, sheet_of}
 use Rattle.py_check.specs.Rules.{is_start, counts_match, counts_if, parameters, parameters_fit, cells_fit, keeps_whole, IsTyped}
 use Rattle.py_body.specs.Tree.{Name, Tree}
-use Rattle.py_body.specs.Binding.{locals_of, IsCompilable}
+use Rattle.py_body.specs.Binding.{locals_of}
+use Rattle.py_body.specs.Compilable.{IsCompilable}
 use Rattle.py_body.specs.Code.{Parts, parts_with, IsLaid, IsPlain}
 use Rattle.py_body.specs.Emitting.{IsEmitted}
 use Rattle.py_body.specs.Depths.{any_note, depth_at, notes_of}

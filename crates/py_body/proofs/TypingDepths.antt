@@ -11,7 +11,8 @@ use Rattle.py_body.specs.declared.atom.Operator.{Operator}
 use Rattle.py_body.specs.declared.atom.Operator.TheVariants as operator
 use Rattle.py_body.specs.declared.notes.Depth.{Depth}
 use Rattle.py_body.specs.Tree.{Name, Form, assign, operate, show, give, pass, branch, choice, loop, Suite, nothing, first}
-use Rattle.py_body.specs.Binding.{FormTakes, SuiteTakes, takes_count}
+use Rattle.py_body.specs.Binding.{takes_count}
+use Rattle.py_body.specs.Compilable.{FormTakes, SuiteTakes}
 use Rattle.py_body.specs.Code.{Parts, Stands, LaidName, LaidAtom, LaidAtoms, LaidTarget, LaidCall, LaidOperator, LaidForm, LaidSuite}
 use Rattle.py_body.specs.Depths.{depth_behind}
 use Rattle.py_body.proofs.Takes.{is_two}

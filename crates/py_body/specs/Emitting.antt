@@ -13,8 +13,9 @@ use Rattle.py_body.specs.declared.atom.Atom.{Atom}
 use Rattle.py_body.specs.declared.atom.Operator.{Operator}
 use Rattle.py_body.specs.declared.emit.Emitter.{Emitter}
 use Rattle.py_body.specs.Tree.{Name, Form, Suite, Tree}
-use Rattle.py_body.specs.Binding.{bound, locals_of, statements, statements_in}
-use Rattle.py_body.specs.Naming.{Continues}
+use Rattle.py_body.specs.Binding.{bound, locals_of}
+use Rattle.py_body.specs.Compilable.{statements, statements_in}
+use Rattle.py_body.specs.Fits.{Continues}
 use Rattle.py_body.specs.Code.{Parts, Stands, StandsConst, LaidAtom, LaidAtoms, LaidOperator, LaidTarget, LaidForm, LaidSuite, LaidBody}
 
 -- what an emitter has so far

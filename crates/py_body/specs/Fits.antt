@@ -1,17 +1,20 @@
 -- Code that does what a body does.
-use Rattle.std.specs.Prelude.{ℕ, Bool, false, Option, Some, None, List, ◌≡◌, length, slice_get, eqb}
+use Rattle.std.specs.Prelude.{ℕ, Bool, false, Option, Some, None, List, ◌++◌, ◌≡◌, length, slice_get, eqb}
 use Rattle.py_code.specs.declared.code.PyCode.{PyCode}
 use Rattle.py_objects.specs.declared.payload.Payload.{Payload}
 use Rattle.py_objects.specs.Objects.{Obj}
 use Rattle.py_objects.specs.Own.{Own}
 use Rattle.py_check.specs.declared.annotated.Annotated.{Annotated}
 use Rattle.py_frame.specs.RunOfRows.{RowsRun}
-use Rattle.py_frame.specs.Fitting.{IsSound}
+use Rattle.py_frame.specs.Sound.{IsSound}
 use Rattle.py_frame.specs.Signature.{params_of}
 use Rattle.py_body.specs.Tree.{Tree}
 use Rattle.py_body.specs.Scene.{Scene}
 use Rattle.py_body.specs.Trace.{IsTrace}
-use Rattle.py_body.specs.Naming.{Continues}
+
+-- one list goes on as another
+abbrev pub Continues : {A : Type 0} → List A → List A → Type 0
+Continues {A} front whole = (more : List A) × (whole ≡ front ++ more)
 
 -- whether this line is the one that is there
 abbrev pub is_line : ℕ → Option ℕ → Bool

@@ -1,7 +1,11 @@
 -- bodies as plain trees
 pub mod Tree
+-- how suites are put together
+pub mod Suites
 -- the names of a body, and its locals
 pub mod Binding
+-- which bodies can be compiled
+pub mod Compilable
 -- what a tree may tell
 pub mod Scene
 pub mod Outcome

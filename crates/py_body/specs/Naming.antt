@@ -1,13 +1,9 @@
 -- The names of a code, as places in the table of names.
-use Rattle.std.specs.Prelude.{ℕ, ◌<◌, Some, List, [], ◌∷◌, ◌++◌, ◌≡◌, slice_get, length, chars, codes, encode_utf8_all}
+use Rattle.std.specs.Prelude.{ℕ, ◌<◌, Some, List, [], ◌∷◌, ◌≡◌, slice_get, length, chars, codes, encode_utf8_all}
 use Rattle.py_code.specs.declared.code.PyCode.{PyCode}
 use Rattle.py_code.specs.declared.names.NameId.{NameId}
 use Rattle.py_body.specs.Tree.{Name, Tree}
 use Rattle.py_body.specs.Binding.{locals_of}
-
--- one list goes on as another
-abbrev pub Continues : {A : Type 0} → List A → List A → Type 0
-Continues {A} front whole = (more : List A) × (whole ≡ front ++ more)
 
 -- the table has this text at the name's place
 abbrev pub IsNameOf : List (List ℕ) → NameId → List ℕ → Type 0

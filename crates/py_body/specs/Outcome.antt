@@ -63,10 +63,8 @@ LoadsAll scene line env h (a ∷ atoms) ts K next =
 
 -- a request of two operands, where there are two
 abbrev pub of_two : (Obj → Obj → Request) → List Obj → Option Request
-of_two r [] = None
-of_two r (a ∷ []) = None
 of_two r (a ∷ b ∷ []) = Some (r a b)
-of_two r (a ∷ b ∷ c ∷ vs) = None
+of_two r _ = None
 
 -- the call of the first with the others
 abbrev pub of_call : List Obj → Option Request

@@ -1,8 +1,7 @@
 -- Bodies as the definitions see them: plain trees, apart from the program's lists.
-use Rattle.std.specs.Prelude.{ℕ, Option, Some, None, List, [], ◌∷◌}
+use Rattle.std.specs.Prelude.{ℕ, Option, Some, None, List}
 use Rattle.py_body.specs.declared.atom.Atom.{Atom}
 use Rattle.py_body.specs.declared.atom.Operator.{Operator}
-use Rattle.py_body.specs.declared.stmt.Stmt.{Stmt}
 use Rattle.py_body.specs.declared.stmt.StmtList.{StmtList, StmtList', Row_of-Stmt, end_of-Stmt, more_of-Stmt}
 use Rattle.py_body.specs.declared.stmt.StmtForm.{StmtForm, Assign, Operate, Do, Show, Return, Pass, If, IfElse, While}
 use Rattle.py_body.specs.declared.body.Body.{Body}
@@ -47,20 +46,6 @@ abbrev mutual
   pub row_suite : {m : _} → Row_of-Stmt m → Suite
   row_suite end_of-Stmt = nothing
   row_suite (more_of-Stmt line form rest) = first line (form_of form) (row_suite rest)
-
--- the suite of statements in order
-abbrev pub list_suite : List Stmt → Suite
-list_suite [] = nothing
-list_suite (s ∷ ss) = first s.line (form_of s.form) (list_suite ss)
-
--- one suite behind another
-abbrev pub joined : Suite → Suite → Suite
-joined nothing t = t
-joined (first n f more) t = first n f (joined more t)
-
--- a statement behind others
-abbrev pub add : Suite → ℕ → Form → Suite
-add s n f = joined s (first n f nothing)
 
 -- a function
 pub record Tree : Type 0 where

@@ -2,11 +2,11 @@
 
 ghost use Rattle.std.specs.Prelude.{◌≡◌, ◌<◌, ◌≤◌, ◌^◌, suc, length, List, IfOk};
 ghost use Rattle.py_body.specs.Tree.{Name, tree_of};
-ghost use Rattle.py_body.specs.Binding.{IsCompilable};
+ghost use Rattle.py_body.specs.Compilable.{IsCompilable};
 ghost use Rattle.py_body.specs.Code.{IsLaid, IsPlain};
 ghost use Rattle.py_body.specs.Emitting.{parts_of, IsEmitted};
-ghost use Rattle.py_body.specs.Fits.{Fits};
-ghost use Rattle.py_body.specs.Naming.{Continues, IsNamed};
+ghost use Rattle.py_body.specs.Fits.{Fits, Continues};
+ghost use Rattle.py_body.specs.Naming.{IsNamed};
 
 use crate::body::Body;
 use crate::emit::Emitter;
@@ -29,10 +29,12 @@ pub fn compile_body(alloc: Global, names: &mut Names, body: &Body) -> Result<Ann
 {
     let emitter = emit_body(alloc, body)?;
     let noted = notes_of(alloc, emitter.units.as_slice())?;
+    let locals = emitter.locals.into_texts()?;
+    let globals = emitter.globals.into_texts()?;
     let source_path = names.intern("<script>")?;
     let obj_name = intern_text(alloc, names, &body.name)?;
-    let varnames = intern_all(alloc, names, emitter.locals.as_slice())?;
-    let globals = intern_all(alloc, names, emitter.globals.as_slice())?;
+    let varnames = intern_all(alloc, names, locals.as_slice())?;
+    let global_names = intern_all(alloc, names, globals.as_slice())?;
     let code = PyCode::new(CodeObject {
         instructions: emitter.units,
         locations: emitter.locations,
@@ -46,7 +48,7 @@ pub fn compile_body(alloc: Global, names: &mut Names, body: &Body) -> Result<Ann
         obj_name,
         cell2arg: Vec::new(alloc),
         constants: emitter.constants,
-        names: globals,
+        names: global_names,
         varnames,
         cellvars: Vec::new(alloc),
         freevars: Vec::new(alloc),

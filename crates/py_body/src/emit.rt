@@ -9,8 +9,7 @@ ghost use Rattle.py_body.specs.Binding.{bound};
 ghost use Rattle.py_body.specs.Code.{place};
 ghost use Rattle.py_body.specs.Emitting.{parts_of, put, located, label_byte, label_units, relabelled, with_global, with_label, HasRoom, Spells, Puts, EmitsAtom, EmitsConst, EmitsTarget};
 
-use crate::name_set::NameSet;
-use py_code::{CodeUnit, Instruction, Literal, LiteralList, NoMemory, PyText};
+use py_code::{CodeUnit, Instruction, Literal, LiteralList, NameSet, NoMemory, PyText};
 use std::alloc::Global;
 
 /// What the code of a body is put together from.
@@ -134,12 +133,22 @@ impl Emitter {
         ensures load { OnOk result (EmitsAtom (parts_of self.old) (parts_of self.new) (Atom.Name name.now) line) }
         ensures width { self.new.width ≡ self.old.width }
     {
-        let local = self.locals.place(name)?;
-        if local < self.locals.as_slice().len() {
-            return self.emit(Instruction::LoadFast, local as u32, line);
+        let local = self.local(name);
+        if (local as usize) < self.locals.len() {
+            return self.emit(Instruction::LoadFast, local, line);
         }
         let global = self.global(name)?;
         self.emit(Instruction::LoadGlobal, global, line)
+    }
+
+    /// The place of a local, or how many there are where the name is none.
+    #[tactic(auto, using(crate::proofs::Bound::place_position))]
+    fn local(&self, name: &PyText) -> u32
+        requires { HasRoom (parts_of self.now) 1 }
+        ensures { result ≡ place self.now.locals name.now }
+    {
+        let place = self.locals.place(name).unwrap_or(self.locals.len());
+        place as u32
     }
 
     /// The place of a global, which is a new one where it is none yet.
@@ -149,9 +158,7 @@ impl Emitter {
         ensures place { IfOk result (λ at. at ≡ place (bound self.old.globals name.now) name.now) }
         ensures width { self.new.width ≡ self.old.width }
     {
-        let globals = std::mem::replace(&mut self.globals, NameSet::new(self.alloc));
-        self.globals = globals.with(name)?;
-        let place = self.globals.place(name)?;
+        let place = self.globals.insert(name)?;
         Ok(place as u32)
     }
 
@@ -161,7 +168,7 @@ impl Emitter {
         ensures store { OnOk result (EmitsTarget (parts_of self.old) (parts_of self.new) (Some name.now) line) }
         ensures width { self.new.width ≡ self.old.width }
     {
-        let local = self.locals.place(name)? as u32;
+        let local = self.local(name);
         self.emit(Instruction::StoreFast, local, line)
     }
 }

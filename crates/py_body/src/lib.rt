@@ -6,9 +6,9 @@ mod body;
 mod compile;
 mod emit;
 mod locals;
-mod name_set;
 mod naming;
 mod notes;
+mod operations;
 mod statements;
 mod stmt;
 

@@ -2,12 +2,11 @@
 
 ghost use Rattle.std.specs.Prelude.{◌≡◌, ◌≢◌, IfOk, AllPairs};
 ghost use Rattle.py_body.specs.Tree.{form_of, suite_of, tree_of};
-ghost use Rattle.py_body.specs.Binding.{bound_by, bound_in, locals_of};
+ghost use Rattle.py_body.specs.Binding.{bound, bound_by, bound_in, locals_of};
 
 use crate::body::Body;
-use crate::name_set::NameSet;
 use crate::stmt::{StmtForm, StmtList};
-use py_code::NoMemory;
+use py_code::{NameSet, NoMemory, PyText};
 use std::alloc::Global;
 
 /// The locals of a body in the order of their places: its parameters, then the other names that it binds.
@@ -15,8 +14,29 @@ pub fn locals_of(alloc: Global, body: &Body) -> Result<NameSet, NoMemory>
     requires { AllPairs (λ x y. x ≢ y) body.now.params }
     ensures { IfOk result (λ locals. locals ≡ locals_of (tree_of body.now)) }
 {
-    let params = NameSet::of_params(alloc, body.params.as_slice())?;
+    let params = of_params(alloc, body.params.as_slice())?;
     bound_by(params, &body.suite)
+}
+
+/// The names of parameters.
+fn of_params(alloc: Global, params: &[PyText]) -> Result<NameSet, NoMemory>
+    requires { AllPairs (λ x y. x ≢ y) params.now }
+    ensures { IfOk result (λ names. names ≡ params.now) }
+{
+    let mut names = NameSet::new(alloc);
+    for param in params {
+        names = with(names, param)?;
+    }
+    Ok(names)
+}
+
+/// These names, with one behind them unless it is one of them.
+fn with(names: NameSet, name: &PyText) -> Result<NameSet, NoMemory>
+    ensures { IfOk result (λ set. set ≡ bound names name.now) }
+{
+    let mut names = names;
+    names.insert(name)?;
+    Ok(names)
 }
 
 /// These names, then the others that a suite binds.
@@ -37,8 +57,8 @@ fn bound_in(names: NameSet, form: &StmtForm) -> Result<NameSet, NoMemory>
     ensures { IfOk result (λ bound. bound ≡ bound_in names (form_of form.now)) }
 {
     match form {
-        StmtForm::Assign(name, _atom) => names.with(name),
-        StmtForm::Operate(name, _operator, _atoms) => names.with(name),
+        StmtForm::Assign(name, _atom) => with(names, name),
+        StmtForm::Operate(name, _operator, _atoms) => with(names, name),
         StmtForm::Do(_operator, _atoms) => Ok(names),
         StmtForm::Show(_atom) => Ok(names),
         StmtForm::Return(_atom) => Ok(names),

@@ -1,7 +1,8 @@
 //! Statements, each with the line that it stands in.
 
 ghost use Rattle.std.specs.Prelude.{◌≡◌, OnOk, OnErr};
-ghost use Rattle.py_body.specs.Tree.{add, form_of, list_suite, nothing, suite_of};
+ghost use Rattle.py_body.specs.Tree.{form_of, nothing, suite_of};
+ghost use Rattle.py_body.specs.Suites.{add, list_suite};
 
 use crate::atom::{Atom, AtomList, Operator};
 use py_code::{NoMemory, PyText};

@@ -7,7 +7,6 @@ use Rattle.py_code.specs.declared.instruction.Instruction.{Instruction}
 use Rattle.py_code.specs.declared.instruction.Instruction.TheVariants.{LoadFast, LoadGlobal, BinaryOperation, CompareOperation, CallFunctionPositional, PrintExpr, JumpIfTrue, JumpIfFalse}
 use Rattle.py_objects.specs.declared.payload.Payload.{Payload}
 use Rattle.py_objects.specs.declared.payload.Payload.TheVariants as payload
-use Rattle.py_objects.specs.declared.refs.PyBaseExceptionRef.{PyBaseExceptionRef}
 use Rattle.py_objects.specs.declared.event.GotAnswer.{GotAnswer}
 use Rattle.py_objects.specs.declared.event.GotAnswer.TheVariants as got
 use Rattle.py_objects.specs.Objects.{Obj, HasPayload}
@@ -19,7 +18,8 @@ use Rattle.py_frame.specs.declared.input.Answer.TheVariants as given
 use Rattle.py_frame.specs.declared.input.Input.TheVariants as input
 use Rattle.py_frame.specs.declared.input.Expect.{Expect}
 use Rattle.py_frame.specs.declared.input.Expect.TheVariants as expect
-use Rattle.py_frame.specs.Rows.{State, Step, Goes, Tells, Stuck, Move, Plainly, Loads, Decides, landed, waiting, jumps, jumps_if, answered, unit_answered, receive, is_decision, unit_decides, decides}
+use Rattle.py_frame.specs.Rows.{State, Step, Goes, Tells, Stuck, Move, Plainly, Loads, Decides, landed, waiting, jumps, jumps_if, answered, unit_answered, receive}
+use Rattle.py_frame.specs.Questions.{is_decision, unit_decides, decides}
 use Rattle.py_frame.specs.Steps.{Expects, CanDecide, FitsQuestion, got_of}
 use Rattle.py_frame.specs.UnitSteps.{Takes, UnitTakes, MayLead}
 use Rattle.py_frame.specs.Fitting.{FitsOn, FitsStep, FitsMove, FitsAt, Framed, IsRunning}
@@ -76,11 +76,6 @@ unit_truth_taken objects (Some u) v s b has = truth_taken objects u.op v s b has
 -- a truth value fits every question
 pub truth_fits : (objects : List Payload) (code : PyCode) (s : State) (v : Obj) (b : Bool) → HasPayload objects v (payload.Bool b) → FitsQuestion objects code s (input.Answer (given.Value v))
 truth_fits objects code s v b has = unit_truth_taken objects (slice_get code.code.instructions.items (s.last - 1)) v (waiting expect.Go s) b has
-
--- so does a raise
-pub raise_fits : (objects : List Payload) (code : PyCode) (s : State) (e : PyBaseExceptionRef)
-    → FitsQuestion objects code s (input.Answer (given.Fresh e)) × FitsQuestion objects code s (input.Answer (given.Passed e))
-raise_fits objects code s e = (tt, tt)
 
 -- ---- what an answer by a value leads to
 

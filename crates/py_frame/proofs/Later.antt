@@ -19,7 +19,8 @@ use Rattle.py_check.specs.Rules.{is_asked, is_compared}
 use Rattle.py_frame.specs.declared.block.Block.{Block}
 use Rattle.py_frame.specs.declared.input.Expect.{Expect}
 use Rattle.py_frame.specs.declared.input.Expect.TheVariants as expect
-use Rattle.py_frame.specs.Rows.{Setting, State, Step, Goes, Tells, Stuck, Move, Plainly, Loads, Decides, next, landed, with_locals, with_stack, payload_of, or_stuck, loads, set_in, name_of_local, name_of_global, load_fast, store_fast, load_global, pop, asked_if, asked_operator, compared_if, asked_comparison, may_ask, asks_truth, binary_operation, compare_operation, calls, print_expr, jumps, asks_to_jump, pop_block, return_value, act, unit_move, advance, is_decision, unit_decides, decides}
+use Rattle.py_frame.specs.Rows.{Setting, State, Step, Goes, Tells, Stuck, Move, Plainly, Loads, Decides, next, landed, with_locals, with_stack, payload_of, or_stuck, loads, set_in, name_of_local, name_of_global, load_fast, store_fast, load_global, pop, asked_operator, asked_comparison, binary_operation, compare_operation, calls, print_expr, jumps, asks_to_jump, pop_block, return_value, act, unit_move, advance}
+use Rattle.py_frame.specs.Questions.{may_ask, asks_truth, is_decision, unit_decides, decides}
 use Rattle.py_frame.specs.UnitSteps.{MayLead}
 
 -- an event that a unit tells is a question that frames ask so far, a round or an end; the unit decides by the answers to
@@ -82,7 +83,7 @@ pop_behind [] s = tt
 pop_behind (v ∷ stack) s = (goes_later s, refl)
 
 -- operands
-operator_behind : (yes : Bool) (op : BinaryOperator) (stack : List Obj) (s : State) → is_asked op ≡ yes → IsBehind false s (binary_operation (asked_if yes op) stack s)
+operator_behind : (yes : Bool) (op : BinaryOperator) (stack : List Obj) (s : State) → is_asked op ≡ yes → IsBehind false s (binary_operation (cond yes (Some op) None) stack s)
 operator_behind false op stack s is = tt
 operator_behind true op [] s is = tt
 operator_behind true op (b ∷ []) s is = tt
@@ -92,7 +93,7 @@ binary_behind : (op : Option BinaryOperator) (stack : List Obj) (s : State) → 
 binary_behind None stack s = tt
 binary_behind (Some op) stack s = operator_behind (is_asked op) op stack s refl
 
-comparison_behind : (yes : Bool) (op : ComparisonOperator) (stack : List Obj) (s : State) → is_compared op ≡ yes → IsBehind false s (compare_operation (compared_if yes op) stack s)
+comparison_behind : (yes : Bool) (op : ComparisonOperator) (stack : List Obj) (s : State) → is_compared op ≡ yes → IsBehind false s (compare_operation (cond yes (Some op) None) stack s)
 comparison_behind false op stack s is = tt
 comparison_behind true op [] s is = tt
 comparison_behind true op (b ∷ []) s is = tt

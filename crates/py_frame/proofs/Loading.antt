@@ -1,13 +1,12 @@
 -- What loads a constant.
 use Rattle.std.proofs.Common.{◌≡◌, ◌++◌, List, [], ◌∷◌, Some, refl, ap, subst, length}
-use Rattle.std.specs.Prelude.{Option, slice_get, Result, Ok, Err, OnOk, OnErr}
+use Rattle.std.specs.Prelude.{slice_get, Result, Ok, Err, OnOk, OnErr}
 use Rattle.py_objects.specs.Edits.{Kept}
 use Rattle.py_code.specs.declared.literal.Literal.{Literal, None as NoneLiteral, Bool as BoolLiteral, Int as IntLiteral, Str as StrLiteral, Tuple' as TupleLiteral, Code as CodeLiteral, Builtin as BuiltinLiteral}
 use Rattle.py_objects.specs.declared.payload.Payload.{Payload}
 use Rattle.py_objects.specs.declared.payload.Payload.TheVariants as payload
 use Rattle.py_objects.specs.Objects.{Obj, HasPayload, GrowsPlainly}
-use Rattle.py_frame.specs.Rows.{Step, payload_of, or_stuck, loads}
-use Rattle.py_frame.specs.UnitSteps.{MayLead}
+use Rattle.py_frame.specs.Rows.{payload_of}
 use Rattle.py_frame.proofs.PlainGrowth.{grows_plainly_refl, grows_plainly_by}
 
 -- the payload that came last has the number of those before
@@ -18,14 +17,6 @@ entry_added (q ∷ qs) p = entry_added qs p
 -- a new object has the payload that it was made with
 pub added_has : (objects objects' : List Payload) (v : Obj) (p : Payload) → v.number ≡ length objects → objects' ≡ objects ++ p ∷ [] → HasPayload objects' v p
 added_has objects objects' v p number added = rw (added, number) (entry_added objects p)
-
--- a new object of a constant's payload is one that its load may take
-pub load_leads : (objects objects' : List Payload) (literal : Option Literal) (l : Literal) (p : Payload) (v : Obj) (f : Obj → Step)
-    → literal ≡ Some l → payload_of l ≡ Some p → v.number ≡ length objects → objects' ≡ objects ++ p ∷ [] → MayLead objects' (loads literal f) (f v)
-load_leads objects objects' literal l p v f is_literal is_payload number added =
-    let has : HasPayload objects' v p = added_has objects objects' v p number added in
-    let leads : MayLead objects' (or_stuck (Some p) f) (f v) = (v, has, refl) in
-    rw is_literal (rw is_payload leads)
 
 -- the payload of a constant is no declaration, and names nothing
 pub literal_grows : (objects : List Payload) (l : Literal) (p : Payload) → payload_of l ≡ Some p → GrowsPlainly objects (objects ++ p ∷ [])

@@ -16,7 +16,8 @@ use Rattle.py_frame.specs.declared.input.Expect.TheVariants as expect
 use Rattle.py_frame.specs.Rows.{State, Step, Goes, Tells, Stuck, Move, Plainly, Loads, Decides, waiting, unwound, advance, receive}
 use Rattle.py_frame.specs.RunOfRows.{Behind, ByStep, ByMove, Steps, Reaches, IsAt, filled, started}
 use Rattle.py_frame.specs.UnitSteps.{IsSame}
-use Rattle.py_frame.specs.Fitting.{FitsNote, FitsStep, FitsMove, FitsAt, IsSound, Framed, IsRunning}
+use Rattle.py_frame.specs.Fitting.{FitsNote, FitsStep, FitsMove, FitsAt, Framed, IsRunning}
+use Rattle.py_frame.specs.Sound.{IsSound}
 use Rattle.py_frame.specs.Laws.{RunsFit}
 use Rattle.py_frame.proofs.KindLemmas.{kinds_counted, kinds_grown}
 use Rattle.py_frame.proofs.TypingLemmas.{typed_whole, unit_kept}

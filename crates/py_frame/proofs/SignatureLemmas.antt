@@ -4,7 +4,7 @@ use Rattle.std.specs.Prelude.{slice_get, option_map, chars}
 use Rattle.py_code.specs.declared.code.PyCode.{PyCode}
 use Rattle.py_code.specs.declared.names.NameId.{NameId}
 use Rattle.py_frame.specs.Rows.{name_in}
-use Rattle.py_frame.specs.Fitting.{ArePlaces, AreNames}
+use Rattle.py_frame.specs.Sound.{ArePlaces, AreNames}
 use Rattle.py_frame.specs.Signature.{characters, params_of}
 
 -- an entry of the front of a longer list

@@ -21,7 +21,8 @@ use Rattle.py_frame.specs.declared.input.FrameStep.TheVariants as step
 use Rattle.py_frame.specs.declared.input.Expect.{Expect}
 use Rattle.py_frame.specs.declared.input.Expect.TheVariants as expect
 use Rattle.py_frame.specs.declared.execute.UnitStep.{UnitStep}
-use Rattle.py_frame.specs.Rows.{Setting, State, Step, Goes, Tells, Move, Plainly, Loads, Decides, waiting, unwound, advance, receive, decides}
+use Rattle.py_frame.specs.Rows.{Setting, State, Step, Goes, Tells, Move, Plainly, Loads, Decides, waiting, unwound, advance, receive}
+use Rattle.py_frame.specs.Questions.{decides}
 use Rattle.py_frame.specs.RunOfRows.{Behind, ByStep, ByMove, Steps}
 use Rattle.py_frame.specs.Steps.{Expects, Extends, IfTold, got_of, heard, told, expected}
 use Rattle.py_frame.specs.Fitting.{FitsNote, FitsAt, Framed, IsRunning, setting_of}
@@ -121,16 +122,6 @@ pub record IsSilent (old new : List Payload) (names : List (List ℕ)) (code : A
 -- the state of a frame that goes on fits its note
 goes_fit : (objects : List Payload) (names : List (List ℕ)) (code : Annotated) (f : Framed) → IsRunning objects names code f → f.state.wants ≡ expect.Go → FitsNote objects code f.state
 goes_fit objects names code f running goes = subst (λ (x : Expect). FitsAt objects code x f.state) goes running.fits
-
--- no step yet is a silent run
-pub silent_none : (objects : List Payload) (names : List (List ℕ)) (code : Annotated) (f : Framed) (grows : GrowsPlainly objects objects) → IsRunning objects names code f → f.state.wants ≡ expect.Go → IsSilent objects objects names code f f
-silent_none objects names code f grows running goes = record {
-  running = running;
-  goes = goes;
-  leads = record { count = zero; run = (refl, refl) };
-  same = (refl, refl, refl, refl);
-  objects = grows;
-}
 
 -- where a move leads fits the code
 led_fits : (objects : List Payload) (code : Annotated) (move : Move) (done : Step) → FitsUnit objects code move → MayLead objects move done → FitsLed objects code done
@@ -280,10 +271,6 @@ value_rounds objects names code f g w v is expected running same led =
       goes = on.0;
       running = runs_in objects objects names code f g running same (on_fits objects code g.state on) (subst (λ (n : ℕ). n ≤ length code.code.code.instructions.items) (sym last) running.within);
     }
-
--- it asks nothing and doesn't end
-pub value_never_asks : (objects : List Payload) (code : PyCode) (s t : State) (v : Obj) (x : Own) → ((at : ℕ) → x ≡ Rounds at → ⊥) → MayLead objects (receive code (got.Value v) s) (Tells x t) → ⊥
-value_never_asks objects code s t v x other led = other (s.last - 1) (receive_leads_round objects code v s (Tells x t) led).0
 
 -- a frame that is answered by a raise ends
 pub raise_heard : (objects : List Payload) (setting : Setting) (s t : State) (w : Answer) (e : PyBaseExceptionRef) → got.Raise e ≡ got_of w → Expects s.wants (input.Answer w) → t ≡ unwound s

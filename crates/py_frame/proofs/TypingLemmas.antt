@@ -22,12 +22,6 @@ use Rattle.py_frame.specs.Fitting.{HaveKinds, AreBlocks, FitsNote}
 use Rattle.py_frame.proofs.KindLemmas.{kinds_fitted}
 use Rattle.py_frame.proofs.BlockLemmas.{blocks_fitted}
 
--- a place of a list
-pub slice_get_there : {A : Type 0} (xs : List A) (i : ℕ) → i < length xs → slice_get xs i ≡ None → ⊥
-slice_get_there [] i below is = absurd (omega arith)
-slice_get_there (x ∷ xs) zero below is = cc
-slice_get_there (x ∷ xs) (suc i) below is = slice_get_there xs i (omega arith) is
-
 -- a test of an order
 pub below_by_test : (m n : ℕ) → nat_lt m n ≡ true → m < n
 below_by_test m n is = grind (arith, nat_tests, is)

@@ -1,8 +1,6 @@
 -- How a frame fits the notes of its code: what its stack holds, which blocks are open, which argument its prefixes have built, and
 -- how many locals it has.
-use Rattle.std.specs.Prelude.{ℕ, ◌+◌, ◌≤◌, ◌<◌, Bool, Some, List, [], ◌∷◌, ◌≡◌, slice_get, length}
-use Rattle.py_code.specs.declared.code.PyCode.{PyCode}
-use Rattle.py_code.specs.declared.names.NameId.{NameId}
+use Rattle.std.specs.Prelude.{ℕ, ◌+◌, ◌≤◌, Bool, Some, List, [], ◌∷◌, ◌≡◌, slice_get, length}
 use Rattle.py_objects.specs.declared.scope.Scope.{Scope}
 use Rattle.py_objects.specs.declared.payload.Payload.{Payload}
 use Rattle.py_objects.specs.declared.payload.Payload.TheVariants as payload
@@ -17,12 +15,12 @@ use Rattle.py_check.specs.declared.note.Note.TheVariants.{Live}
 use Rattle.py_check.specs.declared.annotated.Annotated.{Annotated}
 use Rattle.py_check.specs.Depths.{deepest}
 use Rattle.py_check.specs.Operands.{carried}
-use Rattle.py_check.specs.Rules.{IsTyped}
 use Rattle.py_frame.specs.declared.block.Block.{Block}
 use Rattle.py_frame.specs.declared.block.BlockType.{BlockType}
 use Rattle.py_frame.specs.declared.block.BlockType.TheVariants.{Loop}
 use Rattle.py_frame.specs.declared.input.Expect.{Expect}
 use Rattle.py_frame.specs.declared.input.Expect.TheVariants as expect
+use Rattle.py_frame.specs.Sound.{IsSound}
 use Rattle.py_frame.specs.RunOfRows.{started}
 use Rattle.py_frame.specs.Rows.{Setting, State, Step, Goes, Tells, Stuck, Move, Plainly, Loads, Decides, receive}
 
@@ -98,20 +96,6 @@ FitsAt objects code expect.Start s = (s.at ≡ 0) × FitsNote objects code s
 FitsAt objects code expect.Go s = FitsNote objects code s
 FitsAt objects code expect.Answer s = (v : Obj) → FitsMove objects code (receive code.code (got.Value v) s)
 FitsAt objects code expect.Ended s = Unit {0}
-
--- each of these names is a place in the table
-abbrev pub ArePlaces : List (List ℕ) → List NameId → Type 0
-ArePlaces names ids = (i : ℕ) (id : NameId) → slice_get ids i ≡ Some id → id.index < length names
-
--- the names of a code's locals and globals are places in the table
-pub record AreNames (names : List (List ℕ)) (code : PyCode) : Type 0 where
-  pub locals : ArePlaces names code.code.varnames.items
-  pub globals : ArePlaces names code.code.names.items
-
--- a code that frames can run: it keeps the rules, and its names are in the table
-pub record IsSound (names : List (List ℕ)) (code : Annotated) : Type 0 where
-  pub typed : IsTyped code
-  pub named : AreNames names code.code
 
 -- a frame as callers see it
 pub record Framed : Type 0 where

@@ -6,7 +6,8 @@ use Rattle.py_objects.specs.Objects.{Obj, Grows, AllBelow, numbers, number_if, r
 use Rattle.py_objects.specs.Own.{Own, Makes, Resumes, Asks, Gets, Rounds, Yields, Ends}
 use Rattle.py_frame.specs.Rows.{Setting, State}
 use Rattle.py_frame.specs.RunOfRows.{IsAt}
-use Rattle.py_frame.specs.Fitting.{IsSound, FitsAt}
+use Rattle.py_frame.specs.Fitting.{FitsAt}
+use Rattle.py_frame.specs.Sound.{IsSound}
 
 -- the numbers that come into an activation by an event
 abbrev pub heard_numbers : Own → List ℕ

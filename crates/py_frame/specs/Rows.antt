@@ -1,9 +1,9 @@
 -- What units of code do, an equation an instruction.
-use Rattle.std.specs.Prelude.{ℕ, suc, ◌-◌, Option, Some, None, List, [], ◌∷◌, slice_get, slice_set, length, take, drop, reverse, nat_le, nat_lt, Bool, true, false, not, if◌then◌else◌, option_map, chars}
+use Rattle.std.specs.Prelude.{ℕ, suc, ◌-◌, Option, Some, None, List, [], ◌∷◌, slice_get, slice_set, length, take, drop, reverse, nat_le, nat_lt, Bool, not, if◌then◌else◌, option_map, chars}
 use Rattle.py_code.specs.declared.instruction.Instruction.{Instruction}
 use Rattle.py_code.specs.declared.instruction.Instruction.TheVariants.{LoadConst, LoadFast, StoreFast, LoadGlobal, Pop, BinaryOperation, CompareOperation, CallFunctionPositional, PrintExpr, Jump, JumpIfTrue, JumpIfFalse, SetupLoop, PopBlock, ReturnValue, ReturnConst, ExtendedArg}
 use Rattle.py_code.specs.declared.unit.CodeUnit.{CodeUnit}
-use Rattle.py_code.specs.declared.literal.Literal.{Literal, None as NoneLiteral, Bool as BoolLiteral, Int as IntLiteral, Str as StrLiteral, Tuple' as TupleLiteral, Code as CodeLiteral, Builtin as BuiltinLiteral}
+use Rattle.py_code.specs.declared.literal.Literal.{Literal, None as NoneLiteral, Bool as BoolLiteral, Int as IntLiteral, Str as StrLiteral}
 use Rattle.py_code.specs.declared.operator.BinaryOperator.{BinaryOperator}
 use Rattle.py_code.specs.declared.operator.ComparisonOperator.{ComparisonOperator}
 use Rattle.py_code.specs.declared.code.PyCode.{PyCode}
@@ -15,7 +15,6 @@ use Rattle.py_objects.specs.declared.payload.Payload.{Payload}
 use Rattle.py_objects.specs.declared.payload.Payload.TheVariants as payload
 use Rattle.py_objects.specs.declared.request.Request.{Request}
 use Rattle.py_objects.specs.declared.request.Request.TheVariants.{Binary, Call, Compare, Global, Show, Truth, Unbound}
-use Rattle.py_objects.specs.declared.request.Keywords.{Keywords}
 use Rattle.py_objects.specs.declared.request.Keywords.TheVariants as keywords
 use Rattle.py_objects.specs.declared.event.GotAnswer.{GotAnswer}
 use Rattle.py_objects.specs.declared.event.GotAnswer.TheVariants as got
@@ -59,26 +58,26 @@ pub data Move : Type 0 where
 
 -- behind the unit that runs
 abbrev pub next : State → State
-next s = record { at = suc s.at; last = suc s.at; prefix = 0; stack = s.stack; blocks = s.blocks; locals = s.locals; wants = s.wants }
+next s = record s { at = suc s.at; last = suc s.at; prefix = 0 }
 
 abbrev pub with_prefix : ℕ → State → State
-with_prefix prefix s = record { at = s.at; last = s.last; prefix = prefix; stack = s.stack; blocks = s.blocks; locals = s.locals; wants = s.wants }
+with_prefix prefix s = record s { prefix = prefix }
 
 abbrev pub with_stack : List Obj → State → State
-with_stack stack s = record { at = s.at; last = s.last; prefix = s.prefix; stack = stack; blocks = s.blocks; locals = s.locals; wants = s.wants }
+with_stack stack s = record s { stack = stack }
 
 abbrev pub with_blocks : List Block → State → State
-with_blocks blocks s = record { at = s.at; last = s.last; prefix = s.prefix; stack = s.stack; blocks = blocks; locals = s.locals; wants = s.wants }
+with_blocks blocks s = record s { blocks = blocks }
 
 abbrev pub with_locals : List (Option Obj) → State → State
-with_locals locals s = record { at = s.at; last = s.last; prefix = s.prefix; stack = s.stack; blocks = s.blocks; locals = locals; wants = s.wants }
+with_locals locals s = record s { locals = locals }
 
 abbrev pub waiting : Expect → State → State
-waiting x s = record { at = s.at; last = s.last; prefix = s.prefix; stack = s.stack; blocks = s.blocks; locals = s.locals; wants = x }
+waiting x s = record s { wants = x }
 
 -- in front of the unit at a label
 abbrev pub landed : ℕ → State → State
-landed to s = record { at = to; last = s.last; prefix = 0; stack = s.stack; blocks = s.blocks; locals = s.locals; wants = s.wants }
+landed to s = record s { at = to; prefix = 0 }
 
 abbrev pub pushed : Obj → State → State
 pushed v s = with_stack (v ∷ s.stack) s
@@ -89,9 +88,7 @@ payload_of NoneLiteral = Some payload.None
 payload_of (BoolLiteral b) = Some (payload.Bool b)
 payload_of (IntLiteral n) = Some (payload.Int n)
 payload_of (StrLiteral s) = Some (payload.Str s)
-payload_of (TupleLiteral shape items) = None
-payload_of (CodeLiteral c) = None
-payload_of (BuiltinLiteral f) = None
+payload_of _ = None
 
 abbrev pub or_stuck : Option Payload → (Obj → Step) → Move
 or_stuck None f = Plainly Stuck
@@ -143,32 +140,22 @@ pop [] s = Stuck
 pop (v ∷ stack) s = Goes (with_stack stack (next s))
 
 -- an operator that runs so far
-abbrev pub asked_if : Bool → BinaryOperator → Option BinaryOperator
-asked_if b op = if b then Some op else None
-
 abbrev pub asked_operator : Option BinaryOperator → Option BinaryOperator
 asked_operator None = None
-asked_operator (Some op) = asked_if (is_asked op) op
+asked_operator (Some op) = if is_asked op then Some op else None
 
 abbrev pub binary_operation : Option BinaryOperator → List Obj → State → Step
-binary_operation None stack s = Stuck
-binary_operation (Some op) [] s = Stuck
-binary_operation (Some op) (b ∷ []) s = Stuck
 binary_operation (Some op) (b ∷ a ∷ stack) s = asks (Binary op a b) (with_stack stack s)
+binary_operation _ _ s = Stuck
 
 -- a comparison that runs so far
-abbrev pub compared_if : Bool → ComparisonOperator → Option ComparisonOperator
-compared_if b op = if b then Some op else None
-
 abbrev pub asked_comparison : Option ComparisonOperator → Option ComparisonOperator
 asked_comparison None = None
-asked_comparison (Some op) = compared_if (is_compared op) op
+asked_comparison (Some op) = if is_compared op then Some op else None
 
 abbrev pub compare_operation : Option ComparisonOperator → List Obj → State → Step
-compare_operation None stack s = Stuck
-compare_operation (Some op) [] s = Stuck
-compare_operation (Some op) (b ∷ []) s = Stuck
 compare_operation (Some op) (b ∷ a ∷ stack) s = asks (Compare op a b) (with_stack stack s)
+compare_operation _ _ s = Stuck
 
 -- the callee lies under its arguments
 abbrev pub calls : List Obj → List Obj → State → Step
@@ -178,28 +165,6 @@ calls args (f ∷ stack) s = asks (Call f args keywords.None) (with_stack stack 
 -- a call with so many arguments, the last of which is the top
 abbrev pub call_function : ℕ → List Obj → State → Step
 call_function k stack s = calls (reverse (take k stack)) (drop k stack) s
-
--- whether there are no keyword arguments
-abbrev pub is_positional : Keywords → Bool
-is_positional keywords.None = true
-is_positional (keywords.Names names) = false
-is_positional (keywords.Dict d) = false
-
--- the questions that frames ask so far; a call is asked without keyword arguments
-abbrev pub may_ask : Request → Bool
-may_ask (Binary op a b) = is_asked op
-may_ask (Compare op a b) = is_compared op
-may_ask (Call f vs named) = is_positional named
-may_ask (Global globals x) = true
-may_ask (Show v) = true
-may_ask (Truth v) = true
-may_ask (Unbound x) = true
-may_ask _ = false
-
--- whether a question is one for a truth value
-abbrev pub asks_truth : Request → Bool
-asks_truth (Truth v) = true
-asks_truth _ = false
 
 -- a value that is asked to be shown
 abbrev pub print_expr : List Obj → State → Step
@@ -295,17 +260,3 @@ abbrev pub receive : PyCode → GotAnswer → State → Move
 receive code (got.Value v) s = unit_answered (slice_get code.code.instructions.items (s.last - 1)) v (waiting expect.Go s)
 receive code (got.Raise e) s = Plainly (Tells (Ends (s.last - 1) (ending.Raise e)) (unwound s))
 receive code (got.Stop v) s = Plainly Stuck
-
--- whether an instruction goes by the truth value that it is answered
-abbrev pub is_decision : Instruction → Bool
-is_decision JumpIfTrue = true
-is_decision JumpIfFalse = true
-is_decision _ = false
-
-abbrev pub unit_decides : Option CodeUnit → Bool
-unit_decides None = false
-unit_decides (Some u) = is_decision u.op
-
--- whether the last unit that was begun does
-abbrev pub decides : PyCode → State → Bool
-decides code s = unit_decides (slice_get code.code.instructions.items (s.last - 1))

@@ -17,7 +17,8 @@ use Rattle.py_frame.specs.declared.input.Expect.{Expect}
 use Rattle.py_frame.specs.declared.input.Expect.TheVariants as expect
 use Rattle.py_frame.specs.declared.input.FrameStep.{FrameStep}
 use Rattle.py_frame.specs.declared.input.FrameStep.TheVariants as step
-use Rattle.py_frame.specs.Rows.{Setting, State, Move, Plainly, Loads, Decides, may_ask, asks_truth, decides, receive}
+use Rattle.py_frame.specs.Rows.{Setting, State, Move, Plainly, Loads, Decides, receive}
+use Rattle.py_frame.specs.Questions.{may_ask, asks_truth, decides}
 use Rattle.py_frame.specs.RunOfRows.{IsAt}
 
 -- which inputs are those that a frame expects

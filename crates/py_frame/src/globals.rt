@@ -1,7 +1,7 @@
 //! Instructions on globals.
 
 ghost use Rattle.std.specs.Prelude.{◌≡◌, ◌+◌, ◌^◌, ◌<◌, length, slice_get, Some, IfOk, OnErr};
-ghost use Rattle.py_frame.specs.Fitting.{AreNames};
+ghost use Rattle.py_frame.specs.Sound.{AreNames};
 ghost use Rattle.py_frame.specs.Rows.{load_global, name_in, name_of_global};
 ghost use Rattle.py_frame.specs.UnitSteps.{IsSame, effect};
 

@@ -65,10 +65,3 @@ pub enum FrameStep {
     Raise(PyBaseExceptionRef),
     NoMemory,
 }
-
-/// What a frame that ran to its end or to a yield gives.
-#[derive(Clone, Copy, Debug, PartialEq, Eq)]
-pub enum ExecutionResult {
-    Return(PyObjectRef),
-    Yield(PyObjectRef),
-}

@@ -19,7 +19,7 @@ mod step;
 pub use block::{Block, BlockType};
 pub use filled::{Filled, positional};
 pub use frame::Frame;
-pub use input::{Answer, ExecutionResult, Expect, FrameStep, Input};
+pub use input::{Answer, Expect, FrameStep, Input};
 pub use laws::runs_of_rows;
 pub use py_stack::{OwnStack, ValueStack};
 

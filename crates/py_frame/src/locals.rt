@@ -1,7 +1,7 @@
 //! Instructions on locals.
 
 ghost use Rattle.std.specs.Prelude.{◌≡◌, ◌+◌, ◌^◌, ◌<◌, length, slice_get, Some, IfOk, OnErr};
-ghost use Rattle.py_frame.specs.Fitting.{AreNames};
+ghost use Rattle.py_frame.specs.Sound.{AreNames};
 ghost use Rattle.py_frame.specs.Rows.{load_fast, name_in, name_of_local, set_in, store_fast};
 ghost use Rattle.py_frame.specs.UnitSteps.{IsSame, effect};
 

@@ -2,7 +2,7 @@
 use Rattle.std.proofs.Common.{◌≡◌, ◌≤◌, ℕ, zero, suc, List, [], ◌∷◌, ◌++◌, length, Bool, true, false, cond, Some, None, refl, sym, ap, ◌∙◌, arith, length-append}
 use Rattle.std.specs.Prelude.{Option, slice_get, ◌==◌, ◌&&◌}
 use Rattle.py_body.specs.Tree.{Form, assign, operate, show, give, pass, branch, choice, loop, Suite, nothing, first, Tree}
-use Rattle.py_body.specs.Binding.{statements_in, statements, IsCompilable}
+use Rattle.py_body.specs.Compilable.{statements_in, statements, IsCompilable}
 use Rattle.py_grammar.specs.declared.line.LineRead.{LineRead}
 use Rattle.py_grammar.specs.declared.line.LineRead.TheVariants.{Blank, Said, Malformed}
 use Rattle.py_grammar.specs.declared.script.Script.{Script}

@@ -8,12 +8,11 @@ use Rattle.py_check.specs.declared.annotated.Annotated.{Annotated}
 use Rattle.py_objects.specs.declared.payload.Payload.{Payload}
 use Rattle.py_objects.specs.declared.payload.Payload.TheVariants as payload
 use Rattle.py_objects.specs.Objects.{Obj, Name, numbers, AllBelow, GrowsPlainly}
-use Rattle.py_frame.specs.Fitting.{AreNames, IsSound}
+use Rattle.py_frame.specs.Sound.{AreNames, IsSound}
 use Rattle.py_frame.proofs.Growing.{slice_get_grown}
 use Rattle.py_frame.proofs.PlainGrowth.{grows_plainly_refl}
 use Rattle.py_body.specs.Tree.{Tree}
-use Rattle.py_body.specs.Fits.{Fits}
-use Rattle.py_body.specs.Naming.{Continues}
+use Rattle.py_body.specs.Fits.{Fits, Continues}
 use Rattle.py_body.proofs.Fitting.{params_continue}
 use Rattle.py_grammar.specs.declared.script.Declaration.{Declaration}
 use Rattle.py_grammar.specs.Script.{declared_tree}

@@ -16,7 +16,7 @@ use Rattle.py_objects.specs.declared.event.Event.TheVariants as event
 use Rattle.py_objects.specs.Objects.{Obj, Name, HasPayload, declares, declared, declared_from, name_of, error_kinds, pair_numbers, AllBelow, AllFit, GrowsPlainly}
 use Rattle.py_frame.proofs.Growing.{slice_get_grown, payload_grown}
 use Rattle.py_frame.proofs.PlainGrowth.{plainly_grows, slice_get_split}
-use Rattle.py_body.specs.Naming.{Continues}
+use Rattle.py_body.specs.Fits.{Continues}
 use Rattle.py_body.specs.Tree.{Tree}
 use Rattle.py_grammar.specs.declared.drive.DriveAtom.{DriveAtom}
 use Rattle.py_grammar.specs.declared.drive.DriveAtom.TheVariants as atom
@@ -69,11 +69,12 @@ both_false false b h = (refl, h)
 -- what is no class is declared behind the classes
 behind_classes : (n : Name) (ts : List Tree) → is_builtin_class n ≡ false → declared (script_objects ts) n ≡ declared_from 7 (function_entries 0 ts) n
 behind_classes n ts none =
-    let a = both_false _ (bytes_eq n (codes "RecursionError")) none in
-    let b = both_false _ (bytes_eq n (codes "UnboundLocalError")) a.0 in
-    let c = both_false _ (bytes_eq n (codes "NameError")) b.0 in
-    let d = both_false (bytes_eq n (codes "OverflowError")) (bytes_eq n (codes "TypeError")) c.0 in
-    rw (c.1, d.0, a.1, d.1, b.1) refl
+    let a = both_false (bytes_eq n (codes "NameError")) _ none in
+    let b = both_false (bytes_eq n (codes "OverflowError")) _ a.1 in
+    let c = both_false (bytes_eq n (codes "RecursionError")) _ b.1 in
+    let d = both_false (bytes_eq n (codes "TypeError")) _ c.1 in
+    let e = both_false (bytes_eq n (codes "UnboundLocalError")) _ d.1 in
+    rw (a.0, b.0, c.0, d.0, e.0) refl
 
 -- entries behind the first seven
 entry_behind : (ts : List Tree) (j : ℕ) → slice_get (script_objects ts) (7 + j) ≡ slice_get (function_entries 0 ts) j

@@ -1,7 +1,7 @@
 -- What was read of a source, in the words of the answers.
 use Rattle.std.proofs.Common.{◌≡◌, ◌≤◌, ◌^◌, ℕ, List, length, Some, None, subst, arith}
 use Rattle.std.specs.Prelude.{Option, IfSome, Result, Ok, Err}
-use Rattle.py_body.specs.Binding.{statements}
+use Rattle.py_body.specs.Compilable.{statements}
 use Rattle.py_grammar.specs.declared.script.Script.{Script}
 use Rattle.py_grammar.specs.Script.{IsScript, trees_of}
 use Rattle.py_grammar.specs.WellFormed.{IsWellFormed, IsWellDeclared}

@@ -4,7 +4,7 @@ use Rattle.std.specs.Io.KnownBytes.{Appends, Keeps, IsAtEnd}
 use Rattle.py_outside.specs.Faults.{Rose}
 use Rattle.py_outside.specs.Transfer.{AppendsFront}
 use Rattle.py_body.specs.Tree.{Tree}
-use Rattle.py_body.specs.Binding.{IsCompilable}
+use Rattle.py_body.specs.Compilable.{IsCompilable}
 use Rattle.py_grammar.specs.declared.script.Script.{Script}
 use Rattle.py_grammar.specs.Script.{IsScript, IsBadLine, trees_of}
 use Rattle.py_grammar.specs.WellFormed.{IsWellFormed}

@@ -1,6 +1,6 @@
 use Rattle.std.proofs.Common.{◌+◌, ◌*◌, ℕ, arith, subst}
 use Rattle.py_body.specs.Tree.{suite_of, tree_of}
-use Rattle.py_body.specs.Binding.{statements}
+use Rattle.py_body.specs.Compilable.{statements}
 use Rattle.py_body.specs.Code.{Parts}
 use Rattle.py_body.specs.Emitting.{parts_of, most_units, EmitsSuite}
 use Rattle.py_body.proofs.CompilingLemmas.{body_emitted, body_has_room, inside, room_behind, room_less}

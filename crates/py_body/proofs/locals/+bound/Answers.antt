@@ -1,6 +1,8 @@
 use Rattle.std.proofs.Common.{◌≡◌, ◌+◌, ◌*◌, ◌<◌, List, ap, sym, ◌∙◌, take, arith, rules}
-use Rattle.py_body.specs.Tree.{Name, Suite, form_of, list_suite, suite_of}
-use Rattle.py_body.specs.Binding.{bound_by, bound_in, statements, statements_in}
+use Rattle.py_body.specs.Tree.{Name, Suite, form_of, suite_of}
+use Rattle.py_body.specs.Suites.{list_suite}
+use Rattle.py_body.specs.Binding.{bound_by, bound_in}
+use Rattle.py_body.specs.Compilable.{statements, statements_in}
 use Rattle.py_body.proofs.Bound.{bound_by-add}
 use Rattle.py_body.proofs.Trees.{statements_at, suite_more}
 use Rattle.py_body.proofs.locals.+bound.Goals as goal

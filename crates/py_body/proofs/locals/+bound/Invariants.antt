@@ -1,6 +1,8 @@
 use Rattle.std.proofs.Common.{◌≡◌, ◌+◌, ◌*◌, take}
-use Rattle.py_body.specs.Tree.{form_of, list_suite, suite_of}
-use Rattle.py_body.specs.Binding.{bound_by, statements, statements_in}
+use Rattle.py_body.specs.Tree.{form_of, suite_of}
+use Rattle.py_body.specs.Suites.{list_suite}
+use Rattle.py_body.specs.Binding.{bound_by}
+use Rattle.py_body.specs.Compilable.{statements, statements_in}
 use Rattle.py_body.proofs.locals.+bound.Given as goal
 
 abbrev pub decreases-bound_by : goal.decreases-bound_by

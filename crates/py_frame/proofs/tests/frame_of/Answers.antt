@@ -11,5 +11,5 @@ fill-requires-clause-all c =
 
 pub returns-clause-running : goal.returns-clause-running
 returns-clause-running c =
-    let room : c.in_ok-stack.stack.room ≡ 3 = ap (λ (s : Stack). s.room) c.in_ok-stack.ensures in
+    let room : c.in_ok-stack.stack.room ≡ 1 = ap (λ (s : Stack). s.room) c.in_ok-stack.ensures in
     filled_runs _ _ _ _ _ _ _ _ _ _ _ c.requires.sound (omega (arith, c.requires.depth)) c.in_ok-frame.ensures.blocks c.in_ok-frame.ensures.frame c.in_ok-locals.ensures c.fill.ensures

@@ -1,8 +1,9 @@
 use Rattle.std.proofs.Common.{◌≡◌, ◌+◌, ◌*◌, ◌<◌, ◌≤◌, ℕ, refl, sym, ap, ◌∙◌, subst, length, take, arith, rules, length-append}
 use Rattle.std.proofs.lemmas.Result.{on_ok_weaker}
 use Rattle.py_code.specs.declared.instruction.Instruction.TheVariants.{Jump}
-use Rattle.py_body.specs.Tree.{Suite, form_of, list_suite, suite_of}
-use Rattle.py_body.specs.Binding.{FormTakes, SuiteTakes, statements, statements_in}
+use Rattle.py_body.specs.Tree.{Suite, form_of, suite_of}
+use Rattle.py_body.specs.Suites.{list_suite}
+use Rattle.py_body.specs.Compilable.{FormTakes, SuiteTakes, statements, statements_in}
 use Rattle.py_body.specs.Code.{Parts}
 use Rattle.py_body.specs.Emitting.{parts_of, most_units, HasRoom, put, label_units, relabelled, EmitsForm, EmitsSuite, EmitsTest}
 use Rattle.py_body.proofs.CompilingLemmas.{branch_emitted, branch_room, choice_emitted, choice_room_first, choice_room_second, choice_within, few_behind, inside, loop_emitted, loop_matched, loop_room, loop_room_inside, loop_round, nothing_emitted, pass_emitted, room_behind, room_less, statement_emitted, test_within}

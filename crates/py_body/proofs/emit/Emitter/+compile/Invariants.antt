@@ -1,6 +1,7 @@
 use Rattle.std.proofs.Common.{◌≡◌, ◌+◌, ◌*◌, take}
-use Rattle.py_body.specs.Tree.{form_of, list_suite, suite_of}
-use Rattle.py_body.specs.Binding.{statements, statements_in}
+use Rattle.py_body.specs.Tree.{form_of, suite_of}
+use Rattle.py_body.specs.Suites.{list_suite}
+use Rattle.py_body.specs.Compilable.{statements, statements_in}
 use Rattle.py_body.specs.Emitting.{parts_of, EmitsSuite}
 use Rattle.py_body.proofs.emit.Emitter.+compile.Given as goal
 

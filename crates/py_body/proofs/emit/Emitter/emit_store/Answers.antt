@@ -6,5 +6,5 @@ use Rattle.py_body.proofs.emit.Emitter.emit_store.Goals as goal
 pub returns-clause-store : goal.returns-clause-store
 returns-clause-store c =
     on_ok_weaker c.emit.result
-    (store_emitted (parts_of c.args.self.now) (parts_of c.emit.new.self) c.args.name.now _ c.args.line c.requires.matched c.in_ok-local.ensures.place)
+    (store_emitted (parts_of c.args.self.now) (parts_of c.emit.new.self) c.args.name.now _ c.args.line c.requires.matched c.local-local.ensures)
     c.emit.ensures.puts

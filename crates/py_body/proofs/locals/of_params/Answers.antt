@@ -1,8 +1,8 @@
 use Rattle.std.proofs.Common.{List, ap, ◌∙◌}
 use Rattle.py_body.specs.Tree.{Name}
 use Rattle.py_body.specs.Binding.{bound}
-use Rattle.py_body.proofs.EncodedNames.{param_more}
-use Rattle.py_body.proofs.name_set.NameSet.of_params.Goals as goal
+use Rattle.py_body.proofs.Parameters.{param_more}
+use Rattle.py_body.proofs.locals.of_params.Goals as goal
 
 pub loop-param-preserved : goal.loop-param-preserved
 loop-param-preserved c =
