@@ -1,7 +1,8 @@
 -- Which lines scripts begin with: those that the reader takes.
 use Rattle.std.proofs.Common.{◌≡◌, ◌⊎◌, inl, inr, ℕ, suc, List, [], ◌∷◌, ◌++◌, length, Option, Some, None, refl, sym, ap, ◌∙◌, append_assoc, append-nil, subst}
 use Rattle.std.specs.Prelude.{codes}
-use Rattle.py_body.specs.Tree.{add, Tree}
+use Rattle.py_body.specs.Tree.{Tree}
+use Rattle.py_body.specs.Suites.{add}
 use Rattle.py_grammar.specs.declared.line.Line.{Line}
 use Rattle.py_grammar.specs.declared.line.Line.TheVariants as line
 use Rattle.py_grammar.specs.declared.line.LineRead.{LineRead}

@@ -2,7 +2,8 @@
 use Rattle.std.proofs.Common.{◌≡◌, ◌<◌, ℕ, suc, List, [], ◌∷◌, ◌++◌, Bool, true, false, cond, refl, sym, ap, ◌∙◌, length, take, drop, arith, length-drop, one-add}
 use Rattle.std.specs.Prelude.{◌==◌}
 use Rattle.std.specs.List.{prefix_len}
-use Rattle.py_grammar.specs.Lines.{lines, in_first, is_within, without_cr}
+use Rattle.py_grammar.specs.Lines.{lines, in_first}
+use Rattle.py_grammar.specs.Pieces.{is_within, without_cr}
 
 -- what stands behind the first LF, with the line before it
 abbrev pub cut : List ℕ → List ℕ → List (List ℕ)

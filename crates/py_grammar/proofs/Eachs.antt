@@ -7,7 +7,7 @@ use Rattle.py_grammar.specs.Tokens.{Lexeme}
 use Rattle.py_grammar.specs.Says.{each, both, only_atom, before_close, is_close}
 use Rattle.std.specs.Prelude.{option_map}
 use Rattle.py_grammar.specs.declared.token.Token.{Token}
-use Rattle.py_grammar.specs.Tokens.{lexeme_of}
+use Rattle.py_grammar.specs.Pieces.{lexeme_of}
 
 snoc_both : {X : Type 0} (a b : Option X) (r : Option (List X)) → both (λ x xs. x ∷ xs) a (both (λ xs y. xs ++ y ∷ []) r b) ≡ both (λ xs y. xs ++ y ∷ []) (both (λ x xs. x ∷ xs) a r) b
 snoc_both None b r = refl

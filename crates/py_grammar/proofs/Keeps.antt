@@ -10,7 +10,8 @@ use Rattle.std.proofs.lemmas.Slice.Eq.{bytes_eq-Decides}
 use Rattle.std.specs.Prelude.{All, Any, bytes_eq, nat_le}
 use Rattle.std.specs.List.{list_any, list_all}
 use Rattle.py_body.specs.Tree.{Name, Form, assign, operate, show, give, pass, branch, choice, loop, Suite, nothing, first, Tree}
-use Rattle.py_body.specs.Binding.{FormTakes, SuiteTakes, takes_count}
+use Rattle.py_body.specs.Binding.{takes_count}
+use Rattle.py_body.specs.Compilable.{FormTakes, SuiteTakes}
 use Rattle.py_grammar.specs.declared.drive.DriveAtom.{DriveAtom}
 use Rattle.py_grammar.specs.declared.drive.DriveAtom.TheVariants as drive
 use Rattle.py_grammar.specs.declared.script.Script.{Script}

@@ -1,6 +1,7 @@
 -- What the reader has is what it has read.
 use Rattle.std.proofs.Common.{◌≡◌, ℕ, suc, length, List, [], ◌∷◌, ◌++◌, ◌+◌, arith, Option, Some, None, Bool, true, false, ◌&&◌, refl, sym, ap, ◌∙◌, append_assoc, append-nil, subst, rules}
-use Rattle.py_body.specs.Tree.{Form, assign, operate, show, give, pass, Suite, nothing, first, joined, add, Tree}
+use Rattle.py_body.specs.Tree.{Form, assign, operate, show, give, pass, Suite, nothing, first, Tree}
+use Rattle.py_body.specs.Suites.{joined, add}
 use Rattle.py_grammar.specs.declared.line.Line.{Line}
 use Rattle.py_grammar.specs.declared.line.Line.TheVariants as line
 use Rattle.py_grammar.specs.Drive.{Drive}

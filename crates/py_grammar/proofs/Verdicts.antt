@@ -95,6 +95,14 @@ verdict_bad text k b = go (walk start 1 text) (verdict_true text)
     go (Good ts ds) t = absurd (script_not_bad text ts ds k t b)
     go (Bad j) t = ap Bad (one_bad text j k t b)
 
+-- each text is a script or has a bad line
+pub script_or_bad : (bytes : List ℕ) → ((ts : List Tree) × (ds : List Drive) × Spells (lines bytes) ts ds) ⊎ ((k : ℕ) × IsBadLine bytes k)
+script_or_bad bytes = go (walk start 1 (lines bytes)) (verdict_true (lines bytes))
+  where
+    go : (v : Verdict) → IsTrueOf (lines bytes) v → ((ts : List Tree) × (ds : List Drive) × Spells (lines bytes) ts ds) ⊎ ((k : ℕ) × IsBadLine bytes k)
+    go (Good ts ds) t = inl (ts, ds, t)
+    go (Bad k) t = inr (k, t)
+
 -- from the answer of the reader to that of the grammar
 pub answer_ok : (bytes : List ℕ) (r : Result Script ParseFault) (s : Script) → IsAnswerOf (walk start 1 (lines bytes)) r → r ≡ Ok s → IsScript bytes s
 answer_ok bytes r s v e = let w : IsAnswerOf (walk start 1 (lines bytes)) (Ok s) = subst (IsAnswerOf (walk start 1 (lines bytes))) e v in subst (IsTrueOf (lines bytes)) w (verdict_true (lines bytes))

@@ -1,6 +1,7 @@
 -- The reader takes the rows of every script.
 use Rattle.std.proofs.Common.{◌≡◌, ℕ, suc, length, List, [], ◌∷◌, ◌++◌, Option, Some, None, refl, sym, ap, ◌∙◌, append_assoc, append-nil, length-append, subst, arith, true}
-use Rattle.py_body.specs.Tree.{Name, Form, assign, operate, show, give, pass, branch, choice, loop, Suite, nothing, first, joined, add, Tree}
+use Rattle.py_body.specs.Tree.{Name, Form, assign, operate, show, give, pass, branch, choice, loop, Suite, nothing, first, Tree}
+use Rattle.py_body.specs.Suites.{joined, add}
 use Rattle.py_grammar.specs.Drive.{Drive}
 use Rattle.py_grammar.specs.Rules.{may_drive}
 use Rattle.py_grammar.specs.Grammar.{Row, Item, Declares, Drives, suite_rows, form_rows, end_row, else_row, items_rows, trees_in, drives_in, WellForm, WellSuite, WellItems}

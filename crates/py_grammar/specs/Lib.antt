@@ -10,6 +10,7 @@ pub mod Lines
 -- what every script keeps, for the layers above
 pub mod WellFormed
 -- what the functions inside the crate promise each other
+pub mod Pieces
 pub mod Forms
 pub mod Reader
 pub mod Tables

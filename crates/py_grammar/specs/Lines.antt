@@ -1,5 +1,5 @@
 -- The lines of a text.
-use Rattle.std.specs.Prelude.{ℕ, List, [], ◌∷◌, ◌==◌, ◌&&◌, not, Bool, false, if◌then◌else◌}
+use Rattle.std.specs.Prelude.{ℕ, List, [], ◌∷◌, ◌==◌, ◌&&◌, Bool, false, if◌then◌else◌}
 
 -- a byte at the front of the first line
 abbrev pub in_first : ℕ → List (List ℕ) → List (List ℕ)
@@ -15,13 +15,3 @@ at_lf (b ∷ bs) = b == 10
 abbrev pub lines : List ℕ → List (List ℕ)
 lines [] = []
 lines (b ∷ bs) = if b == 10 then [] ∷ lines bs else if at_lf bs && b == 13 then lines bs else in_first b (lines bs)
-
--- whether a byte stands before the LF of its line
-abbrev pub is_within : ℕ → Bool
-is_within b = not (b == 10)
-
--- a line without a CR at its end
-abbrev pub without_cr : List ℕ → List ℕ
-without_cr [] = []
-without_cr (b ∷ []) = if b == 13 then [] else b ∷ []
-without_cr (b ∷ c ∷ bs) = b ∷ without_cr (c ∷ bs)

@@ -1,7 +1,8 @@
 -- A reader of lines, by what it has read.
 use Rattle.std.specs.Prelude.{ℕ, suc, List, [], ◌∷◌, ◌++◌, length, Option, Some, None, Bool, true, false, if◌then◌else◌, ◌&&◌}
 use Rattle.py_body.specs.declared.atom.Atom.{Atom}
-use Rattle.py_body.specs.Tree.{Name, Form, assign, operate, show, give, pass, branch, choice, loop, Suite, nothing, add, Tree}
+use Rattle.py_body.specs.Tree.{Name, Form, assign, operate, show, give, pass, branch, choice, loop, Suite, nothing, Tree}
+use Rattle.py_body.specs.Suites.{add}
 use Rattle.py_grammar.specs.declared.line.Line.{Line}
 use Rattle.py_grammar.specs.declared.line.Line.TheVariants as line
 use Rattle.py_grammar.specs.declared.line.LineRead.{LineRead}

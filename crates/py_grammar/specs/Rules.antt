@@ -1,6 +1,7 @@
 -- The rules on lines that look at what stands before them, each a test.
-use Rattle.std.specs.Prelude.{ℕ, Option, Some, None, List, [], ◌∷◌, length, Bool, true, ◌||◌, ◌&&◌, not, nat_le, nat_lt, bytes_eq, codes}
+use Rattle.std.specs.Prelude.{ℕ, Option, Some, None, List, [], ◌∷◌, length, Bool, true, ◌&&◌, not, nat_le, nat_lt, bytes_eq, map}
 use Rattle.std.specs.List.{list_any, list_all}
+use Rattle.py_objects.specs.Objects.{error_kinds, name_of}
 use Rattle.py_body.specs.declared.atom.Atom.{Atom}
 use Rattle.py_body.specs.declared.atom.Atom.TheVariants as atom
 use Rattle.py_body.specs.declared.atom.Operator.{Operator}
@@ -22,9 +23,7 @@ declares f ts = list_any (λ t. bytes_eq f t.name) ts
 
 -- the names of the classes that are there without a declaration
 abbrev pub is_builtin_class : Name → Bool
-is_builtin_class f =
-    bytes_eq f (codes "OverflowError") || bytes_eq f (codes "TypeError") || bytes_eq f (codes "NameError")
-    || bytes_eq f (codes "UnboundLocalError") || bytes_eq f (codes "RecursionError")
+is_builtin_class f = is_among f (map name_of error_kinds)
 
 -- whether, behind these declarations, a function may have this name and these parameters:
 -- its name is new, and at most 255 parameters have names of their own

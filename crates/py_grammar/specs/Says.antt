@@ -1,5 +1,6 @@
 -- What a line says, by its tokens.
 use Rattle.std.specs.Prelude.{ℕ, List, [], ◌∷◌, Bool, true, false, ◌&&◌, not, if◌then◌else◌, ◌==◌, length, bytes_eq, codes, Option, Some, None, option_map}
+use Rattle.std.specs.Option.{option_or}
 use Rattle.std.specs.Str.Lossy.{utf8_valid_len}
 use Rattle.py_body.specs.declared.atom.Atom.{Atom}
 use Rattle.py_body.specs.declared.atom.Atom.TheVariants as atom
@@ -17,14 +18,7 @@ use Rattle.py_grammar.specs.Words.{is_name, number_of, drive_number, quoted_text
 
 abbrev pub name_of : Lexeme → Option Name
 name_of (Word w) = if is_name w then Some w else None
-name_of Open = None
-name_of Close = None
-name_of Equals = None
-
--- the first where it is there, else the second
-abbrev pub or_else : {X : Type 0} → Option X → Option X → Option X
-or_else (Some x) b = Some x
-or_else None b = b
+name_of _ = None
 
 -- the constant that a word is
 abbrev pub constant_atom : List ℕ → Option Atom
@@ -39,13 +33,11 @@ name_atom w = if is_name w then Some (atom.Name w) else None
 
 -- the constant, the number, the text or the name that a word is
 abbrev pub word_atom : List ℕ → Option Atom
-word_atom w = or_else (constant_atom w) (or_else (option_map atom.Int (number_of w)) (or_else (option_map atom.Str (quoted_text w)) (name_atom w)))
+word_atom w = option_or (constant_atom w) (option_or (option_map atom.Int (number_of w)) (option_or (option_map atom.Str (quoted_text w)) (name_atom w)))
 
 abbrev pub atom_of : Lexeme → Option Atom
 atom_of (Word w) = word_atom w
-atom_of Open = None
-atom_of Close = None
-atom_of Equals = None
+atom_of _ = None
 
 -- an atom of a body, as a drive has it
 abbrev pub drive_atom : Atom → DriveAtom
@@ -57,13 +49,11 @@ drive_atom (atom.Name x) = drive.Name x
 
 -- the drive that a word names by its number, or else the atom that it is
 abbrev pub word_drive_atom : List ℕ → Option DriveAtom
-word_drive_atom w = or_else (option_map drive.Drive (drive_number w)) (option_map drive_atom (word_atom w))
+word_drive_atom w = option_or (option_map drive.Drive (drive_number w)) (option_map drive_atom (word_atom w))
 
 abbrev pub drive_atom_of : Lexeme → Option DriveAtom
 drive_atom_of (Word w) = word_drive_atom w
-drive_atom_of Open = None
-drive_atom_of Close = None
-drive_atom_of Equals = None
+drive_atom_of _ = None
 
 abbrev pub word_operator : List ℕ → Option Operator
 word_operator w =
@@ -76,15 +66,12 @@ word_operator w =
 
 abbrev pub operator_of : Lexeme → Option Operator
 operator_of (Word w) = word_operator w
-operator_of Open = None
-operator_of Close = None
-operator_of Equals = None
+operator_of _ = None
 
 -- both, where both are there
 abbrev pub both : {X Y Z : Type 0} → (X → Y → Z) → Option X → Option Y → Option Z
 both f (Some x) (Some y) = Some (f x y)
-both f (Some x) None = None
-both f None y = None
+both f _ _ = None
 
 -- what each token says, where each says something
 abbrev pub each : {X : Type 0} → (Lexeme → Option X) → List Lexeme → Option (List X)
@@ -98,9 +85,8 @@ alone l (t ∷ ts) = None
 
 -- the atom that is the only token
 abbrev pub only_atom : List Lexeme → Option Atom
-only_atom [] = None
 only_atom (a ∷ []) = atom_of a
-only_atom (a ∷ t ∷ ts) = None
+only_atom _ = None
 
 -- a name and the names of parameters
 abbrev pub def_form : List Lexeme → Option Line
@@ -114,21 +100,15 @@ call_form (name ∷ args) = both line.Call (name_of name) (each drive_atom_of ar
 
 abbrev pub is_open : Lexeme → Bool
 is_open Open = true
-is_open Close = false
-is_open Equals = false
-is_open (Word w) = false
+is_open _ = false
 
 abbrev pub is_close : Lexeme → Bool
 is_close Close = true
-is_close Open = false
-is_close Equals = false
-is_close (Word w) = false
+is_close _ = false
 
 abbrev pub is_equals : Lexeme → Bool
 is_equals Equals = true
-is_equals Open = false
-is_equals Close = false
-is_equals (Word w) = false
+is_equals _ = false
 
 -- the tokens before a ) that is the last
 abbrev pub before_close : List Lexeme → Option (List Lexeme)
@@ -176,10 +156,6 @@ is_drive w ts = bytes_eq w (codes "call") && not (begins_equals ts)
 
 -- the line of some tokens, where they are one
 abbrev pub line_form : List Lexeme → Option Line
-line_form [] = None
-line_form (Open ∷ ts) = None
-line_form (Close ∷ ts) = None
-line_form (Equals ∷ ts) = None
 line_form (Word w ∷ ts) =
     if bytes_eq w (codes "end") then alone line.End ts
     else if bytes_eq w (codes "pass") then alone line.Pass ts
@@ -192,6 +168,7 @@ line_form (Word w ∷ ts) =
     else if bytes_eq w (codes "def") then def_form ts
     else if is_drive w ts then call_form ts
     else assign_form (Word w) ts
+line_form _ = None
 
 abbrev pub said : Option Line → LineRead
 said None = Malformed

@@ -1,8 +1,5 @@
 -- The tokens of a line.
-use Rattle.std.specs.Prelude.{ℕ, suc, List, [], ◌∷◌, Bool, ◌||◌, not, if◌then◌else◌, ◌==◌}
-use Rattle.std.specs.List.{prefix_len}
-use Rattle.py_grammar.specs.declared.token.Token.{Token}
-use Rattle.py_grammar.specs.declared.token.Token.TheVariants as token
+use Rattle.std.specs.Prelude.{ℕ, List, [], ◌∷◌, Bool, ◌||◌, not, if◌then◌else◌, ◌==◌}
 
 -- a token apart from where it stands; a word in quotes keeps its quotes
 pub data Lexeme : Type 0 where
@@ -72,19 +69,3 @@ cut_from Quoted (b ∷ bs) = if is_quote b then longer b (cut_from Inside bs) el
 -- the tokens of a line: blanks part them, ( ) and = need none, and blanks within quotes part nothing
 abbrev pub tokens_of : List ℕ → List Lexeme
 tokens_of bs = (cut_from Between bs).behind
-
--- a token of the program apart from where it stands
-abbrev pub lexeme_of : Token → Lexeme
-lexeme_of token.Open = Open
-lexeme_of token.Close = Close
-lexeme_of token.Equals = Equals
-lexeme_of (token.Word w) = Word w.now
-
--- how long the rest of a quoted text is, with what is joined to its closing quote
-abbrev pub quoted_len : List ℕ → ℕ
-quoted_len [] = 0
-quoted_len (b ∷ bs) = suc (if is_quote b then prefix_len is_plain bs else quoted_len bs)
-
--- how long a word is behind its first byte
-abbrev pub word_size : ℕ → List ℕ → ℕ
-word_size b bs = if is_quote b then quoted_len bs else prefix_len is_plain bs

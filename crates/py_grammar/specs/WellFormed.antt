@@ -1,7 +1,7 @@
 -- What every script keeps, as the layers above need it.
 use Rattle.std.specs.Prelude.{◌≡◌, ◌≢◌, ◌≤◌, ℕ, List, Some, length, false, All, Any, AllPairs, map, slice_get}
 use Rattle.py_body.specs.Tree.{Name, Tree}
-use Rattle.py_body.specs.Binding.{SuiteTakes}
+use Rattle.py_body.specs.Compilable.{SuiteTakes}
 use Rattle.py_grammar.specs.declared.drive.DriveAtom.{DriveAtom}
 use Rattle.py_grammar.specs.declared.drive.DriveAtom.TheVariants as drive
 use Rattle.py_grammar.specs.declared.script.Script.{Script}

@@ -1,6 +1,6 @@
 -- The words of a script: names, numbers and texts.
 use Rattle.std.specs.Prelude.{ℕ, ◌+◌, ◌-◌, ◌*◌, List, [], ◌∷◌, Bool, false, not, ◌||◌, ◌&&◌, if◌then◌else◌, ◌==◌, ◌^◌, nat_le, nat_lt, length, bytes_eq, codes, fold, Option, Some, None, ℤ, pos, negsuc, neg_ℤ, int_le, option_map}
-use Rattle.std.specs.List.{list_all}
+use Rattle.std.specs.List.{list_all, list_any}
 
 -- whether a byte is one of these and those between them
 abbrev pub between : ℕ → ℕ → ℕ → Bool
@@ -22,41 +22,19 @@ abbrev pub is_spelled_as_name : List ℕ → Bool
 is_spelled_as_name [] = false
 is_spelled_as_name (b ∷ bs) = starts_name b && list_all continues_name bs
 
--- the words for constants
-abbrev pub is_constant_word : List ℕ → Bool
-is_constant_word w = bytes_eq w (codes "None") || bytes_eq w (codes "True") || bytes_eq w (codes "False")
+-- the words of the language, which are no names: constants, then what begins and ends declarations, what begins blocks, what
+-- changes which line comes next, other statements, and what stands inside of them
+abbrev pub reserved_words : List (List ℕ)
+reserved_words =
+    codes "None" ∷ codes "True" ∷ codes "False"
+    ∷ codes "def" ∷ codes "gen" ∷ codes "async" ∷ codes "class" ∷ codes "manager" ∷ codes "code" ∷ codes "end"
+    ∷ codes "if" ∷ codes "else" ∷ codes "while" ∷ codes "for" ∷ codes "try" ∷ codes "except" ∷ codes "finally" ∷ codes "with"
+    ∷ codes "break" ∷ codes "continue" ∷ codes "return" ∷ codes "raise" ∷ codes "reraise" ∷ codes "pass"
+    ∷ codes "show" ∷ codes "do" ∷ codes "del" ∷ codes "unpack" ∷ codes "global" ∷ codes "nonlocal" ∷ codes "import"
+    ∷ codes "await" ∷ codes "from" ∷ codes "in" ∷ codes "type" ∷ []
 
--- the words that begin declarations, and the one that ends them
-abbrev pub is_declaring_word : List ℕ → Bool
-is_declaring_word w =
-    bytes_eq w (codes "def") || bytes_eq w (codes "gen") || bytes_eq w (codes "async") || bytes_eq w (codes "class")
-    || bytes_eq w (codes "manager") || bytes_eq w (codes "code") || bytes_eq w (codes "end")
-
--- the words that begin blocks
-abbrev pub is_block_word : List ℕ → Bool
-is_block_word w =
-    bytes_eq w (codes "if") || bytes_eq w (codes "else") || bytes_eq w (codes "while") || bytes_eq w (codes "for")
-    || bytes_eq w (codes "try") || bytes_eq w (codes "except") || bytes_eq w (codes "finally") || bytes_eq w (codes "with")
-
--- the words that change which line comes next
-abbrev pub is_jump_word : List ℕ → Bool
-is_jump_word w =
-    bytes_eq w (codes "break") || bytes_eq w (codes "continue") || bytes_eq w (codes "return") || bytes_eq w (codes "raise")
-    || bytes_eq w (codes "reraise") || bytes_eq w (codes "pass")
-
--- the words of statements on names and values
-abbrev pub is_statement_word : List ℕ → Bool
-is_statement_word w =
-    bytes_eq w (codes "show") || bytes_eq w (codes "do") || bytes_eq w (codes "del") || bytes_eq w (codes "unpack")
-    || bytes_eq w (codes "global") || bytes_eq w (codes "nonlocal") || bytes_eq w (codes "import")
-
--- the words that stand inside statements
-abbrev pub is_inner_word : List ℕ → Bool
-is_inner_word w = bytes_eq w (codes "await") || bytes_eq w (codes "from") || bytes_eq w (codes "in") || bytes_eq w (codes "type")
-
--- a word of the language, which is no name
 abbrev pub is_reserved : List ℕ → Bool
-is_reserved w = is_constant_word w || is_declaring_word w || is_block_word w || is_jump_word w || is_statement_word w || is_inner_word w
+is_reserved w = list_any (bytes_eq w) reserved_words
 
 abbrev pub is_name : List ℕ → Bool
 is_name w = is_spelled_as_name w && not (is_reserved w)

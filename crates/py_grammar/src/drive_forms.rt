@@ -1,11 +1,11 @@
 //! What the line of a drive says, by its tokens.
 
 ghost use Rattle.std.specs.Prelude.{◌≡◌, IfOk, map};
-ghost use Rattle.py_grammar.specs.Tokens.{lexeme_of};
+ghost use Rattle.py_grammar.specs.Pieces.{lexeme_of};
 ghost use Rattle.py_grammar.specs.Says.{word_drive_atom as word_drive_atom_in, drive_atom_of as drive_atom_in, each, call_form};
 
+use crate::atoms::{name_of, word_atom};
 use crate::drive::{DriveAtom, DriveAtomList};
-use crate::forms::{name_of, word_atom};
 use crate::line::Line;
 use crate::token::Token;
 use crate::words::drive_number;

@@ -1,6 +1,7 @@
 //! The grammar of scripts: which bytes are a script, its trees, and the line that makes bytes none.
 #![tactic(auto)]
 
+mod atoms;
 mod comment;
 mod drive;
 mod drive_forms;
@@ -8,7 +9,6 @@ mod fault;
 mod forms;
 mod line;
 mod lines;
-mod name_table;
 mod open_body;
 mod parse;
 mod reader;
@@ -23,3 +23,4 @@ pub use drive::{DriveAtom, DriveAtomList};
 pub use fault::ParseFault;
 pub use parse::{one_script, parse_script};
 pub use script::{DeclList, Declaration, DriveLine, DriveList, Script};
+pub use words::short_number;

@@ -2,7 +2,8 @@
 
 ghost use Rattle.std.specs.Prelude.{◌≡◌, ◌<◌, ◌∷◌, [], length, MatchOption};
 ghost use Rattle.std.specs.List.{prefix_len};
-ghost use Rattle.py_grammar.specs.Lines.{lines, is_within, without_cr};
+ghost use Rattle.py_grammar.specs.Lines.{lines};
+ghost use Rattle.py_grammar.specs.Pieces.{is_within, without_cr};
 
 /// How many bytes stand before the first LF.
 fn line_len(bytes: &[u8]) -> usize

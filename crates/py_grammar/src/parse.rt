@@ -1,7 +1,9 @@
 //! Bytes to scripts.
 
-ghost use Rattle.std.specs.Prelude.{◌≡◌, ◌≤◌, ◌⊎◌, IfOk, IsOk, Some, None, Err, true, false, length, ℕ, option_map};
-ghost use Rattle.py_grammar.specs.Script.{IsScript, IsBadLine, trees_of, drives_of};
+ghost use Rattle.std.specs.Prelude.{◌≡◌, ◌≤◌, ◌⊎◌, IfOk, IsOk, Some, None, Err, length, ℕ, List, option_map};
+ghost use Rattle.py_body.specs.Tree.{Tree};
+ghost use Rattle.py_grammar.specs.Drive.{Drive};
+ghost use Rattle.py_grammar.specs.Script.{IsScript, IsBadLine, Spells, trees_of, drives_of};
 ghost use Rattle.py_grammar.specs.WellFormed.{IsWellFormed};
 ghost use Rattle.py_grammar.specs.Lines.{lines};
 ghost use Rattle.py_grammar.specs.Says.{says};
@@ -69,8 +71,9 @@ pub fn parse_script(alloc: Global, bytes: &[u8]) -> Result<Script, ParseFault>
     read_lines(alloc, bytes)
 }
 
-/// What the grammar keeps: bytes are one script at most and have one bad line at most, never both.
+/// What the grammar keeps: bytes are one script or have one bad line, never both.
 pub fn one_script(bytes: &[u8])
+    ensures script_or_bad { ((trees : List Tree) × (drives : List Drive) × Spells (lines bytes.now) trees drives) ⊎ ((k : ℕ) × IsBadLine bytes.now k) }
     ensures one_tree { (s : ScriptOf) → (t : ScriptOf) → IsScript bytes.now s → IsScript bytes.now t → (trees_of s ≡ trees_of t) × (drives_of s ≡ drives_of t) }
     ensures not_both { (s : ScriptOf) → (k : ℕ) → IsScript bytes.now s → IsBadLine bytes.now k → ⊥ }
     ensures one_bad { (j : ℕ) → (k : ℕ) → IsBadLine bytes.now j → IsBadLine bytes.now k → j ≡ k }

@@ -8,11 +8,10 @@ ghost use Rattle.py_grammar.specs.Tables.{taken_names};
 
 use crate::fault::ParseFault;
 use crate::line::Line;
-use crate::name_table::NameTable;
 use crate::open_body::{Closed, OpenBody};
 use crate::rules::{may_declare, may_drive};
 use crate::script::{DeclList, Declaration, DriveLine, DriveList, Script};
-use py_code::NoMemory;
+use py_code::{NameSet, NoMemory};
 use std::alloc::Global;
 use std::marker::Model;
 
@@ -22,7 +21,7 @@ pub struct Reader {
     whole: Script,
     inside: Option<OpenBody>,
     /// The names of the declarations in order, and behind them that of the open body.
-    names: NameTable,
+    names: NameSet,
 }
 
 impl Model for Reader {
@@ -52,12 +51,12 @@ impl Reader {
                 drives: DriveList::new(alloc),
             },
             inside: None,
-            names: NameTable::new(alloc),
+            names: NameSet::new(alloc),
         }
     }
 
     /// An `end` where this body is open.
-    fn end(whole: Script, names: NameTable, body: OpenBody) -> Result<Reader, NoMemory>
+    fn end(whole: Script, names: NameSet, body: OpenBody) -> Result<Reader, NoMemory>
         requires { names ≡ taken_names (trees_of whole) (Some body) }
         ensures { IfOk result (λ next. state_of next ≡ closes (trees_of whole) (drives_of whole) (closed (open_of body) (open_of body).blocks)) }
     {
@@ -83,7 +82,7 @@ impl Reader {
     fn push_inside(
         alloc: Global,
         whole: Script,
-        names: NameTable,
+        names: NameSet,
         body: OpenBody,
         number: u32,
         line: Line,
@@ -108,7 +107,7 @@ impl Reader {
     fn push_outside(
         alloc: Global,
         whole: Script,
-        names: NameTable,
+        names: NameSet,
         number: u32,
         line: Line,
     ) -> Result<Option<Reader>, NoMemory>

@@ -2,6 +2,7 @@
 
 ghost use Rattle.std.specs.Prelude.{◌≡◌, length, bytes_eq};
 ghost use Rattle.std.specs.List.{list_any, list_all};
+ghost use Rattle.py_objects.specs.Objects.{name_of};
 ghost use Rattle.py_body.specs.Binding.{takes_count as takes_count_in};
 ghost use Rattle.py_grammar.specs.Script.{trees_of, drives_of};
 ghost use Rattle.py_grammar.specs.Rules.{is_among as is_among_names, all_differ as do_all_differ, is_builtin_class as is_builtin};
@@ -10,10 +11,10 @@ ghost use Rattle.py_grammar.specs.Rules.{is_bindable as is_bindable_name, is_usa
 ghost use Rattle.py_grammar.specs.Tables.{may_head, names_of, is_drivable_by, may_call as may_be_called};
 
 use crate::drive::{DriveAtom, DriveAtomList};
-use crate::name_table::NameTable;
 use crate::script::Script;
 use py_body::{Atom, AtomList, Operator, ParamList};
-use py_code::{PyText, same_text};
+use py_code::{NameSet, PyText, same_text};
+use py_objects::ErrorKind;
 
 fn is_among(name: &PyText, names: &[PyText]) -> bool
     ensures { result ≡ is_among_names name.now names.now }
@@ -53,19 +54,31 @@ fn is_word(text: &PyText, word: &[u8]) -> bool
     bytes.is_empty()
 }
 
+/// The classes that are there without a declaration.
+const ERROR_KINDS: [ErrorKind; 5] = [
+    ErrorKind::NameError,
+    ErrorKind::OverflowError,
+    ErrorKind::RecursionError,
+    ErrorKind::TypeError,
+    ErrorKind::UnboundLocalError,
+];
+
+/// Whether a name is that of one of these classes.
+fn is_name_of(name: &PyText, kinds: &[ErrorKind]) -> bool
+    ensures { result ≡ list_any (λ kind. bytes_eq name.now (name_of kind)) kinds.now }
+{
+    kinds.iter().any(|kind| is_word(name, kind.name()))
+}
+
 /// Whether a name is one of the classes that are there without a declaration.
 fn is_builtin_class(name: &PyText) -> bool
     ensures { result ≡ is_builtin name.now }
 {
-    is_word(name, b"OverflowError")
-        || is_word(name, b"TypeError")
-        || is_word(name, b"NameError")
-        || is_word(name, b"UnboundLocalError")
-        || is_word(name, b"RecursionError")
+    is_name_of(name, &ERROR_KINDS)
 }
 
 /// Whether a function may have this name and these parameters, behind declarations with the names of the table.
-pub fn may_declare(names: &NameTable, name: &PyText, params: &ParamList) -> bool
+pub fn may_declare(names: &NameSet, name: &PyText, params: &ParamList) -> bool
     ensures { result ≡ may_head names.now name.now params.now }
 {
     // The count comes first, since to compare names in pairs takes long where there are many.
@@ -76,7 +89,7 @@ pub fn may_declare(names: &NameTable, name: &PyText, params: &ParamList) -> bool
 }
 
 /// Whether a drive may have this argument, behind declarations with the names of the table and so many drives.
-fn is_drivable(names: &NameTable, made: usize, atom: &DriveAtom) -> bool
+fn is_drivable(names: &NameSet, made: usize, atom: &DriveAtom) -> bool
     ensures { result ≡ is_drivable_by names.now made atom.now }
 {
     match atom {
@@ -89,21 +102,21 @@ fn is_drivable(names: &NameTable, made: usize, atom: &DriveAtom) -> bool
     }
 }
 
-fn are_drivable(names: &NameTable, made: usize, atoms: &[DriveAtom]) -> bool
+fn are_drivable(names: &NameSet, made: usize, atoms: &[DriveAtom]) -> bool
     ensures { result ≡ list_all (is_drivable_by names.now made) atoms.now }
 {
     atoms.iter().all(|atom| is_drivable(names, made, atom))
 }
 
 /// Whether a drive may call this function with these arguments, behind declarations with the names of the table and so many drives.
-fn may_call(names: &NameTable, made: usize, name: &PyText, args: &DriveAtomList) -> bool
+fn may_call(names: &NameSet, made: usize, name: &PyText, args: &DriveAtomList) -> bool
     ensures { result ≡ may_be_called names.now made name.now args.now }
 {
     args.len() <= 255 && names.contains(name) && are_drivable(names, made, args.as_slice())
 }
 
 /// Whether a drive may call this function with these arguments, behind a script of whose declarations the table has the names.
-pub fn may_drive(names: &NameTable, whole: &Script, name: &PyText, args: &DriveAtomList) -> bool
+pub fn may_drive(names: &NameSet, whole: &Script, name: &PyText, args: &DriveAtomList) -> bool
     requires { names.now ≡ names_of (trees_of whole.now) }
     ensures { result ≡ may_be_driven (trees_of whole.now) (length (drives_of whole.now)) name.now args.now }
 {

@@ -1,46 +1,33 @@
-//! Worked texts, with the line that makes each no script.
+//! A text that is a script, and one that is none.
 
-mod forms;
-mod limits;
-mod lines;
-mod names;
-mod rules;
-mod trees;
-mod words;
+ghost use Rattle.std.specs.Prelude.{◌≤◌, length};
 
-use crate::{ParseFault, parse_script};
+use crate::{ParseFault, one_script, parse_script};
+use py_code::NoMemory;
 use std::alloc::Global;
 
-/// 0 for a script, else the bad line; the largest number where memory ran out.
-fn bad_line(alloc: Global, bytes: &[u8]) -> u64 {
-    if bytes.len() > 1_048_576 {
-        return u64::MAX;
-    }
-    match parse_script(alloc, bytes) {
-        Ok(_) => 0,
-        Err(ParseFault::Malformed(line)) => line,
-        Err(ParseFault::NoMemory) => u64::MAX,
-    }
-}
+const SCRIPT: &[u8] = b"# a loop\ndef f a\nwhile a\nshow 'b'\nend\nend\ncall f -1\ncall f $1\n";
 
-/// The place of the first text whose bad line isn't the one beside it, which is 0 for a script.
-fn first_wrong(alloc: Global, texts: &[(&[u8], u64)]) -> Option<usize> {
-    texts
-        .iter()
-        .position(|(text, want)| bad_line(alloc, text) != *want)
-}
-
-/// The place of the first table with such a text.
-fn first_wrong_table(alloc: Global, tables: &[&[(&[u8], u64)]]) -> Option<usize> {
-    tables
-        .iter()
-        .position(|texts| first_wrong(alloc, texts).is_some())
+/// How many names a text declares and how many drives it has, or its bad line.
+fn outline(alloc: Global, text: &[u8]) -> Result<Result<(usize, usize), u64>, NoMemory>
+    requires { length text.now ≤ 1048576 }
+{
+    one_script(text);
+    match parse_script(alloc, text) {
+        Ok(script) => {
+            let declarations = script.declarations.as_slice().iter();
+            let named = declarations.filter(|declared| declared.name().len() > 0);
+            Ok(Ok((named.count(), script.drives.len())))
+        }
+        Err(ParseFault::Malformed(line)) => Ok(Err(line)),
+        Err(ParseFault::NoMemory) => Err(NoMemory),
+    }
 }
 
 #[test]
-fn a_text_has_the_bad_line_beside_it(rt: HostRuntime) {
-    assert_eq!(rt; first_wrong_table(rt.alloc(), lines::TABLES), None);
-    assert_eq!(rt; first_wrong_table(rt.alloc(), words::TABLES), None);
-    assert_eq!(rt; first_wrong_table(rt.alloc(), forms::TABLES), None);
-    assert_eq!(rt; first_wrong_table(rt.alloc(), rules::TABLES), None);
+fn a_text_is_a_script_or_has_a_bad_line(rt: HostRuntime) -> Result<(), NoMemory> {
+    let alloc = rt.alloc();
+    assert_eq!(rt; outline(alloc, SCRIPT)?, Ok((1, 2)));
+    assert_eq!(rt; outline(alloc, b"def f a\nreturn a\n")?, Err(3));
+    Ok(())
 }

@@ -1,10 +1,8 @@
 //! The words of a script: names, numbers and texts.
 
-ghost use Rattle.std.specs.Prelude.{◌≡◌, option_copied};
-ghost use Rattle.std.specs.List.{list_all};
+ghost use Rattle.std.specs.Prelude.{◌≡◌, bytes_eq, option_copied};
+ghost use Rattle.std.specs.List.{list_all, list_any};
 ghost use Rattle.py_grammar.specs.Words.{starts_name as starts_name_byte, continues_name as continues_name_byte, is_spelled_as_name as is_spelled};
-ghost use Rattle.py_grammar.specs.Words.{is_constant_word as is_constant, is_declaring_word as is_declaring, is_block_word as is_block};
-ghost use Rattle.py_grammar.specs.Words.{is_jump_word as is_jump, is_statement_word as is_statement, is_inner_word as is_inner};
 ghost use Rattle.py_grammar.specs.Words.{is_reserved as is_reserved_word, is_name as is_name_word, number_of as number_in, short_number as short_number_in, drive_number as drive_number_in, quoted_text as quoted_text_in, stands_in_text as stands_in_text_byte};
 
 fn starts_name(byte: u8) -> bool
@@ -35,79 +33,57 @@ fn is_spelled_as_name(word: &[u8]) -> bool
     }
 }
 
-fn is_constant_word(word: &[u8]) -> bool
-    ensures { result ≡ is_constant word.now }
-{
-    word == b"None".as_slice() || word == b"True".as_slice() || word == b"False".as_slice()
-}
+/// The words of the language, which are no names.
+const RESERVED: [&[u8]; 35] = [
+    b"None",
+    b"True",
+    b"False",
+    b"def",
+    b"gen",
+    b"async",
+    b"class",
+    b"manager",
+    b"code",
+    b"end",
+    b"if",
+    b"else",
+    b"while",
+    b"for",
+    b"try",
+    b"except",
+    b"finally",
+    b"with",
+    b"break",
+    b"continue",
+    b"return",
+    b"raise",
+    b"reraise",
+    b"pass",
+    b"show",
+    b"do",
+    b"del",
+    b"unpack",
+    b"global",
+    b"nonlocal",
+    b"import",
+    b"await",
+    b"from",
+    b"in",
+    b"type",
+];
 
-fn is_declaring_word(word: &[u8]) -> bool
-    ensures { result ≡ is_declaring word.now }
+/// Whether a word is one of these.
+fn is_one_of(word: &[u8], words: &[&[u8]]) -> bool
+    ensures { result ≡ list_any (λ other. bytes_eq word.now other.now) words.now }
 {
-    word == b"def".as_slice()
-        || word == b"gen".as_slice()
-        || word == b"async".as_slice()
-        || word == b"class".as_slice()
-        || word == b"manager".as_slice()
-        || word == b"code".as_slice()
-        || word == b"end".as_slice()
-}
-
-fn is_block_word(word: &[u8]) -> bool
-    ensures { result ≡ is_block word.now }
-{
-    word == b"if".as_slice()
-        || word == b"else".as_slice()
-        || word == b"while".as_slice()
-        || word == b"for".as_slice()
-        || word == b"try".as_slice()
-        || word == b"except".as_slice()
-        || word == b"finally".as_slice()
-        || word == b"with".as_slice()
-}
-
-fn is_jump_word(word: &[u8]) -> bool
-    ensures { result ≡ is_jump word.now }
-{
-    word == b"break".as_slice()
-        || word == b"continue".as_slice()
-        || word == b"return".as_slice()
-        || word == b"raise".as_slice()
-        || word == b"reraise".as_slice()
-        || word == b"pass".as_slice()
-}
-
-fn is_statement_word(word: &[u8]) -> bool
-    ensures { result ≡ is_statement word.now }
-{
-    word == b"show".as_slice()
-        || word == b"do".as_slice()
-        || word == b"del".as_slice()
-        || word == b"unpack".as_slice()
-        || word == b"global".as_slice()
-        || word == b"nonlocal".as_slice()
-        || word == b"import".as_slice()
-}
-
-fn is_inner_word(word: &[u8]) -> bool
-    ensures { result ≡ is_inner word.now }
-{
-    word == b"await".as_slice()
-        || word == b"from".as_slice()
-        || word == b"in".as_slice()
-        || word == b"type".as_slice()
+    words.iter().any(|other| word == *other)
 }
 
 /// Whether a word is one of the language, and so no name.
 fn is_reserved(word: &[u8]) -> bool
     ensures { result ≡ is_reserved_word word.now }
 {
-    is_constant_word(word)
-        || is_declaring_word(word)
-        || is_block_word(word)
-        || is_jump_word(word)
-        || is_statement_word(word)
-        || is_inner_word(word)
+    is_one_of(word, &RESERVED)
 }
 
 /// Whether a word is a name.
@@ -130,8 +106,8 @@ pub fn number_of(word: &[u8]) -> Option<i128>
     text.parse().ok()
 }
 
-/// The number that digits spell, of at most 64 bits.
-fn short_number(digits: &[u8]) -> Option<u64>
+/// The number that one or more decimal digits spell, of at most 64 bits.
+pub fn short_number(digits: &[u8]) -> Option<u64>
     ensures { result ≡ short_number_in digits.now }
 {
     if digits.starts_with(b"+") {

@@ -1,4 +1,4 @@
-use Rattle.py_grammar.specs.Tokens.{lexeme_of}
+use Rattle.py_grammar.specs.Pieces.{lexeme_of}
 use Rattle.py_grammar.specs.Says.{drive_atom_of}
 use Rattle.py_grammar.proofs.Eachs.{push_at, none_at}
 use Rattle.py_grammar.proofs.drive_forms.drive_atoms_of.Goals as goal

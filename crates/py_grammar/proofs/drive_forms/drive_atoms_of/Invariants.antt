@@ -1,5 +1,5 @@
 use Rattle.std.proofs.Common.{◌≡◌, take, map, Some}
-use Rattle.py_grammar.specs.Tokens.{lexeme_of}
+use Rattle.py_grammar.specs.Pieces.{lexeme_of}
 use Rattle.py_grammar.specs.Says.{each, drive_atom_of}
 use Rattle.py_grammar.proofs.drive_forms.drive_atoms_of.Given as goal
 

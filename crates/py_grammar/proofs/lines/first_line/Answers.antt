@@ -1,6 +1,6 @@
 use Rattle.std.proofs.Common.{arith, rules}
 use Rattle.std.proofs.lemmas.List.Sums.{prefix_len-le-length}
-use Rattle.py_grammar.specs.Lines.{is_within}
+use Rattle.py_grammar.specs.Pieces.{is_within}
 use Rattle.py_grammar.proofs.Cuts.{cut_end, cut_lf}
 use Rattle.py_grammar.proofs.lines.first_line.Goals as goal
 

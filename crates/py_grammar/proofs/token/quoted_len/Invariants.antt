@@ -1,5 +1,5 @@
 use Rattle.std.proofs.Common.{◌≡◌, ◌+◌, length}
-use Rattle.py_grammar.specs.Tokens.{quoted_len}
+use Rattle.py_grammar.specs.Pieces.{quoted_len}
 use Rattle.py_grammar.proofs.token.quoted_len.Given as goal
 
 abbrev pub invariant-loop-first : goal.invariant-loop-first

@@ -1,5 +1,6 @@
 use Rattle.std.proofs.Common.{◌≡◌, ◌++◌, length, map}
-use Rattle.py_grammar.specs.Tokens.{tokens_of, lexeme_of}
+use Rattle.py_grammar.specs.Tokens.{tokens_of}
+use Rattle.py_grammar.specs.Pieces.{lexeme_of}
 use Rattle.py_grammar.proofs.token.tokens_of.Given as goal
 
 abbrev pub invariant-loop-token : goal.invariant-loop-token

@@ -1,7 +1,7 @@
-use Rattle.py_grammar.specs.Tokens.{lexeme_of}
+use Rattle.py_grammar.specs.Pieces.{lexeme_of}
 use Rattle.py_grammar.specs.Says.{name_of}
 use Rattle.py_grammar.proofs.Eachs.{push_at, none_at}
-use Rattle.py_grammar.proofs.forms.names_of.Goals as goal
+use Rattle.py_grammar.proofs.atoms.names_of.Goals as goal
 
 pub returns-in-None : goal.returns-in-None
 returns-in-None c = none_at name_of lexeme_of _ _ _ _ c.loop-token-test.true c.in-None.is c.in_ok-name.ensures
