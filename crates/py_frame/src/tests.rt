@@ -1,6 +1,9 @@
 //! A code of one unit, from the making of its frame to the frame's end.
 
-ghost use Rattle.std.specs.Prelude.{◌≡◌, ◌≤◌, [], IfOk};
+ghost use Rattle.std.specs.Prelude.{◌≡◌, ◌≤◌, [], ◌∷◌, IfOk};
+ghost use Rattle.py_code.specs.declared.instruction.Instruction.TheVariants.{ReturnConst};
+ghost use Rattle.py_check.specs.Sheet.{sheet_of};
+ghost use Rattle.py_check.specs.Worked.{nothing, sheet, unit};
 ghost use Rattle.py_frame.specs.Fitting.{IsRunning};
 ghost use Rattle.py_frame.specs.Sound.{IsSound};
 ghost use Rattle.py_frame.specs.declared.input.Expect.TheVariants as expect;
@@ -20,9 +23,8 @@ fn object(number: u64) -> PyObjectRef {
 }
 
 /// A code of one unit on line 10, which returns None.
-fn returning(alloc: Global) -> Result<CheckedCode, NoMemory>
-    ensures sound { IfOk result (λ code. IsSound [] code) }
-    ensures depth { IfOk result (λ code. code.code.code.max_stackdepth ≤ 1) }
+fn code_of(alloc: Global) -> Result<Annotated, NoMemory>
+    ensures { IfOk result (λ code. sheet_of code ≡ record (sheet (unit ReturnConst 0 ∷ []) (nothing ∷ [])) { arg_count = 0; max_stackdepth = 1; names = 0; varnames = 0 }) }
 {
     let mut instructions = Vec::new(alloc);
     let op = Instruction::ReturnConst;
@@ -53,7 +55,16 @@ fn returning(alloc: Global) -> Result<CheckedCode, NoMemory>
         cellvars: Vec::new(alloc),
         freevars: Vec::new(alloc),
     });
-    Ok(CheckedCode::of(Annotated { code, notes }))
+    Ok(Annotated { code, notes })
+}
+
+/// The same, checked.
+fn returning(alloc: Global) -> Result<CheckedCode, NoMemory>
+    ensures sound { IfOk result (λ code. IsSound [] code) }
+    ensures depth { IfOk result (λ code. code.code.code.max_stackdepth ≤ 1) }
+{
+    let code = code_of(alloc)?;
+    Ok(CheckedCode::of(code))
 }
 
 /// A frame of that code, which is the third of its run.

@@ -12,24 +12,25 @@ use Rattle.std.proofs.lemmas.Bool.{le-leb, leb-true, lt-ltb, ltb-true, eqb-true,
 use Rattle.std.proofs.lemmas.Fmt.{IsAscii-from_digits}
 use Rattle.std.proofs.lemmas.Str.{IsUtf8-from_ascii}
 use Rattle.std.proofs.lemmas.Str.Parse.{IsNumeralModel, numerals_by_fold, parse_plain, parse_signed_minus, parse_signed_plain}
-use Rattle.py_grammar.specs.Words.{is_digit, value_of, digits_number, is_whole, passing, number_of, is_short, short_number}
+use Rattle.py_code.specs.Literals.{in_range}
+use Rattle.py_grammar.specs.Words.{is_digit, value_of, digits_number, passing, number_of, is_short, short_number}
 
 -- the grammar's digits are the library's
 digits : IsNumeralModel (λ ds. list_all is_digit ds ≡ true) value_of
 digits = numerals_by_fold (λ ds. list_all is_digit ds ≡ true) (search rules) (fold (λ n b. n * 10 + (b - 48))) (search rules)
 
 -- which numbers have 128 bits
-pos_whole : (n : ℕ) → n < 2 ^ 127 → is_whole (pos n) ≡ true
+pos_whole : (n : ℕ) → n < 2 ^ 127 → in_range (pos n) ≡ true
 pos_whole n h = le-leb n (2 ^ 127 - 1) (omega (arith, h))
 
-whole_pos : (n : ℕ) → is_whole (pos n) ≡ true → n < 2 ^ 127
+whole_pos : (n : ℕ) → in_range (pos n) ≡ true → n < 2 ^ 127
 whole_pos n h = omega (arith, leb-true n (2 ^ 127 - 1) h)
 
-neg_whole : (n : ℕ) → n ≤ 2 ^ 127 → is_whole (neg_ℤ (pos n)) ≡ true
+neg_whole : (n : ℕ) → n ≤ 2 ^ 127 → in_range (neg_ℤ (pos n)) ≡ true
 neg_whole zero h = refl
 neg_whole (suc n) h = rw (le-leb n (2 ^ 127 - 1) (omega (arith, h))) refl
 
-whole_neg : (n : ℕ) → is_whole (neg_ℤ (pos n)) ≡ true → n ≤ 2 ^ 127
+whole_neg : (n : ℕ) → in_range (neg_ℤ (pos n)) ≡ true → n ≤ 2 ^ 127
 whole_neg zero h = omega arith
 whole_neg (suc n) h = omega (arith, leb-true n (2 ^ 127 - 1) (sym (and-true _) ∙ h))
 
@@ -64,12 +65,12 @@ no_plus (b ∷ bs) h e = let k : true ≡ false = subst (λ x. starts_with eqb (
 
 -- what the library reads of a word with no plus in front
 pub number_read : {E : Type 0} (word : List ℕ) (r : Result ℤ E) → starts_with eqb word (43 ∷ []) ≡ false → ParsesSigned w128 10 word r → result_ok r ≡ number_of word
-number_read [] r plus h = read is_whole pos (λ n. n < 2 ^ 127) pos_whole whole_pos [] r (parse_signed_plain digits w128 [] r h (no_plus [] plus) (λ e. omega (arith, e)))
+number_read [] r plus h = read in_range pos (λ n. n < 2 ^ 127) pos_whole whole_pos [] r (parse_signed_plain digits w128 [] r h (no_plus [] plus) (λ e. omega (arith, e)))
 number_read (b ∷ bs) r plus h = go (b == 45) refl
   where
     go : (m : Bool) → (b == 45) ≡ m → result_ok r ≡ number_of (b ∷ bs)
-    go true e = rw e (read is_whole (λ n. neg_ℤ (pos n)) (λ n. n ≤ 2 ^ 127) neg_whole whole_neg bs r (parse_signed_minus digits w128 (b ∷ bs) r h (eqb-true b 45 e)))
-    go false e = rw e (read is_whole pos (λ n. n < 2 ^ 127) pos_whole whole_pos (b ∷ bs) r (parse_signed_plain digits w128 (b ∷ bs) r h (no_plus (b ∷ bs) plus) (eqb-false b 45 e)))
+    go true e = rw e (read in_range (λ n. neg_ℤ (pos n)) (λ n. n ≤ 2 ^ 127) neg_whole whole_neg bs r (parse_signed_minus digits w128 (b ∷ bs) r h (eqb-true b 45 e)))
+    go false e = rw e (read in_range pos (λ n. n < 2 ^ 127) pos_whole whole_pos (b ∷ bs) r (parse_signed_plain digits w128 (b ∷ bs) r h (no_plus (b ∷ bs) plus) (eqb-false b 45 e)))
 
 digits_ascii : (ds : List ℕ) → list_all is_digit ds ≡ true → IsAscii ds
 digits_ascii ds all = IsAscii-from_digits ds (digits.to ds all)
@@ -84,8 +85,8 @@ not_text [] bad = refl
 not_text (b ∷ bs) bad = go (b == 45) refl
   where
     go : (m : Bool) → (b == 45) ≡ m → None ≡ number_of (b ∷ bs)
-    go true e = rw e (refused is_whole (λ n. neg_ℤ (pos n)) bs (λ all some whole. bad (IsUtf8-from_ascii (b ∷ bs) (sign_ascii b bs (eqb-true b 45 e) (digits_ascii bs all)))))
-    go false e = rw e (refused is_whole pos (b ∷ bs) (λ all some whole. bad (IsUtf8-from_ascii (b ∷ bs) (digits_ascii (b ∷ bs) all))))
+    go true e = rw e (refused in_range (λ n. neg_ℤ (pos n)) bs (λ all some whole. bad (IsUtf8-from_ascii (b ∷ bs) (sign_ascii b bs (eqb-true b 45 e) (digits_ascii bs all)))))
+    go false e = rw e (refused in_range pos (b ∷ bs) (λ all some whole. bad (IsUtf8-from_ascii (b ∷ bs) (digits_ascii (b ∷ bs) all))))
 
 -- ---- digits without a sign, of 64 bits
 

@@ -1,6 +1,7 @@
 -- The words of a script: names, numbers and texts.
-use Rattle.std.specs.Prelude.{ℕ, ◌+◌, ◌-◌, ◌*◌, List, [], ◌∷◌, Bool, false, not, ◌||◌, ◌&&◌, if◌then◌else◌, ◌==◌, ◌^◌, nat_le, nat_lt, length, bytes_eq, codes, fold, Option, Some, None, ℤ, pos, negsuc, neg_ℤ, int_le, option_map}
+use Rattle.std.specs.Prelude.{ℕ, ◌+◌, ◌-◌, ◌*◌, List, [], ◌∷◌, Bool, false, not, ◌||◌, ◌&&◌, if◌then◌else◌, ◌==◌, ◌^◌, nat_le, nat_lt, length, bytes_eq, codes, fold, Option, Some, None, ℤ, pos, neg_ℤ, option_map}
 use Rattle.std.specs.List.{list_all, list_any}
+use Rattle.py_code.specs.Literals.{in_range}
 
 -- whether a byte is one of these and those between them
 abbrev pub between : ℕ → ℕ → ℕ → Bool
@@ -50,10 +51,6 @@ value_of digits = fold (λ n b. n * 10 + (b - 48)) 0 digits
 abbrev pub digits_number : List ℕ → Option ℕ
 digits_number digits = if are_digits digits then Some (value_of digits) else None
 
--- whether a whole number has at most 128 bits with a sign
-abbrev pub is_whole : ℤ → Bool
-is_whole n = int_le (negsuc (2 ^ 127 - 1)) n && int_le n (pos (2 ^ 127 - 1))
-
 -- whether a number has at most 64 bits
 abbrev pub is_short : ℕ → Bool
 is_short n = nat_lt n (2 ^ 64)
@@ -72,7 +69,7 @@ signed_number (b ∷ bs) =
 
 -- the number that a word spells, of at most 128 bits
 abbrev pub number_of : List ℕ → Option ℤ
-number_of word = passing is_whole (signed_number word)
+number_of word = passing in_range (signed_number word)
 
 -- the number that digits spell, of at most 64 bits
 abbrev pub short_number : List ℕ → Option ℕ
