@@ -3,7 +3,7 @@ use Rattle.std.proofs.Common.{◌≡◌, ℕ, zero, suc, List, [], ◌∷◌, �
 use Rattle.std.proofs.lemmas.Fmt.{decimal_digit, decimal_step}
 use Rattle.std.proofs.lemmas.Bool.{ltb-true}
 use Rattle.std.proofs.lemmas.Str.{encode_ascii}
-use Rattle.std.specs.Prelude.{ℤ, pos, ◌+ℤ◌, codes, decimal, slice_get, Contains, map, nat_lt, eqb, if◌then◌else◌}
+use Rattle.std.specs.Prelude.{encode_utf8_all, ℤ, pos, ◌+ℤ◌, codes, decimal, slice_get, Contains, map, nat_lt, eqb, if◌then◌else◌}
 use Rattle.std.specs.List.{list_all}
 use Rattle.py_objects.specs.declared.refs.PyBaseExceptionRef.{PyBaseExceptionRef}
 use Rattle.py_objects.specs.declared.payload.Payload.{Payload}
@@ -32,11 +32,11 @@ use Rattle.py_body.specs.Trace.{IsTrace, IsBegun}
 use Rattle.py_grammar.specs.Drive.{Drive}
 use Rattle.py_vm.specs.declared.drive.Drive.TheVariants.{Call}
 use Rattle.py_vm.specs.Answers.{Reply, Replies, Gives, IsRaised, sum, whole}
-use Rattle.py_vm.specs.Calls.{Signature, Course, Says, Enters, refusal, bound_at, CallsAs, Calls, Comes_to}
+use Rattle.py_vm.specs.Calls.{Signature, Course, Says, Enters, refusal, bound_at, CallsAs, Calls, ComesTo}
 use Rattle.py_vm.specs.Run.{Posed, Plan, Activation, Phase, Asking, IsTop, Answers as IsAnswered, MayCome, State, question, start, state_after, Comes, EachTells}
 use Rattle.py_script.specs.Whole.{AreAsked, AreGlobals, AreObjects, Traces, IsRunOf, plan_of, signature_of}
-use Rattle.py_script.specs.Text.{bytes_of}
-use Rattle.py_script.specs.Worked.{object, exception, class_entry, function_entry, loaded, objects_of, entered, asked, greatest, overflowing, error_body, error_entry, error_objects, raising_by, raised, raises, overflow_by}
+use Rattle.std.proofs.lemmas.List.Sorted.{IsPermutation-refl}
+use Rattle.py_script.specs.Worked.{object, exception, class_entry, function_entry, loaded, objects_of, entered, asked, greatest, overflowing, error_entry, error_objects, raising_by, raised, raises, overflow_by}
 
 pub decimal_1 : decimal 1 ≡ codes "1"
 decimal_1 = decimal_digit 1 (lit< tt)
@@ -72,7 +72,7 @@ and_right true b h = h
 and_right false b h = cc
 
 -- a text of ASCII has the bytes of its characters
-pub ascii_bytes : (s : Name) → list_all (λ c. nat_lt c 128) s ≡ true → bytes_of s ≡ s
+pub ascii_bytes : (s : Name) → list_all (λ c. nat_lt c 128) s ≡ true → encode_utf8_all s ≡ s
 ascii_bytes [] h = refl
 ascii_bytes (c ∷ s) h =
     let first = encode_ascii c (ltb-true c 128 (and_left (nat_lt c 128) _ h)) in
@@ -175,12 +175,12 @@ reply_of_sum store a b i j reply p q r =
     sym (some_is _ _ r.8) ∙ (ap (λ (x : Payload). sum x r.1 r.2 r.3) left ∙ ap (λ (x : Payload). sum (payload.Int i) x r.2 r.3) right)
 
 -- what is no call is replied to
-pub replied : (ss : List Signature) (d : ℕ) (store : List Payload) (r : Request) (reply : Reply) → ((f : Obj) (vs : List Obj) → r ≡ Calling f vs keywords.None → ⊥) → Comes_to ss d store r (Says reply) → Replies store r reply
+pub replied : (ss : List Signature) (d : ℕ) (store : List Payload) (r : Request) (reply : Reply) → ((f : Obj) (vs : List Obj) → r ≡ Calling f vs keywords.None → ⊥) → ComesTo ss d store r (Says reply) → Replies store r reply
 replied ss d store r reply other (inl (q, is, h)) = let same : reply ≡ q = cc in subst (Replies store r) (sym same) h
 replied ss d store r reply other (inr (f, vs, is, h)) = absurd (other f vs is)
 
 -- what is called comes to what the call does
-pub called : (ss : List Signature) (d : ℕ) (store : List Payload) (f : Obj) (vs : List Obj) (c : Course) → Comes_to ss d store (Calling f vs keywords.None) c → Calls ss d store f vs c
+pub called : (ss : List Signature) (d : ℕ) (store : List Payload) (f : Obj) (vs : List Obj) (c : Course) → ComesTo ss d store (Calling f vs keywords.None) c → Calls ss d store f vs c
 called ss d store f vs c (inl (reply, is, h)) = absurd h
 called ss d store f vs c (inr (g, ws, is, h)) =
     let function : f ≡ g = cc is in
@@ -277,7 +277,7 @@ module _ (t : Tree) where
 
   -- the globals bind the function
   pub are_globals : (more : List Payload) → IsDeclared (loaded_with more) → AreGlobals (t ∷ []) (loaded_with more) (object 9)
-  are_globals more d = ((object 8, object 7) ∷ [], refl, (refl, d, tt))
+  are_globals more d = record { pairs = (object 8, object 7) ∷ []; dict = refl; bindings = (object 8, object 7) ∷ []; bind = ((refl, d), tt); same = IsPermutation-refl _ }
 
   -- the two numbers are taken
   abbrev pub Binds : List Payload → Type 0
@@ -335,7 +335,7 @@ module _ (t : Tree) where
 
   -- what is raised
   pub is_raised : (n : ℕ) (more : List Payload) (before : List Event) → IsNew (overflow_with more) before n → HasPayload (overflow_with more) (object n) (error_entry 2) → IsRaised (overflow_with more) before kind.OverflowError (codes "integer out of range") (exception n)
-  is_raised n more before new entry = record { new = new; body = error_body 2; entry = entry; class = refl; argument = object 13; args = refl; message = refl }
+  is_raised n more before new entry = record { class = record { number = 2 }; is_class = refl; argument = object 13; message = refl; made = record { new = new; args = object 14; entry = entry; are = refl } }
 
   -- the first of the drives
   pub first_raises : (qs : List Posed) (more : List Payload) (rest : List Event) → 0 < length (call ∷ qs) → Binds (overflow_with more) → ((x : Name) → declared_from 16 more x ≡ None) → Comes (plan_with qs) (overflow_with more) (overflow_by (exception 15)) (state_after start (overflow_by (exception 15))) rest → Comes (plan_with qs) (overflow_with more) [] start (raises 1 (exception 15) rest)

@@ -5,7 +5,7 @@ pub mod Objects
 -- what a machine's run is in the script's own words
 pub mod Made
 pub mod Traced
-pub mod Loading
+pub mod Declarations
 pub mod Driven
 pub mod Loaded
 pub mod Ran
@@ -18,6 +18,7 @@ pub mod Answering
 -- what is written
 mod NoteLemmas
 mod ReprLemmas
+mod TextLemmas
 -- journals worked by hand
 mod Journals
 mod WorkedLemmas

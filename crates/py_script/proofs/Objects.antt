@@ -27,8 +27,8 @@ use Rattle.py_vm.specs.declared.drive.Drive.TheVariants as question
 use Rattle.py_vm.specs.Run.{Posed}
 use Rattle.py_vm.proofs.ReplyingLemmas.{declared_within}
 use Rattle.py_vm.proofs.RunLemmas.{declared_stays}
-use Rattle.py_script.specs.Whole.{IsLeft, IsLeftBy, IsOf, AreOf, AsksThis, Asks, AreAsked, AreBindings, AreGlobals, AreObjects}
-use Rattle.py_script.specs.Session.{AreDeclared}
+use Rattle.py_script.specs.Whole.{IsLeft, IsLeftBy, IsOf, AreOf, AsksThis, Asks, AreAsked, AreGlobals, AreObjects}
+use Rattle.py_script.specs.Session.{AreBindings, AreDeclared}
 use Rattle.py_script.specs.Loaded.{function_entries, script_objects}
 use Rattle.py_script.proofs.Functions.{other_name, same_name, AreDistinct, first_differs, others_differ}
 
@@ -226,11 +226,17 @@ module _ (objects objects' : List Payload) (events events' : List Event) (grows 
   bindings_grow [] [] are = are
   bindings_grow [] (p ∷ ps) are = are
   bindings_grow (t ∷ ts) [] are = are
-  bindings_grow (t ∷ ts) (p ∷ ps) are = (stays p.0 (payload.Str t.name) are.0, declared_stays objects objects' t.name grows ∙ are.1, bindings_grow ts ps are.2)
+  bindings_grow (t ∷ ts) (p ∷ ps) are = ((stays p.0 (payload.Str t.name) are.0.0, declared_stays objects objects' t.name grows ∙ are.0.1), bindings_grow ts ps are.1)
 
   -- the globals stay so
   pub globals_grow : (ts : List Tree) (globals : Obj) → AreGlobals ts objects globals → AreGlobals ts objects' globals
-  globals_grow ts globals (ps, dict, are) = (ps, stays globals (payload.Dict ps) dict, bindings_grow ts ps are)
+  globals_grow ts globals are = record {
+    pairs = are.pairs;
+    dict = stays globals (payload.Dict are.pairs) are.dict;
+    bindings = are.bindings;
+    bind = bindings_grow ts are.bindings are.bind;
+    same = are.same;
+  }
 
 -- one more atom has its object
 pub are_of_more : (objects : List Payload) (events : List Event) (atoms : List DriveAtom) (vs : List Obj) (a : DriveAtom) (v : Obj) → AreOf objects events atoms vs → IsOf objects events a v → AreOf objects events (atoms ++ a ∷ []) (vs ++ v ∷ [])
@@ -249,10 +255,10 @@ asked_more objects events (e ∷ ds) (p ∷ qs) d q are is asks = (are.0, asked_
 -- one more name is bound
 pub bindings_more : (objects : List Payload) (ts : List Tree) (ps : List (Obj × Obj)) (t : Tree) (p : Obj × Obj) → AreBindings objects ts ps → HasPayload objects p.0 (payload.Str t.name) → declared objects t.name ≡ Some p.1
     → AreBindings objects (ts ++ t ∷ []) (ps ++ p ∷ [])
-bindings_more objects [] [] t p are key value = (key, value, tt)
+bindings_more objects [] [] t p are key value = ((key, value), tt)
 bindings_more objects [] (q ∷ ps) t p are key value = absurd are
 bindings_more objects (u ∷ ts) [] t p are key value = absurd are
-bindings_more objects (u ∷ ts) (q ∷ ps) t p are key value = (are.0, are.1, bindings_more objects ts ps t p are.2 key value)
+bindings_more objects (u ∷ ts) (q ∷ ps) t p are key value = (are.0, bindings_more objects ts ps t p are.1 key value)
 
 -- they name objects
 pub bindings_below : (objects : List Payload) (ts : List Tree) (ps : List (Obj × Obj)) → AreBindings objects ts ps → AllBelow (length objects) (pair_numbers ps)
@@ -260,4 +266,4 @@ bindings_below objects [] [] are = tt
 bindings_below objects [] (p ∷ ps) are = absurd are
 bindings_below objects (t ∷ ts) [] are = absurd are
 bindings_below objects (t ∷ ts) (p ∷ ps) are =
-    (slice_get_within objects p.0.number (payload.Str t.name) are.0, (declared_within objects t.name p.1 are.1, bindings_below objects ts ps are.2))
+    (slice_get_within objects p.0.number (payload.Str t.name) are.0.0, (declared_within objects t.name p.1 are.0.1, bindings_below objects ts ps are.1))

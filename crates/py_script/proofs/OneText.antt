@@ -1,6 +1,6 @@
 -- Each whole run of one call of the worked function writes the same text.
-use Rattle.std.proofs.Common.{◌≡◌, ℕ, suc, List, [], ◌∷◌, ◌++◌, Option, Some, None, ◌<◌, ◌≤◌, refl, sym, ap, subst, inl, ◌∙◌, ⊎_elim, arith, length, append-nil}
-use Rattle.std.specs.Prelude.{ℤ, map, pos, ◌+ℤ◌, Bool, true, false, if◌then◌else◌, codes, slice_get, nat_lt}
+use Rattle.std.proofs.Common.{◌≡◌, ℕ, zero, suc, List, [], ◌∷◌, ◌++◌, Option, Some, None, ◌<◌, ◌≤◌, refl, sym, ap, subst, inl, ◌∙◌, ⊎_elim, arith, length, append-nil}
+use Rattle.std.specs.Prelude.{encode_utf8_all, ℤ, map, pos, ◌+ℤ◌, Bool, true, false, if◌then◌else◌, codes, slice_get, nat_lt}
 use Rattle.std.specs.List.{list_all}
 use Rattle.std.specs.Fmt.{signed_decimal}
 use Rattle.py_objects.specs.declared.refs.PyBaseExceptionRef.{PyBaseExceptionRef}
@@ -29,11 +29,12 @@ use Rattle.py_body.specs.Scene.{anywhere}
 use Rattle.py_body.specs.Trace.{IsBegun, Ended}
 use Rattle.py_vm.specs.declared.drive.Drive.{Drive as Question}
 use Rattle.py_vm.specs.declared.drive.Drive.TheVariants.{Call}
-use Rattle.py_vm.specs.Calls.{Says, Comes_to, entry_at}
+use Rattle.py_vm.specs.Calls.{Says, ComesTo, entry_at}
 use Rattle.py_vm.specs.Answers.{Reply, Has, Fails, Gives, IsRaised, whole, in_range}
 use Rattle.py_vm.specs.Run.{Posed, Plan, Left, left_by, Phase, Idle, Asking, Going, Made, Due, Act, Activation, State, start, after, state_after, request_of, open_in, question, entered_in, depth, IsTop, Passes, as_got, Answers as IsAnswered, MayCome, Comes}
 use Rattle.py_script.specs.Whole.{AreAsked, AsksThis, AreObjects, Traces, plan_of, signature_of}
-use Rattle.py_script.specs.Text.{bytes_of, class_name, details, events_text, items_of, numbered, payload_of, raised, repr_within, result_text, shown, str_by, str_within}
+use Rattle.py_script.specs.Text.{class_name, details, events_text, items_of, numbered, payload_of, raised, repr_within, result_text, said, shown, str_by, str_within}
+use Rattle.py_script.proofs.TextLemmas.{plain_text, unchanged}
 use Rattle.py_script.specs.Worked.{Writes, call_of, class_entry, events, exception, function, greatest, objects, overflow_by, overflow_objects, trees}
 use Rattle.py_script.proofs.Journals.{ascii_bytes, begun, called, course_is, decimal_1, decimal_45, entry_of, few_asked, gives_sum, gotten, some_is, traced_by}
 use Rattle.py_script.proofs.WorkedLemmas.{is_run, overflow_is_run}
@@ -140,7 +141,7 @@ module _ (store : List Payload) (globals : Obj) (journal : List Event) (qs : Lis
 
   -- the open question isn't replied to
   abbrev Enters_only : State → Type 0
-  Enters_only s = (r : Request) (reply : Reply) → question plan s ≡ Some r → Comes_to plan.signatures (depth plan s) store r (Says reply) → ⊥
+  Enters_only s = (r : Request) (reply : Reply) → question plan s ≡ Some r → ComesTo plan.signatures (depth plan s) store r (Says reply) → ⊥
 
   -- a drive's question is open
   asked_next : (before : List Event) (s : State) (e : Event) → s.phase ≡ Asking → s.stack ≡ [] → Enters_only s → MayCome plan store before s e → (f : Obj) × (vs : List Obj) × (e ≡ event.Make (suc (length s.made)) f vs) × (question plan s ≡ Some (Calling f vs keywords.None))
@@ -228,16 +229,16 @@ module _ (store : List Payload) (globals : Obj) (journal : List Event) (qs : Lis
   ended made before [] few h = refl
   ended made before (e ∷ es) few h = let more = (idle_next before (at 1 Idle [] made) e refl h.0).1 in absurd (omega arith)
 
-  result_behind : (x : Ending) (made : List Activation) (before es : List Event) → length qs ≤ 1 → Follows before (at 0 (Due (left_by x)) [] made) es → events_text store es ≡ result_text store 1 (answer_of x)
+  result_behind : (x : Ending) (made : List Activation) (before es : List Event) → length qs ≤ 1 → Follows before (at 0 (Due (left_by x)) [] made) es → plain_text store es ≡ result_text store 1 (answer_of x)
   result_behind x made before [] few h = absurd (cc h.1)
   result_behind x made before (e ∷ es) few h =
       let c = due_next before (at 0 (Due (left_by x)) [] made) e (left_by x) refl refl h.0.0 in
       let is : e ≡ event.Result 1 (answer_of x) = c.1 ∙ ap (λ (w : DriveAnswer). event.Result 1 w) (answers x c.0 c.2.0 c.2.1 c.2.2) in
       let none = ended made (before ++ event.Result 1 (answer_of x) ∷ []) es few (subst (λ (y : Event). Comes plan store (before ++ y ∷ []) (after (at 0 (Due (left_by x)) [] made) y) es) is h.0.1) in
-      subst (λ (y : Event). events_text store (y ∷ es) ≡ result_text store 1 (answer_of x)) (sym is)
-      (subst (λ (ys : List Event). events_text store (event.Result 1 (answer_of x) ∷ ys) ≡ result_text store 1 (answer_of x)) (sym none) (append-nil (result_text store 1 (answer_of x))))
+      subst (λ (y : Event). plain_text store (y ∷ es) ≡ result_text store 1 (answer_of x)) (sym is)
+      (subst (λ (ys : List Event). plain_text store (event.Result 1 (answer_of x) ∷ ys) ≡ result_text store 1 (answer_of x)) (sym none) (append-nil (result_text store 1 (answer_of x))))
 
-  end_behind : (x : Ending) (made : List Activation) (before es : List Event) → length qs ≤ 1 → Ended x (own_events 1 es) → Follows before (at 0 Going (act None ∷ []) made) es → events_text store es ≡ result_text store 1 (answer_of x)
+  end_behind : (x : Ending) (made : List Activation) (before es : List Event) → length qs ≤ 1 → Ended x (own_events 1 es) → Follows before (at 0 Going (act None ∷ []) made) es → plain_text store es ≡ result_text store 1 (answer_of x)
   end_behind x made before [] few t h = absurd (cc h.1)
   end_behind x made before (e ∷ es) few t h =
       let c = going_next before (at 0 Going (act None ∷ []) made) e refl h.0.0 in
@@ -246,7 +247,7 @@ module _ (store : List Payload) (globals : Obj) (journal : List Event) (qs : Lis
       (λ some.
       let which : own_of e ≡ Ends some.0 x ∷ [] = cc in
       let is : e ≡ event.End 1 x some.0 = ends_of e some.0 x which ∙ ap (λ (k : ℕ). event.End k x some.0) (sym c.0) in
-      subst (λ (y : Event). Follows before (at 0 Going (act None ∷ []) made) (y ∷ es) → events_text store (y ∷ es) ≡ result_text store 1 (answer_of x)) (sym is)
+      subst (λ (y : Event). Follows before (at 0 Going (act None ∷ []) made) (y ∷ es) → plain_text store (y ∷ es) ≡ result_text store 1 (answer_of x)) (sym is)
       (λ k. result_behind x made _ es few (k.0.1, k.1)) h)
       t
 
@@ -266,17 +267,17 @@ module _ (store : List Payload) (globals : Obj) (journal : List Event) (qs : Lis
   abbrev AreNumbers : Obj → Obj → Type 0
   AreNumbers a b = HasPayload store a (payload.Int m) × HasPayload store b (payload.Int n)
 
-  answer_behind : (a b : Obj) (K : AfterValue) (made : List Activation) (before es : List Event) → AreNumbers a b → length qs ≤ 1 → EndsIt K → Answered (own_events 1 es) K → Follows before (at 0 Asking (act (Some (Binary binary.Add a b)) ∷ []) made) es → events_text store es ≡ line
+  answer_behind : (a b : Obj) (K : AfterValue) (made : List Activation) (before es : List Event) → AreNumbers a b → length qs ≤ 1 → EndsIt K → Answered (own_events 1 es) K → Follows before (at 0 Asking (act (Some (Binary binary.Add a b)) ∷ []) made) es → plain_text store es ≡ line
   unfolding own_events told_by
   answer_behind a b K made before [] ab few k t h = absurd (cc h.1)
   answer_behind a b K made before (e ∷ es) ab few k t h =
       let c = got_next before (at 0 Asking (act (Some (Binary binary.Add a b)) ∷ []) made) e (act (Some (Binary binary.Add a b))) a b refl refl refl h.0.0 in
       let sum = given before c.0 (gives_sum plan store before (at 0 Asking (act (Some (Binary binary.Add a b)) ∷ []) made) a b m n c.0 ab.0 ab.1 c.3) in
       let is : e ≡ event.Got 1 c.0 = c.1 ∙ ap (λ (k : ℕ). event.Got k c.0) (sym c.2) in
-      subst (λ (x : Event). Answered (own_events 1 (x ∷ es)) K → Follows before (at 0 Asking (act (Some (Binary binary.Add a b)) ∷ []) made) (x ∷ es) → events_text store (x ∷ es) ≡ line) (sym is)
+      subst (λ (x : Event). Answered (own_events 1 (x ∷ es)) K → Follows before (at 0 Asking (act (Some (Binary binary.Add a b)) ∷ []) made) (x ∷ es) → plain_text store (x ∷ es) ≡ line) (sym is)
       (λ u l. end_behind sum.0 made _ es few (sum.1 (own_events 1 es) (got_it K k c.0 (own_events 1 es) u)) (l.0.1, l.1) ∙ sum.2) t h
 
-  question_behind : (units : ℕ → Bool) (a b : Obj) (K : AfterValue) (made : List Activation) (before es : List Event) → AreNumbers a b → length qs ≤ 1 → EndsIt K → Asked units (Binary binary.Add a b) None (own_events 1 es) K → Follows before (at 0 Going (act None ∷ []) made) es → events_text store es ≡ line
+  question_behind : (units : ℕ → Bool) (a b : Obj) (K : AfterValue) (made : List Activation) (before es : List Event) → AreNumbers a b → length qs ≤ 1 → EndsIt K → Asked units (Binary binary.Add a b) None (own_events 1 es) K → Follows before (at 0 Going (act None ∷ []) made) es → plain_text store es ≡ line
   question_behind units a b K made before [] ab few k t h = absurd (cc h.1)
   question_behind units a b K made before (e ∷ es) ab few k t h =
       let c = going_next before (at 0 Going (act None ∷ []) made) e refl h.0.0 in
@@ -286,15 +287,15 @@ module _ (store : List Payload) (globals : Obj) (journal : List Event) (qs : Lis
       let which : own_of e ≡ Asks some.0 (Binary binary.Add a b) None ∷ [] = cc in
       let rest : some.1 ≡ own_events 1 es = cc in
       let is : e ≡ event.Ask 1 (Binary binary.Add a b) None some.0 = asks_of e some.0 (Binary binary.Add a b) None which ∙ ap (λ (k : ℕ). event.Ask k (Binary binary.Add a b) None some.0) (sym c.0) in
-      subst (λ (x : Event). Follows before (at 0 Going (act None ∷ []) made) (x ∷ es) → events_text store (x ∷ es) ≡ line) (sym is)
+      subst (λ (x : Event). Follows before (at 0 Going (act None ∷ []) made) (x ∷ es) → plain_text store (x ∷ es) ≡ line) (sym is)
       (λ l. answer_behind a b K made _ es ab few k (subst (λ (xs : List Own). Answered xs K) rest some.4) (l.0.1, l.1)) h)
       t
 
-  entry_behind : (f a b : Obj) (before es : List Event) → AreNumbers a b → length qs ≤ 1 → IsBegun (anywhere store globals) function (a ∷ b ∷ []) (own_events 1 es) → Follows before (at 0 (Made f) [] (record { function = f; args = a ∷ b ∷ [] } ∷ [])) es → events_text store es ≡ line
+  entry_behind : (f a b : Obj) (before es : List Event) → AreNumbers a b → length qs ≤ 1 → IsBegun (anywhere store globals) function (a ∷ b ∷ []) (own_events 1 es) → Follows before (at 0 (Made f) [] (record { function = f; args = a ∷ b ∷ [] } ∷ [])) es → plain_text store es ≡ line
   unfolding own_events told_by
   entry_behind f a b before [] ab few t h = absurd (cc h.1)
   entry_behind f a b before (e ∷ es) ab few t h =
-      subst (λ (x : Event). IsBegun (anywhere store globals) function (a ∷ b ∷ []) (own_events 1 (x ∷ es)) → Follows before (at 0 (Made f) [] (record { function = f; args = a ∷ b ∷ [] } ∷ [])) (x ∷ es) → events_text store (x ∷ es) ≡ line)
+      subst (λ (x : Event). IsBegun (anywhere store globals) function (a ∷ b ∷ []) (own_events 1 (x ∷ es)) → Follows before (at 0 (Made f) [] (record { function = f; args = a ∷ b ∷ [] } ∷ [])) (x ∷ es) → plain_text store (x ∷ es) ≡ line)
       (sym (made_next before (at 0 (Made f) [] (record { function = f; args = a ∷ b ∷ [] } ∷ [])) e f refl h.0.0))
       (λ u l. question_behind _ a b _ _ _ es ab few (λ v ts x. ⊎_elim (λ cut. inl cut.0) (λ more. more) x, λ e ts x. x) (⊎_elim (λ cut. inl (cut.0, refl)) (λ more. more) u.1) (l.0.1, l.1)) t h
 
@@ -309,25 +310,25 @@ module _ (store : List Payload) (globals : Obj) (journal : List Event) (qs : Lis
   none_entered (x ∷ xs) h = h.0.1
 
   -- so many arguments as the function takes are not refused
-  not_refused : (d : Question) (r : Request) (reply : Reply) (k : ℕ) → AreObjects trees store → k ≡ 0 → AsksThis store journal (call_of m n) d → request_of d ≡ r → Comes_to (map signature_of trees) k store r (Says reply) → ⊥
-  not_refused (Call f []) r reply k o zero q is h = absurd q.1
-  not_refused (Call f (a ∷ [])) r reply k o zero q is h = absurd q.1.1
-  not_refused (Call f (a ∷ b ∷ c ∷ vs)) r reply k o zero q is h = absurd q.1.1.1
-  not_refused (Call f (a ∷ b ∷ [])) r reply k o zero q is h =
-      let calls = called (map signature_of trees) k store f (a ∷ b ∷ []) (Says reply) (subst (λ (x : Request). Comes_to (map signature_of trees) k store x (Says reply)) (sym is) h) in
+  not_refused : (d : Question) (r : Request) (reply : Reply) (k : ℕ) → AreObjects trees store → k ≡ 0 → AsksThis store journal (call_of m n) d → request_of d ≡ r → ComesTo (map signature_of trees) k store r (Says reply) → ⊥
+  not_refused (Call f []) r reply k o at_zero q is h = absurd q.1
+  not_refused (Call f (a ∷ [])) r reply k o at_zero q is h = absurd q.1.1
+  not_refused (Call f (a ∷ b ∷ c ∷ vs)) r reply k o at_zero q is h = absurd q.1.1.1
+  not_refused (Call f (a ∷ b ∷ [])) r reply k o at_zero q is h =
+      let calls = called (map signature_of trees) k store f (a ∷ b ∷ []) (Says reply) (subst (λ (x : Request). ComesTo (map signature_of trees) k store x (Says reply)) (sym is) h) in
       let course : Says reply ≡ entry_at k = course_is (map signature_of trees) k store f (record { name = codes "f"; code = 0 }) (signature_of function) (a ∷ b ∷ []) (Says reply) (entry_of function store f o q.0) refl calls in
-      let enters : Says reply ≡ entry_at 0 = subst (λ (k : ℕ). Says reply ≡ entry_at k) zero course in
+      let enters : Says reply ≡ entry_at 0 = subst (λ (k : ℕ). Says reply ≡ entry_at k) at_zero course in
       cc
 
-  enters_only : (xs : List Posed) (r : Request) (reply : Reply) (k : ℕ) → AreObjects trees store → AreAsked store journal (call_of m n ∷ []) xs → k ≡ 0 → open_in (slice_get xs 0) [] ≡ Some r → Comes_to (map signature_of trees) k store r (Says reply) → ⊥
-  enters_only [] r reply k o h zero e c = absurd cc
-  enters_only (x ∷ xs) r reply k o h zero e c = not_refused x.drive r reply k o zero h.0.0 (some_is _ _ e) c
+  enters_only : (xs : List Posed) (r : Request) (reply : Reply) (k : ℕ) → AreObjects trees store → AreAsked store journal (call_of m n ∷ []) xs → k ≡ 0 → open_in (slice_get xs 0) [] ≡ Some r → ComesTo (map signature_of trees) k store r (Says reply) → ⊥
+  enters_only [] r reply k o h at_zero e c = absurd cc
+  enters_only (x ∷ xs) r reply k o h at_zero e c = not_refused x.drive r reply k o at_zero h.0.0 (some_is _ _ e) c
 
   -- what the first activation that is made tells
   abbrev Tells : State → List Event → Type 0
   Tells s es = (a : Activation) → slice_get (state_after s es).made 0 ≡ Some a → Traces trees globals store a.function a.args (own_events 1 es)
 
-  making : (f : Obj) (vs : List Obj) (before es : List Event) → AreObjects trees store → length qs ≤ 1 → AsksThis store journal (call_of m n) (Call f vs) → Tells (at 0 Asking [] []) (event.Make 1 f vs ∷ es) → Follows before (at 0 Asking [] []) (event.Make 1 f vs ∷ es) → events_text store (event.Make 1 f vs ∷ es) ≡ line
+  making : (f : Obj) (vs : List Obj) (before es : List Event) → AreObjects trees store → length qs ≤ 1 → AsksThis store journal (call_of m n) (Call f vs) → Tells (at 0 Asking [] []) (event.Make 1 f vs ∷ es) → Follows before (at 0 Asking [] []) (event.Make 1 f vs ∷ es) → plain_text store (event.Make 1 f vs ∷ es) ≡ line
   unfolding own_events told_by
   making f [] before es o few q t h = absurd q.1
   making f (a ∷ []) before es o few q t h = absurd q.1.1
@@ -337,20 +338,20 @@ module _ (store : List Payload) (globals : Obj) (journal : List Event) (qs : Lis
       let trace = traced_by function globals store f (a ∷ b ∷ []) _ (entry_of function store f o q.0) (t made (kept (at 0 (Made f) [] (made ∷ [])) es made refl)) in
       entry_behind f a b _ es (q.1.0, q.1.1.0) few (begun (anywhere store globals) function (a ∷ b ∷ []) (own_events 1 es) trace) (h.0.1, h.1)
 
-  making_behind : (before es : List Event) → AreObjects trees store → AreAsked store journal (call_of m n ∷ []) qs → Tells (at 0 Asking [] []) es → Follows before (at 0 Asking [] []) es → events_text store es ≡ line
+  making_behind : (before es : List Event) → AreObjects trees store → AreAsked store journal (call_of m n ∷ []) qs → Tells (at 0 Asking [] []) es → Follows before (at 0 Asking [] []) es → plain_text store es ≡ line
   making_behind before [] o asked t h = absurd (cc h.1)
   making_behind before (e ∷ es) o asked t h =
       let none = none_entered qs asked in
       let c = asked_next before (at 0 Asking [] []) e refl refl (λ r reply q x. enters_only qs r reply _ o asked (omega arith) q x) h.0.0 in
-      subst (λ (x : Event). Tells (at 0 Asking [] []) (x ∷ es) → Follows before (at 0 Asking [] []) (x ∷ es) → events_text store (x ∷ es) ≡ line) (sym c.2)
+      subst (λ (x : Event). Tells (at 0 Asking [] []) (x ∷ es) → Follows before (at 0 Asking [] []) (x ∷ es) → plain_text store (x ∷ es) ≡ line) (sym c.2)
       (λ u l. making c.0 c.1 before es o (few_asked store journal (call_of m n ∷ []) qs asked) (first_asked qs c.0 c.1 asked c.3) u l) t h
 
-  all_behind : (es : List Event) → AreObjects trees store → AreAsked store journal (call_of m n ∷ []) qs → Tells start es → Follows [] start es → events_text store es ≡ line
+  all_behind : (es : List Event) → AreObjects trees store → AreAsked store journal (call_of m n ∷ []) qs → Tells start es → Follows [] start es → plain_text store es ≡ line
   unfolding own_events told_by
   all_behind [] o asked t h = absurd (cc h.1)
   all_behind (e ∷ es) o asked t h =
       let c = idle_next [] start e refl h.0.0 in
-      subst (λ (x : Event). Tells start (x ∷ es) → Follows [] start (x ∷ es) → events_text store (x ∷ es) ≡ line) (sym c.0)
+      subst (λ (x : Event). Tells start (x ∷ es) → Follows [] start (x ∷ es) → plain_text store (x ∷ es) ≡ line) (sym c.0)
       (λ u l. making_behind (event.Drive 1 ∷ []) es o asked u (l.0.1, l.1)) t h
 
 -- a line of the only drive
@@ -370,7 +371,7 @@ of_value store i before (got.Raise e) h = absurd h
 -- the text of each sum in range
 pub text_of_sum : (m n : ℤ) → in_range (m +ℤ n) ≡ true → Writes m n (codes "1 returns " ++ (signed_decimal (m +ℤ n) ++ codes "\n"))
 text_of_sum m n i store es r d =
-    all_behind store r.globals es r.asked m n _
+    unchanged store es ∙ all_behind store r.globals es r.asked m n _
     (λ before w g. of_value store (m +ℤ n) before w (subst (λ (b : Bool). Gives store before (if b then Has (payload.Int (m +ℤ n)) else Fails OverflowError (codes "integer out of range")) w) i g))
     es r.are_objects r.are_asked (r.run.tells 0) (r.run.comes, d.done)
 
@@ -380,16 +381,21 @@ class_of ts store i kind c at o e =
     let entry = o.classes i kind at in
     subst (λ (c : Obj). HasPayload store c (class_entry kind)) (some_is _ _ (sym entry.1 ∙ e)) entry.2
 
+-- a text is itself, so deep as it may be
+text_within : (k : ℕ) (store : List Payload) (v : Obj) (text : Name) → HasPayload store v (payload.Str text) → str_within k store v ≡ encode_utf8_all text
+text_within zero store v text is = ap (λ (p : Option Payload). str_by None (repr_within zero store v) store p) is
+text_within (suc k) store v text is = ap (λ (p : Option Payload). str_by (Some (said (str_within k store) (repr_within k store))) (repr_within (suc k) store v) store p) is
+
 -- an exception of the i-th kind with a text is written, as the result of any drive
 pub raise_line_of : (d : ℕ) (ts : List Tree) (store : List Payload) (i : ℕ) (kind : ErrorKind) (text : Name) → slice_get error_kinds i ≡ Some kind → list_all (λ c. nat_lt c 128) (name_of kind) ≡ true → list_all (λ c. nat_lt c 128) text ≡ true
     → AreObjects ts store → (before : List Event) (e : PyBaseExceptionRef) → IsRaised store before kind text e
     → result_text store d (answer.Raises e) ≡ numbered d (codes " raises " ++ (name_of kind ++ (codes ": " ++ text)))
 raise_line_of d ts store i kind text at ascii_name ascii_text o before e h =
-    ap (λ (p : Option Payload). numbered d (codes " raises " ++ raised store p)) h.entry
-    ∙ (ap (λ (p : Option Payload). numbered d (codes " raises " ++ (bytes_of (class_name p) ++ details store (items_of (payload_of store h.body.args))))) (class_of ts store i kind (class_object h.body.class) at o h.class)
-    ∙ (ap (λ (p : Option Payload). numbered d (codes " raises " ++ (bytes_of (name_of kind) ++ details store (items_of p)))) h.args
-    ∙ (ap (λ (p : Option Payload). numbered d (codes " raises " ++ (bytes_of (name_of kind) ++ (codes ": " ++ str_by (str_within 999 store) store h.argument p)))) h.message
-    ∙ (ap (λ (name : List ℕ). numbered d (codes " raises " ++ (name ++ (codes ": " ++ bytes_of text)))) (ascii_bytes (name_of kind) ascii_name)
+    ap (λ (p : Option Payload). numbered d (codes " raises " ++ raised store p)) h.made.entry
+    ∙ (ap (λ (p : Option Payload). numbered d (codes " raises " ++ (encode_utf8_all (class_name p) ++ details store (items_of (payload_of store h.made.args))))) (class_of ts store i kind (class_object h.class) at o h.is_class)
+    ∙ (ap (λ (p : Option Payload). numbered d (codes " raises " ++ (encode_utf8_all (name_of kind) ++ details store (items_of p)))) h.made.are
+    ∙ (ap (λ (t : List ℕ). numbered d (codes " raises " ++ (encode_utf8_all (name_of kind) ++ (codes ": " ++ t)))) (text_within 999 store h.argument text h.message)
+    ∙ (ap (λ (name : List ℕ). numbered d (codes " raises " ++ (name ++ (codes ": " ++ encode_utf8_all text)))) (ascii_bytes (name_of kind) ascii_name)
     ∙ ap (λ (t : List ℕ). numbered d (codes " raises " ++ (name_of kind ++ (codes ": " ++ t)))) (ascii_bytes text ascii_text)))))
 
 -- the same of the only drive
@@ -413,13 +419,13 @@ of_raise store o before (got.Raise e) h = (ending.Raise e, λ ts t. t, overflow_
 -- the text of each sum out of range
 pub text_of_overflow : (m n : ℤ) → in_range (m +ℤ n) ≡ false → Writes m n (codes "1 raises OverflowError: integer out of range\n")
 text_of_overflow m n i store es r d =
-    all_behind store r.globals es r.asked m n _
+    unchanged store es ∙ all_behind store r.globals es r.asked m n _
     (λ before w g. of_raise store r.are_objects before w (subst (λ (b : Bool). Gives store before (if b then Has (payload.Int (m +ℤ n)) else Fails OverflowError (codes "integer out of range")) w) i g))
     es r.are_objects r.are_asked (r.run.tells 0) (r.run.comes, d.done)
 
 -- the text of the worked run, and of the one that raises
-pub text : events_text objects events ≡ codes "1 returns 45\n"
+pub text : events_text objects [] events ≡ codes "1 returns 45\n"
 text = text_of_sum (pos 33) (pos 12) refl objects events is_run (record { done = refl; idle = refl }) ∙ ap (λ (ds : List ℕ). codes "1 returns " ++ (ds ++ codes "\n")) decimal_45
 
-pub overflow_text : events_text overflow_objects (overflow_by (exception 15)) ≡ codes "1 raises OverflowError: integer out of range\n"
+pub overflow_text : events_text overflow_objects [] (overflow_by (exception 15)) ≡ codes "1 raises OverflowError: integer out of range\n"
 overflow_text = text_of_overflow greatest (pos 1) refl overflow_objects (overflow_by (exception 15)) overflow_is_run (record { done = refl; idle = refl })

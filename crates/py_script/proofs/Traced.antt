@@ -21,9 +21,8 @@ use Rattle.py_body.proofs.Carry.{widens_anywhere, trace_goes}
 use Rattle.py_vm.specs.Run.{Posed, Activation, start, Comes, EachTells}
 use Rattle.py_vm.specs.RowsOf.{RowsTell, RowsOf}
 use Rattle.py_vm.proofs.BoundLemmas.{IsBound, comes_bound}
-use Rattle.py_script.specs.Whole.{signature_of, plan_of, Traces}
-use Rattle.py_script.specs.Loaded.{AreCompiled}
-use Rattle.py_script.proofs.Loading.{signed_by_body}
+use Rattle.py_script.specs.Whole.{AreCompiled, signature_of, plan_of, Traces}
+use Rattle.py_script.proofs.Declarations.{signed_by_body}
 use Rattle.py_script.proofs.Made.{HasTold, activation_tells}
 
 -- what holds of all holds of one

@@ -1,7 +1,8 @@
 -- What the definitions say of the journal of functions that call.
 use Rattle.std.proofs.Common.{◌≡◌, ℕ, zero, suc, List, [], ◌∷◌, ◌++◌, Some, None, false, refl, sym, ap, subst, inl, inr, lit<, ◌∙◌}
 use Rattle.std.proofs.lemmas.Fmt.{decimal_digit}
-use Rattle.std.specs.Prelude.{pos, codes, decimal, slice_get, map, Contains}
+use Rattle.std.specs.List.{AllZip}
+use Rattle.std.specs.Prelude.{sum_by, pos, codes, decimal, slice_get, map, Contains}
 use Rattle.py_objects.specs.declared.payload.Payload.{Payload}
 use Rattle.py_objects.specs.declared.payload.Payload.TheVariants as payload
 use Rattle.py_objects.specs.declared.payload.FunctionBody.{FunctionBody}
@@ -30,10 +31,11 @@ use Rattle.py_vm.specs.declared.drive.Drive.TheVariants.{Call}
 use Rattle.py_vm.specs.Answers.{Fails, Is, IsRaised}
 use Rattle.py_vm.specs.Calls.{too_many}
 use Rattle.py_vm.specs.Run.{Posed, Plan, Activation, open_in, start, state_after, Comes, EachTells}
-use Rattle.py_script.specs.Whole.{AreAsked, AreGlobals, AreObjects, AsksThis, IsLeft, Traces, IsRunOf, plan_of}
+use Rattle.std.proofs.lemmas.List.Sorted.{IsPermutation-refl, IsPermutation-reverse, sum_by-IsPermutation}
+use Rattle.py_script.specs.Whole.{AreAsked, Binds, AreGlobals, AreObjects, AsksThis, IsLeft, Traces, IsRunOf, plan_of}
 use Rattle.py_script.specs.Text.{events_text, numbered, result_text}
-use Rattle.py_script.specs.Worked.{object, exception, class_entry, function_entry, error_body}
-use Rattle.py_script.specs.WorkedCall.{script, callee, caller, trees, drives, objects, returned, again, events}
+use Rattle.py_script.specs.Worked.{object, exception, class_entry, function_entry, exception_entry}
+use Rattle.py_script.specs.WorkedCall.{objects_by, pair_of_g, pair_of_f, script, callee, caller, trees, drives, objects, returned, again, events}
 use Rattle.py_script.proofs.Journals.{Each, HasClass, IsBuiltIn, all_fit, are_named, body_of, built_in, decimal_1, each_at, none_chosen, not_chosen, some_is}
 use Rattle.py_script.proofs.OneText.{call_is, raise_line_of}
 
@@ -96,7 +98,7 @@ all_known = (
 )
 
 -- the exception's entry names what it should
-made_error : IsMade objects (payload.Exception (record (error_body 4) { args = object 19 }))
+made_error : IsMade objects (exception_entry 4 19)
 made_error = record {
   class = record { name = name_of kind.TypeError };
   is_class = refl;
@@ -131,8 +133,30 @@ are_objects =
       fit = fits;
     }
 
+abbrev in_order : List (Obj × Obj)
+in_order = pair_of_g ∷ pair_of_f ∷ []
+
 are_globals : AreGlobals trees objects (object 11)
-are_globals = ((object 9, object 7) ∷ (object 10, object 8) ∷ [], refl, (refl, refl, (refl, refl, tt)))
+are_globals = record { pairs = in_order; dict = refl; bindings = in_order; bind = ((refl, refl), ((refl, refl), tt)); same = IsPermutation-refl in_order }
+
+-- so are they the other way round
+pub any_order : AreGlobals trees (objects_by (pair_of_f ∷ pair_of_g ∷ [])) (object 11)
+any_order = record { pairs = pair_of_f ∷ pair_of_g ∷ []; dict = refl; bindings = in_order; bind = ((refl, refl), ((refl, refl), tt)); same = IsPermutation-reverse in_order }
+
+two_bound : (store : List Payload) (ps : List (Obj × Obj)) → AllZip (Binds store) trees ps → sum_by (λ p. 1) ps ≡ 2
+two_bound store [] bind = absurd bind
+two_bound store (p ∷ []) bind = absurd bind.1
+two_bound store (p ∷ q ∷ []) bind = refl
+two_bound store (p ∷ q ∷ r ∷ ps) bind = absurd bind.1.1
+
+pub no_name_unbound : AreGlobals trees (objects_by (pair_of_g ∷ [])) (object 11) → ⊥
+no_name_unbound are =
+    let pairs : pair_of_g ∷ [] ≡ are.pairs = let dict = are.dict in cc in
+    let same = sum_by-IsPermutation (λ p. 1) are.bindings are.pairs are.same in
+    let one : sum_by (λ p. 1) are.pairs ≡ 1 = ap (λ (ps : List (Obj × Obj)). sum_by (λ p. 1) ps) (sym pairs) in
+    let two = two_bound (objects_by (pair_of_g ∷ [])) are.bindings are.bind in
+    let clash : 1 ≡ 2 = sym one ∙ (same ∙ two) in
+    cc
 
 -- ---- the run
 
@@ -155,17 +179,20 @@ text_is =
 
 refused : IsRaised objects refusing kind.TypeError (codes "f() takes 0 positional arguments but 1 were given") (exception 20)
 refused = record {
-  new = record {
-    unnamed = each_at (λ (e : Event). is_among 20 (event_numbers e) ≡ false) refusing (refl, (refl, (refl, (refl, (refl, (refl, (refl, (refl, (refl, (refl, (refl, (refl, (refl, (refl, (refl, (refl, (refl, (refl, tt))))))))))))))))));
-    undeclared =
-        λ x. not_chosen 20 1 _ _ refl (not_chosen 20 2 _ _ refl (not_chosen 20 3 _ _ refl (not_chosen 20 4 _ _ refl (not_chosen 20 5 _ _ refl (not_chosen 20 7 _ _ refl (not_chosen 20 8 _ _ refl (none_chosen 20 None refl)))))));
-  };
-  body = record (error_body 4) { args = object 19 };
-  entry = refl;
-  class = refl;
+  class = record { number = 4 };
+  is_class = refl;
   argument = object 18;
-  args = refl;
   message = refl;
+  made = record {
+    new = record {
+      unnamed = each_at (λ (e : Event). is_among 20 (event_numbers e) ≡ false) refusing (refl, (refl, (refl, (refl, (refl, (refl, (refl, (refl, (refl, (refl, (refl, (refl, (refl, (refl, (refl, (refl, (refl, (refl, tt))))))))))))))))));
+      undeclared =
+          λ x. not_chosen 20 1 _ _ refl (not_chosen 20 2 _ _ refl (not_chosen 20 3 _ _ refl (not_chosen 20 4 _ _ refl (not_chosen 20 5 _ _ refl (not_chosen 20 7 _ _ refl (not_chosen 20 8 _ _ refl (none_chosen 20 None refl)))))));
+    };
+    args = object 19;
+    entry = refl;
+    are = refl;
+  };
 }
 
 -- what the run is of
@@ -287,7 +314,7 @@ third_line =
     raise_line_of 3 trees objects 3 kind.TypeError (codes "f() takes 0 positional arguments but 1 were given") refl refl refl are_objects refusing (exception 20) refused
     ∙ ap (λ (ds : List ℕ). ds ++ ((codes " raises " ++ (name_of kind.TypeError ++ (codes ": " ++ codes "f() takes 0 positional arguments but 1 were given"))) ++ codes "\n")) (decimal_digit 3 (lit< tt))
 
-pub text : events_text objects events ≡ codes "1 returns 7\n2 returns 7\n3 raises TypeError: f() takes 0 positional arguments but 1 were given\n"
+pub text : events_text objects [] events ≡ codes "1 returns 7\n2 returns 7\n3 raises TypeError: f() takes 0 positional arguments but 1 were given\n"
 text =
     ap (λ (line : List ℕ). line ++ (result_text objects 2 (answer.Returns (object 13)) ++ (result_text objects 3 (answer.Raises (exception 20)) ++ []))) (line_of 1 (codes "1") decimal_1)
     ∙ (ap (λ (line : List ℕ). codes "1 returns 7\n" ++ (line ++ (result_text objects 3 (answer.Raises (exception 20)) ++ []))) (line_of 2 (codes "2") (decimal_digit 2 (lit< tt)))

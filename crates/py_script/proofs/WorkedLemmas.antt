@@ -183,5 +183,5 @@ errors_are_run =
 pub no_error_twice : IsRunOf trees (overflowing ∷ overflowing ∷ []) both_objects (raises 1 (exception 15) (raises 2 (exception 15) [])) → ⊥
 no_error_twice r =
     let given = gives_sum (plan_of trees r.asked) both_objects second_asks (state_after start second_asks) (object 10) (object 11) greatest (pos 1) (got.Raise (exception 15)) refl refl r.run.comes.1.1.1.1.1.1.1.1.1.1.1.0.1 in
-    let named = given.new.unnamed 4 (event.Got 1 (got.Raise (exception 15))) refl in
+    let named = given.made.new.unnamed 4 (event.Got 1 (got.Raise (exception 15))) refl in
     cc

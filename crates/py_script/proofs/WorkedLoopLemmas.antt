@@ -24,7 +24,7 @@ use Rattle.py_vm.specs.Answers.{Has, Fails, unknown_text, IsRaised}
 use Rattle.py_vm.specs.Run.{Posed, Plan, start, Comes}
 use Rattle.py_script.specs.Whole.{AreGlobals, Traces, IsRunOf, plan_of}
 use Rattle.py_script.specs.Text.{events_text, result_text}
-use Rattle.py_script.specs.Worked.{object, exception, error_body}
+use Rattle.py_script.specs.Worked.{object, exception}
 use Rattle.py_script.specs.WorkedLoop.{script, function_of, function, trees, drives, objects, events, without_round, untested, left_early, unknown_script, unknown_trees, unknown_error, raised_objects, unknown_objects, asked_in, asked, unknown_events}
 use Rattle.py_script.proofs.Journals.{all_fit, are_globals, are_loaded, are_named, asked_so, begun, each_at, one_tells, plain, traced_with, undeclared}
 use Rattle.py_script.proofs.OneText.{raise_line}
@@ -175,16 +175,19 @@ unknown_fits = all_fit unknown_objects refl (tt, (tt, (tt, (tt, (tt, (tt, (tt, (
 -- the exception is new, and is what the question is answered
 unknown_raised : IsRaised unknown_objects (asked []) kind.NameError (codes "name 'z' is not defined") (exception 13)
 unknown_raised = record {
-  new = record {
-    unnamed = each_at (λ (e : Event). is_among 13 (event_numbers e) ≡ false) (asked []) (refl, (refl, (refl, (refl, tt))));
-    undeclared = λ x. undeclared unknown_function 13 (payload.Frame 0 ∷ raised_objects 1) x (refl, refl, refl, refl, refl, refl) refl;
-  };
-  body = record (error_body 1) { args = object 12 };
-  entry = refl;
-  class = refl;
+  class = record { number = 1 };
+  is_class = refl;
   argument = object 11;
-  args = refl;
   message = refl;
+  made = record {
+    new = record {
+      unnamed = each_at (λ (e : Event). is_among 13 (event_numbers e) ≡ false) (asked []) (refl, (refl, (refl, (refl, tt))));
+      undeclared = λ x. undeclared unknown_function 13 (payload.Frame 0 ∷ raised_objects 1) x (refl, refl, refl, refl, refl, refl) refl;
+    };
+    args = object 12;
+    entry = refl;
+    are = refl;
+  };
 }
 
 unknown_comes : Comes (plan_of unknown_trees (call ∷ [])) unknown_objects [] start unknown_events
@@ -235,9 +238,9 @@ no_name_asked_of_none r =
     ⊎_elim (λ cut. cc cut.0) (λ loads. ⊎_elim (λ cut. cc cut.0) (λ asks.
     let same : object 0 ≡ r.globals = asked_object _ _ _ _ _ _ _ asks.3 in
     let none = subst (AreGlobals unknown_trees unknown_objects) (sym same) r.are_globals in
-    cc none.1) loads) b.1
+    cc none.dict) loads) b.1
 
-pub unknown_line : events_text unknown_objects unknown_events ≡ codes "1 raises NameError: name 'z' is not defined\n"
+pub unknown_line : events_text unknown_objects [] unknown_events ≡ codes "1 raises NameError: name 'z' is not defined\n"
 unknown_line =
     append-nil (result_text unknown_objects 1 (answer.Raises (exception 13)))
     ∙ raise_line unknown_trees unknown_objects 0 kind.NameError (codes "name 'z' is not defined") refl refl refl unknown_is_run.are_objects (asked []) (exception 13) unknown_raised

@@ -92,7 +92,7 @@ any_none a r n m =
       are_objects = are_objects function (pos 33) (pos 12) (payload.Int (pos 45) ∷ payload.None ∷ []) refl (plain function _ refl, (plain function _ refl, tt)) fits;
     }
 
-pub text : events_text objects events ≡ codes "45\n1 returns None\n"
+pub text : events_text objects [] events ≡ codes "45\n1 returns None\n"
 text = simp (decimal_45, decimal_1)
 
 -- the locals where the sum is this
@@ -176,7 +176,7 @@ raise_traced = (refl, (_, refl, (tt, inr (inr (2, _, refl, refl, inr (got.Raise 
 pub raise_ends : IsRunOf trees (overflowing ∷ []) overflow_objects (overflow_by (exception 15))
 raise_ends = overflow_run function refl (_, refl, (_, refl, refl)) raise_traced
 
-pub raise_text : events_text overflow_objects (overflow_by (exception 15)) ≡ codes "1 raises OverflowError: integer out of range\n"
+pub raise_text : events_text overflow_objects [] (overflow_by (exception 15)) ≡ codes "1 raises OverflowError: integer out of range\n"
 raise_text =
     let asking = entered 1 (asked 1 (object 10) (object 11) []) in
     append-nil (result_text overflow_objects 1 (answer.Raises (exception 15)))

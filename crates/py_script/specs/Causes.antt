@@ -1,6 +1,6 @@
 -- When each answer of the top call comes, and what it hands back, writes and notes.
-use Rattle.std.specs.Prelude.{ℕ, ◌<◌, ◌^◌, ◌⊎◌, List, [], ◌++◌, Option, IfSome, ◌≡◌, length, codes, decimal, Result, Ok, Err}
-use Rattle.std.specs.Io.KnownBytes.{Appends, Keeps}
+use Rattle.std.specs.Prelude.{ℕ, ◌<◌, ◌≤◌, ◌^◌, ◌⊎◌, List, [], ◌++◌, Bool, IsTrue, Option, IfSome, ◌≡◌, length, codes, decimal, Result, Ok, Err}
+use Rattle.std.specs.Io.KnownBytes.{Appends, Keeps, IsAtEnd}
 use Rattle.py_outside.specs.Faults.{Rose}
 use Rattle.py_outside.specs.Transfer.{AppendsFront}
 use Rattle.py_grammar.specs.Script.{IsBadLine}
@@ -13,30 +13,44 @@ use Rattle.py_script.specs.declared.fault.CommandResult.TheVariants as outcome
 use Rattle.py_script.specs.Words.{command_in}
 use Rattle.py_script.specs.Whole.{IsEmpty, IsPartOfRun, IsWholeRun, IsCutRun}
 use Rattle.py_script.specs.Text.{text_of}
-use Rattle.py_script.specs.Steps.{WasRead}
 
--- the source and the sink, before a call and after it: the bytes left and taken, where they are told, and the faults
+-- the source and the sink, before a call and after it: the bytes left and taken, where they are told, the faults, and whether the last
+-- read that had room came to the source's end
 pub record Ends : Type 0 where
   pub left : Option (List ℕ)
   pub left' : Option (List ℕ)
   pub reads : ℕ
   pub reads' : ℕ
+  pub at_end' : Bool
   pub taken : Option (List ℕ)
   pub taken' : Option (List ℕ)
   pub writes : ℕ
   pub writes' : ℕ
 
+-- what was read: at most 2^20 bytes, all that the source had left where it tells them, and then its end
+pub record WasRead (left left' : Option (List ℕ)) (at_end' : Bool) (claim : List ℕ → Type 0) : Type 0 where
+  pub bytes : List ℕ
+  pub are : IfSome left (λ all. bytes ≡ all)
+  pub short : length bytes ≤ 2 ^ 20
+  pub none_left : IsAtEnd left'
+  pub ended : IsTrue at_end'
+  pub claimed : claim bytes
+
+-- the script was read of the source, and this holds of its bytes
+abbrev pub Read : Ends → (List ℕ → Type 0) → Type 0
+Read e claim = WasRead e.left e.left' e.at_end' claim
+
 -- when a run of at most so many turns answers what it does
 abbrev pub IsAnswer : Ends → ℕ → Result Journal ScriptFault → Type 0
-IsAnswer e turns (Ok j) = WasRead e.left e.left' (λ bytes. IsWholeRun bytes turns j) × Appends e.taken e.taken' (text_of j)
+IsAnswer e turns (Ok j) = Read e (λ bytes. IsWholeRun bytes turns j) × Appends e.taken e.taken' (text_of j)
 IsAnswer e turns (Err fault.ReadFault) = Rose e.reads e.reads' × Keeps e.taken e.taken'
 IsAnswer e turns (Err (fault.WriteFault j)) =
-    Rose e.writes e.writes' × WasRead e.left e.left' (λ bytes. IsWholeRun bytes turns j ⊎ IsCutRun bytes turns j) × AppendsFront e.taken e.taken' (text_of j)
-IsAnswer e turns (Err fault.TooLong) = IfSome e.left (λ bytes. 2 ^ 20 < length bytes) × Keeps e.taken e.taken'
-IsAnswer e turns (Err (fault.Malformed line)) = WasRead e.left e.left' (λ bytes. IsBadLine bytes line) × Keeps e.taken e.taken'
+    Rose e.writes e.writes' × Read e (λ bytes. IsWholeRun bytes turns j ⊎ IsCutRun bytes turns j) × AppendsFront e.taken e.taken' (text_of j)
+IsAnswer e turns (Err fault.TooLong) = IfSome e.left (λ bytes. 2 ^ 20 < length bytes) × (e.reads' ≡ e.reads) × Keeps e.taken e.taken'
+IsAnswer e turns (Err (fault.Malformed line)) = Read e (λ bytes. IsBadLine bytes line) × Keeps e.taken e.taken'
 IsAnswer e turns (Err (fault.Refused code at)) = ⊥
-IsAnswer e turns (Err (fault.OutOfTurns j)) = WasRead e.left e.left' (λ bytes. IsCutRun bytes turns j) × Appends e.taken e.taken' (text_of j)
-IsAnswer e turns (Err (fault.NoMemory j)) = (IsEmpty j ⊎ WasRead e.left e.left' (λ bytes. IsPartOfRun bytes turns j)) × Keeps e.taken e.taken'
+IsAnswer e turns (Err (fault.OutOfTurns j)) = Read e (λ bytes. IsCutRun bytes turns j) × Appends e.taken e.taken' (text_of j)
+IsAnswer e turns (Err (fault.NoMemory j)) = (IsEmpty j ⊎ Read e (λ bytes. IsPartOfRun bytes turns j)) × Keeps e.taken e.taken'
 
 -- the status that stands for each result
 abbrev pub status_in : CommandResult → ℕ

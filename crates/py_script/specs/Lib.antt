@@ -15,4 +15,4 @@ pub mod WorkedCall
 pub mod Steps
 pub mod Loaded
 pub mod Session
-pub mod Depths
+pub mod Writing

@@ -1,10 +1,7 @@
 -- What a machine holds once a script's declarations are loaded.
 use Rattle.std.specs.Prelude.{ℕ, suc, Some, List, [], ◌∷◌, ◌++◌, ◌≡◌, slice_get, length}
-use Rattle.py_code.specs.Codes.{Codes}
-use Rattle.py_code.specs.declared.code.PyCode.{PyCode}
 use Rattle.py_objects.specs.declared.payload.Payload.{Payload}
 use Rattle.py_objects.specs.declared.payload.Payload.TheVariants as payload
-use Rattle.py_check.specs.declared.note.Note.{Note}
 use Rattle.py_check.specs.declared.annotated.Annotated.{Annotated}
 use Rattle.py_body.specs.Tree.{Tree}
 use Rattle.py_body.specs.Fits.{Fits}
@@ -20,12 +17,7 @@ function_entries i (t ∷ ts) = payload.Function (record { name = t.name; code =
 abbrev pub script_objects : List Tree → List Payload
 script_objects ts = first_objects ++ function_entries 0 ts
 
--- there is a code for each body, and the one at its place fits it, with some notes
-pub record AreCompiled (ts : List Tree) (cs : Codes) : Type 0 where
-  pub count : length cs.codes ≡ length ts
-  pub fit : (i : ℕ) (t : Tree) → slice_get ts i ≡ Some t → (c : PyCode) × (slice_get cs.codes i ≡ Some c) × ((notes : List Note) × Fits cs.names (record { code = c; notes = notes }) t)
-
--- the same with the notes that the codes have
+-- there is a checked code for each body, and the one at its place fits it
 pub record AreChecked (ts : List Tree) (cs : Checked) : Type 0 where
   pub count : length cs.codes ≡ length ts
   pub fit : (i : ℕ) (t : Tree) → slice_get ts i ≡ Some t → (c : Annotated) × (slice_get cs.codes i ≡ Some c) × Fits cs.names c t

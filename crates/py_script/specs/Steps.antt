@@ -1,6 +1,6 @@
 -- What the steps of a run answer: reading the script, making its drives, and writing the text.
-use Rattle.std.specs.Prelude.{ℕ, ◌<◌, ◌≤◌, ◌^◌, ◌⊎◌, List, Option, Some, IfSome, ◌≡◌, slice_get, length, Result, Ok, Err}
-use Rattle.std.specs.Io.KnownBytes.{Appends, Keeps, IsAtEnd}
+use Rattle.std.specs.Prelude.{ℕ, ◌<◌, ◌≤◌, ◌^◌, ◌⊎◌, List, Bool, Option, Some, IfSome, ◌≡◌, slice_get, length, Result, Ok, Err}
+use Rattle.std.specs.Io.KnownBytes.{Appends, Keeps}
 use Rattle.py_outside.specs.Faults.{Rose}
 use Rattle.py_outside.specs.Transfer.{AppendsFront}
 use Rattle.py_body.specs.Tree.{Tree}
@@ -15,6 +15,7 @@ use Rattle.py_script.specs.declared.fault.ScriptFault.{ScriptFault}
 use Rattle.py_script.specs.declared.fault.ScriptFault.TheVariants as fault
 use Rattle.py_script.specs.Whole.{IsRun, IsWhole, RunsItsCodes, IsEmpty}
 use Rattle.py_script.specs.Text.{text_of}
+use Rattle.py_script.specs.Causes.{WasRead}
 
 -- each body of the trees can be compiled
 abbrev pub AllCompilable : List Tree → Type 0
@@ -36,22 +37,16 @@ IsParsed bytes (Err (fault.Refused code at)) = ⊥
 IsParsed bytes (Err (fault.OutOfTurns j)) = ⊥
 IsParsed bytes (Err (fault.NoMemory j)) = IsEmpty j
 
--- what was read of a source is the bytes that it had left, at most 2^20, and it is at its end
-pub record WasRead (left left' : Option (List ℕ)) (claim : List ℕ → Type 0) : Type 0 where
-  pub short : IfSome left (λ bytes. length bytes ≤ 2 ^ 20)
-  pub end : IsAtEnd left'
-  pub claimed : IfSome left claim
-
--- what reading a script answers, by the bytes that the source had left and its faults, before and after
-abbrev pub IsReading : Option (List ℕ) → Option (List ℕ) → ℕ → ℕ → Result Script ScriptFault → Type 0
-IsReading left left' faults faults' (Ok s) = WasRead left left' (λ bytes. IsScript bytes s)
-IsReading left left' faults faults' (Err fault.ReadFault) = Rose faults faults'
-IsReading left left' faults faults' (Err (fault.WriteFault j)) = ⊥
-IsReading left left' faults faults' (Err fault.TooLong) = IfSome left (λ bytes. 2 ^ 20 < length bytes)
-IsReading left left' faults faults' (Err (fault.Malformed line)) = WasRead left left' (λ bytes. IsBadLine bytes line)
-IsReading left left' faults faults' (Err (fault.Refused code at)) = ⊥
-IsReading left left' faults faults' (Err (fault.OutOfTurns j)) = ⊥
-IsReading left left' faults faults' (Err (fault.NoMemory j)) = IsEmpty j
+-- what reading a script answers, by the bytes that the source had left and its faults, before and after, and whether it came to its end
+abbrev pub IsReading : Option (List ℕ) → Option (List ℕ) → Bool → ℕ → ℕ → Result Script ScriptFault → Type 0
+IsReading left left' at_end' faults faults' (Ok s) = WasRead left left' at_end' (λ bytes. IsScript bytes s)
+IsReading left left' at_end' faults faults' (Err fault.ReadFault) = Rose faults faults'
+IsReading left left' at_end' faults faults' (Err (fault.WriteFault j)) = ⊥
+IsReading left left' at_end' faults faults' (Err fault.TooLong) = IfSome left (λ bytes. 2 ^ 20 < length bytes) × (faults' ≡ faults)
+IsReading left left' at_end' faults faults' (Err (fault.Malformed line)) = WasRead left left' at_end' (λ bytes. IsBadLine bytes line)
+IsReading left left' at_end' faults faults' (Err (fault.Refused code at)) = ⊥
+IsReading left left' at_end' faults faults' (Err (fault.OutOfTurns j)) = ⊥
+IsReading left left' at_end' faults faults' (Err (fault.NoMemory j)) = IsEmpty j
 
 -- what making the drives of a script in at most so many turns comes to, with the journal that is left
 abbrev pub HasRun : Script → ℕ → Journal → Result Unit VmFault → Type 0

@@ -1,5 +1,6 @@
 -- The text of a journal: a line for each value that is shown and for each result of a drive, in order.
-use Rattle.std.specs.Prelude.{ℕ, zero, suc, Option, Some, None, List, [], ◌∷◌, ◌++◌, Bool, true, false, ◌||◌, ◌==◌, slice_get, codes, decimal, flat_map, encode_utf8, if◌then◌else◌}
+use Rattle.std.specs.Prelude.{ℕ, zero, suc, ◌+◌, Option, Some, None, List, [], ◌∷◌, ◌++◌, Bool, true, false, not, ◌&&◌, ◌||◌, ◌==◌, slice_get, codes, decimal, encode_utf8, encode_utf8_all, if◌then◌else◌}
+use Rattle.std.specs.List.{list_any}
 use Rattle.std.specs.Fmt.{signed_decimal}
 use Rattle.py_objects.specs.declared.payload.Payload.{Payload}
 use Rattle.py_objects.specs.declared.payload.Payload.TheVariants as payload
@@ -12,34 +13,32 @@ use Rattle.py_objects.specs.declared.event.DriveAnswer.{DriveAnswer}
 use Rattle.py_objects.specs.declared.event.DriveAnswer.TheVariants as answer
 use Rattle.py_objects.specs.declared.event.Event.{Event}
 use Rattle.py_objects.specs.declared.event.Event.TheVariants as event
+use Rattle.py_objects.specs.declared.edit.Change.{Change}
 use Rattle.py_objects.specs.Objects.{Obj, Name, class_object, as_object}
+use Rattle.py_objects.specs.Edits.{store_at}
 use Rattle.py_vm.specs.declared.journal.Journal.{Journal}
-
--- the bytes of characters
-abbrev pub bytes_of : Name → List ℕ
-bytes_of text = flat_map encode_utf8 text
 
 -- an object's payload, where it is there
 abbrev pub payload_of : List Payload → Obj → Option Payload
 payload_of objects v = slice_get objects v.number
 
+-- whether a text has a character
 abbrev pub has : ℕ → Name → Bool
-has c [] = false
-has c (d ∷ ds) = (c == d) || has c ds
+has c s = list_any (λ d. c == d) s
 
 -- the quote around a text: ", where it has ' and no "
 abbrev pub quote_of : Name → ℕ
-quote_of s = if has 39 s then (if has 34 s then 39 else 34) else 39
+quote_of s = if has 39 s && not (has 34 s) then 34 else 39
 
 -- a text with a backslash before each quote and each backslash
 abbrev pub escaped : ℕ → Name → Name
 escaped q [] = []
 escaped q (c ∷ cs) = if (c == q) || (c == 92) then 92 ∷ c ∷ escaped q cs else c ∷ escaped q cs
 
+-- a text between these quotes
 abbrev pub quoted_by : ℕ → Name → List ℕ
-quoted_by q s = bytes_of (q ∷ (escaped q s ++ q ∷ []))
+quoted_by q s = encode_utf8 q ++ (encode_utf8_all (escaped q s) ++ encode_utf8 q)
 
--- a text between quotes
 abbrev pub quoted : Name → List ℕ
 quoted s = quoted_by (quote_of s) s
 
@@ -51,37 +50,13 @@ joined f (v ∷ w ∷ vs) = f v ++ (codes ", " ++ joined f (w ∷ vs))
 
 -- the name of a class
 abbrev pub class_name : Option Payload → Name
-class_name None = []
-class_name (Some payload.None) = []
-class_name (Some (payload.Bool b)) = []
-class_name (Some (payload.Int n)) = []
-class_name (Some (payload.Str s)) = []
-class_name (Some (payload.Tuple vs)) = []
-class_name (Some (payload.Dict ps)) = []
 class_name (Some (payload.Class c)) = c.name
-class_name (Some (payload.Function f)) = []
-class_name (Some (payload.Manager m)) = []
-class_name (Some (payload.Frame c)) = []
-class_name (Some (payload.Generator g)) = []
-class_name (Some (payload.Exception e)) = []
-class_name (Some (payload.Traceback t)) = []
+class_name _ = []
 
 -- the items of a tuple
 abbrev pub items_of : Option Payload → List Obj
-items_of None = []
-items_of (Some payload.None) = []
-items_of (Some (payload.Bool b)) = []
-items_of (Some (payload.Int n)) = []
-items_of (Some (payload.Str s)) = []
 items_of (Some (payload.Tuple vs)) = vs
-items_of (Some (payload.Dict ps)) = []
-items_of (Some (payload.Class c)) = []
-items_of (Some (payload.Function f)) = []
-items_of (Some (payload.Manager m)) = []
-items_of (Some (payload.Frame c)) = []
-items_of (Some (payload.Generator g)) = []
-items_of (Some (payload.Exception e)) = []
-items_of (Some (payload.Traceback t)) = []
+items_of _ = []
 
 -- how the objects inside of one are shown, where they are not too deep
 abbrev pub Inner : Type 0
@@ -95,9 +70,8 @@ in_parentheses (Some f) vs = codes "(" ++ (joined f vs ++ codes ")")
 -- a tuple: one item has a comma behind it
 abbrev pub tuple_of : Inner → List Obj → List ℕ
 tuple_of None vs = codes "(...)"
-tuple_of (Some f) [] = codes "()"
 tuple_of (Some f) (v ∷ []) = codes "(" ++ (f v ++ codes ",)")
-tuple_of (Some f) (v ∷ w ∷ vs) = codes "(" ++ (joined f (v ∷ w ∷ vs) ++ codes ")")
+tuple_of (Some f) vs = codes "(" ++ (joined f vs ++ codes ")")
 
 -- a pair of a dict
 abbrev pub pair_by : (Obj → List ℕ) → Obj × Obj → List ℕ
@@ -116,7 +90,7 @@ coro_front kind.AsyncGenerator = codes "<async generator object "
 
 -- a suspended activation: its name, and its number
 abbrev pub coro_of : CoroBody → List ℕ
-coro_of g = coro_front g.kind ++ (bytes_of g.name ++ (codes " at " ++ (decimal g.activation ++ codes ">")))
+coro_of g = coro_front g.kind ++ (encode_utf8_all g.name ++ (codes " at " ++ (decimal g.activation ++ codes ">")))
 
 -- an object by its payload, where it is there; a frame has no more to show
 abbrev pub shown : Inner → List Payload → Option Payload → List ℕ
@@ -128,13 +102,13 @@ shown inner objects (Some (payload.Int n)) = signed_decimal n
 shown inner objects (Some (payload.Str s)) = quoted s
 shown inner objects (Some (payload.Tuple vs)) = tuple_of inner vs
 shown inner objects (Some (payload.Dict ps)) = dict_of inner ps
-shown inner objects (Some (payload.Class c)) = codes "<class '" ++ (bytes_of c.name ++ codes "'>")
-shown inner objects (Some (payload.Function f)) = codes "<function " ++ (bytes_of f.name ++ codes ">")
-shown inner objects (Some (payload.Manager m)) = codes "<manager " ++ (bytes_of m.name ++ codes ">")
-shown inner objects (Some (payload.Frame c)) = codes "<frame object>"
+shown inner objects (Some (payload.Class c)) = codes "<class '" ++ (encode_utf8_all c.name ++ codes "'>")
+shown inner objects (Some (payload.Function f)) = codes "<function " ++ (encode_utf8_all f.name ++ codes ">")
+shown inner objects (Some (payload.Manager m)) = codes "<manager " ++ (encode_utf8_all m.name ++ codes ">")
+shown inner objects (Some (payload.Frame c)) = codes "<frame>"
 shown inner objects (Some (payload.Generator g)) = coro_of g
 shown inner objects (Some (payload.Exception e)) =
-    bytes_of (class_name (payload_of objects (class_object e.class))) ++ in_parentheses inner (items_of (payload_of objects e.args))
+    encode_utf8_all (class_name (payload_of objects (class_object e.class))) ++ in_parentheses inner (items_of (payload_of objects e.args))
 shown inner objects (Some (payload.Traceback t)) = codes "<traceback>"
 
 -- an object that holds others, at most so deep
@@ -142,63 +116,39 @@ abbrev pub repr_within : ℕ → List Payload → Obj → List ℕ
 repr_within zero objects v = shown None objects (payload_of objects v)
 repr_within (suc k) objects v = shown (Some (repr_within k objects)) objects (payload_of objects v)
 
+-- what an exception with these arguments says: nothing without one, what a single one says, several in parentheses
+abbrev pub said : (Obj → List ℕ) → (Obj → List ℕ) → List Obj → List ℕ
+said str repr [] = []
+said str repr (v ∷ []) = str v
+said str repr (v ∷ w ∷ vs) = in_parentheses (Some repr) (v ∷ w ∷ vs)
+
+-- a text as it is, an exception by its arguments where they are not too deep, all else by its representation
+abbrev pub str_by : Option (List Obj → List ℕ) → List ℕ → List Payload → Option Payload → List ℕ
+str_by says repr objects (Some (payload.Str s)) = encode_utf8_all s
+str_by (Some says) repr objects (Some (payload.Exception e)) = says (items_of (payload_of objects e.args))
+str_by says repr objects _ = repr
+
+-- an object as a text, with others inside at most so deep
+abbrev pub str_within : ℕ → List Payload → Obj → List ℕ
+str_within zero objects v = str_by None (repr_within zero objects v) objects (payload_of objects v)
+str_within (suc k) objects v =
+    str_by (Some (said (str_within k objects) (repr_within k objects))) (repr_within (suc k) objects v) objects (payload_of objects v)
+
 -- the representation of an object (Python Language Reference, 3.3.1): a thousand are shown inside one another
 abbrev pub repr : List Payload → Obj → List ℕ
 repr objects v = repr_within 1000 objects v
 
--- what an exception with these arguments says: nothing without one, what a single one says, several as a tuple
-abbrev pub said : (Obj → List ℕ) → List Payload → List Obj → List ℕ
-said f objects [] = []
-said f objects (v ∷ []) = f v
-said f objects (v ∷ w ∷ vs) = codes "(" ++ (joined (repr objects) (v ∷ w ∷ vs) ++ codes ")")
-
--- a text as it is, an exception by its arguments, all else by its representation
-abbrev pub str_by : (Obj → List ℕ) → List Payload → Obj → Option Payload → List ℕ
-str_by f objects v None = repr objects v
-str_by f objects v (Some payload.None) = repr objects v
-str_by f objects v (Some (payload.Bool b)) = repr objects v
-str_by f objects v (Some (payload.Int n)) = repr objects v
-str_by f objects v (Some (payload.Str s)) = bytes_of s
-str_by f objects v (Some (payload.Tuple vs)) = repr objects v
-str_by f objects v (Some (payload.Dict ps)) = repr objects v
-str_by f objects v (Some (payload.Class c)) = repr objects v
-str_by f objects v (Some (payload.Function b)) = repr objects v
-str_by f objects v (Some (payload.Manager m)) = repr objects v
-str_by f objects v (Some (payload.Frame c)) = repr objects v
-str_by f objects v (Some (payload.Generator g)) = repr objects v
-str_by f objects v (Some (payload.Exception e)) = said f objects (items_of (payload_of objects e.args))
-str_by f objects v (Some (payload.Traceback t)) = repr objects v
-
-abbrev pub str_within : ℕ → List Payload → Obj → List ℕ
-str_within zero objects v = repr objects v
-str_within (suc k) objects v = str_by (str_within k objects) objects v (payload_of objects v)
-
--- an object as a text (Python Language Reference, 3.3.1): a thousand exceptions are followed inside one another
-abbrev pub str : List Payload → Obj → List ℕ
-str objects v = str_within 1000 objects v
-
--- what stands behind the class of a raise: nothing without arguments, the text of one, several in parentheses
+-- what stands behind the class of a raise: nothing without arguments, else what the exception says, which is the first of the
+-- thousand
 abbrev pub details : List Payload → List Obj → List ℕ
 details objects [] = []
-details objects (v ∷ []) = codes ": " ++ str objects v
-details objects (v ∷ w ∷ vs) = codes ": (" ++ (joined (repr objects) (v ∷ w ∷ vs) ++ codes ")")
+details objects (v ∷ vs) = codes ": " ++ said (str_within 999 objects) (repr_within 999 objects) (v ∷ vs)
 
+-- an exception that is raised: its class, and what it says
 abbrev pub raised : List Payload → Option Payload → List ℕ
-raised objects None = []
-raised objects (Some payload.None) = []
-raised objects (Some (payload.Bool b)) = []
-raised objects (Some (payload.Int n)) = []
-raised objects (Some (payload.Str s)) = []
-raised objects (Some (payload.Tuple vs)) = []
-raised objects (Some (payload.Dict ps)) = []
-raised objects (Some (payload.Class c)) = []
-raised objects (Some (payload.Function f)) = []
-raised objects (Some (payload.Manager m)) = []
-raised objects (Some (payload.Frame c)) = []
-raised objects (Some (payload.Generator g)) = []
 raised objects (Some (payload.Exception e)) =
-    bytes_of (class_name (payload_of objects (class_object e.class))) ++ details objects (items_of (payload_of objects e.args))
-raised objects (Some (payload.Traceback t)) = []
+    encode_utf8_all (class_name (payload_of objects (class_object e.class))) ++ details objects (items_of (payload_of objects e.args))
+raised objects _ = []
 
 -- a line of a drive
 abbrev pub numbered : ℕ → List ℕ → List ℕ
@@ -212,46 +162,33 @@ result_text objects d (answer.Stops None) = numbered d (codes " stops None")
 result_text objects d (answer.Stops (Some v)) = numbered d (codes " stops " ++ repr objects v)
 result_text objects d answer.Closes = numbered d (codes " closes")
 result_text objects d (answer.Raises e) = numbered d (codes " raises " ++ raised objects (payload_of objects (as_object e)))
-result_text objects d (answer.Reported text) = bytes_of text
+result_text objects d (answer.Reported text) = encode_utf8_all text
 
--- whether what is there is None
-abbrev pub is_none : Option Payload → Bool
-is_none None = false
-is_none (Some payload.None) = true
-is_none (Some (payload.Bool b)) = false
-is_none (Some (payload.Int n)) = false
-is_none (Some (payload.Str s)) = false
-is_none (Some (payload.Tuple vs)) = false
-is_none (Some (payload.Dict ps)) = false
-is_none (Some (payload.Class c)) = false
-is_none (Some (payload.Function f)) = false
-is_none (Some (payload.Manager m)) = false
-is_none (Some (payload.Frame c)) = false
-is_none (Some (payload.Generator g)) = false
-is_none (Some (payload.Exception e)) = false
-is_none (Some (payload.Traceback t)) = false
+-- what is written of a value that is shown: a line, unless it is None
+abbrev pub shown_line : List Payload → Obj → Option Payload → List ℕ
+shown_line objects v (Some payload.None) = []
+shown_line objects v _ = repr objects v ++ codes "\n"
 
--- what is written of a request: a line for a value that is shown, unless it is None
+-- what is written of a request
 abbrev pub request_text : List Payload → Request → List ℕ
-request_text objects (request.Show v) = if is_none (payload_of objects v) then [] else repr objects v ++ codes "\n"
+request_text objects (request.Show v) = shown_line objects v (payload_of objects v)
 request_text objects _ = []
 
--- what is written of an event
+-- what is written of an event, where these are the objects at it
 abbrev pub event_text : List Payload → Event → List ℕ
-event_text objects (event.Drive d) = []
 event_text objects (event.Result d w) = result_text objects d w
-event_text objects (event.Make a f vs) = []
-event_text objects (event.Resume a h) = []
 event_text objects (event.Ask a r own at) = request_text objects r
-event_text objects (event.Got a w) = []
-event_text objects (event.Round a at) = []
-event_text objects (event.Yield a v at) = []
-event_text objects (event.End a e at) = []
+event_text objects _ = []
 
--- the text of events, in order
-abbrev pub events_text : List Payload → List Event → List ℕ
-events_text objects events = flat_map (event_text objects) events
+-- the text of events, in order, the first of which has this number: each is told by the objects as they are at it
+abbrev pub text_from : List Payload → List Change → ℕ → List Event → List ℕ
+text_from made changes k [] = []
+text_from made changes k (e ∷ es) = event_text (store_at made changes k) e ++ text_from made changes (k + 1) es
+
+-- the text of all events, which are numbered from 0
+abbrev pub events_text : List Payload → List Change → List Event → List ℕ
+events_text made changes events = text_from made changes 0 events
 
 -- the text of a journal
 abbrev pub text_of : Journal → List ℕ
-text_of j = events_text j.objects j.events
+text_of j = events_text j.objects j.changes j.events

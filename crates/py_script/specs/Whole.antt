@@ -1,5 +1,7 @@
 -- What a script means: which journals are runs of it.
 use Rattle.std.specs.Prelude.{ℕ, ◌≤◌, Some, None, List, [], ◌∷◌, ◌≡◌, slice_get, length, map, Contains}
+use Rattle.std.specs.List.{AllZip}
+use Rattle.std.specs.List.Sorted.{IsPermutation}
 use Rattle.py_objects.specs.declared.payload.Payload.{Payload}
 use Rattle.py_objects.specs.declared.payload.Payload.TheVariants as payload
 use Rattle.py_objects.specs.declared.payload.ClassBody.{ClassBody}
@@ -11,6 +13,10 @@ use Rattle.py_objects.specs.declared.event.DriveAnswer.TheVariants as answer
 use Rattle.py_objects.specs.declared.event.Event.{Event}
 use Rattle.py_objects.specs.declared.event.Event.TheVariants as event
 use Rattle.py_objects.specs.Objects.{Obj, HasPayload, as_object, declared, name_of, error_kinds, AllFit}
+use Rattle.py_code.specs.Codes.{Codes}
+use Rattle.py_code.specs.declared.code.PyCode.{PyCode}
+use Rattle.py_check.specs.declared.note.Note.{Note}
+use Rattle.py_body.specs.Fits.{Fits}
 use Rattle.py_body.specs.Tree.{Tree}
 use Rattle.py_body.specs.Scene.{anywhere}
 use Rattle.py_body.specs.Trace.{IsTrace}
@@ -25,7 +31,6 @@ use Rattle.py_vm.specs.declared.journal.Journal.{Journal}
 use Rattle.py_vm.specs.Calls.{Signature}
 use Rattle.py_vm.specs.Run.{Posed, Plan, May, EachTells, IsRunBy, IsDone}
 use Rattle.py_vm.specs.RowsOf.{RowsOf}
-use Rattle.py_script.specs.Loaded.{AreCompiled}
 
 -- what the answer of a drive leaves for `$N`: its value or its exception, None where there is none
 abbrev pub IsLeft : List Payload → DriveAnswer → Obj → Type 0
@@ -51,10 +56,7 @@ IsOf objects events (atom.Name x) v = declared objects x ≡ Some v
 IsOf objects events (atom.Drive n) v = IsLeftBy objects events n v
 
 abbrev pub AreOf : List Payload → List Event → List DriveAtom → List Obj → Type 0
-AreOf objects events [] [] = Unit {0}
-AreOf objects events [] (v ∷ vs) = ⊥
-AreOf objects events (a ∷ atoms) [] = ⊥
-AreOf objects events (a ∷ atoms) (v ∷ vs) = IsOf objects events a v × AreOf objects events atoms vs
+AreOf objects events atoms vs = AllZip (IsOf objects events) atoms vs
 
 -- the question that a drive of a script asks
 abbrev pub AsksThis : List Payload → List Event → Drive → Question → Type 0
@@ -78,16 +80,17 @@ signature_of t = record { params = t.params }
 abbrev pub plan_of : List Tree → List Posed → Plan
 plan_of trees asked = record { signatures = map signature_of trees; asked = asked }
 
--- pairs bind the declared names, as texts, to their objects, in order
-abbrev pub AreBindings : List Payload → List Tree → List (Obj × Obj) → Type 0
-AreBindings objects [] [] = Unit {0}
-AreBindings objects [] (p ∷ ps) = ⊥
-AreBindings objects (t ∷ ts) [] = ⊥
-AreBindings objects (t ∷ ts) (p ∷ ps) = HasPayload objects p.0 (payload.Str t.name) × (declared objects t.name ≡ Some p.1) × AreBindings objects ts ps
+-- a pair binds the name of a declaration, as a text, to the object that is declared under it
+abbrev pub Binds : List Payload → Tree → Obj × Obj → Type 0
+Binds objects t p = HasPayload objects p.0 (payload.Str t.name) × (declared objects t.name ≡ Some p.1)
 
--- the globals: a dict that holds the declarations and nothing else
-abbrev pub AreGlobals : List Tree → List Payload → Obj → Type 0
-AreGlobals trees objects globals = (ps : List (Obj × Obj)) × HasPayload objects globals (payload.Dict ps) × AreBindings objects trees ps
+-- the globals: a dict that holds the declarations and nothing else, in any order
+pub record AreGlobals (trees : List Tree) (objects : List Payload) (globals : Obj) : Type 0 where
+  pub pairs : List (Obj × Obj)
+  pub dict : HasPayload objects globals (payload.Dict pairs)
+  pub bindings : List (Obj × Obj)
+  pub bind : AllZip (Binds objects) trees bindings
+  pub same : IsPermutation bindings pairs
 
 -- the objects of a script: each name that it declares, and each built-in class, has its entry; no other function or class is
 -- there, and no manager; a function's entry has the place of its body; each entry names objects that are there, of the kinds
@@ -122,6 +125,11 @@ pub record IsRun (s : Script) (j : Journal) : Type 0 where
 -- every drive of the script has its result, and nothing runs
 abbrev pub IsWhole : Script → Journal → Type 0
 IsWhole s j = IsDone (length (drives_of s)) j.events
+
+-- there is a code for each body, and the one at its place fits it, with some notes
+pub record AreCompiled (ts : List Tree) (cs : Codes) : Type 0 where
+  pub count : length cs.codes ≡ length ts
+  pub fit : (i : ℕ) (t : Tree) → slice_get ts i ≡ Some t → (c : PyCode) × (slice_get cs.codes i ≡ Some c) × ((notes : List Note) × Fits cs.names (record { code = c; notes = notes }) t)
 
 -- the journal's codes are those of the script's bodies, which they fit, and each activation's own events, with their
 -- units, are a run of the rows of its code

@@ -1,9 +1,8 @@
 -- A script worked by hand: its journal, and lists of events that look like one and are none.
-use Rattle.std.specs.Prelude.{ℕ, ◌-◌, ◌^◌, Some, None, List, [], ◌∷◌, false, ℤ, pos, ◌≡◌, codes}
+use Rattle.std.specs.Prelude.{ℕ, ◌-◌, ◌^◌, Some, None, List, [], ◌∷◌, ℤ, pos, ◌≡◌, codes}
 use Rattle.py_objects.specs.declared.refs.PyBaseExceptionRef.{PyBaseExceptionRef}
 use Rattle.py_objects.specs.declared.payload.Payload.{Payload}
 use Rattle.py_objects.specs.declared.payload.Payload.TheVariants as payload
-use Rattle.py_objects.specs.declared.payload.ExceptionBody.{ExceptionBody}
 use Rattle.py_objects.specs.declared.payload.ErrorKind.{ErrorKind}
 use Rattle.py_objects.specs.declared.payload.ErrorKind.TheVariants.{NameError, OverflowError, RecursionError, TypeError, UnboundLocalError}
 use Rattle.py_code.specs.declared.operator.BinaryOperator.TheVariants as binary
@@ -15,6 +14,7 @@ use Rattle.py_objects.specs.declared.event.DriveAnswer.TheVariants as answer
 use Rattle.py_objects.specs.declared.event.Event.{Event}
 use Rattle.py_objects.specs.declared.event.Event.TheVariants as event
 use Rattle.py_objects.specs.Objects.{Obj, Name, name_of}
+use Rattle.py_objects.specs.Values.{new_exception}
 use Rattle.py_body.specs.declared.atom.Atom.TheVariants as atom
 use Rattle.py_body.specs.declared.atom.Operator.TheVariants as operator
 use Rattle.py_body.specs.Tree.{Tree, operate, give, nothing, first}
@@ -146,13 +146,13 @@ greatest = pos (2 ^ 127 - 1)
 abbrev pub overflowing : Drive
 overflowing = call_of greatest (pos 1)
 
--- an exception of the class with this number, with the arguments 14 and no links
-abbrev pub error_body : ℕ → ExceptionBody
-error_body class = record { class = record { number = class }; args = object 14; cause = None; context = None; suppress = false; traceback = None; attrs = [] }
+-- the entry of a new exception: the numbers of its class and of its arguments
+abbrev pub exception_entry : ℕ → ℕ → Payload
+exception_entry class args = payload.Exception (new_exception (record { number = class }) (object args))
 
--- its entry
+-- the same with the arguments 14
 abbrev pub error_entry : ℕ → Payload
-error_entry class = payload.Exception (error_body class)
+error_entry class = exception_entry class 14
 
 -- the objects that a raise adds: the text 13, a tuple of it, 14, and an exception of the class with this number, 15
 abbrev pub error_objects : ℕ → List Payload → List Payload
@@ -165,6 +165,13 @@ raising_by name f class more = objects_of name f greatest (pos 1) (error_objects
 -- the same of the script's function
 abbrev pub raising_objects : ℕ → List Payload → List Payload
 raising_objects class more = raising_by (codes "f") (function_entry (codes "f") 0) class more
+
+-- the same where the exception has a cause, the number 10
+abbrev pub caused_objects : List Payload
+caused_objects =
+    objects_of (codes "f") (function_entry (codes "f") 0) greatest (pos 1)
+    (payload.Str (codes "integer out of range") ∷ payload.Tuple (object 13 ∷ [])
+    ∷ payload.Exception (record (new_exception (record { number = 2 }) (object 14)) { cause = Some (object 10) }) ∷ [])
 
 -- the objects where OverflowError is raised
 abbrev pub overflow_objects : List Payload
@@ -180,4 +187,4 @@ overflow_by e = raises 1 e []
 
 -- each whole run of the call with these numbers writes this
 abbrev pub Writes : ℤ → ℤ → List ℕ → Type 0
-Writes m n line = (store : List Payload) (es : List Event) → IsRunOf trees (call_of m n ∷ []) store es → IsDone 1 es → events_text store es ≡ line
+Writes m n line = (store : List Payload) (es : List Event) → IsRunOf trees (call_of m n ∷ []) store es → IsDone 1 es → events_text store [] es ≡ line

@@ -19,7 +19,7 @@ use Rattle.py_grammar.specs.declared.drive.DriveAtom.TheVariants as argument
 use Rattle.py_grammar.specs.Drive.{Drive}
 use Rattle.py_vm.specs.Calls.{Signature}
 use Rattle.py_vm.specs.Run.{Plan}
-use Rattle.py_script.specs.Worked.{object, exception, built_in, function_entry, error_body}
+use Rattle.py_script.specs.Worked.{object, exception, built_in, function_entry, exception_entry}
 
 -- the bytes of the script
 abbrev pub script : List ℕ
@@ -51,19 +51,30 @@ drives =
 
 -- the names of the functions, 9 and 10, the dict of the globals, 11, the frame of f, 12, its numbers, 13 and 14, the frame of g, 15,
 -- the number of the second drive, 16, and the frame of g again, 17
-abbrev pub values : List Payload → List Payload
-values more =
-    payload.Str (codes "g") ∷ payload.Str (codes "f") ∷ payload.Dict ((object 9, object 7) ∷ (object 10, object 8) ∷ []) ∷ payload.Frame 1 ∷ payload.Int (pos 7)
+abbrev pub values : List (Obj × Obj) → List Payload → List Payload
+values pairs more =
+    payload.Str (codes "g") ∷ payload.Str (codes "f") ∷ payload.Dict pairs ∷ payload.Frame 1 ∷ payload.Int (pos 7)
     ∷ payload.Int (pos 8) ∷ payload.Frame 0 ∷ payload.Int (pos 9) ∷ payload.Frame 0 ∷ more
 
 -- what the refusal of the third drive adds: its text, 18, a tuple of it, 19, and the exception, 20
 abbrev pub refusal_objects : List Payload
 refusal_objects =
-    payload.Str (codes "f() takes 0 positional arguments but 1 were given") ∷ payload.Tuple (object 18 ∷ []) ∷ payload.Exception (record (error_body 4) { args = object 19 }) ∷ []
+    payload.Str (codes "f() takes 0 positional arguments but 1 were given") ∷ payload.Tuple (object 18 ∷ []) ∷ exception_entry 4 19 ∷ []
 
--- the objects of the run: g has number 7 and f has 8
+-- the objects of the run, where the dict of the globals has these pairs: g has number 7 and f has 8
+abbrev pub objects_by : List (Obj × Obj) → List Payload
+objects_by pairs = built_in (function_entry (codes "g") 0 ∷ function_entry (codes "f") 1 ∷ values pairs refusal_objects)
+
+-- a pair for each name
+abbrev pub pair_of_g : Obj × Obj
+pair_of_g = (object 9, object 7)
+
+abbrev pub pair_of_f : Obj × Obj
+pair_of_f = (object 10, object 8)
+
+-- the objects of the run
 abbrev pub objects : List Payload
-objects = built_in (function_entry (codes "g") 0 ∷ function_entry (codes "f") 1 ∷ values refusal_objects)
+objects = objects_by (pair_of_g ∷ pair_of_f ∷ [])
 
 -- the first drive calls f, whose body gets g and calls it with its two numbers; these events follow
 abbrev pub asking : List Event → List Event

@@ -14,7 +14,7 @@ use Rattle.py_objects.specs.Objects.{Obj}
 use Rattle.py_body.specs.declared.atom.Atom.TheVariants as atom
 use Rattle.py_body.specs.Tree.{Suite, show, loop, nothing, first, Tree}
 use Rattle.py_grammar.specs.Drive.{Drive}
-use Rattle.py_script.specs.Worked.{object, exception, error_body, function_entry, loaded}
+use Rattle.py_script.specs.Worked.{object, exception, exception_entry, function_entry, loaded}
 
 -- the bytes of the script whose loop doesn't end
 abbrev pub script : List ℕ
@@ -86,7 +86,7 @@ unknown_trees = function_of (first 2 (show (atom.Name (codes "z"))) nothing) ∷
 
 -- the entry of an exception of the class with this number
 abbrev pub unknown_error : ℕ → Payload
-unknown_error class = payload.Exception (record (error_body class) { args = object 12 })
+unknown_error class = exception_entry class 12
 
 -- the objects that the raise adds: the text 11, a tuple of it, 12, and the exception 13
 abbrev pub raised_objects : ℕ → List Payload

@@ -3,6 +3,8 @@
 
 mod command;
 mod fault;
+mod journal;
+mod loading;
 mod notes;
 mod quoted;
 mod read;
@@ -12,6 +14,7 @@ mod str_of;
 mod text;
 mod words;
 mod worked;
+mod worked_answer;
 mod worked_call;
 mod worked_loop;
 mod worked_show;
@@ -19,6 +22,7 @@ mod write;
 
 pub use command::{run_command, run_script};
 pub use fault::{CommandResult, Ended, ScriptFault, Summary};
+pub use journal::journal_text;
 pub use py_grammar::{
     DeclList, Declaration, DriveLine, DriveList, ParseFault, Script, parse_script,
 };
@@ -27,9 +31,9 @@ pub use py_outside::{
     read_bytes, write_bytes,
 };
 pub use py_vm::Journal;
-pub use text::journal_text;
 pub use words::{Command, Words, command_of};
 pub use worked::worked_journals;
+pub use worked_answer::worked_answers;
 pub use worked_call::worked_calls;
 pub use worked_loop::worked_loops;
 pub use worked_show::worked_shows;

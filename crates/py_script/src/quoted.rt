@@ -1,19 +1,9 @@
 //! Characters behind a text, as they are or between quotes.
 
-ghost use Rattle.std.specs.Prelude.{◌≡◌, [], ◌∷◌, ◌++◌, OnOk, string_bytes};
-ghost use Rattle.py_script.specs.Text.{bytes_of, has, quote_of, escaped, quoted};
+ghost use Rattle.std.specs.Prelude.{◌≡◌, [], ◌∷◌, ◌++◌, OnOk, string_bytes, encode_utf8_all};
+ghost use Rattle.py_script.specs.Text.{has, quote_of, escaped, quoted};
 
 use py_code::{NoMemory, PyText};
-
-/// Puts characters behind the text.
-pub(crate) fn push_text(out: &mut String, text: &PyText) -> Result<(), NoMemory>
-    ensures { OnOk result (string_bytes out.new ≡ string_bytes out.old ++ bytes_of text.now) }
-{
-    for c in text.as_slice() {
-        out.push(*c)?;
-    }
-    Ok(())
-}
 
 /// Puts a text between quotes behind the text.
 pub(crate) fn push_quoted(out: &mut String, text: &PyText) -> Result<(), NoMemory>
@@ -49,7 +39,7 @@ fn contains(text: &PyText, wanted: char) -> bool
 }
 
 fn push_escaped(out: &mut String, text: &PyText, quote: char) -> Result<(), NoMemory>
-    ensures { OnOk result (string_bytes out.new ≡ string_bytes out.old ++ bytes_of (escaped quote text.now)) }
+    ensures { OnOk result (string_bytes out.new ≡ string_bytes out.old ++ encode_utf8_all (escaped quote text.now)) }
 {
     for c in text.as_slice() {
         push_character(out, *c, quote)?;
@@ -58,7 +48,7 @@ fn push_escaped(out: &mut String, text: &PyText, quote: char) -> Result<(), NoMe
 }
 
 fn push_character(out: &mut String, c: char, quote: char) -> Result<(), NoMemory>
-    ensures { OnOk result (string_bytes out.new ≡ string_bytes out.old ++ bytes_of (escaped quote (c ∷ []))) }
+    ensures { OnOk result (string_bytes out.new ≡ string_bytes out.old ++ encode_utf8_all (escaped quote (c ∷ []))) }
 {
     if c == quote || c == '\\' {
         out.push('\\')?;

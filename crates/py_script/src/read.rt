@@ -39,7 +39,7 @@ fn parse_bytes(alloc: Global, bytes: &[u8]) -> Result<Script, ScriptFault>
 
 /// The script that the source holds.
 pub(crate) fn read_script<S: Source>(alloc: Global, source: &mut S) -> Result<Script, ScriptFault>
-    ensures reading { IsReading (S.left source.old) (S.left source.new) (S.faults source.old) (S.faults source.new) result }
+    ensures reading { IsReading (S.left source.old) (S.left source.new) (S.at_end source.new) (S.faults source.old) (S.faults source.new) result }
     ensures runnable { IfOk result IsRunnable }
     ensures reads { S.reads source.new ≤ S.reads source.old + (2 ^ 20 + 1) }
 {

@@ -1,12 +1,12 @@
 //! The representation of objects, behind a text.
 
-ghost use Rattle.std.specs.Prelude.{◌≡◌, ◌++◌, Some, OnOk, string_bytes, codes, if◌then◌else◌};
+ghost use Rattle.std.specs.Prelude.{◌≡◌, ◌++◌, Some, OnOk, string_bytes, encode_utf8_all, codes, if◌then◌else◌};
 ghost use Rattle.py_objects.specs.Objects.{class_object};
-ghost use Rattle.py_script.specs.Text.{bytes_of, payload_of, class_name, items_of, joined, in_parentheses, tuple_of, pair_by, dict_of, coro_front, coro_of, shown, repr_within};
-ghost use Rattle.py_script.specs.Depths.{inner_at};
+ghost use Rattle.py_script.specs.Text.{payload_of, class_name, items_of, joined, in_parentheses, tuple_of, pair_by, dict_of, coro_front, coro_of, shown, repr_within};
+ghost use Rattle.py_script.specs.Writing.{inner_at};
 
-use crate::quoted::{push_quoted, push_text};
-use py_code::{NoMemory, PyText};
+use crate::quoted::push_quoted;
+use py_code::{NoMemory, PyText, push_utf8};
 use py_objects::{CoroBody, CoroKind, Payload, PayloadList, PyObjectRef, PyTypeRef};
 
 /// Puts the representation of an object behind the text. It may hold others so deep; nothing
@@ -45,7 +45,7 @@ fn push_payload(
         Payload::Class(class) => push_named(out, "<class '", &class.name, "'>")?,
         Payload::Function(function) => push_named(out, "<function ", &function.name, ">")?,
         Payload::Manager(manager) => push_named(out, "<manager ", &manager.name, ">")?,
-        Payload::Frame(_) => out.push_str("<frame object>")?,
+        Payload::Frame(_) => out.push_str("<frame>")?,
         Payload::Generator(coro) => push_coro(out, coro)?,
         Payload::Exception(exception) => {
             push_class_name(out, objects, exception.class)?;
@@ -103,7 +103,7 @@ pub(crate) fn push_enclosed(
     items: &[PyObjectRef],
     depth: u32,
 ) -> Result<(), NoMemory>
-    ensures { OnOk result (string_bytes out.new ≡ string_bytes out.old ++ (codes "(" ++ (joined (repr_within depth objects.now) items.now ++ codes ")"))) }
+    ensures { OnOk result (string_bytes out.new ≡ string_bytes out.old ++ in_parentheses (Some (repr_within depth objects.now)) items.now) }
 {
     out.push_str("(")?;
     push_joined(out, objects, items, depth)?;
@@ -213,10 +213,10 @@ fn push_bool(out: &mut String, value: bool) -> Result<(), NoMemory>
 }
 
 fn push_named(out: &mut String, front: &str, name: &PyText, back: &str) -> Result<(), NoMemory>
-    ensures { OnOk result (string_bytes out.new ≡ string_bytes out.old ++ (front.now ++ (bytes_of name.now ++ back.now))) }
+    ensures { OnOk result (string_bytes out.new ≡ string_bytes out.old ++ (front.now ++ (encode_utf8_all name.now ++ back.now))) }
 {
     out.push_str(front)?;
-    push_text(out, name)?;
+    push_utf8(out, name)?;
     out.push_str(back)?;
     Ok(())
 }
@@ -227,13 +227,13 @@ pub(crate) fn push_class_name(
     objects: &PayloadList,
     class: PyTypeRef,
 ) -> Result<(), NoMemory>
-    ensures { OnOk result (string_bytes out.new ≡ string_bytes out.old ++ bytes_of (class_name (payload_of objects.now (class_object class)))) }
+    ensures { OnOk result (string_bytes out.new ≡ string_bytes out.old ++ encode_utf8_all (class_name (payload_of objects.now (class_object class)))) }
 {
     let Some(payload) = objects.get(class.number as usize) else {
         return Ok(());
     };
     match payload {
-        Payload::Class(class) => push_text(out, &class.name),
+        Payload::Class(class) => push_utf8(out, &class.name),
         Payload::None
         | Payload::Bool(_)
         | Payload::Int(_)

@@ -1,30 +1,16 @@
 //! Objects as texts, behind a text.
 
-ghost use Rattle.std.specs.Prelude.{◌≡◌, ◌++◌, OnOk, string_bytes};
-ghost use Rattle.py_script.specs.Text.{said, repr, str_within};
+ghost use Rattle.std.specs.Prelude.{◌≡◌, ◌++◌, Some, OnOk, string_bytes};
+ghost use Rattle.py_script.specs.Text.{repr_within, said, str_by, str_within};
+ghost use Rattle.py_script.specs.Writing.{says_at};
 
-use crate::quoted::push_text;
 use crate::repr::{push_enclosed, push_repr, tuple_items};
-use py_code::NoMemory;
+use py_code::{NoMemory, push_utf8};
 use py_objects::{Payload, PayloadList, PyObjectRef};
 
-/// How many objects are shown inside one another.
-pub(crate) const DEPTH: u32 = 1000;
-
-/// Puts the whole representation of an object behind the text.
-pub(crate) fn push_whole_repr(
-    out: &mut String,
-    objects: &PayloadList,
-    object: PyObjectRef,
-) -> Result<(), NoMemory>
-    ensures { OnOk result (string_bytes out.new ≡ string_bytes out.old ++ repr objects.now object) }
-{
-    push_repr(out, objects, object, DEPTH)
-}
-
-/// Puts an object as a text behind the text. So many exceptions are followed inside one another.
+/// Puts an object as a text behind the text. It may hold others so deep.
 #[cycle(str)]
-pub(crate) fn push_str(
+fn push_str(
     out: &mut String,
     objects: &PayloadList,
     object: PyObjectRef,
@@ -32,37 +18,33 @@ pub(crate) fn push_str(
 ) -> Result<(), NoMemory>
     ensures { OnOk result (string_bytes out.new ≡ string_bytes out.old ++ str_within depth objects.now object) }
 {
-    if depth == 0 {
-        return push_whole_repr(out, objects, object);
-    }
     let Some(payload) = objects.get(object.number as usize) else {
-        return push_whole_repr(out, objects, object);
+        return push_repr(out, objects, object, depth);
     };
+    push_payload_str(out, objects, object, payload, depth)
+}
+
+#[cycle(str)]
+fn push_payload_str(
+    out: &mut String,
+    objects: &PayloadList,
+    object: PyObjectRef,
+    payload: &Payload,
+    depth: u32,
+) -> Result<(), NoMemory>
+    ensures { OnOk result (string_bytes out.new ≡ string_bytes out.old ++ str_by (says_at depth objects.now) (repr_within depth objects.now object) objects.now (Some payload.now)) }
+{
     match payload {
-        Payload::Str(text) => push_text(out, text),
-        Payload::Exception(exception) => {
-            push_said(
-                out,
-                objects,
-                tuple_items(objects, exception.args),
-                depth - 1,
-            )
+        Payload::Str(text) => push_utf8(out, text),
+        Payload::Exception(exception) if depth > 0 => {
+            let items = tuple_items(objects, exception.args);
+            push_said(out, objects, items, depth - 1)
         }
-        Payload::None
-        | Payload::Bool(_)
-        | Payload::Int(_)
-        | Payload::Tuple(_)
-        | Payload::Dict(_)
-        | Payload::Class(_)
-        | Payload::Function(_)
-        | Payload::Manager(_)
-        | Payload::Frame(_)
-        | Payload::Generator(_)
-        | Payload::Traceback(_) => push_whole_repr(out, objects, object),
+        _ => push_repr(out, objects, object, depth),
     }
 }
 
-/// Puts behind the text what an exception with these arguments says.
+/// Puts behind the text what an exception with these arguments says, which may hold others so deep.
 #[cycle(str)]
 pub(crate) fn push_said(
     out: &mut String,
@@ -70,11 +52,11 @@ pub(crate) fn push_said(
     items: &[PyObjectRef],
     depth: u32,
 ) -> Result<(), NoMemory>
-    ensures { OnOk result (string_bytes out.new ≡ string_bytes out.old ++ said (str_within depth objects.now) objects.now items.now) }
+    ensures { OnOk result (string_bytes out.new ≡ string_bytes out.old ++ said (str_within depth objects.now) (repr_within depth objects.now) items.now) }
 {
     match items {
         [] => Ok(()),
         [item] => push_str(out, objects, *item, depth),
-        _ => push_enclosed(out, objects, items, DEPTH),
+        _ => push_enclosed(out, objects, items, depth),
     }
 }

@@ -1,33 +1,37 @@
-//! The text of a journal.
+//! The text of an event.
 
-ghost use Rattle.std.specs.Prelude.{◌≡◌, ◌++◌, OnOk, IfOk, string_bytes, codes};
+ghost use Rattle.std.specs.Prelude.{◌≡◌, ◌++◌, OnOk, string_bytes, codes};
 ghost use Rattle.py_objects.specs.Objects.{as_object};
 ghost use Rattle.py_objects.specs.declared.request.Request.TheVariants.{Show};
-ghost use Rattle.py_script.specs.Text.{payload_of, repr, details, raised, numbered, request_text, result_text, event_text, text_of};
+ghost use Rattle.py_script.specs.Text.{payload_of, repr, details, raised, numbered, request_text, result_text, event_text};
 
-use crate::quoted::push_text;
-use crate::repr::{push_class_name, tuple_items};
-use crate::str_of::{DEPTH, push_said, push_whole_repr};
-use py_code::NoMemory;
+use crate::repr::{push_class_name, push_repr, tuple_items};
+use crate::str_of::push_said;
+use py_code::{NoMemory, push_utf8};
 use py_objects::{
     DriveAnswer, Event, Payload, PayloadList, PyBaseExceptionRef, PyObjectRef, Request,
 };
-use py_vm::Journal;
-use std::alloc::Global;
 
-/// The text of a journal: a line for each value that is shown and for each result of a drive, in order, and each report as
-/// it is.
-pub fn journal_text(alloc: Global, journal: &Journal) -> Result<Vec<u8>, NoMemory>
-    ensures { IfOk result (λ bytes. bytes.items ≡ text_of journal.now) }
+/// How many objects are shown inside one another.
+const DEPTH: u32 = 1000;
+
+/// Puts the representation of an object behind the text.
+fn push_whole_repr(
+    out: &mut String,
+    objects: &PayloadList,
+    object: PyObjectRef,
+) -> Result<(), NoMemory>
+    ensures { OnOk result (string_bytes out.new ≡ string_bytes out.old ++ repr objects.now object) }
 {
-    let mut out = String::new(alloc);
-    for event in journal.events.as_slice() {
-        push_event(&mut out, &journal.objects, event)?;
-    }
-    Ok(out.into_bytes())
+    push_repr(out, objects, object, DEPTH)
 }
 
-fn push_event(out: &mut String, objects: &PayloadList, event: &Event) -> Result<(), NoMemory>
+/// Puts behind the text what is written of an event, where these are the objects at it.
+pub(crate) fn push_event(
+    out: &mut String,
+    objects: &PayloadList,
+    event: &Event,
+) -> Result<(), NoMemory>
     ensures { OnOk result (string_bytes out.new ≡ string_bytes out.old ++ event_text objects.now event.now) }
 {
     match event {
@@ -79,7 +83,7 @@ fn push_result(
         DriveAnswer::Stops(Some(value)) => push_value(out, objects, drive, " stops ", *value),
         DriveAnswer::Closes => push_line(out, drive, " closes"),
         DriveAnswer::Raises(exception) => push_raise(out, objects, drive, *exception),
-        DriveAnswer::Reported(text) => push_text(out, text),
+        DriveAnswer::Reported(text) => push_utf8(out, text),
     }
 }
 
@@ -160,5 +164,6 @@ fn push_details(
         return Ok(());
     }
     out.push_str(": ")?;
-    push_said(out, objects, items, DEPTH)
+    // The exception that is raised is the first of them.
+    push_said(out, objects, items, DEPTH - 1)
 }

@@ -8,7 +8,7 @@ ghost use Rattle.py_vm.specs.Answers.{in_range};
 ghost use Rattle.py_vm.specs.Run.{IsDone};
 ghost use Rattle.py_script.specs.Whole.{IsRunOf};
 ghost use Rattle.py_script.specs.Text.{events_text};
-ghost use Rattle.py_script.specs.Worked.{script, trees, drives, object, exception, function_entry, objects_by, objects, objects_with_manager, events_by, events, unfinished, with_round, without_end, swapped, driven_twice, overflowing, error_entry, raising_objects, overflow_objects, raises, overflow_by, Writes};
+ghost use Rattle.py_script.specs.Worked.{script, trees, drives, object, exception, function_entry, objects_by, objects, objects_with_manager, events_by, events, unfinished, with_round, without_end, swapped, driven_twice, overflowing, error_entry, raising_objects, overflow_objects, caused_objects, raises, overflow_by, Writes};
 
 /// The journal of `call f 33 12` is a whole run of its script, and so is that of a sum out of range. What differs from
 /// them in one thing is none, and no whole run of such a call writes another text.
@@ -17,7 +17,7 @@ pub fn worked_journals()
     ensures spelled { Spells (lines script) trees drives }
     ensures is_run { IsRunOf trees drives objects events }
     ensures is_whole { IsDone 1 events }
-    ensures text { events_text objects events ≡ codes "1 returns 45\n" }
+    ensures text { events_text objects [] events ≡ codes "1 returns 45\n" }
     // Whatever a whole run of such a call is, it writes the sum of its numbers, or that it's out of range.
     ensures text_of_sum { (m : ℤ) → (n : ℤ) → in_range (m +ℤ n) ≡ true → Writes m n (codes "1 returns " ++ (signed_decimal (m +ℤ n) ++ codes "\n")) }
     ensures text_of_overflow { (m : ℤ) → (n : ℤ) → in_range (m +ℤ n) ≡ false → Writes m n (codes "1 raises OverflowError: integer out of range\n") }
@@ -38,8 +38,9 @@ pub fn worked_journals()
     // A sum out of range raises a new OverflowError.
     ensures overflow_is_run { IsRunOf trees (overflowing ∷ []) overflow_objects (overflow_by (exception 15)) }
     ensures overflow_is_whole { IsDone 1 (overflow_by (exception 15)) }
-    ensures overflow_text { events_text overflow_objects (overflow_by (exception 15)) ≡ codes "1 raises OverflowError: integer out of range\n" }
+    ensures overflow_text { events_text overflow_objects [] (overflow_by (exception 15)) ≡ codes "1 raises OverflowError: integer out of range\n" }
     ensures no_other_error { IsRunOf trees (overflowing ∷ []) (raising_objects 4 []) (overflow_by (exception 15)) → ⊥ }
+    ensures no_error_with_a_cause { IsRunOf trees (overflowing ∷ []) caused_objects (overflow_by (exception 15)) → ⊥ }
     ensures no_object_as_error { IsRunOf trees (overflowing ∷ []) overflow_objects (overflow_by (exception 10)) → ⊥ }
     // Two drives raise two exceptions, and never the same one.
     ensures errors_are_run { IsRunOf trees (overflowing ∷ overflowing ∷ []) (raising_objects 2 (error_entry 2 ∷ [])) (raises 1 (exception 15) (raises 2 (exception 16) [])) }

@@ -1,16 +1,16 @@
 //! A journal of functions that call that was worked by hand, and what the definitions say of it.
 
-ghost use Rattle.std.specs.Prelude.{◌≡◌, [], List, codes};
+ghost use Rattle.std.specs.Prelude.{◌≡◌, [], ◌∷◌, List, codes};
 ghost use Rattle.py_objects.specs.declared.payload.Payload.{Payload};
 ghost use Rattle.py_objects.specs.Objects.{Obj};
 ghost use Rattle.py_grammar.specs.Lines.{lines};
 ghost use Rattle.py_grammar.specs.Script.{Spells};
 ghost use Rattle.py_vm.specs.Calls.{Enters, Calls};
 ghost use Rattle.py_vm.specs.Run.{Plan, State, depth, IsDone};
-ghost use Rattle.py_script.specs.Whole.{IsRunOf};
+ghost use Rattle.py_script.specs.Whole.{AreGlobals, IsRunOf};
 ghost use Rattle.py_script.specs.Text.{events_text};
 ghost use Rattle.py_script.specs.Worked.{object};
-ghost use Rattle.py_script.specs.WorkedCall.{script, trees, drives, objects, returned, again, events, made_twice, answered_early, numbered_on, never_entered, swapped, refused_made, IsFull};
+ghost use Rattle.py_script.specs.WorkedCall.{objects_by, pair_of_g, pair_of_f, script, trees, drives, objects, returned, again, events, made_twice, answered_early, numbered_on, never_entered, swapped, refused_made, IsFull};
 
 /// The journal of a function that calls another one, of a drive whose argument an earlier drive left, and of a drive that
 /// is refused, is a whole run of its script. What differs from it in one thing is none. At most a thousand activations run.
@@ -19,7 +19,10 @@ pub fn worked_calls()
     ensures spelled { Spells (lines script) trees drives }
     ensures is_run { IsRunOf trees drives objects events }
     ensures is_whole { IsDone 3 events }
-    ensures text { events_text objects events ≡ codes "1 returns 7\n2 returns 7\n3 raises TypeError: f() takes 0 positional arguments but 1 were given\n" }
+    ensures text { events_text objects [] events ≡ codes "1 returns 7\n2 returns 7\n3 raises TypeError: f() takes 0 positional arguments but 1 were given\n" }
+    // The dict of the globals has a pair for each function, in any order.
+    ensures any_order { AreGlobals trees (objects_by (pair_of_f ∷ pair_of_g ∷ [])) (object 11) }
+    ensures no_name_unbound { AreGlobals trees (objects_by (pair_of_g ∷ [])) (object 11) → ⊥ }
     // The callee is made once, with the next number and its arguments in order, is entered, and ends before the caller goes on.
     ensures no_callee_made_twice { IsRunOf trees drives objects made_twice → ⊥ }
     ensures no_other_number { IsRunOf trees drives objects numbered_on → ⊥ }

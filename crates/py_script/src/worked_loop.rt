@@ -25,7 +25,7 @@ pub fn worked_loops()
     ensures unknown_spelled { Spells (lines unknown_script) unknown_trees drives }
     ensures unknown_is_run { IsRunOf unknown_trees drives unknown_objects unknown_events }
     ensures unknown_is_whole { IsDone 1 unknown_events }
-    ensures unknown_text { events_text unknown_objects unknown_events ≡ codes "1 raises NameError: name 'z' is not defined\n" }
+    ensures unknown_text { events_text unknown_objects [] unknown_events ≡ codes "1 raises NameError: name 'z' is not defined\n" }
     // It is asked for in the dict of the globals, and no value answers it, nor an exception of another class.
     ensures no_name_asked_of_none { IsRunOf unknown_trees drives unknown_objects (asked_in (object 0) []) → ⊥ }
     ensures no_value_of_an_unknown_name { IsRunOf unknown_trees drives unknown_objects unknown_given → ⊥ }

@@ -18,7 +18,7 @@ pub fn worked_shows()
     ensures spelled { Spells (lines script) trees drives }
     ensures is_run { IsRunOf trees drives objects events }
     ensures is_whole { IsDone 1 events }
-    ensures text { events_text objects events ≡ codes "45\n1 returns None\n" }
+    ensures text { events_text objects [] events ≡ codes "45\n1 returns None\n" }
     // Any None answers the show, and any None is returned.
     ensures any_none_is_returned { (a : Obj) → (r : Obj) → HasPayload objects a payload.None → HasPayload objects r payload.None → IsRunOf trees drives objects (events_by (object 13) a r) }
     // The sum is shown once, None answers that, and None is returned.
@@ -30,8 +30,8 @@ pub fn worked_shows()
     // A sum out of range raises, and the raise ends the body where it asked.
     ensures raise_ends { IsRunOf trees (overflowing ∷ []) overflow_objects (overflow_by (exception 15)) }
     ensures raise_is_whole { IsDone 1 (overflow_by (exception 15)) }
-    ensures raise_text { events_text overflow_objects (overflow_by (exception 15)) ≡ codes "1 raises OverflowError: integer out of range\n" }
+    ensures raise_text { events_text overflow_objects [] (overflow_by (exception 15)) ≡ codes "1 raises OverflowError: integer out of range\n" }
     ensures no_statement_behind_a_raise { IsRunOf trees (overflowing ∷ []) overflow_objects shown_behind_raise → ⊥ }
     // None is shown without a line.
-    ensures none_is_not_shown { events_text objects (shows (object 0) []) ≡ [] }
+    ensures none_is_not_shown { events_text objects [] (shows (object 0) []) ≡ [] }
 {}

@@ -3,7 +3,7 @@
 ghost use Rattle.py_script.specs.Steps.{IsWriting};
 
 use crate::fault::ScriptFault;
-use crate::text::journal_text;
+use crate::journal::journal_text;
 use py_outside::{Sink, write_bytes};
 use py_vm::Journal;
 use std::alloc::Global;

@@ -8,5 +8,5 @@ pub returns-in-Ok-clause-reading : goal.returns-in-Ok-clause-reading
 returns-in-Ok-clause-reading g c =
     let short : vec_len c.in-Ok.bytes ≤ 1048576 = c.in-Ok.ensures.short in
     let few : length c.in-Ok.bytes.items ≤ 1048576 = omega (arith, short, c.in-Ok.bytes.ok) in
-    parsed_is_read _ _ _ _ c.in-Ok.bytes.items c.parse_bytes.result c.in-Ok.ensures.read few
+    parsed_is_read _ _ _ _ _ c.in-Ok.bytes.items c.parse_bytes.result c.in-Ok.ensures.read c.in-Ok.ensures.end few
     (subst (λ (bytes : List ℕ). IsParsed bytes c.parse_bytes.result) c.as_slice.ensures.value c.parse_bytes.ensures.parsed)

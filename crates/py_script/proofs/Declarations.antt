@@ -1,0 +1,172 @@
+-- How a machine is loaded, declaration by declaration.
+use Rattle.std.proofs.Common.{◌≡◌, ◌<◌, ◌≤◌, ◌+◌, ℕ, zero, suc, List, [], ◌∷◌, ◌++◌, length, Some, refl, sym, ap, ◌∙◌, subst, arith, length-append, append_assoc, ◌⊎◌, inl, inr, get_or, take}
+use Rattle.std.specs.Prelude.{option_map, slice_get, map, All}
+use Rattle.std.proofs.lemmas.List.{map-append, length-map, length-take-le, take_all}
+use Rattle.std.proofs.lemmas.Grind.{take_at_read}
+use Rattle.std.proofs.lemmas.Option.{slice_get-map, slice_get-get_or}
+use Rattle.py_check.specs.declared.annotated.Annotated.{Annotated}
+use Rattle.py_objects.specs.declared.payload.Payload.{Payload}
+use Rattle.py_objects.specs.declared.payload.Payload.TheVariants as payload
+use Rattle.py_objects.specs.Objects.{Obj, Name, numbers, AllBelow}
+use Rattle.py_frame.specs.Sound.{AreNames, IsSound}
+use Rattle.py_frame.proofs.Growing.{slice_get_grown}
+use Rattle.py_body.specs.Tree.{Tree}
+use Rattle.py_body.specs.Fits.{Fits, Continues}
+use Rattle.py_body.proofs.Fitting.{params_continue}
+use Rattle.py_grammar.specs.declared.script.Declaration.{Declaration}
+use Rattle.py_grammar.specs.Script.{declared_tree}
+use Rattle.py_vm.specs.Calls.{Signature}
+use Rattle.py_vm.specs.Codes.{Checked, plain_codes, signature_in, signatures_of}
+use Rattle.py_vm.proofs.BoundLemmas.{AreSigned}
+use Rattle.py_vm.proofs.ReplyingLemmas.{newest}
+use Rattle.py_script.specs.Whole.{AreCompiled, signature_of}
+use Rattle.py_script.specs.Loaded.{AreChecked, function_entries}
+
+-- the entry of a list that is mapped
+pub entry_mapped : {A B : Type 0} (f : A → B) (xs : List A) (i : ℕ) (x : A) → slice_get xs i ≡ Some x → slice_get (map f xs) i ≡ Some (f x)
+entry_mapped f xs i x is = slice_get-map f xs i ∙ ap (option_map f) is
+
+-- the next entry of a list, as a loop has it
+pub entry_read : {A B : Type 0} (f : A → B) (xs : List A) (i : ℕ) (x : A) → i < length xs → x ≡ get_or xs i x → slice_get (map f xs) i ≡ Some (f x)
+entry_read f xs i x low is = entry_mapped f xs i (get_or xs i x) (slice_get-get_or xs i x low) ∙ ap (λ y. Some (f y)) (sym is)
+
+-- the front of a list up to it
+pub front_more : {A B : Type 0} (f : A → B) (xs : List A) (i : ℕ) (x : A) → i < length xs → x ≡ get_or xs i x → map f (take (i + 1) xs) ≡ map f (take i xs) ++ f x ∷ []
+front_more f xs i x low is = ap (map f) (take_at_read xs i x low).1 ∙ (map-append f (take i xs) (get_or xs i x ∷ []) ∙ ap (λ y. map f (take i xs) ++ f y ∷ []) (sym is))
+
+pub front_length : {A B : Type 0} (f : A → B) (xs : List A) (i : ℕ) → i < length xs → length (map f (take i xs)) ≡ i
+front_length f xs i low = length-map (take i xs) f ∙ length-take-le i xs (omega (arith, low))
+
+pub front_whole : {A B : Type 0} (f : A → B) (xs : List A) (i : ℕ) → length xs ≤ i → map f (take i xs) ≡ map f xs
+front_whole f xs i high = ap (map f) (take_all i xs high)
+
+-- what was said of the trees of a slice holds of those of its list
+pub of_trees : (P : List Tree → Type 0) (some all : List Declaration) → some ≡ all → P (map declared_tree some) → P (map declared_tree all)
+of_trees P some all same is = subst (λ (l : List Declaration). P (map declared_tree l)) same is
+
+-- an entry of a list with one more is one of the list, or that one
+pub one_more : {X : Type 0} (xs : List X) (y x : X) (i : ℕ) → slice_get (xs ++ y ∷ []) i ≡ Some x → (slice_get xs i ≡ Some x) ⊎ ((i ≡ length xs) × (y ≡ x))
+one_more [] y x zero h = inr (refl, cc h)
+one_more [] y x (suc i) h = absurd (cc h)
+one_more (z ∷ xs) y x zero h = inl h
+one_more (z ∷ xs) y x (suc i) h = elim (one_more xs y x i h) [ inl old ↦ inl old | inr new ↦ inr (ap suc new.0, new.1) ]
+
+-- a code that is sound for a table is so for one that goes on
+sound_continues : (names names' : List (List ℕ)) (c : Annotated) → Continues names names' → IsSound names c → IsSound names' c
+sound_continues names names' c (more, is) sound =
+    let size : length names' ≡ length names + length more = ap length is ∙ length-append names more in
+    record {
+      typed = sound.typed;
+      named = record {
+        locals = λ i id at. let low = sound.named.locals i id at in omega (arith, low, size);
+        globals = λ i id at. let low = sound.named.globals i id at in omega (arith, low, size);
+      };
+    }
+
+-- a list that goes on goes on also where that goes on
+continues_on : (a b c : List (List ℕ)) → Continues a b → Continues b c → Continues a c
+continues_on a b c (more, is) (rest, goes) = (more ++ rest, goes ∙ ap (λ l. l ++ rest) is ∙ append_assoc a more rest)
+
+-- so it fits its tree
+fits_continues : (names names' : List (List ℕ)) (c : Annotated) (t : Tree) → Continues names names' → Fits names c t → Fits names' c t
+fits_continues names names' c t grows fits = record {
+  arity = fits.arity;
+  params = params_continue names names' c t grows fits;
+  sound = sound_continues names names' c grows fits.sound;
+  traces = λ table globals objects args ts on. fits.traces table globals objects args ts (continues_on names names' table grows on);
+}
+
+-- no body is compiled yet
+pub none_checked : (names : List (List ℕ)) → AreChecked [] (record { names = names; codes = [] })
+none_checked names = record { count = refl; fit = λ i t none. absurd (cc none) }
+
+-- one more body is compiled, as the table goes on
+pub checked_more : (ts : List Tree) (names names' : List (List ℕ)) (cs : List Annotated) (t : Tree) (c : Annotated) → AreChecked ts (record { names = names; codes = cs })
+    → Continues names names' → Fits names' c t → AreChecked (ts ++ t ∷ []) (record { names = names'; codes = cs ++ c ∷ [] })
+checked_more ts names names' cs t c all grows fits = record {
+  count = length-append cs (c ∷ []) ∙ ap (λ n. n + 1) all.count ∙ sym (length-append ts (t ∷ []));
+  fit = λ i u is. go i u (one_more ts t u i is);
+}
+  where
+    go : (i : ℕ) (u : Tree) → (slice_get ts i ≡ Some u) ⊎ ((i ≡ length ts) × (t ≡ u)) → (d : Annotated) × (slice_get (cs ++ c ∷ []) i ≡ Some d) × Fits names' d u
+    go i u (inl old) = let k = all.fit i u old in (k.0, slice_get_grown cs (c ∷ []) i k.0 k.1, fits_continues names names' k.0 u grows k.2)
+    go i u (inr (at, new)) = (c, ap (slice_get (cs ++ c ∷ [])) (at ∙ sym all.count) ∙ newest cs c, subst (Fits names' c) new fits)
+
+-- what holds of all holds of the first and of the others
+pub first_of_all : {X : Type 0} (P : X → Type 0) (x : X) (xs : List X) → All P (x ∷ xs) → P x
+first_of_all P x xs all = all 0 x (omega arith)
+
+pub others_of_all : {X : Type 0} (P : X → Type 0) (x : X) (xs : List X) → All P (x ∷ xs) → All P xs
+others_of_all P x xs all = λ i y low. all (suc i) y (omega (arith, low))
+
+-- codes that fit with their notes are compiled
+pub checked_compiled : (ts : List Tree) (cs : Checked) → AreChecked ts cs → AreCompiled ts (plain_codes cs)
+checked_compiled ts cs all = record {
+  count = length-map cs.codes (λ (a : Annotated). a.code) ∙ all.count;
+  fit = λ i t at.
+      let k = all.fit i t at in
+      (k.0.code, entry_mapped (λ (a : Annotated). a.code) cs.codes i k.0 k.1, (k.0.notes, k.2));
+}
+
+-- what is at a place of a list is at that of one as long
+at_place : {A B : Type 0} (xs : List A) (ys : List B) (i : ℕ) (x : A) → length xs ≡ length ys → slice_get xs i ≡ Some x → (y : B) × (slice_get ys i ≡ Some y)
+at_place [] ys i x same is = absurd (cc is)
+at_place (x ∷ xs) [] i z same is = absurd (cc same)
+at_place (x ∷ xs) (y ∷ ys) zero z same is = (y, refl)
+at_place (x ∷ xs) (y ∷ ys) (suc i) z same is = at_place xs ys i z (let less : length xs ≡ length ys = cc same in less) is
+
+-- an entry of a list that is mapped
+mapped_entry : {A B : Type 0} (f : A → B) (xs : List A) (i : ℕ) (y : B) → slice_get (map f xs) i ≡ Some y → (x : A) × (slice_get xs i ≡ Some x) × (f x ≡ y)
+mapped_entry f [] i y is = absurd (cc is)
+mapped_entry f (x ∷ xs) zero y is = (x, refl, cc is)
+mapped_entry f (x ∷ xs) (suc i) y is = mapped_entry f xs i y is
+
+-- each code fits the body at its place
+code_fits : (ts : List Tree) (cs : Checked) (i : ℕ) (c : Annotated) → AreChecked ts cs → slice_get cs.codes i ≡ Some c → (t : Tree) × (slice_get ts i ≡ Some t) × Fits cs.names c t
+code_fits ts cs i c all is =
+    let (t, at) = at_place cs.codes ts i c all.count is in
+    let (d, here, fits) = all.fit i t at in
+    let same : Some d ≡ Some c = sym here ∙ is in
+    (t, at, subst (λ (x : Annotated). Fits cs.names x t) (let e : d ≡ c = cc same in e) fits)
+
+-- the names of each code are in the table
+pub codes_named : (ts : List Tree) (cs : Checked) → AreChecked ts cs → All (λ (code : Annotated). AreNames cs.names code.code) cs.codes
+codes_named ts cs all i c low =
+    let fits = code_fits ts cs i (get_or cs.codes i c) all (slice_get-get_or cs.codes i c low) in
+    fits.2.sound.named
+
+-- the signatures of the codes are those of the bodies
+pub codes_signed : (ts : List Tree) (cs : Checked) → AreChecked ts cs → AreSigned (signatures_of cs) (map signature_of ts)
+codes_signed ts cs all i s is =
+    let (c, at, signs) = mapped_entry (signature_in cs.names) cs.codes i s is in
+    let (t, here, fits) = code_fits ts cs i c all at in
+    let same : signature_of t ≡ signature_in cs.names c = ap (λ (xs : List Name). let k : Signature = record { params = xs } in k) (sym fits.params) in
+    entry_mapped signature_of ts i t here ∙ ap Some (same ∙ signs)
+
+-- the body of a signature
+pub signed_by_body : (ts : List Tree) (i : ℕ) (s : Signature) → slice_get (map signature_of ts) i ≡ Some s → (t : Tree) × (slice_get ts i ≡ Some t) × (s.params ≡ t.params)
+signed_by_body ts i s is =
+    let (t, at, signs) = mapped_entry signature_of ts i s is in
+    (t, at, ap (λ (k : Signature). k.params) (sym signs))
+
+entries_more_from : (i : ℕ) (ts : List Tree) (t : Tree) → function_entries i (ts ++ t ∷ []) ≡ function_entries i ts ++ payload.Function (record { name = t.name; code = i + length ts }) ∷ []
+entries_more_from i [] t = ap (λ n. payload.Function (record { name = t.name; code = n }) ∷ []) (let e : i ≡ i + 0 = omega arith in e)
+entries_more_from i (s ∷ ts) t =
+    ap (λ l. payload.Function (record { name = s.name; code = i }) ∷ l)
+    (entries_more_from (suc i) ts t ∙ ap (λ n. function_entries (suc i) ts ++ payload.Function (record { name = t.name; code = n }) ∷ []) (let e : suc i + length ts ≡ i + suc (length ts) = omega arith in e))
+
+pub entries_more : (ts : List Tree) (t : Tree) (n : ℕ) → n ≡ length ts → function_entries 0 (ts ++ t ∷ []) ≡ function_entries 0 ts ++ payload.Function (record { name = t.name; code = n }) ∷ []
+entries_more ts t n same = entries_more_from 0 ts t ∙ ap (λ k. function_entries 0 ts ++ payload.Function (record { name = t.name; code = k }) ∷ []) (let e : 0 + length ts ≡ n = omega (arith, same) in e)
+
+pub numbers_more : (n : ℕ) (vs : List Obj) (v : Obj) → AllBelow n (numbers vs) → v.number < n → AllBelow n (numbers (vs ++ v ∷ []))
+numbers_more n [] v below low = (low, tt)
+numbers_more n (w ∷ vs) v below low = (below.0, numbers_more n vs v below.1 low)
+
+-- one more entry behind those of a list's front
+pub next_entry : (first : List Payload) (ds : List Declaration) (i : ℕ) (d : Declaration) (objects : List Payload) → i < length ds → d ≡ get_or ds i d → objects ≡ first ++ function_entries 0 (map declared_tree (take i ds))
+    → objects ++ payload.Function (record { name = (declared_tree d).name; code = i }) ∷ [] ≡ first ++ function_entries 0 (map declared_tree (take (i + 1) ds))
+next_entry first ds i d objects low is before =
+    let front = map declared_tree (take i ds) in
+    let new : List Payload = payload.Function (record { name = (declared_tree d).name; code = i }) ∷ [] in
+    ap (λ os. os ++ new) before ∙ (append_assoc first (function_entries 0 front) new
+    ∙ ap (λ es. first ++ es) (sym (ap (function_entries 0) (front_more declared_tree ds i d low is) ∙ entries_more front (declared_tree d) i (sym (front_length declared_tree ds i low)))))

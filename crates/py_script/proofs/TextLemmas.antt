@@ -1,0 +1,45 @@
+-- The objects at an event, by those in front of it and the changes that come due.
+use Rattle.std.proofs.Common.{◌≡◌, ◌+◌, ℕ, Bool, true, false, List, [], ◌∷◌, ◌++◌, refl, ap, arith}
+use Rattle.std.specs.Prelude.{◌||◌, filter, flat_map, nat_eq, nat_le, nat_lt}
+use Rattle.std.specs.List.{list_any}
+use Rattle.py_objects.specs.declared.edit.Change.{Change}
+use Rattle.py_objects.specs.declared.payload.Payload.{Payload}
+use Rattle.py_objects.specs.Edits.{changed_by, store_at}
+use Rattle.py_objects.specs.declared.event.Event.{Event}
+use Rattle.py_script.specs.Text.{event_text, events_text, text_from}
+use Rattle.py_script.specs.Writing.{store_before}
+
+neither : (a b : Bool) → (a || b) ≡ false → (a ≡ false) × (b ≡ false)
+neither false b none = (refl, none)
+neither true b none = absurd cc
+
+apart : (a k : ℕ) → nat_eq a k ≡ false → nat_lt a k ≡ nat_le a k
+apart a k other = grind arith
+
+-- where none comes due, those of earlier events are those up to this one
+none_due : (k : ℕ) (cs : List Change) → list_any (λ c. nat_eq c.after k) cs ≡ false → filter (λ c. nat_lt c.after k) cs ≡ filter (λ c. nat_le c.after k) cs
+none_due k [] none = refl
+none_due k (c ∷ cs) none =
+    let each = neither (nat_eq c.after k) (list_any (λ d. nat_eq d.after k) cs) none in
+    rw (apart c.after k each.0, none_due k cs each.1) refl
+
+pub store_stays : (made : List Payload) (cs : List Change) (k : ℕ) → list_any (λ c. nat_eq c.after k) cs ≡ false → store_before made cs k ≡ store_at made cs k
+store_stays made cs k none = ap (changed_by made) (none_due k cs none)
+
+none_lower : (a : ℕ) → nat_lt a 0 ≡ false
+none_lower a = grind arith
+
+pub none_before : (made : List Payload) (cs : List Change) → store_before made cs 0 ≡ made
+none_before made [] = refl
+none_before made (c ∷ cs) = rw (none_lower c.after) (none_before made cs)
+
+-- what is written of events by objects that never change
+abbrev pub plain_text : List Payload → List Event → List ℕ
+plain_text objects events = flat_map (event_text objects) events
+
+pub unchanged_from : (objects : List Payload) (k : ℕ) (events : List Event) → text_from objects [] k events ≡ plain_text objects events
+unchanged_from objects k [] = refl
+unchanged_from objects k (e ∷ es) = ap (λ rest. event_text objects e ++ rest) (unchanged_from objects (k + 1) es)
+
+pub unchanged : (objects : List Payload) (events : List Event) → events_text objects [] events ≡ plain_text objects events
+unchanged objects events = unchanged_from objects 0 events

@@ -1,0 +1,33 @@
+use Rattle.std.proofs.Common.{◌+◌, ◌++◌, ◌∷◌, [], ℕ, List, map, take, sym, subst, arith}
+use Rattle.py_check.specs.declared.annotated.Annotated.{Annotated}
+use Rattle.py_body.specs.Tree.{Tree}
+use Rattle.py_grammar.specs.Script.{declared_tree}
+use Rattle.py_script.specs.Loaded.{AreChecked}
+use Rattle.py_script.proofs.Declarations.{entry_read, front_more, front_whole, none_checked, checked_more}
+use Rattle.py_script.proofs.loading.compile_all.Goals as goal
+
+pub compile_one-requires : goal.compile_one-requires
+compile_one-requires c = c.requires c.loop-declaration.declaration-index (declared_tree c.declaration-item.result)
+    (entry_read declared_tree c.args.declarations.now c.loop-declaration.declaration-index c.declaration-item.result c.loop-declaration-test.true c.declaration-item.is)
+
+pub loop-declaration-init : goal.loop-declaration-init
+loop-declaration-init c = record { checked = rw c.new-codes.ensures.items (none_checked _) }
+
+pub loop-declaration-preserved : goal.loop-declaration-preserved
+loop-declaration-preserved c =
+    let i = c.loop-declaration.declaration-index in
+    let ds = c.args.declarations.now in
+    let front : List Tree = map declared_tree (take i ds) in
+    let names : List (List ℕ) = c.compile_one.new.names in
+    let codes : List Annotated = c.loop-declaration.codes.items in
+    let code = c.in_ok-code.code in
+    let tree = declared_tree c.declaration-item.result in
+    let more = checked_more front c.loop-declaration.names names codes tree code c.loop-declaration.invariant.checked c.compile_one.ensures.grows c.in_ok-code.ensures.fits in
+    record {
+      checked = subst (λ (cs : List Annotated). AreChecked (map declared_tree (take (i + 1) ds)) (record { names = names; codes = cs })) (sym c.in_ok-push.ensures.items)
+          (subst (λ (ts : List Tree). AreChecked ts (record { names = names; codes = codes ++ code ∷ [] })) (sym (front_more declared_tree ds i c.declaration-item.result c.loop-declaration-test.true c.declaration-item.is)) more);
+    }
+
+pub returns : goal.returns
+returns c = subst (λ (ts : List Tree). AreChecked ts (record { names = c.loop-declaration.names; codes = c.loop-declaration.codes.items }))
+    (front_whole declared_tree c.args.declarations.now c.loop-declaration.declaration-index (omega (arith, c.loop-declaration-test.false))) c.loop-declaration.invariant.checked

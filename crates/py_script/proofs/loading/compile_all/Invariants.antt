@@ -1,0 +1,9 @@
+use Rattle.std.proofs.Common.{map, take}
+use Rattle.py_grammar.specs.Script.{declared_tree}
+use Rattle.py_script.specs.Loaded.{AreChecked}
+use Rattle.py_script.proofs.loading.compile_all.Given as goal
+
+abbrev pub invariant-loop-declaration : goal.invariant-loop-declaration
+invariant-loop-declaration l = record {
+  checked : AreChecked (map declared_tree (take l.declaration-index l.declarations)) (record { names = l.names; codes = l.codes.items });
+}

@@ -1,0 +1,19 @@
+use Rattle.std.proofs.Common.{[], List, subst}
+use Rattle.py_objects.specs.declared.event.Event.{Event}
+use Rattle.py_grammar.specs.Script.{trees_of}
+use Rattle.py_vm.specs.Run.{Comes, start}
+use Rattle.py_script.specs.Whole.{plan_of}
+use Rattle.py_script.proofs.worked_answer.worked_answers.Goals as goal
+
+pub returns-clause-some_script : goal.returns-clause-some_script
+returns-clause-some_script c e turns j answer = let (s, is, run, whole, short, codes) = answer.0.claimed in (s, run, whole)
+
+pub returns-clause-at_the_end : goal.returns-clause-at_the_end
+returns-clause-at_the_end c e turns j answer = answer.0.ended
+
+pub returns-clause-no_round_before_a_drive : goal.returns-clause-no_round_before_a_drive
+returns-clause-no_round_before_a_drive c e turns j is answer =
+    let (s, of, run, whole, short, codes) = answer.0.claimed in
+    let r = run.run in
+    let comes = subst (λ (es : List Event). Comes (plan_of (trees_of s) r.asked) j.objects [] start es) is r.run.comes in
+    absurd (cc comes.0.0)

@@ -1,0 +1,185 @@
+//! The declarations of a script in a machine: their codes, their functions, and the dict of their names.
+
+ghost use Rattle.std.specs.Prelude.{false, ◌≡◌, ◌≤◌, ◌<◌, ◌+◌, ◌++◌, ◌∷◌, [], IfOk, OnOk, map, length, All};
+ghost use Rattle.py_objects.specs.declared.payload.Payload.TheVariants.{Dict as DictPayload};
+ghost use Rattle.py_objects.specs.Objects.{HasPayload, declared, pair_numbers, AllBelow};
+ghost use Rattle.py_body.specs.Compilable.{IsCompilable};
+ghost use Rattle.py_body.specs.Fits.{Fits, Continues};
+ghost use Rattle.py_frame.specs.Sound.{AreNames};
+ghost use Rattle.py_grammar.specs.Script.{declared_tree, trees_of};
+ghost use Rattle.py_script.specs.Loaded.{AreChecked, function_entries};
+ghost use Rattle.py_script.specs.Steps.{AllCompilable, IsRunnable};
+ghost use Rattle.py_script.specs.Session.{AreBindings, AreDeclared, HasFunctions, IsLoaded, IsValue, OnlyGrew};
+
+use crate::session::Session;
+use py_body::compile_body;
+use py_check::CheckedCode;
+use py_code::{Names, NoMemory};
+use py_grammar::{Declaration, Script};
+use py_objects::{FunctionBody, ObjList, PairList, Payload, PyObjectRef};
+use py_vm::VirtualMachine;
+use std::alloc::Global;
+
+/// The code of a declaration, whose names go into the table.
+fn compile_one(
+    alloc: Global,
+    names: &mut Names,
+    declaration: &Declaration,
+) -> Result<CheckedCode, NoMemory>
+    requires { IsCompilable (declared_tree declaration.now) }
+    ensures fits { IfOk result (λ code. Fits names.new code (declared_tree declaration.now)) }
+    ensures grows { Continues names.old names.new }
+{
+    let code = match declaration {
+        Declaration::Function(body) => compile_body(alloc, names, body)?,
+    };
+    Ok(CheckedCode::of(code))
+}
+
+/// The codes of the declarations, in order, whose names go into one table.
+fn compile_all(
+    alloc: Global,
+    names: &mut Names,
+    declarations: &[Declaration],
+) -> Result<Vec<CheckedCode>, NoMemory>
+    requires { AllCompilable (map declared_tree declarations.now) }
+    ensures { IfOk result (λ codes. AreChecked (map declared_tree declarations.now) (record { names = names.new; codes = codes.items })) }
+{
+    let mut codes = Vec::new(alloc);
+    for declaration in declarations {
+        let code = compile_one(alloc, names, declaration)?;
+        codes.push(code)?;
+    }
+    Ok(codes)
+}
+
+/// Puts the codes behind those of the machine.
+fn add_codes(vm: &mut VirtualMachine, codes: Vec<CheckedCode>) -> Result<(), NoMemory>
+    requires named { All (λ code. AreNames vm.old.checked.names code.code) codes.items }
+    ensures { OnOk result (vm.new ≡ record vm.old { checked = record vm.old.checked { codes = vm.old.checked.codes ++ codes.items } }) }
+{
+    for code in codes {
+        let Ok(_) = vm.add_code(code) else {
+            return Err(NoMemory);
+        };
+    }
+    Ok(())
+}
+
+/// What an object of a declaration is, whose code has this number.
+fn function_body(
+    alloc: Global,
+    declaration: &Declaration,
+    code: usize,
+) -> Result<FunctionBody, NoMemory>
+    ensures { IfOk result (λ body. body ≡ record { name = (declared_tree declaration.now).name; code = code }) }
+{
+    match declaration {
+        Declaration::Function(body) => Ok(FunctionBody {
+            name: body.name.copy(alloc)?,
+            code,
+        }),
+    }
+}
+
+/// Makes a function of each declaration, whose code is the one at its place.
+fn add_functions(
+    alloc: Global,
+    vm: &mut VirtualMachine,
+    declarations: &[Declaration],
+) -> Result<(), NoMemory>
+    requires coded { length declarations.now ≤ length vm.old.checked.codes }
+    ensures { OnOk result (vm.new ≡ record vm.old { objects = vm.old.objects ++ function_entries 0 (map declared_tree declarations.now) }) }
+{
+    for (code, declaration) in declarations.iter().enumerate() {
+        let body = function_body(alloc, declaration, code)?;
+        let Ok(_) = vm.add_object(Payload::Function(body)) else {
+            return Err(NoMemory);
+        };
+    }
+    Ok(())
+}
+
+/// A new object of a value that names no other.
+pub(crate) fn add_value(vm: &mut VirtualMachine, value: Payload) -> Result<PyObjectRef, NoMemory>
+    requires value { IsValue value }
+    ensures works { OnOk result (vm.new.failed ≡ false) }
+    ensures is { IfOk result (λ object. HasPayload vm.new.objects object value) }
+    ensures below { IfOk result (λ object. object.number < length vm.new.objects) }
+    ensures grew { OnlyGrew vm.old vm.new }
+{
+    match vm.add_object(value) {
+        Ok(object) => Ok(object),
+        Err(_) => Err(NoMemory),
+    }
+}
+
+/// Makes a text of each declaration's name, and pairs it with what is declared under it.
+fn bind_names(
+    alloc: Global,
+    vm: &mut VirtualMachine,
+    declarations: &[Declaration],
+) -> Result<PairList, NoMemory>
+    requires works { vm.old.failed ≡ false }
+    requires declared { AreDeclared vm.old.objects (map declared_tree declarations.now) }
+    ensures works { OnOk result (vm.new.failed ≡ false) }
+    ensures grew { OnOk result (OnlyGrew vm.old vm.new) }
+    ensures bindings { IfOk result (λ pairs. AreBindings vm.new.objects (map declared_tree declarations.now) pairs) }
+{
+    let mut pairs = PairList::new(alloc);
+    for declaration in declarations {
+        let name = declaration.name();
+        let Some(value) = vm.declared(name) else {
+            unreachable!();
+        };
+        let key = add_value(vm, Payload::Str(name.copy(alloc)?))?;
+        pairs.push((key, value))?;
+    }
+    Ok(pairs)
+}
+
+/// Takes a dict of these pairs as that of the globals.
+fn take_globals(vm: &mut VirtualMachine, pairs: PairList) -> Result<(), NoMemory>
+    requires nothing { vm.old.events ≡ [] }
+    requires below { AllBelow (length vm.old.objects) (pair_numbers pairs) }
+    ensures is { OnOk result (HasPayload vm.new.objects vm.new.globals (DictPayload pairs)) }
+    ensures taken { OnOk result (vm.new ≡ record vm.old { objects = vm.old.objects ++ DictPayload pairs ∷ []; globals = vm.new.globals }) }
+{
+    let Ok(globals) = vm.add_object(Payload::Dict(pairs)) else {
+        return Err(NoMemory);
+    };
+    match vm.use_globals(globals) {
+        Ok(()) => Ok(()),
+        Err(_) => Err(NoMemory),
+    }
+}
+
+/// A machine with the codes and the functions of the declarations.
+fn load_functions(alloc: Global, script: &Script) -> Result<VirtualMachine, NoMemory>
+    requires { IsRunnable script.now }
+    ensures { IfOk result (λ vm. HasFunctions (trees_of script.now) vm) }
+{
+    let mut names = Names::new(alloc);
+    let codes = compile_all(alloc, &mut names, script.declarations.as_slice())?;
+    let mut vm = VirtualMachine::new(alloc, names)?;
+    add_codes(&mut vm, codes)?;
+    add_functions(alloc, &mut vm, script.declarations.as_slice())?;
+    // It holds what every machine does.
+    let _objects = vm.store();
+    Ok(vm)
+}
+
+/// A machine that holds the declarations of the script, with the dict of their names as its globals.
+pub(crate) fn load_script(alloc: Global, script: &Script) -> Result<Session, NoMemory>
+    requires { IsRunnable script.now }
+    ensures { IfOk result (λ session. IsLoaded (trees_of script.now) session) }
+{
+    let mut vm = load_functions(alloc, script)?;
+    let pairs = bind_names(alloc, &mut vm, script.declarations.as_slice())?;
+    take_globals(&mut vm, pairs)?;
+    Ok(Session {
+        alloc,
+        vm,
+        values: ObjList::new(alloc),
+    })
+}

@@ -1,0 +1,17 @@
+//! What answers of the top call were worked out to say, whatever the source tells.
+
+ghost use Rattle.std.specs.Prelude.{◌≡◌, ℕ, [], ◌∷◌, Ok, IsTrue};
+ghost use Rattle.py_objects.specs.declared.event.Event.TheVariants as event;
+ghost use Rattle.py_grammar.specs.declared.script.Script.{Script};
+ghost use Rattle.py_vm.specs.declared.journal.Journal.{Journal};
+ghost use Rattle.py_script.specs.Whole.{IsRun, IsWhole};
+ghost use Rattle.py_script.specs.Causes.{Ends, IsAnswer};
+
+/// A run that is answered as whole is one of some script, also where the source tells no bytes, and comes only once the source
+/// has told its end.
+pub fn worked_answers()
+    ensures some_script { (e : Ends) → (turns : ℕ) → (j : Journal) → IsAnswer e turns (Ok j) → (s : Script) × IsRun s j × IsWhole s j }
+    ensures at_the_end { (e : Ends) → (turns : ℕ) → (j : Journal) → IsAnswer e turns (Ok j) → IsTrue e.at_end' }
+    // A journal that no script has.
+    ensures no_round_before_a_drive { (e : Ends) → (turns : ℕ) → (j : Journal) → j.events ≡ event.Round 1 0 ∷ [] → IsAnswer e turns (Ok j) → ⊥ }
+{}
