@@ -1,0 +1,130 @@
+//! Running rows, and telling which of them differ.
+
+ghost use Rattle.std.specs.Prelude.{◌≤◌};
+
+use crate::outcome::{found, wanted};
+use crate::row::Row;
+use crate::run::{run_row, words_of};
+use py_code::NoMemory;
+use py_script::Words;
+use std::alloc::Global;
+
+/// What is told of rows, and how many passed.
+#[derive(Drop)]
+pub(crate) struct Report {
+    alloc: Global,
+    /// Whether what came of each row is told.
+    shows: bool,
+    lines: Vec<u8>,
+    passed: u64,
+    differ: bool,
+}
+
+/// Runs the rows, or those that have the word in their names, of which all is told that came.
+pub(crate) fn run_rows(
+    alloc: Global,
+    rows: &[Row],
+    word: Option<&str>,
+) -> Result<Report, NoMemory> {
+    let mut report = Report {
+        alloc,
+        shows: word.is_some(),
+        lines: Vec::new(alloc),
+        passed: 0,
+        differ: false,
+    };
+    let word = word.unwrap_or("");
+    for row in rows {
+        if row.name.contains(word) {
+            report.check(row)?;
+        }
+    }
+    let last = format!(in alloc; "{} rows passed\n", report.passed)?;
+    report.lines.extend_from_slice(last.as_bytes())?;
+    Ok(report)
+}
+
+impl Report {
+    /// What is told, as lines.
+    pub(crate) fn lines(&self) -> &[u8] {
+        self.lines.as_slice()
+    }
+
+    /// 0 where no row differs, else 1.
+    pub(crate) fn status(&self) -> u8 {
+        u8::from(self.differ)
+    }
+
+    /// Runs a row, or one row for each number of turns.
+    fn check(&mut self, row: &Row) -> Result<(), NoMemory> {
+        let Some(most) = row.turns else {
+            let words = words_of(self.alloc, row.words.as_str())?;
+            return self.check_words(row, &words, row.status.as_str(), u64::MAX);
+        };
+        for turns in 0..=most {
+            let words = format!(in self.alloc; "run {turns}")?;
+            let status = if turns < row.last_event() {
+                "4 out of turns"
+            } else {
+                row.status.as_str()
+            };
+            let words = words_of(self.alloc, words.as_str())?;
+            self.check_words(row, &words, status, turns)?;
+        }
+        Ok(())
+    }
+
+    /// Runs a row with these words: all bytes at once and then a byte a call, or as the row says.
+    fn check_words(
+        &mut self,
+        row: &Row,
+        words: &Words,
+        status: &str,
+        events: u64,
+    ) -> Result<(), NoMemory> {
+        let lines = wanted(self.alloc, row, status, events)?;
+        let same = match row.most {
+            Some(most) => self.is_same(row, words, most.max(1), &lines)?,
+            None => {
+                let at_once = self.is_same(row, words, usize::MAX, &lines)?;
+                at_once && self.is_same(row, words, 1, &lines)?
+            }
+        };
+        if same {
+            self.passed = self.passed.saturating_add(1);
+        } else {
+            self.differ = true;
+        }
+        Ok(())
+    }
+
+    /// Whether what came of a row is what must come. What differs is told.
+    fn is_same(
+        &mut self,
+        row: &Row,
+        words: &Words,
+        most: usize,
+        lines: &Vec<u8>,
+    ) -> Result<bool, NoMemory>
+        requires { 1 ≤ most }
+    {
+        let came = run_row(self.alloc, row, words, most)?;
+        let came = found(self.alloc, row, &came)?;
+        let same = came.as_slice() == lines.as_slice();
+        if !same {
+            self.tell(row, "must come", lines)?;
+        }
+        if !same || self.shows {
+            self.tell(row, "came", &came)?;
+        }
+        Ok(same)
+    }
+
+    /// Tells lines of a row.
+    fn tell(&mut self, row: &Row, what: &str, lines: &Vec<u8>) -> Result<(), NoMemory> {
+        let heading = format!(in self.alloc; "== {}, {what}\n", row.name.as_str())?;
+        self.lines.extend_from_slice(heading.as_bytes())?;
+        self.lines.extend_from_slice(lines.as_slice())?;
+        Ok(())
+    }
+}
