@@ -1,0 +1,87 @@
+//! A machine that a host holds, with one function.
+
+ghost use Rattle.std.specs.Prelude.{◌<◌, length, IfOk, OnOk};
+ghost use Rattle.py_body.specs.Binding.{IsCompilable};
+ghost use Rattle.py_body.specs.Tree.{tree_of};
+ghost use Rattle.worked_host.specs.Host.{IsReady};
+
+use crate::fault::HostFault;
+use py_body::{Body, compile_body};
+use py_check::CheckedCode;
+use py_code::{Names, text_of_str};
+use py_objects::{DriveAnswer, FunctionBody, ObjList, Payload, PyObjectRef};
+use py_vm::{Drive, Journal, VirtualMachine};
+use std::alloc::Global;
+
+/// A machine with one function, which is bound to its name.
+#[derive(Drop)]
+pub(crate) struct Host {
+    pub(crate) alloc: Global,
+    pub(crate) vm: VirtualMachine,
+    pub(crate) function: PyObjectRef,
+}
+
+impl Host {
+    /// A machine that holds the function of a body.
+    pub(crate) fn load(alloc: Global, body: &Body) -> Result<Host, HostFault>
+        requires { IsCompilable (tree_of body.now) }
+        ensures { IfOk result IsReady }
+    {
+        let mut names = Names::new(alloc);
+        let code = compile_body(alloc, &mut names, body)?;
+        let mut vm = VirtualMachine::new(alloc, names)?;
+        let code = vm.add_code(CheckedCode::of(code))?;
+        let name = body.name.copy(alloc)?;
+        let function = vm.add_object(Payload::Function(FunctionBody { name, code }))?;
+        vm.set_global(vm.globals(), "down", function)?;
+        Ok(Host {
+            alloc,
+            vm,
+            function,
+        })
+    }
+
+    /// A new number.
+    pub(crate) fn number(&mut self, number: i128) -> Result<PyObjectRef, HostFault>
+        requires { IsReady self.old }
+        ensures ready { OnOk result (IsReady self.new) }
+        ensures there { IfOk result (λ object. object.number < length self.new.vm.objects) }
+    {
+        Ok(self.vm.add_object(Payload::Int(number))?)
+    }
+
+    /// A new text.
+    pub(crate) fn text(&mut self, text: &str) -> Result<PyObjectRef, HostFault>
+        requires { IsReady self.old }
+        ensures ready { OnOk result (IsReady self.new) }
+        ensures there { IfOk result (λ object. object.number < length self.new.vm.objects) }
+    {
+        let text = text_of_str(self.alloc, text)?;
+        Ok(self.vm.add_object(Payload::Str(text))?)
+    }
+
+    /// Calls the function with an object, in at most so many turns.
+    pub(crate) fn call(
+        &mut self,
+        argument: PyObjectRef,
+        turns: u64,
+    ) -> Result<DriveAnswer, HostFault>
+        requires ready { IsReady self.old }
+        requires there { argument.number < length self.old.vm.objects }
+        ensures { OnOk result (IsReady self.new) }
+    {
+        let mut args = ObjList::new(self.alloc);
+        args.push(argument)?;
+        Ok(self.vm.drive(&Drive::Call(self.function, args), turns)?)
+    }
+
+    /// All that happened.
+    pub(crate) fn finish(self) -> Journal {
+        let Host {
+            alloc: _,
+            vm,
+            function: _,
+        } = self;
+        vm.journal()
+    }
+}
