@@ -1,8 +1,8 @@
 //! A function as a tree, made by hand.
 
 ghost use Rattle.std.specs.Prelude.{◌≡◌, IfOk, length};
-ghost use Rattle.py_body.specs.Binding.{FormTakes, IsCompilable, SuiteTakes, statements, statements_in};
-ghost use Rattle.py_body.specs.Tree.{form_of, suite_of, tree_of};
+ghost use Rattle.py_body.specs.Compilable.{IsCompilable, SuiteTakes, statements};
+ghost use Rattle.py_body.specs.Tree.{suite_of, tree_of};
 
 use py_body::{Atom, AtomList, Body, Operator, ParamList, Stmt, StmtForm, StmtList};
 use py_code::{NoMemory, PyText, text_of};

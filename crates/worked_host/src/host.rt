@@ -1,7 +1,7 @@
 //! A machine that a host holds, with one function.
 
 ghost use Rattle.std.specs.Prelude.{◌<◌, length, IfOk, OnOk};
-ghost use Rattle.py_body.specs.Binding.{IsCompilable};
+ghost use Rattle.py_body.specs.Compilable.{IsCompilable};
 ghost use Rattle.py_body.specs.Tree.{tree_of};
 ghost use Rattle.worked_host.specs.Host.{IsReady};
 
