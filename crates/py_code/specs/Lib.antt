@@ -12,3 +12,5 @@ pub mod Literals
 pub mod Names
 -- codes with the names that they use
 pub mod Codes
+-- texts that grow
+pub mod Texts

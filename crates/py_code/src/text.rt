@@ -1,7 +1,8 @@
 //! Texts: lists of characters, made of bytes and strings, grown at their end, and written in UTF-8.
 
-ghost use Rattle.std.specs.Prelude.{◌≡◌, ◌++◌, IfOk, OnOk, bytes_eq, chars, decimal, encode_utf8, encode_utf8_all, string_bytes};
+ghost use Rattle.std.specs.Prelude.{◌≡◌, ◌++◌, IfOk, OnOk, OnErr, bytes_eq, chars, decimal, encode_utf8, encode_utf8_all, string_bytes};
 ghost use Rattle.std.specs.Char.{IsScalar};
+ghost use Rattle.py_code.specs.Texts.{IsGrown};
 
 use crate::list::{ItemList, NoMemory};
 use std::alloc::Global;
@@ -33,9 +34,10 @@ pub fn text_of_str(alloc: Global, string: &str) -> Result<PyText, NoMemory>
     Ok(PyText::of(characters))
 }
 
-/// Puts a text behind another.
+/// Puts a text behind another. Without memory a front of it may be there.
 pub fn push_text(text: &mut PyText, more: &PyText) -> Result<(), NoMemory>
-    ensures { OnOk result (text.new ≡ text.old ++ more.now) }
+    ensures added { OnOk result (text.new ≡ text.old ++ more.now) }
+    ensures err { OnErr result (IsGrown text.old text.new) }
 {
     for character in more.as_slice() {
         text.push(*character)?;
@@ -43,9 +45,10 @@ pub fn push_text(text: &mut PyText, more: &PyText) -> Result<(), NoMemory>
     Ok(())
 }
 
-/// Puts bytes, each of which is one character, behind a text.
+/// Puts bytes, each of which is one character, behind a text. Without memory a front of them may be there.
 pub fn push_bytes(text: &mut PyText, more: &[u8]) -> Result<(), NoMemory>
-    ensures { OnOk result (text.new ≡ text.old ++ more.now) }
+    ensures added { OnOk result (text.new ≡ text.old ++ more.now) }
+    ensures err { OnErr result (IsGrown text.old text.new) }
 {
     for byte in more {
         text.push(char::from(*byte))?;
@@ -53,9 +56,10 @@ pub fn push_bytes(text: &mut PyText, more: &[u8]) -> Result<(), NoMemory>
     Ok(())
 }
 
-/// Puts the decimal digits of a number behind a text.
+/// Puts the decimal digits of a number behind a text. Without memory a front of them may be there.
 pub fn push_decimal(text: &mut PyText, number: usize) -> Result<(), NoMemory>
-    ensures { OnOk result (text.new ≡ text.old ++ decimal number) }
+    ensures added { OnOk result (text.new ≡ text.old ++ decimal number) }
+    ensures err { OnErr result (IsGrown text.old text.new) }
 {
     let mut digits = String::new(text.allocator());
     write!(digits, "{number}")?;
@@ -72,10 +76,11 @@ pub fn utf8_of(alloc: Global, text: &PyText) -> Result<String, NoMemory>
     Ok(string)
 }
 
-/// Puts a text behind a string, in UTF-8.
+/// Puts a text behind a string, in UTF-8. Without memory a front of it may be there.
 pub fn push_utf8(string: &mut String, text: &PyText) -> Result<(), NoMemory>
     ensures text { OnOk result (string_bytes string.new ≡ string_bytes string.old ++ encode_utf8_all text.now) }
     ensures spells { OnOk result (chars (encode_utf8_all text.now) ≡ text.now) }
+    ensures err { OnErr result (IsGrown (string_bytes string.old) (string_bytes string.new)) }
 {
     for character in text.as_slice() {
         push_character(string, *character)?;
@@ -87,6 +92,7 @@ pub fn push_utf8(string: &mut String, text: &PyText) -> Result<(), NoMemory>
 fn push_character(string: &mut String, character: char) -> Result<(), NoMemory>
     ensures text { OnOk result (string_bytes string.new ≡ string_bytes string.old ++ encode_utf8 character) }
     ensures scalar { IsScalar character }
+    ensures err { OnErr result (string_bytes string.new ≡ string_bytes string.old) }
 {
     string.push(character)?;
     Ok(())

@@ -51,10 +51,19 @@ edited_pairs objects _ ps = ps
 
 -- a payload after an edit; one that the edit doesn't fit stays
 abbrev pub edited : List Payload → Edit → Payload → Payload
+edited objects x payload.None = payload.None
+edited objects x (payload.Bool b) = payload.Bool b
+edited objects x (payload.Int n) = payload.Int n
+edited objects x (payload.Str s) = payload.Str s
+edited objects x (payload.Tuple vs) = payload.Tuple vs
 edited objects x (payload.Dict ps) = payload.Dict (edited_pairs objects x ps)
+edited objects x (payload.Class c) = payload.Class c
+edited objects x (payload.Function f) = payload.Function f
+edited objects x (payload.Manager m) = payload.Manager m
+edited objects x (payload.Frame c) = payload.Frame c
+edited objects x (payload.Generator g) = payload.Generator g
 edited objects x (payload.Exception e) = payload.Exception (edited_exception x e)
 edited objects x (payload.Traceback t) = payload.Traceback (edited_traceback x t)
-edited objects x p = p
 
 -- an entry after an edit, where there is one
 abbrev pub edited_entry : List Payload → Edit → ℕ → Option Payload → List Payload

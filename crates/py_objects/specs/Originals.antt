@@ -12,10 +12,19 @@ use Rattle.py_objects.specs.Edits.{EditFits, FitsException, FitsTraceback, edit_
 
 -- whether some edit fits a payload of this kind
 abbrev pub may_change : Payload → Bool
+may_change payload.None = false
+may_change (payload.Bool b) = false
+may_change (payload.Int n) = false
+may_change (payload.Str s) = false
+may_change (payload.Tuple vs) = false
 may_change (payload.Dict ps) = true
+may_change (payload.Class c) = false
+may_change (payload.Function f) = false
+may_change (payload.Manager m) = false
+may_change (payload.Frame c) = false
+may_change (payload.Generator g) = false
 may_change (payload.Exception e) = true
 may_change (payload.Traceback t) = true
-may_change _ = false
 
 -- a payload, where it may change
 abbrev pub original_of : Payload → Option Payload

@@ -1,6 +1,6 @@
 //! Reading a source to its end.
 
-ghost use Rattle.std.specs.Prelude.{◌≡◌, ◌==◌, ◌+◌, ◌-◌, ◌^◌, ◌<◌, ◌≤◌, length, vec_len, IfOk, OnOk, OnErr, IfSome, IsErrOf, IsTrue};
+ghost use Rattle.std.specs.Prelude.{◌≡◌, ◌==◌, ◌+◌, ◌-◌, ◌^◌, ◌<◌, ◌≤◌, length, vec_len, IfOk, OnOk, OnErr, IfSome, IsErrOf, IsTrue, false};
 ghost use Rattle.py_outside.specs.Faults.{Rose};
 ghost use Rattle.py_outside.specs.Reading.{Takes, HasRead, LosesUpTo, IsCounted, IsUntouched};
 ghost use Rattle.py_outside.specs.declared.reading.ReadError.TheVariants.{NoMemory};
@@ -66,8 +66,9 @@ pub fn read_bytes<S: Source>(alloc: Global, source: &mut S) -> Result<Vec<u8>, R
     ensures err { OnErr result (LosesUpTo (S.left source.old) (S.left source.new) (2 ^ 20 + 1)) }
     ensures long { IsErrOf result ReadError.TooLong → IfSome (S.left source.old) (λ all. 2 ^ 20 < length all) }
 
-    // The source has told its end.
+    // The source has told its end, and where it is too long its last read gave more.
     ensures end { OnOk result (IsTrue (S.at_end source.new)) }
+    ensures more { IsErrOf result ReadError.TooLong → S.at_end source.new ≡ false }
     // Faults are counted by the source alone, and no read failed without an answer that says so.
     ensures fault { IsErrOf result ReadError.Fault → Rose (S.faults source.old) (S.faults source.new) }
     ensures later { S.faults source.old ≤ S.faults source.new }
