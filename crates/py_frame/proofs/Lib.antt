@@ -32,5 +32,3 @@ mod Loading
 mod Later
 -- steps of the code as steps of a run
 pub mod Stepping
--- small codes that frames can run
-mod WorkedLemmas
