@@ -50,5 +50,3 @@ pub mod TypingRules
 pub mod TypedCode
 -- code laid for a body fits it
 pub mod Fitting
--- the bodies of the tests
-pub mod Samples
