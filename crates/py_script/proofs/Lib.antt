@@ -9,8 +9,6 @@ pub mod Declarations
 pub mod Driven
 pub mod Loaded
 pub mod Ran
--- the words of a command line
-mod Turns
 -- what was read
 pub mod Reading
 -- what a run answers

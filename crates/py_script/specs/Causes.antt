@@ -1,5 +1,5 @@
 -- When each answer of the top call comes, and what it hands back, writes and notes.
-use Rattle.std.specs.Prelude.{ℕ, ◌<◌, ◌≤◌, ◌^◌, ◌⊎◌, List, [], ◌++◌, Bool, IsTrue, Option, IfSome, ◌≡◌, length, codes, decimal, Result, Ok, Err}
+use Rattle.std.specs.Prelude.{ℕ, ◌<◌, ◌≤◌, ◌^◌, ◌⊎◌, List, [], ◌++◌, Bool, false, IsTrue, Option, IfSome, ◌≡◌, length, codes, decimal, Result, Ok, Err}
 use Rattle.std.specs.Io.KnownBytes.{Appends, Keeps, IsAtEnd}
 use Rattle.py_outside.specs.Faults.{Rose}
 use Rattle.py_outside.specs.Transfer.{AppendsFront}
@@ -19,13 +19,13 @@ use Rattle.py_script.specs.Text.{text_of}
 pub record Ends : Type 0 where
   pub left : Option (List ℕ)
   pub left' : Option (List ℕ)
-  pub reads : ℕ
-  pub reads' : ℕ
+  pub read_faults : ℕ
+  pub read_faults' : ℕ
   pub at_end' : Bool
   pub taken : Option (List ℕ)
   pub taken' : Option (List ℕ)
-  pub writes : ℕ
-  pub writes' : ℕ
+  pub write_faults : ℕ
+  pub write_faults' : ℕ
 
 -- what was read: at most 2^20 bytes, all that the source had left where it tells them, and then its end
 pub record WasRead (left left' : Option (List ℕ)) (at_end' : Bool) (claim : List ℕ → Type 0) : Type 0 where
@@ -43,10 +43,10 @@ Read e claim = WasRead e.left e.left' e.at_end' claim
 -- when a run of at most so many turns answers what it does
 abbrev pub IsAnswer : Ends → ℕ → Result Journal ScriptFault → Type 0
 IsAnswer e turns (Ok j) = Read e (λ bytes. IsWholeRun bytes turns j) × Appends e.taken e.taken' (text_of j)
-IsAnswer e turns (Err fault.ReadFault) = Rose e.reads e.reads' × Keeps e.taken e.taken'
+IsAnswer e turns (Err fault.ReadFault) = Rose e.read_faults e.read_faults' × Keeps e.taken e.taken'
 IsAnswer e turns (Err (fault.WriteFault j)) =
-    Rose e.writes e.writes' × Read e (λ bytes. IsWholeRun bytes turns j ⊎ IsCutRun bytes turns j) × AppendsFront e.taken e.taken' (text_of j)
-IsAnswer e turns (Err fault.TooLong) = IfSome e.left (λ bytes. 2 ^ 20 < length bytes) × (e.reads' ≡ e.reads) × Keeps e.taken e.taken'
+    Rose e.write_faults e.write_faults' × Read e (λ bytes. IsWholeRun bytes turns j ⊎ IsCutRun bytes turns j) × AppendsFront e.taken e.taken' (text_of j)
+IsAnswer e turns (Err fault.TooLong) = IfSome e.left (λ bytes. 2 ^ 20 < length bytes) × (e.read_faults' ≡ e.read_faults) × (e.at_end' ≡ false) × Keeps e.taken e.taken'
 IsAnswer e turns (Err (fault.Malformed line)) = Read e (λ bytes. IsBadLine bytes line) × Keeps e.taken e.taken'
 IsAnswer e turns (Err (fault.Refused code at)) = ⊥
 IsAnswer e turns (Err (fault.OutOfTurns j)) = Read e (λ bytes. IsCutRun bytes turns j) × Appends e.taken e.taken' (text_of j)

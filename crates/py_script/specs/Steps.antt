@@ -42,7 +42,7 @@ abbrev pub IsReading : Option (List ℕ) → Option (List ℕ) → Bool → ℕ 
 IsReading left left' at_end' faults faults' (Ok s) = WasRead left left' at_end' (λ bytes. IsScript bytes s)
 IsReading left left' at_end' faults faults' (Err fault.ReadFault) = Rose faults faults'
 IsReading left left' at_end' faults faults' (Err (fault.WriteFault j)) = ⊥
-IsReading left left' at_end' faults faults' (Err fault.TooLong) = IfSome left (λ bytes. 2 ^ 20 < length bytes) × (faults' ≡ faults)
+IsReading left left' at_end' faults faults' (Err fault.TooLong) = IfSome left (λ bytes. 2 ^ 20 < length bytes) × (faults' ≡ faults) × (at_end' ≡ false)
 IsReading left left' at_end' faults faults' (Err (fault.Malformed line)) = WasRead left left' at_end' (λ bytes. IsBadLine bytes line)
 IsReading left left' at_end' faults faults' (Err (fault.Refused code at)) = ⊥
 IsReading left left' at_end' faults faults' (Err (fault.OutOfTurns j)) = ⊥

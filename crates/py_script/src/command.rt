@@ -23,7 +23,7 @@ pub fn run_script<S: Source, K: Sink>(
     sink: &mut K,
     turns: u64,
 ) -> Result<Journal, ScriptFault>
-    ensures answer { IsAnswer (record { left = S.left source.old; left' = S.left source.new; reads = S.faults source.old; reads' = S.faults source.new; at_end' = S.at_end source.new; taken = K.taken sink.old; taken' = K.taken sink.new; writes = K.faults sink.old; writes' = K.faults sink.new }) turns result }
+    ensures answer { IsAnswer (record { left = S.left source.old; left' = S.left source.new; read_faults = S.faults source.old; read_faults' = S.faults source.new; at_end' = S.at_end source.new; taken = K.taken sink.old; taken' = K.taken sink.new; write_faults = K.faults sink.old; write_faults' = K.faults sink.new }) turns result }
     ensures reads { S.reads source.new ≤ S.reads source.old + (2 ^ 20 + 1) }
 {
     let script = read_script(alloc, source)?;
@@ -72,7 +72,7 @@ fn result_of<S: Source, K: Sink>(
     source: &mut S,
     sink: &mut K,
 ) -> CommandResult
-    ensures ending { IsEnding (record { left = S.left source.old; left' = S.left source.new; reads = S.faults source.old; reads' = S.faults source.new; at_end' = S.at_end source.new; taken = K.taken sink.old; taken' = K.taken sink.new; writes = K.faults sink.old; writes' = K.faults sink.new }) words.now result }
+    ensures ending { IsEnding (record { left = S.left source.old; left' = S.left source.new; read_faults = S.faults source.old; read_faults' = S.faults source.new; at_end' = S.at_end source.new; taken = K.taken sink.old; taken' = K.taken sink.new; write_faults = K.faults sink.old; write_faults' = K.faults sink.new }) words.now result }
     ensures reads { S.reads source.new ≤ S.reads source.old + (2 ^ 20 + 1) }
 {
     match command_of(words) {
@@ -93,7 +93,7 @@ pub fn run_command<S: Source, K: Sink, N: Sink>(
     notes: &mut N,
 ) -> Ended
     ensures status { result.status ≡ status_in result.result }
-    ensures ending { IsEnding (record { left = S.left source.old; left' = S.left source.new; reads = S.faults source.old; reads' = S.faults source.new; at_end' = S.at_end source.new; taken = K.taken sink.old; taken' = K.taken sink.new; writes = K.faults sink.old; writes' = K.faults sink.new }) words.now result.result }
+    ensures ending { IsEnding (record { left = S.left source.old; left' = S.left source.new; read_faults = S.faults source.old; read_faults' = S.faults source.new; at_end' = S.at_end source.new; taken = K.taken sink.old; taken' = K.taken sink.new; write_faults = K.faults sink.old; write_faults' = K.faults sink.new }) words.now result.result }
     ensures note { Appends (N.taken notes.old) (N.taken notes.new) (note_in result.result) ⊎ Rose (N.faults notes.old) (N.faults notes.new) }
     ensures reads { S.reads source.new ≤ S.reads source.old + (2 ^ 20 + 1) }
 {

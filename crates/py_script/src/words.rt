@@ -1,9 +1,11 @@
 //! The words of a command line, and what they ask for.
 
 ghost use Rattle.std.specs.Prelude.{◌≡◌, [], ◌∷◌, ◌++◌, length, slice_get, option_copied, OnOk, OnErr};
-ghost use Rattle.py_script.specs.Words.{turns_in, run_of, command_in};
+ghost use Rattle.py_grammar.specs.Words.{short_number as turns_spelled};
+ghost use Rattle.py_script.specs.Words.{run_of, command_in};
 
 use py_code::NoMemory;
+use py_grammar::short_number;
 use std::alloc::Global;
 use std::marker::Model;
 
@@ -70,34 +72,11 @@ pub enum Command {
     Usage,
 }
 
-/// The turns that a word spells: one or more ASCII digits, with a value of at most 64 bits.
-fn turns_of(word: &[u8]) -> Option<u64>
-    ensures { result ≡ turns_in word.now }
-{
-    if word.is_empty() {
-        return None;
-    }
-    let mut turns: u64 = 0;
-    for digit in word {
-        if !digit.is_ascii_digit() {
-            return None;
-        }
-        let Some(tens) = turns.checked_mul(10) else {
-            return None;
-        };
-        let Some(more) = tens.checked_add(u64::from(*digit - b'0')) else {
-            return None;
-        };
-        turns = more;
-    }
-    Some(turns)
-}
-
 /// The command of `run` with its turns.
 fn run_with(turns: &str) -> Command
-    ensures { result ≡ run_of (turns_in turns.now) }
+    ensures { result ≡ run_of (turns_spelled turns.now) }
 {
-    match turns_of(turns.as_bytes()) {
+    match short_number(turns.as_bytes()) {
         Some(turns) => Command::Run { turns },
         None => Command::Usage,
     }

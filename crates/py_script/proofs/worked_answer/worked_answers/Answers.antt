@@ -1,4 +1,4 @@
-use Rattle.std.proofs.Common.{[], List, subst}
+use Rattle.std.proofs.Common.{[], List, Bool, IsTrue, subst}
 use Rattle.py_objects.specs.declared.event.Event.{Event}
 use Rattle.py_grammar.specs.Script.{trees_of}
 use Rattle.py_vm.specs.Run.{Comes, start}
@@ -10,6 +10,18 @@ returns-clause-some_script c e turns j answer = let (s, is, run, whole, short, c
 
 pub returns-clause-at_the_end : goal.returns-clause-at_the_end
 returns-clause-at_the_end c e turns j answer = answer.0.ended
+
+pub returns-clause-bad_line_at_the_end : goal.returns-clause-bad_line_at_the_end
+returns-clause-bad_line_at_the_end c e turns line answer = answer.0.ended
+
+pub returns-clause-out_of_turns_at_the_end : goal.returns-clause-out_of_turns_at_the_end
+returns-clause-out_of_turns_at_the_end c e turns j answer = answer.0.ended
+
+pub returns-clause-no_too_long_at_the_end : goal.returns-clause-no_too_long_at_the_end
+returns-clause-no_too_long_at_the_end c e turns end answer = absurd (subst (λ (b : Bool). IsTrue b) answer.2 end)
+
+pub returns-clause-no_too_long_behind_a_fault : goal.returns-clause-no_too_long_behind_a_fault
+returns-clause-no_too_long_behind_a_fault c e turns rose answer = rose answer.1
 
 pub returns-clause-no_round_before_a_drive : goal.returns-clause-no_round_before_a_drive
 returns-clause-no_round_before_a_drive c e turns j is answer =
