@@ -1,4 +1,4 @@
-//! Why rows can't be run.
+//! Why rows can't be run, and why a line of them can't be taken.
 
 use py_code::NoMemory;
 use py_outside::ReadError;
@@ -47,5 +47,42 @@ impl<T: Drop> From<AllocFailed<T>> for RowsFault {
 impl From<ReadError> for RowsFault {
     fn from(_error: ReadError) -> RowsFault {
         RowsFault::Unreadable
+    }
+}
+
+/// Why a line of the rows can't be taken.
+#[derive(Debug, Drop)]
+pub(crate) enum LineFault {
+    /// Memory ran out.
+    NoMemory,
+    /// It says nothing that is known.
+    Unknown,
+}
+
+impl LineFault {
+    /// The fault of the rows, where the line has this number, from 1.
+    pub(crate) fn at(self, line: usize) -> RowsFault {
+        match self {
+            LineFault::NoMemory => RowsFault::NoMemory,
+            LineFault::Unknown => RowsFault::Unknown(line),
+        }
+    }
+}
+
+impl From<NoMemory> for LineFault {
+    fn from(_error: NoMemory) -> LineFault {
+        LineFault::NoMemory
+    }
+}
+
+impl From<AllocError> for LineFault {
+    fn from(_error: AllocError) -> LineFault {
+        LineFault::NoMemory
+    }
+}
+
+impl<T: Drop> From<AllocFailed<T>> for LineFault {
+    fn from(_error: AllocFailed<T>) -> LineFault {
+        LineFault::NoMemory
     }
 }

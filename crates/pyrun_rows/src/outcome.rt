@@ -16,7 +16,7 @@ pub(crate) fn wanted(
 ) -> Result<Vec<u8>, NoMemory> {
     let mut lines = Vec::new(alloc);
     put_said(&mut lines, format!(in alloc; "status {status}")?.as_str())?;
-    for said in row.events.as_slice() {
+    for said in row.wanted_events.as_slice() {
         put_said(&mut lines, said.as_str())?;
     }
     put_said(&mut lines, "text")?;
@@ -32,7 +32,7 @@ pub(crate) fn wanted(
 pub(crate) fn found(alloc: Global, row: &Row, came: &Came) -> Result<Vec<u8>, NoMemory> {
     let mut lines = Vec::new(alloc);
     put_status(alloc, &mut lines, came)?;
-    for said in row.events.as_slice() {
+    for said in row.wanted_events.as_slice() {
         let line = counted(alloc, events_of(&came.ended.result), said.as_str())?;
         put_said(&mut lines, line.as_str())?;
     }
@@ -102,6 +102,14 @@ fn put_kinds(line: &mut String, events: &[Event]) -> Result<(), NoMemory> {
         line.push_str(kind_of(event))?;
     }
     Ok(())
+}
+
+/// Whether a word is a kind of events.
+pub(crate) fn is_kind(word: &str) -> bool {
+    matches!(
+        word,
+        "Drive" | "Result" | "Make" | "Resume" | "Ask" | "Got" | "Round" | "Yield" | "End"
+    )
 }
 
 /// The kind of an event.

@@ -1,7 +1,8 @@
 //! Reading rows: a heading, a row's name, what is said of it, and the lines of its script and its text.
 
 use crate::expand::put_line;
-use crate::fault::RowsFault;
+use crate::fault::{LineFault, RowsFault};
+use crate::outcome::is_kind;
 use crate::row::{Part, Row};
 use std::alloc::Global;
 
@@ -10,14 +11,15 @@ pub(crate) fn parse_rows(alloc: Global, text: &str) -> Result<Vec<Row>, RowsFaul
     let mut group = "";
     let mut rows = Vec::new(alloc);
     for (at, line) in text.lines().enumerate() {
+        let number = at.saturating_add(1);
         if let Some(heading) = line.strip_prefix("=== ") {
             group = heading;
         } else if let Some(name) = line.strip_prefix("== ") {
             rows.push(Row::new(alloc, group, name)?)?;
         } else if !line.is_empty() && !line.starts_with("// ") {
             match rows.last_mut() {
-                Some(row) => put(alloc, row, line, at)?,
-                None => return Err(RowsFault::Unknown(at.saturating_add(1))),
+                Some(row) => take_line(alloc, row, line).map_err(|fault| fault.at(number))?,
+                None => return Err(RowsFault::Unknown(number)),
             }
         }
     }
@@ -25,61 +27,80 @@ pub(crate) fn parse_rows(alloc: Global, text: &str) -> Result<Vec<Row>, RowsFaul
 }
 
 /// Takes a line of a row: what it says, or a line of its text where it has one, else of its script.
-fn put(alloc: Global, row: &mut Row, line: &str, at: usize) -> Result<(), RowsFault> {
+fn take_line(alloc: Global, row: &mut Row, line: &str) -> Result<(), LineFault> {
     if let Some(said) = line.strip_prefix("-- ") {
-        return match say(alloc, row, said)? {
-            Some(()) => Ok(()),
-            None => Err(RowsFault::Unknown(at.saturating_add(1))),
-        };
+        return take_option(alloc, row, said);
     }
     match row.parts.last_mut() {
-        Some(part) => put_line(alloc, &mut part.bytes, line)?,
-        None => put_line(alloc, &mut row.script, line)?,
+        Some(part) => put_line(alloc, &mut part.bytes, line),
+        None => put_line(alloc, &mut row.script, line),
     }
-    Ok(())
 }
 
-/// Takes what is said of a row, where it is known.
-fn say(alloc: Global, row: &mut Row, said: &str) -> Result<Option<()>, RowsFault> {
+/// Takes what is said of a row.
+fn take_option(alloc: Global, row: &mut Row, said: &str) -> Result<(), LineFault> {
     let (word, rest) = match said.split_once(' ') {
         Some(pair) => pair,
         None => (said, ""),
     };
     match word {
-        "words" => row.words = String::from_str(alloc, rest)?,
+        "words" if row.words.is_none() && row.turns.is_none() => {
+            row.words = Some(String::from_str(alloc, rest)?);
+        }
         "status" => row.status = String::from_str(alloc, rest)?,
-        "events" | "kinds" | "count" => row.events.push(String::from_str(alloc, said)?)?,
-        "text" => return begin_text(alloc, row, rest),
-        "read" | "write" | "pieces" | "turns" => return take_number(row, word, rest),
-        _ => return Ok(None),
+        "events" | "kinds" | "count" if is_of_events(word, rest) => {
+            row.wanted_events.push(String::from_str(alloc, said)?)?;
+        }
+        "text" => begin_text(alloc, row, rest)?,
+        "read" | "write" | "pieces" | "turns" => take_number(row, word, number_of(rest)?)?,
+        _ => return Err(LineFault::Unknown),
     }
-    Ok(Some(()))
+    Ok(())
 }
 
-/// Takes a number that is said of a row.
-fn take_number(row: &mut Row, word: &str, number: &str) -> Result<Option<()>, RowsFault> {
-    let Ok(number) = number.parse::<u64>() else {
-        return Ok(None);
-    };
+/// Whether the rest of a line can be true of events: their number, their kinds, or a kind and its number.
+fn is_of_events(word: &str, rest: &str) -> bool {
     match word {
-        "read" => row.reads.push(number)?,
-        "write" => row.writes.push(number)?,
-        "turns" => row.turns = Some(number),
-        _ => row.most = Some((number as usize).max(1)),
+        "events" => rest.parse::<u64>().is_ok(),
+        "count" => match rest.split_once(' ') {
+            Some((kind, number)) => is_kind(kind) && number.parse::<u64>().is_ok(),
+            None => false,
+        },
+        _ => {
+            for kind in rest.split_whitespace() {
+                if !is_kind(kind) {
+                    return false;
+                }
+            }
+            true
+        }
     }
-    Ok(Some(()))
+}
+
+/// The number that a text says.
+fn number_of(text: &str) -> Result<u64, LineFault> {
+    text.parse::<u64>().map_err(|_| LineFault::Unknown)
+}
+
+/// Takes a number that is said of a row. One that is run with each number of turns has no words of its own.
+fn take_number(row: &mut Row, word: &str, number: u64) -> Result<(), LineFault> {
+    match word {
+        "read" => row.failing_reads.push(number)?,
+        "write" => row.failing_writes.push(number)?,
+        "pieces" => row.piece = Some((number as usize).max(1)),
+        _ if row.words.is_none() && row.turns.is_none() => row.turns = Some(number),
+        _ => return Err(LineFault::Unknown),
+    }
+    Ok(())
 }
 
 /// Begins lines of the text: in any case, or from the event on that is named.
-fn begin_text(alloc: Global, row: &mut Row, rest: &str) -> Result<Option<()>, RowsFault> {
+fn begin_text(alloc: Global, row: &mut Row, rest: &str) -> Result<(), LineFault> {
     let from = match rest.strip_prefix("from ") {
-        Some(number) => match number.parse::<u64>() {
-            Ok(from) => from,
-            Err(_) => return Ok(None),
-        },
+        Some(number) => number_of(number)?,
         None => 0,
     };
     let bytes = Vec::new(alloc);
     row.parts.push(Part { from, bytes })?;
-    Ok(Some(()))
+    Ok(())
 }

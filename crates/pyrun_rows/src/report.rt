@@ -17,10 +17,11 @@ pub(crate) struct Report {
     shows: bool,
     lines: Vec<u8>,
     passed: u64,
-    differ: bool,
+    /// Whether a row differs, or none has the word.
+    fails: bool,
 }
 
-/// Runs the rows, or those that have the word in their names, of which all is told that came.
+/// Runs the rows, or those that have the word in their names, of which all is told that came. One at least must have it.
 pub(crate) fn run_rows(
     alloc: Global,
     rows: &[Row],
@@ -31,13 +32,20 @@ pub(crate) fn run_rows(
         shows: word.is_some(),
         lines: Vec::new(alloc),
         passed: 0,
-        differ: false,
+        fails: false,
     };
+    let mut has_row = word.is_none();
     let word = word.unwrap_or("");
     for row in rows {
         if row.name.contains(word) {
+            has_row = true;
             report.check(row)?;
         }
+    }
+    if !has_row {
+        report.fails = true;
+        let none = format!(in alloc; "no row has {word} in its name\n")?;
+        report.lines.extend_from_slice(none.as_bytes())?;
     }
     let last = format!(in alloc; "{} rows passed\n", report.passed)?;
     report.lines.extend_from_slice(last.as_bytes())?;
@@ -50,18 +58,18 @@ impl Report {
         self.lines.as_slice()
     }
 
-    /// 0 where no row differs, else 1.
+    /// 0 where no row differs and one has the word, else 1.
     pub(crate) fn status(&self) -> u8 {
-        u8::from(self.differ)
+        u8::from(self.fails)
     }
 
     /// Runs a row, or one row for each number of turns.
     fn check(&mut self, row: &Row) -> Result<(), NoMemory> {
-        let Some(most) = row.turns else {
-            let words = words_of(self.alloc, row.words.as_str())?;
+        let Some(last) = row.turns else {
+            let words = words_of(self.alloc, row.command())?;
             return self.check_words(row, &words, row.status.as_str(), u64::MAX);
         };
-        for turns in 0..=most {
+        for turns in 0..=last {
             let words = format!(in self.alloc; "run {turns}")?;
             let status = if turns < row.last_event() {
                 "4 out of turns"
@@ -83,17 +91,17 @@ impl Report {
         events: u64,
     ) -> Result<(), NoMemory> {
         let lines = wanted(self.alloc, row, status, events)?;
-        let same = match row.most {
-            Some(most) => self.is_same(row, words, most.max(1), &lines)?,
+        let same = match row.piece {
+            Some(piece) => self.is_same(row, words, piece.max(1), "in pieces", &lines)?,
             None => {
-                let at_once = self.is_same(row, words, usize::MAX, &lines)?;
-                at_once && self.is_same(row, words, 1, &lines)?
+                let at_once = self.is_same(row, words, usize::MAX, "all at once", &lines)?;
+                at_once && self.is_same(row, words, 1, "a byte a call", &lines)?
             }
         };
         if same {
             self.passed = self.passed.saturating_add(1);
         } else {
-            self.differ = true;
+            self.fails = true;
         }
         Ok(())
     }
@@ -103,26 +111,27 @@ impl Report {
         &mut self,
         row: &Row,
         words: &Words,
-        most: usize,
+        piece: usize,
+        how: &str,
         lines: &Vec<u8>,
     ) -> Result<bool, NoMemory>
-        requires { 1 ≤ most }
+        requires { 1 ≤ piece }
     {
-        let came = run_row(self.alloc, row, words, most)?;
+        let came = run_row(self.alloc, row, words, piece)?;
         let came = found(self.alloc, row, &came)?;
         let same = came.as_slice() == lines.as_slice();
         if !same {
-            self.tell(row, "must come", lines)?;
+            self.tell(row, how, "must come", lines)?;
         }
         if !same || self.shows {
-            self.tell(row, "came", &came)?;
+            self.tell(row, how, "came", &came)?;
         }
         Ok(same)
     }
 
-    /// Tells lines of a row.
-    fn tell(&mut self, row: &Row, what: &str, lines: &Vec<u8>) -> Result<(), NoMemory> {
-        let heading = format!(in self.alloc; "== {}, {what}\n", row.name.as_str())?;
+    /// Tells lines of a row that is run so.
+    fn tell(&mut self, row: &Row, how: &str, what: &str, lines: &Vec<u8>) -> Result<(), NoMemory> {
+        let heading = format!(in self.alloc; "== {}, {how}, {what}\n", row.name.as_str())?;
         self.lines.extend_from_slice(heading.as_bytes())?;
         self.lines.extend_from_slice(lines.as_slice())?;
         Ok(())

@@ -17,14 +17,14 @@ pub(crate) struct Part {
 pub(crate) struct Row {
     /// The heading that it stands below, and its own name.
     pub name: String,
-    /// The words of the command line, with blanks between them.
-    pub words: String,
+    /// The words of the command line, with blanks between them, where they are said.
+    pub words: Option<String>,
     /// How many bytes a call of the source or a sink may move; where it isn't said, all, and then one.
-    pub most: Option<usize>,
+    pub piece: Option<usize>,
     /// The numbers of the reads that fail, from 1.
-    pub reads: Vec<u64>,
+    pub failing_reads: Vec<u64>,
     /// The numbers of the writes of the text that fail, from 1.
-    pub writes: Vec<u64>,
+    pub failing_writes: Vec<u64>,
     /// The last number of turns, where the row is run with each number from 0.
     pub turns: Option<u64>,
     /// The script.
@@ -32,7 +32,7 @@ pub(crate) struct Row {
     /// The status, and behind a blank the note.
     pub status: String,
     /// What must be true of the journal's events, a line each.
-    pub events: Vec<String>,
+    pub wanted_events: Vec<String>,
     /// What must be written.
     pub parts: Vec<Part>,
 }
@@ -42,16 +42,24 @@ impl Row {
     pub(crate) fn new(alloc: Global, group: &str, name: &str) -> Result<Row, NoMemory> {
         Ok(Row {
             name: format!(in alloc; "{group}: {name}")?,
-            words: String::from_str(alloc, "run")?,
-            most: None,
-            reads: Vec::new(alloc),
-            writes: Vec::new(alloc),
+            words: None,
+            piece: None,
+            failing_reads: Vec::new(alloc),
+            failing_writes: Vec::new(alloc),
             turns: None,
             script: Vec::new(alloc),
             status: String::from_str(alloc, "0")?,
-            events: Vec::new(alloc),
+            wanted_events: Vec::new(alloc),
             parts: Vec::new(alloc),
         })
+    }
+
+    /// The words of the command line: those that are said, else the one that runs the script.
+    pub(crate) fn command(&self) -> &str {
+        match &self.words {
+            Some(words) => words.as_str(),
+            None => "run",
+        }
     }
 
     /// How many events a whole run has, where each number of turns is tried: as many as its last line needs.

@@ -36,14 +36,14 @@ pub(crate) fn run_row(
     alloc: Global,
     row: &Row,
     words: &Words,
-    most: usize,
+    piece: usize,
 ) -> Result<Came, NoMemory>
-    requires { 1 ≤ most }
+    requires { 1 ≤ piece }
 {
     let script = row.script.clone()?;
-    let mut source = SourceMemory::new(script, row.reads.clone()?, most);
-    let mut text = SinkMemory::new(alloc, row.writes.clone()?, most, ROOM)?;
-    let mut note = SinkMemory::new(alloc, Vec::new(alloc), most, 100)?;
+    let mut source = SourceMemory::new(script, row.failing_reads.clone()?, piece);
+    let mut text = SinkMemory::new(alloc, row.failing_writes.clone()?, piece, ROOM)?;
+    let mut note = SinkMemory::new(alloc, Vec::new(alloc), piece, 100)?;
     let ended = run_command(alloc, words, &mut source, &mut text, &mut note);
     Ok(Came { ended, text, note })
 }
