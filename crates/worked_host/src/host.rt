@@ -8,7 +8,7 @@ ghost use Rattle.worked_host.specs.Host.{IsReady};
 use crate::fault::HostFault;
 use py_body::{Body, compile_body};
 use py_check::CheckedCode;
-use py_code::{Names, text_of_str};
+use py_code::{Names, text_of_str, utf8_of};
 use py_objects::{DriveAnswer, FunctionBody, ObjList, Payload, PyObjectRef};
 use py_vm::{Drive, Journal, VirtualMachine};
 use std::alloc::Global;
@@ -33,7 +33,8 @@ impl Host {
         let code = vm.add_code(CheckedCode::of(code))?;
         let name = body.name.copy(alloc)?;
         let function = vm.add_object(Payload::Function(FunctionBody { name, code }))?;
-        vm.set_global(vm.globals(), "down", function)?;
+        let bound = utf8_of(alloc, &body.name)?;
+        vm.set_global(vm.globals(), bound.as_str(), function)?;
         Ok(Host {
             alloc,
             vm,
