@@ -9,6 +9,7 @@ use Rattle.py_objects.specs.declared.payload.Payload.TheVariants as payload
 use Rattle.py_objects.specs.declared.payload.ErrorKind.{ErrorKind}
 use Rattle.py_objects.specs.declared.payload.ErrorKind.TheVariants.{OverflowError}
 use Rattle.py_code.specs.declared.operator.BinaryOperator.TheVariants as binary
+use Rattle.py_code.specs.Literals.{in_range}
 use Rattle.py_objects.specs.declared.request.Keywords.TheVariants as keywords
 use Rattle.py_objects.specs.declared.request.Request.{Request}
 use Rattle.py_objects.specs.declared.request.Request.TheVariants.{Binary, Call as Calling}
@@ -30,7 +31,7 @@ use Rattle.py_body.specs.Trace.{IsBegun, Ended}
 use Rattle.py_vm.specs.declared.drive.Drive.{Drive as Question}
 use Rattle.py_vm.specs.declared.drive.Drive.TheVariants.{Call}
 use Rattle.py_vm.specs.Calls.{Says, ComesTo, entry_at}
-use Rattle.py_vm.specs.Answers.{Reply, Has, Fails, Gives, IsRaised, whole, in_range}
+use Rattle.py_vm.specs.Answers.{Reply, Has, Fails, Gives, IsRaised, whole}
 use Rattle.py_vm.specs.Run.{Posed, Plan, Left, left_by, Phase, Idle, Asking, Going, Made, Due, Act, Activation, State, start, after, state_after, request_of, open_in, question, entered_in, depth, IsTop, Passes, as_got, Answers as IsAnswered, MayCome, Comes}
 use Rattle.py_script.specs.Whole.{AreAsked, AsksThis, AreObjects, Traces, plan_of, signature_of}
 use Rattle.py_script.specs.Text.{class_name, details, events_text, items_of, numbered, payload_of, raised, repr_within, result_text, said, shown, str_by, str_within}

@@ -4,7 +4,7 @@ ghost use Rattle.std.specs.Prelude.{◌≡◌, [], ◌∷◌, ◌++◌, true, fa
 ghost use Rattle.std.specs.Fmt.{signed_decimal};
 ghost use Rattle.py_grammar.specs.Lines.{lines};
 ghost use Rattle.py_grammar.specs.Script.{Spells};
-ghost use Rattle.py_vm.specs.Answers.{in_range};
+ghost use Rattle.py_code.specs.Literals.{in_range};
 ghost use Rattle.py_vm.specs.Run.{IsDone};
 ghost use Rattle.py_script.specs.Whole.{IsRunOf};
 ghost use Rattle.py_script.specs.Text.{events_text};

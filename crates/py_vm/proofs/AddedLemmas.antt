@@ -18,8 +18,8 @@ use Rattle.py_vm.specs.declared.stage.Stage.TheVariants as stage
 use Rattle.py_vm.specs.declared.machinery.Core.{Core}
 use Rattle.py_vm.specs.Codes.{Checked}
 use Rattle.py_vm.specs.Declaring.{first_name, added_as, IsAddable, IsPutInto}
-use Rattle.py_vm.specs.Holds.{ChangeDicts}
-use Rattle.py_vm.specs.Stands.{IsCoded, AreRunnable, AreFirst, AreStored, AreCallers, AtStage, frames_at, IsTold, Keeps, IsIdle}
+use Rattle.py_vm.specs.Holds.{ChangeDicts, IsCoded, AreRunnable, AreFirst}
+use Rattle.py_vm.specs.Stands.{AreStored, AreCallers, AtStage, frames_at, IsTold, Keeps, IsIdle}
 use Rattle.py_vm.specs.Turns.{IsGrown}
 use Rattle.py_vm.proofs.RowsOfLemmas.{tells_behind_code}
 use Rattle.py_vm.proofs.RunLemmas.{declared_stays}

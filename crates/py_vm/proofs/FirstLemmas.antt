@@ -12,7 +12,8 @@ use Rattle.py_vm.specs.declared.stage.Stage.TheVariants as stage
 use Rattle.py_vm.specs.declared.machinery.Core.{Core}
 use Rattle.py_vm.specs.Run.{State, start, state_after}
 use Rattle.py_vm.specs.Classes.{class_payload, first_objects, first_classes, first_declarations, HaveClasses}
-use Rattle.py_vm.specs.Stands.{IsCoded, AreFirst, AreCallers, AreApart, AtStage, phase_of, acts_of, frames_at, IsIdle}
+use Rattle.py_vm.specs.Holds.{IsCoded, AreFirst}
+use Rattle.py_vm.specs.Stands.{AreCallers, AreApart, AtStage, phase_of, acts_of, frames_at, IsIdle}
 use Rattle.py_vm.proofs.OwnLemmas.{own_events-nil}
 use Rattle.py_vm.proofs.GrownLemmas.{with_object, added_made}
 use Rattle.py_vm.proofs.ReplyingLemmas.{added_has}
