@@ -8,14 +8,14 @@ use std::alloc::Global;
 
 /// The rows of a file, in order.
 pub(crate) fn parse_rows(alloc: Global, text: &str) -> Result<Vec<Row>, RowsFault> {
-    let mut group = "";
+    let mut group = String::new(alloc);
     let mut rows = Vec::new(alloc);
     for (at, line) in text.lines().enumerate() {
         let number = at.saturating_add(1);
         if let Some(heading) = line.strip_prefix("=== ") {
-            group = heading;
+            group = String::from_str(alloc, heading)?;
         } else if let Some(name) = line.strip_prefix("== ") {
-            rows.push(Row::new(alloc, group, name)?)?;
+            rows.push(Row::new(alloc, group.as_str(), name)?)?;
         } else if !line.is_empty() && !line.starts_with("// ") {
             match rows.last_mut() {
                 Some(row) => take_line(alloc, row, line).map_err(|fault| fault.at(number))?,

@@ -69,7 +69,7 @@ impl Report {
             let words = words_of(self.alloc, row.command())?;
             return self.check_words(row, &words, row.status.as_str(), u64::MAX);
         };
-        for turns in 0..=last {
+        for turns in 0..last.saturating_add(1) {
             let words = format!(in self.alloc; "run {turns}")?;
             let status = if turns < row.last_event() {
                 "4 out of turns"
