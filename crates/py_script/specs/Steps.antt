@@ -1,5 +1,5 @@
 -- What the steps of a run answer: reading the script, making its drives, and writing the text.
-use Rattle.std.specs.Prelude.{ℕ, ◌<◌, ◌≤◌, ◌^◌, ◌⊎◌, List, Bool, Option, Some, IfSome, ◌≡◌, slice_get, length, Result, Ok, Err}
+use Rattle.std.specs.Prelude.{ℕ, ◌<◌, ◌≤◌, ◌^◌, ◌⊎◌, List, Bool, false, Option, Some, IfSome, ◌≡◌, slice_get, length, Result, Ok, Err}
 use Rattle.std.specs.Io.KnownBytes.{Appends, Keeps}
 use Rattle.py_outside.specs.Faults.{Rose}
 use Rattle.py_outside.specs.Transfer.{AppendsFront}

@@ -1,4 +1,4 @@
-use Rattle.std.proofs.Common.{[], List, Bool, IsTrue, subst}
+use Rattle.std.proofs.Common.{◌≡◌, [], List, true, false, subst, sym, ◌∙◌}
 use Rattle.py_objects.specs.declared.event.Event.{Event}
 use Rattle.py_grammar.specs.Script.{trees_of}
 use Rattle.py_vm.specs.Run.{Comes, start}
@@ -18,7 +18,7 @@ pub returns-clause-out_of_turns_at_the_end : goal.returns-clause-out_of_turns_at
 returns-clause-out_of_turns_at_the_end c e turns j answer = answer.0.ended
 
 pub returns-clause-no_too_long_at_the_end : goal.returns-clause-no_too_long_at_the_end
-returns-clause-no_too_long_at_the_end c e turns end answer = absurd (subst (λ (b : Bool). IsTrue b) answer.2 end)
+returns-clause-no_too_long_at_the_end c e turns end answer = let clash : true ≡ false = sym end ∙ answer.2 in cc clash
 
 pub returns-clause-no_too_long_behind_a_fault : goal.returns-clause-no_too_long_behind_a_fault
 returns-clause-no_too_long_behind_a_fault c e turns rose answer = rose answer.1
