@@ -1,6 +1,9 @@
 //! A host of the machine: compiles a function, loads it, calls it twice, and prints what the calls came to and all that happened.
 #![tactic(auto)]
 
+ghost use Rattle.std.specs.Prelude.{OnOk};
+ghost use Rattle.worked_host.specs.Host.{IsReady};
+
 mod fault;
 mod function;
 mod host;
@@ -15,16 +18,34 @@ use std::process::ExitCode;
 /// How many events a call may add.
 const TURNS: u64 = 100;
 
+/// Calls the function with a number, and prints what the call came to.
+fn call_number(rt: &HostRuntime, host: &mut Host, number: i128) -> Result<(), HostFault>
+    requires { IsReady host.old }
+    ensures { OnOk result (IsReady host.new) }
+{
+    let argument = host.number(number)?;
+    let answer = host.call(argument, TURNS)?;
+    println!(rt; "down({number}) {}", said_of(&answer))?;
+    Ok(())
+}
+
+/// Calls the function with a text, and prints what the call came to. A raise is an answer, after which the machine can be
+/// driven on.
+fn call_text(rt: &HostRuntime, host: &mut Host, text: &str) -> Result<(), HostFault>
+    requires { IsReady host.old }
+    ensures { OnOk result (IsReady host.new) }
+{
+    let argument = host.text(text)?;
+    let answer = host.call(argument, TURNS)?;
+    println!(rt; "down('{text}') {}", said_of(&answer))?;
+    Ok(())
+}
+
 fn run(rt: &HostRuntime) -> Result<(), HostFault> {
     let alloc = rt.alloc();
     let mut host = Host::load(alloc, &count_down(alloc)?)?;
-    let two = host.number(2)?;
-    let answer = host.call(two, TURNS)?;
-    println!(rt; "down(2) {}", said_of(&answer))?;
-    // A raise is an answer, after which the machine can be driven on.
-    let text = host.text("two")?;
-    let answer = host.call(text, TURNS)?;
-    println!(rt; "down('two') {}", said_of(&answer))?;
+    call_number(rt, &mut host, 2)?;
+    call_text(rt, &mut host, "two")?;
     print_journal(rt, &host.finish())
 }
 
