@@ -9,7 +9,8 @@ use Rattle.py_objects.specs.declared.request.Request.TheVariants.{Global, Show, 
 use Rattle.py_objects.specs.declared.event.GotAnswer.{GotAnswer}
 use Rattle.py_objects.specs.declared.event.GotAnswer.TheVariants as got
 use Rattle.py_objects.specs.declared.event.Ending.{Ending}
-use Rattle.py_objects.specs.Objects.{Obj, HasPayload, Grows}
+use Rattle.py_objects.specs.Objects.{Obj, HasPayload}
+use Rattle.py_objects.specs.Growth.{Grows}
 use Rattle.py_objects.specs.Own.{Own, Makes, Resumes, Asks, Gets, Rounds, Yields, Ends}
 use Rattle.py_objects.specs.Telling.{Value, Given, Failed, Stopped, AfterValue, IsLiteral, Answers, Answered, Rounded}
 use Rattle.py_body.specs.declared.atom.Atom.{Atom}

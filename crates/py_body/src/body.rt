@@ -7,7 +7,7 @@ use py_code::{ItemList, PyText};
 pub type ParamList = ItemList<PyText>;
 
 /// A function: its name, its parameters, its statements and the line of its header, from 1.
-#[derive(Drop)]
+#[derive(Debug, Drop)]
 pub struct Body {
     pub name: PyText,
     pub params: ParamList,

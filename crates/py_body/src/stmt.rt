@@ -9,7 +9,7 @@ use py_code::{NoMemory, PyText};
 use std::alloc::Global;
 
 /// A statement with its line, from 1.
-#[derive(Drop)]
+#[derive(Debug, Drop)]
 #[cycle(tree)]
 pub struct Stmt {
     pub line: u32,
@@ -17,7 +17,7 @@ pub struct Stmt {
 }
 
 /// What a statement says, a variant a line of the grammar.
-#[derive(Drop)]
+#[derive(Debug, Drop)]
 #[cycle(tree)]
 pub enum StmtForm {
     /// `x = a`: a value is bound to a name.
@@ -41,7 +41,7 @@ pub enum StmtForm {
 }
 
 /// Statements in order.
-#[derive(Drop)]
+#[derive(Debug, Drop)]
 #[cycle(tree)]
 pub struct StmtList {
     items: Vec<Stmt>,

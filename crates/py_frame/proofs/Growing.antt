@@ -2,7 +2,8 @@
 use Rattle.std.proofs.Common.{◌≡◌, ◌++◌, ℕ, zero, suc, List, [], ◌∷◌, Some}
 use Rattle.std.specs.Prelude.{slice_get}
 use Rattle.py_objects.specs.declared.payload.Payload.{Payload}
-use Rattle.py_objects.specs.Objects.{Obj, HasPayload, Grows}
+use Rattle.py_objects.specs.Objects.{Obj, HasPayload}
+use Rattle.py_objects.specs.Growth.{Grows}
 use Rattle.py_objects.specs.Own.{Own}
 use Rattle.py_frame.specs.declared.input.Expect.{Expect}
 use Rattle.py_frame.specs.declared.input.Expect.TheVariants as expect

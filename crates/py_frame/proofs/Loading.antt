@@ -5,7 +5,8 @@ use Rattle.py_objects.specs.Edits.{Kept}
 use Rattle.py_code.specs.declared.literal.Literal.{Literal, None as NoneLiteral, Bool as BoolLiteral, Int as IntLiteral, Str as StrLiteral, Tuple' as TupleLiteral, Code as CodeLiteral, Builtin as BuiltinLiteral}
 use Rattle.py_objects.specs.declared.payload.Payload.{Payload}
 use Rattle.py_objects.specs.declared.payload.Payload.TheVariants as payload
-use Rattle.py_objects.specs.Objects.{Obj, HasPayload, GrowsPlainly}
+use Rattle.py_objects.specs.Objects.{Obj, HasPayload}
+use Rattle.py_objects.specs.Growth.{GrowsPlainly}
 use Rattle.py_frame.specs.Rows.{payload_of}
 use Rattle.py_frame.proofs.PlainGrowth.{grows_plainly_refl, grows_plainly_by}
 

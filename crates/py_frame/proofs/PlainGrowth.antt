@@ -3,7 +3,8 @@ use Rattle.std.proofs.Common.{◌≡◌, ◌<◌, ◌≤◌, ◌-◌, ◌++◌, 
 use Rattle.std.specs.Prelude.{Option, None, slice_get}
 use Rattle.py_objects.specs.declared.payload.Payload.{Payload}
 use Rattle.py_objects.specs.declared.payload.Payload.TheVariants as payload
-use Rattle.py_objects.specs.Objects.{Obj, Name, Grows, declares, is_name, declared_from, declared, payload_numbers, AllBelow, IsMade, AllFit, GrowsPlainly, IfThere}
+use Rattle.py_objects.specs.Objects.{Obj, Name, declares, is_name, declared_from, declared, payload_numbers, AllBelow, IsMade, AllFit, IfThere}
+use Rattle.py_objects.specs.Growth.{Grows, GrowsPlainly}
 use Rattle.py_frame.proofs.Growing.{payload_grown}
 
 -- what is below stays below more

@@ -9,7 +9,8 @@ use Rattle.py_objects.specs.declared.event.GotAnswer.{GotAnswer}
 use Rattle.py_objects.specs.declared.event.GotAnswer.TheVariants as got
 use Rattle.py_objects.specs.declared.event.ResumeHow.TheVariants as how
 use Rattle.py_objects.specs.declared.event.Ending.TheVariants as ending
-use Rattle.py_objects.specs.Objects.{Obj, Grows, GrowsPlainly}
+use Rattle.py_objects.specs.Objects.{Obj}
+use Rattle.py_objects.specs.Growth.{Grows, GrowsPlainly}
 use Rattle.py_objects.specs.Edits.{Kept}
 use Rattle.py_objects.specs.Own.{Own, Resumes, Gets, Rounds, Ends}
 use Rattle.py_check.specs.declared.annotated.Annotated.{Annotated}

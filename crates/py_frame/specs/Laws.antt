@@ -2,7 +2,8 @@
 use Rattle.std.specs.Prelude.{ℕ, ◌<◌, List, [], ◌∷◌, ◌++◌, ◌≡◌, length}
 use Rattle.py_check.specs.declared.annotated.Annotated.{Annotated}
 use Rattle.py_objects.specs.declared.payload.Payload.{Payload}
-use Rattle.py_objects.specs.Objects.{Obj, Grows, AllBelow, numbers, number_if, request_numbers, how_numbers, got_numbers, ending_numbers}
+use Rattle.py_objects.specs.Objects.{Obj, AllBelow, numbers, number_if, request_numbers, how_numbers, got_numbers, ending_numbers}
+use Rattle.py_objects.specs.Growth.{Grows}
 use Rattle.py_objects.specs.Own.{Own, Makes, Resumes, Asks, Gets, Rounds, Yields, Ends}
 use Rattle.py_frame.specs.Rows.{Setting, State}
 use Rattle.py_frame.specs.RunOfRows.{IsAt}

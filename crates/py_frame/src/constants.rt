@@ -3,7 +3,8 @@
 ghost use Rattle.std.specs.Prelude.{◌≡◌, ◌+◌, ◌^◌, ◌<◌, [], slice_get, Some, IfOk, OnErr, true};
 ghost use Rattle.py_code.specs.Literals.{literals_of};
 ghost use Rattle.py_code.specs.declared.instruction.Instruction.TheVariants.{LoadConst, ReturnConst};
-ghost use Rattle.py_objects.specs.Objects.{Obj, GrowsPlainly};
+ghost use Rattle.py_objects.specs.Objects.{Obj};
+ghost use Rattle.py_objects.specs.Growth.{GrowsPlainly};
 ghost use Rattle.py_check.specs.Constants.{is_loaded};
 ghost use Rattle.py_frame.specs.Rows.{Step, act, loads, payload_of};
 ghost use Rattle.py_frame.specs.UnitSteps.{IsLoaded, IsSame, MayLead, effect};

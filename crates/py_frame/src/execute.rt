@@ -2,7 +2,7 @@
 
 ghost use Rattle.std.specs.Prelude.{◌≡◌, ◌+◌, ◌^◌, ◌<◌, slice_get, length, IfOk, OnErr, false};
 ghost use Rattle.py_code.specs.Units.{is_prefix};
-ghost use Rattle.py_objects.specs.Objects.{GrowsPlainly};
+ghost use Rattle.py_objects.specs.Growth.{GrowsPlainly};
 ghost use Rattle.py_frame.specs.Sound.{AreNames};
 ghost use Rattle.py_frame.specs.Rows.{act, advance};
 ghost use Rattle.py_frame.specs.UnitSteps.{IsSame, MayLead, Needs, UnitNeeds, effect};

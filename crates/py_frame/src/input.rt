@@ -53,7 +53,7 @@ pub enum Expect {
 }
 
 /// What a frame tells: the next event of its activation, or that memory ran out.
-#[derive(Drop)]
+#[derive(Debug, Drop)]
 pub enum FrameStep {
     /// It asks, while it handles this exception.
     Ask(Request, Option<PyBaseExceptionRef>),

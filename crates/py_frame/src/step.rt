@@ -1,7 +1,7 @@
 //! Running units until one tells an event.
 
 ghost use Rattle.std.specs.Prelude.{◌≡◌, ◌-◌, ◌++◌, IfOk};
-ghost use Rattle.py_objects.specs.Objects.{GrowsPlainly};
+ghost use Rattle.py_objects.specs.Growth.{GrowsPlainly};
 ghost use Rattle.py_frame.specs.Fitting.{IsRunning, setting_of};
 ghost use Rattle.py_frame.specs.Steps.{AsksKnown, Expects, Extends, FitsQuestion, IfTold, expected, heard, told};
 ghost use Rattle.py_frame.specs.UnitSteps.{IsSame, Leads};

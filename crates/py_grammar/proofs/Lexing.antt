@@ -2,8 +2,8 @@
 use Rattle.std.proofs.Common.{◌≡◌, ◌<◌, ◌≤◌, ◌+◌, ℕ, suc, List, [], ◌∷◌, Bool, true, false, cond, refl, sym, ap, ◌∙◌, length, take, drop, arith, length-drop, one-add}
 use Rattle.std.specs.List.{prefix_len}
 use Rattle.std.proofs.lemmas.List.Sums.{prefix_len-le-length}
-use Rattle.py_grammar.specs.Tokens.{Word, is_blank, is_mark, is_plain, is_quote, cut_from, Between, Quoted, Inside, cut, longer, started, tokens_of}
-use Rattle.py_grammar.specs.Pieces.{quoted_len, word_size}
+use Rattle.py_grammar.specs.Tokens.{Word, is_blank, is_mark, is_quote, cut_from, Between, Quoted, Inside, cut, longer, started, tokens_of}
+use Rattle.py_grammar.specs.Pieces.{is_plain, quoted_len, word_size}
 
 pub plain_within : (bs : List ℕ) → prefix_len is_plain bs ≤ length bs
 plain_within bs = prefix_len-le-length is_plain bs

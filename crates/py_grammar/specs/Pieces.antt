@@ -1,9 +1,13 @@
 -- The pieces of texts and lines, as the functions that cut them promise each other.
-use Rattle.std.specs.Prelude.{ℕ, suc, List, [], ◌∷◌, Bool, not, if◌then◌else◌, ◌==◌}
+use Rattle.std.specs.Prelude.{ℕ, suc, List, [], ◌∷◌, Bool, not, ◌||◌, if◌then◌else◌, ◌==◌}
 use Rattle.std.specs.List.{prefix_len}
 use Rattle.py_grammar.specs.declared.token.Token.{Token}
 use Rattle.py_grammar.specs.declared.token.Token.TheVariants as token
-use Rattle.py_grammar.specs.Tokens.{Lexeme, Open, Close, Equals, Word, is_plain, is_quote}
+use Rattle.py_grammar.specs.Tokens.{Lexeme, Open, Close, Equals, Word, is_blank, is_mark, is_quote}
+
+-- a byte that stands in a word
+abbrev pub is_plain : ℕ → Bool
+is_plain b = not (is_blank b || is_mark b)
 
 -- whether a byte stands before the LF of its line
 abbrev pub is_within : ℕ → Bool

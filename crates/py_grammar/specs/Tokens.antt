@@ -1,5 +1,5 @@
 -- The tokens of a line.
-use Rattle.std.specs.Prelude.{ℕ, List, [], ◌∷◌, Bool, ◌||◌, not, if◌then◌else◌, ◌==◌}
+use Rattle.std.specs.Prelude.{ℕ, List, [], ◌∷◌, Bool, ◌||◌, if◌then◌else◌, ◌==◌}
 
 -- a token apart from where it stands; a word in quotes keeps its quotes
 pub data Lexeme : Type 0 where
@@ -15,10 +15,6 @@ is_blank b = (b == 32) || (b == 9)
 -- a byte that is a token by itself: ( ) =
 abbrev pub is_mark : ℕ → Bool
 is_mark b = (b == 40) || (b == 41) || (b == 61)
-
--- a byte that stands in a word
-abbrev pub is_plain : ℕ → Bool
-is_plain b = not (is_blank b || is_mark b)
 
 -- a single quote
 abbrev pub is_quote : ℕ → Bool

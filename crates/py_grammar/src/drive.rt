@@ -7,7 +7,7 @@ use py_body::Atom;
 use py_code::{ItemList, PyText};
 
 /// An argument of a drive.
-#[derive(Drop)]
+#[derive(Debug, Drop)]
 pub enum DriveAtom {
     /// `None`.
     None,

@@ -8,7 +8,7 @@ use py_body::{Atom, AtomList, Operator, ParamList};
 use py_code::PyText;
 
 /// A line that says something.
-#[derive(Drop)]
+#[derive(Debug, Drop)]
 pub enum Line {
     /// `end`.
     End,
@@ -59,7 +59,7 @@ impl Line {
 }
 
 /// How a line reads by itself.
-#[derive(Drop)]
+#[derive(Debug, Drop)]
 pub enum LineRead {
     /// Nothing stands in the line, or a comment.
     Blank,

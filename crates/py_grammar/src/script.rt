@@ -8,7 +8,7 @@ use py_body::Body;
 use py_code::{ItemList, PyText};
 
 /// What a script declares.
-#[derive(Drop)]
+#[derive(Debug, Drop)]
 pub enum Declaration {
     /// `def f p ..`, its statements and `end`.
     Function(Body),
@@ -29,7 +29,7 @@ impl Declaration {
 pub type DeclList = ItemList<Declaration>;
 
 /// What a script asks of its declarations from outside.
-#[derive(Drop)]
+#[derive(Debug, Drop)]
 pub enum DriveLine {
     /// `call f a ..`: a function by its name, and its arguments.
     Call(PyText, DriveAtomList),
@@ -39,7 +39,7 @@ pub enum DriveLine {
 pub type DriveList = ItemList<DriveLine>;
 
 /// A script.
-#[derive(Drop)]
+#[derive(Debug, Drop)]
 pub struct Script {
     pub declarations: DeclList,
     pub drives: DriveList,

@@ -3,7 +3,8 @@
 ghost use Rattle.std.specs.Prelude.{◌≡◌, ◌<◌, ◌≤◌, ◌∷◌, [], length, map, IfOk, MatchOption, true, false};
 ghost use Rattle.std.specs.List.{prefix_len};
 ghost use Rattle.py_grammar.specs.Says.{is_comment};
-ghost use Rattle.py_grammar.specs.Tokens.{is_blank as is_blank_byte, is_mark as is_mark_byte, is_plain, tokens_of as tokens_in, mark_of as mark_at};
+ghost use Rattle.py_grammar.specs.Tokens.{is_blank as is_blank_byte, is_mark as is_mark_byte, tokens_of as tokens_in, mark_of as mark_at};
+ghost use Rattle.py_grammar.specs.Pieces.{is_plain};
 ghost use Rattle.py_grammar.specs.Pieces.{lexeme_of, quoted_len as quoted_len_in, word_size};
 
 use py_code::NoMemory;

@@ -2,12 +2,15 @@
 pub mod Refs
 -- what objects are, and which are new
 pub mod Objects
+-- objects that come behind others
+pub mod Growth
 -- an activation's own events, and the words in which bodies tell them
 pub mod Own
 pub mod Telling
 -- scopes, attributes and the pairs of dicts
 pub mod Scopes
 pub mod Attrs
+pub mod AttrEntries
 pub mod Pairs
 -- what can be read off payloads, which keys are one, what changes do to payloads, and which fit
 pub mod Values

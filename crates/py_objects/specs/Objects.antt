@@ -38,10 +38,6 @@ as_object e = record { number = e.number }
 abbrev pub class_object : PyTypeRef → Obj
 class_object c = record { number = c.number }
 
--- what stays where it is as more comes
-abbrev pub Grows : List Payload → List Payload → Type 0
-Grows old new = (more : List Payload) × (new ≡ old ++ more)
-
 -- the name that a payload declares, where it is a declaration
 abbrev pub declares : Payload → Option Name
 declares (payload.Class c) = Some c.name
@@ -270,27 +266,11 @@ pub record IsExceptionMade (objects : List Payload) (e : ExceptionBody) : Type 0
 
 -- the objects that an entry names are of the kinds that it needs
 abbrev pub IsMade : List Payload → Payload → Type 0
-IsMade objects payload.None = Unit {0}
-IsMade objects (payload.Bool b) = Unit {0}
-IsMade objects (payload.Int n) = Unit {0}
-IsMade objects (payload.Str s) = Unit {0}
-IsMade objects (payload.Tuple vs) = Unit {0}
-IsMade objects (payload.Dict ps) = Unit {0}
-IsMade objects (payload.Class c) = Unit {0}
-IsMade objects (payload.Function f) = Unit {0}
 IsMade objects (payload.Manager m) = IsFunction objects m.enter × IsFunction objects m.exit
-IsMade objects (payload.Frame c) = Unit {0}
-IsMade objects (payload.Generator g) = Unit {0}
 IsMade objects (payload.Exception e) = IsExceptionMade objects e
 IsMade objects (payload.Traceback t) = IfThere (IsTraceback objects) t.next × ((c : ℕ) × HasPayload objects (record { number = t.frame.number }) (payload.Frame c))
+IsMade objects _ = Unit {0}
 
 -- each entry names objects that are there, of the kinds that it needs
 abbrev pub AllFit : List Payload → Type 0
 AllFit objects = (i : ℕ) (p : Payload) → slice_get objects i ≡ Some p → AllBelow (length objects) (payload_numbers p) × IsMade objects p
-
--- more objects came, none of which is a declaration
-pub record GrowsPlainly (old new : List Payload) : Type 0 where
-  pub more : List Payload
-  pub is : new ≡ old ++ more
-  pub plain : (i : ℕ) (p : Payload) → slice_get more i ≡ Some p → declares p ≡ None
-  pub fit : AllFit old → AllFit new

@@ -1,7 +1,8 @@
 //! The attributes of an object.
 
 ghost use Rattle.std.specs.Prelude.{◌≡◌, ◌==◌, [], length, IfOk, OnOk, OnErr};
-ghost use Rattle.py_objects.specs.Attrs.{inserted, value_of, without};
+ghost use Rattle.py_objects.specs.Attrs.{inserted, without};
+ghost use Rattle.py_objects.specs.AttrEntries.{value_of};
 
 use crate::refs::PyObjectRef;
 use indexmap::IndexMap;
@@ -17,7 +18,8 @@ pub struct AttrMap {
 }
 
 impl Model for AttrMap {
-    ghost use Rattle.py_objects.specs.Attrs.{Attrs, attrs_of};
+    ghost use Rattle.py_objects.specs.Attrs.{Attrs};
+    ghost use Rattle.py_objects.specs.AttrEntries.{attrs_of};
 
     ghost Value = { Attrs };
 

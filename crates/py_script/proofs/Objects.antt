@@ -13,7 +13,8 @@ use Rattle.py_objects.specs.declared.event.DriveAnswer.{DriveAnswer}
 use Rattle.py_objects.specs.declared.event.DriveAnswer.TheVariants as answer
 use Rattle.py_objects.specs.declared.event.Event.{Event}
 use Rattle.py_objects.specs.declared.event.Event.TheVariants as event
-use Rattle.py_objects.specs.Objects.{Obj, Name, HasPayload, declares, declared, declared_from, name_of, error_kinds, pair_numbers, AllBelow, AllFit, GrowsPlainly}
+use Rattle.py_objects.specs.Objects.{Obj, Name, HasPayload, declares, declared, declared_from, name_of, error_kinds, pair_numbers, AllBelow, AllFit}
+use Rattle.py_objects.specs.Growth.{GrowsPlainly}
 use Rattle.py_frame.proofs.Growing.{slice_get_grown, payload_grown}
 use Rattle.py_frame.proofs.PlainGrowth.{plainly_grows, slice_get_split}
 use Rattle.py_body.specs.Fits.{Continues}

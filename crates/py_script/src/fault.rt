@@ -3,7 +3,7 @@
 use py_vm::Journal;
 
 /// Why a script wasn't run to its end and written.
-#[derive(Drop)]
+#[derive(Debug, Drop)]
 pub enum ScriptFault {
     /// A read of the source failed.
     ReadFault,
@@ -22,7 +22,7 @@ pub enum ScriptFault {
 }
 
 /// What a command came to.
-#[derive(Drop)]
+#[derive(Debug, Drop)]
 pub enum CommandResult {
     /// The script ran whole, and its text is written.
     Ran(Journal),
@@ -49,7 +49,7 @@ pub struct Summary {
 }
 
 /// How a command ended: the status that the program ends with, and what it stands for.
-#[derive(Drop)]
+#[derive(Debug, Drop)]
 pub struct Ended {
     pub status: u8,
     pub result: CommandResult,

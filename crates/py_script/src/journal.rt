@@ -16,12 +16,7 @@ use std::alloc::Global;
 fn is_due(changes: &ChangeList, event: usize) -> bool
     ensures { result ≡ list_any (λ c. nat_eq c.after event) changes.now }
 {
-    for change in changes.as_slice() {
-        if change.after == event as u64 {
-            return true;
-        }
-    }
-    false
+    changes.iter().any(|change| change.after == event as u64)
 }
 
 /// Makes the changes that come due at an event. Where none is due, nothing is copied.

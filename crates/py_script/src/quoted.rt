@@ -30,12 +30,7 @@ fn quote_for(text: &PyText) -> char
 fn contains(text: &PyText, wanted: char) -> bool
     ensures { result ≡ has wanted text.now }
 {
-    for c in text.as_slice() {
-        if *c == wanted {
-            return true;
-        }
-    }
-    false
+    text.iter().any(|c| *c == wanted)
 }
 
 fn push_escaped(out: &mut String, text: &PyText, quote: char) -> Result<(), NoMemory>

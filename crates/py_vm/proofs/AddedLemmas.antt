@@ -6,7 +6,8 @@ use Rattle.py_objects.specs.declared.payload.Payload.TheVariants as payload
 use Rattle.py_objects.specs.declared.payload.ClassBody.{ClassBody}
 use Rattle.py_objects.specs.declared.edit.Change.{Change}
 use Rattle.py_objects.specs.declared.edit.Edit.TheVariants as edit
-use Rattle.py_objects.specs.Objects.{Obj, Name, Grows, declared, payload_numbers, AllBelow, IsMade, AllFit, GrowsPlainly}
+use Rattle.py_objects.specs.Objects.{Obj, Name, declared, payload_numbers, AllBelow, IsMade, AllFit}
+use Rattle.py_objects.specs.Growth.{Grows, GrowsPlainly}
 use Rattle.py_objects.specs.Attrs.{Attrs, inserted}
 use Rattle.py_objects.specs.Edits.{Kept}
 use Rattle.py_objects.specs.Originals.{IsDict}

@@ -5,7 +5,7 @@ use Rattle.py_objects.specs.declared.payload.Payload.{Payload}
 use Rattle.py_objects.specs.declared.payload.Payload.TheVariants as payload
 use Rattle.py_objects.specs.declared.payload.ErrorKind.TheVariants.{NameError, OverflowError, RecursionError, TypeError, UnboundLocalError}
 use Rattle.py_objects.specs.Objects.{Obj, Name, HasPayload, declared, error_kinds, payload_numbers, AllBelow, IsMade, AllFit}
-use Rattle.py_objects.specs.Attrs.{value_of}
+use Rattle.py_objects.specs.AttrEntries.{value_of}
 use Rattle.py_objects.specs.Own.{own_events}
 use Rattle.py_objects.specs.Edits.{Kept}
 use Rattle.py_vm.specs.declared.stage.Stage.TheVariants as stage

@@ -1,5 +1,6 @@
 use Rattle.std.proofs.Common.{ap, ◌∙◌}
-use Rattle.py_objects.specs.Attrs.{attrs_of, inserted}
+use Rattle.py_objects.specs.Attrs.{inserted}
+use Rattle.py_objects.specs.AttrEntries.{attrs_of}
 use Rattle.py_objects.proofs.AttrsLemmas.{attrs_of-insert_entry}
 use Rattle.py_objects.proofs.attr_map.AttrMap.insert.Goals as goal
 

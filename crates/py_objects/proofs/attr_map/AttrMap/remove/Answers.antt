@@ -1,5 +1,6 @@
 use Rattle.std.proofs.Common.{ap, ◌∙◌}
-use Rattle.py_objects.specs.Attrs.{attrs_of, without}
+use Rattle.py_objects.specs.Attrs.{without}
+use Rattle.py_objects.specs.AttrEntries.{attrs_of}
 use Rattle.py_objects.proofs.AttrsLemmas.{attrs_of-remove_entry}
 use Rattle.py_objects.proofs.attr_map.AttrMap.remove.Goals as goal
 

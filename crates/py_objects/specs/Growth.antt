@@ -1,0 +1,15 @@
+-- Objects that come behind others, which stay where they are.
+use Rattle.std.specs.Prelude.{ℕ, Some, None, List, ◌++◌, ◌≡◌, slice_get}
+use Rattle.py_objects.specs.declared.payload.Payload.{Payload}
+use Rattle.py_objects.specs.Objects.{declares, AllFit}
+
+-- what stays where it is as more comes
+abbrev pub Grows : List Payload → List Payload → Type 0
+Grows old new = (more : List Payload) × (new ≡ old ++ more)
+
+-- more objects came, none of which is a declaration
+pub record GrowsPlainly (old new : List Payload) : Type 0 where
+  pub more : List Payload
+  pub is : new ≡ old ++ more
+  pub plain : (i : ℕ) (p : Payload) → slice_get more i ≡ Some p → declares p ≡ None
+  pub fit : AllFit old → AllFit new
