@@ -16,6 +16,3 @@ pub use atom::{Atom, AtomList, Operator};
 pub use body::{Body, ParamList};
 pub use compile::compile_body;
 pub use stmt::{Stmt, StmtForm, StmtList};
-
-#[cfg(test)]
-mod tests;

@@ -22,6 +22,3 @@ pub use frame::Frame;
 pub use input::{Answer, Expect, FrameStep, Input};
 pub use laws::runs_of_rows;
 pub use py_stack::{OwnStack, ValueStack};
-
-#[cfg(test)]
-mod tests;

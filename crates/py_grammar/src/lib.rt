@@ -14,8 +14,6 @@ mod parse;
 mod reader;
 mod rules;
 mod script;
-#[cfg(test)]
-mod tests;
 mod token;
 mod words;
 

@@ -37,6 +37,3 @@ pub use worked_answer::worked_answers;
 pub use worked_call::worked_calls;
 pub use worked_loop::worked_loops;
 pub use worked_show::worked_shows;
-
-#[cfg(test)]
-mod tests;

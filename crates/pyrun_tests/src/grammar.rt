@@ -2,8 +2,8 @@
 
 ghost use Rattle.std.specs.Prelude.{◌≤◌, length};
 
-use crate::{ParseFault, one_script, parse_script};
 use py_code::NoMemory;
+use py_grammar::{ParseFault, one_script, parse_script};
 use std::alloc::Global;
 
 const SCRIPT: &[u8] = b"# a loop\ndef f a\nwhile a\nshow 'b'\nend\nend\ncall f -1\ncall f $1\n";

@@ -1,6 +1,6 @@
-//! What no script reaches.
+//! Answers as frames take them.
 
-use crate::{Answer, runs_of_rows};
+use py_frame::{Answer, runs_of_rows};
 use py_objects::{GotAnswer, PyObjectRef};
 
 #[test]

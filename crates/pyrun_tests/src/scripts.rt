@@ -1,10 +1,12 @@
-//! Whole commands and texts in memory; what a script can show is in the rows.
+//! Words, whole commands, and the text of a journal with changes, which no script makes so far.
 
-use crate::*;
 use py_code::{CodeList, Names, NoMemory};
 use py_objects::{
     Change, ChangeList, DriveAnswer, Edit, Event, EventList, PairList, Payload, PayloadList,
     PyObjectRef,
+};
+use py_script::{
+    Command, Journal, SinkMemory, SourceMemory, Words, command_of, journal_text, run_command,
 };
 use std::alloc::Global;
 use std::test::Fail;
