@@ -1,3 +1,4 @@
 pub mod Breaks
 pub mod OperandLemmas
 pub mod WorkedLemmas
+pub mod FaultLemmas

@@ -5,12 +5,14 @@ mod annotated;
 mod checked;
 mod laws;
 mod note;
+mod typing;
 mod worked;
 
 pub use annotated::Annotated;
 pub use checked::CheckedCode;
 pub use laws::laws_of_rules;
 pub use note::{BlockList, BlockNote, Kind, KindList, Note, NoteList, Pending, PendingSet};
+pub use typing::laws_of_typing;
 pub use worked::{worked_blocks, worked_codes, worked_loops, worked_notes};
 
 #[cfg(test)]

@@ -1,0 +1,12 @@
+//! What follows from the rules for every instruction.
+
+ghost use Rattle.std.specs.Prelude.{◌≡◌, ℕ};
+ghost use Rattle.py_check.specs.declared.annotated.Annotated.{Annotated};
+ghost use Rattle.py_check.specs.Faults.{BreaksFirst};
+ghost use Rattle.py_check.specs.Typing.{IsTyped};
+
+/// States two laws, and does nothing: at most one unit breaks a rule first, and none does in a code that keeps the rules.
+pub fn laws_of_typing()
+    ensures one_breaks { (code : Annotated) → (m : ℕ) → (n : ℕ) → BreaksFirst code m → BreaksFirst code n → m ≡ n }
+    ensures none_breaks { (code : Annotated) → (n : ℕ) → IsTyped code → BreaksFirst code n → ⊥ }
+{}
