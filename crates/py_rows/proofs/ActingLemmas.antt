@@ -1,0 +1,465 @@
+-- A frame that fits its note isn't stuck, and fits behind the unit that runs.
+use Rattle.std.proofs.Common.{◌≡◌, ◌∙◌, ◌+◌, ◌-◌, ◌<◌, ◌≤◌, ℕ, zero, suc, List, [], ◌∷◌, ◌++◌, Bool, Option, None, Some, true, false, ◌&&◌, ◌⊎◌, inl, inr, refl, sym, ap, subst, length, take, drop, length-drop, arith}
+use Rattle.std.specs.Prelude.{slice_get, slice_set, nat_lt, nat_le, option_map, ◌==◌}
+use Rattle.std.specs.List.{list_all}
+use Rattle.std.proofs.Math.ListN.{length-set}
+use Rattle.std.proofs.lemmas.Bool.{and_parts, le-leb, and_from, eqb-true, ltb-true, leb-true}
+use Rattle.std.proofs.lemmas.List.{length-take-le}
+use Rattle.py_code.specs.declared.unit.CodeUnit.{CodeUnit}
+use Rattle.py_code.specs.declared.instruction.Instruction.{Instruction}
+use Rattle.py_code.specs.declared.instruction.Instruction.TheVariants.{LoadConst, LoadFast, StoreFast, DeleteFast, Jump, JumpIfTrue, JumpIfFalse, SetupLoop, SetupExcept, SetupFinally, EnterFinally, EndFinally, SetupWith, WithCleanupStart, WithCleanupFinish, PopBlock, PopException, Raise, Break, Continue, ReturnValue, ReturnConst, YieldValue, ExtendedArg}
+use Rattle.py_code.specs.declared.literal.Literal.{Literal, None as NoneLiteral, Bool as BoolLiteral, Int as IntLiteral, Str as StrLiteral, Tuple' as TupleLiteral, Code as CodeLiteral, Builtin as BuiltinLiteral}
+use Rattle.py_code.specs.declared.operator.RaiseKind.{RaiseKind}
+use Rattle.py_code.specs.declared.operator.RaiseKind.TheVariants as raise
+use Rattle.py_code.specs.Literals.{literals_of}
+use Rattle.py_code.specs.Numbers.{raise_kinds}
+use Rattle.py_code.specs.Units.{with_byte, is_prefix}
+use Rattle.py_objects.specs.declared.refs.PyBaseExceptionRef.{PyBaseExceptionRef}
+use Rattle.py_objects.specs.declared.payload.Payload.{Payload}
+use Rattle.py_objects.specs.declared.payload.Payload.TheVariants as payload
+use Rattle.py_objects.specs.declared.request.Request.{Request}
+use Rattle.py_objects.specs.declared.request.Request.TheVariants as request
+use Rattle.py_objects.specs.Objects.{Obj, Name, HasPayload, as_object}
+use Rattle.py_check.specs.declared.note.Kind.{Kind}
+use Rattle.py_check.specs.declared.note.Kind.TheVariants as kind
+use Rattle.py_check.specs.declared.note.Note.TheVariants.{Live}
+use Rattle.py_check.specs.declared.note.Pending.{Pending}
+use Rattle.py_check.specs.declared.note.Pending.TheVariants as pending
+use Rattle.py_check.specs.declared.note.BlockNote.{BlockNote}
+use Rattle.py_check.specs.declared.note.BlockNote.TheVariants as note
+use Rattle.py_check.specs.declared.annotated.Annotated.{Annotated}
+use Rattle.py_check.specs.Constants.{kind_of, is_loaded}
+use Rattle.py_check.specs.Notes.{kind_fits, block_number, level_of, pending_of}
+use Rattle.py_check.specs.Operands.{carried, is_label, prefixes}
+use Rattle.py_code.specs.declared.flags.TheConstants.CodeFlags.{IS_GENERATOR}
+use Rattle.py_check.specs.Effects.{Effect, Moves, AsksOnce, Other, effect, has_operand}
+use Rattle.py_rows.specs.Rows.{is_there, reaches, payload_of, or_stuck, loads, asks, asks_if, takes_off, where_there, acts_by, load_fast, delete_fast, if_popped, pop_block, pop_type, pop_exception, finally_type, in_finally, goes_on as goes_on_with, end_finally, raised_by, raised_of, raised_in, asks_exit, finishes, finish_cleanup, raises, act_own, act}
+use Rattle.py_check.specs.Sheet.{Sheet, sheet_of}
+use Rattle.py_check.specs.Rules.{bottom, top_level, has_room, lands, goes_on, jumps as may_jump, handlers_land, is_popped, leaves_block}
+use Rattle.py_check.specs.Taking.{takes, takes_top, at_place, picked, may_move}
+use Rattle.py_check.specs.Leaving.{is_finally_handler, is_except_handler, ends_with, ends_finally, leaves_handler, starts_cleanup, ends_cleanup, walks}
+use Rattle.py_check.specs.Typing.{opens, keeps_by, keeps_own, keeps_op}
+use Rattle.py_check.specs.Rules as rules
+use Rattle.py_check.specs.Typing as typing
+use Rattle.py_rows.specs.declared.block.Block.{Block}
+use Rattle.py_rows.specs.declared.block.BlockType.{BlockType}
+use Rattle.py_rows.specs.declared.block.BlockType.TheVariants.{Loop, TryExcept, Finally, FinallyHandler, ExceptHandler}
+use Rattle.py_rows.specs.declared.block.Reason.{Reason}
+use Rattle.py_rows.specs.declared.block.Reason.TheVariants as reason
+use Rattle.py_rows.specs.declared.expect.Wanted.{Wanted}
+use Rattle.py_rows.specs.declared.expect.Wanted.TheVariants as want
+use Rattle.py_rows.specs.declared.expect.Expect.{Expect}
+use Rattle.py_rows.specs.declared.expect.Expect.TheVariants as expect
+use Rattle.py_rows.specs.States.{State, Step, Goes, Move, next, with_stack, within}
+use Rattle.py_rows.specs.Unwinding.{left}
+use Rattle.py_rows.specs.Answers.{HasKind}
+use Rattle.py_rows.specs.Answers as answers
+use Rattle.py_rows.specs.Asked.{name_of_local, asked}
+use Rattle.py_rows.specs.Fitting.{HaveKinds, WaitsIn, MayWait, TypeWaits, type_number, IsBlock, AreBlocks, Has, wanted_of, raise_left, left_own, left_by, left_of, FitsBut, IsSound}
+use Rattle.py_rows.specs.Laws.{LeadsTo, RaisedThere, AlwaysLeads}
+use Rattle.py_rows.proofs.KindLemmas.{kinds_counted, kinds_dropped, kinds_under, kinds_joined, kinds_picked}
+use Rattle.py_rows.proofs.BlockLemmas.{one_of}
+use Rattle.py_rows.proofs.TypingLemmas.{prefix_carried}
+use Rattle.py_rows.proofs.LandingLemmas.{Fits, arrived, on_fits, may_jumped}
+use Rattle.py_rows.proofs.BehindLemmas.{arrives_behind, fits_behind}
+use Rattle.py_rows.proofs.UnwindingLemmas.{MayLeave, leaves, leaves_with}
+use Rattle.py_rows.proofs.TakingLemmas.{bottom-cons, bottom-drop, handlers_same, reached, places_there, Taken, taken, has_under, off}
+use Rattle.py_rows.proofs.AskingLemmas.{Wants, AsksAs, named, asked_there}
+
+-- a loaded constant has a payload, and an object of it is of the constant's kind
+literal_kind : (objects : List Payload) (l : Literal) → is_loaded l ≡ true → (p : Payload) × (payload_of l ≡ Some p) × ((v : Obj) → HasPayload objects v p → HasKind objects v (kind_of l))
+literal_kind objects NoneLiteral loaded = (payload.None, refl, λ v has. tt)
+literal_kind objects (BoolLiteral b) loaded = (payload.Bool b, refl, λ v has. tt)
+literal_kind objects (IntLiteral n) loaded = (payload.Int n, refl, λ v has. tt)
+literal_kind objects (StrLiteral s) loaded = (payload.Str s, refl, λ v has. (s, has))
+literal_kind objects (TupleLiteral shape items) loaded = cc
+literal_kind objects (CodeLiteral c) loaded = cc
+literal_kind objects (BuiltinLiteral f) loaded = cc
+
+pub where_true : (P : State → Type 0) (b : Bool) (step : Step) → b ≡ true → LeadsTo P step → LeadsTo P (where_there b step)
+where_true P true step is led = led
+where_true P false step is led = cc
+
+-- only instructions that aren't in the table are prefixes
+by_prefix : (op : Instruction) (i : ℕ) → (effect op i ≡ Other) ⊎ (is_prefix op ≡ false)
+by_prefix ExtendedArg i = inl refl
+by_prefix _ i = inr refl
+
+pub other_or_plain : (op : Instruction) (i : ℕ) (u : Instruction) → u ≡ op → (effect op i ≡ Other) ⊎ (is_prefix u ≡ false)
+other_or_plain op i u is_op = subst (λ (o : Instruction). (effect op i ≡ Other) ⊎ (is_prefix o ≡ false)) (sym is_op) (by_prefix op i)
+
+abbrev is_other : Effect → Bool
+is_other (Moves n places) = false
+is_other (AsksOnce wanted pushes) = false
+is_other Other = true
+
+pub listed_moves : (n : ℕ) (places : List ℕ) → Moves n places ≡ Other → ⊥
+listed_moves n places is = let clash : false ≡ true = ap is_other is in cc
+
+pub listed_asks : (wanted : List Kind) (pushes : Option Kind) → AsksOnce wanted pushes ≡ Other → ⊥
+listed_asks wanted pushes is = let clash : false ≡ true = ap is_other is in cc
+
+-- what waits in a finally may leave the blocks around it
+pub may_leave : (objects : List Payload) (code : Annotated) (ks : List Kind) (bs : List BlockNote) (ps : List Pending) (r : Reason) → list_all (λ p. walks (sheet_of code) p ks bs) ps ≡ true → WaitsIn objects ps r
+    → MayLeave objects code r ks bs
+may_leave objects code ks bs ps (reason.Raising e) walk waits = waits
+may_leave objects code ks bs ps (reason.Returning v) walk waits = tt
+may_leave objects code ks bs ps (reason.Break to) walk waits = one_of (λ p. walks (sheet_of code) p ks bs) (pending.Break to) ps walk waits
+may_leave objects code ks bs ps (reason.Continue to) walk waits = one_of (λ p. walks (sheet_of code) p ks bs) (pending.Continue to) ps walk waits
+
+-- the handlers outside of the innermost block
+pub outer_handlers : (sheet : Sheet) (ks : List Kind) (b : BlockNote) (bs : List BlockNote) → handlers_land sheet ks (b ∷ bs) ≡ true → handlers_land sheet (bottom (level_of b) ks) bs ≡ true
+outer_handlers sheet ks b bs hs = (and_parts (rules.handler_lands sheet b (bottom (level_of b) ks) bs) (handlers_land sheet (bottom (level_of b) ks) bs) hs).1
+
+-- the first of two operands
+first_taken : (kinds : List Kind) (blocks : List BlockNote) → takes (kind.Any ∷ kind.Any ∷ []) kinds blocks (λ rest. true) ≡ true → takes (kind.Any ∷ []) kinds blocks (λ rest. true) ≡ true
+first_taken [] blocks may = cc
+first_taken (k ∷ []) blocks may = let parts = and_parts (kind_fits k kind.Any) false may in cc
+first_taken (k ∷ l ∷ ks) blocks may =
+    let one = and_parts (kind_fits k kind.Any) (kind_fits l kind.Any && (nat_le (top_level blocks) (length ks) && true)) may in
+    let two = and_parts (kind_fits l kind.Any) (nat_le (top_level blocks) (length ks) && true) one.1 in
+    let below = and_parts (nat_le (top_level blocks) (length ks)) true two.1 in
+    and_from (kind_fits k kind.Any) (nat_le (top_level blocks) (suc (length ks)) && true) one.0
+    (and_from (nat_le (top_level blocks) (suc (length ks))) true (le-leb (top_level blocks) (suc (length ks)) (omega (arith, leb-true (top_level blocks) (length ks) below.0))) refl)
+
+pub second_taken : (kinds : List Kind) (blocks : List BlockNote) → takes (kind.Any ∷ kind.Any ∷ []) kinds blocks (λ rest. true) ≡ true → takes (kind.Any ∷ []) (drop 1 kinds) blocks (λ rest. true) ≡ true
+second_taken [] blocks may = cc
+second_taken (k ∷ ks) blocks may = (and_parts (kind_fits k kind.Any) (takes (kind.Any ∷ []) ks blocks (λ rest. true)) may).1
+
+pub drop_two : (kinds : List Kind) → drop 1 (drop 1 kinds) ≡ drop 2 kinds
+drop_two [] = refl
+drop_two (k ∷ kinds) = refl
+
+module _ (objects : List Payload) (names : List (List ℕ)) (globals : Obj) (code : Annotated) (sound : IsSound names code) (s : State) (kinds : List Kind) (blocks : List BlockNote) (unit : CodeUnit) (is : slice_get code.code.code.instructions.items s.at ≡ Some unit) (note_is : slice_get code.notes s.at ≡ Some (Live kinds blocks)) (goes : s.wants ≡ expect.Go) (fresh : s.phase ≡ 0) (has : Has objects code kinds blocks s) (carries : s.prefix ≡ carried code.code.code.instructions.items s.at) where
+  abbrev Led : Step → Type 0
+  Led step = LeadsTo (Fits objects code) step
+
+  abbrev goes_with : List Kind → List BlockNote → Bool
+  goes_with ks bs = goes_on (sheet_of code) (s.at + 1) ks bs
+
+  abbrev behind : List Obj → List Block → List (Option Obj) → Option PyBaseExceptionRef → State
+  behind stack ds locals slot = record s { at = suc s.at; prefix = 0; stack = stack; blocks = ds; locals = locals; slot = slot }
+
+  goes_behind : is_prefix unit.op ≡ false → (ks : List Kind) (bs : List BlockNote) (stack : List Obj) (ds : List Block) (locals : List (Option Obj)) (slot : Option PyBaseExceptionRef) → goes_with ks bs ≡ true
+      → HaveKinds objects stack ks → AreBlocks objects ds bs → length locals ≡ length code.code.code.varnames.items → Fits objects code (behind stack ds locals slot)
+  goes_behind plain ks bs stack ds locals slot may holds are count = fits_behind objects code s unit is goes plain ks bs stack ds locals slot may holds are count
+
+  -- a frame that waits fits the note but for what its unit took
+  waits_but : (op : Instruction) (i : ℕ) → unit.op ≡ op → with_byte s.prefix unit.arg ≡ i → (w : Wanted) (ks : List Kind) (bs : List BlockNote) (wanted : Wanted) (stack : List Obj) (ds : List Block) (slot : Option PyBaseExceptionRef) (x : Expect)
+      → left_of op i 0 kinds blocks ≡ Some (record { kinds = ks; blocks = bs; wanted = wanted }) → w ≡ wanted → Has objects code ks bs (record s { stack = stack; blocks = ds; slot = slot })
+      → FitsBut objects code w (record s { stack = stack; blocks = ds; slot = slot; wants = x })
+  waits_but op i is_op operand w ks bs wanted stack ds slot x waits same has' = record {
+    unit = unit;
+    is = is;
+    kinds = kinds;
+    block_notes = blocks;
+    note = note_is;
+    left = record { kinds = ks; blocks = bs; wanted = wanted };
+    waits = subst (λ (o : Instruction). left_of o (with_byte s.prefix unit.arg) s.phase kinds blocks ≡ Some (record { kinds = ks; blocks = bs; wanted = wanted })) (sym is_op)
+        (subst (λ (n : ℕ). left_of op n s.phase kinds blocks ≡ Some (record { kinds = ks; blocks = bs; wanted = wanted })) (sym operand)
+        (subst (λ (p : ℕ). left_of op i p kinds blocks ≡ Some (record { kinds = ks; blocks = bs; wanted = wanted })) (sym fresh) waits));
+    wanted = same;
+    has = record { holds = has'.holds; blocks = has'.blocks; handlers = has'.handlers; room = has'.room; block_room = has'.block_room; locals = has'.locals };
+    carries = carries;
+  }
+
+  -- what the table of effects describes
+  by_effect : (op : Instruction) (i : ℕ) (e : Effect) (f : List Obj → Option Request) (own : Move) (there keeps : Bool) → unit.op ≡ op → with_byte s.prefix unit.arg ≡ i → (e ≡ Other) ⊎ (is_prefix unit.op ≡ false)
+      → left_of op i 0 kinds blocks ≡ left_by e (left_own op i 0 kinds blocks) kinds blocks → (there ≡ true → AsksAs e f) → (keeps ≡ true → AlwaysLeads objects (Fits objects code) own)
+      → keeps_by (sheet_of code) s.at e there keeps kinds blocks ≡ true → AlwaysLeads objects (Fits objects code) (acts_by e f own s)
+  by_effect op i (Moves n places) f own there keeps is_op operand (inl other) left asks led may = absurd (listed_moves n places other)
+  by_effect op i (Moves n places) f own there keeps is_op operand (inr plain) left asks led may =
+      let parts = and_parts (may_move n places (length kinds) (top_level blocks)) (goes_with (picked places kinds ++ drop n kinds) blocks) may in
+      let moves = and_parts (nat_le n (length kinds) && nat_le (top_level blocks) (length kinds - n)) (list_all (λ p. nat_lt p (length kinds)) places) parts.0 in
+      let enough = (and_parts (nat_le n (length kinds)) (nat_le (top_level blocks) (length kinds - n)) moves.0).0 in
+      let count : length kinds ≡ length s.stack = sym (kinds_counted objects s.stack kinds has.holds) in
+      let places_below : list_all (λ p. nat_lt p (length s.stack)) places ≡ true = subst (λ (m : ℕ). list_all (λ p. nat_lt p m) places ≡ true) count moves.1 in
+      let test = and_from (reaches n s.stack) (list_all (λ p. is_there (slice_get s.stack p)) places) (reached n s.stack (omega (arith, count, leb-true n (length kinds) enough))) (places_there objects places s.stack places_below) in
+      where_true (Fits objects code) _ _ test
+      (goes_behind plain (picked places kinds ++ drop n kinds) blocks (picked places s.stack ++ drop n s.stack) s.blocks s.locals s.slot parts.1
+      (kinds_joined objects (picked places s.stack) (drop n s.stack) (picked places kinds) (drop n kinds) (kinds_picked objects places s.stack kinds has.holds) (kinds_dropped objects n s.stack kinds has.holds))
+      has.blocks has.locals)
+  by_effect op i (AsksOnce wanted pushes) f own there keeps is_op operand plain left asks led may =
+      let parts = and_parts there (takes wanted kinds blocks (λ rest. goes_with (at_place pushes ++ rest) blocks)) may in
+      let t : Taken objects wanted kinds blocks (λ rest. goes_with (at_place pushes ++ rest) blocks) s.stack = taken objects wanted kinds blocks (λ rest. goes_with (at_place pushes ++ rest) blocks) s.stack parts.1 has.holds in
+      where_true (Fits objects code) _ _ (reached (length wanted) s.stack t.enough)
+      (asks_fit (f (take (length wanted) s.stack)) (asks parts.0 (take (length wanted) s.stack) (length-take-le (length wanted) s.stack t.enough)) (has_under objects code (length wanted) kinds blocks s t.level t.holds has))
+    where
+      asks_fit : (r : Option Request) → Wants pushes r → Has objects code (drop (length wanted) kinds) blocks (with_stack (drop (length wanted) s.stack) s) → Led (asks_if r (with_stack (drop (length wanted) s.stack) s))
+      asks_fit None wants has' = absurd wants
+      asks_fit (Some r) wants has' =
+          waits_but op i is_op operand (answers.wanted r) (drop (length wanted) kinds) blocks (wanted_of pushes) (drop (length wanted) s.stack) s.blocks s.slot (expect.Answer (answers.wanted r)) left wants has'
+  by_effect op i Other f own there keeps is_op operand plain left asks led may = led may
+
+  -- loads
+  loads_fit : (literal : Option Literal) (rest : Kind → Bool) (f : Obj → Step) → rules.loads literal rest ≡ true → ((k : Kind) (v : Obj) → rest k ≡ true → HasKind objects v k → Led (f v))
+      → AlwaysLeads objects (Fits objects code) (loads literal f)
+  loads_fit None rest f keeps fits = cc
+  loads_fit (Some l) rest f keeps fits =
+      let parts = and_parts (is_loaded l) (rest (kind_of l)) keeps in
+      let (p, is, kind) = literal_kind objects l parts.0 in
+      let move : AlwaysLeads objects (Fits objects code) (or_stuck (Some p) f) = λ v has. fits (kind_of l) v parts.1 (kind v has) in
+      subst (λ (q : Option Payload). AlwaysLeads objects (Fits objects code) (or_stuck q f)) (sym is) move
+
+  -- a local that is unset is asked for by its name
+  unbound_fits : (op : Instruction) (i : ℕ) → unit.op ≡ op → with_byte s.prefix unit.arg ≡ i → left_of op i 0 kinds blocks ≡ Some (record { kinds = kinds; blocks = blocks; wanted = want.NoValue }) → nat_lt i (length code.code.code.varnames.items) ≡ true
+      → Led (asks_if (option_map (λ x. request.Unbound x) (name_of_local (record { code = code.code; names = names; globals = globals }) i)) s)
+  unbound_fits op i is_op operand left below =
+      let (x, there) = named names code.code.code.varnames.items i sound.named.locals (ltb-true i (length code.code.code.varnames.items) below) in
+      subst (λ (o : Option Name). Led (asks_if (option_map (λ x. request.Unbound x) o) s)) (sym there)
+      (waits_but op i is_op operand want.NoValue kinds blocks want.NoValue s.stack s.blocks s.slot (expect.Answer want.NoValue) left refl has)
+
+  local_there : (i : ℕ) → nat_lt i (length code.code.code.varnames.items) ≡ true → slice_get s.locals i ≡ None → ⊥
+  local_there i below none = not_there s.locals i (omega (arith, ltb-true i (length code.code.code.varnames.items) below, has.locals)) none
+    where
+      not_there : (xs : List (Option Obj)) (i : ℕ) → i < length xs → slice_get xs i ≡ None → ⊥
+      not_there [] i below is = absurd (omega arith)
+      not_there (x ∷ xs) zero below is = cc
+      not_there (x ∷ xs) (suc i) below is = not_there xs i (omega arith) is
+
+  load_fast_fits : (i : ℕ) → unit.op ≡ LoadFast → with_byte s.prefix unit.arg ≡ i → nat_lt i (length code.code.code.varnames.items) ≡ true → goes_with (kind.Any ∷ kinds) blocks ≡ true → (local : Option (Option Obj)) → slice_get s.locals i ≡ local
+      → Led (load_fast (name_of_local (record { code = code.code; names = names; globals = globals }) i) local s)
+  load_fast_fits i is_op operand below may None here = absurd (local_there i below here)
+  load_fast_fits i is_op operand below may (Some None) here = unbound_fits LoadFast i is_op operand refl below
+  load_fast_fits i is_op operand below may (Some (Some v)) here = goes_behind (ap is_prefix is_op) (kind.Any ∷ kinds) blocks (v ∷ s.stack) s.blocks s.locals s.slot may (tt, has.holds) has.blocks has.locals
+
+  delete_fast_fits : (i : ℕ) → unit.op ≡ DeleteFast → with_byte s.prefix unit.arg ≡ i → nat_lt i (length code.code.code.varnames.items) ≡ true → goes_with kinds blocks ≡ true → (local : Option (Option Obj)) → slice_get s.locals i ≡ local
+      → Led (delete_fast (name_of_local (record { code = code.code; names = names; globals = globals }) i) i local s)
+  delete_fast_fits i is_op operand below may None here = absurd (local_there i below here)
+  delete_fast_fits i is_op operand below may (Some None) here = unbound_fits DeleteFast i is_op operand refl below
+  delete_fast_fits i is_op operand below may (Some (Some v)) here =
+      goes_behind (ap is_prefix is_op) kinds blocks s.stack s.blocks (slice_set s.locals i None) s.slot may has.holds has.blocks (length-set s.locals i None ∙ has.locals)
+
+  -- a block that is opened
+  opens_fit : is_prefix unit.op ≡ false → (b : Block) (c : BlockNote) → IsBlock objects b c → goes_with kinds (c ∷ blocks) ≡ true → Fits objects code (within b (next s))
+  opens_fit plain b c block may = goes_behind plain kinds (c ∷ blocks) s.stack (b ∷ s.blocks) s.locals s.slot may has.holds (block, has.blocks) has.locals
+
+  -- blocks that end
+  pop_block_fits : is_prefix unit.op ≡ false → (ds : List Block) (bs : List BlockNote) → AreBlocks objects ds bs → leaves_block (sheet_of code) (s.at + 1) kinds bs ≡ true → Led (pop_block ds s)
+  pop_block_fits plain [] [] are may = cc
+  pop_block_fits plain [] (c ∷ cs) are may = absurd are
+  pop_block_fits plain (b ∷ bs) [] are may = absurd are
+  pop_block_fits plain (b ∷ bs) (c ∷ cs) are may =
+      let parts = and_parts (is_popped c) (goes_with (bottom (level_of c) kinds) cs) may in
+      let fits : Fits objects code (next (left b.level bs s)) =
+      goes_behind plain (bottom (level_of c) kinds) cs (bottom b.level s.stack) bs s.locals s.slot parts.1 (kinds_under objects (level_of c) b.level s.stack kinds are.0.level has.holds) are.1 has.locals in
+      popped b.typ c are.0.number parts.0 (Goes (next (left b.level bs s))) fits
+    where
+      popped : (typ : BlockType) (c : BlockNote) → type_number typ ≡ block_number c → is_popped c ≡ true → (step : Step) → Led step → Led (if_popped typ step)
+      popped Loop c number is step led = led
+      popped (TryExcept handler) c number is step led = led
+      popped (Finally handler) c number is step led = led
+      popped (FinallyHandler r kept) (note.FinallyHandler l ps) number is step led = cc
+      popped (ExceptHandler e kept) (note.ExceptHandler l) number is step led = cc
+      popped typ c number is step led = cc
+
+  pop_exception_fits : is_prefix unit.op ≡ false → (ds : List Block) (bs : List BlockNote) → AreBlocks objects ds bs → leaves_handler (sheet_of code) (s.at + 1) kinds bs ≡ true → Led (pop_exception ds s)
+  pop_exception_fits plain [] [] are may = cc
+  pop_exception_fits plain [] (c ∷ cs) are may = absurd are
+  pop_exception_fits plain (b ∷ bs) [] are may = absurd are
+  pop_exception_fits plain (b ∷ bs) (c ∷ cs) are may =
+      let parts = and_parts (is_except_handler c) (goes_with (bottom (level_of c) kinds) cs) may in
+      popped b.typ c are.0.number parts.0 _
+      (λ kept. goes_behind plain (bottom (level_of c) kinds) cs (bottom b.level s.stack) bs s.locals kept parts.1 (kinds_under objects (level_of c) b.level s.stack kinds are.0.level has.holds) are.1 has.locals)
+    where
+      popped : (typ : BlockType) (c : BlockNote) → type_number typ ≡ block_number c → is_except_handler c ≡ true → (f : Option PyBaseExceptionRef → Step) → ((kept : Option PyBaseExceptionRef) → Led (f kept)) → Led (pop_type typ f)
+      popped (ExceptHandler e kept) c number is f led = led kept
+      popped typ (note.ExceptHandler l) number is f led = cc
+      popped typ c number is f led = cc
+
+  -- the handler of a finally, which is the innermost block
+  in_finally_fits : (ds : List Block) (c : BlockNote) (cs : List BlockNote) → AreBlocks objects ds (c ∷ cs) → is_finally_handler c ≡ true → (f : ℕ → Option Reason → Option PyBaseExceptionRef → List Block → Step)
+      → ((level : ℕ) (r : Option Reason) (kept : Option PyBaseExceptionRef) (outer : List Block) → level ≡ level_of c → MayWait objects (pending_of c) r → AreBlocks objects outer cs → Led (f level r kept outer)) → Led (in_finally ds f)
+  in_finally_fits [] c cs are is f led = absurd are
+  in_finally_fits (b ∷ bs) c cs are is f led = by_type b.typ c are.0.number is are.0.waits _ (λ r kept waits. led b.level r kept bs are.0.level waits are.1)
+    where
+      by_type : (typ : BlockType) (c : BlockNote) → type_number typ ≡ block_number c → is_finally_handler c ≡ true → TypeWaits objects (pending_of c) typ → (g : Option Reason → Option PyBaseExceptionRef → Step)
+          → ((r : Option Reason) (kept : Option PyBaseExceptionRef) → MayWait objects (pending_of c) r → Led (g r kept)) → Led (finally_type typ g)
+      by_type (FinallyHandler r kept) c number is waits g led = led r kept waits
+      by_type typ (note.FinallyHandler l ps) number is waits g led = cc
+      by_type typ c number is waits g led = cc
+
+  -- what the rules say of a finally that ends with these kinds and blocks outside of it
+  goes_on_fits : is_prefix unit.op ≡ false → (c : BlockNote) (cs : List BlockNote) (ks : List Kind) (stack : List Obj) (outer : List Block) (kept : Option PyBaseExceptionRef) (r : Option Reason)
+      → goes_with ks cs ≡ true → list_all (λ p. walks (sheet_of code) p ks cs) (pending_of c) ≡ true → handlers_land (sheet_of code) ks cs ≡ true → MayWait objects (pending_of c) r → HaveKinds objects stack ks → AreBlocks objects outer cs
+      → Led (goes_on_with r (record s { stack = stack; blocks = outer; slot = kept }))
+  goes_on_fits plain c cs ks stack outer kept None may walk hs waits holds are = goes_behind plain ks cs stack outer s.locals kept may holds are has.locals
+  goes_on_fits plain c cs ks stack outer kept (Some r) may walk hs waits holds are =
+      leaves objects code r ks cs (record s { stack = stack; blocks = outer; slot = kept }) goes (leb-true (length ks) code.code.code.max_stackdepth (and_parts (has_room (sheet_of code) ks) (lands (sheet_of code) (s.at + 1) ks cs) may).0) (may_leave objects code ks cs (pending_of c) r walk waits) hs holds are has.locals
+
+  end_finally_fits : is_prefix unit.op ≡ false → (bs : List BlockNote) → AreBlocks objects s.blocks bs → handlers_land (sheet_of code) kinds bs ≡ true → ends_finally (sheet_of code) (s.at + 1) kinds bs ≡ true → Led (end_finally s)
+  end_finally_fits plain [] are hs may = cc
+  end_finally_fits plain (c ∷ cs) are hs may =
+      let under : List Kind = bottom (level_of c) kinds in
+      let parts = and_parts (is_finally_handler c && goes_with under cs) (list_all (λ p. walks (sheet_of code) p under cs) (pending_of c)) may in
+      let two = and_parts (is_finally_handler c) (goes_with under cs) parts.0 in
+      in_finally_fits s.blocks c cs are two.0 _
+      (λ level r kept outer same waits outer_are. goes_on_fits plain c cs under (bottom level s.stack) outer kept r two.1 parts.1 (outer_handlers (sheet_of code) kinds c cs hs) waits (kinds_under objects (level_of c) level s.stack kinds same has.holds) outer_are)
+
+  off_there : (stack : List Obj) → 1 ≤ length stack → (f : Obj → List Obj → Step) → ((v : Obj) (rest : List Obj) → stack ≡ v ∷ rest → Led (f v rest)) → Led (takes_off stack f)
+  off_there [] some f led = absurd (omega (arith, some))
+  off_there (v ∷ rest) some f led = led v rest refl
+
+  stack_count : length s.stack ≡ length kinds
+  stack_count = kinds_counted objects s.stack kinds has.holds
+
+  -- what a finally was entered by is there
+  raised_there : (ds : List Block) (bs : List BlockNote) → AreBlocks objects ds bs → RaisedThere objects (raised_in ds)
+  raised_there [] bs are = tt
+  raised_there (b ∷ ds) [] are = absurd are
+  raised_there (b ∷ ds) (c ∷ cs) are = by_type b.typ are.0.waits
+    where
+      by_reason : (r : Option Reason) → MayWait objects (pending_of c) r → RaisedThere objects (raised_by r)
+      by_reason None waits = tt
+      by_reason (Some (reason.Raising e)) waits = waits
+      by_reason (Some (reason.Returning v)) waits = tt
+      by_reason (Some (reason.Break to)) waits = tt
+      by_reason (Some (reason.Continue to)) waits = tt
+
+      by_type : (typ : BlockType) → TypeWaits objects (pending_of c) typ → RaisedThere objects (raised_of typ)
+      by_type (FinallyHandler r kept) waits = by_reason r waits
+      by_type _ waits = tt
+
+  -- the exit of a manager is called
+  cleanup_starts : unit.op ≡ WithCleanupStart → (i : ℕ) → with_byte s.prefix unit.arg ≡ i → (bs : List BlockNote) → starts_cleanup (sheet_of code) (s.at + 1) kinds bs ≡ true → (t v b : Obj) → Led (asks_exit s t v b)
+  cleanup_starts is_op i operand [] may t v b = cc
+  cleanup_starts is_op i operand (c ∷ cs) may t v b =
+      let three = and_parts (is_finally_handler c && (length kinds == level_of c) && nat_lt (top_level cs) (level_of c)) (goes_with (kind.Any ∷ kinds) (c ∷ cs)) may in
+      let two = and_parts (is_finally_handler c && (length kinds == level_of c)) (nat_lt (top_level cs) (level_of c)) three.0 in
+      let one = and_parts (is_finally_handler c) (length kinds == level_of c) two.0 in
+      off_there s.stack (omega (arith, stack_count, eqb-true (length kinds) (level_of c) one.1, ltb-true (top_level cs) (level_of c) two.1)) _
+      (λ x rest same. waits_but WithCleanupStart i is_op operand (want.Of kind.Any) kinds blocks (want.Of kind.Any) s.stack s.blocks s.slot (expect.Answer (want.Of kind.Any)) refl refl has)
+
+  -- the block of an exit ends, and what it held waits or goes on
+  finishes_fit : is_prefix unit.op ≡ false → unit.op ≡ WithCleanupFinish → (i : ℕ) → with_byte s.prefix unit.arg ≡ i → (c : BlockNote) (cs : List BlockNote) → blocks ≡ c ∷ cs → (top_level cs ≤ length (drop 2 kinds)) → (2 ≤ length kinds)
+      → handlers_land (sheet_of code) (drop 2 kinds) cs ≡ true → goes_with (drop 2 kinds) cs ≡ true → list_all (λ p. walks (sheet_of code) p (drop 2 kinds) cs) (pending_of c) ≡ true
+      → (r : Option Reason) → MayWait objects (pending_of c) r → (v : Obj) (stack : List Obj) (outer : List Block) (kept : Option PyBaseExceptionRef) → HaveKinds objects stack (drop 2 kinds) → AreBlocks objects outer cs
+      → Led (finishes r v (record s { stack = stack; blocks = outer; slot = kept }))
+  finishes_fit plain is_op i operand c cs same top two hs may walk None waits v stack outer kept holds are = goes_behind plain (drop 2 kinds) cs stack outer s.locals kept may holds are has.locals
+  finishes_fit plain is_op i operand c cs same top two hs may walk (Some (reason.Raising e)) waits v stack outer kept holds are =
+      let blocks_same : drop 1 blocks ≡ cs = ap (drop 1) same in
+      let count : length blocks ≡ suc (length cs) = ap length same in
+      let inner : Has objects code (kind.Exc ∷ drop 2 kinds) cs (record s { stack = as_object e ∷ stack; blocks = outer; slot = kept }) = record {
+        holds = (waits, holds);
+        blocks = are;
+        handlers = handlers_same (sheet_of code) (drop 2 kinds) (kind.Exc ∷ drop 2 kinds) cs (sym (bottom-cons (top_level cs) kind.Exc (drop 2 kinds) top)) hs;
+        room = omega (arith, has.room, length-drop 2 kinds, two);
+        block_room = omega (arith, has.block_room, count);
+        locals = has.locals;
+      } in
+      waits_but WithCleanupFinish i is_op operand want.Truth (kind.Exc ∷ drop 2 kinds) (drop 1 blocks) want.Truth (as_object e ∷ stack) outer kept (expect.Answer want.Truth) refl refl
+      (subst (λ (bs : List BlockNote). Has objects code (kind.Exc ∷ drop 2 kinds) bs (record s { stack = as_object e ∷ stack; blocks = outer; slot = kept })) (sym blocks_same) inner)
+  finishes_fit plain is_op i operand c cs same top two hs may walk (Some (reason.Returning w)) waits v stack outer kept holds are =
+      leaves objects code (reason.Returning w) (drop 2 kinds) cs (record s { stack = stack; blocks = outer; slot = kept }) goes (omega (arith, has.room, length-drop 2 kinds)) tt hs holds are has.locals
+  finishes_fit plain is_op i operand c cs same top two hs may walk (Some (reason.Break to)) waits v stack outer kept holds are =
+      leaves objects code (reason.Break to) (drop 2 kinds) cs (record s { stack = stack; blocks = outer; slot = kept }) goes (omega (arith, has.room, length-drop 2 kinds)) (may_leave objects code (drop 2 kinds) cs (pending_of c) (reason.Break to) walk waits) hs holds are has.locals
+  finishes_fit plain is_op i operand c cs same top two hs may walk (Some (reason.Continue to)) waits v stack outer kept holds are =
+      leaves objects code (reason.Continue to) (drop 2 kinds) cs (record s { stack = stack; blocks = outer; slot = kept }) goes (omega (arith, has.room, length-drop 2 kinds)) (may_leave objects code (drop 2 kinds) cs (pending_of c) (reason.Continue to) walk waits) hs holds are has.locals
+
+  cleanup_finishes : is_prefix unit.op ≡ false → unit.op ≡ WithCleanupFinish → (i : ℕ) → with_byte s.prefix unit.arg ≡ i → (bs : List BlockNote) → blocks ≡ bs → AreBlocks objects s.blocks bs → handlers_land (sheet_of code) kinds bs ≡ true
+      → ends_cleanup (sheet_of code) (s.at + 1) kinds bs ≡ true → Led (finish_cleanup s)
+  cleanup_finishes plain is_op i operand [] same are hs may = cc
+  cleanup_finishes plain is_op i operand (c ∷ cs) same are hs may =
+      let ends = and_parts ((length kinds == suc (level_of c)) && nat_lt (top_level cs) (level_of c)) (ends_with (sheet_of code) (s.at + 1) c (drop 2 kinds) cs) may in
+      let deep = and_parts (length kinds == suc (level_of c)) (nat_lt (top_level cs) (level_of c)) ends.0 in
+      let depth : length kinds ≡ suc (level_of c) = eqb-true (length kinds) (suc (level_of c)) deep.0 in
+      let nested : top_level cs < level_of c = ltb-true (top_level cs) (level_of c) deep.1 in
+      let parts = and_parts (is_finally_handler c && goes_with (drop 2 kinds) cs) (list_all (λ p. walks (sheet_of code) p (drop 2 kinds) cs) (pending_of c)) ends.1 in
+      let two = and_parts (is_finally_handler c) (goes_with (drop 2 kinds) cs) parts.0 in
+      let top : top_level cs ≤ length (drop 2 kinds) = omega (arith, depth, nested, length-drop 2 kinds) in
+      let one : length kinds - level_of c ≡ 1 = omega (arith, depth) in
+      let under : bottom (level_of c) kinds ≡ drop 1 kinds = ap (λ (n : ℕ). drop n kinds) one in
+      let outer_hs : handlers_land (sheet_of code) (drop 1 kinds) cs ≡ true = subst (λ (ks : List Kind). handlers_land (sheet_of code) ks cs ≡ true) under (outer_handlers (sheet_of code) kinds c cs hs) in
+      let below : top_level cs ≤ length (drop 1 kinds) = omega (arith, depth, nested, length-drop 1 kinds) in
+      let inner_hs : handlers_land (sheet_of code) (drop 2 kinds) cs ≡ true = handlers_same (sheet_of code) (drop 1 kinds) (drop 2 kinds) cs (bottom-drop 1 (top_level cs) kinds below ∙ sym (bottom-drop 2 (top_level cs) kinds top)) outer_hs in
+      let there : HaveKinds objects (drop 2 s.stack) (drop 2 kinds) = kinds_dropped objects 2 s.stack kinds has.holds in
+      off_there s.stack (omega (arith, stack_count, depth)) _
+      (λ v above stack_is.
+      let more : length s.stack ≡ suc (length above) = ap length stack_is in
+      off_there above (omega (arith, stack_count, depth, nested, more)) _
+      (λ exit rest above_is.
+      in_finally_fits s.blocks c cs are two.0 _
+      (λ level r kept outer level_is waits outer_are.
+      finishes_fit plain is_op i operand c cs same top (omega (arith, depth, nested)) inner_hs two.1 parts.1 r waits v rest outer kept
+      (subst (λ (vs : List Obj). HaveKinds objects (drop 2 vs) (drop 2 kinds)) (stack_is ∙ ap (λ (vs : List Obj). v ∷ vs) above_is) there) outer_are)))
+
+  raises_fit : (i : ℕ) → unit.op ≡ Raise → with_byte s.prefix unit.arg ≡ i → (k : Option RaiseKind) → slice_get raise_kinds i ≡ k → typing.raises k kinds blocks ≡ true → Led (raises k s)
+  raises_fit i is_op operand None here may = cc
+  raises_fit i is_op operand (Some raise.Reraise) here may =
+      waits_but Raise i is_op operand (want.Of kind.Exc) kinds blocks (want.Of kind.Exc) s.stack s.blocks s.slot (expect.Answer (want.Of kind.Exc)) (ap (λ k. raise_left k 0 kinds blocks) here) refl has
+  raises_fit i is_op operand (Some raise.Raise) here may =
+      off objects code kinds blocks (λ rest. true) s (Fits objects code) _ may has
+      (λ v vs has' keeps count holds.
+      waits_but Raise i is_op operand (want.Of kind.Exc) (drop 1 kinds) blocks (want.Of kind.Exc) vs s.blocks s.slot (expect.Answer (want.Of kind.Exc)) (ap (λ k. raise_left k 0 kinds blocks) here) refl has')
+  raises_fit i is_op operand (Some raise.RaiseCause) here may =
+      off objects code kinds blocks (λ rest. true) s (Fits objects code) _ (first_taken kinds blocks may) has
+      (λ c vs has' keeps count holds.
+      waits_but Raise i is_op operand (want.Of kind.Any) (drop 1 kinds) blocks (want.Of kind.Any) vs s.blocks s.slot (expect.Answer (want.Of kind.Any)) (ap (λ k. raise_left k 0 kinds blocks) here) refl has')
+
+  -- an instruction that isn't in the table leads to frames that fit
+  own_fits : (op : Instruction) (i : ℕ) → unit.op ≡ op → with_byte s.prefix unit.arg ≡ i → keeps_own (sheet_of code) s.at op i kinds blocks ≡ true
+      → AlwaysLeads objects (Fits objects code) (act_own (record { code = code.code; names = names; globals = globals }) op i s)
+  own_fits LoadConst i is_op operand keeps =
+      loads_fit (slice_get (literals_of code.code.code.constants) i) (λ k. goes_with (k ∷ kinds) blocks) _ keeps
+      (λ k v may is_kind. goes_behind (ap is_prefix is_op) (k ∷ kinds) blocks (v ∷ s.stack) s.blocks s.locals s.slot may (is_kind, has.holds) has.blocks has.locals)
+  own_fits LoadFast i is_op operand keeps =
+      let parts = and_parts (nat_lt i (length code.code.code.varnames.items)) (goes_with (kind.Any ∷ kinds) blocks) keeps in
+      load_fast_fits i is_op operand parts.0 parts.1 (slice_get s.locals i) refl
+  own_fits StoreFast i is_op operand keeps =
+      let parts = and_parts (nat_lt i (length code.code.code.varnames.items)) (takes_top kinds blocks (λ rest. goes_with rest blocks)) keeps in
+      where_true (Fits objects code) _ _ (ap (nat_lt i) has.locals ∙ parts.0)
+      (off objects code kinds blocks (λ rest. goes_with rest blocks) s (Fits objects code) _ parts.1 has
+      (λ v vs has' may count holds. goes_behind (ap is_prefix is_op) (drop 1 kinds) blocks vs s.blocks (slice_set s.locals i (Some v)) s.slot may has'.holds has.blocks (length-set s.locals i (Some v) ∙ has.locals)))
+  own_fits DeleteFast i is_op operand keeps =
+      let parts = and_parts (nat_lt i (length code.code.code.varnames.items)) (goes_with kinds blocks) keeps in
+      delete_fast_fits i is_op operand parts.0 parts.1 (slice_get s.locals i) refl
+  own_fits Jump to is_op operand keeps = may_jumped objects code to kinds blocks s goes keeps has.holds has.blocks has.locals
+  own_fits JumpIfTrue to is_op operand keeps =
+      off objects code kinds blocks (λ rest. may_jump (sheet_of code) to rest blocks && goes_with rest blocks) s (Fits objects code) _ keeps has
+      (λ v vs has' may count holds. waits_but JumpIfTrue to is_op operand want.Truth (drop 1 kinds) blocks want.Truth vs s.blocks s.slot (expect.Answer want.Truth) refl refl has')
+  own_fits JumpIfFalse to is_op operand keeps =
+      off objects code kinds blocks (λ rest. may_jump (sheet_of code) to rest blocks && goes_with rest blocks) s (Fits objects code) _ keeps has
+      (λ v vs has' may count holds. waits_but JumpIfFalse to is_op operand want.Truth (drop 1 kinds) blocks want.Truth vs s.blocks s.slot (expect.Answer want.Truth) refl refl has')
+  own_fits SetupLoop i is_op operand keeps =
+      opens_fit (ap is_prefix is_op) (record { typ = Loop; level = length s.stack }) (note.Loop (length kinds)) (record { number = refl; level = stack_count; handler = refl; waits = tt }) keeps
+  own_fits SetupExcept to is_op operand keeps =
+      let parts = and_parts (is_label code.code.code.instructions.items to) (goes_with kinds (note.TryExcept (length kinds) to ∷ blocks)) keeps in
+      opens_fit (ap is_prefix is_op) (record { typ = TryExcept to; level = length s.stack }) (note.TryExcept (length kinds) to) (record { number = refl; level = stack_count; handler = refl; waits = tt }) parts.1
+  own_fits SetupFinally to is_op operand keeps =
+      let parts = and_parts (is_label code.code.code.instructions.items to) (goes_with kinds (note.Finally (length kinds) to ∷ blocks)) keeps in
+      opens_fit (ap is_prefix is_op) (record { typ = Finally to; level = length s.stack }) (note.Finally (length kinds) to) (record { number = refl; level = stack_count; handler = refl; waits = tt }) parts.1
+  own_fits EnterFinally i is_op operand keeps =
+      opens_fit (ap is_prefix is_op) (record { typ = FinallyHandler None s.slot; level = length s.stack }) (note.FinallyHandler (length kinds) []) (record { number = refl; level = stack_count; handler = refl; waits = tt }) keeps
+  own_fits EndFinally i is_op operand keeps = end_finally_fits (ap is_prefix is_op) blocks has.blocks has.handlers keeps
+  own_fits SetupWith to is_op operand keeps =
+      off objects code kinds blocks (λ rest. opens (sheet_of code) s.at to (kind.Any ∷ kind.Any ∷ rest) (note.Finally (suc (length rest)) to ∷ blocks)) s (Fits objects code) _ keeps has
+      (λ v vs has' may count holds. waits_but SetupWith to is_op operand (want.Of kind.Any) kinds blocks (want.Of kind.Any) s.stack s.blocks s.slot (expect.Answer (want.Of kind.Any)) refl refl has)
+  own_fits WithCleanupStart i is_op operand keeps = (raised_there s.blocks blocks has.blocks, λ t v b. cleanup_starts is_op i operand blocks keeps t v b)
+  own_fits WithCleanupFinish i is_op operand keeps = cleanup_finishes (ap is_prefix is_op) is_op i operand blocks refl has.blocks has.handlers keeps
+  own_fits PopBlock i is_op operand keeps = pop_block_fits (ap is_prefix is_op) s.blocks blocks has.blocks keeps
+  own_fits PopException i is_op operand keeps = pop_exception_fits (ap is_prefix is_op) s.blocks blocks has.blocks keeps
+  own_fits Raise i is_op operand keeps = raises_fit i is_op operand (slice_get raise_kinds i) refl keeps
+  own_fits Break to is_op operand keeps = leaves_with objects code (reason.Break to) kinds blocks s goes (and_parts (is_label code.code.code.instructions.items to) (walks (sheet_of code) (pending.Break to) kinds blocks) keeps).1 has
+  own_fits Continue to is_op operand keeps =
+      leaves_with objects code (reason.Continue to) kinds blocks s goes (and_parts (is_label code.code.code.instructions.items to) (walks (sheet_of code) (pending.Continue to) kinds blocks) keeps).1 has
+  own_fits ReturnValue i is_op operand keeps =
+      off objects code kinds blocks (λ rest. true) s (Fits objects code) _ keeps has (λ v vs has' may count holds. leaves_with objects code (reason.Returning v) (drop 1 kinds) blocks (with_stack vs s) goes tt has')
+  own_fits ReturnConst i is_op operand keeps =
+      loads_fit (slice_get (literals_of code.code.code.constants) i) (λ k. true) _ keeps (λ k v may is_kind. leaves_with objects code (reason.Returning v) kinds blocks s goes tt has)
+  own_fits YieldValue i is_op operand keeps =
+      let parts = and_parts (rules.counts_if code.code.code.flags IS_GENERATOR == 1) (takes_top kinds blocks (λ rest. goes_with (kind.Any ∷ rest) blocks)) keeps in
+      off objects code kinds blocks (λ rest. goes_with (kind.Any ∷ rest) blocks) s (Fits objects code) _ parts.1 has
+      (λ v vs has' may count holds. waits_but YieldValue i is_op operand (want.Of kind.Any) (drop 1 kinds) blocks (want.Of kind.Any) vs s.blocks s.slot expect.Resume refl refl has')
+  own_fits ExtendedArg i is_op operand keeps =
+      let parts = and_parts (nat_lt (prefixes code.code.code.instructions.items s.at) 3) (goes_with kinds blocks) keeps in
+      let t : State = record (next s) { prefix = i } in
+      on_fits objects code t goes
+      (arrived objects code t (arrives_behind objects code s unit is goes kinds blocks s.stack s.blocks parts.1 has.holds has.blocks) (sym operand ∙ prefix_carried code.code.code.instructions.items s.at s.prefix unit is (ap is_prefix is_op) carries) has.locals)
+  own_fits _ i is_op operand keeps = cc
+
+  -- each instruction that keeps the rules does
+  pub act_fits : (op : Instruction) (i : ℕ) → unit.op ≡ op → with_byte s.prefix unit.arg ≡ i → keeps_op (sheet_of code) s.at op i kinds blocks ≡ true
+      → AlwaysLeads objects (Fits objects code) (act (record { code = code.code; names = names; globals = globals }) op i s)
+  act_fits op i is_op operand keeps =
+      by_effect op i (effect op i) (asked (record { code = code.code; names = names; globals = globals }) op i) (act_own (record { code = code.code; names = names; globals = globals }) op i s) (has_operand (sheet_of code) op i)
+      (keeps_own (sheet_of code) s.at op i kinds blocks) is_op operand (other_or_plain op i unit.op is_op) refl (asked_there names globals code sound.named op i) (own_fits op i is_op operand) keeps

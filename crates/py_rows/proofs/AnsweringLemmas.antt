@@ -1,0 +1,171 @@
+-- A frame that waits isn't stuck by an answer that is as wanted, and fits behind the unit that waited.
+use Rattle.std.proofs.Common.{subst, zero, ◌≡◌, ◌+◌, ◌<◌, ◌≤◌, ℕ, suc, List, [], ◌∷◌, Bool, Option, None, Some, true, false, ◌&&◌, not, ◌⊎◌, inl, inr, refl, ap, length, drop, length-drop, arith}
+use Rattle.std.specs.Prelude.{slice_get, nat_lt, nat_le, ◌==◌}
+use Rattle.std.specs.List.{list_all}
+use Rattle.std.proofs.lemmas.Bool.{and_parts, eqb-true, ltb-true, leb-true}
+use Rattle.py_code.specs.declared.unit.CodeUnit.{CodeUnit}
+use Rattle.py_code.specs.declared.instruction.Instruction.{Instruction}
+use Rattle.py_code.specs.declared.instruction.Instruction.TheVariants.{LoadFast, DeleteFast, JumpIfTrue, JumpIfFalse, SetupWith, WithCleanupStart, WithCleanupFinish, Raise, YieldValue}
+use Rattle.py_code.specs.declared.operator.RaiseKind.{RaiseKind}
+use Rattle.py_code.specs.declared.operator.RaiseKind.TheVariants as raise
+use Rattle.py_code.specs.Numbers.{raise_kinds}
+use Rattle.py_code.specs.Units.{with_byte, is_prefix}
+use Rattle.py_objects.specs.declared.payload.Payload.{Payload}
+use Rattle.py_objects.specs.Objects.{Obj}
+use Rattle.py_check.specs.declared.note.Kind.{Kind}
+use Rattle.py_check.specs.declared.note.Kind.TheVariants as kind
+use Rattle.py_check.specs.declared.note.BlockNote.{BlockNote}
+use Rattle.py_check.specs.declared.note.BlockNote.TheVariants as note
+use Rattle.py_check.specs.declared.annotated.Annotated.{Annotated}
+use Rattle.py_check.specs.Notes.{level_of, pending_of}
+use Rattle.py_check.specs.Operands.{carried, is_label}
+use Rattle.py_code.specs.declared.flags.TheConstants.CodeFlags.{IS_GENERATOR}
+use Rattle.py_check.specs.Effects.{Effect, Moves, AsksOnce, Other, effect, has_operand}
+use Rattle.py_check.specs.Sheet.{sheet_of}
+use Rattle.py_check.specs.Rules.{bottom, top_level, has_room, lands, goes_on, jumps as may_jump, handlers_land, is_popped, leaves_block}
+use Rattle.py_check.specs.Taking.{takes, takes_top, at_place, picked, may_move}
+use Rattle.py_check.specs.Leaving.{is_finally_handler, is_except_handler, ends_with, ends_finally, leaves_handler, starts_cleanup, ends_cleanup, walks}
+use Rattle.py_check.specs.Typing.{opens, keeps_by, keeps_own, keeps_op}
+use Rattle.py_check.specs.Rules as rules
+use Rattle.py_check.specs.Typing as typing
+use Rattle.py_rows.specs.declared.block.Block.{Block}
+use Rattle.py_rows.specs.declared.block.BlockType.TheVariants.{Finally}
+use Rattle.py_rows.specs.declared.block.Reason.TheVariants as reason
+use Rattle.py_rows.specs.declared.expect.Expect.TheVariants as expect
+use Rattle.py_rows.specs.States.{State, Step, Move, next, with_stack, pushed}
+use Rattle.py_rows.specs.Unwinding.{left}
+use Rattle.py_rows.specs.Answers.{IsValue}
+use Rattle.py_rows.specs.Rows.{takes_off}
+use Rattle.py_rows.specs.Receiving.{passes_if, jumps_if, causes, raised, answered_by, answered_own, answered}
+use Rattle.py_rows.specs.Fitting.{HaveKinds, IsBlock, AreBlocks, Has, Waiting, cause_left, raise_left, left_own, left_by, left_of}
+use Rattle.py_check.specs.declared.note.Note.TheVariants.{Live}
+use Rattle.py_rows.specs.declared.expect.Wanted.TheVariants as want
+use Rattle.py_rows.specs.Laws.{LeadsTo, AlwaysLeads}
+use Rattle.py_rows.proofs.KindLemmas.{kinds_counted}
+use Rattle.py_rows.proofs.LandingLemmas.{Fits, may_jumped}
+use Rattle.py_rows.proofs.BehindLemmas.{fits_behind}
+use Rattle.py_rows.proofs.UnwindingLemmas.{leaves, leaves_with}
+use Rattle.py_rows.proofs.TakingLemmas.{off, bottom-cons, handlers_same, taken}
+use Rattle.py_rows.proofs.ActingLemmas.{second_taken, drop_two, other_or_plain, listed_asks}
+
+-- what the rest of a rule says
+takes_rest : (wanted kinds : List Kind) (blocks : List BlockNote) (rest : List Kind → Bool) → takes wanted kinds blocks rest ≡ true → (rest (drop (length wanted) kinds) ≡ true) × (top_level blocks ≤ length (drop (length wanted) kinds)) × (length wanted ≤ length kinds)
+takes_rest [] kinds blocks rest may =
+    let parts = and_parts (nat_le (top_level blocks) (length kinds)) (rest kinds) may in (parts.1, leb-true (top_level blocks) (length kinds) parts.0, omega arith)
+takes_rest (w ∷ wanted) [] blocks rest may = cc
+takes_rest (w ∷ wanted) (k ∷ kinds) blocks rest may =
+    let more = takes_rest wanted kinds blocks rest (and_parts _ (takes wanted kinds blocks rest) may).1 in (more.0, more.1, omega (arith, more.2))
+
+-- any top will do where any is wanted
+any_top : (objects : List Payload) (stack : List Obj) (kinds : List Kind) → HaveKinds objects stack kinds → 1 ≤ length kinds → HaveKinds objects stack (kind.Any ∷ drop 1 kinds)
+any_top objects stack [] holds some = absurd (omega (arith, some))
+any_top objects [] (k ∷ kinds) holds some = absurd holds
+any_top objects (v ∷ stack) (k ∷ kinds) holds some = (tt, holds.1)
+
+module _ (objects : List Payload) (code : Annotated) (s : State) (kinds : List Kind) (blocks : List BlockNote) (unit : CodeUnit) (is : slice_get code.code.code.instructions.items s.at ≡ Some unit) (goes : s.wants ≡ expect.Go) (note_is : slice_get code.notes s.at ≡ Some (Live kinds blocks)) (carries : s.prefix ≡ carried code.code.code.instructions.items s.at) where
+  abbrev Led : Step → Type 0
+  Led step = LeadsTo (Fits objects code) step
+
+  abbrev goes_with : List Kind → List BlockNote → Bool
+  goes_with ks bs = goes_on (sheet_of code) (s.at + 1) ks bs
+
+  -- what is known of a frame that waited, and of the value that it gets
+  abbrev pub Given : Obj → Option Waiting → Type 0
+  Given v None = ⊥
+  Given v (Some l) = Has objects code l.kinds l.blocks s × IsValue objects l.wanted v
+
+  goes_behind : is_prefix unit.op ≡ false → (ks : List Kind) (bs : List BlockNote) (stack : List Obj) (ds : List Block) → goes_with ks bs ≡ true → HaveKinds objects stack ks → AreBlocks objects ds bs
+      → length s.locals ≡ length code.code.code.varnames.items → Fits objects code (record s { at = suc s.at; prefix = 0; stack = stack; blocks = ds })
+  goes_behind plain ks bs stack ds may holds are count = fits_behind objects code s unit is goes plain ks bs stack ds s.locals s.slot may holds are count
+
+  -- both ways of a jump
+  ways_fit : is_prefix unit.op ≡ false → (to : ℕ) → takes_top kinds blocks (λ rest. may_jump (sheet_of code) to rest blocks && goes_with rest blocks) ≡ true → Has objects code (drop 1 kinds) blocks s → (b : Bool) → Led (jumps_if b to s)
+  ways_fit plain to keeps has true =
+      let both = takes_rest (kind.Any ∷ []) kinds blocks (λ rest. may_jump (sheet_of code) to rest blocks && goes_with rest blocks) keeps in
+      may_jumped objects code to (drop 1 kinds) blocks s goes (and_parts (may_jump (sheet_of code) to (drop 1 kinds) blocks) (goes_with (drop 1 kinds) blocks) both.0).0 has.holds has.blocks has.locals
+  ways_fit plain to keeps has false =
+      let both = takes_rest (kind.Any ∷ []) kinds blocks (λ rest. may_jump (sheet_of code) to rest blocks && goes_with rest blocks) keeps in
+      goes_behind plain (drop 1 kinds) blocks s.stack s.blocks (and_parts (may_jump (sheet_of code) to (drop 1 kinds) blocks) (goes_with (drop 1 kinds) blocks) both.0).1 has.holds has.blocks has.locals
+
+  by_answer : (e : Effect) (own : Move) (left : Option Waiting) (there keeps : Bool) (v : Obj) → (e ≡ Other) ⊎ (is_prefix unit.op ≡ false) → keeps_by (sheet_of code) s.at e there keeps kinds blocks ≡ true → Given v (left_by e left kinds blocks)
+      → (keeps ≡ true → Given v left → AlwaysLeads objects (Fits objects code) own) → AlwaysLeads objects (Fits objects code) (answered_by e own v s)
+  by_answer (Moves n places) own left there keeps v plain may given led = absurd given
+  by_answer (AsksOnce taken pushes) own left there keeps v (inl other) may given led = absurd (listed_asks taken pushes other)
+  by_answer (AsksOnce taken None) own left there keeps v (inr plain) may given led =
+      let rest = takes_rest taken kinds blocks (λ rest. goes_with rest blocks) (and_parts there (takes taken kinds blocks (λ rest. goes_with rest blocks)) may).1 in
+      goes_behind plain (drop (length taken) kinds) blocks s.stack s.blocks rest.0 given.0.holds given.0.blocks given.0.locals
+  by_answer (AsksOnce taken (Some k)) own left there keeps v (inr plain) may given led =
+      let rest = takes_rest taken kinds blocks (λ rest. goes_with (k ∷ rest) blocks) (and_parts there (takes taken kinds blocks (λ rest. goes_with (k ∷ rest) blocks)) may).1 in
+      goes_behind plain (k ∷ drop (length taken) kinds) blocks (v ∷ s.stack) s.blocks rest.0 (given.1, given.0.holds) given.0.blocks given.0.locals
+  by_answer Other own left there keeps v plain may given led = led may given
+
+  starts_fit : is_prefix unit.op ≡ false → (v : Obj) (bs : List BlockNote) → starts_cleanup (sheet_of code) (s.at + 1) kinds bs ≡ true → Has objects code kinds bs s → Fits objects code (pushed v (next s))
+  starts_fit plain v [] keeps has = cc
+  starts_fit plain v (c ∷ cs) keeps has =
+      let may = (and_parts (is_finally_handler c && (length kinds == level_of c) && nat_lt (top_level cs) (level_of c)) (goes_with (kind.Any ∷ kinds) (c ∷ cs)) keeps).1 in
+      goes_behind plain (kind.Any ∷ kinds) (c ∷ cs) (v ∷ s.stack) s.blocks may (tt, has.holds) has.blocks has.locals
+
+  -- an exception that waited goes no further, or on
+  passes_fit : is_prefix unit.op ≡ false → (bs : List BlockNote) → ends_cleanup (sheet_of code) (s.at + 1) kinds bs ≡ true → Has objects code (kind.Exc ∷ drop 2 kinds) (drop 1 bs) s → (b : Bool) → (stack : List Obj) → HaveKinds objects stack (kind.Exc ∷ drop 2 kinds)
+      → Led (takes_off stack (λ e rest. passes_if b e (with_stack rest s)))
+  passes_fit plain [] keeps has b stack holds = cc
+  passes_fit plain (c ∷ cs) keeps has b [] holds = absurd holds
+  passes_fit plain (c ∷ cs) keeps has true (e ∷ rest) holds =
+      let ends = and_parts ((length kinds == suc (level_of c)) && nat_lt (top_level cs) (level_of c)) (ends_with (sheet_of code) (s.at + 1) c (drop 2 kinds) cs) keeps in
+      let parts = and_parts (is_finally_handler c && goes_with (drop 2 kinds) cs) (list_all (λ p. walks (sheet_of code) p (drop 2 kinds) cs) (pending_of c)) ends.1 in
+      let two = and_parts (is_finally_handler c) (goes_with (drop 2 kinds) cs) parts.0 in
+      goes_behind plain (drop 2 kinds) cs rest s.blocks two.1 holds.1 has.blocks has.locals
+  passes_fit plain (c ∷ cs) keeps has false (e ∷ rest) holds =
+      let ends = and_parts ((length kinds == suc (level_of c)) && nat_lt (top_level cs) (level_of c)) (ends_with (sheet_of code) (s.at + 1) c (drop 2 kinds) cs) keeps in
+      let deep = and_parts (length kinds == suc (level_of c)) (nat_lt (top_level cs) (level_of c)) ends.0 in
+      let depth : length kinds ≡ suc (level_of c) = eqb-true (length kinds) (suc (level_of c)) deep.0 in
+      let nested : top_level cs < level_of c = ltb-true (top_level cs) (level_of c) deep.1 in
+      let top : top_level cs ≤ length (drop 2 kinds) = omega (arith, depth, nested, length-drop 2 kinds) in
+      leaves objects code (reason.Raising (record { number = e.number })) (drop 2 kinds) cs (with_stack rest s) goes (omega (arith, has.room, length-drop 2 kinds)) holds.0
+      (handlers_same (sheet_of code) (kind.Exc ∷ drop 2 kinds) (drop 2 kinds) cs (bottom-cons (top_level cs) kind.Exc (drop 2 kinds) top) has.handlers) holds.1 has.blocks has.locals
+
+  causes_fit : (i : ℕ) (v : Obj) (n : ℕ) → s.phase ≡ n → unit.op ≡ Raise → with_byte s.prefix unit.arg ≡ i → slice_get raise_kinds i ≡ Some raise.RaiseCause → typing.raises (Some raise.RaiseCause) kinds blocks ≡ true
+      → Given v (cause_left n kinds blocks) → Led (causes n v s)
+  causes_fit i v zero here is_op operand kind_is keeps given =
+      off objects code (drop 1 kinds) blocks (λ rest. true) s (Fits objects code) _ (second_taken kinds blocks keeps) given.0
+      (λ w vs has' keeps count holds.
+      let t : State = record s { stack = vs; phase = suc s.phase; wants = expect.Answer (want.Of kind.Exc) } in
+      let one : suc s.phase ≡ 1 = ap suc here in
+      let waits : left_of unit.op (with_byte s.prefix unit.arg) (suc s.phase) kinds blocks ≡ Some (record { kinds = drop 2 kinds; blocks = blocks; wanted = want.Of kind.Exc }) =
+      rw (is_op, operand, one, kind_is) refl in
+      let left_has : Has objects code (drop 2 kinds) blocks t =
+      record { holds = subst (HaveKinds objects vs) (drop_two kinds) has'.holds; blocks = has'.blocks; handlers = subst (λ (ks : List Kind). handlers_land (sheet_of code) ks blocks ≡ true) (drop_two kinds) has'.handlers; room = subst (λ (ks : List Kind). length ks ≤ code.code.code.max_stackdepth) (drop_two kinds) has'.room; block_room = has'.block_room; locals = has'.locals } in
+      record { unit = unit; is = is; kinds = kinds; block_notes = blocks; note = note_is; left = record { kinds = drop 2 kinds; blocks = blocks; wanted = want.Of kind.Exc }; waits = waits; wanted = refl; has = left_has; carries = carries })
+  causes_fit i v (suc n) here is_op operand kind_is keeps given = leaves_with objects code (reason.Raising (record { number = v.number })) (drop 2 kinds) blocks s goes given.1 given.0
+
+  raised_fits : (i : ℕ) (v : Obj) (k : Option RaiseKind) → unit.op ≡ Raise → with_byte s.prefix unit.arg ≡ i → slice_get raise_kinds i ≡ k → typing.raises k kinds blocks ≡ true → Given v (raise_left k s.phase kinds blocks) → Led (raised k v s)
+  raised_fits i v None is_op operand kind_is keeps given = absurd given
+  raised_fits i v (Some raise.Reraise) is_op operand kind_is keeps given = leaves_with objects code (reason.Raising (record { number = v.number })) kinds blocks s goes given.1 given.0
+  raised_fits i v (Some raise.Raise) is_op operand kind_is keeps given = leaves_with objects code (reason.Raising (record { number = v.number })) (drop 1 kinds) blocks s goes given.1 given.0
+  raised_fits i v (Some raise.RaiseCause) is_op operand kind_is keeps given = causes_fit i v s.phase refl is_op operand kind_is keeps given
+
+  own_answered : (op : Instruction) (i : ℕ) (v : Obj) → unit.op ≡ op → with_byte s.prefix unit.arg ≡ i → keeps_own (sheet_of code) s.at op i kinds blocks ≡ true → Given v (left_own op i s.phase kinds blocks) → AlwaysLeads objects (Fits objects code) (answered_own op i v s)
+  own_answered LoadFast i v is_op operand keeps given = absurd given.1
+  own_answered DeleteFast i v is_op operand keeps given = absurd given.1
+  own_answered JumpIfTrue to v is_op operand keeps given = (given.1, λ b. ways_fit (ap is_prefix is_op) to keeps given.0 b)
+  own_answered JumpIfFalse to v is_op operand keeps given = (given.1, λ b. ways_fit (ap is_prefix is_op) to keeps given.0 (not b))
+  own_answered SetupWith to v is_op operand keeps given =
+      let rest = takes_rest (kind.Any ∷ []) kinds blocks (λ rest. opens (sheet_of code) s.at to (kind.Any ∷ kind.Any ∷ rest) (note.Finally (suc (length rest)) to ∷ blocks)) keeps in
+      let may = (and_parts (is_label code.code.code.instructions.items to) (goes_with (kind.Any ∷ kind.Any ∷ drop 1 kinds) (note.Finally (suc (length (drop 1 kinds))) to ∷ blocks)) rest.0).1 in
+      let level : length s.stack ≡ suc (length (drop 1 kinds)) = omega (arith, kinds_counted objects s.stack kinds given.0.holds, length-drop 1 kinds, rest.2) in
+      let block : IsBlock objects (record { typ = Finally to; level = length s.stack }) (note.Finally (suc (length (drop 1 kinds))) to) = record { number = refl; level = level; handler = refl; waits = tt } in
+      goes_behind (ap is_prefix is_op) (kind.Any ∷ kind.Any ∷ drop 1 kinds) (note.Finally (suc (length (drop 1 kinds))) to ∷ blocks) (v ∷ s.stack) (record { typ = Finally to; level = length s.stack } ∷ s.blocks) may
+      (tt, any_top objects s.stack kinds given.0.holds rest.2) (block, given.0.blocks) given.0.locals
+  own_answered WithCleanupStart i v is_op operand keeps given = starts_fit (ap is_prefix is_op) v blocks keeps given.0
+  own_answered WithCleanupFinish i v is_op operand keeps given = (given.1, λ b. passes_fit (ap is_prefix is_op) blocks keeps given.0 b s.stack given.0.holds)
+  own_answered Raise i v is_op operand keeps given = raised_fits i v (slice_get raise_kinds i) is_op operand refl keeps given
+  own_answered YieldValue i v is_op operand keeps given =
+      let parts = and_parts (rules.counts_if code.code.code.flags IS_GENERATOR == 1) (takes_top kinds blocks (λ rest. goes_with (kind.Any ∷ rest) blocks)) keeps in
+      let rest = takes_rest (kind.Any ∷ []) kinds blocks (λ rest. goes_with (kind.Any ∷ rest) blocks) parts.1 in
+      goes_behind (ap is_prefix is_op) (kind.Any ∷ drop 1 kinds) blocks (v ∷ s.stack) s.blocks rest.0 (tt, given.0.holds) given.0.blocks given.0.locals
+  own_answered _ i v is_op operand keeps given = absurd given
+
+  pub answered_fits : (op : Instruction) (i : ℕ) (v : Obj) → unit.op ≡ op → with_byte s.prefix unit.arg ≡ i → keeps_op (sheet_of code) s.at op i kinds blocks ≡ true → Given v (left_of op i s.phase kinds blocks) → AlwaysLeads objects (Fits objects code) (answered op i v s)
+  answered_fits op i v is_op operand keeps given =
+      by_answer (effect op i) (answered_own op i v s) (left_own op i s.phase kinds blocks) (has_operand (sheet_of code) op i) (keeps_own (sheet_of code) s.at op i kinds blocks) v (other_or_plain op i unit.op is_op) keeps given
+      (λ own given. own_answered op i v is_op operand own given)

@@ -1,0 +1,122 @@
+-- What fits goes on to fit as objects grow.
+use Rattle.std.proofs.Common.{◌≡◌, ◌++◌, ℕ, zero, suc, List, [], ◌∷◌, Option, None, Some, append_assoc}
+use Rattle.std.specs.Prelude.{slice_get}
+use Rattle.py_objects.specs.declared.payload.Payload.{Payload}
+use Rattle.py_objects.specs.declared.event.GotAnswer.TheVariants as got
+use Rattle.py_objects.specs.Objects.{Obj, HasPayload, as_object}
+use Rattle.py_objects.specs.Growth.{Grows}
+use Rattle.py_check.specs.declared.note.Kind.{Kind}
+use Rattle.py_check.specs.declared.note.Kind.TheVariants as kind
+use Rattle.py_check.specs.declared.note.Pending.{Pending}
+use Rattle.py_check.specs.declared.note.BlockNote.{BlockNote}
+use Rattle.py_check.specs.declared.annotated.Annotated.{Annotated}
+use Rattle.py_check.specs.Notes.{pending_of}
+use Rattle.py_rows.specs.declared.block.Block.{Block}
+use Rattle.py_rows.specs.declared.block.BlockType.{BlockType}
+use Rattle.py_rows.specs.declared.block.BlockType.TheVariants.{Loop, TryExcept, Finally, FinallyHandler, ExceptHandler}
+use Rattle.py_rows.specs.declared.block.Reason.{Reason}
+use Rattle.py_rows.specs.declared.block.Reason.TheVariants as reason
+use Rattle.py_rows.specs.declared.expect.Wanted.{Wanted}
+use Rattle.py_rows.specs.declared.expect.Wanted.TheVariants as want
+use Rattle.py_rows.specs.declared.expect.Expect.{Expect}
+use Rattle.py_rows.specs.declared.expect.Expect.TheVariants as expect
+use Rattle.py_rows.specs.States.{State}
+use Rattle.py_rows.specs.Answers.{HasKind, IsValue}
+use Rattle.py_rows.specs.Fitting.{HaveKinds, WaitsIn, MayWait, TypeWaits, AreBlocks, Has, FitsNote, FitsBut, FitsAt}
+
+-- an entry stays where it is as more comes behind
+slice_get_grown : {A : Type 0} (xs ys : List A) (i : ℕ) (x : A) → slice_get xs i ≡ Some x → slice_get (xs ++ ys) i ≡ Some x
+slice_get_grown [] ys i x here = cc
+slice_get_grown (z ∷ zs) ys zero x here = here
+slice_get_grown (z ∷ zs) ys (suc i) x here = slice_get_grown zs ys i x here
+
+-- a payload stays as objects grow
+pub payload_grown : (objects objects' : List Payload) (v : Obj) (p : Payload) → Grows objects objects' → HasPayload objects v p → HasPayload objects' v p
+payload_grown objects objects' v p (more, is) has = rw is (slice_get_grown objects more v.number p has)
+
+pub grows_on : (a b c : List Payload) → Grows a b → Grows b c → Grows a c
+grows_on a b c (xs, x) (ys, y) = (xs ++ ys, rw (y, x) (append_assoc a xs ys))
+
+-- an object stays of a kind as objects grow
+pub kind_grown : (objects objects' : List Payload) (v : Obj) (k : Kind) → Grows objects objects' → HasKind objects v k → HasKind objects' v k
+kind_grown objects objects' v kind.Any grows is = tt
+kind_grown objects objects' v kind.Str grows (s, has) = (s, payload_grown objects objects' v _ grows has)
+kind_grown objects objects' v kind.Tuple grows (vs, has) = (vs, payload_grown objects objects' v _ grows has)
+kind_grown objects objects' v kind.List grows is = is
+kind_grown objects objects' v kind.Set grows is = is
+kind_grown objects objects' v kind.Dict grows (ps, has) = (ps, payload_grown objects objects' v _ grows has)
+kind_grown objects objects' v kind.Exc grows (e, has) = (e, payload_grown objects objects' v _ grows has)
+kind_grown objects objects' v kind.Cell grows is = is
+kind_grown objects objects' v (kind.Cells n) grows is = is
+kind_grown objects objects' v (kind.Names n) grows (vs, has, count, texts) =
+    (vs, payload_grown objects objects' v _ grows has, count, λ i w here. let (s, text) = texts i w here in (s, payload_grown objects objects' w _ grows text))
+kind_grown objects objects' v (kind.Code c) grows is = is
+
+pub kinds_grown : (objects objects' : List Payload) (vs : List Obj) (ks : List Kind) → Grows objects objects' → HaveKinds objects vs ks → HaveKinds objects' vs ks
+kinds_grown objects objects' [] [] grows are = tt
+kinds_grown objects objects' [] (k ∷ ks) grows are = are
+kinds_grown objects objects' (v ∷ vs) [] grows are = are
+kinds_grown objects objects' (v ∷ vs) (k ∷ ks) grows are = (kind_grown objects objects' v k grows are.0, kinds_grown objects objects' vs ks grows are.1)
+
+module _ (objects objects' : List Payload) (grows : Grows objects objects') where
+  reason_grown : (ps : List Pending) (r : Reason) → WaitsIn objects ps r → WaitsIn objects' ps r
+  reason_grown ps (reason.Raising e) waits = kind_grown objects objects' (as_object e) kind.Exc grows waits
+  reason_grown ps (reason.Returning v) waits = waits
+  reason_grown ps (reason.Break to) waits = waits
+  reason_grown ps (reason.Continue to) waits = waits
+
+  if_grown : (ps : List Pending) (r : Option Reason) → MayWait objects ps r → MayWait objects' ps r
+  if_grown ps None waits = tt
+  if_grown ps (Some r) waits = reason_grown ps r waits
+
+  type_grown : (ps : List Pending) (typ : BlockType) → TypeWaits objects ps typ → TypeWaits objects' ps typ
+  type_grown ps (FinallyHandler r kept) waits = if_grown ps r waits
+  type_grown ps Loop waits = tt
+  type_grown ps (TryExcept handler) waits = tt
+  type_grown ps (Finally handler) waits = tt
+  type_grown ps (ExceptHandler e kept) waits = tt
+
+  blocks_grown : (bs : List Block) (cs : List BlockNote) → AreBlocks objects bs cs → AreBlocks objects' bs cs
+  blocks_grown [] [] are = tt
+  blocks_grown [] (c ∷ cs) are = are
+  blocks_grown (b ∷ bs) [] are = are
+  blocks_grown (b ∷ bs) (c ∷ cs) are =
+      (record { number = are.0.number; level = are.0.level; handler = are.0.handler; waits = type_grown (pending_of c) b.typ are.0.waits }, blocks_grown bs cs are.1)
+
+  has_grown : (code : Annotated) (ks : List Kind) (bs : List BlockNote) (s : State) → Has objects code ks bs s → Has objects' code ks bs s
+  has_grown code ks bs s has =
+      record { holds = kinds_grown objects objects' s.stack ks grows has.holds; blocks = blocks_grown s.blocks bs has.blocks; handlers = has.handlers; room = has.room; block_room = has.block_room; locals = has.locals }
+
+  pub value_grown : (w : Wanted) (v : Obj) → IsValue objects w v → IsValue objects' w v
+  value_grown (want.Of k) v is = kind_grown objects objects' v k grows is
+  value_grown want.Truth v (b, has) = (b, payload_grown objects objects' v _ grows has)
+  value_grown want.NoValue v is = is
+
+  note_grown : (code : Annotated) (s : State) → FitsNote objects code s → FitsNote objects' code s
+  note_grown code s f =
+      record { kinds = f.kinds; block_notes = f.block_notes; note = f.note; holds = kinds_grown objects objects' s.stack f.kinds grows f.holds; blocks = blocks_grown s.blocks f.block_notes f.blocks; carries = f.carries; locals = f.locals }
+
+  but_grown : (code : Annotated) (w : Wanted) (s : State) → FitsBut objects code w s → FitsBut objects' code w s
+  but_grown code w s f = record {
+    unit = f.unit;
+    is = f.is;
+    kinds = f.kinds;
+    block_notes = f.block_notes;
+    note = f.note;
+    left = f.left;
+    waits = f.waits;
+    wanted = f.wanted;
+    has = has_grown code f.left.kinds f.left.blocks s f.has;
+    carries = f.carries;
+  }
+
+  pub fits_grown : (code : Annotated) (x : Expect) (s : State) → FitsAt objects code x s → FitsAt objects' code x s
+  fits_grown code expect.Start s f = (f.0, note_grown code s f.1)
+  fits_grown code expect.Go s f = note_grown code s f
+  fits_grown code (expect.Answer w) s f = but_grown code w s f
+  fits_grown code expect.Resume s f = but_grown code (want.Of kind.Any) s f
+  fits_grown code (expect.Heard (got.Value v)) s f = (f.0, but_grown code f.0 s f.1, value_grown f.0 v f.2)
+  fits_grown code (expect.Heard (got.Stop v)) s f = f
+  fits_grown code (expect.Heard (got.Raise e)) s f =
+      (kind_grown objects objects' (as_object e) kind.Exc grows f.0, record { kinds = f.1.kinds; block_notes = f.1.block_notes; has = has_grown code f.1.kinds f.1.block_notes s f.1.has; there = f.1.there })
+  fits_grown code expect.Ended s f = f

@@ -1,0 +1,120 @@
+-- What objects of a kind are besides, and among more objects.
+use Rattle.std.proofs.Common.{◌≡◌, ℕ, List, [], ◌∷◌, Some, true, ◌||◌, refl, sym, ap, subst, ◌∙◌, length, suc, ⊎_elim, arith}
+use Rattle.std.specs.Prelude.{slice_get, drop, zero, ◌++◌, ◌-◌}
+use Rattle.std.proofs.lemmas.Bool.{and_parts, or_cases}
+use Rattle.std.proofs.lemmas.Bool.Decides.{Decides-eqb}
+use Rattle.py_objects.specs.declared.payload.Payload.{Payload}
+use Rattle.py_objects.specs.Objects.{Obj}
+use Rattle.py_check.specs.declared.note.Kind.{Kind}
+use Rattle.py_check.specs.declared.note.Kind.TheVariants as kind
+use Rattle.py_check.specs.Notes.{kind_number, kind_size, same_kind, plain_kind, kind_fits, kinds_fit}
+use Rattle.py_check.specs.Rules.{bottom}
+use Rattle.py_check.specs.Taking.{at_place, picked}
+use Rattle.py_rows.specs.Answers.{HasKind}
+use Rattle.py_rows.specs.Fitting.{HaveKinds}
+
+-- the kinds of a size, each at its number
+abbrev kinds_at : ℕ → List Kind
+kinds_at n = kind.Any ∷ kind.Str ∷ kind.Tuple ∷ kind.List ∷ kind.Set ∷ kind.Dict ∷ kind.Exc ∷ kind.Cell ∷ kind.Cells n ∷ kind.Names n ∷ kind.Code n ∷ []
+
+kind_found : (k : Kind) → slice_get (kinds_at (kind_size k)) (kind_number k) ≡ Some k
+kind_found kind.Any = refl
+kind_found kind.Str = refl
+kind_found kind.Tuple = refl
+kind_found kind.List = refl
+kind_found kind.Set = refl
+kind_found kind.Dict = refl
+kind_found kind.Exc = refl
+kind_found kind.Cell = refl
+kind_found (kind.Cells n) = refl
+kind_found (kind.Names n) = refl
+kind_found (kind.Code c) = refl
+
+-- kinds that pass for the same are the same
+same_kinds : (k l : Kind) → same_kind k l ≡ true → k ≡ l
+same_kinds k l same =
+    let parts = and_parts _ _ same in
+    let number : kind_number k ≡ kind_number l = (Decides-eqb (kind_number k) (kind_number l)).0 parts.0 in
+    let size : kind_size k ≡ kind_size l = (Decides-eqb (kind_size k) (kind_size l)).0 parts.1 in
+    let found : Some k ≡ Some l =
+    sym (kind_found k) ∙ ap (λ n. slice_get (kinds_at n) (kind_number k)) size ∙ ap (slice_get (kinds_at (kind_size l))) number ∙ kind_found l in
+    cc
+
+-- what an object plainly is
+plainly_is : (objects : List Payload) (v : Obj) (k : Kind) → HasKind objects v k → HasKind objects v (plain_kind k)
+plainly_is objects v kind.Any is = is
+plainly_is objects v kind.Str is = is
+plainly_is objects v kind.Tuple is = is
+plainly_is objects v kind.List is = is
+plainly_is objects v kind.Set is = is
+plainly_is objects v kind.Dict is = is
+plainly_is objects v kind.Exc is = is
+plainly_is objects v kind.Cell is = is
+plainly_is objects v (kind.Cells n) is = absurd is
+plainly_is objects v (kind.Names n) (vs, has, count, texts) = (vs, has)
+plainly_is objects v (kind.Code c) is = is
+
+-- an object is of each kind that its own fits
+pub kind_fitted : (objects : List Payload) (v : Obj) (k l : Kind) → HasKind objects v k → kind_fits k l ≡ true → HasKind objects v l
+kind_fitted objects v k l is fits =
+    ⊎_elim
+    (λ some.
+    ⊎_elim
+    (λ same. subst (HasKind objects v) (same_kinds k l same) is)
+    (λ plain. subst (HasKind objects v) (same_kinds (plain_kind k) l plain) (plainly_is objects v k is))
+    (or_cases (same_kind k l) (same_kind (plain_kind k) l) some))
+    (λ any. subst (HasKind objects v) (same_kinds kind.Any l any) tt)
+    (or_cases (same_kind k l || same_kind (plain_kind k) l) (same_kind kind.Any l) fits)
+
+-- so are several
+pub kinds_fitted : (objects : List Payload) (vs : List Obj) (ks ls : List Kind) → HaveKinds objects vs ks → kinds_fit ks ls ≡ true → HaveKinds objects vs ls
+kinds_fitted objects [] [] [] are fit = tt
+kinds_fitted objects [] [] (l ∷ ls) are fit = cc
+kinds_fitted objects [] (k ∷ ks) ls are fit = absurd are
+kinds_fitted objects (v ∷ vs) [] ls are fit = absurd are
+kinds_fitted objects (v ∷ vs) (k ∷ ks) [] are fit = cc
+kinds_fitted objects (v ∷ vs) (k ∷ ks) (l ∷ ls) are fit =
+    let parts = and_parts (kind_fits k l) (kinds_fit ks ls) fit in
+    (kind_fitted objects v k l are.0 parts.0, kinds_fitted objects vs ks ls are.1 parts.1)
+
+-- there is a kind for each object
+pub kinds_counted : (objects : List Payload) (vs : List Obj) (ks : List Kind) → HaveKinds objects vs ks → length vs ≡ length ks
+kinds_counted objects [] [] are = refl
+kinds_counted objects [] (k ∷ ks) are = absurd are
+kinds_counted objects (v ∷ vs) [] are = absurd are
+kinds_counted objects (v ∷ vs) (k ∷ ks) are = ap suc (kinds_counted objects vs ks are.1)
+
+-- the lower values are of the lower kinds
+pub kinds_dropped : (objects : List Payload) (n : ℕ) (vs : List Obj) (ks : List Kind) → HaveKinds objects vs ks → HaveKinds objects (drop n vs) (drop n ks)
+kinds_dropped objects zero vs ks are = are
+kinds_dropped objects (suc n) [] [] are = tt
+kinds_dropped objects (suc n) [] (k ∷ ks) are = absurd are
+kinds_dropped objects (suc n) (v ∷ vs) [] are = absurd are
+kinds_dropped objects (suc n) (v ∷ vs) (k ∷ ks) are = kinds_dropped objects n vs ks are.1
+
+-- those above a level are gone
+pub kinds_under : (objects : List Payload) (l m : ℕ) (vs : List Obj) (ks : List Kind) → m ≡ l → HaveKinds objects vs ks → HaveKinds objects (bottom m vs) (bottom l ks)
+kinds_under objects l m vs ks level are =
+    let count : length vs ≡ length ks = kinds_counted objects vs ks are in
+    let same : length vs - m ≡ length ks - l = omega (arith, level, count) in
+    subst (λ (n : ℕ). HaveKinds objects (drop (length vs - m) vs) (drop n ks)) same (kinds_dropped objects (length vs - m) vs ks are)
+
+-- one behind the other
+pub kinds_joined : (objects : List Payload) (vs ws : List Obj) (ks ls : List Kind) → HaveKinds objects vs ks → HaveKinds objects ws ls → HaveKinds objects (vs ++ ws) (ks ++ ls)
+kinds_joined objects [] ws [] ls are more = more
+kinds_joined objects [] ws (k ∷ ks) ls are more = absurd are
+kinds_joined objects (v ∷ vs) ws [] ls are more = absurd are
+kinds_joined objects (v ∷ vs) ws (k ∷ ks) ls are more = (are.0, kinds_joined objects vs ws ks ls are.1 more)
+
+-- those at the same places
+kinds_at_place : (objects : List Payload) (p : ℕ) (vs : List Obj) (ks : List Kind) → HaveKinds objects vs ks → HaveKinds objects (at_place (slice_get vs p)) (at_place (slice_get ks p))
+kinds_at_place objects p [] [] are = tt
+kinds_at_place objects p [] (k ∷ ks) are = absurd are
+kinds_at_place objects p (v ∷ vs) [] are = absurd are
+kinds_at_place objects zero (v ∷ vs) (k ∷ ks) are = (are.0, tt)
+kinds_at_place objects (suc p) (v ∷ vs) (k ∷ ks) are = kinds_at_place objects p vs ks are.1
+
+pub kinds_picked : (objects : List Payload) (ps : List ℕ) (vs : List Obj) (ks : List Kind) → HaveKinds objects vs ks → HaveKinds objects (picked ps vs) (picked ps ks)
+kinds_picked objects [] vs ks are = tt
+kinds_picked objects (p ∷ ps) vs ks are =
+    kinds_joined objects (at_place (slice_get vs p)) (picked ps vs) (at_place (slice_get ks p)) (picked ps ks) (kinds_at_place objects p vs ks are) (kinds_picked objects ps vs ks are)

@@ -1,0 +1,26 @@
+-- kinds of objects
+pub mod KindLemmas
+-- blocks
+pub mod BlockLemmas
+-- what the rules say of units
+pub mod TypingLemmas
+-- frames that land
+pub mod LandingLemmas
+-- leaving blocks
+pub mod UnwindingLemmas
+-- operands that are taken
+pub mod TakingLemmas
+-- what instructions ask
+pub mod AskingLemmas
+-- frames that go on
+pub mod BehindLemmas
+-- what units do
+pub mod ActingLemmas
+-- what answers do
+pub mod AnsweringLemmas
+-- steps
+pub mod StepLemmas
+-- the slot
+pub mod SlotLemmas
+-- more objects
+pub mod GrowingLemmas

@@ -1,0 +1,98 @@
+-- Operands that are taken off the stack.
+use Rattle.std.proofs.Common.{◌≡◌, ◌∙◌, ◌-◌, ◌<◌, ◌≤◌, ℕ, zero, suc, List, [], ◌∷◌, Bool, true, ◌&&◌, refl, sym, ap, subst, length, take, drop, length-drop, arith}
+use Rattle.std.specs.Prelude.{nat_le, nat_lt, slice_get}
+use Rattle.std.specs.List.{list_all}
+use Rattle.std.proofs.lemmas.Bool.{and_parts, and_from, leb-true, ltb-true}
+use Rattle.py_objects.specs.declared.payload.Payload.{Payload}
+use Rattle.py_objects.specs.Objects.{Obj}
+use Rattle.py_check.specs.declared.note.Kind.{Kind}
+use Rattle.py_check.specs.declared.note.Kind.TheVariants as kind
+use Rattle.py_check.specs.declared.note.BlockNote.{BlockNote}
+use Rattle.py_check.specs.declared.annotated.Annotated.{Annotated}
+use Rattle.py_check.specs.Notes.{kind_fits}
+use Rattle.py_rows.specs.Rows.{is_there, takes_off, reaches}
+use Rattle.py_check.specs.Sheet.{Sheet, sheet_of}
+use Rattle.py_check.specs.Rules.{bottom, handler_lands, handlers_land, top_level}
+use Rattle.py_check.specs.Taking.{takes}
+use Rattle.py_rows.specs.States.{State, Step, with_stack}
+use Rattle.py_rows.specs.Fitting.{HaveKinds, Has}
+use Rattle.py_rows.specs.Laws.{LeadsTo}
+use Rattle.py_rows.proofs.KindLemmas.{kind_fitted}
+
+pub bottom-cons : (l : ℕ) (k : Kind) (ks : List Kind) → l ≤ length ks → bottom l (k ∷ ks) ≡ bottom l ks
+bottom-cons l k ks below = let same : suc (length ks) - l ≡ suc (length ks - l) = omega (arith, below) in ap (λ (n : ℕ). drop n (k ∷ ks)) same
+
+pub bottom-drop : (n l : ℕ) (ks : List Kind) → l ≤ length (drop n ks) → bottom l (drop n ks) ≡ bottom l ks
+bottom-drop zero l ks below = refl
+bottom-drop (suc n) l [] below = refl
+bottom-drop (suc n) l (k ∷ ks) below = bottom-drop n l ks below ∙ sym (bottom-cons l k ks (omega (arith, below, length-drop n ks)))
+
+-- handlers speak of what lies under the top block alone
+pub handlers_same : (sheet : Sheet) (ks ls : List Kind) (bs : List BlockNote) → bottom (top_level bs) ks ≡ bottom (top_level bs) ls → handlers_land sheet ks bs ≡ true → handlers_land sheet ls bs ≡ true
+handlers_same sheet ks ls [] same lands = refl
+handlers_same sheet ks ls (b ∷ bs) same lands = subst (λ (under : List Kind). (handler_lands sheet b under bs && handlers_land sheet under bs) ≡ true) same lands
+
+pub reached : {A : Type 0} (n : ℕ) (xs : List A) → n ≤ length xs → reaches n xs ≡ true
+reached zero xs below = refl
+reached (suc n) [] below = absurd (omega (arith, below))
+reached (suc n) (x ∷ xs) below = reached n xs (omega (arith, below))
+
+-- operands of these kinds, and what lies below them
+pub record Taken (objects : List Payload) (wanted kinds : List Kind) (blocks : List BlockNote) (rest : List Kind → Bool) (stack : List Obj) : Type 0 where
+  pub enough : length wanted ≤ length stack
+  pub taken : HaveKinds objects (take (length wanted) stack) wanted
+  pub holds : HaveKinds objects (drop (length wanted) stack) (drop (length wanted) kinds)
+  pub level : top_level blocks ≤ length (drop (length wanted) kinds)
+  pub keeps : rest (drop (length wanted) kinds) ≡ true
+
+pub taken : (objects : List Payload) (wanted kinds : List Kind) (blocks : List BlockNote) (rest : List Kind → Bool) (stack : List Obj) → takes wanted kinds blocks rest ≡ true → HaveKinds objects stack kinds
+    → Taken objects wanted kinds blocks rest stack
+taken objects [] kinds blocks rest stack may holds =
+    let parts = and_parts (nat_le (top_level blocks) (length kinds)) (rest kinds) may in
+    record { enough = omega arith; taken = tt; holds = holds; level = leb-true (top_level blocks) (length kinds) parts.0; keeps = parts.1 }
+taken objects (w ∷ wanted) [] blocks rest stack may holds = cc
+taken objects (w ∷ wanted) (k ∷ kinds) blocks rest [] may holds = absurd holds
+taken objects (w ∷ wanted) (k ∷ kinds) blocks rest (v ∷ stack) may holds =
+    let parts = and_parts (kind_fits k w) (takes wanted kinds blocks rest) may in
+    let more : Taken objects wanted kinds blocks rest stack = taken objects wanted kinds blocks rest stack parts.1 holds.1 in
+    record { enough = omega (arith, more.enough); taken = (kind_fitted objects v k w holds.0 parts.0, more.taken); holds = more.holds; level = more.level; keeps = more.keeps }
+
+-- a frame whose operands are taken
+pub has_under : (objects : List Payload) (code : Annotated) (n : ℕ) (kinds : List Kind) (blocks : List BlockNote) (s : State) → top_level blocks ≤ length (drop n kinds) → HaveKinds objects (drop n s.stack) (drop n kinds)
+    → Has objects code kinds blocks s → Has objects code (drop n kinds) blocks (with_stack (drop n s.stack) s)
+has_under objects code n kinds blocks s level holds has = record {
+  holds = holds;
+  blocks = has.blocks;
+  handlers = handlers_same (sheet_of code) kinds (drop n kinds) blocks (sym (bottom-drop n (top_level blocks) kinds level)) has.handlers;
+  room = omega (arith, has.room, length-drop n kinds);
+  block_room = has.block_room;
+  locals = has.locals;
+}
+
+-- the topmost value is taken off
+pub off : (objects : List Payload) (code : Annotated) (kinds : List Kind) (blocks : List BlockNote) (rest : List Kind → Bool) (s : State) (P : State → Type 0) (f : Obj → List Obj → Step)
+    → takes (kind.Any ∷ []) kinds blocks rest ≡ true → Has objects code kinds blocks s
+    → ((v : Obj) (vs : List Obj) → Has objects code (drop 1 kinds) blocks (with_stack vs s) → rest (drop 1 kinds) ≡ true → length kinds ≡ suc (length (drop 1 kinds)) → HaveKinds objects (v ∷ vs) kinds → LeadsTo P (f v vs))
+    → LeadsTo P (takes_off s.stack f)
+off objects code kinds blocks rest s P f may has then =
+    let t : Taken objects (kind.Any ∷ []) kinds blocks rest s.stack = taken objects (kind.Any ∷ []) kinds blocks rest s.stack may has.holds in
+    by_stack s.stack kinds has.holds t.enough (has_under objects code 1 kinds blocks s t.level t.holds has) t.keeps then
+  where
+    by_stack : (stack : List Obj) (ks : List Kind) → HaveKinds objects stack ks → 1 ≤ length stack → Has objects code (drop 1 ks) blocks (with_stack (drop 1 stack) s) → rest (drop 1 ks) ≡ true
+        → ((v : Obj) (vs : List Obj) → Has objects code (drop 1 ks) blocks (with_stack vs s) → rest (drop 1 ks) ≡ true → length ks ≡ suc (length (drop 1 ks)) → HaveKinds objects (v ∷ vs) ks → LeadsTo P (f v vs))
+        → LeadsTo P (takes_off stack f)
+    by_stack [] ks holds enough has keeps then = absurd (omega (arith, enough))
+    by_stack (v ∷ vs) [] holds enough has keeps then = absurd holds
+    by_stack (v ∷ vs) (k ∷ ks) holds enough has keeps then = then v vs has keeps refl holds
+
+-- entries at these places
+pub places_there : (objects : List Payload) (ps : List ℕ) (stack : List Obj) → list_all (λ p. nat_lt p (length stack)) ps ≡ true → list_all (λ p. is_there (slice_get stack p)) ps ≡ true
+places_there objects [] stack below = refl
+places_there objects (p ∷ ps) stack below =
+    let parts = and_parts (nat_lt p (length stack)) (list_all (λ p. nat_lt p (length stack)) ps) below in
+    and_from (is_there (slice_get stack p)) (list_all (λ p. is_there (slice_get stack p)) ps) (one_there p stack (ltb-true p (length stack) parts.0)) (places_there objects ps stack parts.1)
+  where
+    one_there : (p : ℕ) (stack : List Obj) → p < length stack → is_there (slice_get stack p) ≡ true
+    one_there p [] below = absurd (omega (arith, below))
+    one_there zero (v ∷ stack) below = refl
+    one_there (suc p) (v ∷ stack) below = one_there p stack (omega (arith, below))

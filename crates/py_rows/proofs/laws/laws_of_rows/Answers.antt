@@ -1,0 +1,24 @@
+use Rattle.py_rows.specs.Laws.{setting_of}
+use Rattle.py_rows.specs.Receiving.{moves}
+use Rattle.py_rows.proofs.StepLemmas.{start_fits, next_fits, steps_fit, within, move_safe}
+use Rattle.py_rows.proofs.SlotLemmas.{slot_kept}
+use Rattle.py_rows.proofs.laws.laws_of_rows.Goals as goal
+
+pub returns-clause-start : goal.returns-clause-start
+returns-clause-start c = start_fits
+
+pub returns-clause-next : goal.returns-clause-next
+returns-clause-next c = λ objects names globals code s sound fits moving. next_fits objects names globals code sound s s.wants fits moving
+
+pub returns-clause-steps : goal.returns-clause-steps
+returns-clause-steps c = λ objects names globals code s t xs sound fits steps. steps_fit objects names globals code sound s xs t fits steps
+
+pub returns-clause-within : goal.returns-clause-within
+returns-clause-within c = λ objects names code s sound fits. within objects names (record { number = 0 }) code sound s s.wants fits
+
+pub returns-clause-slot : goal.returns-clause-slot
+returns-clause-slot c = slot_kept
+
+pub returns-clause-safe : goal.returns-clause-safe
+returns-clause-safe c = λ objects names globals code s sound fits moving.
+    move_safe objects names code sound (moves (setting_of names globals code) s.wants s) (next_fits objects names globals code sound s s.wants fits moving)

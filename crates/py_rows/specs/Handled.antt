@@ -1,0 +1,49 @@
+-- Which exception is handled inside blocks.
+use Rattle.std.specs.Prelude.{Option, Some, None, List, [], ◌∷◌, ◌≡◌}
+use Rattle.py_objects.specs.declared.refs.PyBaseExceptionRef.{PyBaseExceptionRef}
+use Rattle.py_rows.specs.declared.block.Block.{Block}
+use Rattle.py_rows.specs.declared.block.BlockType.{BlockType}
+use Rattle.py_rows.specs.declared.block.BlockType.TheVariants.{Loop, TryExcept, Finally, FinallyHandler, ExceptHandler}
+use Rattle.py_rows.specs.declared.block.Reason.{Reason}
+use Rattle.py_rows.specs.declared.block.Reason.TheVariants as reason
+use Rattle.py_rows.specs.States.{State}
+
+-- what is handled in a finally that was entered for a reason
+abbrev pub entered_by : Reason → Option PyBaseExceptionRef → Option PyBaseExceptionRef
+entered_by (reason.Raising e) outer = Some e
+entered_by (reason.Returning v) outer = outer
+entered_by (reason.Break to) outer = outer
+entered_by (reason.Continue to) outer = outer
+
+abbrev pub entered_if : Option Reason → Option PyBaseExceptionRef → Option PyBaseExceptionRef
+entered_if None outer = outer
+entered_if (Some r) outer = entered_by r outer
+
+abbrev pub handled_by : BlockType → Option PyBaseExceptionRef → Option PyBaseExceptionRef
+handled_by Loop outer = outer
+handled_by (TryExcept handler) outer = outer
+handled_by (Finally handler) outer = outer
+handled_by (FinallyHandler r kept) outer = entered_if r outer
+handled_by (ExceptHandler e kept) outer = Some e
+
+-- the exception of the innermost handler that was entered by one, else the one that is handled outside
+abbrev pub handled_in : Option PyBaseExceptionRef → List Block → Option PyBaseExceptionRef
+handled_in first [] = first
+handled_in first (b ∷ blocks) = handled_by b.typ (handled_in first blocks)
+
+-- a handler keeps what is handled outside of it
+abbrev pub Keeps : BlockType → Option PyBaseExceptionRef → Type 0
+Keeps Loop outer = Unit {0}
+Keeps (TryExcept handler) outer = Unit {0}
+Keeps (Finally handler) outer = Unit {0}
+Keeps (FinallyHandler r kept) outer = kept ≡ outer
+Keeps (ExceptHandler e kept) outer = kept ≡ outer
+
+abbrev pub AllKeep : Option PyBaseExceptionRef → List Block → Type 0
+AllKeep first [] = Unit {0}
+AllKeep first (b ∷ blocks) = Keeps b.typ (handled_in first blocks) × AllKeep first blocks
+
+-- the slot holds what is handled, where it held this at first
+pub record KeepsSlot (first : Option PyBaseExceptionRef) (s : State) : Type 0 where
+  pub slot : s.slot ≡ handled_in first s.blocks
+  pub outer : AllKeep first s.blocks

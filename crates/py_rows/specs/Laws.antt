@@ -1,0 +1,94 @@
+-- What holds of every step.
+use Rattle.std.specs.Prelude.{ℕ, ◌≤◌, Bool, Option, Some, None, List, length}
+use Rattle.py_objects.specs.declared.refs.PyBaseExceptionRef.{PyBaseExceptionRef}
+use Rattle.py_objects.specs.declared.payload.Payload.{Payload}
+use Rattle.py_objects.specs.declared.payload.Payload.TheVariants as payload
+use Rattle.py_objects.specs.Objects.{Obj, HasPayload, as_object}
+use Rattle.py_objects.specs.Own.{Own}
+use Rattle.py_check.specs.declared.annotated.Annotated.{Annotated}
+use Rattle.py_check.specs.Depths.{deepest}
+use Rattle.py_rows.specs.declared.expect.Expect.{Expect}
+use Rattle.py_rows.specs.declared.expect.Expect.TheVariants as expect
+use Rattle.py_rows.specs.States.{Setting, State, Step, Goes, Tells, Stuck, Move, Plainly, Loads, Decides, Exits}
+use Rattle.py_rows.specs.Handled.{KeepsSlot}
+use Rattle.py_check.specs.declared.note.Kind.TheVariants as kind
+use Rattle.py_rows.specs.Answers.{HasKind}
+use Rattle.py_rows.specs.Receiving.{moves}
+use Rattle.py_rows.specs.RunOfRows.{Steps, started}
+use Rattle.py_rows.specs.Fitting.{FitsAt, IsSound}
+
+-- what a step leads to has a property, and isn't nothing
+abbrev pub LeadsTo : (State → Type 0) → Step → Type 0
+LeadsTo P (Goes t) = P t
+LeadsTo P (Tells x t) = P t
+LeadsTo P Stuck = ⊥
+
+-- an exception is there
+abbrev pub RaisedThere : List Payload → Option PyBaseExceptionRef → Type 0
+RaisedThere objects None = Unit {0}
+RaisedThere objects (Some e) = HasKind objects (as_object e) kind.Exc
+
+-- so does a move, whatever it loads or is told; what it decides by is a truth value
+abbrev pub AlwaysLeads : List Payload → (State → Type 0) → Move → Type 0
+AlwaysLeads objects P (Plainly step) = LeadsTo P step
+AlwaysLeads objects P (Loads p f) = (v : Obj) → HasPayload objects v p → LeadsTo P (f v)
+AlwaysLeads objects P (Decides v f) = ((b : Bool) × HasPayload objects v (payload.Bool b)) × ((b : Bool) → LeadsTo P (f b))
+AlwaysLeads objects P (Exits e f) = RaisedThere objects e × ((t v b : Obj) → LeadsTo P (f t v b))
+
+-- the stack and the blocks are within the sizes
+abbrev pub IsWithin : ℕ → ℕ → State → Type 0
+IsWithin max depth s = (length s.stack ≤ max) × (length s.blocks ≤ depth)
+
+-- the same where it may be nothing
+abbrev pub IfLeads : (State → Type 0) → Step → Type 0
+IfLeads P (Goes t) = P t
+IfLeads P (Tells x t) = P t
+IfLeads P Stuck = Unit {0}
+
+abbrev pub IsMoving : Expect → Type 0
+IsMoving expect.Start = ⊥
+IsMoving expect.Go = Unit {0}
+IsMoving (expect.Answer w) = ⊥
+IsMoving expect.Resume = ⊥
+IsMoving (expect.Heard w) = Unit {0}
+IsMoving expect.Ended = ⊥
+
+-- a frame of a sound code
+abbrev pub setting_of : List (List ℕ) → Obj → Annotated → Setting
+setting_of names globals code = record { code = code.code; names = names; globals = globals }
+
+-- a frame that fits its code and expects no input isn't stuck, and fits its code behind its step
+abbrev pub NextFits : Type 0
+NextFits = (objects : List Payload) (names : List (List ℕ)) (globals : Obj) (code : Annotated) (s : State)
+    → IsSound names code → FitsAt objects code s.wants s → IsMoving s.wants → AlwaysLeads objects (λ t. FitsAt objects code t.wants t) (moves (setting_of names globals code) s.wants s)
+
+-- so it does behind each step of a run
+abbrev pub StepsFit : Type 0
+StepsFit = (objects : List Payload) (names : List (List ℕ)) (globals : Obj) (code : Annotated) (s t : State) (xs : List Own)
+    → IsSound names code → FitsAt objects code s.wants s → Steps objects (setting_of names globals code) s xs t → FitsAt objects code t.wants t
+
+-- it is within the sizes
+abbrev pub FitsWithin : Type 0
+FitsWithin = (objects : List Payload) (names : List (List ℕ)) (code : Annotated) (s : State)
+    → IsSound names code → FitsAt objects code s.wants s → IsWithin code.code.code.max_stackdepth (deepest code.notes) s
+
+-- the slot holds the exception of the innermost handler, or what it held at first
+abbrev pub SlotKept : Type 0
+SlotKept = (objects : List Payload) (setting : Setting) (first : Option PyBaseExceptionRef) (s t : State) (xs : List Own) → KeepsSlot first s → Steps objects setting s xs t → KeepsSlot first t
+
+-- a frame that hasn't begun fits its code
+abbrev pub StartFits : Type 0
+StartFits = (objects : List Payload) (names : List (List ℕ)) (code : Annotated) (slot : Option PyBaseExceptionRef) (args : List Obj) → IsSound names code → FitsAt objects code expect.Start (started code.code slot args)
+
+-- a step that can be made: it isn't nothing, and leads to a state within the sizes
+abbrev pub IsSafe : ℕ → ℕ → Step → Type 0
+IsSafe max depth step = LeadsTo (IsWithin max depth) step
+
+-- the same of a move
+abbrev pub IsSafeMove : List Payload → ℕ → ℕ → Move → Type 0
+IsSafeMove objects max depth move = AlwaysLeads objects (IsWithin max depth) move
+
+-- whatever a sound code's frame does next can be made
+abbrev pub NextSafe : Type 0
+NextSafe = (objects : List Payload) (names : List (List ℕ)) (globals : Obj) (code : Annotated) (s : State)
+    → IsSound names code → FitsAt objects code s.wants s → IsMoving s.wants → IsSafeMove objects code.code.code.max_stackdepth (deepest code.notes) (moves (setting_of names globals code) s.wants s)

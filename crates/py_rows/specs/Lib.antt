@@ -1,0 +1,18 @@
+-- states of frames, and what a step leads to
+pub mod States
+-- which exception is handled
+pub mod Handled
+-- what leaving blocks does
+pub mod Unwinding
+-- which answers requests want
+pub mod Answers
+-- what instructions ask, what they do, and what they do with an answer
+pub mod Asked
+pub mod Rows
+pub mod Receiving
+-- runs of the rows of a code
+pub mod RunOfRows
+-- how a frame fits the notes of its code
+pub mod Fitting
+-- what holds of every run
+pub mod Laws

@@ -1,0 +1,77 @@
+-- A run of the rows of a code: which own events an activation may tell, step by step, and where it has come to.
+use Rattle.std.specs.Prelude.{ℕ, zero, suc, Bool, Option, Some, None, List, [], ◌∷◌, ◌++◌, ◌≡◌, length}
+use Rattle.py_code.specs.declared.code.PyCode.{PyCode}
+use Rattle.py_objects.specs.declared.refs.PyBaseExceptionRef.{PyBaseExceptionRef}
+use Rattle.py_objects.specs.declared.payload.Payload.{Payload}
+use Rattle.py_objects.specs.declared.payload.Payload.TheVariants as payload
+use Rattle.py_objects.specs.declared.event.GotAnswer.{GotAnswer}
+use Rattle.py_objects.specs.declared.event.GotAnswer.TheVariants as got
+use Rattle.py_objects.specs.declared.event.ResumeHow.{ResumeHow}
+use Rattle.py_objects.specs.declared.event.ResumeHow.TheVariants as how
+use Rattle.py_objects.specs.Objects.{Obj, HasPayload, as_object}
+use Rattle.py_objects.specs.Own.{Own, Resumes, Gets}
+use Rattle.py_check.specs.declared.note.Kind.TheVariants as kind
+use Rattle.py_rows.specs.declared.expect.Expect.{Expect}
+use Rattle.py_rows.specs.declared.expect.Expect.TheVariants as expect
+use Rattle.py_rows.specs.States.{Setting, State, Step, Goes, Tells, Move, Plainly, Loads, Decides, Exits, waiting}
+use Rattle.py_rows.specs.Answers.{HasKind, IsAnswer}
+use Rattle.py_rows.specs.Receiving.{moves}
+
+-- what an exit is told: an exception between its class and its traceback, which are left open here, or three times None
+abbrev pub IsExit : List Payload → Option PyBaseExceptionRef → Obj → Obj → Obj → Type 0
+IsExit objects None t v b = HasPayload objects t payload.None × HasPayload objects v payload.None × HasPayload objects b payload.None
+IsExit objects (Some e) t v b = v ≡ as_object e
+
+-- a move may lead to a step
+abbrev pub MayLead : List Payload → Move → Step → Type 0
+MayLead objects (Plainly step) done = step ≡ done
+MayLead objects (Loads p f) done = (v : Obj) × HasPayload objects v p × (f v ≡ done)
+MayLead objects (Decides v f) done = (b : Bool) × HasPayload objects v (payload.Bool b) × (f b ≡ done)
+MayLead objects (Exits e f) done = (t : Obj) × (v : Obj) × (b : Obj) × IsExit objects e t v b × (f t v b ≡ done)
+
+-- an activation is entered, or goes on behind a yield
+abbrev pub how_got : ResumeHow → Option GotAnswer
+how_got how.Start = None
+how_got (how.Send v) = Some (got.Value v)
+how_got (how.Throw e) = Some (got.Raise e)
+
+abbrev pub starts : Option GotAnswer → Expect
+starts None = expect.Go
+starts (Some w) = expect.Heard w
+
+-- what is thrown in is an exception
+abbrev pub IsThrown : List Payload → ResumeHow → Type 0
+IsThrown objects how.Start = Unit {0}
+IsThrown objects (how.Send v) = Unit {0}
+IsThrown objects (how.Throw e) = HasKind objects (as_object e) kind.Exc
+
+-- an input that a frame may hear, and what it expects then
+abbrev pub Hears : List Payload → Expect → Own → Expect → Type 0
+Hears objects expect.Start (Resumes how.Start) x = x ≡ expect.Go
+Hears objects expect.Start (Resumes (how.Throw e)) x = HasKind objects (as_object e) kind.Exc × (x ≡ expect.Heard (got.Raise e))
+Hears objects (expect.Answer w) (Gets g) x = IsAnswer objects w g × (x ≡ expect.Heard g)
+Hears objects expect.Resume (Resumes (how.Send v)) x = x ≡ expect.Heard (got.Value v)
+Hears objects expect.Resume (Resumes (how.Throw e)) x = HasKind objects (as_object e) kind.Exc × (x ≡ expect.Heard (got.Raise e))
+Hears objects _ _ x = ⊥
+
+-- one step, with the events that it hears and tells: a silent one, one that tells, one that hears
+pub data Steps (objects : List Payload) (setting : Setting) (s : State) : List Own → State → Type 0 where
+  silent : (t : State) → MayLead objects (moves setting s.wants s) (Goes t) → Steps objects setting s [] t
+  telling : (x : Own) (t : State) → MayLead objects (moves setting s.wants s) (Tells x t) → Steps objects setting s (x ∷ []) t
+  hearing : (x : Own) (w : Expect) → Hears objects s.wants x w → Steps objects setting s (x ∷ []) (waiting w s)
+
+-- the locals of a frame: the arguments, then unset ones
+abbrev pub filled : ℕ → List Obj → List (Option Obj)
+filled zero vs = []
+filled (suc n) [] = None ∷ filled n []
+filled (suc n) (v ∷ vs) = Some v ∷ filled n vs
+
+-- where a frame begins, with these arguments, and this exception in the slot
+abbrev pub started : PyCode → Option PyBaseExceptionRef → List Obj → State
+started code slot args =
+    record { at = 0; last = 0; prefix = 0; stack = []; blocks = []; locals = filled (length code.code.varnames.items) args; slot = slot; phase = 0; wants = expect.Start }
+
+-- steps that lead from one state to another, with the events that they hear and tell
+pub data Runs (objects : List Payload) (setting : Setting) (s : State) : List Own → State → Type 0 where
+  stays : Runs objects setting s [] s
+  on : {us vs : List Own} {t : State} (u : State) → Runs objects setting s us t → Steps objects setting t vs u → Runs objects setting s (us ++ vs) u

@@ -1,0 +1,10 @@
+//! Rows: what each unit of a code does to a frame, which blocks it opens and leaves, and what frames expect.
+#![tactic(auto)]
+
+mod block;
+mod expect;
+mod laws;
+
+pub use block::{Block, BlockType, Reason};
+pub use expect::{Expect, Wanted};
+pub use laws::laws_of_rows;
