@@ -23,8 +23,8 @@ use Rattle.py_code.specs.declared.flags.TheConstants.CodeFlags.{IS_GENERATOR}
 use Rattle.py_check.specs.Effects.{Effect, Moves, AsksOnce, Other, effect, has_operand}
 use Rattle.py_check.specs.Sheet.{sheet_of}
 use Rattle.py_check.specs.Rules.{bottom, top_level, has_room, lands, goes_on, jumps as may_jump, handlers_land, is_popped, leaves_block}
-use Rattle.py_check.specs.Taking.{takes, takes_top, at_place, picked, may_move}
-use Rattle.py_check.specs.Leaving.{is_finally_handler, is_except_handler, ends_with, ends_finally, leaves_handler, starts_cleanup, ends_cleanup, walks}
+use Rattle.py_check.specs.Taking.{takes, takes_top}
+use Rattle.py_check.specs.Leaving.{is_finally_handler, ends_with, starts_cleanup, ends_cleanup, walks}
 use Rattle.py_check.specs.Typing.{opens, keeps_by, keeps_own, keeps_op}
 use Rattle.py_check.specs.Rules as rules
 use Rattle.py_check.specs.Typing as typing

@@ -22,6 +22,13 @@ use Rattle.py_rows.specs.declared.expect.Expect.{Expect}
 use Rattle.py_rows.specs.declared.expect.Expect.TheVariants as expect
 use Rattle.py_rows.specs.States.{State}
 use Rattle.py_rows.specs.Answers.{HasKind, IsValue}
+use Rattle.py_objects.specs.declared.event.GotAnswer.{GotAnswer}
+use Rattle.py_objects.specs.declared.event.ResumeHow.TheVariants as how
+use Rattle.py_objects.specs.Own.{Own, Resumes, Gets}
+use Rattle.py_rows.specs.States.{Setting, Step, Goes, Tells, Move, Plainly, Loads, Decides, Exits}
+use Rattle.py_rows.specs.Receiving.{moves}
+use Rattle.py_rows.specs.RunOfRows.{IsExit, MayLead, Hears, Steps, silent, telling, hearing, Runs, stays, on}
+use Rattle.py_rows.specs.Answers.{IsAnswer}
 use Rattle.py_rows.specs.Fitting.{HaveKinds, WaitsIn, MayWait, TypeWaits, AreBlocks, Has, FitsNote, FitsBut, FitsAt}
 
 -- an entry stays where it is as more comes behind
@@ -120,3 +127,38 @@ module _ (objects objects' : List Payload) (grows : Grows objects objects') wher
   fits_grown code (expect.Heard (got.Raise e)) s f =
       (kind_grown objects objects' (as_object e) kind.Exc grows f.0, record { kinds = f.1.kinds; block_notes = f.1.block_notes; has = has_grown code f.1.kinds f.1.block_notes s f.1.has; there = f.1.there })
   fits_grown code expect.Ended s f = f
+
+-- a step stays one as objects grow
+lead_grown : (objects objects' : List Payload) → Grows objects objects' → (m : Move) (step : Step) → MayLead objects m step → MayLead objects' m step
+lead_grown objects objects' grows (Plainly done) step may = may
+lead_grown objects objects' grows (Loads p f) step (v, has, is) = (v, payload_grown objects objects' v p grows has, is)
+lead_grown objects objects' grows (Decides v f) step (b, has, is) = (b, payload_grown objects objects' v _ grows has, is)
+lead_grown objects objects' grows (Exits e f) step (t, v, b, exits, is) = (t, v, b, exit_grown e exits, is)
+  where
+    exit_grown : (e : _) → IsExit objects e t v b → IsExit objects' e t v b
+    exit_grown None (x, y, z) = (payload_grown objects objects' t _ grows x, payload_grown objects objects' v _ grows y, payload_grown objects objects' b _ grows z)
+    exit_grown (Some e) same = same
+
+-- the same of a whole step
+step_grown : (objects objects' : List Payload) → Grows objects objects' → (setting : Setting) (s t : State) (xs : List Own) → Steps objects setting s xs t → Steps objects' setting s xs t
+step_grown objects objects' grows setting s _ _ (silent t may) = silent t (lead_grown objects objects' grows (moves setting s.wants s) (Goes t) may)
+step_grown objects objects' grows setting s _ _ (telling x t may) = telling x t (lead_grown objects objects' grows (moves setting s.wants s) (Tells x t) may)
+step_grown objects objects' grows setting s _ _ (hearing x w hears) = hearing x w (hears_grown s.wants x w hears)
+  where
+    answer_grown : (w : Wanted) (g : GotAnswer) → IsAnswer objects w g → IsAnswer objects' w g
+    answer_grown w (got.Value v) is = value_grown objects objects' grows w v is
+    answer_grown w (got.Stop v) is = is
+    answer_grown w (got.Raise e) is = kind_grown objects objects' (as_object e) kind.Exc grows is
+
+    hears_grown : (y : Expect) (x : Own) (w : Expect) → Hears objects y x w → Hears objects' y x w
+    hears_grown expect.Start (Resumes how.Start) w hears = hears
+    hears_grown expect.Start (Resumes (how.Throw e)) w hears = (kind_grown objects objects' (as_object e) kind.Exc grows hears.0, hears.1)
+    hears_grown (expect.Answer wanted) (Gets g) w hears = (answer_grown wanted g hears.0, hears.1)
+    hears_grown expect.Resume (Resumes (how.Send v)) w hears = hears
+    hears_grown expect.Resume (Resumes (how.Throw e)) w hears = (kind_grown objects objects' (as_object e) kind.Exc grows hears.0, hears.1)
+    hears_grown _ _ w hears = absurd hears
+
+-- and of a run
+pub run_grown : (objects objects' : List Payload) → Grows objects objects' → (setting : Setting) (s t : State) (xs : List Own) → Runs objects setting s xs t → Runs objects' setting s xs t
+run_grown objects objects' grows setting s _ _ stays = stays
+run_grown objects objects' grows setting s _ _ (on {us = us} {vs = vs} {t = t} u run step) = on u (run_grown objects objects' grows setting s t us run) (step_grown objects objects' grows setting t u vs step)

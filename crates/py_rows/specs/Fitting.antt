@@ -47,6 +47,7 @@ HaveKinds objects [] (k ∷ ks) = ⊥
 HaveKinds objects (v ∷ vs) [] = ⊥
 HaveKinds objects (v ∷ vs) (k ∷ ks) = HasKind objects v k × HaveKinds objects vs ks
 
+-- a number for each kind of block, which is that of its note
 abbrev pub type_number : BlockType → ℕ
 type_number Loop = 0
 type_number (TryExcept handler) = 1
@@ -54,6 +55,7 @@ type_number (Finally handler) = 2
 type_number (FinallyHandler r kept) = 3
 type_number (ExceptHandler e kept) = 4
 
+-- the label of its handler, 0 where it has none
 abbrev pub type_handler : BlockType → ℕ
 type_handler Loop = 0
 type_handler (TryExcept handler) = handler
@@ -68,10 +70,12 @@ WaitsIn objects ps (reason.Returning v) = Unit {0}
 WaitsIn objects ps (reason.Break to) = list_any (same_pending (pending.Break to)) ps ≡ true
 WaitsIn objects ps (reason.Continue to) = list_any (same_pending (pending.Continue to)) ps ≡ true
 
+-- the same of a reason, if any
 abbrev pub MayWait : List Payload → List Pending → Option Reason → Type 0
 MayWait objects ps None = Unit {0}
 MayWait objects ps (Some r) = WaitsIn objects ps r
 
+-- the same of what waits in a block
 abbrev pub TypeWaits : List Payload → List Pending → BlockType → Type 0
 TypeWaits objects ps Loop = Unit {0}
 TypeWaits objects ps (TryExcept handler) = Unit {0}
@@ -123,10 +127,12 @@ abbrev pub wanted_of : Option Kind → Wanted
 wanted_of None = want.Of kind.Any
 wanted_of (Some k) = want.Of k
 
+-- while a raise with a cause waits for the cause, and then for the exception
 abbrev pub cause_left : ℕ → List Kind → List BlockNote → Option Waiting
 cause_left zero ks bs = Some (record { kinds = drop 1 ks; blocks = bs; wanted = want.Of kind.Any })
 cause_left (suc n) ks bs = Some (record { kinds = drop 2 ks; blocks = bs; wanted = want.Of kind.Exc })
 
+-- while a raise waits
 abbrev pub raise_left : Option RaiseKind → ℕ → List Kind → List BlockNote → Option Waiting
 raise_left None phase ks bs = None
 raise_left (Some raise.Reraise) phase ks bs = Some (record { kinds = ks; blocks = bs; wanted = want.Of kind.Exc })
@@ -146,11 +152,13 @@ left_own Raise i phase ks bs = raise_left (slice_get raise_kinds i) phase ks bs
 left_own YieldValue i phase ks bs = Some (record { kinds = drop 1 ks; blocks = bs; wanted = want.Of kind.Any })
 left_own _ i phase ks bs = None
 
+-- what is left by the table of effects
 abbrev pub left_by : Effect → Option Waiting → List Kind → List BlockNote → Option Waiting
 left_by (Moves n places) own ks bs = None
 left_by (AsksOnce taken pushes) own ks bs = Some (record { kinds = drop (length taken) ks; blocks = bs; wanted = wanted_of pushes })
 left_by Other own ks bs = own
 
+-- what is left while an instruction waits, in this phase, with its operand
 abbrev pub left_of : Instruction → ℕ → ℕ → List Kind → List BlockNote → Option Waiting
 left_of op i phase ks bs = left_by (effect op i) (left_own op i phase ks bs) ks bs
 
@@ -174,6 +182,7 @@ pub record CanUnwind (objects : List Payload) (code : Annotated) (s : State) : T
   pub has : Has objects code kinds block_notes s
   pub there : s.at < length code.code.code.instructions.items
 
+-- a frame fits what it heard: a value that its unit wanted, or an exception
 abbrev pub FitsHeard : List Payload → Annotated → GotAnswer → State → Type 0
 FitsHeard objects code (got.Value v) s = (w : Wanted) × FitsBut objects code w s × IsValue objects w v
 FitsHeard objects code (got.Stop v) s = ⊥

@@ -15,10 +15,12 @@ entered_by (reason.Returning v) outer = outer
 entered_by (reason.Break to) outer = outer
 entered_by (reason.Continue to) outer = outer
 
+-- the same of a reason, if any
 abbrev pub entered_if : Option Reason → Option PyBaseExceptionRef → Option PyBaseExceptionRef
 entered_if None outer = outer
 entered_if (Some r) outer = entered_by r outer
 
+-- what is handled in a block
 abbrev pub handled_by : BlockType → Option PyBaseExceptionRef → Option PyBaseExceptionRef
 handled_by Loop outer = outer
 handled_by (TryExcept handler) outer = outer
@@ -39,6 +41,7 @@ Keeps (Finally handler) outer = Unit {0}
 Keeps (FinallyHandler r kept) outer = kept ≡ outer
 Keeps (ExceptHandler e kept) outer = kept ≡ outer
 
+-- so does each block
 abbrev pub AllKeep : Option PyBaseExceptionRef → List Block → Type 0
 AllKeep first [] = Unit {0}
 AllKeep first (b ∷ blocks) = Keeps b.typ (handled_in first blocks) × AllKeep first blocks

@@ -4,6 +4,7 @@ use Rattle.py_objects.specs.declared.refs.PyBaseExceptionRef.{PyBaseExceptionRef
 use Rattle.py_objects.specs.declared.payload.Payload.{Payload}
 use Rattle.py_objects.specs.declared.payload.Payload.TheVariants as payload
 use Rattle.py_objects.specs.Objects.{Obj, HasPayload, as_object}
+use Rattle.py_objects.specs.Growth.{Grows}
 use Rattle.py_objects.specs.Own.{Own}
 use Rattle.py_check.specs.declared.annotated.Annotated.{Annotated}
 use Rattle.py_check.specs.Depths.{deepest}
@@ -14,7 +15,7 @@ use Rattle.py_rows.specs.Handled.{KeepsSlot}
 use Rattle.py_check.specs.declared.note.Kind.TheVariants as kind
 use Rattle.py_rows.specs.Answers.{HasKind}
 use Rattle.py_rows.specs.Receiving.{moves}
-use Rattle.py_rows.specs.RunOfRows.{Steps, started}
+use Rattle.py_rows.specs.RunOfRows.{Steps, Runs, started}
 use Rattle.py_rows.specs.Fitting.{FitsAt, IsSound}
 
 -- what a step leads to has a property, and isn't nothing
@@ -45,6 +46,7 @@ IfLeads P (Goes t) = P t
 IfLeads P (Tells x t) = P t
 IfLeads P Stuck = Unit {0}
 
+-- a frame that expects this goes on by itself
 abbrev pub IsMoving : Expect → Type 0
 IsMoving expect.Start = ⊥
 IsMoving expect.Go = Unit {0}
@@ -92,3 +94,11 @@ IsSafeMove objects max depth move = AlwaysLeads objects (IsWithin max depth) mov
 abbrev pub NextSafe : Type 0
 NextSafe = (objects : List Payload) (names : List (List ℕ)) (globals : Obj) (code : Annotated) (s : State)
     → IsSound names code → FitsAt objects code s.wants s → IsMoving s.wants → IsSafeMove objects code.code.code.max_stackdepth (deepest code.notes) (moves (setting_of names globals code) s.wants s)
+
+-- what fits goes on to fit as objects are added
+abbrev pub FitsGrow : Type 0
+FitsGrow = (objects objects' : List Payload) (code : Annotated) (s : State) → Grows objects objects' → FitsAt objects code s.wants s → FitsAt objects' code s.wants s
+
+-- a run goes over to more objects
+abbrev pub RunsGrow : Type 0
+RunsGrow = (objects objects' : List Payload) (setting : Setting) (s t : State) (xs : List Own) → Grows objects objects' → Runs objects setting s xs t → Runs objects' setting s xs t

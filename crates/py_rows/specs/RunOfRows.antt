@@ -29,22 +29,6 @@ MayLead objects (Loads p f) done = (v : Obj) × HasPayload objects v p × (f v �
 MayLead objects (Decides v f) done = (b : Bool) × HasPayload objects v (payload.Bool b) × (f b ≡ done)
 MayLead objects (Exits e f) done = (t : Obj) × (v : Obj) × (b : Obj) × IsExit objects e t v b × (f t v b ≡ done)
 
--- an activation is entered, or goes on behind a yield
-abbrev pub how_got : ResumeHow → Option GotAnswer
-how_got how.Start = None
-how_got (how.Send v) = Some (got.Value v)
-how_got (how.Throw e) = Some (got.Raise e)
-
-abbrev pub starts : Option GotAnswer → Expect
-starts None = expect.Go
-starts (Some w) = expect.Heard w
-
--- what is thrown in is an exception
-abbrev pub IsThrown : List Payload → ResumeHow → Type 0
-IsThrown objects how.Start = Unit {0}
-IsThrown objects (how.Send v) = Unit {0}
-IsThrown objects (how.Throw e) = HasKind objects (as_object e) kind.Exc
-
 -- an input that a frame may hear, and what it expects then
 abbrev pub Hears : List Payload → Expect → Own → Expect → Type 0
 Hears objects expect.Start (Resumes how.Start) x = x ≡ expect.Go

@@ -52,12 +52,15 @@ next s = record s { at = suc s.at; prefix = 0 }
 abbrev pub landed : ℕ → State → State
 landed to s = record s { at = to; prefix = 0 }
 
+-- it waits
 abbrev pub waiting : Expect → State → State
 waiting x s = record s { wants = x }
 
+-- with another stack
 abbrev pub with_stack : List Obj → State → State
 with_stack stack s = record s { stack = stack }
 
+-- with one more value
 abbrev pub pushed : Obj → State → State
 pushed v s = record s { stack = v ∷ s.stack }
 

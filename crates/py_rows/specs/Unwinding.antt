@@ -36,6 +36,7 @@ meets_loop (reason.Returning v) level outer s on = on (left level outer s)
 meets_loop (reason.Break to) level outer s on = jumps to (left level outer s)
 meets_loop (reason.Continue to) level outer s on = jumps to s
 
+-- a try is met: its handler takes what is raised
 abbrev pub meets_except : Reason → ℕ → ℕ → List Block → State → (State → Step) → Step
 meets_except (reason.Raising e) handler level outer s on =
     jumps handler (record s { stack = as_object e ∷ bottom level s.stack; blocks = record { typ = ExceptHandler e s.slot; level = level } ∷ outer; slot = Some e })
@@ -43,10 +44,12 @@ meets_except (reason.Returning v) handler level outer s on = on (left level oute
 meets_except (reason.Break to) handler level outer s on = on (left level outer s)
 meets_except (reason.Continue to) handler level outer s on = on (left level outer s)
 
+-- a finally is met: its handler takes every reason
 abbrev pub meets_finally : Reason → ℕ → ℕ → List Block → State → Step
 meets_finally r handler level outer s =
     jumps handler (record s { stack = bottom level s.stack; blocks = record { typ = FinallyHandler (Some r) s.slot; level = level } ∷ outer; slot = entered_by r s.slot })
 
+-- a block is met, with those around it; handlers are left, with what they kept
 abbrev pub meets : Reason → BlockType → ℕ → List Block → State → (State → Step) → Step
 meets r Loop level outer s on = meets_loop r level outer s on
 meets r (TryExcept handler) level outer s on = meets_except r handler level outer s on
@@ -59,5 +62,6 @@ abbrev pub unwind : Reason → List Block → State → Step
 unwind r [] s = ends r s
 unwind r (b ∷ outer) s = meets r b.typ b.level outer s (λ t. unwind r outer t)
 
+-- the blocks of a state are left for a reason
 unfoldable pub unwinds : Reason → State → Step
 unwinds r s = unwind r s.blocks s

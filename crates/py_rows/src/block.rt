@@ -21,13 +21,23 @@ pub enum BlockType {
     /// A loop.
     Loop,
     /// What is raised goes to the handler.
-    TryExcept { handler: u32 },
+    TryExcept {
+        handler: u32,
+    },
     /// All that leaves the block goes to the handler.
-    Finally { handler: u32 },
+    Finally {
+        handler: u32,
+    },
     /// The handler of a `Finally`: why it was entered, and the exception that was handled outside of it.
-    FinallyHandler { reason: Option<Reason>, kept: Option<PyBaseExceptionRef> },
+    FinallyHandler {
+        reason: Option<Reason>,
+        kept: Option<PyBaseExceptionRef>,
+    },
     /// The handler of a `TryExcept`: the exception that it handles, and the one that was handled outside of it.
-    ExceptHandler { exception: PyBaseExceptionRef, kept: Option<PyBaseExceptionRef> },
+    ExceptHandler {
+        exception: PyBaseExceptionRef,
+        kept: Option<PyBaseExceptionRef>,
+    },
 }
 
 /// An open block. Its level is how many values of the stack lie under it.

@@ -2,6 +2,7 @@ use Rattle.py_rows.specs.Laws.{setting_of}
 use Rattle.py_rows.specs.Receiving.{moves}
 use Rattle.py_rows.proofs.StepLemmas.{start_fits, next_fits, steps_fit, within, move_safe}
 use Rattle.py_rows.proofs.SlotLemmas.{slot_kept}
+use Rattle.py_rows.proofs.GrowingLemmas.{fits_grown, run_grown}
 use Rattle.py_rows.proofs.laws.laws_of_rows.Goals as goal
 
 pub returns-clause-start : goal.returns-clause-start
@@ -22,3 +23,9 @@ returns-clause-slot c = slot_kept
 pub returns-clause-safe : goal.returns-clause-safe
 returns-clause-safe c = λ objects names globals code s sound fits moving.
     move_safe objects names code sound (moves (setting_of names globals code) s.wants s) (next_fits objects names globals code sound s s.wants fits moving)
+
+pub returns-clause-fits_grow : goal.returns-clause-fits_grow
+returns-clause-fits_grow c = λ objects objects' code s grows fits. fits_grown objects objects' grows code s.wants s fits
+
+pub returns-clause-runs_grow : goal.returns-clause-runs_grow
+returns-clause-runs_grow c = λ objects objects' setting s t xs grows run. run_grown objects objects' grows setting s t xs run
