@@ -1,5 +1,6 @@
 -- What holds of every step.
-use Rattle.std.specs.Prelude.{ℕ, ◌≤◌, Bool, Option, Some, None, List, length}
+use Rattle.std.specs.Prelude.{ℕ, ◌≤◌, ◌<◌, ◌-◌, ◌≡◌, Bool, Option, Some, None, List, [], ◌∷◌, length}
+use Rattle.py_code.specs.declared.code.PyCode.{PyCode}
 use Rattle.py_objects.specs.declared.refs.PyBaseExceptionRef.{PyBaseExceptionRef}
 use Rattle.py_objects.specs.declared.payload.Payload.{Payload}
 use Rattle.py_objects.specs.declared.payload.Payload.TheVariants as payload
@@ -16,6 +17,7 @@ use Rattle.py_check.specs.declared.note.Kind.TheVariants as kind
 use Rattle.py_rows.specs.Answers.{HasKind}
 use Rattle.py_rows.specs.Receiving.{moves}
 use Rattle.py_rows.specs.RunOfRows.{Steps, Runs, started}
+use Rattle.py_rows.specs.Standing.{IsOf, IsStanding}
 use Rattle.py_rows.specs.Fitting.{FitsAt, IsSound}
 
 -- what a step leads to has a property, and isn't nothing
@@ -102,3 +104,19 @@ FitsGrow = (objects objects' : List Payload) (code : Annotated) (s : State) → 
 -- a run goes over to more objects
 abbrev pub RunsGrow : Type 0
 RunsGrow = (objects objects' : List Payload) (setting : Setting) (s t : State) (xs : List Own) → Grows objects objects' → Runs objects setting s xs t → Runs objects' setting s xs t
+
+-- a frame that hasn't begun stands where it begins
+abbrev pub StartStands : Type 0
+StartStands = (code : PyCode) (slot : Option PyBaseExceptionRef) (args : List Obj) → IsStanding slot (started code slot args)
+
+-- it stands somewhere behind each step
+abbrev pub StepsStand : Type 0
+StepsStand = (objects : List Payload) (setting : Setting) (first : Option PyBaseExceptionRef) (s t : State) (xs : List Own) → IsStanding first s → Steps objects setting s xs t → IsStanding first t
+
+-- each event that a step tells is of the unit that was begun last
+abbrev pub EventsTold : Type 0
+EventsTold = (objects : List Payload) (setting : Setting) (first : Option PyBaseExceptionRef) (s t : State) (x : Own) → IsStanding first s → Steps objects setting s (x ∷ []) t → IsOf (t.last - 1) t x
+
+-- each silent step leads to a later unit
+abbrev pub SilentLater : Type 0
+SilentLater = (objects : List Payload) (setting : Setting) (first : Option PyBaseExceptionRef) (s t : State) → IsStanding first s → Steps objects setting s [] t → (s.at < t.at) × (t.wants ≡ expect.Go)

@@ -12,6 +12,8 @@ pub mod Rows
 pub mod Receiving
 -- runs of the rows of a code
 pub mod RunOfRows
+-- where a frame stands, and of which unit it tells
+pub mod Standing
 -- how a frame fits the notes of its code
 pub mod Fitting
 -- what holds of every run

@@ -1,11 +1,13 @@
 //! What holds of every run of the rows.
 
-ghost use Rattle.py_rows.specs.Laws.{FitsGrow, FitsWithin, NextFits, NextSafe, RunsGrow, SlotKept, StartFits, StepsFit};
+ghost use Rattle.py_rows.specs.Laws.{EventsTold, FitsGrow, FitsWithin, NextFits, NextSafe, RunsGrow, SilentLater, SlotKept, StartFits, StartStands, StepsFit, StepsStand};
 
-/// States eight laws, and does nothing: a frame of a code that keeps the rules fits its notes before it has begun; it is never
-/// stuck, and fits behind what it does next; that leaves it within the sizes; it fits behind each step, also one that it
-/// hears; wherever it fits it is within the sizes; the slot holds the exception of the innermost handler, or what it held
-/// at first; and what fits, and what is a run, stays so as objects are added.
+/// States laws, and does nothing. A frame of a code that keeps the rules fits its notes before it has begun. It is never stuck,
+/// and fits behind what it does next, which leaves it within the sizes; it fits behind each step, also one that it hears;
+/// and wherever it fits it is within the sizes. The slot holds the exception of the innermost handler, or what it held at
+/// first. Of every code: a frame that waits is at the unit that was begun last, and each event that it tells is of that
+/// unit; a question names what is handled in its blocks; and a silent step leads to a later unit. What fits, and what is a
+/// run, stays so as objects are added.
 pub fn laws_of_rows()
     ensures start { StartFits }
     ensures next { NextFits }
@@ -13,6 +15,10 @@ pub fn laws_of_rows()
     ensures steps { StepsFit }
     ensures within { FitsWithin }
     ensures slot { SlotKept }
+    ensures start_stands { StartStands }
+    ensures steps_stand { StepsStand }
+    ensures told { EventsTold }
+    ensures later { SilentLater }
     ensures fits_grow { FitsGrow }
     ensures runs_grow { RunsGrow }
 {}

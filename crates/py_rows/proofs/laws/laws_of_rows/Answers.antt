@@ -1,7 +1,7 @@
 use Rattle.py_rows.specs.Laws.{setting_of}
 use Rattle.py_rows.specs.Receiving.{moves}
 use Rattle.py_rows.proofs.StepLemmas.{start_fits, next_fits, steps_fit, within, move_safe}
-use Rattle.py_rows.proofs.SlotLemmas.{slot_kept}
+use Rattle.py_rows.proofs.SlotLemmas.{slot_kept, start_stands, steps_stand, events_told, silent_later}
 use Rattle.py_rows.proofs.GrowingLemmas.{fits_grown, run_grown}
 use Rattle.py_rows.proofs.laws.laws_of_rows.Goals as goal
 
@@ -29,3 +29,15 @@ returns-clause-fits_grow c = λ objects objects' code s grows fits. fits_grown o
 
 pub returns-clause-runs_grow : goal.returns-clause-runs_grow
 returns-clause-runs_grow c = λ objects objects' setting s t xs grows run. run_grown objects objects' grows setting s t xs run
+
+pub returns-clause-start_stands : goal.returns-clause-start_stands
+returns-clause-start_stands c = start_stands
+
+pub returns-clause-steps_stand : goal.returns-clause-steps_stand
+returns-clause-steps_stand c = steps_stand
+
+pub returns-clause-told : goal.returns-clause-told
+returns-clause-told c = events_told
+
+pub returns-clause-later : goal.returns-clause-later
+returns-clause-later c = silent_later
