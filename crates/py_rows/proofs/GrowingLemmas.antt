@@ -1,5 +1,5 @@
 -- What fits goes on to fit as objects grow.
-use Rattle.std.proofs.Common.{◌≡◌, ◌++◌, ℕ, zero, suc, List, [], ◌∷◌, Option, None, Some, append_assoc}
+use Rattle.std.proofs.Common.{◌≡◌, ◌++◌, ◌<◌, ℕ, zero, suc, List, [], ◌∷◌, Option, None, Some, append_assoc, ap, ◌∙◌, length, length-append, arith}
 use Rattle.std.specs.Prelude.{slice_get}
 use Rattle.py_objects.specs.declared.payload.Payload.{Payload}
 use Rattle.py_objects.specs.declared.event.GotAnswer.TheVariants as got
@@ -128,6 +128,10 @@ module _ (objects objects' : List Payload) (grows : Grows objects objects') wher
       (kind_grown objects objects' (as_object e) kind.Exc grows f.0, record { kinds = f.1.kinds; block_notes = f.1.block_notes; has = has_grown code f.1.kinds f.1.block_notes s f.1.has; there = f.1.there })
   fits_grown code expect.Ended s f = f
 
+-- a number of an object stays one
+number_grown : (objects objects' : List Payload) (i : ℕ) → Grows objects objects' → i < length objects → i < length objects'
+number_grown objects objects' i (more, is) below = omega (arith, below, ap length is ∙ length-append objects more)
+
 -- a step stays one as objects grow
 lead_grown : (objects objects' : List Payload) → Grows objects objects' → (m : Move) (step : Step) → MayLead objects m step → MayLead objects' m step
 lead_grown objects objects' grows (Plainly done) step may = may
@@ -137,7 +141,7 @@ lead_grown objects objects' grows (Exits e f) step (t, v, b, exits, is) = (t, v,
   where
     exit_grown : (e : _) → IsExit objects e t v b → IsExit objects' e t v b
     exit_grown None (x, y, z) = (payload_grown objects objects' t _ grows x, payload_grown objects objects' v _ grows y, payload_grown objects objects' b _ grows z)
-    exit_grown (Some e) same = same
+    exit_grown (Some e) (same, x, z) = (same, number_grown objects objects' t.number grows x, number_grown objects objects' b.number grows z)
 
 -- the same of a whole step
 step_grown : (objects objects' : List Payload) → Grows objects objects' → (setting : Setting) (s t : State) (xs : List Own) → Steps objects setting s xs t → Steps objects' setting s xs t

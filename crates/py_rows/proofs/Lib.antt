@@ -20,7 +20,9 @@ pub mod ActingLemmas
 pub mod AnsweringLemmas
 -- steps
 pub mod StepLemmas
--- the slot
+-- where every row leads to, and the slot
 pub mod SlotLemmas
 -- more objects
 pub mod GrowingLemmas
+-- numbers of objects
+pub mod StayingLemmas

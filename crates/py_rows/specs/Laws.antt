@@ -4,7 +4,7 @@ use Rattle.py_code.specs.declared.code.PyCode.{PyCode}
 use Rattle.py_objects.specs.declared.refs.PyBaseExceptionRef.{PyBaseExceptionRef}
 use Rattle.py_objects.specs.declared.payload.Payload.{Payload}
 use Rattle.py_objects.specs.declared.payload.Payload.TheVariants as payload
-use Rattle.py_objects.specs.Objects.{Obj, HasPayload, as_object}
+use Rattle.py_objects.specs.Objects.{Obj, HasPayload, AllBelow, numbers, number_if, as_object}
 use Rattle.py_objects.specs.Growth.{Grows}
 use Rattle.py_objects.specs.Own.{Own}
 use Rattle.py_check.specs.declared.annotated.Annotated.{Annotated}
@@ -17,6 +17,7 @@ use Rattle.py_check.specs.declared.note.Kind.TheVariants as kind
 use Rattle.py_rows.specs.Answers.{HasKind}
 use Rattle.py_rows.specs.Receiving.{moves}
 use Rattle.py_rows.specs.RunOfRows.{Steps, Runs, started}
+use Rattle.py_rows.specs.Staying.{HearsBelow, TellsBelow, HoldsBelow}
 use Rattle.py_rows.specs.Standing.{IsOf, IsStanding}
 use Rattle.py_rows.specs.Fitting.{FitsAt, IsSound}
 
@@ -120,3 +121,12 @@ EventsTold = (objects : List Payload) (setting : Setting) (first : Option PyBase
 -- each silent step leads to a later unit
 abbrev pub SilentLater : Type 0
 SilentLater = (objects : List Payload) (setting : Setting) (first : Option PyBaseExceptionRef) (s t : State) → IsStanding first s → Steps objects setting s [] t → (s.at < t.at) × (t.wants ≡ expect.Go)
+
+-- a frame that hasn't begun holds its arguments and what is in the slot
+abbrev pub StartStays : Type 0
+StartStays = (n : ℕ) (code : PyCode) (slot : Option PyBaseExceptionRef) (args : List Obj) → AllBelow n (number_if slot) → AllBelow n (numbers args) → HoldsBelow n (started code slot args)
+
+-- where the globals, all that a frame holds and all that it hears are objects, so is all that it tells and holds behind a step
+abbrev pub StepsStay : Type 0
+StepsStay = (objects : List Payload) (setting : Setting) (s t : State) (xs : List Own) → setting.globals.number < length objects → HoldsBelow (length objects) s → HearsBelow (length objects) xs → Steps objects setting s xs t
+    → TellsBelow (length objects) xs × HoldsBelow (length objects) t

@@ -14,6 +14,8 @@ pub mod Receiving
 pub mod RunOfRows
 -- where a frame stands, and of which unit it tells
 pub mod Standing
+-- which objects a frame names
+pub mod Staying
 -- how a frame fits the notes of its code
 pub mod Fitting
 -- what holds of every run

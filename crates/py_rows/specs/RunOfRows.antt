@@ -1,5 +1,5 @@
 -- A run of the rows of a code: which own events an activation may tell, step by step, and where it has come to.
-use Rattle.std.specs.Prelude.{ℕ, zero, suc, Bool, Option, Some, None, List, [], ◌∷◌, ◌++◌, ◌≡◌, length}
+use Rattle.std.specs.Prelude.{ℕ, ◌<◌, zero, suc, Bool, Option, Some, None, List, [], ◌∷◌, ◌++◌, ◌≡◌, length}
 use Rattle.py_code.specs.declared.code.PyCode.{PyCode}
 use Rattle.py_objects.specs.declared.refs.PyBaseExceptionRef.{PyBaseExceptionRef}
 use Rattle.py_objects.specs.declared.payload.Payload.{Payload}
@@ -15,10 +15,11 @@ use Rattle.py_rows.specs.States.{Setting, State, Step, Goes, Tells, Move, Plainl
 use Rattle.py_rows.specs.Answers.{HasKind, IsAnswer}
 use Rattle.py_rows.specs.Receiving.{moves}
 
--- what an exit is told: an exception between its class and its traceback, which are left open here, or three times None
+-- what an exit is told: an exception between its class and its traceback, of which only that they are objects is said here, or three
+-- times None
 abbrev pub IsExit : List Payload → Option PyBaseExceptionRef → Obj → Obj → Obj → Type 0
 IsExit objects None t v b = HasPayload objects t payload.None × HasPayload objects v payload.None × HasPayload objects b payload.None
-IsExit objects (Some e) t v b = v ≡ as_object e
+IsExit objects (Some e) t v b = (v ≡ as_object e) × (t.number < length objects) × (b.number < length objects)
 
 -- a move may lead to a step
 abbrev pub MayLead : List Payload → Move → Step → Type 0

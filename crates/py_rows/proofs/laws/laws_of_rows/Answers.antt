@@ -3,6 +3,7 @@ use Rattle.py_rows.specs.Receiving.{moves}
 use Rattle.py_rows.proofs.StepLemmas.{start_fits, next_fits, steps_fit, within, move_safe}
 use Rattle.py_rows.proofs.SlotLemmas.{slot_kept, start_stands, steps_stand, events_told, silent_later}
 use Rattle.py_rows.proofs.GrowingLemmas.{fits_grown, run_grown}
+use Rattle.py_rows.proofs.StayingLemmas.{start_stays, steps_stay}
 use Rattle.py_rows.proofs.laws.laws_of_rows.Goals as goal
 
 pub returns-clause-start : goal.returns-clause-start
@@ -41,3 +42,9 @@ returns-clause-told c = events_told
 
 pub returns-clause-later : goal.returns-clause-later
 returns-clause-later c = silent_later
+
+pub returns-clause-start_stays : goal.returns-clause-start_stays
+returns-clause-start_stays c = start_stays
+
+pub returns-clause-steps_stay : goal.returns-clause-steps_stay
+returns-clause-steps_stay c = steps_stay
