@@ -2,3 +2,4 @@ pub mod Breaks
 pub mod OperandLemmas
 pub mod WorkedLemmas
 pub mod FaultLemmas
+pub mod WideningLemmas
