@@ -3,3 +3,4 @@ pub mod OperandLemmas
 pub mod WorkedLemmas
 pub mod FaultLemmas
 pub mod WideningLemmas
+pub mod WorkedHandlerLemmas

@@ -12,7 +12,7 @@ abbrev pub all_below : (ℕ → Bool) → ℕ → Bool
 all_below test zero = true
 all_below test (suc n) = all_below test n && test n
 
-each_passes : (test : ℕ → Bool) (n k : ℕ) → all_below test n ≡ true → k < n → test k ≡ true
+pub each_passes : (test : ℕ → Bool) (n k : ℕ) → all_below test n ≡ true → k < n → test k ≡ true
 each_passes test zero k all below = absurd (omega arith)
 each_passes test (suc n) k all below =
     let parts : (all_below test n ≡ true) × (test n ≡ true) = and_parts (all_below test n) (test n) all in

@@ -19,3 +19,4 @@ pub mod Typing
 pub mod Faults
 -- codes worked by hand
 pub mod Worked
+pub mod WorkedHandlers

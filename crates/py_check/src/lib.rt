@@ -3,6 +3,7 @@
 
 mod annotated;
 mod checked;
+mod handlers;
 mod laws;
 mod note;
 mod typing;
@@ -10,6 +11,7 @@ mod worked;
 
 pub use annotated::Annotated;
 pub use checked::CheckedCode;
+pub use handlers::{worked_handlers, worked_values};
 pub use laws::laws_of_rules;
 pub use note::{BlockList, BlockNote, Kind, KindList, Note, NoteList, Pending, PendingSet};
 pub use typing::laws_of_typing;
