@@ -26,3 +26,5 @@ pub mod SlotLemmas
 pub mod GrowingLemmas
 -- numbers of objects
 pub mod StayingLemmas
+-- whole runs
+pub mod RunLemmas

@@ -130,3 +130,13 @@ StartStays = (n : ℕ) (code : PyCode) (slot : Option PyBaseExceptionRef) (args 
 abbrev pub StepsStay : Type 0
 StepsStay = (objects : List Payload) (setting : Setting) (s t : State) (xs : List Own) → setting.globals.number < length objects → HoldsBelow (length objects) s → HearsBelow (length objects) xs → Steps objects setting s xs t
     → TellsBelow (length objects) xs × HoldsBelow (length objects) t
+
+-- a run of a sound code fits its notes, wherever it comes to
+abbrev pub RunsFit : Type 0
+RunsFit = (objects : List Payload) (names : List (List ℕ)) (globals : Obj) (code : Annotated) (slot : Option PyBaseExceptionRef) (args : List Obj) (t : State) (xs : List Own)
+    → IsSound names code → Runs objects (setting_of names globals code) (started code.code slot args) xs t → FitsAt objects code t.wants t
+
+-- where the globals, the arguments, what is in the slot and all that a run hears are objects, so is all that it tells
+abbrev pub RunsStayBelow : Type 0
+RunsStayBelow = (objects : List Payload) (setting : Setting) (slot : Option PyBaseExceptionRef) (args : List Obj) (t : State) (xs : List Own) → setting.globals.number < length objects → AllBelow (length objects) (number_if slot) → AllBelow (length objects) (numbers args)
+    → HearsBelow (length objects) xs → Runs objects setting (started setting.code slot args) xs t → TellsBelow (length objects) xs

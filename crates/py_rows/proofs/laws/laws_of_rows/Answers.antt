@@ -4,6 +4,7 @@ use Rattle.py_rows.proofs.StepLemmas.{start_fits, next_fits, steps_fit, within, 
 use Rattle.py_rows.proofs.SlotLemmas.{slot_kept, start_stands, steps_stand, events_told, silent_later}
 use Rattle.py_rows.proofs.GrowingLemmas.{fits_grown, run_grown}
 use Rattle.py_rows.proofs.StayingLemmas.{start_stays, steps_stay}
+use Rattle.py_rows.proofs.RunLemmas.{runs_fit, runs_stay}
 use Rattle.py_rows.proofs.laws.laws_of_rows.Goals as goal
 
 pub returns-clause-start : goal.returns-clause-start
@@ -48,3 +49,9 @@ returns-clause-start_stays c = start_stays
 
 pub returns-clause-steps_stay : goal.returns-clause-steps_stay
 returns-clause-steps_stay c = steps_stay
+
+pub returns-clause-runs_fit : goal.returns-clause-runs_fit
+returns-clause-runs_fit c = runs_fit
+
+pub returns-clause-runs_stay_below : goal.returns-clause-runs_stay_below
+returns-clause-runs_stay_below c = runs_stay

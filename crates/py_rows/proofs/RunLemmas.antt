@@ -1,0 +1,46 @@
+-- What holds of each step holds of whole runs.
+use Rattle.std.proofs.Common.{◌<◌, ◌++◌, ℕ, List, [], ◌∷◌, Option, length}
+use Rattle.py_objects.specs.declared.refs.PyBaseExceptionRef.{PyBaseExceptionRef}
+use Rattle.py_objects.specs.declared.payload.Payload.{Payload}
+use Rattle.py_objects.specs.Objects.{Obj, AllBelow, numbers, number_if}
+use Rattle.py_objects.specs.Own.{Own}
+use Rattle.py_check.specs.declared.annotated.Annotated.{Annotated}
+use Rattle.py_rows.specs.States.{Setting, State}
+use Rattle.py_rows.specs.RunOfRows.{Runs, stays, on, started}
+use Rattle.py_rows.specs.Fitting.{FitsAt, IsSound}
+use Rattle.py_rows.specs.Staying.{HearsBelow, TellsBelow, HoldsBelow}
+use Rattle.py_rows.specs.Laws.{setting_of}
+use Rattle.py_rows.proofs.StepLemmas.{steps_fit, start_fits}
+use Rattle.py_rows.proofs.StayingLemmas.{steps_stay, start_stays}
+
+fits_on : (objects : List Payload) (names : List (List ℕ)) (globals : Obj) (code : Annotated) → IsSound names code → (s t : State) (xs : List Own) → FitsAt objects code s.wants s → Runs objects (setting_of names globals code) s xs t
+    → FitsAt objects code t.wants t
+fits_on objects names globals code sound s _ _ fits stays = fits
+fits_on objects names globals code sound s _ _ fits (on {us = us} {vs = vs} {t = t} u run step) = steps_fit objects names globals code sound t vs u (fits_on objects names globals code sound s t us fits run) step
+
+pub runs_fit : (objects : List Payload) (names : List (List ℕ)) (globals : Obj) (code : Annotated) (slot : Option PyBaseExceptionRef) (args : List Obj) (t : State) (xs : List Own) → IsSound names code
+    → Runs objects (setting_of names globals code) (started code.code slot args) xs t → FitsAt objects code t.wants t
+runs_fit objects names globals code slot args t xs sound run = fits_on objects names globals code sound (started code.code slot args) t xs (start_fits objects names code slot args sound) run
+
+-- what is heard first, and then
+heard_parts : (n : ℕ) (xs ys : List Own) → HearsBelow n (xs ++ ys) → HearsBelow n xs × HearsBelow n ys
+heard_parts n [] ys low = (tt, low)
+heard_parts n (x ∷ xs) ys low = let more = heard_parts n xs ys low.1 in ((low.0, more.0), more.1)
+
+told_joined : (n : ℕ) (xs ys : List Own) → TellsBelow n xs → TellsBelow n ys → TellsBelow n (xs ++ ys)
+told_joined n [] ys low more = more
+told_joined n (x ∷ xs) ys low more = (low.0, told_joined n xs ys low.1 more)
+
+stay_on : (objects : List Payload) (setting : Setting) (s t : State) (xs : List Own) → setting.globals.number < length objects → HoldsBelow (length objects) s → HearsBelow (length objects) xs → Runs objects setting s xs t
+    → TellsBelow (length objects) xs × HoldsBelow (length objects) t
+stay_on objects setting s _ _ there holds hears stays = (tt, holds)
+stay_on objects setting s _ _ there holds hears (on {us = us} {vs = vs} {t = t} u run step) =
+    let heard = heard_parts (length objects) us vs hears in
+    let first = stay_on objects setting s t us there holds heard.0 run in
+    let last = steps_stay objects setting t u vs there first.1 heard.1 step in
+    (told_joined (length objects) us vs first.0 last.0, last.1)
+
+pub runs_stay : (objects : List Payload) (setting : Setting) (slot : Option PyBaseExceptionRef) (args : List Obj) (t : State) (xs : List Own) → setting.globals.number < length objects → AllBelow (length objects) (number_if slot)
+    → AllBelow (length objects) (numbers args) → HearsBelow (length objects) xs → Runs objects setting (started setting.code slot args) xs t → TellsBelow (length objects) xs
+runs_stay objects setting slot args t xs there slot_low args_low hears run =
+    (stay_on objects setting (started setting.code slot args) t xs there (start_stays (length objects) setting.code slot args slot_low args_low) hears run).0
