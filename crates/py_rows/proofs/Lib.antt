@@ -21,7 +21,7 @@ pub mod AnsweringLemmas
 -- steps
 pub mod StepLemmas
 -- where every row leads to, and the slot
-pub mod SlotLemmas
+pub mod StandingLemmas
 -- more objects
 pub mod GrowingLemmas
 -- numbers of objects

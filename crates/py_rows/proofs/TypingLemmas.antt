@@ -22,10 +22,6 @@ slice_get_there [] i below is = absurd (omega arith)
 slice_get_there (x ∷ xs) zero below is = cc
 slice_get_there (x ∷ xs) (suc i) below is = slice_get_there xs i (omega arith) is
 
--- a test of an order
-pub below_by_test : (m n : ℕ) → nat_lt m n ≡ true → m < n
-below_by_test m n is = grind (arith, nat_tests, is)
-
 -- what the rules say of a whole code
 pub record IsWhole (code : Annotated) : Type 0 where
   pub some : 0 < length code.code.code.instructions.items

@@ -1,7 +1,7 @@
 use Rattle.py_rows.specs.Laws.{setting_of}
 use Rattle.py_rows.specs.Receiving.{moves}
 use Rattle.py_rows.proofs.StepLemmas.{start_fits, next_fits, steps_fit, within, move_safe}
-use Rattle.py_rows.proofs.SlotLemmas.{slot_kept, start_stands, steps_stand, events_told, silent_later}
+use Rattle.py_rows.proofs.StandingLemmas.{slot_kept, start_stands, steps_stand, events_told, silent_later}
 use Rattle.py_rows.proofs.GrowingLemmas.{fits_grown, run_grown}
 use Rattle.py_rows.proofs.StayingLemmas.{start_stays, steps_stay}
 use Rattle.py_rows.proofs.RunLemmas.{runs_fit, runs_stay}
