@@ -1,8 +1,8 @@
 -- What instructions ask of the operands that they take is there, and wants what the table of effects says.
-use Rattle.std.proofs.Common.{◌≡◌, ◌∙◌, ◌<◌, ℕ, zero, suc, List, [], ◌∷◌, Option, None, Some, true, refl, ap, length, reverse, arith}
+use Rattle.std.proofs.Common.{◌≡◌, ◌∙◌, ◌<◌, ℕ, zero, suc, List, [], ◌∷◌, Option, None, Some, Bool, true, false, ◌⊎◌, inl, inr, ⊎_elim, subst, refl, ap, length, reverse, arith}
 use Rattle.std.proofs.lemmas.List.{length-reverse}
-use Rattle.std.specs.Prelude.{slice_get, nat_lt, option_map, chars}
-use Rattle.std.proofs.lemmas.Bool.{ltb-true}
+use Rattle.std.specs.Prelude.{slice_get, nat_lt, option_map, chars, replicate}
+use Rattle.std.proofs.lemmas.Bool.{ltb-true, both_ways}
 use Rattle.std.proofs.Math.ListN.{length-replicate}
 use Rattle.py_code.specs.declared.instruction.Instruction.{Instruction}
 use Rattle.py_code.specs.declared.instruction.Instruction.TheVariants.{LoadGlobal, BinaryOperation, CompareOperation, TestOperation, CallFunctionPositional, PrintExpr}
@@ -11,18 +11,20 @@ use Rattle.py_code.specs.declared.operator.TestOperator.TheVariants as test
 use Rattle.py_code.specs.declared.operator.BinaryOperator.{BinaryOperator}
 use Rattle.py_code.specs.declared.operator.ComparisonOperator.{ComparisonOperator}
 use Rattle.py_check.specs.Rules.{asks_operator, asks_comparison}
-use Rattle.py_rows.specs.Asked.{asked_operator, asked_comparison, name_in, on_none, on_one, on_two, calls, tests, asked}
+use Rattle.py_rows.specs.Asked.{name_of_global, asked_operator, asked_comparison, name_in, on_none, on_one, on_two, calls, tests, asked}
 use Rattle.py_code.specs.declared.names.NameId.{NameId}
 use Rattle.py_code.specs.Operators.{binary_operators, comparison_operators}
 use Rattle.py_code.specs.Numbers.{test_operators}
 use Rattle.py_objects.specs.declared.request.Request.{Request}
-use Rattle.py_objects.specs.Objects.{Obj, Name}
+use Rattle.py_objects.specs.Objects.{Obj, Name, AllBelow, numbers, request_numbers}
 use Rattle.py_check.specs.declared.note.Kind.{Kind}
 use Rattle.py_check.specs.declared.note.Kind.TheVariants as kind
 use Rattle.py_check.specs.declared.annotated.Annotated.{Annotated}
 use Rattle.py_check.specs.Effects.{Effect, Moves, AsksOnce, Other, effect, is_tested, has_operand}
 use Rattle.py_rows.specs.Rows.{is_there}
 use Rattle.py_check.specs.Sheet.{sheet_of}
+use Rattle.py_rows.specs.States.{Setting}
+use Rattle.py_rows.proofs.BelowLemmas.{joined_below, reverse_below}
 use Rattle.py_rows.specs.Answers.{wanted}
 use Rattle.py_rows.specs.Fitting.{wanted_of, ArePlaces, AreNames}
 
@@ -36,33 +38,6 @@ AsksAs (Moves n places) f = Unit {0}
 AsksAs (AsksOnce taken pushes) f = (vs : List Obj) → length vs ≡ length taken → Wants pushes (f vs)
 AsksAs Other f = Unit {0}
 
-mapped : {A : Type 0} (pushes : Option Kind) (o : Option A) (f : A → Request) → is_there o ≡ true → ((x : A) → wanted (f x) ≡ wanted_of pushes) → Wants pushes (option_map f o)
-mapped pushes None f there fits = cc
-mapped pushes (Some x) f there fits = fits x
-
-none_asked : (pushes : Option Kind) (r : Option Request) → Wants pushes r → (vs : List Obj) → length vs ≡ 0 → Wants pushes (on_none r vs)
-none_asked pushes r fits [] count = fits
-none_asked pushes r fits (v ∷ vs) count = absurd (omega (arith, count))
-
-one_asked : (pushes : Option Kind) (f : Obj → Option Request) → ((a : Obj) → Wants pushes (f a)) → (vs : List Obj) → length vs ≡ 1 → Wants pushes (on_one f vs)
-one_asked pushes f fits [] count = absurd (omega (arith, count))
-one_asked pushes f fits (a ∷ []) count = fits a
-one_asked pushes f fits (a ∷ b ∷ vs) count = absurd (omega (arith, count))
-
-two_asked : (pushes : Option Kind) (f : Obj → Obj → Option Request) → ((a b : Obj) → Wants pushes (f a b)) → (vs : List Obj) → length vs ≡ 2 → Wants pushes (on_two f vs)
-two_asked pushes f fits [] count = absurd (omega (arith, count))
-two_asked pushes f fits (b ∷ []) count = absurd (omega (arith, count))
-two_asked pushes f fits (b ∷ a ∷ []) count = fits a b
-two_asked pushes f fits (b ∷ a ∷ v ∷ vs) count = absurd (omega (arith, count))
-
-called : (vs : List Obj) (n : ℕ) → length vs ≡ suc n → Wants (Some kind.Any) (calls vs)
-called [] n count = absurd (omega (arith, count))
-called (f ∷ args) n count = refl
-
-tested : (op : Option TestOperator) (a b : Obj) → is_tested op ≡ true → Wants (Some kind.Any) (tests op a b)
-tested (Some test.ExceptionMatch) a b runs = refl
-tested _ a b runs = cc
-
 -- operators that the rules admit are asked
 operator_there : (op : Option BinaryOperator) → asks_operator op ≡ true → is_there (asked_operator op) ≡ true
 operator_there None runs = cc
@@ -71,6 +46,65 @@ operator_there (Some op) runs = rw runs refl
 comparison_there : (op : Option ComparisonOperator) → asks_comparison op ≡ true → is_there (asked_comparison op) ≡ true
 comparison_there None runs = cc
 comparison_there (Some op) runs = rw runs refl
+
+-- whether what an instruction's operand speaks of is there, and runs so far
+abbrev pub operand_there : Setting → Instruction → ℕ → Bool
+operand_there setting LoadGlobal i = is_there (name_of_global setting i)
+operand_there setting BinaryOperation i = is_there (asked_operator (slice_get binary_operators i))
+operand_there setting CompareOperation i = is_there (asked_comparison (slice_get comparison_operators i))
+operand_there setting TestOperation i = is_tested (slice_get test_operators i)
+operand_there setting _ i = true
+
+module _ (Gap : Type 0) (setting : Setting) where
+  -- a request wants what is pushed, and names the globals and the operands at most; where there is none, there is a gap
+  abbrev pub Asks : Option Kind → List Obj → Option Request → Type 0
+  Asks pushes vs None = Gap
+  Asks pushes vs (Some r) = (wanted r ≡ wanted_of pushes) × ((n : ℕ) → setting.globals.number < n → AllBelow n (numbers vs) → AllBelow n (request_numbers r))
+
+  -- the same of an effect, where there is a gap only by a wrong number of operands or an operand that isn't there
+  abbrev pub AsksAny : Bool → Effect → (List Obj → Option Request) → Type 0
+  AsksAny there (Moves n places) f = Unit {0}
+  AsksAny there (AsksOnce taken pushes) f = (vs : List Obj) → ((length vs ≡ length taken → ⊥) ⊎ (there ≡ false) → Gap) → Asks pushes vs (f vs)
+  AsksAny there Other f = Unit {0}
+
+  mapped : {A : Type 0} (pushes : Option Kind) (vs : List Obj) (o : Option A) (f : A → Request) → (is_there o ≡ false → Gap) → ((x : A) → Asks pushes vs (Some (f x))) → Asks pushes vs (option_map f o)
+  mapped pushes vs None f gap asks = gap refl
+  mapped pushes vs (Some x) f gap asks = asks x
+
+  none_asked : (pushes : Option Kind) (r : Option Request) (vs : List Obj) → ((length vs ≡ 0 → ⊥) → Gap) → Asks pushes [] r → Asks pushes vs (on_none r vs)
+  none_asked pushes r [] gap asks = asks
+  none_asked pushes r (v ∷ vs) gap asks = gap (λ count. absurd (omega (arith, count)))
+
+  one_asked : (pushes : Option Kind) (f : Obj → Option Request) (vs : List Obj) → ((length vs ≡ 1 → ⊥) → Gap) → ((a : Obj) → Asks pushes (a ∷ []) (f a)) → Asks pushes vs (on_one f vs)
+  one_asked pushes f [] gap asks = gap (λ count. absurd (omega (arith, count)))
+  one_asked pushes f (a ∷ []) gap asks = asks a
+  one_asked pushes f (a ∷ b ∷ vs) gap asks = gap (λ count. absurd (omega (arith, count)))
+
+  two_asked : (pushes : Option Kind) (f : Obj → Obj → Option Request) (vs : List Obj) → ((length vs ≡ 2 → ⊥) → Gap) → ((a b : Obj) → Asks pushes (b ∷ a ∷ []) (f a b)) → Asks pushes vs (on_two f vs)
+  two_asked pushes f [] gap asks = gap (λ count. absurd (omega (arith, count)))
+  two_asked pushes f (b ∷ []) gap asks = gap (λ count. absurd (omega (arith, count)))
+  two_asked pushes f (b ∷ a ∷ []) gap asks = asks a b
+  two_asked pushes f (b ∷ a ∷ v ∷ vs) gap asks = gap (λ count. absurd (omega (arith, count)))
+
+  called : (k : ℕ) (ws vs : List Obj) → reverse vs ≡ ws → ((length vs ≡ length (replicate (suc k) kind.Any) → ⊥) → Gap) → Asks (Some kind.Any) vs (calls ws)
+  called k [] vs is gap = gap (λ count. let none : length (reverse vs) ≡ 0 = ap length is in absurd (omega (arith, none, length-reverse vs, count, length-replicate (suc k) kind.Any)))
+  called k (f ∷ args) vs is gap =
+      (refl, λ n there low. let all : AllBelow n (numbers (f ∷ args)) = subst (λ (ws : List Obj). AllBelow n (numbers ws)) is (reverse_below n vs low) in (all.0, joined_below n (numbers args) [] all.1 tt))
+
+  tested : (op : Option TestOperator) (a b : Obj) → (is_tested op ≡ false → Gap) → Asks (Some kind.Any) (b ∷ a ∷ []) (tests op a b)
+  tested (Some test.ExceptionMatch) a b gap = (refl, λ n there low. (low.1.0, (low.0, tt)))
+  tested _ a b gap = gap refl
+
+  pub asked_as : (op : Instruction) (i : ℕ) → AsksAny (operand_there setting op i) (effect op i) (asked setting op i)
+  asked_as LoadGlobal i = λ vs gap. none_asked (Some kind.Any) _ vs (λ no. gap (inl no)) (mapped (Some kind.Any) [] (name_of_global setting i) _ (λ no. gap (inr no)) (λ x. (refl, λ n there low. (there, tt))))
+  asked_as BinaryOperation i =
+      λ vs gap. two_asked (Some kind.Any) _ vs (λ no. gap (inl no)) (λ a b. mapped (Some kind.Any) (b ∷ a ∷ []) (asked_operator (slice_get binary_operators i)) _ (λ no. gap (inr no)) (λ op. (refl, λ n there low. (low.1.0, (low.0, tt)))))
+  asked_as CompareOperation i =
+      λ vs gap. two_asked (Some kind.Any) _ vs (λ no. gap (inl no)) (λ a b. mapped (Some kind.Any) (b ∷ a ∷ []) (asked_comparison (slice_get comparison_operators i)) _ (λ no. gap (inr no)) (λ op. (refl, λ n there low. (low.1.0, (low.0, tt)))))
+  asked_as TestOperation i = λ vs gap. two_asked (Some kind.Any) _ vs (λ no. gap (inl no)) (λ a b. tested (slice_get test_operators i) a b (λ no. gap (inr no)))
+  asked_as CallFunctionPositional k = λ vs gap. called k (reverse vs) vs refl (λ no. gap (inl no))
+  asked_as PrintExpr i = λ vs gap. one_asked None _ vs (λ no. gap (inl no)) (λ v. (refl, λ n there low. low))
+  asked_as _ i = tt
 
 got_there : {A : Type 0} (xs : List A) (i : ℕ) → i < length xs → (x : A) × (slice_get xs i ≡ Some x)
 got_there [] i below = absurd (omega arith)
@@ -89,12 +123,26 @@ is_named names ids i places below =
     let (x, is) = named names ids i places (ltb-true i (length ids) below) in
     ap is_there is
 
+-- an operand in range is there
+operand_is : (names : List (List ℕ)) (globals : Obj) (code : Annotated) → AreNames names code.code → (op : Instruction) (i : ℕ) → has_operand (sheet_of code) op i ≡ true → operand_there (record { code = code.code; names = names; globals = globals }) op i ≡ true
+operand_is names globals code are LoadGlobal i there = is_named names code.code.code.names.items i are.globals there
+operand_is names globals code are BinaryOperation i there = operator_there (slice_get binary_operators i) there
+operand_is names globals code are CompareOperation i there = comparison_there (slice_get comparison_operators i) there
+operand_is names globals code are TestOperation i there = there
+operand_is names globals code are _ i there = refl
+
 pub asked_there : (names : List (List ℕ)) (globals : Obj) (code : Annotated) → AreNames names code.code → (op : Instruction) (i : ℕ) → has_operand (sheet_of code) op i ≡ true
     → AsksAs (effect op i) (asked (record { code = code.code; names = names; globals = globals }) op i)
-asked_there names globals code are LoadGlobal i there = none_asked (Some kind.Any) _ (mapped (Some kind.Any) _ _ (is_named names code.code.code.names.items i are.globals there) (λ x. refl))
-asked_there names globals code are BinaryOperation i there = two_asked (Some kind.Any) _ (λ a b. mapped (Some kind.Any) (asked_operator (slice_get binary_operators i)) _ (operator_there (slice_get binary_operators i) there) (λ op. refl))
-asked_there names globals code are CompareOperation i there = two_asked (Some kind.Any) _ (λ a b. mapped (Some kind.Any) (asked_comparison (slice_get comparison_operators i)) _ (comparison_there (slice_get comparison_operators i) there) (λ op. refl))
-asked_there names globals code are TestOperation i there = two_asked (Some kind.Any) _ (λ a b. tested (slice_get test_operators i) a b there)
-asked_there names globals code are CallFunctionPositional k there = λ vs count. called (reverse vs) k (length-reverse vs ∙ count ∙ length-replicate (suc k) kind.Any)
-asked_there names globals code are PrintExpr i there = one_asked None _ (λ v. refl)
-asked_there names globals code are _ i there = tt
+asked_there names globals code are op i there = by_effect (effect op i) (asked setting op i) (operand_there setting op i) (operand_is names globals code are op i there) (asked_as ⊥ setting op i)
+  where
+    setting : Setting
+    setting = record { code = code.code; names = names; globals = globals }
+
+    wants : (pushes : Option Kind) (vs : List Obj) (r : Option Request) → Asks ⊥ setting pushes vs r → Wants pushes r
+    wants pushes vs None asks = absurd asks
+    wants pushes vs (Some r) asks = asks.0
+
+    by_effect : (e : Effect) (f : List Obj → Option Request) (b : Bool) → b ≡ true → AsksAny ⊥ setting b e f → AsksAs e f
+    by_effect (Moves n places) f b is asks = tt
+    by_effect (AsksOnce taken pushes) f b is asks = λ vs count. wants pushes vs (f vs) (asks vs (λ m. ⊎_elim (λ no. no count) (λ no. both_ways b no is) m))
+    by_effect Other f b is asks = tt

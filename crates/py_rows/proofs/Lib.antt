@@ -10,6 +10,8 @@ pub mod LandingLemmas
 pub mod UnwindingLemmas
 -- operands that are taken
 pub mod TakingLemmas
+-- values among the first objects
+pub mod BelowLemmas
 -- what instructions ask
 pub mod AskingLemmas
 -- frames that go on

@@ -1,22 +1,18 @@
 -- Where all that goes into a frame is among the first n objects, so is all that comes out of it.
-use Rattle.std.proofs.Common.{◌≡◌, ◌<◌, ◌-◌, ◌++◌, ℕ, zero, suc, List, [], ◌∷◌, Bool, true, false, ◌&&◌, not, cond, Option, None, Some, refl, sym, subst, length, take, drop, reverse}
+use Rattle.std.proofs.Common.{◌≡◌, ◌<◌, ◌-◌, ◌++◌, ℕ, zero, suc, List, [], ◌∷◌, Bool, true, false, ◌&&◌, not, cond, Option, None, Some, refl, sym, subst, length, take, drop}
 use Rattle.std.specs.Prelude.{slice_get, slice_set, nat_lt, option_map}
 use Rattle.std.specs.List.{list_all}
-use Rattle.std.proofs.lemmas.List.{reverse-append}
 use Rattle.std.proofs.lemmas.Option.{slice_get_within}
 use Rattle.py_code.specs.Bottom.{bottom}
 use Rattle.py_code.specs.declared.unit.CodeUnit.{CodeUnit}
 use Rattle.py_code.specs.declared.code.PyCode.{PyCode}
 use Rattle.py_code.specs.declared.instruction.Instruction.{Instruction}
-use Rattle.py_code.specs.declared.instruction.Instruction.TheVariants.{LoadConst, LoadFast, StoreFast, DeleteFast, LoadGlobal, BinaryOperation, CompareOperation, TestOperation, CallFunctionPositional, PrintExpr, Jump, JumpIfTrue, JumpIfFalse, SetupLoop, SetupExcept, SetupFinally, EnterFinally, EndFinally, SetupWith, WithCleanupStart, WithCleanupFinish, PopBlock, PopException, Raise, Break, Continue, ReturnValue, ReturnConst, YieldValue, ExtendedArg}
+use Rattle.py_code.specs.declared.instruction.Instruction.TheVariants.{LoadConst, LoadFast, StoreFast, DeleteFast, Jump, JumpIfTrue, JumpIfFalse, SetupLoop, SetupExcept, SetupFinally, EnterFinally, EndFinally, SetupWith, WithCleanupStart, WithCleanupFinish, PopBlock, PopException, Raise, Break, Continue, ReturnValue, ReturnConst, YieldValue, ExtendedArg}
 use Rattle.py_code.specs.declared.literal.Literal.{Literal}
 use Rattle.py_code.specs.declared.operator.RaiseKind.{RaiseKind}
 use Rattle.py_code.specs.declared.operator.RaiseKind.TheVariants as raise
-use Rattle.py_code.specs.declared.operator.TestOperator.{TestOperator}
-use Rattle.py_code.specs.declared.operator.TestOperator.TheVariants as test
 use Rattle.py_code.specs.Literals.{literals_of}
-use Rattle.py_code.specs.Numbers.{raise_kinds, test_operators}
-use Rattle.py_code.specs.Operators.{binary_operators, comparison_operators}
+use Rattle.py_code.specs.Numbers.{raise_kinds}
 use Rattle.py_code.specs.Units.{with_byte}
 use Rattle.py_objects.specs.declared.refs.PyBaseExceptionRef.{PyBaseExceptionRef}
 use Rattle.py_objects.specs.declared.payload.Payload.{Payload}
@@ -26,8 +22,9 @@ use Rattle.py_objects.specs.declared.event.GotAnswer.TheVariants as got
 use Rattle.py_objects.specs.declared.event.ResumeHow.TheVariants as how
 use Rattle.py_objects.specs.Objects.{Obj, Name, AllBelow, numbers, number_if, request_numbers, as_object}
 use Rattle.py_objects.specs.Own.{Own, Resumes, Gets, Rounds}
+use Rattle.py_check.specs.declared.note.Kind.{Kind}
 use Rattle.py_check.specs.Effects.{Effect, Moves, AsksOnce, Other, effect}
-use Rattle.py_check.specs.Taking.{at_place, picked}
+use Rattle.py_check.specs.Taking.{picked}
 use Rattle.py_rows.specs.declared.block.Block.{Block}
 use Rattle.py_rows.specs.declared.block.BlockType.{BlockType}
 use Rattle.py_rows.specs.declared.block.BlockType.TheVariants.{Loop, TryExcept, Finally, FinallyHandler, ExceptHandler}
@@ -38,49 +35,13 @@ use Rattle.py_rows.specs.declared.expect.Expect.TheVariants as expect
 use Rattle.py_rows.specs.States.{Setting, State, Step, Goes, Tells, Stuck, Move, Plainly, Loads, Decides, Exits, begun, next, waiting, with_stack, pushed, landed, jumps}
 use Rattle.py_rows.specs.Handled.{entered_by, entered_if, handled_by, handled_in}
 use Rattle.py_rows.specs.Unwinding.{left, left_handler, meets, unwind, unwinds}
-use Rattle.py_rows.specs.Asked.{name_of_global, on_none, on_one, on_two, calls, tests, asked_operator, asked_comparison, asked}
+use Rattle.py_rows.specs.Asked.{asked}
 use Rattle.py_rows.specs.Rows.{asks, is_there, reaches, loads, or_stuck, payload_of, asks_if, takes_off, where_there, acts_by, load_fast, delete_fast, if_popped, pop_block, pop_type, pop_exception, finally_type, in_finally, goes_on, raised_by, raised_of, raised_in, finishes, raises, act_own, unit_move}
 use Rattle.py_rows.specs.Receiving.{jumps_if, passes_if, causes, raised, answered_by, answered_own, unit_answered, moves}
 use Rattle.py_rows.specs.RunOfRows.{Hears, IsExit, MayLead, filled, started, Steps, silent, telling, hearing}
+use Rattle.py_rows.proofs.BelowLemmas.{joined_below, drop_below, take_below, values_below, picked_below}
+use Rattle.py_rows.proofs.AskingLemmas.{Asks, AsksAny, operand_there, asked_as}
 use Rattle.py_rows.specs.Staying.{heard_numbers, told_numbers, HearsBelow, TellsBelow, ReasonBelow, IfBelow, TypeBelow, BlocksBelow, ExpectBelow, HeldBelow, HoldsBelow}
-
--- numbers behind others
-joined_below : (n : ℕ) (xs ys : List ℕ) → AllBelow n xs → AllBelow n ys → AllBelow n (xs ++ ys)
-joined_below n [] ys below more = more
-joined_below n (x ∷ xs) ys below more = (below.0, joined_below n xs ys below.1 more)
-
--- the lowest of values
-drop_below : (n k : ℕ) (stack : List Obj) → AllBelow n (numbers stack) → AllBelow n (numbers (drop k stack))
-drop_below n zero stack below = below
-drop_below n (suc k) [] below = tt
-drop_below n (suc k) (v ∷ stack) below = drop_below n k stack below.1
-
--- the upper ones
-take_below : (n k : ℕ) (stack : List Obj) → AllBelow n (numbers stack) → AllBelow n (numbers (take k stack))
-take_below n zero stack below = tt
-take_below n (suc k) [] below = tt
-take_below n (suc k) (v ∷ stack) below = (below.0, take_below n k stack below.1)
-
--- values behind others
-values_below : (n : ℕ) (vs ws : List Obj) → AllBelow n (numbers vs) → AllBelow n (numbers ws) → AllBelow n (numbers (vs ++ ws))
-values_below n [] ws below more = more
-values_below n (v ∷ vs) ws below more = (below.0, values_below n vs ws below.1 more)
-
--- values the other way round
-reverse_below : (n : ℕ) (vs : List Obj) → AllBelow n (numbers vs) → AllBelow n (numbers (reverse vs))
-reverse_below n [] below = tt
-reverse_below n (v ∷ vs) below =
-    subst (λ (ws : List Obj). AllBelow n (numbers ws)) (sym (reverse-append (v ∷ []) vs)) (values_below n (reverse vs) (v ∷ []) (reverse_below n vs below.1) (below.0, tt))
-
--- those at some places
-place_below : (n p : ℕ) (vs : List Obj) → AllBelow n (numbers vs) → AllBelow n (numbers (at_place (slice_get vs p)))
-place_below n p [] below = tt
-place_below n zero (v ∷ vs) below = (below.0, tt)
-place_below n (suc p) (v ∷ vs) below = place_below n p vs below.1
-
-picked_below : (n : ℕ) (ps : List ℕ) (vs : List Obj) → AllBelow n (numbers vs) → AllBelow n (numbers (picked ps vs))
-picked_below n [] vs below = tt
-picked_below n (p ∷ ps) vs below = values_below n (at_place (slice_get vs p)) (picked ps vs) (place_below n p vs below) (picked_below n ps vs below)
 
 -- a place of a list after one was set
 set_there : (n : ℕ) (xs : List (Option Obj)) (i j : ℕ) (x : Option Obj) (w : Obj) → ((v : Obj) → x ≡ Some v → v.number < n) → ((k : ℕ) (u : Obj) → slice_get xs k ≡ Some (Some u) → u.number < n)
@@ -115,41 +76,27 @@ abbrev RequestBelow : ℕ → Option Request → Type 0
 RequestBelow n None = Unit {0}
 RequestBelow n (Some r) = AllBelow n (request_numbers r)
 
-mapped_below : {A : Type 0} (n : ℕ) (o : Option A) (f : A → Request) → ((x : A) → AllBelow n (request_numbers (f x))) → RequestBelow n (option_map f o)
-mapped_below n None f below = tt
-mapped_below n (Some x) f below = below x
+mapped_unbound : (n : ℕ) (name : Option Name) → RequestBelow n (option_map (λ x. request.Unbound x) name)
+mapped_unbound n None = tt
+mapped_unbound n (Some x) = tt
 
-none_below : (n : ℕ) (r : Option Request) (vs : List Obj) → RequestBelow n r → RequestBelow n (on_none r vs)
-none_below n r [] below = below
-none_below n r (v ∷ vs) below = tt
+-- the same of what the table of effects asks
+abbrev AsksBelow : ℕ → Effect → (List Obj → Option Request) → Type 0
+AsksBelow n (Moves k places) f = Unit {0}
+AsksBelow n (AsksOnce wanted pushes) f = (vs : List Obj) → AllBelow n (numbers vs) → RequestBelow n (f vs)
+AsksBelow n Other f = Unit {0}
 
-one_below : (n : ℕ) (f : Obj → Option Request) (vs : List Obj) → AllBelow n (numbers vs) → ((a : Obj) → a.number < n → RequestBelow n (f a)) → RequestBelow n (on_one f vs)
-one_below n f [] below asked = tt
-one_below n f (a ∷ []) below asked = asked a below.0
-one_below n f (a ∷ b ∷ vs) below asked = tt
+asked_below : (n : ℕ) (setting : Setting) (op : Instruction) (i : ℕ) → setting.globals.number < n → AsksBelow n (effect op i) (asked setting op i)
+asked_below n setting op i there = by_effect (effect op i) (asked setting op i) (asked_as (Unit {0}) setting op i)
+  where
+    below : (pushes : Option Kind) (vs : List Obj) (r : Option Request) → AllBelow n (numbers vs) → Asks (Unit {0}) setting pushes vs r → RequestBelow n r
+    below pushes vs None low asks = tt
+    below pushes vs (Some r) low asks = asks.1 n there low
 
-two_below : (n : ℕ) (f : Obj → Obj → Option Request) (vs : List Obj) → AllBelow n (numbers vs) → ((a b : Obj) → a.number < n → b.number < n → RequestBelow n (f a b)) → RequestBelow n (on_two f vs)
-two_below n f [] below asked = tt
-two_below n f (b ∷ []) below asked = tt
-two_below n f (b ∷ a ∷ []) below asked = asked a b below.1.0 below.0
-two_below n f (b ∷ a ∷ v ∷ vs) below asked = tt
-
-call_below : (n : ℕ) (vs : List Obj) → AllBelow n (numbers vs) → RequestBelow n (calls vs)
-call_below n [] below = tt
-call_below n (f ∷ args) below = (below.0, joined_below n (numbers args) [] below.1 tt)
-
-test_below : (n : ℕ) (op : Option TestOperator) (a b : Obj) → a.number < n → b.number < n → RequestBelow n (tests op a b)
-test_below n (Some test.ExceptionMatch) a b low high = (low, (high, tt))
-test_below n _ a b low high = tt
-
-asked_below : (n : ℕ) (setting : Setting) (op : Instruction) (i : ℕ) (vs : List Obj) → setting.globals.number < n → AllBelow n (numbers vs) → RequestBelow n (asked setting op i vs)
-asked_below n setting LoadGlobal i vs there below = none_below n _ vs (mapped_below n (name_of_global setting i) _ (λ x. (there, tt)))
-asked_below n setting BinaryOperation i vs there below = two_below n _ vs below (λ a b low high. mapped_below n (asked_operator (slice_get binary_operators i)) _ (λ op. (low, (high, tt))))
-asked_below n setting CompareOperation i vs there below = two_below n _ vs below (λ a b low high. mapped_below n (asked_comparison (slice_get comparison_operators i)) _ (λ op. (low, (high, tt))))
-asked_below n setting TestOperation i vs there below = two_below n _ vs below (λ a b low high. test_below n (slice_get test_operators i) a b low high)
-asked_below n setting CallFunctionPositional k vs there below = call_below n (reverse vs) (reverse_below n vs below)
-asked_below n setting PrintExpr i vs there below = one_below n _ vs below (λ v low. (low, tt))
-asked_below n setting _ i vs there below = tt
+    by_effect : (e : Effect) (f : List Obj → Option Request) → AsksAny (Unit {0}) setting (operand_there setting op i) e f → AsksBelow n e f
+    by_effect (Moves k places) f asks = tt
+    by_effect (AsksOnce wanted pushes) f asks = λ vs low. below pushes vs (f vs) low (asks vs (λ m. tt))
+    by_effect Other f asks = tt
 
 module _ (n : ℕ) where
   -- what a step tells and leaves
@@ -251,7 +198,7 @@ module _ (n : ℕ) where
       by_payload (Some p) = led
 
   unbound_led : (name : Option Name) (s : State) → HoldsBelow n s → Led (asks_if (option_map (λ x. request.Unbound x) name) s)
-  unbound_led name s h = asks_if_led (option_map (λ x. request.Unbound x) name) s (mapped_below n name (λ x. request.Unbound x) (λ x. tt)) h
+  unbound_led name s h = asks_if_led (option_map (λ x. request.Unbound x) name) s (mapped_unbound n name) h
 
   load_fast_led : (name : Option Name) (local : Option (Option Obj)) (s : State) → ((v : Obj) → local ≡ Some (Some v) → v.number < n) → HoldsBelow n s → Led (load_fast name local s)
   load_fast_led name None s low h = tt
@@ -356,7 +303,7 @@ module _ (n : ℕ) where
   own_led setting ExtendedArg i s h = h
   own_led setting _ i s h = tt
 
-  table_led : (e : Effect) (f : List Obj → Option Request) (own : Move) (s : State) → ((vs : List Obj) → AllBelow n (numbers vs) → RequestBelow n (f vs)) → HoldsBelow n s → AllLed own → AllLed (acts_by e f own s)
+  table_led : (e : Effect) (f : List Obj → Option Request) (own : Move) (s : State) → AsksBelow n e f → HoldsBelow n s → AllLed own → AllLed (acts_by e f own s)
   table_led (Moves k places) f own s asked h led =
       where_led (reaches k s.stack && list_all (λ p. is_there (slice_get s.stack p)) places) (Goes (with_stack (picked places s.stack ++ drop k s.stack) (next s)))
       (stacked (values_below n (picked places s.stack) (drop k s.stack) (picked_below n places s.stack h.in_stack) (drop_below n k s.stack h.in_stack)) h)
@@ -407,7 +354,7 @@ module _ (n : ℕ) where
       by_unit None = tt
       by_unit (Some u) =
           table_led (effect u.op (with_byte s.prefix u.arg)) (asked setting u.op (with_byte s.prefix u.arg)) (act_own setting u.op (with_byte s.prefix u.arg) (begun s)) (begun s)
-          (λ vs below. asked_below n setting u.op (with_byte s.prefix u.arg) vs there below) h (own_led setting u.op (with_byte s.prefix u.arg) (begun s) h)
+          (asked_below n setting u.op (with_byte s.prefix u.arg) there) h (own_led setting u.op (with_byte s.prefix u.arg) (begun s) h)
   moves_led setting (expect.Answer w) s there h = tt
   moves_led setting expect.Resume s there h = tt
   moves_led setting (expect.Heard (got.Value v)) s there h = by_unit (slice_get setting.code.code.instructions.items s.at)
