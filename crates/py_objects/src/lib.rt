@@ -28,6 +28,3 @@ pub use refs::{FrameRef, ObjList, PyBaseExceptionRef, PyObjectRef, PyTracebackRe
 pub use request::{BuildKind, Keywords, Request};
 pub use scope::Scope;
 pub use store::Store;
-
-#[cfg(test)]
-mod tests;

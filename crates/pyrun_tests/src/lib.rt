@@ -10,4 +10,6 @@ mod grammar;
 #[cfg(test)]
 mod machine;
 #[cfg(test)]
+mod objects;
+#[cfg(test)]
 mod scripts;

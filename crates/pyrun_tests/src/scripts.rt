@@ -1,13 +1,11 @@
-//! Words, whole commands, and the text of a journal with changes, which no script makes so far.
+//! Words, and the text of a journal with changes, which no script makes so far.
 
 use py_code::{CodeList, Names, NoMemory};
 use py_objects::{
     Change, ChangeList, DriveAnswer, Edit, Event, EventList, PairList, Payload, PayloadList,
     PyObjectRef,
 };
-use py_script::{
-    Command, Journal, SinkMemory, SourceMemory, Words, command_of, journal_text, run_command,
-};
+use py_script::{Command, Journal, Words, command_of, journal_text};
 use std::alloc::Global;
 use std::test::Fail;
 
@@ -26,33 +24,6 @@ fn words_ask_for_a_run(rt: HostRuntime) -> Result<(), Fail> {
     assert_eq!(rt; turns, Command::Run { turns: 12 });
     let none = command_of(&words_of(alloc, &["run", "1 2"])?);
     assert_eq!(rt; none, Command::Usage);
-    Ok(())
-}
-
-/// The status of `run` over a script, with what is written of it.
-fn run(alloc: Global, script: &[u8]) -> Result<(u8, SinkMemory), NoMemory> {
-    let words = words_of(alloc, &["run"])?;
-    let mut source = SourceMemory::new(script.to_vec(alloc)?, Vec::new(alloc), 100);
-    let mut sink = SinkMemory::new(alloc, Vec::new(alloc), 100, 100)?;
-    let mut notes = SinkMemory::new(alloc, Vec::new(alloc), 100, 100)?;
-    let ended = run_command(alloc, &words, &mut source, &mut sink, &mut notes);
-    Ok((ended.status, sink))
-}
-
-#[test]
-fn a_script_runs_whole(rt: HostRuntime) -> Result<(), Fail> {
-    let script = b"def f a b\nx = (add a b)\nreturn x\nend\ncall f 33 12\n";
-    let (status, text) = run(rt.alloc(), script)?;
-    assert_eq!(rt; status, 0);
-    assert_eq!(rt; text.bytes(), b"1 returns 45\n".as_slice());
-    Ok(())
-}
-
-#[test]
-fn what_is_no_script_is_not_run(rt: HostRuntime) -> Result<(), Fail> {
-    let (status, text) = run(rt.alloc(), b"def f\n")?;
-    assert_eq!(rt; status, 2);
-    assert_eq!(rt; text.bytes(), b"".as_slice());
     Ok(())
 }
 

@@ -4,8 +4,11 @@ ghost use Rattle.std.specs.Prelude.{◌≡◌, IfOk};
 ghost use Rattle.py_objects.specs.Objects.{AllBelow};
 ghost use Rattle.py_objects.specs.Edits.{edit_numbers, FitsException, IsInPlace};
 
-use crate::*;
-use py_code::{NoMemory, PyText, same_text, text_of};
+use py_code::{NoMemory, same_text, text_of};
+use py_objects::{
+    AttrMap, Change, ClassBody, Edit, ExceptionBody, History, LinkField, ObjList, PairList,
+    Payload, PyObjectRef, PyTypeRef, Scope, Store,
+};
 use std::alloc::Global;
 use std::process::Abort;
 use std::test::Fail;
