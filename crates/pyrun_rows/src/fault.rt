@@ -45,8 +45,11 @@ impl<T: Drop> From<AllocFailed<T>> for RowsFault {
 }
 
 impl From<ReadError> for RowsFault {
-    fn from(_error: ReadError) -> RowsFault {
-        RowsFault::Unreadable
+    fn from(error: ReadError) -> RowsFault {
+        match error {
+            ReadError::NoMemory => RowsFault::NoMemory,
+            ReadError::Fault | ReadError::TooLong => RowsFault::Unreadable,
+        }
     }
 }
 

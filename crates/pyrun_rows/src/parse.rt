@@ -82,13 +82,14 @@ fn number_of(text: &str) -> Result<u64, LineFault> {
     text.parse::<u64>().map_err(|_| LineFault::Unknown)
 }
 
-/// Takes a number that is said of a row. One that is run with each number of turns has no words of its own.
+/// Takes a number that is said of a row. Calls are numbered from 1, and a piece has a byte at least. A row that is run with each
+/// number of turns has no words of its own.
 fn take_number(row: &mut Row, word: &str, number: u64) -> Result<(), LineFault> {
     match word {
-        "read" => row.failing_reads.push(number)?,
-        "write" => row.failing_writes.push(number)?,
-        "pieces" => row.piece = Some((number as usize).max(1)),
-        _ if row.words.is_none() && row.turns.is_none() => row.turns = Some(number),
+        "read" if number > 0 => row.failing_reads.push(number)?,
+        "write" if number > 0 => row.failing_writes.push(number)?,
+        "pieces" if number > 0 => row.piece = Some(number as usize),
+        "turns" if row.words.is_none() && row.turns.is_none() => row.turns = Some(number),
         _ => return Err(LineFault::Unknown),
     }
     Ok(())
@@ -98,7 +99,8 @@ fn take_number(row: &mut Row, word: &str, number: u64) -> Result<(), LineFault> 
 fn begin_text(alloc: Global, row: &mut Row, rest: &str) -> Result<(), LineFault> {
     let from = match rest.strip_prefix("from ") {
         Some(number) => number_of(number)?,
-        None => 0,
+        None if rest.is_empty() => 0,
+        None => return Err(LineFault::Unknown),
     };
     let bytes = Vec::new(alloc);
     row.parts.push(Part { from, bytes })?;

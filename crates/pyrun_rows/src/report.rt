@@ -9,6 +9,9 @@ use py_code::NoMemory;
 use py_script::Words;
 use std::alloc::Global;
 
+/// How a run ends that has too few turns.
+const CUT: &str = "4 out of turns";
+
 /// What is told of rows, and how many passed.
 #[derive(Drop)]
 pub(crate) struct Report {
@@ -72,7 +75,7 @@ impl Report {
         for turns in 0..last.saturating_add(1) {
             let words = format!(in self.alloc; "run {turns}")?;
             let status = if turns < row.last_event() {
-                "4 out of turns"
+                CUT
             } else {
                 row.status.as_str()
             };
@@ -91,11 +94,12 @@ impl Report {
         events: u64,
     ) -> Result<(), NoMemory> {
         let lines = wanted(self.alloc, row, status, events)?;
+        let lines = lines.as_slice();
         let same = match row.piece {
-            Some(piece) => self.is_same(row, words, piece.max(1), "in pieces", &lines)?,
+            Some(piece) => self.is_same(row, words, piece.max(1), "in pieces", lines)?,
             None => {
-                let at_once = self.is_same(row, words, usize::MAX, "all at once", &lines)?;
-                at_once && self.is_same(row, words, 1, "a byte a call", &lines)?
+                let at_once = self.is_same(row, words, usize::MAX, "all at once", lines)?;
+                at_once && self.is_same(row, words, 1, "a byte a call", lines)?
             }
         };
         if same {
@@ -113,26 +117,26 @@ impl Report {
         words: &Words,
         piece: usize,
         how: &str,
-        lines: &Vec<u8>,
+        lines: &[u8],
     ) -> Result<bool, NoMemory>
         requires { 1 ≤ piece }
     {
         let came = found(self.alloc, row, words, piece)?;
-        let same = came.as_slice() == lines.as_slice();
+        let same = came.as_slice() == lines;
         if !same {
             self.tell(row, how, "must come", lines)?;
         }
         if !same || self.shows {
-            self.tell(row, how, "came", &came)?;
+            self.tell(row, how, "came", came.as_slice())?;
         }
         Ok(same)
     }
 
     /// Tells lines of a row that is run so.
-    fn tell(&mut self, row: &Row, how: &str, what: &str, lines: &Vec<u8>) -> Result<(), NoMemory> {
+    fn tell(&mut self, row: &Row, how: &str, what: &str, lines: &[u8]) -> Result<(), NoMemory> {
         let heading = format!(in self.alloc; "== {}, {how}, {what}\n", row.name.as_str())?;
         self.lines.extend_from_slice(heading.as_bytes())?;
-        self.lines.extend_from_slice(lines.as_slice())?;
+        self.lines.extend_from_slice(lines)?;
         Ok(())
     }
 }
