@@ -8,8 +8,16 @@ use std::alloc::Global;
 
 const SCRIPT: &[u8] = b"# a loop\ndef f a\nwhile a\nshow 'b'\nend\nend\ncall f -1\ncall f $1\n";
 
-/// How many names a text declares and how many drives it has, or its bad line.
-fn outline(alloc: Global, text: &[u8]) -> Result<Result<(usize, usize), u64>, NoMemory>
+/// What a text is, as far as it is looked at here.
+#[derive(Clone, Copy, Debug, PartialEq, Eq)]
+enum Outline {
+    /// A script, with so many names and drives.
+    Script { names: usize, drives: usize },
+    /// No script, by the line of this number.
+    BadLine(u64),
+}
+
+fn outline_of(alloc: Global, text: &[u8]) -> Result<Outline, NoMemory>
     requires { length text.now ≤ 1048576 }
 {
     one_script(text);
@@ -17,9 +25,12 @@ fn outline(alloc: Global, text: &[u8]) -> Result<Result<(usize, usize), u64>, No
         Ok(script) => {
             let declarations = script.declarations.as_slice().iter();
             let named = declarations.filter(|declared| declared.name().len() > 0);
-            Ok(Ok((named.count(), script.drives.len())))
+            Ok(Outline::Script {
+                names: named.count(),
+                drives: script.drives.len(),
+            })
         }
-        Err(ParseFault::Malformed(line)) => Ok(Err(line)),
+        Err(ParseFault::Malformed(line)) => Ok(Outline::BadLine(line)),
         Err(ParseFault::NoMemory) => Err(NoMemory),
     }
 }
@@ -27,7 +38,14 @@ fn outline(alloc: Global, text: &[u8]) -> Result<Result<(usize, usize), u64>, No
 #[test]
 fn a_text_is_a_script_or_has_a_bad_line(rt: HostRuntime) -> Result<(), NoMemory> {
     let alloc = rt.alloc();
-    assert_eq!(rt; outline(alloc, SCRIPT)?, Ok((1, 2)));
-    assert_eq!(rt; outline(alloc, b"def f a\nreturn a\n")?, Err(3));
+    let script = Outline::Script {
+        names: 1,
+        drives: 2,
+    };
+    assert_eq!(rt; outline_of(alloc, SCRIPT)?, script);
+    assert_eq!(rt;
+        outline_of(alloc, b"def f a\nreturn a\n")?,
+        Outline::BadLine(3)
+    );
     Ok(())
 }

@@ -1,4 +1,4 @@
-//! Tests of public calls of the crates that no script reaches. They stand apart, so that a crate isn't proved again with its tests.
+//! Tests of public calls of the crates, which stand apart so that no crate is proved again with its tests.
 #![tactic(auto)]
 
 #[cfg(test)]
