@@ -141,7 +141,7 @@ lead_grown objects objects' grows (Exits e f) step (t, v, b, exits, is) = (t, v,
   where
     exit_grown : (e : _) → IsExit objects e t v b → IsExit objects' e t v b
     exit_grown None (x, y, z) = (payload_grown objects objects' t _ grows x, payload_grown objects objects' v _ grows y, payload_grown objects objects' b _ grows z)
-    exit_grown (Some e) (same, x, z) = (same, number_grown objects objects' t.number grows x, number_grown objects objects' b.number grows z)
+    exit_grown (Some e) (same, (body, has, class), x, z) = (same, (body, payload_grown objects objects' v _ grows has, class), number_grown objects objects' t.number grows x, number_grown objects objects' b.number grows z)
 
 -- the same of a whole step
 step_grown : (objects objects' : List Payload) → Grows objects objects' → (setting : Setting) (s t : State) (xs : List Own) → Steps objects setting s xs t → Steps objects' setting s xs t
@@ -154,9 +154,9 @@ step_grown objects objects' grows setting s _ _ (hearing x w hears) = hearing x 
     answer_grown w (got.Stop v) is = is
     answer_grown w (got.Raise e) is = kind_grown objects objects' (as_object e) kind.Exc grows is
 
-    hears_grown : (y : Expect) (x : Own) (w : Expect) → Hears objects y x w → Hears objects' y x w
+    hears_grown : (y : Expect) (x : Own) (w : Expect) → Hears objects setting y x w → Hears objects' setting y x w
     hears_grown expect.Start (Resumes how.Start) w hears = hears
-    hears_grown expect.Start (Resumes (how.Throw e)) w hears = (kind_grown objects objects' (as_object e) kind.Exc grows hears.0, hears.1)
+    hears_grown expect.Start (Resumes (how.Throw e)) w hears = (kind_grown objects objects' (as_object e) kind.Exc grows hears.0, hears.1, hears.2)
     hears_grown (expect.Answer wanted) (Gets g) w hears = (answer_grown wanted g hears.0, hears.1)
     hears_grown expect.Resume (Resumes (how.Send v)) w hears = hears
     hears_grown expect.Resume (Resumes (how.Throw e)) w hears = (kind_grown objects objects' (as_object e) kind.Exc grows hears.0, hears.1)

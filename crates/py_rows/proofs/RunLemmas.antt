@@ -1,16 +1,21 @@
 -- What holds of each step holds of whole runs.
-use Rattle.std.proofs.Common.{◌<◌, ◌++◌, ℕ, List, [], ◌∷◌, Option, length}
+use Rattle.std.proofs.Common.{◌≡◌, ◌∙◌, ◌<◌, ◌-◌, ◌++◌, ℕ, List, [], ◌∷◌, Option, ap, subst, length}
 use Rattle.py_objects.specs.declared.refs.PyBaseExceptionRef.{PyBaseExceptionRef}
 use Rattle.py_objects.specs.declared.payload.Payload.{Payload}
 use Rattle.py_objects.specs.Objects.{Obj, AllBelow, numbers, number_if}
 use Rattle.py_objects.specs.Own.{Own}
 use Rattle.py_check.specs.declared.annotated.Annotated.{Annotated}
+use Rattle.py_rows.specs.declared.expect.Expect.{Expect}
+use Rattle.py_rows.specs.declared.expect.Expect.TheVariants as expect
 use Rattle.py_rows.specs.States.{Setting, State}
+use Rattle.py_rows.specs.Handled.{handled_in, KeepsSlot}
+use Rattle.py_rows.specs.Standing.{IsPlaced, IsStanding}
 use Rattle.py_rows.specs.RunOfRows.{Runs, stays, on, started}
 use Rattle.py_rows.specs.Fitting.{FitsAt, IsSound}
 use Rattle.py_rows.specs.Staying.{HearsBelow, TellsBelow, HoldsBelow}
 use Rattle.py_rows.specs.Laws.{setting_of}
 use Rattle.py_rows.proofs.StepLemmas.{steps_fit, start_fits}
+use Rattle.py_rows.proofs.StandingLemmas.{start_stands, steps_stand}
 use Rattle.py_rows.proofs.StayingLemmas.{steps_stay, start_stays}
 
 fits_on : (objects : List Payload) (names : List (List ℕ)) (globals : Obj) (code : Annotated) → IsSound names code → (s t : State) (xs : List Own) → FitsAt objects code s.wants s → Runs objects (setting_of names globals code) s xs t
@@ -44,3 +49,20 @@ pub runs_stay : (objects : List Payload) (setting : Setting) (slot : Option PyBa
     → AllBelow (length objects) (numbers args) → HearsBelow (length objects) xs → Runs objects setting (started setting.code slot args) xs t → TellsBelow (length objects) xs
 runs_stay objects setting slot args t xs there slot_low args_low hears run =
     (stay_on objects setting (started setting.code slot args) t xs there (start_stays (length objects) setting.code slot args slot_low args_low) hears run).0
+
+stand_on : (objects : List Payload) (setting : Setting) (first : Option PyBaseExceptionRef) (s t : State) (xs : List Own) → IsStanding first s → Runs objects setting s xs t → IsStanding first t
+stand_on objects setting first s _ _ standing stays = standing
+stand_on objects setting first s _ _ standing (on {us = us} {vs = vs} {t = t} u run step) = steps_stand objects setting first t u vs (stand_on objects setting first s t us standing run) step
+
+run_stands : (objects : List Payload) (setting : Setting) (slot : Option PyBaseExceptionRef) (args : List Obj) (t : State) (xs : List Own) → Runs objects setting (started setting.code slot args) xs t → IsStanding slot t
+run_stands objects setting slot args t xs run = stand_on objects setting slot (started setting.code slot args) t xs (start_stands setting.code slot args) run
+
+pub runs_keep_slot : (objects : List Payload) (setting : Setting) (slot : Option PyBaseExceptionRef) (args : List Obj) (t : State) (xs : List Own) → Runs objects setting (started setting.code slot args) xs t → KeepsSlot slot t
+runs_keep_slot objects setting slot args t xs run = (run_stands objects setting slot args t xs run).slot
+
+pub ends_keep_slot : (objects : List Payload) (setting : Setting) (slot : Option PyBaseExceptionRef) (args : List Obj) (t : State) (xs : List Own) → Runs objects setting (started setting.code slot args) xs t → t.wants ≡ expect.Ended
+    → t.slot ≡ slot
+ends_keep_slot objects setting slot args t xs run ended =
+    let standing = run_stands objects setting slot args t xs run in
+    let placed : IsPlaced (t.last - 1) expect.Ended t = subst (λ (x : Expect). IsPlaced (t.last - 1) x t) ended standing.placed in
+    standing.slot.slot ∙ ap (handled_in slot) placed.1

@@ -39,11 +39,11 @@ use Rattle.py_rows.specs.Unwinding.{left, left_handler, meets, unwind, unwinds}
 use Rattle.py_rows.specs.Asked.{asked}
 use Rattle.py_rows.specs.Receiving.{jumps_if, passes_if, causes, raised, answered_by, answered_own, unit_answered, moves}
 use Rattle.py_rows.specs.RunOfRows.{Hears, MayLead, started, Steps, silent, telling, hearing}
-use Rattle.py_rows.specs.Standing.{Stays, IsOf, IsStanding}
+use Rattle.py_rows.specs.Standing.{IsPlaced, IsOf, IsStanding}
 
 -- a frame that goes on may be anywhere
-stays_going : (at : ℕ) (t : State) → t.wants ≡ expect.Go → Stays at t.wants t
-stays_going at t goes = subst (λ (x : Expect). Stays at x t) (sym goes) tt
+placed_going : (at : ℕ) (t : State) → t.wants ≡ expect.Go → IsPlaced at t.wants t
+placed_going at t goes = subst (λ (x : Expect). IsPlaced at x t) (sym goes) tt
 
 module _ (first : Option PyBaseExceptionRef) (at last : ℕ) where
   -- the unit at this place runs, which was begun last
@@ -56,7 +56,7 @@ module _ (first : Option PyBaseExceptionRef) (at last : ℕ) where
   -- a silent step leads to a later unit; an event that is told is of this unit; and the slot is kept
   abbrev Led : Step → Type 0
   Led (Goes t) = (at < t.at) × (t.wants ≡ expect.Go) × KeepsSlot first t
-  Led (Tells x t) = IsOf at t x × (t.last ≡ last) × Stays at t.wants t × KeepsSlot first t
+  Led (Tells x t) = IsOf at t x × (t.last ≡ last) × IsPlaced at t.wants t × KeepsSlot first t
   Led Stuck = Unit {0}
 
   -- whatever a move leads to
@@ -100,7 +100,7 @@ module _ (first : Option PyBaseExceptionRef) (at last : ℕ) where
     where
       by_test : (b : Bool) → nat_lt s.at to ≡ b → Led (cond b (Goes (landed to s)) (Tells (Rounds s.at) (landed to s)))
       by_test true is = (omega (arith, k.here, ltb-true s.at to is), k.goes, same s (landed to s) refl refl k.kept)
-      by_test false is = ((k.here, k.goes), k.begun, stays_going at (landed to s) k.goes, same s (landed to s) refl refl k.kept)
+      by_test false is = ((k.here, k.goes), k.begun, placed_going at (landed to s) k.goes, same s (landed to s) refl refl k.kept)
 
   -- the unit runs, with these blocks
   record Among (ds : List Block) (s : State) : Type 0 where
@@ -132,8 +132,8 @@ module _ (first : Option PyBaseExceptionRef) (at last : ℕ) where
   met r (ExceptHandler e kept) level outer s a keeps all on out = out (left_handler level kept outer s) (record { here = a.here; begun = a.begun; goes = a.goes; blocks = refl; slot = keeps })
 
   unwinding : (r : Reason) (ds : List Block) (s : State) → Among ds s → AllKeep first ds → Led (unwind r ds s)
-  unwinding (reason.Raising e) [] s a all = ((a.here, refl), a.begun, tt, same s _ refl refl (stands [] s a all).kept)
-  unwinding (reason.Returning v) [] s a all = ((a.here, refl), a.begun, tt, same s _ refl refl (stands [] s a all).kept)
+  unwinding (reason.Raising e) [] s a all = ((a.here, refl), a.begun, (a.here, a.blocks), same s _ refl refl (stands [] s a all).kept)
+  unwinding (reason.Returning v) [] s a all = ((a.here, refl), a.begun, (a.here, a.blocks), same s _ refl refl (stands [] s a all).kept)
   unwinding (reason.Break to) [] s a all = tt
   unwinding (reason.Continue to) [] s a all = tt
   unwinding r (d ∷ ds) s a all = met r d.typ d.level ds s a all.0 all.1 (λ t. unwind r ds t) (λ t b. unwinding r ds t b all.1)
@@ -217,7 +217,7 @@ module _ (first : Option PyBaseExceptionRef) (at last : ℕ) where
   own_led setting Jump to s k = jumps_led to s k
   own_led setting JumpIfTrue to s k = off_led s.stack _ (λ v rest. asks_led (request.Truth v) _ (still s _ refl refl refl refl refl k))
   own_led setting JumpIfFalse to s k = off_led s.stack _ (λ v rest. asks_led (request.Truth v) _ (still s _ refl refl refl refl refl k))
-  own_led setting SetupLoop i s k = ((k.here, k.goes), k.begun, stays_going at _ k.goes, record { slot = k.kept.slot; outer = (tt, k.kept.outer) })
+  own_led setting SetupLoop i s k = ((k.here, k.goes), k.begun, placed_going at _ k.goes, record { slot = k.kept.slot; outer = (tt, k.kept.outer) })
   own_led setting SetupExcept to s k = opened (TryExcept to) s tt k.kept.slot k
   own_led setting SetupFinally to s k = opened (Finally to) s tt k.kept.slot k
   own_led setting EnterFinally i s k = opened (FinallyHandler None s.slot) s k.kept.slot k.kept.slot k
@@ -335,7 +335,7 @@ slot_kept objects setting first s _ _ k (telling x t may) = (step_led objects se
 slot_kept objects setting first s _ _ k (hearing x w hears) = record { slot = k.slot; outer = k.outer }
 
 -- the unit that runs, or that waited, is the one that was begun last
-last_begun : (x : Expect) (s : State) → Stays (s.last - 1) x s → begun_by x s - 1 ≡ s.at
+last_begun : (x : Expect) (s : State) → IsPlaced (s.last - 1) x s → begun_by x s - 1 ≡ s.at
 last_begun expect.Start s placed = sym placed
 last_begun expect.Go s placed = omega arith
 last_begun (expect.Answer w) s placed = sym placed
@@ -350,34 +350,34 @@ told_of objects setting first s x t standing may =
     ap (λ (n : ℕ). n - 1) led.1 ∙ last_begun s.wants s standing.placed
 
 -- what is heard comes to where it waited
-heard_stays : (objects : List Payload) (at : ℕ) (s : State) (x : Expect) (o : Own) (w : Expect) → Stays at x s → Hears objects x o w → Stays at w (waiting w s)
-heard_stays objects at s expect.Start (Resumes how.Start) w placed hears = subst (λ (y : Expect). Stays at y (waiting y s)) (sym hears) tt
-heard_stays objects at s expect.Start (Resumes (how.Throw e)) w placed hears = subst (λ (y : Expect). Stays at y (waiting y s)) (sym hears.1) placed
-heard_stays objects at s (expect.Answer wanted) (Gets g) w placed hears = subst (λ (y : Expect). Stays at y (waiting y s)) (sym hears.1) placed
-heard_stays objects at s expect.Resume (Resumes (how.Send v)) w placed hears = subst (λ (y : Expect). Stays at y (waiting y s)) (sym hears) placed
-heard_stays objects at s expect.Resume (Resumes (how.Throw e)) w placed hears = subst (λ (y : Expect). Stays at y (waiting y s)) (sym hears.1) placed
-heard_stays objects at s _ _ w placed hears = absurd hears
+heard_placed : (objects : List Payload) (setting : Setting) (at : ℕ) (s : State) (x : Expect) (o : Own) (w : Expect) → IsPlaced at x s → Hears objects setting x o w → IsPlaced at w (waiting w s)
+heard_placed objects setting at s expect.Start (Resumes how.Start) w placed hears = subst (λ (y : Expect). IsPlaced at y (waiting y s)) (sym hears) tt
+heard_placed objects setting at s expect.Start (Resumes (how.Throw e)) w placed hears = subst (λ (y : Expect). IsPlaced at y (waiting y s)) (sym hears.1) placed
+heard_placed objects setting at s (expect.Answer wanted) (Gets g) w placed hears = subst (λ (y : Expect). IsPlaced at y (waiting y s)) (sym hears.1) placed
+heard_placed objects setting at s expect.Resume (Resumes (how.Send v)) w placed hears = subst (λ (y : Expect). IsPlaced at y (waiting y s)) (sym hears) placed
+heard_placed objects setting at s expect.Resume (Resumes (how.Throw e)) w placed hears = subst (λ (y : Expect). IsPlaced at y (waiting y s)) (sym hears.1) placed
+heard_placed objects setting at s _ _ w placed hears = absurd hears
 
-heard_of : (objects : List Payload) (at : ℕ) (t : State) (x : Expect) (o : Own) (w : Expect) → Hears objects x o w → IsOf at t o
-heard_of objects at t expect.Start (Resumes h) w hears = tt
-heard_of objects at t (expect.Answer wanted) (Gets g) w hears = tt
-heard_of objects at t expect.Resume (Resumes h) w hears = tt
-heard_of objects at t _ _ w hears = absurd hears
+heard_of : (objects : List Payload) (setting : Setting) (at : ℕ) (t : State) (x : Expect) (o : Own) (w : Expect) → Hears objects setting x o w → IsOf at t o
+heard_of objects setting at t expect.Start (Resumes h) w hears = tt
+heard_of objects setting at t (expect.Answer wanted) (Gets g) w hears = tt
+heard_of objects setting at t expect.Resume (Resumes h) w hears = tt
+heard_of objects setting at t _ _ w hears = absurd hears
 
 pub steps_stand : (objects : List Payload) (setting : Setting) (first : Option PyBaseExceptionRef) (s t : State) (xs : List Own) → IsStanding first s → Steps objects setting s xs t → IsStanding first t
 steps_stand objects setting first s _ _ standing (silent t may) =
     let led = step_led objects setting first s (Goes t) standing.slot may in
-    record { placed = stays_going (t.last - 1) t led.1; slot = led.2 }
+    record { placed = placed_going (t.last - 1) t led.1; slot = led.2 }
 steps_stand objects setting first s _ _ standing (telling x t may) =
     let led = step_led objects setting first s (Tells x t) standing.slot may in
-    record { placed = subst (λ (n : ℕ). Stays n t.wants t) (sym (told_of objects setting first s x t standing may)) led.2; slot = led.3 }
+    record { placed = subst (λ (n : ℕ). IsPlaced n t.wants t) (sym (told_of objects setting first s x t standing may)) led.2; slot = led.3 }
 steps_stand objects setting first s _ _ standing (hearing x w hears) =
-    record { placed = heard_stays objects (s.last - 1) s s.wants x w standing.placed hears; slot = record { slot = standing.slot.slot; outer = standing.slot.outer } }
+    record { placed = heard_placed objects setting (s.last - 1) s s.wants x w standing.placed hears; slot = record { slot = standing.slot.slot; outer = standing.slot.outer } }
 
 pub events_told : (objects : List Payload) (setting : Setting) (first : Option PyBaseExceptionRef) (s t : State) (x : Own) → IsStanding first s → Steps objects setting s (x ∷ []) t → IsOf (t.last - 1) t x
 events_told objects setting first s _ _ standing (telling x t may) =
     subst (λ (n : ℕ). IsOf n t x) (sym (told_of objects setting first s x t standing may)) (step_led objects setting first s (Tells x t) standing.slot may).0
-events_told objects setting first s _ _ standing (hearing x w hears) = heard_of objects (s.last - 1) (waiting w s) s.wants x w hears
+events_told objects setting first s _ _ standing (hearing x w hears) = heard_of objects setting (s.last - 1) (waiting w s) s.wants x w hears
 
 pub silent_later : (objects : List Payload) (setting : Setting) (first : Option PyBaseExceptionRef) (s t : State) → IsStanding first s → Steps objects setting s [] t → (s.at < t.at) × (t.wants ≡ expect.Go)
 silent_later objects setting first s _ standing (silent t may) = let led = step_led objects setting first s (Goes t) standing.slot may in (led.0, led.1)

@@ -377,23 +377,23 @@ may_led objects (Exits e f) step all (t, v, b, exits, is) = let low = exit_low e
   where
     exit_low : (e : Option PyBaseExceptionRef) → AllBelow (length objects) (number_if e) → IsExit objects e t v b → (t.number < length objects) × (v.number < length objects) × (b.number < length objects)
     exit_low None low (x, y, z) = (slice_get_within objects t.number _ x, slice_get_within objects v.number _ y, slice_get_within objects b.number _ z)
-    exit_low (Some e) low (same, x, z) = (x, subst (λ (u : Obj). u.number < length objects) (sym same) low.0, z)
+    exit_low (Some e) low (same, class, x, z) = (x, subst (λ (u : Obj). u.number < length objects) (sym same) low.0, z)
 
 -- what is heard
-heard_low : (objects : List Payload) (n : ℕ) (x : Expect) (o : Own) (w : Expect) → AllBelow n (heard_numbers o) → Hears objects x o w → ExpectBelow n w
-heard_low objects n expect.Start (Resumes how.Start) w low hears = subst (ExpectBelow n) (sym hears) tt
-heard_low objects n expect.Start (Resumes (how.Throw e)) w low hears = subst (ExpectBelow n) (sym hears.1) low
-heard_low objects n (expect.Answer wanted) (Gets g) w low hears = subst (ExpectBelow n) (sym hears.1) low
-heard_low objects n expect.Resume (Resumes (how.Send v)) w low hears = subst (ExpectBelow n) (sym hears) low
-heard_low objects n expect.Resume (Resumes (how.Throw e)) w low hears = subst (ExpectBelow n) (sym hears.1) low
-heard_low objects n _ _ w low hears = absurd hears
+heard_low : (objects : List Payload) (setting : Setting) (n : ℕ) (x : Expect) (o : Own) (w : Expect) → AllBelow n (heard_numbers o) → Hears objects setting x o w → ExpectBelow n w
+heard_low objects setting n expect.Start (Resumes how.Start) w low hears = subst (ExpectBelow n) (sym hears) tt
+heard_low objects setting n expect.Start (Resumes (how.Throw e)) w low hears = subst (ExpectBelow n) (sym hears.1) low
+heard_low objects setting n (expect.Answer wanted) (Gets g) w low hears = subst (ExpectBelow n) (sym hears.1) low
+heard_low objects setting n expect.Resume (Resumes (how.Send v)) w low hears = subst (ExpectBelow n) (sym hears) low
+heard_low objects setting n expect.Resume (Resumes (how.Throw e)) w low hears = subst (ExpectBelow n) (sym hears.1) low
+heard_low objects setting n _ _ w low hears = absurd hears
 
 -- nothing is told by what is heard
-heard_silent : (objects : List Payload) (n : ℕ) (x : Expect) (o : Own) (w : Expect) → Hears objects x o w → AllBelow n (told_numbers o)
-heard_silent objects n expect.Start (Resumes h) w hears = tt
-heard_silent objects n (expect.Answer wanted) (Gets g) w hears = tt
-heard_silent objects n expect.Resume (Resumes h) w hears = tt
-heard_silent objects n _ _ w hears = absurd hears
+heard_silent : (objects : List Payload) (setting : Setting) (n : ℕ) (x : Expect) (o : Own) (w : Expect) → Hears objects setting x o w → AllBelow n (told_numbers o)
+heard_silent objects setting n expect.Start (Resumes h) w hears = tt
+heard_silent objects setting n (expect.Answer wanted) (Gets g) w hears = tt
+heard_silent objects setting n expect.Resume (Resumes h) w hears = tt
+heard_silent objects setting n _ _ w hears = absurd hears
 
 pub steps_stay : (objects : List Payload) (setting : Setting) (s t : State) (xs : List Own) → setting.globals.number < length objects → HoldsBelow (length objects) s → HearsBelow (length objects) xs → Steps objects setting s xs t
     → TellsBelow (length objects) xs × HoldsBelow (length objects) t
@@ -401,7 +401,7 @@ steps_stay objects setting s _ _ there h hears (silent t may) = (tt, may_led obj
 steps_stay objects setting s _ _ there h hears (telling x t may) =
     let led = may_led objects (moves setting s.wants s) (Tells x t) (moves_led (length objects) setting s.wants s there h) may in ((led.0, tt), led.1)
 steps_stay objects setting s _ _ there h hears (hearing x w heard) =
-    ((heard_silent objects (length objects) s.wants x w heard, tt), expecting (length objects) (heard_low objects (length objects) s.wants x w hears.0 heard) h)
+    ((heard_silent objects setting (length objects) s.wants x w heard, tt), expecting (length objects) (heard_low objects setting (length objects) s.wants x w hears.0 heard) h)
 
 -- the arguments as locals
 filled_below : (n m : ℕ) (vs : List Obj) → AllBelow n (numbers vs) → (i : ℕ) (v : Obj) → slice_get (filled m vs) i ≡ Some (Some v) → v.number < n

@@ -29,7 +29,7 @@ use Rattle.py_rows.specs.Rows.{unit_move}
 use Rattle.py_rows.specs.Receiving.{unit_answered, moves}
 use Rattle.py_rows.specs.RunOfRows.{MayLead, Hears, Steps, silent, telling, hearing, filled, started}
 use Rattle.py_rows.specs.Fitting.{Has, FitsNote, left_of, FitsBut, CanUnwind, FitsAt, IsSound}
-use Rattle.py_rows.specs.Laws.{LeadsTo, AlwaysLeads, IfLeads, IsMoving, IsWithin, setting_of}
+use Rattle.py_rows.specs.Laws.{LeadsTo, AlwaysLeads, IsMoving, IsWithin, setting_of}
 use Rattle.py_rows.proofs.KindLemmas.{kinds_counted}
 use Rattle.py_rows.proofs.BlockLemmas.{blocks_counted, deepest_there}
 use Rattle.py_rows.proofs.TypingLemmas.{IsWhole, typed_whole, unit_kept}
@@ -37,6 +37,12 @@ use Rattle.py_rows.proofs.LandingLemmas.{Fits}
 use Rattle.py_rows.proofs.UnwindingLemmas.{leaves_with}
 use Rattle.py_rows.proofs.ActingLemmas.{act_fits}
 use Rattle.py_rows.proofs.AnsweringLemmas.{Given, answered_fits}
+
+-- what a step leads to has a property, where it leads anywhere
+abbrev IfLeads : (State → Type 0) → Step → Type 0
+IfLeads P (Goes t) = P t
+IfLeads P (Tells x t) = P t
+IfLeads P Stuck = Unit {0}
 
 module _ (objects : List Payload) (names : List (List ℕ)) (globals : Obj) (code : Annotated) (sound : IsSound names code) (s : State) where
   -- what a frame has that fits a note
@@ -131,7 +137,7 @@ module _ (objects : List Payload) (names : List (List ℕ)) (globals : Obj) (cod
   can_unwind w x f = record { kinds = f.left.kinds; block_notes = f.left.blocks; has = has_waiting f.left.kinds f.left.blocks x f.has; there = slice_get_within code.code.code.instructions.items s.at f.unit f.is }
 
   -- what a frame hears that waits
-  heard_fits : (x : Expect) (o : Own) (w : Expect) → FitsAt objects code x s → Hears objects x o w → FitsAt objects code w (waiting w s)
+  heard_fits : (x : Expect) (o : Own) (w : Expect) → FitsAt objects code x s → Hears objects (setting_of names globals code) x o w → FitsAt objects code w (waiting w s)
   heard_fits expect.Start (Resumes how.Start) w f hears = subst (λ (y : Expect). FitsAt objects code y (waiting y s)) (sym hears) (note_waiting expect.Go f.1)
   heard_fits expect.Start (Resumes (how.Throw e)) w f hears =
       let raised : Expect = expect.Heard (got.Raise e) in
@@ -177,15 +183,3 @@ pub start_fits : (objects : List Payload) (names : List (List ℕ)) (code : Anno
 start_fits objects names code slot args sound =
     let whole : IsWhole code = typed_whole code sound.typed in
     (refl, record { kinds = []; block_notes = []; note = whole.start; holds = tt; blocks = tt; carries = refl; locals = length-filled (length code.code.code.varnames.items) args })
-
--- what fits is within the sizes
-step_safe : (objects : List Payload) (names : List (List ℕ)) (code : Annotated) → IsSound names code → (step : Step) → LeadsTo (Fits objects code) step → LeadsTo (IsWithin code.code.code.max_stackdepth (deepest code.notes)) step
-step_safe objects names code sound (Goes t) fits = within objects names (record { number = 0 }) code sound t t.wants fits
-step_safe objects names code sound (Tells x t) fits = within objects names (record { number = 0 }) code sound t t.wants fits
-step_safe objects names code sound Stuck fits = fits
-
-pub move_safe : (objects : List Payload) (names : List (List ℕ)) (code : Annotated) → IsSound names code → (m : Move) → AlwaysLeads objects (Fits objects code) m → AlwaysLeads objects (IsWithin code.code.code.max_stackdepth (deepest code.notes)) m
-move_safe objects names code sound (Plainly step) fits = step_safe objects names code sound step fits
-move_safe objects names code sound (Loads p f) fits = λ v has. step_safe objects names code sound (f v) (fits v has)
-move_safe objects names code sound (Decides v f) fits = (fits.0, λ b. step_safe objects names code sound (f b) (fits.1 b))
-move_safe objects names code sound (Exits e f) fits = (fits.0, λ t v b. step_safe objects names code sound (f t v b) (fits.1 t v b))

@@ -1,4 +1,4 @@
--- What holds of every step.
+-- What holds of every step and every run.
 use Rattle.std.specs.Prelude.{ℕ, ◌≤◌, ◌<◌, ◌-◌, ◌≡◌, Bool, Option, Some, None, List, [], ◌∷◌, length}
 use Rattle.py_code.specs.declared.code.PyCode.{PyCode}
 use Rattle.py_objects.specs.declared.refs.PyBaseExceptionRef.{PyBaseExceptionRef}
@@ -32,7 +32,7 @@ abbrev pub RaisedThere : List Payload → Option PyBaseExceptionRef → Type 0
 RaisedThere objects None = Unit {0}
 RaisedThere objects (Some e) = HasKind objects (as_object e) kind.Exc
 
--- so does a move, whatever it loads or is told; what it decides by is a truth value
+-- the same of a move, whatever it loads or is told; what it decides by is a truth value
 abbrev pub AlwaysLeads : List Payload → (State → Type 0) → Move → Type 0
 AlwaysLeads objects P (Plainly step) = LeadsTo P step
 AlwaysLeads objects P (Loads p f) = (v : Obj) → HasPayload objects v p → LeadsTo P (f v)
@@ -43,12 +43,6 @@ AlwaysLeads objects P (Exits e f) = RaisedThere objects e × ((t v b : Obj) → 
 abbrev pub IsWithin : ℕ → ℕ → State → Type 0
 IsWithin max depth s = (length s.stack ≤ max) × (length s.blocks ≤ depth)
 
--- the same where it may be nothing
-abbrev pub IfLeads : (State → Type 0) → Step → Type 0
-IfLeads P (Goes t) = P t
-IfLeads P (Tells x t) = P t
-IfLeads P Stuck = Unit {0}
-
 -- a frame that expects this goes on by itself
 abbrev pub IsMoving : Expect → Type 0
 IsMoving expect.Start = ⊥
@@ -58,7 +52,7 @@ IsMoving expect.Resume = ⊥
 IsMoving (expect.Heard w) = Unit {0}
 IsMoving expect.Ended = ⊥
 
--- a frame of a sound code
+-- a code with its table of names and its globals
 abbrev pub setting_of : List (List ℕ) → Obj → Annotated → Setting
 setting_of names globals code = record { code = code.code; names = names; globals = globals }
 
@@ -84,19 +78,6 @@ SlotKept = (objects : List Payload) (setting : Setting) (first : Option PyBaseEx
 -- a frame that hasn't begun fits its code
 abbrev pub StartFits : Type 0
 StartFits = (objects : List Payload) (names : List (List ℕ)) (code : Annotated) (slot : Option PyBaseExceptionRef) (args : List Obj) → IsSound names code → FitsAt objects code expect.Start (started code.code slot args)
-
--- a step that can be made: it isn't nothing, and leads to a state within the sizes
-abbrev pub IsSafe : ℕ → ℕ → Step → Type 0
-IsSafe max depth step = LeadsTo (IsWithin max depth) step
-
--- the same of a move
-abbrev pub IsSafeMove : List Payload → ℕ → ℕ → Move → Type 0
-IsSafeMove objects max depth move = AlwaysLeads objects (IsWithin max depth) move
-
--- whatever a sound code's frame does next can be made
-abbrev pub NextSafe : Type 0
-NextSafe = (objects : List Payload) (names : List (List ℕ)) (globals : Obj) (code : Annotated) (s : State)
-    → IsSound names code → FitsAt objects code s.wants s → IsMoving s.wants → IsSafeMove objects code.code.code.max_stackdepth (deepest code.notes) (moves (setting_of names globals code) s.wants s)
 
 -- what fits goes on to fit as objects are added
 abbrev pub FitsGrow : Type 0
@@ -140,3 +121,13 @@ RunsFit = (objects : List Payload) (names : List (List ℕ)) (globals : Obj) (co
 abbrev pub RunsStayBelow : Type 0
 RunsStayBelow = (objects : List Payload) (setting : Setting) (slot : Option PyBaseExceptionRef) (args : List Obj) (t : State) (xs : List Own) → setting.globals.number < length objects → AllBelow (length objects) (number_if slot) → AllBelow (length objects) (numbers args)
     → HearsBelow (length objects) xs → Runs objects setting (started setting.code slot args) xs t → TellsBelow (length objects) xs
+
+-- the slot is kept wherever a run comes to
+abbrev pub RunsKeepSlot : Type 0
+RunsKeepSlot = (objects : List Payload) (setting : Setting) (slot : Option PyBaseExceptionRef) (args : List Obj) (t : State) (xs : List Own)
+    → Runs objects setting (started setting.code slot args) xs t → KeepsSlot slot t
+
+-- where a run ends the slot holds what it held at first
+abbrev pub EndsKeepSlot : Type 0
+EndsKeepSlot = (objects : List Payload) (setting : Setting) (slot : Option PyBaseExceptionRef) (args : List Obj) (t : State) (xs : List Own)
+    → Runs objects setting (started setting.code slot args) xs t → t.wants ≡ expect.Ended → t.slot ≡ slot

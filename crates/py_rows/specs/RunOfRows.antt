@@ -1,13 +1,16 @@
 -- A run of the rows of a code: which own events an activation may tell, step by step, and where it has come to.
-use Rattle.std.specs.Prelude.{ℕ, ◌<◌, zero, suc, Bool, Option, Some, None, List, [], ◌∷◌, ◌++◌, ◌≡◌, length}
+use Rattle.std.specs.Prelude.{ℕ, ◌<◌, zero, suc, Bool, true, ◌||◌, ◌==◌, Option, Some, None, List, [], ◌∷◌, ◌++◌, ◌≡◌, length}
 use Rattle.py_code.specs.declared.code.PyCode.{PyCode}
 use Rattle.py_objects.specs.declared.refs.PyBaseExceptionRef.{PyBaseExceptionRef}
 use Rattle.py_objects.specs.declared.payload.Payload.{Payload}
 use Rattle.py_objects.specs.declared.payload.Payload.TheVariants as payload
 use Rattle.py_objects.specs.declared.event.GotAnswer.TheVariants as got
 use Rattle.py_objects.specs.declared.event.ResumeHow.TheVariants as how
-use Rattle.py_objects.specs.Objects.{Obj, HasPayload, as_object}
+use Rattle.py_objects.specs.declared.payload.ExceptionBody.{ExceptionBody}
+use Rattle.py_objects.specs.Objects.{Obj, HasPayload, as_object, class_object}
 use Rattle.py_objects.specs.Own.{Own, Resumes, Gets}
+use Rattle.py_code.specs.declared.flags.TheConstants.CodeFlags.{IS_GENERATOR, IS_COROUTINE}
+use Rattle.py_check.specs.Rules.{counts_if}
 use Rattle.py_check.specs.declared.note.Kind.TheVariants as kind
 use Rattle.py_rows.specs.declared.expect.Expect.{Expect}
 use Rattle.py_rows.specs.declared.expect.Expect.TheVariants as expect
@@ -15,11 +18,11 @@ use Rattle.py_rows.specs.States.{Setting, State, Step, Goes, Tells, Move, Plainl
 use Rattle.py_rows.specs.Answers.{HasKind, IsAnswer}
 use Rattle.py_rows.specs.Receiving.{moves}
 
--- what an exit is told: an exception between its class and its traceback, of which only that they are objects is said here, or three
+-- what an exit is told: an exception between its class and its traceback, of which only that it is an object is said here, or three
 -- times None
 abbrev pub IsExit : List Payload → Option PyBaseExceptionRef → Obj → Obj → Obj → Type 0
 IsExit objects None t v b = HasPayload objects t payload.None × HasPayload objects v payload.None × HasPayload objects b payload.None
-IsExit objects (Some e) t v b = (v ≡ as_object e) × (t.number < length objects) × (b.number < length objects)
+IsExit objects (Some e) t v b = (v ≡ as_object e) × ((body : ExceptionBody) × HasPayload objects v (payload.Exception body) × (t ≡ class_object body.class)) × (t.number < length objects) × (b.number < length objects)
 
 -- a move may lead to a step
 abbrev pub MayLead : List Payload → Move → Step → Type 0
@@ -28,20 +31,24 @@ MayLead objects (Loads p f) done = (v : Obj) × HasPayload objects v p × (f v �
 MayLead objects (Decides v f) done = (b : Bool) × HasPayload objects v (payload.Bool b) × (f b ≡ done)
 MayLead objects (Exits e f) done = (t : Obj) × (v : Obj) × (b : Obj) × IsExit objects e t v b × (f t v b ≡ done)
 
+-- the flags of generators and coroutines: an exception may be thrown into their frames, also into one that hasn't begun
+abbrev pub is_thrown_into : ℕ → Bool
+is_thrown_into flags = (counts_if flags IS_GENERATOR == 1) || (counts_if flags IS_COROUTINE == 1)
+
 -- an input that a frame may hear, and what it expects then
-abbrev pub Hears : List Payload → Expect → Own → Expect → Type 0
-Hears objects expect.Start (Resumes how.Start) x = x ≡ expect.Go
-Hears objects expect.Start (Resumes (how.Throw e)) x = HasKind objects (as_object e) kind.Exc × (x ≡ expect.Heard (got.Raise e))
-Hears objects (expect.Answer w) (Gets g) x = IsAnswer objects w g × (x ≡ expect.Heard g)
-Hears objects expect.Resume (Resumes (how.Send v)) x = x ≡ expect.Heard (got.Value v)
-Hears objects expect.Resume (Resumes (how.Throw e)) x = HasKind objects (as_object e) kind.Exc × (x ≡ expect.Heard (got.Raise e))
-Hears objects _ _ x = ⊥
+abbrev pub Hears : List Payload → Setting → Expect → Own → Expect → Type 0
+Hears objects setting expect.Start (Resumes how.Start) x = x ≡ expect.Go
+Hears objects setting expect.Start (Resumes (how.Throw e)) x = HasKind objects (as_object e) kind.Exc × (x ≡ expect.Heard (got.Raise e)) × (is_thrown_into setting.code.code.flags ≡ true)
+Hears objects setting (expect.Answer w) (Gets g) x = IsAnswer objects w g × (x ≡ expect.Heard g)
+Hears objects setting expect.Resume (Resumes (how.Send v)) x = x ≡ expect.Heard (got.Value v)
+Hears objects setting expect.Resume (Resumes (how.Throw e)) x = HasKind objects (as_object e) kind.Exc × (x ≡ expect.Heard (got.Raise e))
+Hears objects setting _ _ x = ⊥
 
 -- one step, with the events that it hears and tells: a silent one, one that tells, one that hears
 pub data Steps (objects : List Payload) (setting : Setting) (s : State) : List Own → State → Type 0 where
   silent : (t : State) → MayLead objects (moves setting s.wants s) (Goes t) → Steps objects setting s [] t
   telling : (x : Own) (t : State) → MayLead objects (moves setting s.wants s) (Tells x t) → Steps objects setting s (x ∷ []) t
-  hearing : (x : Own) (w : Expect) → Hears objects s.wants x w → Steps objects setting s (x ∷ []) (waiting w s)
+  hearing : (x : Own) (w : Expect) → Hears objects setting s.wants x w → Steps objects setting s (x ∷ []) (waiting w s)
 
 -- the locals of a frame: the arguments, then unset ones
 abbrev pub filled : ℕ → List Obj → List (Option Obj)

@@ -10,7 +10,7 @@ pub enum Wanted {
     Of(Kind),
     /// True or False.
     Truth,
-    /// None.
+    /// No value: only a raise answers.
     NoValue,
 }
 

@@ -1,21 +1,20 @@
 //! What holds of every run of the rows.
 
-ghost use Rattle.py_rows.specs.Laws.{EventsTold, FitsGrow, FitsWithin, NextFits, NextSafe, RunsFit, RunsGrow, RunsStayBelow, SilentLater, SlotKept, StartFits, StartStands, StartStays, StepsFit, StepsStand, StepsStay};
+ghost use Rattle.py_rows.specs.Laws.{EndsKeepSlot, EventsTold, FitsGrow, FitsWithin, NextFits, RunsFit, RunsGrow, RunsKeepSlot, RunsStayBelow, SilentLater, SlotKept, StartFits, StartStands, StartStays, StepsFit, StepsStand, StepsStay};
 
 /// States laws, and does nothing.
 ///
 /// A frame of a code that keeps the rules fits its notes before it has begun. It is never stuck, and fits behind what it does
-/// next, which leaves it within the sizes. It fits behind each step, also one that it hears, and so wherever a run comes to;
-/// and where it fits it is within the sizes.
+/// next. It fits behind each step, also one that it hears, and so wherever a run comes to; and where it fits it is within the
+/// sizes.
 ///
-/// The slot holds the exception of the innermost handler, or what it held at first. Of every code: a frame that waits is at
+/// The slot holds the exception of the innermost handler, or what it held at first, and this where a run has ended. Of every code: a frame that waits is at
 /// the unit that was begun last, and each event that it tells is of that unit; a question names what is handled in its
 /// blocks; a silent step leads to a later unit; and where all that goes in are objects, so is all that comes out. What fits,
 /// and what is a run, stays so as objects are added.
 pub fn laws_of_rows()
     ensures start { StartFits }
     ensures next { NextFits }
-    ensures safe { NextSafe }
     ensures steps { StepsFit }
     ensures within { FitsWithin }
     ensures slot { SlotKept }
@@ -27,6 +26,8 @@ pub fn laws_of_rows()
     ensures steps_stay { StepsStay }
     ensures runs_fit { RunsFit }
     ensures runs_stay_below { RunsStayBelow }
+    ensures runs_keep_slot { RunsKeepSlot }
+    ensures slot_kept { EndsKeepSlot }
     ensures fits_grow { FitsGrow }
     ensures runs_grow { RunsGrow }
 {}

@@ -1,10 +1,8 @@
-use Rattle.py_rows.specs.Laws.{setting_of}
-use Rattle.py_rows.specs.Receiving.{moves}
-use Rattle.py_rows.proofs.StepLemmas.{start_fits, next_fits, steps_fit, within, move_safe}
+use Rattle.py_rows.proofs.StepLemmas.{start_fits, next_fits, steps_fit, within}
 use Rattle.py_rows.proofs.StandingLemmas.{slot_kept, start_stands, steps_stand, events_told, silent_later}
 use Rattle.py_rows.proofs.GrowingLemmas.{fits_grown, run_grown}
 use Rattle.py_rows.proofs.StayingLemmas.{start_stays, steps_stay}
-use Rattle.py_rows.proofs.RunLemmas.{runs_fit, runs_stay}
+use Rattle.py_rows.proofs.RunLemmas.{runs_fit, runs_stay, runs_keep_slot, ends_keep_slot}
 use Rattle.py_rows.proofs.laws.laws_of_rows.Goals as goal
 
 pub returns-clause-start : goal.returns-clause-start
@@ -21,10 +19,6 @@ returns-clause-within c = λ objects names code s sound fits. within objects nam
 
 pub returns-clause-slot : goal.returns-clause-slot
 returns-clause-slot c = slot_kept
-
-pub returns-clause-safe : goal.returns-clause-safe
-returns-clause-safe c = λ objects names globals code s sound fits moving.
-    move_safe objects names code sound (moves (setting_of names globals code) s.wants s) (next_fits objects names globals code sound s s.wants fits moving)
 
 pub returns-clause-fits_grow : goal.returns-clause-fits_grow
 returns-clause-fits_grow c = λ objects objects' code s grows fits. fits_grown objects objects' grows code s.wants s fits
@@ -55,3 +49,9 @@ returns-clause-runs_fit c = runs_fit
 
 pub returns-clause-runs_stay_below : goal.returns-clause-runs_stay_below
 returns-clause-runs_stay_below c = runs_stay
+
+pub returns-clause-runs_keep_slot : goal.returns-clause-runs_keep_slot
+returns-clause-runs_keep_slot c = runs_keep_slot
+
+pub returns-clause-slot_kept : goal.returns-clause-slot_kept
+returns-clause-slot_kept c = ends_keep_slot
