@@ -1,6 +1,6 @@
 pub mod Breaks
 pub mod OperandLemmas
 pub mod WorkedLemmas
-pub mod FaultLemmas
+pub mod TypingBreakingLemmas
 pub mod WideningLemmas
 pub mod WorkedHandlerLemmas

@@ -1,4 +1,4 @@
--- A code that keeps the rules for the instructions that run today keeps those for every instruction.
+-- A code that keeps the rules of today keeps the wider ones.
 use Rattle.std.proofs.Common.{◌≡◌, ◌+◌, ◌-◌, ℕ, zero, suc, List, [], ◌∷◌, Bool, true, ◌&&◌, Option, None, Some, refl, length, drop, ◌≤◌, arith}
 use Rattle.std.specs.Prelude.{nat_le, nat_lt, slice_get, replicate}
 use Rattle.std.proofs.lemmas.Bool.{and_parts, and_from, le-leb, leb-true}
@@ -14,7 +14,7 @@ use Rattle.py_check.specs.declared.note.Note.TheVariants.{Dead, Live}
 use Rattle.py_check.specs.declared.annotated.Annotated.{Annotated}
 use Rattle.py_check.specs.Notes.{level_of, kind_fits}
 use Rattle.py_check.specs.Operands.{operand}
-use Rattle.py_check.specs.Rules.{top_level, takes_one, takes_two, takes_many, asks_operator, asks_comparison, goes_on, jumps, has_room, levels_nest, handlers_land}
+use Rattle.py_check.specs.Rules.{top_level, takes_one, takes_two, asks_operator, asks_comparison, goes_on, jumps, has_room, levels_nest, handlers_land}
 use Rattle.py_check.specs.Rules as rules
 use Rattle.py_check.specs.Sheet.{Sheet, sheet_of}
 use Rattle.py_check.specs.Taking.{takes, takes_top}

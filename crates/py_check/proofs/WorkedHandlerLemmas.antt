@@ -1,10 +1,10 @@
--- How the rules for every instruction are tried on a code whose parts are known.
+-- How the wider rules are tried on a code whose parts are known.
 use Rattle.std.proofs.Common.{◌≡◌, ℕ, ◌<◌, Bool, true, false, ◌&&◌, nat_lt, length, ap, sym, subst, ◌∙◌, inl, inr, refl, arith}
 use Rattle.std.proofs.lemmas.Bool.Decides.{nat_tests}
 use Rattle.py_check.specs.Sheet.{Sheet}
 use Rattle.py_check.specs.Rules.{keeps_whole}
 use Rattle.py_check.specs.Typing.{keeps_at}
-use Rattle.py_check.specs.Faults.{keeps_all_at}
+use Rattle.py_check.specs.TypingBreaking.{keeps_all_at}
 use Rattle.py_check.specs.WorkedHandlers.{Typed, Breaks}
 use Rattle.py_check.proofs.WorkedLemmas.{all_below, each_passes}
 

@@ -10,13 +10,13 @@ pub mod Sheet
 -- the rules, codes that keep them, and which is broken first
 pub mod Rules
 pub mod Breaking
--- the rules for every instruction that frames come to run: what instructions do to the stack, what they take, where they
+-- the wider rules: what instructions do to the stack, what they take, where they
 -- leave blocks to, codes that keep the rules, and the first unit that doesn't
 pub mod Effects
 pub mod Taking
 pub mod Leaving
 pub mod Typing
-pub mod Faults
+pub mod TypingBreaking
 -- codes worked by hand
 pub mod Worked
 pub mod WorkedHandlers

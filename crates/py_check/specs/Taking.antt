@@ -1,5 +1,5 @@
 -- Entries that are taken off a stack, or moved on it.
-use Rattle.std.specs.Prelude.{ℕ, ◌-◌, nat_lt, nat_le, List, [], ◌∷◌, ◌++◌, length, slice_get, Bool, false, ◌&&◌, Option, Some, None}
+use Rattle.std.specs.Prelude.{ℕ, zero, suc, ◌-◌, nat_lt, nat_le, List, [], ◌∷◌, ◌++◌, length, slice_get, replicate, Bool, false, ◌&&◌, Option, Some, None}
 use Rattle.std.specs.List.{list_all}
 use Rattle.py_check.specs.declared.note.Kind.{Kind}
 use Rattle.py_check.specs.declared.note.Kind.TheVariants.{Any}
@@ -26,6 +26,11 @@ at_place (Some x) = x ∷ []
 abbrev pub picked : {A : Type 0} → List ℕ → List A → List A
 picked [] xs = []
 picked (p ∷ ps) xs = at_place (slice_get xs p) ++ picked ps xs
+
+-- the kinds of the entries that come: entries that are moved keep theirs, and a copy, for which none goes, is of any kind
+abbrev pub moved_kinds : ℕ → List ℕ → List Kind → List Kind
+moved_kinds zero places kinds = replicate (length places) Any
+moved_kinds (suc n) places kinds = picked places kinds
 
 -- the places are there, and the entries that go are above the top block
 abbrev pub may_move : ℕ → List ℕ → ℕ → ℕ → Bool

@@ -1,9 +1,9 @@
--- The rules that the notes of every instruction keep that frames come to run, and codes whose notes keep them.
+-- The wider rules on notes, and codes whose notes keep them. No frame goes by these yet; Rules.antt has those of today.
 use Rattle.std.specs.Prelude.{◌≡◌, ℕ, suc, ◌+◌, ◌<◌, nat_lt, List, [], ◌∷◌, ◌++◌, length, drop, slice_get, Bool, true, false, ◌&&◌, ◌==◌, Option, Some, None}
 use Rattle.py_code.specs.declared.unit.CodeUnit.{CodeUnit}
 use Rattle.py_code.specs.declared.instruction.Instruction.{Instruction}
 use Rattle.py_code.specs.declared.instruction.Instruction.TheVariants.{LoadConst, LoadFast, StoreFast, DeleteFast, Jump, JumpIfTrue, JumpIfFalse, SetupLoop, SetupExcept, SetupFinally, EnterFinally, EndFinally, SetupWith, WithCleanupStart, WithCleanupFinish, PopBlock, PopException, Raise, Break, Continue, ReturnValue, ReturnConst, YieldValue, ExtendedArg}
-use Rattle.py_code.specs.declared.flags.TheConstants.CodeFlags.{IS_GENERATOR}
+use Rattle.py_code.specs.declared.flags.TheConstants.CodeFlags.{IS_GENERATOR, IS_COROUTINE}
 use Rattle.py_code.specs.declared.operator.RaiseKind.{RaiseKind}
 use Rattle.py_code.specs.declared.operator.RaiseKind.TheVariants as raise
 use Rattle.py_code.specs.Numbers.{raise_kinds}
@@ -16,7 +16,7 @@ use Rattle.py_check.specs.declared.note.Note.TheVariants.{Dead, Live}
 use Rattle.py_check.specs.declared.note.Pending.TheVariants as pending
 use Rattle.py_check.specs.declared.annotated.Annotated.{Annotated}
 use Rattle.py_check.specs.Effects.{Effect, Moves, AsksOnce, Other, effect, has_operand}
-use Rattle.py_check.specs.Taking.{takes, takes_top, at_place, picked, may_move}
+use Rattle.py_check.specs.Taking.{takes, takes_top, at_place, moved_kinds, may_move}
 use Rattle.py_check.specs.Leaving.{walks, ends_finally, leaves_handler, starts_cleanup, ends_cleanup}
 use Rattle.py_check.specs.Operands.{prefixes, operand, is_label}
 use Rattle.py_check.specs.Rules.{has_room, levels_nest, handlers_land, goes_on, jumps, top_level, loads, leaves_block, counts_if, keeps_whole}
@@ -28,6 +28,11 @@ raises None kinds blocks = false
 raises (Some raise.Reraise) kinds blocks = true
 raises (Some raise.Raise) kinds blocks = takes_top kinds blocks (λ rest. true)
 raises (Some raise.RaiseCause) kinds blocks = takes (Any ∷ Any ∷ []) kinds blocks (λ rest. true)
+
+-- a generator, which alone yields; a coroutine that does is an asynchronous generator, whose values are wrapped first, and nothing
+-- wraps them yet
+abbrev pub is_generator : ℕ → Bool
+is_generator flags = (counts_if flags IS_GENERATOR == 1) && (counts_if flags IS_COROUTINE == 0)
 
 -- a block begins here; its handler is at a label
 abbrev pub opens : Sheet → ℕ → ℕ → List Kind → List BlockNote → Bool
@@ -58,14 +63,14 @@ keeps_own sheet at Break to kinds blocks = is_label sheet.units to && walks shee
 keeps_own sheet at Continue to kinds blocks = is_label sheet.units to && walks sheet (pending.Continue to) kinds blocks
 keeps_own sheet at ReturnValue i kinds blocks = takes_top kinds blocks (λ rest. true)
 keeps_own sheet at ReturnConst i kinds blocks = loads (slice_get sheet.constants i) (λ k. true)
-keeps_own sheet at YieldValue i kinds blocks = (counts_if sheet.flags IS_GENERATOR == 1) && takes_top kinds blocks (λ rest. goes_on sheet (at + 1) (Any ∷ rest) blocks)
+keeps_own sheet at YieldValue i kinds blocks = is_generator sheet.flags && takes_top kinds blocks (λ rest. goes_on sheet (at + 1) (Any ∷ rest) blocks)
 keeps_own sheet at ExtendedArg i kinds blocks = nat_lt (prefixes sheet.units at) 3 && goes_on sheet (at + 1) kinds blocks
 keeps_own sheet at _ i kinds blocks = false
 
 -- what an effect asks, with whether its operand is there; of another instruction, what it asks itself
 abbrev pub keeps_by : Sheet → ℕ → Effect → Bool → Bool → List Kind → List BlockNote → Bool
 keeps_by sheet at (Moves n places) there own kinds blocks =
-    may_move n places (length kinds) (top_level blocks) && goes_on sheet (at + 1) (picked places kinds ++ drop n kinds) blocks
+    may_move n places (length kinds) (top_level blocks) && goes_on sheet (at + 1) (moved_kinds n places kinds ++ drop n kinds) blocks
 keeps_by sheet at (AsksOnce wanted pushes) there own kinds blocks = there && takes wanted kinds blocks (λ rest. goes_on sheet (at + 1) (at_place pushes ++ rest) blocks)
 keeps_by sheet at Other there own kinds blocks = own
 

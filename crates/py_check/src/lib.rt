@@ -3,18 +3,18 @@
 
 mod annotated;
 mod checked;
-mod handlers;
+mod handlers_worked;
 mod laws;
 mod note;
-mod typing;
+mod typing_laws;
 mod worked;
 
 pub use annotated::Annotated;
 pub use checked::CheckedCode;
-pub use handlers::{worked_handlers, worked_values};
+pub use handlers_worked::{worked_handlers, worked_values};
 pub use laws::laws_of_rules;
 pub use note::{BlockList, BlockNote, Kind, KindList, Note, NoteList, Pending, PendingSet};
-pub use typing::laws_of_typing;
+pub use typing_laws::laws_of_typing;
 pub use worked::{worked_blocks, worked_codes, worked_loops, worked_notes};
 
 #[cfg(test)]

@@ -31,14 +31,13 @@ use Rattle.py_check.specs.declared.annotated.Annotated.{Annotated}
 use Rattle.py_check.specs.Constants.{kind_of, is_loaded}
 use Rattle.py_check.specs.Notes.{kind_fits, block_number, level_of, pending_of}
 use Rattle.py_check.specs.Operands.{carried, is_label, prefixes}
-use Rattle.py_code.specs.declared.flags.TheConstants.CodeFlags.{IS_GENERATOR}
 use Rattle.py_check.specs.Effects.{Effect, Moves, AsksOnce, Other, effect, has_operand}
 use Rattle.py_rows.specs.Rows.{is_there, reaches, payload_of, or_stuck, loads, asks, asks_if, takes_off, where_there, acts_by, load_fast, delete_fast, if_popped, pop_block, pop_type, pop_exception, finally_type, in_finally, goes_on as goes_on_with, end_finally, raised_by, raised_of, raised_in, asks_exit, finishes, finish_cleanup, raises, act_own, act}
 use Rattle.py_check.specs.Sheet.{Sheet, sheet_of}
 use Rattle.py_check.specs.Rules.{bottom, top_level, has_room, lands, goes_on, jumps as may_jump, handlers_land, is_popped, leaves_block}
-use Rattle.py_check.specs.Taking.{takes, takes_top, at_place, picked, may_move}
+use Rattle.py_check.specs.Taking.{takes, takes_top, at_place, picked, moved_kinds, may_move}
 use Rattle.py_check.specs.Leaving.{is_finally_handler, is_except_handler, ends_with, ends_finally, leaves_handler, starts_cleanup, ends_cleanup, walks}
-use Rattle.py_check.specs.Typing.{opens, keeps_by, keeps_own, keeps_op}
+use Rattle.py_check.specs.Typing.{is_generator, opens, keeps_by, keeps_own, keeps_op}
 use Rattle.py_check.specs.Rules as rules
 use Rattle.py_check.specs.Typing as typing
 use Rattle.py_rows.specs.declared.block.Block.{Block}
@@ -57,7 +56,7 @@ use Rattle.py_rows.specs.Answers as answers
 use Rattle.py_rows.specs.Asked.{name_of_local, asked}
 use Rattle.py_rows.specs.Fitting.{HaveKinds, WaitsIn, MayWait, TypeWaits, type_number, IsBlock, AreBlocks, Has, wanted_of, raise_left, left_own, left_by, left_of, FitsBut, IsSound}
 use Rattle.py_rows.specs.Laws.{LeadsTo, RaisedThere, AlwaysLeads}
-use Rattle.py_rows.proofs.KindLemmas.{kinds_counted, kinds_dropped, kinds_under, kinds_joined, kinds_picked}
+use Rattle.py_rows.proofs.KindLemmas.{kinds_counted, kinds_dropped, kinds_under, kinds_joined, kinds_moved}
 use Rattle.py_rows.proofs.BlockLemmas.{one_of}
 use Rattle.py_rows.proofs.TypingLemmas.{prefix_carried}
 use Rattle.py_rows.proofs.LandingLemmas.{Fits, arrived, on_fits, may_jumped}
@@ -169,15 +168,15 @@ module _ (objects : List Payload) (names : List (List ℕ)) (globals : Obj) (cod
       → keeps_by (sheet_of code) s.at e there keeps kinds blocks ≡ true → AlwaysLeads objects (Fits objects code) (acts_by e f own s)
   by_effect op i (Moves n places) f own there keeps is_op operand (inl other) left asks led may = absurd (listed_moves n places other)
   by_effect op i (Moves n places) f own there keeps is_op operand (inr plain) left asks led may =
-      let parts = and_parts (may_move n places (length kinds) (top_level blocks)) (goes_with (picked places kinds ++ drop n kinds) blocks) may in
+      let parts = and_parts (may_move n places (length kinds) (top_level blocks)) (goes_with (moved_kinds n places kinds ++ drop n kinds) blocks) may in
       let moves = and_parts (nat_le n (length kinds) && nat_le (top_level blocks) (length kinds - n)) (list_all (λ p. nat_lt p (length kinds)) places) parts.0 in
       let enough = (and_parts (nat_le n (length kinds)) (nat_le (top_level blocks) (length kinds - n)) moves.0).0 in
       let count : length kinds ≡ length s.stack = sym (kinds_counted objects s.stack kinds has.holds) in
       let places_below : list_all (λ p. nat_lt p (length s.stack)) places ≡ true = subst (λ (m : ℕ). list_all (λ p. nat_lt p m) places ≡ true) count moves.1 in
       let test = and_from (reaches n s.stack) (list_all (λ p. is_there (slice_get s.stack p)) places) (reached n s.stack (omega (arith, count, leb-true n (length kinds) enough))) (places_there objects places s.stack places_below) in
       where_true (Fits objects code) _ _ test
-      (goes_behind plain (picked places kinds ++ drop n kinds) blocks (picked places s.stack ++ drop n s.stack) s.blocks s.locals s.slot parts.1
-      (kinds_joined objects (picked places s.stack) (drop n s.stack) (picked places kinds) (drop n kinds) (kinds_picked objects places s.stack kinds has.holds) (kinds_dropped objects n s.stack kinds has.holds))
+      (goes_behind plain (moved_kinds n places kinds ++ drop n kinds) blocks (picked places s.stack ++ drop n s.stack) s.blocks s.locals s.slot parts.1
+      (kinds_joined objects (picked places s.stack) (drop n s.stack) (moved_kinds n places kinds) (drop n kinds) (kinds_moved objects n places s.stack kinds places_below has.holds) (kinds_dropped objects n s.stack kinds has.holds))
       has.blocks has.locals)
   by_effect op i (AsksOnce wanted pushes) f own there keeps is_op operand plain left asks led may =
       let parts = and_parts there (takes wanted kinds blocks (λ rest. goes_with (at_place pushes ++ rest) blocks)) may in
@@ -447,7 +446,7 @@ module _ (objects : List Payload) (names : List (List ℕ)) (globals : Obj) (cod
   own_fits ReturnConst i is_op operand keeps =
       loads_fit (slice_get (literals_of code.code.code.constants) i) (λ k. true) _ keeps (λ k v may is_kind. leaves_with objects code (reason.Returning v) kinds blocks s goes tt has)
   own_fits YieldValue i is_op operand keeps =
-      let parts = and_parts (rules.counts_if code.code.code.flags IS_GENERATOR == 1) (takes_top kinds blocks (λ rest. goes_with (kind.Any ∷ rest) blocks)) keeps in
+      let parts = and_parts (is_generator code.code.code.flags) (takes_top kinds blocks (λ rest. goes_with (kind.Any ∷ rest) blocks)) keeps in
       off objects code kinds blocks (λ rest. goes_with (kind.Any ∷ rest) blocks) s (Fits objects code) _ parts.1 has
       (λ v vs has' may count holds. waits_but YieldValue i is_op operand (want.Of kind.Any) (drop 1 kinds) blocks (want.Of kind.Any) vs s.blocks s.slot expect.Resume refl refl has')
   own_fits ExtendedArg i is_op operand keeps =

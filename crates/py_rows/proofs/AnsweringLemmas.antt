@@ -19,14 +19,12 @@ use Rattle.py_check.specs.declared.note.BlockNote.TheVariants as note
 use Rattle.py_check.specs.declared.annotated.Annotated.{Annotated}
 use Rattle.py_check.specs.Notes.{level_of, pending_of}
 use Rattle.py_check.specs.Operands.{carried, is_label}
-use Rattle.py_code.specs.declared.flags.TheConstants.CodeFlags.{IS_GENERATOR}
 use Rattle.py_check.specs.Effects.{Effect, Moves, AsksOnce, Other, effect, has_operand}
 use Rattle.py_check.specs.Sheet.{sheet_of}
-use Rattle.py_check.specs.Rules.{bottom, top_level, has_room, lands, goes_on, jumps as may_jump, handlers_land, is_popped, leaves_block}
+use Rattle.py_check.specs.Rules.{bottom, top_level, goes_on, jumps as may_jump, handlers_land}
 use Rattle.py_check.specs.Taking.{takes, takes_top}
 use Rattle.py_check.specs.Leaving.{is_finally_handler, ends_with, starts_cleanup, ends_cleanup, walks}
-use Rattle.py_check.specs.Typing.{opens, keeps_by, keeps_own, keeps_op}
-use Rattle.py_check.specs.Rules as rules
+use Rattle.py_check.specs.Typing.{is_generator, opens, keeps_by, keeps_own, keeps_op}
 use Rattle.py_check.specs.Typing as typing
 use Rattle.py_rows.specs.declared.block.Block.{Block}
 use Rattle.py_rows.specs.declared.block.BlockType.TheVariants.{Finally}
@@ -160,7 +158,7 @@ module _ (objects : List Payload) (code : Annotated) (s : State) (kinds : List K
   own_answered WithCleanupFinish i v is_op operand keeps given = (given.1, λ b. passes_fit (ap is_prefix is_op) blocks keeps given.0 b s.stack given.0.holds)
   own_answered Raise i v is_op operand keeps given = raised_fits i v (slice_get raise_kinds i) is_op operand refl keeps given
   own_answered YieldValue i v is_op operand keeps given =
-      let parts = and_parts (rules.counts_if code.code.code.flags IS_GENERATOR == 1) (takes_top kinds blocks (λ rest. goes_with (kind.Any ∷ rest) blocks)) keeps in
+      let parts = and_parts (is_generator code.code.code.flags) (takes_top kinds blocks (λ rest. goes_with (kind.Any ∷ rest) blocks)) keeps in
       let rest = takes_rest (kind.Any ∷ []) kinds blocks (λ rest. goes_with (kind.Any ∷ rest) blocks) parts.1 in
       goes_behind (ap is_prefix is_op) (kind.Any ∷ drop 1 kinds) blocks (v ∷ s.stack) s.blocks rest.0 (tt, given.0.holds) given.0.blocks given.0.locals
   own_answered _ i v is_op operand keeps given = absurd given

@@ -1,7 +1,8 @@
 -- What objects of a kind are besides, and among more objects.
 use Rattle.std.proofs.Common.{◌≡◌, ℕ, List, [], ◌∷◌, Some, true, ◌||◌, refl, sym, ap, subst, ◌∙◌, length, suc, ⊎_elim, arith}
-use Rattle.std.specs.Prelude.{slice_get, drop, zero, ◌++◌, ◌-◌}
-use Rattle.std.proofs.lemmas.Bool.{and_parts, or_cases}
+use Rattle.std.specs.List.{list_all}
+use Rattle.std.specs.Prelude.{nat_lt, replicate, slice_get, drop, zero, ◌++◌, ◌-◌}
+use Rattle.std.proofs.lemmas.Bool.{and_parts, or_cases, ltb-true, lt-ltb}
 use Rattle.std.proofs.lemmas.Bool.Decides.{Decides-eqb}
 use Rattle.py_objects.specs.declared.payload.Payload.{Payload}
 use Rattle.py_objects.specs.Objects.{Obj}
@@ -9,7 +10,7 @@ use Rattle.py_check.specs.declared.note.Kind.{Kind}
 use Rattle.py_check.specs.declared.note.Kind.TheVariants as kind
 use Rattle.py_check.specs.Notes.{kind_number, kind_size, same_kind, plain_kind, kind_fits, kinds_fit}
 use Rattle.py_check.specs.Rules.{bottom}
-use Rattle.py_check.specs.Taking.{at_place, picked}
+use Rattle.py_check.specs.Taking.{at_place, picked, moved_kinds}
 use Rattle.py_rows.specs.Answers.{HasKind}
 use Rattle.py_rows.specs.Fitting.{HaveKinds}
 
@@ -114,7 +115,24 @@ kinds_at_place objects p (v ∷ vs) [] are = absurd are
 kinds_at_place objects zero (v ∷ vs) (k ∷ ks) are = (are.0, tt)
 kinds_at_place objects (suc p) (v ∷ vs) (k ∷ ks) are = kinds_at_place objects p vs ks are.1
 
-pub kinds_picked : (objects : List Payload) (ps : List ℕ) (vs : List Obj) (ks : List Kind) → HaveKinds objects vs ks → HaveKinds objects (picked ps vs) (picked ps ks)
+kinds_picked : (objects : List Payload) (ps : List ℕ) (vs : List Obj) (ks : List Kind) → HaveKinds objects vs ks → HaveKinds objects (picked ps vs) (picked ps ks)
 kinds_picked objects [] vs ks are = tt
 kinds_picked objects (p ∷ ps) vs ks are =
     kinds_joined objects (at_place (slice_get vs p)) (picked ps vs) (at_place (slice_get ks p)) (picked ps ks) (kinds_at_place objects p vs ks are) (kinds_picked objects ps vs ks are)
+
+-- copies are of any kind
+place_any : (objects : List Payload) (p : ℕ) (vs : List Obj) → nat_lt p (length vs) ≡ true → HaveKinds objects (at_place (slice_get vs p)) (kind.Any ∷ [])
+place_any objects p [] there = absurd (omega (arith, ltb-true p 0 there))
+place_any objects zero (v ∷ vs) there = (tt, tt)
+place_any objects (suc p) (v ∷ vs) there = place_any objects p vs (lt-ltb p (length vs) (omega (arith, ltb-true (suc p) (suc (length vs)) there)))
+
+copies_any : (objects : List Payload) (ps : List ℕ) (vs : List Obj) → list_all (λ p. nat_lt p (length vs)) ps ≡ true → HaveKinds objects (picked ps vs) (replicate (length ps) kind.Any)
+copies_any objects [] vs there = tt
+copies_any objects (p ∷ ps) vs there =
+    let parts = and_parts (nat_lt p (length vs)) (list_all (λ q. nat_lt q (length vs)) ps) there in
+    kinds_joined objects (at_place (slice_get vs p)) (picked ps vs) (kind.Any ∷ []) (replicate (length ps) kind.Any) (place_any objects p vs parts.0) (copies_any objects ps vs parts.1)
+
+-- entries that come, copied or moved
+pub kinds_moved : (objects : List Payload) (n : ℕ) (ps : List ℕ) (vs : List Obj) (ks : List Kind) → list_all (λ p. nat_lt p (length vs)) ps ≡ true → HaveKinds objects vs ks → HaveKinds objects (picked ps vs) (moved_kinds n ps ks)
+kinds_moved objects zero ps vs ks there are = copies_any objects ps vs there
+kinds_moved objects (suc n) ps vs ks there are = kinds_picked objects ps vs ks are

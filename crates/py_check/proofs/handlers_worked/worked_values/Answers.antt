@@ -1,6 +1,6 @@
 use Rattle.std.proofs.Common.{refl}
 use Rattle.py_check.proofs.WorkedHandlerLemmas.{typed, breaks, breaks_first}
-use Rattle.py_check.proofs.handlers.worked_values.Goals as goal
+use Rattle.py_check.proofs.handlers_worked.worked_values.Goals as goal
 
 pub returns-clause-rotates : goal.returns-clause-rotates
 returns-clause-rotates c = typed _ refl refl
@@ -46,3 +46,18 @@ returns-clause-yields c = typed _ refl refl
 
 pub returns-clause-yields_in_a_function : goal.returns-clause-yields_in_a_function
 returns-clause-yields_in_a_function c = breaks _ _ refl refl refl
+
+pub returns-clause-copies : goal.returns-clause-copies
+returns-clause-copies c = typed _ refl refl
+
+pub returns-clause-copy_keeps_kind : goal.returns-clause-copy_keeps_kind
+returns-clause-copy_keeps_kind c = breaks _ _ refl refl refl
+
+pub returns-clause-raises_with_cause : goal.returns-clause-raises_with_cause
+returns-clause-raises_with_cause c = typed _ refl refl
+
+pub returns-clause-yields_in_a_coroutine : goal.returns-clause-yields_in_a_coroutine
+returns-clause-yields_in_a_coroutine c = breaks _ _ refl refl refl
+
+pub returns-clause-yields_asynchronously : goal.returns-clause-yields_asynchronously
+returns-clause-yields_asynchronously c = breaks _ _ refl refl refl

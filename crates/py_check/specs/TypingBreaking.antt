@@ -1,4 +1,4 @@
--- Which unit is the first that breaks a rule of all instructions.
+-- Which unit is the first that breaks one of the wider rules.
 use Rattle.std.specs.Prelude.{◌≡◌, ◌⊎◌, ℕ, zero, suc, ◌<◌, length, Bool, true, false, ◌&&◌}
 use Rattle.py_check.specs.declared.annotated.Annotated.{Annotated}
 use Rattle.py_check.specs.Sheet.{Sheet, sheet_of}
