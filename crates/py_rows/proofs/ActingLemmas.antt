@@ -3,7 +3,7 @@ use Rattle.std.proofs.Common.{◌≡◌, ◌∙◌, ◌+◌, ◌-◌, ◌<◌, �
 use Rattle.std.specs.Prelude.{slice_get, slice_set, nat_lt, nat_le, option_map, ◌==◌}
 use Rattle.std.specs.List.{list_all}
 use Rattle.std.proofs.Math.ListN.{length-set}
-use Rattle.std.proofs.lemmas.Bool.{and_parts, le-leb, and_from, eqb-true, ltb-true, leb-true}
+use Rattle.std.proofs.lemmas.Bool.{and_parts, le-leb, and_from, eqb-true, eq-eqb, ltb-true, leb-true}
 use Rattle.std.proofs.lemmas.List.{length-take-le}
 use Rattle.py_code.specs.declared.unit.CodeUnit.{CodeUnit}
 use Rattle.py_code.specs.declared.instruction.Instruction.{Instruction}
@@ -320,14 +320,20 @@ module _ (objects : List Payload) (names : List (List ℕ)) (globals : Obj) (cod
       by_type _ waits = tt
 
   -- the exit of a manager is called
-  cleanup_starts : unit.op ≡ WithCleanupStart → (i : ℕ) → with_byte s.prefix unit.arg ≡ i → (bs : List BlockNote) → starts_cleanup (sheet_of code) (s.at + 1) kinds bs ≡ true → (t v b : Obj) → Led (asks_exit s t v b)
-  cleanup_starts is_op i operand [] may t v b = cc
-  cleanup_starts is_op i operand (c ∷ cs) may t v b =
+  cleanup_starts : unit.op ≡ WithCleanupStart → (i : ℕ) → with_byte s.prefix unit.arg ≡ i → (bs : List BlockNote) → AreBlocks objects s.blocks bs → starts_cleanup (sheet_of code) (s.at + 1) kinds bs ≡ true → (t v b : Obj) → Led (asks_exit s t v b)
+  cleanup_starts is_op i operand [] are may t v b = cc
+  cleanup_starts is_op i operand (c ∷ cs) are may t v b =
       let three = and_parts (is_finally_handler c && (length kinds == level_of c) && nat_lt (top_level cs) (level_of c)) (goes_with (kind.Any ∷ kinds) (c ∷ cs)) may in
       let two = and_parts (is_finally_handler c && (length kinds == level_of c)) (nat_lt (top_level cs) (level_of c)) three.0 in
       let one = and_parts (is_finally_handler c) (length kinds == level_of c) two.0 in
-      off_there s.stack (omega (arith, stack_count, eqb-true (length kinds) (level_of c) one.1, ltb-true (top_level cs) (level_of c) two.1)) _
-      (λ x rest same. waits_but WithCleanupStart i is_op operand (want.Of kind.Any) kinds blocks (want.Of kind.Any) s.stack s.blocks s.slot (expect.Answer (want.Of kind.Any)) refl refl has)
+      let depth : length kinds ≡ level_of c = eqb-true (length kinds) (level_of c) one.1 in
+      let nested : top_level cs < level_of c = ltb-true (top_level cs) (level_of c) two.1 in
+      in_finally_fits s.blocks c cs are one.0 _
+      (λ level r kept outer level_is waits outer_are.
+      let count : length (bottom level s.stack) ≡ length s.stack - (length s.stack - level) = length-drop (length s.stack - level) s.stack in
+      where_true (Fits objects code) _ _ (eq-eqb (length s.stack) level (omega (arith, stack_count, depth, level_is)))
+      (off_there (bottom level s.stack) (omega (arith, count, stack_count, depth, nested, level_is)) _
+      (λ x rest same. waits_but WithCleanupStart i is_op operand (want.Of kind.Any) kinds blocks (want.Of kind.Any) s.stack s.blocks s.slot (expect.Answer (want.Of kind.Any)) refl refl has)))
 
   -- the block of an exit ends, and what it held waits or goes on
   finishes_fit : is_prefix unit.op ≡ false → unit.op ≡ WithCleanupFinish → (i : ℕ) → with_byte s.prefix unit.arg ≡ i → (c : BlockNote) (cs : List BlockNote) → blocks ≡ c ∷ cs → (top_level cs ≤ length (drop 2 kinds)) → (2 ≤ length kinds)
@@ -379,8 +385,9 @@ module _ (objects : List Payload) (names : List (List ℕ)) (globals : Obj) (cod
       (λ exit rest above_is.
       in_finally_fits s.blocks c cs are two.0 _
       (λ level r kept outer level_is waits outer_are.
-      finishes_fit plain is_op i operand c cs same top (omega (arith, depth, nested)) inner_hs two.1 parts.1 r waits v rest outer kept
-      (subst (λ (vs : List Obj). HaveKinds objects (drop 2 vs) (drop 2 kinds)) (stack_is ∙ ap (λ (vs : List Obj). v ∷ vs) above_is) there) outer_are)))
+      where_true (Fits objects code) _ _ (eq-eqb (length above) level (omega (arith, stack_count, depth, more, level_is)))
+      (finishes_fit plain is_op i operand c cs same top (omega (arith, depth, nested)) inner_hs two.1 parts.1 r waits v rest outer kept
+      (subst (λ (vs : List Obj). HaveKinds objects (drop 2 vs) (drop 2 kinds)) (stack_is ∙ ap (λ (vs : List Obj). v ∷ vs) above_is) there) outer_are))))
 
   raises_fit : (i : ℕ) → unit.op ≡ Raise → with_byte s.prefix unit.arg ≡ i → (k : Option RaiseKind) → slice_get raise_kinds i ≡ k → typing.raises k kinds blocks ≡ true → Led (raises k s)
   raises_fit i is_op operand None here may = cc
@@ -433,7 +440,7 @@ module _ (objects : List Payload) (names : List (List ℕ)) (globals : Obj) (cod
   own_fits SetupWith to is_op operand keeps =
       off objects code kinds blocks (λ rest. opens (sheet_of code) s.at to (kind.Any ∷ kind.Any ∷ rest) (note.Finally (suc (length rest)) to ∷ blocks)) s (Fits objects code) _ keeps has
       (λ v vs has' may count holds. waits_but SetupWith to is_op operand (want.Of kind.Any) kinds blocks (want.Of kind.Any) s.stack s.blocks s.slot (expect.Answer (want.Of kind.Any)) refl refl has)
-  own_fits WithCleanupStart i is_op operand keeps = (raised_there s.blocks blocks has.blocks, λ t v b. cleanup_starts is_op i operand blocks keeps t v b)
+  own_fits WithCleanupStart i is_op operand keeps = (raised_there s.blocks blocks has.blocks, λ t v b. cleanup_starts is_op i operand blocks has.blocks keeps t v b)
   own_fits WithCleanupFinish i is_op operand keeps = cleanup_finishes (ap is_prefix is_op) is_op i operand blocks refl has.blocks has.handlers keeps
   own_fits PopBlock i is_op operand keeps = pop_block_fits (ap is_prefix is_op) s.blocks blocks has.blocks keeps
   own_fits PopException i is_op operand keeps = pop_exception_fits (ap is_prefix is_op) s.blocks blocks has.blocks keeps

@@ -21,7 +21,7 @@ use Rattle.py_check.specs.Notes.{level_of, pending_of}
 use Rattle.py_check.specs.Operands.{carried, is_label}
 use Rattle.py_check.specs.Effects.{Effect, Moves, AsksOnce, Other, effect, has_operand}
 use Rattle.py_check.specs.Sheet.{sheet_of}
-use Rattle.py_check.specs.Rules.{bottom, top_level, goes_on, jumps as may_jump, handlers_land}
+use Rattle.py_check.specs.Rules.{top_level, goes_on, jumps as may_jump, handlers_land}
 use Rattle.py_check.specs.Taking.{takes, takes_top}
 use Rattle.py_check.specs.Leaving.{is_finally_handler, ends_with, starts_cleanup, ends_cleanup, walks}
 use Rattle.py_check.specs.Typing.{is_generator, opens, keeps_by, keeps_own, keeps_op}

@@ -224,10 +224,10 @@ module _ (first : Option PyBaseExceptionRef) (at last : ℕ) where
   own_led setting EndFinally i s k =
       in_finally_led s.blocks k.kept.outer _ (λ level r kept outer keeps all. goes_on_led r _ (record { here = k.here; begun = k.begun; goes = k.goes; kept = record { slot = keeps; outer = all } }))
   own_led setting SetupWith to s k = off_led s.stack _ (λ m rest. asks_led (request.Enter m) s k)
-  own_led setting WithCleanupStart i s k = λ t v b. off_led s.stack _ (λ x rest. asks_led (request.Exit x t v b) s k)
+  own_led setting WithCleanupStart i s k = λ t v b. in_finally_led s.blocks k.kept.outer _ (λ level r kept outer keeps all. where_led _ _ (off_led (bottom level s.stack) _ (λ x rest. asks_led (request.Exit x t v b) s k)))
   own_led setting WithCleanupFinish i s k =
       off_led s.stack _
-      (λ v above. off_led above _ (λ exit rest. in_finally_led s.blocks k.kept.outer _ (λ level r kept outer keeps all. finishes_led r v _ (record { here = k.here; begun = k.begun; goes = k.goes; kept = record { slot = keeps; outer = all } }))))
+      (λ v above. off_led above _ (λ exit rest. in_finally_led s.blocks k.kept.outer _ (λ level r kept outer keeps all. where_led _ _ (finishes_led r v _ (record { here = k.here; begun = k.begun; goes = k.goes; kept = record { slot = keeps; outer = all } })))))
   own_led setting PopBlock i s k = pop_block_led s.blocks s refl k
   own_led setting PopException i s k = pop_exception_led s.blocks s k.kept.outer k
   own_led setting Raise i s k = raises_led (slice_get raise_kinds i) s k

@@ -287,11 +287,11 @@ module _ (n : ℕ) where
   own_led setting EndFinally i s h =
       in_finally_led s.blocks h.in_blocks _ (λ level r kept outer low kept_low below. goes_on_led r (left_handler level kept outer s) low (slotted kept_low (left_below level outer s below h)))
   own_led setting SetupWith to s h = off_led s.stack _ h.in_stack (λ m rest low under. asks_led (request.Enter m) s (low, tt) h)
-  own_led setting WithCleanupStart i s h = (raised_low s.blocks h.in_blocks, λ t v b t_low v_low b_low. off_led s.stack _ h.in_stack (λ x rest low under. asks_led (request.Exit x t v b) s (low, (t_low, (v_low, (b_low, tt)))) h))
+  own_led setting WithCleanupStart i s h = (raised_low s.blocks h.in_blocks, λ t v b t_low v_low b_low. in_finally_led s.blocks h.in_blocks _ (λ level r kept outer r_low kept_low below. where_led _ _ (off_led (bottom level s.stack) _ (drop_below n (length s.stack - level) s.stack h.in_stack) (λ x rest low under. asks_led (request.Exit x t v b) s (low, (t_low, (v_low, (b_low, tt)))) h))))
   own_led setting WithCleanupFinish i s h =
       off_led s.stack _ h.in_stack
       (λ v above low above_low. off_led above _ above_low
-      (λ exit rest exit_low under. in_finally_led s.blocks h.in_blocks _ (λ level r kept outer r_low kept_low below. finishes_led r v (record s { stack = rest; blocks = outer; slot = kept }) r_low low (slotted kept_low (blocked below (stacked under h))))))
+      (λ exit rest exit_low under. in_finally_led s.blocks h.in_blocks _ (λ level r kept outer r_low kept_low below. where_led _ _ (finishes_led r v (record s { stack = rest; blocks = outer; slot = kept }) r_low low (slotted kept_low (blocked below (stacked under h)))))))
   own_led setting PopBlock i s h = pop_block_led s.blocks s h.in_blocks h
   own_led setting PopException i s h = pop_exception_led s.blocks s h.in_blocks h
   own_led setting Raise i s h = raises_led (slice_get raise_kinds i) s h

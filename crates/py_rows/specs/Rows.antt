@@ -1,5 +1,5 @@
 -- What units of code do, an equation an instruction.
-use Rattle.std.specs.Prelude.{ℕ, zero, suc, Option, Some, None, List, [], ◌∷◌, ◌++◌, slice_get, slice_set, length, take, drop, nat_lt, Bool, true, false, ◌&&◌, option_map, if◌then◌else◌}
+use Rattle.std.specs.Prelude.{ℕ, zero, suc, Option, Some, None, List, [], ◌∷◌, ◌++◌, slice_get, slice_set, length, take, drop, nat_lt, Bool, true, false, ◌&&◌, ◌==◌, option_map, if◌then◌else◌}
 use Rattle.std.specs.List.{list_all}
 use Rattle.py_code.specs.declared.instruction.Instruction.{Instruction}
 use Rattle.py_code.specs.declared.instruction.Instruction.TheVariants.{LoadConst, LoadFast, StoreFast, DeleteFast, Jump, JumpIfTrue, JumpIfFalse, SetupLoop, SetupExcept, SetupFinally, EnterFinally, EndFinally, SetupWith, WithCleanupStart, WithCleanupFinish, PopBlock, PopException, Raise, Break, Continue, ReturnValue, ReturnConst, YieldValue, ExtendedArg}
@@ -9,6 +9,7 @@ use Rattle.py_code.specs.declared.operator.RaiseKind.{RaiseKind}
 use Rattle.py_code.specs.declared.operator.RaiseKind.TheVariants as raise
 use Rattle.py_code.specs.Literals.{literals_of}
 use Rattle.py_code.specs.Numbers.{raise_kinds}
+use Rattle.py_code.specs.Bottom.{bottom}
 use Rattle.py_code.specs.Units.{with_byte}
 use Rattle.py_objects.specs.declared.refs.PyBaseExceptionRef.{PyBaseExceptionRef}
 use Rattle.py_objects.specs.declared.payload.Payload.{Payload}
@@ -174,9 +175,10 @@ abbrev pub raised_in : List Block → Option PyBaseExceptionRef
 raised_in [] = None
 raised_in (b ∷ outer) = raised_of b.typ
 
--- an exit, which is the top, is called
+-- an exit is called: the entry right under the level of the innermost block, the handler of a finally; nothing lies above it
 abbrev pub asks_exit : State → Obj → Obj → Obj → Step
-asks_exit s t v b = takes_off s.stack (λ x rest. asks (request.Exit x t v b) s)
+asks_exit s t v b =
+    in_finally s.blocks (λ level r kept outer. where_there (length s.stack == level) (takes_off (bottom level s.stack) (λ x rest. asks (request.Exit x t v b) s)))
 
 -- the exception, if any, waits on the stack until it is known whether it goes on
 abbrev pub finishes : Option Reason → Obj → State → Step
@@ -186,9 +188,9 @@ finishes (Some (reason.Returning w)) v s = unwinds (reason.Returning w) s
 finishes (Some (reason.Break to)) v s = unwinds (reason.Break to) s
 finishes (Some (reason.Continue to)) v s = unwinds (reason.Continue to) s
 
--- the answer goes, its block, and the exit
+-- the answer, which alone lies above the block, goes, the block, and the exit
 abbrev pub finish_cleanup : State → Step
-finish_cleanup s = takes_off s.stack (λ v above. takes_off above (λ exit rest. in_finally s.blocks (λ level r kept outer. finishes r v (record s { stack = rest; blocks = outer; slot = kept }))))
+finish_cleanup s = takes_off s.stack (λ v above. takes_off above (λ exit rest. in_finally s.blocks (λ level r kept outer. where_there (length above == level) (finishes r v (record s { stack = rest; blocks = outer; slot = kept })))))
 
 -- an object as an exception
 abbrev pub as_exception : Obj → PyBaseExceptionRef
