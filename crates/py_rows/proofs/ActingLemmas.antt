@@ -43,13 +43,13 @@ use Rattle.py_check.specs.Typing as typing
 use Rattle.py_rows.specs.declared.block.Block.{Block}
 use Rattle.py_rows.specs.declared.block.BlockType.{BlockType}
 use Rattle.py_rows.specs.declared.block.BlockType.TheVariants.{Loop, TryExcept, Finally, FinallyHandler, ExceptHandler}
-use Rattle.py_rows.specs.declared.block.Reason.{Reason}
-use Rattle.py_rows.specs.declared.block.Reason.TheVariants as reason
+use Rattle.py_rows.specs.declared.block.UnwindReason.{UnwindReason}
+use Rattle.py_rows.specs.declared.block.UnwindReason.TheVariants as reason
 use Rattle.py_rows.specs.declared.expect.Wanted.{Wanted}
 use Rattle.py_rows.specs.declared.expect.Wanted.TheVariants as want
 use Rattle.py_rows.specs.declared.expect.Expect.{Expect}
 use Rattle.py_rows.specs.declared.expect.Expect.TheVariants as expect
-use Rattle.py_rows.specs.States.{State, Step, Goes, Move, next, with_stack, within}
+use Rattle.py_rows.specs.States.{State, Step, Goes, Move, next, with_stack, opened}
 use Rattle.py_rows.specs.Unwinding.{left}
 use Rattle.py_rows.specs.Answers.{HasKind}
 use Rattle.py_rows.specs.Answers as answers
@@ -99,7 +99,7 @@ pub listed_asks : (wanted : List Kind) (pushes : Option Kind) → AsksOnce wante
 listed_asks wanted pushes is = let clash : false ≡ true = ap is_other is in cc
 
 -- what waits in a finally may leave the blocks around it
-pub may_leave : (objects : List Payload) (code : Annotated) (ks : List Kind) (bs : List BlockNote) (ps : List Pending) (r : Reason) → list_all (λ p. walks (sheet_of code) p ks bs) ps ≡ true → WaitsIn objects ps r
+pub may_leave : (objects : List Payload) (code : Annotated) (ks : List Kind) (bs : List BlockNote) (ps : List Pending) (r : UnwindReason) → list_all (λ p. walks (sheet_of code) p ks bs) ps ≡ true → WaitsIn objects ps r
     → MayLeave objects code r ks bs
 may_leave objects code ks bs ps (reason.Raising e) walk waits = waits
 may_leave objects code ks bs ps (reason.Returning v) walk waits = tt
@@ -230,7 +230,7 @@ module _ (objects : List Payload) (names : List (List ℕ)) (globals : Obj) (cod
       goes_behind (ap is_prefix is_op) kinds blocks s.stack s.blocks (slice_set s.locals i None) s.slot may has.holds has.blocks (length-set s.locals i None ∙ has.locals)
 
   -- a block that is opened
-  opens_fit : is_prefix unit.op ≡ false → (b : Block) (c : BlockNote) → IsBlock objects b c → goes_with kinds (c ∷ blocks) ≡ true → Fits objects code (within b (next s))
+  opens_fit : is_prefix unit.op ≡ false → (b : Block) (c : BlockNote) → IsBlock objects b c → goes_with kinds (c ∷ blocks) ≡ true → Fits objects code (opened b (next s))
   opens_fit plain b c block may = goes_behind plain kinds (c ∷ blocks) s.stack (b ∷ s.blocks) s.locals s.slot may has.holds (block, has.blocks) has.locals
 
   -- blocks that end
@@ -267,19 +267,19 @@ module _ (objects : List Payload) (names : List (List ℕ)) (globals : Obj) (cod
       popped typ c number is f led = cc
 
   -- the handler of a finally, which is the innermost block
-  in_finally_fits : (ds : List Block) (c : BlockNote) (cs : List BlockNote) → AreBlocks objects ds (c ∷ cs) → is_finally_handler c ≡ true → (f : ℕ → Option Reason → Option PyBaseExceptionRef → List Block → Step)
-      → ((level : ℕ) (r : Option Reason) (kept : Option PyBaseExceptionRef) (outer : List Block) → level ≡ level_of c → MayWait objects (pending_of c) r → AreBlocks objects outer cs → Led (f level r kept outer)) → Led (in_finally ds f)
+  in_finally_fits : (ds : List Block) (c : BlockNote) (cs : List BlockNote) → AreBlocks objects ds (c ∷ cs) → is_finally_handler c ≡ true → (f : ℕ → Option UnwindReason → Option PyBaseExceptionRef → List Block → Step)
+      → ((level : ℕ) (r : Option UnwindReason) (kept : Option PyBaseExceptionRef) (outer : List Block) → level ≡ level_of c → MayWait objects (pending_of c) r → AreBlocks objects outer cs → Led (f level r kept outer)) → Led (in_finally ds f)
   in_finally_fits [] c cs are is f led = absurd are
   in_finally_fits (b ∷ bs) c cs are is f led = by_type b.typ c are.0.number is are.0.waits _ (λ r kept waits. led b.level r kept bs are.0.level waits are.1)
     where
-      by_type : (typ : BlockType) (c : BlockNote) → type_number typ ≡ block_number c → is_finally_handler c ≡ true → TypeWaits objects (pending_of c) typ → (g : Option Reason → Option PyBaseExceptionRef → Step)
-          → ((r : Option Reason) (kept : Option PyBaseExceptionRef) → MayWait objects (pending_of c) r → Led (g r kept)) → Led (finally_type typ g)
+      by_type : (typ : BlockType) (c : BlockNote) → type_number typ ≡ block_number c → is_finally_handler c ≡ true → TypeWaits objects (pending_of c) typ → (g : Option UnwindReason → Option PyBaseExceptionRef → Step)
+          → ((r : Option UnwindReason) (kept : Option PyBaseExceptionRef) → MayWait objects (pending_of c) r → Led (g r kept)) → Led (finally_type typ g)
       by_type (FinallyHandler r kept) c number is waits g led = led r kept waits
       by_type typ (note.FinallyHandler l ps) number is waits g led = cc
       by_type typ c number is waits g led = cc
 
   -- what the rules say of a finally that ends with these kinds and blocks outside of it
-  goes_on_fits : is_prefix unit.op ≡ false → (c : BlockNote) (cs : List BlockNote) (ks : List Kind) (stack : List Obj) (outer : List Block) (kept : Option PyBaseExceptionRef) (r : Option Reason)
+  goes_on_fits : is_prefix unit.op ≡ false → (c : BlockNote) (cs : List BlockNote) (ks : List Kind) (stack : List Obj) (outer : List Block) (kept : Option PyBaseExceptionRef) (r : Option UnwindReason)
       → goes_with ks cs ≡ true → list_all (λ p. walks (sheet_of code) p ks cs) (pending_of c) ≡ true → handlers_land (sheet_of code) ks cs ≡ true → MayWait objects (pending_of c) r → HaveKinds objects stack ks → AreBlocks objects outer cs
       → Led (goes_on_with r (record s { stack = stack; blocks = outer; slot = kept }))
   goes_on_fits plain c cs ks stack outer kept None may walk hs waits holds are = goes_behind plain ks cs stack outer s.locals kept may holds are has.locals
@@ -308,7 +308,7 @@ module _ (objects : List Payload) (names : List (List ℕ)) (globals : Obj) (cod
   raised_there (b ∷ ds) [] are = absurd are
   raised_there (b ∷ ds) (c ∷ cs) are = by_type b.typ are.0.waits
     where
-      by_reason : (r : Option Reason) → MayWait objects (pending_of c) r → RaisedThere objects (raised_by r)
+      by_reason : (r : Option UnwindReason) → MayWait objects (pending_of c) r → RaisedThere objects (raised_by r)
       by_reason None waits = tt
       by_reason (Some (reason.Raising e)) waits = waits
       by_reason (Some (reason.Returning v)) waits = tt
@@ -338,7 +338,7 @@ module _ (objects : List Payload) (names : List (List ℕ)) (globals : Obj) (cod
   -- the block of an exit ends, and what it held waits or goes on
   finishes_fit : is_prefix unit.op ≡ false → unit.op ≡ WithCleanupFinish → (i : ℕ) → with_byte s.prefix unit.arg ≡ i → (c : BlockNote) (cs : List BlockNote) → blocks ≡ c ∷ cs → (top_level cs ≤ length (drop 2 kinds)) → (2 ≤ length kinds)
       → handlers_land (sheet_of code) (drop 2 kinds) cs ≡ true → goes_with (drop 2 kinds) cs ≡ true → list_all (λ p. walks (sheet_of code) p (drop 2 kinds) cs) (pending_of c) ≡ true
-      → (r : Option Reason) → MayWait objects (pending_of c) r → (v : Obj) (stack : List Obj) (outer : List Block) (kept : Option PyBaseExceptionRef) → HaveKinds objects stack (drop 2 kinds) → AreBlocks objects outer cs
+      → (r : Option UnwindReason) → MayWait objects (pending_of c) r → (v : Obj) (stack : List Obj) (outer : List Block) (kept : Option PyBaseExceptionRef) → HaveKinds objects stack (drop 2 kinds) → AreBlocks objects outer cs
       → Led (finishes r v (record s { stack = stack; blocks = outer; slot = kept }))
   finishes_fit plain is_op i operand c cs same top two hs may walk None waits v stack outer kept holds are = goes_behind plain (drop 2 kinds) cs stack outer s.locals kept may holds are has.locals
   finishes_fit plain is_op i operand c cs same top two hs may walk (Some (reason.Raising e)) waits v stack outer kept holds are =

@@ -28,7 +28,7 @@ use Rattle.py_check.specs.Typing.{is_generator, opens, keeps_by, keeps_own, keep
 use Rattle.py_check.specs.Typing as typing
 use Rattle.py_rows.specs.declared.block.Block.{Block}
 use Rattle.py_rows.specs.declared.block.BlockType.TheVariants.{Finally}
-use Rattle.py_rows.specs.declared.block.Reason.TheVariants as reason
+use Rattle.py_rows.specs.declared.block.UnwindReason.TheVariants as reason
 use Rattle.py_rows.specs.declared.expect.Expect.TheVariants as expect
 use Rattle.py_rows.specs.States.{State, Step, Move, next, with_stack, pushed}
 use Rattle.py_rows.specs.Unwinding.{left}

@@ -13,8 +13,8 @@ use Rattle.py_check.specs.Depths.{block_count, deepest}
 use Rattle.py_rows.specs.declared.block.Block.{Block}
 use Rattle.py_rows.specs.declared.block.BlockType.{BlockType}
 use Rattle.py_rows.specs.declared.block.BlockType.TheVariants.{Loop, TryExcept, Finally, FinallyHandler, ExceptHandler}
-use Rattle.py_rows.specs.declared.block.Reason.{Reason}
-use Rattle.py_rows.specs.declared.block.Reason.TheVariants as reason
+use Rattle.py_rows.specs.declared.block.UnwindReason.{UnwindReason}
+use Rattle.py_rows.specs.declared.block.UnwindReason.TheVariants as reason
 use Rattle.py_rows.specs.Fitting.{WaitsIn, MayWait, TypeWaits, IsBlock, AreBlocks}
 
 pub same_jump : (p q : Pending) → same_pending p q ≡ true → p ≡ q
@@ -33,13 +33,13 @@ one_of test p (q ∷ ps) all any =
     (λ (more : list_any (same_pending p) ps ≡ true). one_of test p ps parts.1 more)
     (or_cases (same_pending p q) (list_any (same_pending p) ps) any)
 
-reason_fitted : (objects : List Payload) (ps qs : List Pending) (r : Reason) → WaitsIn objects ps r → is_subset ps qs ≡ true → WaitsIn objects qs r
+reason_fitted : (objects : List Payload) (ps qs : List Pending) (r : UnwindReason) → WaitsIn objects ps r → is_subset ps qs ≡ true → WaitsIn objects qs r
 reason_fitted objects ps qs (reason.Raising e) waits subset = waits
 reason_fitted objects ps qs (reason.Returning v) waits subset = waits
 reason_fitted objects ps qs (reason.Break to) waits subset = one_of (λ p. list_any (same_pending p) qs) (pending.Break to) ps subset waits
 reason_fitted objects ps qs (reason.Continue to) waits subset = one_of (λ p. list_any (same_pending p) qs) (pending.Continue to) ps subset waits
 
-if_fitted : (objects : List Payload) (ps qs : List Pending) (r : Option Reason) → MayWait objects ps r → is_subset ps qs ≡ true → MayWait objects qs r
+if_fitted : (objects : List Payload) (ps qs : List Pending) (r : Option UnwindReason) → MayWait objects ps r → is_subset ps qs ≡ true → MayWait objects qs r
 if_fitted objects ps qs None waits subset = tt
 if_fitted objects ps qs (Some r) waits subset = reason_fitted objects ps qs r waits subset
 

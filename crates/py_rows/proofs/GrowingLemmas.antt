@@ -14,8 +14,8 @@ use Rattle.py_check.specs.Notes.{pending_of}
 use Rattle.py_rows.specs.declared.block.Block.{Block}
 use Rattle.py_rows.specs.declared.block.BlockType.{BlockType}
 use Rattle.py_rows.specs.declared.block.BlockType.TheVariants.{Loop, TryExcept, Finally, FinallyHandler, ExceptHandler}
-use Rattle.py_rows.specs.declared.block.Reason.{Reason}
-use Rattle.py_rows.specs.declared.block.Reason.TheVariants as reason
+use Rattle.py_rows.specs.declared.block.UnwindReason.{UnwindReason}
+use Rattle.py_rows.specs.declared.block.UnwindReason.TheVariants as reason
 use Rattle.py_rows.specs.declared.expect.Wanted.{Wanted}
 use Rattle.py_rows.specs.declared.expect.Wanted.TheVariants as want
 use Rattle.py_rows.specs.declared.expect.Expect.{Expect}
@@ -27,7 +27,7 @@ use Rattle.py_objects.specs.declared.event.ResumeHow.TheVariants as how
 use Rattle.py_objects.specs.Own.{Own, Resumes, Gets}
 use Rattle.py_rows.specs.States.{Setting, Step, Goes, Tells, Move, Plainly, Loads, Decides, Exits}
 use Rattle.py_rows.specs.Receiving.{moves}
-use Rattle.py_rows.specs.RunOfRows.{IsExit, MayLead, Hears, Steps, silent, telling, hearing, Runs, stays, on}
+use Rattle.py_rows.specs.RunOfRows.{IsExit, MayLead, Hears, Steps, silent, telling, hearing, Runs, none, on}
 use Rattle.py_rows.specs.Answers.{IsAnswer}
 use Rattle.py_rows.specs.Fitting.{HaveKinds, WaitsIn, MayWait, TypeWaits, AreBlocks, Has, FitsNote, FitsBut, FitsAt}
 
@@ -66,13 +66,13 @@ kinds_grown objects objects' (v ∷ vs) [] grows are = are
 kinds_grown objects objects' (v ∷ vs) (k ∷ ks) grows are = (kind_grown objects objects' v k grows are.0, kinds_grown objects objects' vs ks grows are.1)
 
 module _ (objects objects' : List Payload) (grows : Grows objects objects') where
-  reason_grown : (ps : List Pending) (r : Reason) → WaitsIn objects ps r → WaitsIn objects' ps r
+  reason_grown : (ps : List Pending) (r : UnwindReason) → WaitsIn objects ps r → WaitsIn objects' ps r
   reason_grown ps (reason.Raising e) waits = kind_grown objects objects' (as_object e) kind.Exc grows waits
   reason_grown ps (reason.Returning v) waits = waits
   reason_grown ps (reason.Break to) waits = waits
   reason_grown ps (reason.Continue to) waits = waits
 
-  if_grown : (ps : List Pending) (r : Option Reason) → MayWait objects ps r → MayWait objects' ps r
+  if_grown : (ps : List Pending) (r : Option UnwindReason) → MayWait objects ps r → MayWait objects' ps r
   if_grown ps None waits = tt
   if_grown ps (Some r) waits = reason_grown ps r waits
 
@@ -164,5 +164,5 @@ step_grown objects objects' grows setting s _ _ (hearing x w hears) = hearing x 
 
 -- and of a run
 pub run_grown : (objects objects' : List Payload) → Grows objects objects' → (setting : Setting) (s t : State) (xs : List Own) → Runs objects setting s xs t → Runs objects' setting s xs t
-run_grown objects objects' grows setting s _ _ stays = stays
+run_grown objects objects' grows setting s _ _ none = none
 run_grown objects objects' grows setting s _ _ (on {us = us} {vs = vs} {t = t} u run step) = on u (run_grown objects objects' grows setting s t us run) (step_grown objects objects' grows setting t u vs step)

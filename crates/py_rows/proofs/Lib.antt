@@ -27,6 +27,6 @@ pub mod StandingLemmas
 -- more objects
 pub mod GrowingLemmas
 -- numbers of objects
-pub mod StayingLemmas
+pub mod StepsBelowLemmas
 -- whole runs
 pub mod RunLemmas

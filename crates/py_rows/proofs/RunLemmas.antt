@@ -10,17 +10,17 @@ use Rattle.py_rows.specs.declared.expect.Expect.TheVariants as expect
 use Rattle.py_rows.specs.States.{Setting, State}
 use Rattle.py_rows.specs.Handled.{handled_in, KeepsSlot}
 use Rattle.py_rows.specs.Standing.{IsPlaced, IsStanding}
-use Rattle.py_rows.specs.RunOfRows.{Runs, stays, on, started}
+use Rattle.py_rows.specs.RunOfRows.{Runs, none, on, started}
 use Rattle.py_rows.specs.Fitting.{FitsAt, IsSound}
-use Rattle.py_rows.specs.Staying.{HearsBelow, TellsBelow, HoldsBelow}
+use Rattle.py_rows.specs.Below.{HearsBelow, TellsBelow, HoldsBelow}
 use Rattle.py_rows.specs.Laws.{setting_of}
 use Rattle.py_rows.proofs.StepLemmas.{steps_fit, start_fits}
 use Rattle.py_rows.proofs.StandingLemmas.{start_stands, steps_stand}
-use Rattle.py_rows.proofs.StayingLemmas.{steps_stay, start_stays}
+use Rattle.py_rows.proofs.StepsBelowLemmas.{steps_below, start_below}
 
 fits_on : (objects : List Payload) (names : List (List ℕ)) (globals : Obj) (code : Annotated) → IsSound names code → (s t : State) (xs : List Own) → FitsAt objects code s.wants s → Runs objects (setting_of names globals code) s xs t
     → FitsAt objects code t.wants t
-fits_on objects names globals code sound s _ _ fits stays = fits
+fits_on objects names globals code sound s _ _ fits none = fits
 fits_on objects names globals code sound s _ _ fits (on {us = us} {vs = vs} {t = t} u run step) = steps_fit objects names globals code sound t vs u (fits_on objects names globals code sound s t us fits run) step
 
 pub runs_fit : (objects : List Payload) (names : List (List ℕ)) (globals : Obj) (code : Annotated) (slot : Option PyBaseExceptionRef) (args : List Obj) (t : State) (xs : List Own) → IsSound names code
@@ -36,22 +36,22 @@ told_joined : (n : ℕ) (xs ys : List Own) → TellsBelow n xs → TellsBelow n 
 told_joined n [] ys low more = more
 told_joined n (x ∷ xs) ys low more = (low.0, told_joined n xs ys low.1 more)
 
-stay_on : (objects : List Payload) (setting : Setting) (s t : State) (xs : List Own) → setting.globals.number < length objects → HoldsBelow (length objects) s → HearsBelow (length objects) xs → Runs objects setting s xs t
+below_on : (objects : List Payload) (setting : Setting) (s t : State) (xs : List Own) → setting.globals.number < length objects → HoldsBelow (length objects) s → HearsBelow (length objects) xs → Runs objects setting s xs t
     → TellsBelow (length objects) xs × HoldsBelow (length objects) t
-stay_on objects setting s _ _ there holds hears stays = (tt, holds)
-stay_on objects setting s _ _ there holds hears (on {us = us} {vs = vs} {t = t} u run step) =
+below_on objects setting s _ _ there holds hears none = (tt, holds)
+below_on objects setting s _ _ there holds hears (on {us = us} {vs = vs} {t = t} u run step) =
     let heard = heard_parts (length objects) us vs hears in
-    let first = stay_on objects setting s t us there holds heard.0 run in
-    let last = steps_stay objects setting t u vs there first.1 heard.1 step in
+    let first = below_on objects setting s t us there holds heard.0 run in
+    let last = steps_below objects setting t u vs there first.1 heard.1 step in
     (told_joined (length objects) us vs first.0 last.0, last.1)
 
-pub runs_stay : (objects : List Payload) (setting : Setting) (slot : Option PyBaseExceptionRef) (args : List Obj) (t : State) (xs : List Own) → setting.globals.number < length objects → AllBelow (length objects) (number_if slot)
+pub runs_below : (objects : List Payload) (setting : Setting) (slot : Option PyBaseExceptionRef) (args : List Obj) (t : State) (xs : List Own) → setting.globals.number < length objects → AllBelow (length objects) (number_if slot)
     → AllBelow (length objects) (numbers args) → HearsBelow (length objects) xs → Runs objects setting (started setting.code slot args) xs t → TellsBelow (length objects) xs
-runs_stay objects setting slot args t xs there slot_low args_low hears run =
-    (stay_on objects setting (started setting.code slot args) t xs there (start_stays (length objects) setting.code slot args slot_low args_low) hears run).0
+runs_below objects setting slot args t xs there slot_low args_low hears run =
+    (below_on objects setting (started setting.code slot args) t xs there (start_below (length objects) setting.code slot args slot_low args_low) hears run).0
 
 stand_on : (objects : List Payload) (setting : Setting) (first : Option PyBaseExceptionRef) (s t : State) (xs : List Own) → IsStanding first s → Runs objects setting s xs t → IsStanding first t
-stand_on objects setting first s _ _ standing stays = standing
+stand_on objects setting first s _ _ standing none = standing
 stand_on objects setting first s _ _ standing (on {us = us} {vs = vs} {t = t} u run step) = steps_stand objects setting first t u vs (stand_on objects setting first s t us standing run) step
 
 run_stands : (objects : List Payload) (setting : Setting) (slot : Option PyBaseExceptionRef) (args : List Obj) (t : State) (xs : List Own) → Runs objects setting (started setting.code slot args) xs t → IsStanding slot t

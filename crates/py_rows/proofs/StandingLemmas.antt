@@ -29,8 +29,8 @@ use Rattle.py_code.specs.Bottom.{bottom}
 use Rattle.py_rows.specs.declared.block.Block.{Block}
 use Rattle.py_rows.specs.declared.block.BlockType.{BlockType}
 use Rattle.py_rows.specs.declared.block.BlockType.TheVariants.{Loop, TryExcept, Finally, FinallyHandler, ExceptHandler}
-use Rattle.py_rows.specs.declared.block.Reason.{Reason}
-use Rattle.py_rows.specs.declared.block.Reason.TheVariants as reason
+use Rattle.py_rows.specs.declared.block.UnwindReason.{UnwindReason}
+use Rattle.py_rows.specs.declared.block.UnwindReason.TheVariants as reason
 use Rattle.py_rows.specs.declared.expect.Expect.{Expect}
 use Rattle.py_rows.specs.declared.expect.Expect.TheVariants as expect
 use Rattle.py_rows.specs.States.{Setting, State, Step, Goes, Tells, Stuck, Move, Plainly, Loads, Decides, Exits, begun, next, waiting, with_stack, landed, jumps}
@@ -113,7 +113,7 @@ module _ (first : Option PyBaseExceptionRef) (at last : ℕ) where
   stands : (ds : List Block) (s : State) → Among ds s → AllKeep first ds → Stands s
   stands ds s a all = record { here = a.here; begun = a.begun; goes = a.goes; kept = record { slot = a.slot ∙ ap (handled_in first) (sym a.blocks); outer = subst (AllKeep first) (sym a.blocks) all } }
 
-  met : (r : Reason) (typ : BlockType) (level : ℕ) (outer : List Block) (s : State) → Among (record { typ = typ; level = level } ∷ outer) s
+  met : (r : UnwindReason) (typ : BlockType) (level : ℕ) (outer : List Block) (s : State) → Among (record { typ = typ; level = level } ∷ outer) s
       → Keeps typ (handled_in first outer) → AllKeep first outer → (on : State → Step) → ((t : State) → Among outer t → Led (on t)) → Led (meets r typ level outer s on)
   met (reason.Raising e) Loop level outer s a keeps all on out = out (left level outer s) (record { here = a.here; begun = a.begun; goes = a.goes; blocks = refl; slot = a.slot })
   met (reason.Returning v) Loop level outer s a keeps all on out = out (left level outer s) (record { here = a.here; begun = a.begun; goes = a.goes; blocks = refl; slot = a.slot })
@@ -131,14 +131,14 @@ module _ (first : Option PyBaseExceptionRef) (at last : ℕ) where
   met r (FinallyHandler old kept) level outer s a keeps all on out = out (left_handler level kept outer s) (record { here = a.here; begun = a.begun; goes = a.goes; blocks = refl; slot = keeps })
   met r (ExceptHandler e kept) level outer s a keeps all on out = out (left_handler level kept outer s) (record { here = a.here; begun = a.begun; goes = a.goes; blocks = refl; slot = keeps })
 
-  unwinding : (r : Reason) (ds : List Block) (s : State) → Among ds s → AllKeep first ds → Led (unwind r ds s)
+  unwinding : (r : UnwindReason) (ds : List Block) (s : State) → Among ds s → AllKeep first ds → Led (unwind r ds s)
   unwinding (reason.Raising e) [] s a all = ((a.here, refl), a.begun, (a.here, a.blocks), same s _ refl refl (stands [] s a all).kept)
   unwinding (reason.Returning v) [] s a all = ((a.here, refl), a.begun, (a.here, a.blocks), same s _ refl refl (stands [] s a all).kept)
   unwinding (reason.Break to) [] s a all = tt
   unwinding (reason.Continue to) [] s a all = tt
   unwinding r (d ∷ ds) s a all = met r d.typ d.level ds s a all.0 all.1 (λ t. unwind r ds t) (λ t b. unwinding r ds t b all.1)
 
-  unwinds_led : (r : Reason) (s : State) → Stands s → Led (unwinds r s)
+  unwinds_led : (r : UnwindReason) (s : State) → Stands s → Led (unwinds r s)
   unfolding unwinds
   unwinds_led r s k = unwinding r s.blocks s (record { here = k.here; begun = k.begun; goes = k.goes; blocks = refl; slot = k.kept.slot }) k.kept.outer
 
@@ -179,8 +179,8 @@ module _ (first : Option PyBaseExceptionRef) (at last : ℕ) where
       by_type (ExceptHandler e kept) keeps = on_with s _ refl refl (record { slot = keeps; outer = all.1 }) k
       by_type _ keeps = tt
 
-  in_finally_led : (ds : List Block) → AllKeep first ds → (f : ℕ → Option Reason → Option PyBaseExceptionRef → List Block → Step)
-      → ((level : ℕ) (r : Option Reason) (kept : Option PyBaseExceptionRef) (outer : List Block) → kept ≡ handled_in first outer → AllKeep first outer → Led (f level r kept outer)) → Led (in_finally ds f)
+  in_finally_led : (ds : List Block) → AllKeep first ds → (f : ℕ → Option UnwindReason → Option PyBaseExceptionRef → List Block → Step)
+      → ((level : ℕ) (r : Option UnwindReason) (kept : Option PyBaseExceptionRef) (outer : List Block) → kept ≡ handled_in first outer → AllKeep first outer → Led (f level r kept outer)) → Led (in_finally ds f)
   in_finally_led [] all f led = tt
   in_finally_led (d ∷ ds) all f led = by_type d.typ all.0
     where
@@ -188,11 +188,11 @@ module _ (first : Option PyBaseExceptionRef) (at last : ℕ) where
       by_type (FinallyHandler r old) keeps = led d.level r old ds keeps all.1
       by_type _ keeps = tt
 
-  goes_on_led : (r : Option Reason) (s : State) → Stands s → Led (goes_on r s)
+  goes_on_led : (r : Option UnwindReason) (s : State) → Stands s → Led (goes_on r s)
   goes_on_led None s k = on_same s _ refl refl refl refl k
   goes_on_led (Some r) s k = unwinds_led r s k
 
-  finishes_led : (r : Option Reason) (v : Obj) (s : State) → Stands s → Led (finishes r v s)
+  finishes_led : (r : Option UnwindReason) (v : Obj) (s : State) → Stands s → Led (finishes r v s)
   finishes_led None v s k = on_same s _ refl refl refl refl k
   finishes_led (Some (reason.Raising e)) v s k = asks_led (request.Truth v) _ (still s _ refl refl refl refl refl k)
   finishes_led (Some (reason.Returning w)) v s k = unwinds_led _ s k

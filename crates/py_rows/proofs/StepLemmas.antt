@@ -22,7 +22,7 @@ use Rattle.py_rows.specs.declared.expect.Wanted.{Wanted}
 use Rattle.py_rows.specs.declared.expect.Wanted.TheVariants as want
 use Rattle.py_rows.specs.declared.expect.Expect.{Expect}
 use Rattle.py_rows.specs.declared.expect.Expect.TheVariants as expect
-use Rattle.py_rows.specs.declared.block.Reason.TheVariants as reason
+use Rattle.py_rows.specs.declared.block.UnwindReason.TheVariants as reason
 use Rattle.py_rows.specs.States.{State, Step, Goes, Tells, Stuck, Move, Plainly, Loads, Decides, Exits, begun, waiting}
 use Rattle.py_rows.specs.Answers.{IsValue}
 use Rattle.py_rows.specs.Rows.{unit_move}

@@ -22,8 +22,8 @@ use Rattle.py_check.specs.Leaving.{lets_wait, walks}
 use Rattle.py_rows.specs.declared.block.Block.{Block}
 use Rattle.py_rows.specs.declared.block.BlockType.{BlockType}
 use Rattle.py_rows.specs.declared.block.BlockType.TheVariants.{Loop, TryExcept, Finally, FinallyHandler, ExceptHandler}
-use Rattle.py_rows.specs.declared.block.Reason.{Reason}
-use Rattle.py_rows.specs.declared.block.Reason.TheVariants as reason
+use Rattle.py_rows.specs.declared.block.UnwindReason.{UnwindReason}
+use Rattle.py_rows.specs.declared.block.UnwindReason.TheVariants as reason
 use Rattle.py_rows.specs.declared.expect.Expect.TheVariants as expect
 use Rattle.py_rows.specs.States.{State, Step, jumps}
 use Rattle.py_rows.specs.Handled.{entered_by}
@@ -36,33 +36,33 @@ use Rattle.py_rows.proofs.BlockLemmas.{Common, common, blocks_fitted}
 use Rattle.py_rows.proofs.LandingLemmas.{Fits, Arrives, jumped, may_jumped}
 
 -- a reason that blocks may be left for
-abbrev pub MayLeave : List Payload → Annotated → Reason → List Kind → List BlockNote → Type 0
+abbrev pub MayLeave : List Payload → Annotated → UnwindReason → List Kind → List BlockNote → Type 0
 MayLeave objects code (reason.Raising e) ks bs = HasKind objects (as_object e) kind.Exc
 MayLeave objects code (reason.Returning v) ks bs = Unit {0}
 MayLeave objects code (reason.Break to) ks bs = walks (sheet_of code) (pending.Break to) ks bs ≡ true
 MayLeave objects code (reason.Continue to) ks bs = walks (sheet_of code) (pending.Continue to) ks bs ≡ true
 
 -- the handler of a finally lets the reason wait
-abbrev LetsIn : List Payload → Option Note → Reason → Type 0
+abbrev LetsIn : List Payload → Option Note → UnwindReason → Type 0
 LetsIn objects n (reason.Raising e) = HasKind objects (as_object e) kind.Exc
 LetsIn objects n (reason.Returning v) = Unit {0}
 LetsIn objects n (reason.Break to) = lets_wait n (pending.Break to) ≡ true
 LetsIn objects n (reason.Continue to) = lets_wait n (pending.Continue to) ≡ true
 
-lets_in : (objects : List Payload) (code : Annotated) (r : Reason) (ks : List Kind) (bs : List BlockNote) (l h : ℕ) → MayLeave objects code r ks (note.Finally l h ∷ bs) → LetsIn objects (slice_get code.notes h) r
+lets_in : (objects : List Payload) (code : Annotated) (r : UnwindReason) (ks : List Kind) (bs : List BlockNote) (l h : ℕ) → MayLeave objects code r ks (note.Finally l h ∷ bs) → LetsIn objects (slice_get code.notes h) r
 lets_in objects code (reason.Raising e) ks bs l h may = may
 lets_in objects code (reason.Returning v) ks bs l h may = may
 lets_in objects code (reason.Break to) ks bs l h may = may
 lets_in objects code (reason.Continue to) ks bs l h may = may
 
-waits_in : (objects : List Payload) (ks : List Kind) (c : BlockNote) (cs : List BlockNote) (r : Reason) → LetsIn objects (Some (Live ks (c ∷ cs))) r → WaitsIn objects (pending_of c) r
+waits_in : (objects : List Payload) (ks : List Kind) (c : BlockNote) (cs : List BlockNote) (r : UnwindReason) → LetsIn objects (Some (Live ks (c ∷ cs))) r → WaitsIn objects (pending_of c) r
 waits_in objects ks c cs (reason.Raising e) lets = lets
 waits_in objects ks c cs (reason.Returning v) lets = lets
 waits_in objects ks c cs (reason.Break to) lets = lets
 waits_in objects ks c cs (reason.Continue to) lets = lets
 
 -- a finally is entered for a reason that its handler lets wait
-enters : (objects : List Payload) (stack : List Obj) (m l : ℕ) (r : Reason) (kept : Option PyBaseExceptionRef) (outer : List Block) (ks : List Kind) (bs : List BlockNote) (n : Option Note) → m ≡ l
+enters : (objects : List Payload) (stack : List Obj) (m l : ℕ) (r : UnwindReason) (kept : Option PyBaseExceptionRef) (outer : List Block) (ks : List Kind) (bs : List BlockNote) (n : Option Note) → m ≡ l
     → note_fits ks (note.FinallyHandler l [] ∷ bs) n ≡ true → LetsIn objects n r → HaveKinds objects stack ks → AreBlocks objects outer bs
     → Arrives objects stack (record { typ = FinallyHandler (Some r) kept; level = m } ∷ outer) n
 enters objects stack m l r kept outer ks bs None level fits lets holds are = cc
@@ -77,13 +77,13 @@ enters objects stack m l r kept outer ks bs (Some (Live ls (c ∷ cs))) level fi
 
 module _ (objects : List Payload) (code : Annotated) where
   -- what is known of the blocks outside of one
-  abbrev Onward : Reason → List BlockNote → List Block → (State → Step) → Type 0
+  abbrev Onward : UnwindReason → List BlockNote → List Block → (State → Step) → Type 0
   Onward r bs outer on =
       (ks : List Kind) (s : State) → s.blocks ≡ outer → s.wants ≡ expect.Go → length ks ≤ code.code.code.max_stackdepth → handlers_land (sheet_of code) ks bs ≡ true → MayLeave objects code r ks bs → HaveKinds objects s.stack ks
       → length s.locals ≡ length code.code.code.varnames.items → LeadsTo (Fits objects code) (on s)
 
   module _ (ks : List Kind) (bs : List BlockNote) (outer : List Block) (m : ℕ) (s : State) (goes : s.wants ≡ expect.Go) (room : length ks ≤ code.code.code.max_stackdepth) (holds : HaveKinds objects s.stack ks) (are : AreBlocks objects outer bs) (locals : length s.locals ≡ length code.code.code.varnames.items) where
-    abbrev Meets : Reason → BlockType → BlockNote → Type 0
+    abbrev Meets : UnwindReason → BlockType → BlockNote → Type 0
     Meets r typ c =
         s.blocks ≡ record { typ = typ; level = m } ∷ outer → IsBlock objects (record { typ = typ; level = m }) c → handler_lands (sheet_of code) c (bottom (level_of c) ks) bs ≡ true
         → handlers_land (sheet_of code) (bottom (level_of c) ks) bs ≡ true → MayLeave objects code r ks (c ∷ bs) → (on : State → Step) → Onward r bs outer on → LeadsTo (Fits objects code) (meets r typ m outer s on)
@@ -91,7 +91,7 @@ module _ (objects : List Payload) (code : Annotated) where
     under : (l : ℕ) → length (bottom l ks) ≤ code.code.code.max_stackdepth
     under l = omega (arith, room, length-drop (length ks - l) ks)
 
-    loop_met : (r : Reason) (l : ℕ) → Meets r Loop (note.Loop l)
+    loop_met : (r : UnwindReason) (l : ℕ) → Meets r Loop (note.Loop l)
     loop_met (reason.Raising e) l q is h hs may on out = out (bottom l ks) (left m outer s) refl goes (under l) hs may (kinds_under objects l m s.stack ks is.level holds) locals
     loop_met (reason.Returning v) l q is h hs may on out = out (bottom l ks) (left m outer s) refl goes (under l) hs may (kinds_under objects l m s.stack ks is.level holds) locals
     loop_met (reason.Break to) l q is h hs may on out = may_jumped objects code to (bottom l ks) bs (left m outer s) goes may (kinds_under objects l m s.stack ks is.level holds) are locals
@@ -99,7 +99,7 @@ module _ (objects : List Payload) (code : Annotated) where
         let inside : AreBlocks objects (record { typ = Loop; level = m } ∷ outer) (note.Loop l ∷ bs) = (is, are) in
         may_jumped objects code to ks (note.Loop l ∷ bs) s goes may holds (subst (λ (ds : List Block). AreBlocks objects ds (note.Loop l ∷ bs)) (sym q) inside) locals
 
-    except_met : (r : Reason) (handler l h : ℕ) → Meets r (TryExcept handler) (note.TryExcept l h)
+    except_met : (r : UnwindReason) (handler l h : ℕ) → Meets r (TryExcept handler) (note.TryExcept l h)
     except_met (reason.Raising e) handler l h q is there hs may on out =
         let block : IsBlock objects (record { typ = ExceptHandler e s.slot; level = m }) (note.ExceptHandler l) = record { number = refl; level = is.level; handler = refl; waits = tt } in
         subst (λ (to : ℕ). LeadsTo (Fits objects code) (jumps to (record s { stack = as_object e ∷ bottom m s.stack; blocks = record { typ = ExceptHandler e s.slot; level = m } ∷ outer; slot = Some e }))) (sym is.handler)
@@ -109,7 +109,7 @@ module _ (objects : List Payload) (code : Annotated) where
     except_met (reason.Break to) handler l h q is there hs may on out = out (bottom l ks) (left m outer s) refl goes (under l) hs may (kinds_under objects l m s.stack ks is.level holds) locals
     except_met (reason.Continue to) handler l h q is there hs may on out = out (bottom l ks) (left m outer s) refl goes (under l) hs may (kinds_under objects l m s.stack ks is.level holds) locals
 
-    finally_met : (r : Reason) (handler l h : ℕ) → Meets r (Finally handler) (note.Finally l h)
+    finally_met : (r : UnwindReason) (handler l h : ℕ) → Meets r (Finally handler) (note.Finally l h)
     finally_met r handler l h q is there hs may on out =
         let t : State = record s { stack = bottom m s.stack; blocks = record { typ = FinallyHandler (Some r) s.slot; level = m } ∷ outer; slot = entered_by r s.slot } in
         let parts = and_parts (is_label code.code.code.instructions.items h) (lands (sheet_of code) h (bottom l ks) (note.FinallyHandler l [] ∷ bs)) there in
@@ -117,19 +117,19 @@ module _ (objects : List Payload) (code : Annotated) where
         (jumped objects code h t goes parts.0
         (enters objects t.stack m l r s.slot outer (bottom l ks) bs (slice_get code.notes h) is.level parts.1 (lets_in objects code r ks bs l h may) (kinds_under objects l m s.stack ks is.level holds) are) locals)
 
-    out_of : (r : Reason) (l : ℕ) (ps : List Pending) → MayLeave objects code r ks (note.FinallyHandler l ps ∷ bs) → MayLeave objects code r (bottom l ks) bs
+    out_of : (r : UnwindReason) (l : ℕ) (ps : List Pending) → MayLeave objects code r ks (note.FinallyHandler l ps ∷ bs) → MayLeave objects code r (bottom l ks) bs
     out_of (reason.Raising e) l ps may = may
     out_of (reason.Returning v) l ps may = may
     out_of (reason.Break to) l ps may = may
     out_of (reason.Continue to) l ps may = may
 
-    out_of_except : (r : Reason) (l : ℕ) → MayLeave objects code r ks (note.ExceptHandler l ∷ bs) → MayLeave objects code r (bottom l ks) bs
+    out_of_except : (r : UnwindReason) (l : ℕ) → MayLeave objects code r ks (note.ExceptHandler l ∷ bs) → MayLeave objects code r (bottom l ks) bs
     out_of_except (reason.Raising e) l may = may
     out_of_except (reason.Returning v) l may = may
     out_of_except (reason.Break to) l may = may
     out_of_except (reason.Continue to) l may = may
 
-    pub met : (r : Reason) (typ : BlockType) (c : BlockNote) → Meets r typ c
+    pub met : (r : UnwindReason) (typ : BlockType) (c : BlockNote) → Meets r typ c
     met r Loop (note.Loop l) q is h hs may on out = loop_met r l q is h hs may on out
     met r (TryExcept handler) (note.TryExcept l h) q is there hs may on out = except_met r handler l h q is there hs may on out
     met r (Finally handler) (note.Finally l h) q is there hs may on out = finally_met r handler l h q is there hs may on out
@@ -140,7 +140,7 @@ module _ (objects : List Payload) (code : Annotated) where
     met r typ c q is h hs may on out = let differ = is.number in cc
 
   -- leaving blocks for a reason
-  pub unwound : (r : Reason) (bs : List BlockNote) (ds : List Block) (ks : List Kind) (s : State) → s.blocks ≡ ds → s.wants ≡ expect.Go → length ks ≤ code.code.code.max_stackdepth → handlers_land (sheet_of code) ks bs ≡ true → MayLeave objects code r ks bs
+  pub unwound : (r : UnwindReason) (bs : List BlockNote) (ds : List Block) (ks : List Kind) (s : State) → s.blocks ≡ ds → s.wants ≡ expect.Go → length ks ≤ code.code.code.max_stackdepth → handlers_land (sheet_of code) ks bs ≡ true → MayLeave objects code r ks bs
       → HaveKinds objects s.stack ks → AreBlocks objects ds bs → length s.locals ≡ length code.code.code.varnames.items → LeadsTo (Fits objects code) (unwind r ds s)
   unwound (reason.Raising e) [] [] ks s q goes room hs may holds are locals = (q, omega (arith, kinds_counted objects s.stack ks holds, room))
   unwound (reason.Returning v) [] [] ks s q goes room hs may holds are locals = (q, omega (arith, kinds_counted objects s.stack ks holds, room))
@@ -153,10 +153,10 @@ module _ (objects : List Payload) (code : Annotated) where
       met ks bs ds d.level s goes room holds are.1 locals r d.typ c q are.0 parts.0 parts.1 may (λ t. unwind r ds t)
       (λ ks' s' q' goes' room' hs' may' holds' locals'. unwound r bs ds ks' s' q' goes' room' hs' may' holds' are.1 locals')
 
-  pub leaves : (r : Reason) (ks : List Kind) (bs : List BlockNote) (s : State) → s.wants ≡ expect.Go → length ks ≤ code.code.code.max_stackdepth → MayLeave objects code r ks bs → handlers_land (sheet_of code) ks bs ≡ true → HaveKinds objects s.stack ks → AreBlocks objects s.blocks bs
+  pub leaves : (r : UnwindReason) (ks : List Kind) (bs : List BlockNote) (s : State) → s.wants ≡ expect.Go → length ks ≤ code.code.code.max_stackdepth → MayLeave objects code r ks bs → handlers_land (sheet_of code) ks bs ≡ true → HaveKinds objects s.stack ks → AreBlocks objects s.blocks bs
       → length s.locals ≡ length code.code.code.varnames.items → LeadsTo (Fits objects code) (unwinds r s)
   unfolding unwinds
   leaves r ks bs s goes room may hs holds are locals = unwound r bs s.blocks ks s refl goes room hs may holds are locals
 
-  pub leaves_with : (r : Reason) (ks : List Kind) (bs : List BlockNote) (s : State) → s.wants ≡ expect.Go → MayLeave objects code r ks bs → Has objects code ks bs s → LeadsTo (Fits objects code) (unwinds r s)
+  pub leaves_with : (r : UnwindReason) (ks : List Kind) (bs : List BlockNote) (s : State) → s.wants ≡ expect.Go → MayLeave objects code r ks bs → Has objects code ks bs s → LeadsTo (Fits objects code) (unwinds r s)
   leaves_with r ks bs s goes may has = leaves r ks bs s goes has.room may has.handlers has.holds has.blocks has.locals

@@ -31,8 +31,8 @@ use Rattle.py_check.specs.Rules.{handlers_land}
 use Rattle.py_rows.specs.declared.block.Block.{Block}
 use Rattle.py_rows.specs.declared.block.BlockType.{BlockType}
 use Rattle.py_rows.specs.declared.block.BlockType.TheVariants.{Loop, TryExcept, Finally, FinallyHandler, ExceptHandler}
-use Rattle.py_rows.specs.declared.block.Reason.{Reason}
-use Rattle.py_rows.specs.declared.block.Reason.TheVariants as reason
+use Rattle.py_rows.specs.declared.block.UnwindReason.{UnwindReason}
+use Rattle.py_rows.specs.declared.block.UnwindReason.TheVariants as reason
 use Rattle.py_rows.specs.declared.expect.Wanted.{Wanted}
 use Rattle.py_rows.specs.declared.expect.Wanted.TheVariants as want
 use Rattle.py_rows.specs.declared.expect.Expect.{Expect}
@@ -64,14 +64,14 @@ type_handler (FinallyHandler r kept) = 0
 type_handler (ExceptHandler e kept) = 0
 
 -- a reason that may wait where these jumps may
-abbrev pub WaitsIn : List Payload → List Pending → Reason → Type 0
+abbrev pub WaitsIn : List Payload → List Pending → UnwindReason → Type 0
 WaitsIn objects ps (reason.Raising e) = HasKind objects (as_object e) kind.Exc
 WaitsIn objects ps (reason.Returning v) = Unit {0}
 WaitsIn objects ps (reason.Break to) = list_any (same_pending (pending.Break to)) ps ≡ true
 WaitsIn objects ps (reason.Continue to) = list_any (same_pending (pending.Continue to)) ps ≡ true
 
 -- the same of a reason, if any
-abbrev pub MayWait : List Payload → List Pending → Option Reason → Type 0
+abbrev pub MayWait : List Payload → List Pending → Option UnwindReason → Type 0
 MayWait objects ps None = Unit {0}
 MayWait objects ps (Some r) = WaitsIn objects ps r
 

@@ -4,19 +4,19 @@ use Rattle.py_objects.specs.declared.refs.PyBaseExceptionRef.{PyBaseExceptionRef
 use Rattle.py_rows.specs.declared.block.Block.{Block}
 use Rattle.py_rows.specs.declared.block.BlockType.{BlockType}
 use Rattle.py_rows.specs.declared.block.BlockType.TheVariants.{Loop, TryExcept, Finally, FinallyHandler, ExceptHandler}
-use Rattle.py_rows.specs.declared.block.Reason.{Reason}
-use Rattle.py_rows.specs.declared.block.Reason.TheVariants as reason
+use Rattle.py_rows.specs.declared.block.UnwindReason.{UnwindReason}
+use Rattle.py_rows.specs.declared.block.UnwindReason.TheVariants as reason
 use Rattle.py_rows.specs.States.{State}
 
 -- what is handled in a finally that was entered for a reason
-abbrev pub entered_by : Reason → Option PyBaseExceptionRef → Option PyBaseExceptionRef
+abbrev pub entered_by : UnwindReason → Option PyBaseExceptionRef → Option PyBaseExceptionRef
 entered_by (reason.Raising e) outer = Some e
 entered_by (reason.Returning v) outer = outer
 entered_by (reason.Break to) outer = outer
 entered_by (reason.Continue to) outer = outer
 
 -- the same of a reason, if any
-abbrev pub entered_if : Option Reason → Option PyBaseExceptionRef → Option PyBaseExceptionRef
+abbrev pub entered_if : Option UnwindReason → Option PyBaseExceptionRef → Option PyBaseExceptionRef
 entered_if None outer = outer
 entered_if (Some r) outer = entered_by r outer
 

@@ -17,7 +17,7 @@ use Rattle.py_check.specs.declared.note.Kind.TheVariants as kind
 use Rattle.py_rows.specs.Answers.{HasKind}
 use Rattle.py_rows.specs.Receiving.{moves}
 use Rattle.py_rows.specs.RunOfRows.{Steps, Runs, started}
-use Rattle.py_rows.specs.Staying.{HearsBelow, TellsBelow, HoldsBelow}
+use Rattle.py_rows.specs.Below.{HearsBelow, TellsBelow, HoldsBelow}
 use Rattle.py_rows.specs.Standing.{IsOf, IsStanding}
 use Rattle.py_rows.specs.Fitting.{FitsAt, IsSound}
 
@@ -104,12 +104,12 @@ abbrev pub SilentLater : Type 0
 SilentLater = (objects : List Payload) (setting : Setting) (first : Option PyBaseExceptionRef) (s t : State) → IsStanding first s → Steps objects setting s [] t → (s.at < t.at) × (t.wants ≡ expect.Go)
 
 -- a frame that hasn't begun holds its arguments and what is in the slot
-abbrev pub StartStays : Type 0
-StartStays = (n : ℕ) (code : PyCode) (slot : Option PyBaseExceptionRef) (args : List Obj) → AllBelow n (number_if slot) → AllBelow n (numbers args) → HoldsBelow n (started code slot args)
+abbrev pub StartBelow : Type 0
+StartBelow = (n : ℕ) (code : PyCode) (slot : Option PyBaseExceptionRef) (args : List Obj) → AllBelow n (number_if slot) → AllBelow n (numbers args) → HoldsBelow n (started code slot args)
 
 -- where the globals, all that a frame holds and all that it hears are objects, so is all that it tells and holds behind a step
-abbrev pub StepsStay : Type 0
-StepsStay = (objects : List Payload) (setting : Setting) (s t : State) (xs : List Own) → setting.globals.number < length objects → HoldsBelow (length objects) s → HearsBelow (length objects) xs → Steps objects setting s xs t
+abbrev pub StepsBelow : Type 0
+StepsBelow = (objects : List Payload) (setting : Setting) (s t : State) (xs : List Own) → setting.globals.number < length objects → HoldsBelow (length objects) s → HearsBelow (length objects) xs → Steps objects setting s xs t
     → TellsBelow (length objects) xs × HoldsBelow (length objects) t
 
 -- a run of a sound code fits its notes, wherever it comes to
@@ -118,8 +118,8 @@ RunsFit = (objects : List Payload) (names : List (List ℕ)) (globals : Obj) (co
     → IsSound names code → Runs objects (setting_of names globals code) (started code.code slot args) xs t → FitsAt objects code t.wants t
 
 -- where the globals, the arguments, what is in the slot and all that a run hears are objects, so is all that it tells
-abbrev pub RunsStayBelow : Type 0
-RunsStayBelow = (objects : List Payload) (setting : Setting) (slot : Option PyBaseExceptionRef) (args : List Obj) (t : State) (xs : List Own) → setting.globals.number < length objects → AllBelow (length objects) (number_if slot) → AllBelow (length objects) (numbers args)
+abbrev pub RunsBelow : Type 0
+RunsBelow = (objects : List Payload) (setting : Setting) (slot : Option PyBaseExceptionRef) (args : List Obj) (t : State) (xs : List Own) → setting.globals.number < length objects → AllBelow (length objects) (number_if slot) → AllBelow (length objects) (numbers args)
     → HearsBelow (length objects) xs → Runs objects setting (started setting.code slot args) xs t → TellsBelow (length objects) xs
 
 -- the slot is kept wherever a run comes to

@@ -15,7 +15,7 @@ pub mod RunOfRows
 -- where a frame stands, and of which unit it tells
 pub mod Standing
 -- which objects a frame names
-pub mod Staying
+pub mod Below
 -- how a frame fits the notes of its code
 pub mod Fitting
 -- what holds of every run

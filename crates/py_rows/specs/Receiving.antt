@@ -15,10 +15,10 @@ use Rattle.py_objects.specs.Objects.{Obj}
 use Rattle.py_check.specs.Effects.{Effect, Moves, AsksOnce, Other, effect}
 use Rattle.py_check.specs.Taking.{at_place}
 use Rattle.py_rows.specs.declared.block.BlockType.TheVariants.{Finally}
-use Rattle.py_rows.specs.declared.block.Reason.TheVariants as reason
+use Rattle.py_rows.specs.declared.block.UnwindReason.TheVariants as reason
 use Rattle.py_rows.specs.declared.expect.Expect.{Expect}
 use Rattle.py_rows.specs.declared.expect.Expect.TheVariants as expect
-use Rattle.py_rows.specs.States.{Setting, State, Step, Goes, Stuck, Move, Plainly, Decides, next, waiting, with_stack, pushed, within, jumps}
+use Rattle.py_rows.specs.States.{Setting, State, Step, Goes, Stuck, Move, Plainly, Decides, next, waiting, with_stack, pushed, opened, jumps}
 use Rattle.py_rows.specs.Unwinding.{unwinds}
 use Rattle.py_rows.specs.Answers.{wanted}
 use Rattle.py_rows.specs.Rows.{asks, takes_off, as_exception, advance}
@@ -29,7 +29,7 @@ jumps_if b to s = if b then jumps to s else Goes (next s)
 
 -- a manager is entered, and its exit, which is itself, stays under the block
 abbrev pub entered : ℕ → Obj → State → Step
-entered to v s = Goes (pushed v (within (record { typ = Finally to; level = length s.stack }) (next s)))
+entered to v s = Goes (pushed v (opened (record { typ = Finally to; level = length s.stack }) (next s)))
 
 -- an exception that waited goes no further, or on
 abbrev pub passes_if : Bool → Obj → State → Step

@@ -23,10 +23,10 @@ use Rattle.py_check.specs.Taking.{picked}
 use Rattle.py_rows.specs.declared.block.Block.{Block}
 use Rattle.py_rows.specs.declared.block.BlockType.{BlockType}
 use Rattle.py_rows.specs.declared.block.BlockType.TheVariants.{Loop, TryExcept, Finally, FinallyHandler, ExceptHandler}
-use Rattle.py_rows.specs.declared.block.Reason.{Reason}
-use Rattle.py_rows.specs.declared.block.Reason.TheVariants as reason
+use Rattle.py_rows.specs.declared.block.UnwindReason.{UnwindReason}
+use Rattle.py_rows.specs.declared.block.UnwindReason.TheVariants as reason
 use Rattle.py_rows.specs.declared.expect.Expect.TheVariants as expect
-use Rattle.py_rows.specs.States.{Setting, State, Step, Goes, Tells, Stuck, Move, Plainly, Loads, Exits, begun, next, waiting, with_stack, pushed, within, jumps}
+use Rattle.py_rows.specs.States.{Setting, State, Step, Goes, Tells, Stuck, Move, Plainly, Loads, Exits, begun, next, waiting, with_stack, pushed, opened, jumps}
 use Rattle.py_rows.specs.Handled.{handled_in}
 use Rattle.py_rows.specs.Unwinding.{left, left_handler, unwinds}
 use Rattle.py_rows.specs.Answers.{wanted}
@@ -133,7 +133,7 @@ pop_exception [] s = Stuck
 pop_exception (b ∷ outer) s = pop_type b.typ (λ kept. Goes (next (left_handler b.level kept outer s)))
 
 -- the handler of a finally, with its reason and what it kept
-abbrev pub finally_type : BlockType → (Option Reason → Option PyBaseExceptionRef → Step) → Step
+abbrev pub finally_type : BlockType → (Option UnwindReason → Option PyBaseExceptionRef → Step) → Step
 finally_type Loop f = Stuck
 finally_type (TryExcept handler) f = Stuck
 finally_type (Finally handler) f = Stuck
@@ -141,12 +141,12 @@ finally_type (FinallyHandler r kept) f = f r kept
 finally_type (ExceptHandler e kept) f = Stuck
 
 -- the same of the innermost block, with its level and those around it
-abbrev pub in_finally : List Block → (ℕ → Option Reason → Option PyBaseExceptionRef → List Block → Step) → Step
+abbrev pub in_finally : List Block → (ℕ → Option UnwindReason → Option PyBaseExceptionRef → List Block → Step) → Step
 in_finally [] f = Stuck
 in_finally (b ∷ outer) f = finally_type b.typ (λ r kept. f b.level r kept outer)
 
 -- on with the reason of a finally, if any
-abbrev pub goes_on : Option Reason → State → Step
+abbrev pub goes_on : Option UnwindReason → State → Step
 goes_on None s = Goes (next s)
 goes_on (Some r) s = unwinds r s
 
@@ -155,7 +155,7 @@ abbrev pub end_finally : State → Step
 end_finally s = in_finally s.blocks (λ level r kept outer. goes_on r (left_handler level kept outer s))
 
 -- the exception that a finally was entered by, if any
-abbrev pub raised_by : Option Reason → Option PyBaseExceptionRef
+abbrev pub raised_by : Option UnwindReason → Option PyBaseExceptionRef
 raised_by None = None
 raised_by (Some (reason.Raising e)) = Some e
 raised_by (Some (reason.Returning v)) = None
@@ -181,7 +181,7 @@ asks_exit s t v b =
     in_finally s.blocks (λ level r kept outer. where_there (length s.stack == level) (takes_off (bottom level s.stack) (λ x rest. asks (request.Exit x t v b) s)))
 
 -- the exception, if any, waits on the stack until it is known whether it goes on
-abbrev pub finishes : Option Reason → Obj → State → Step
+abbrev pub finishes : Option UnwindReason → Obj → State → Step
 finishes None v s = Goes (next s)
 finishes (Some (reason.Raising e)) v s = asks (request.Truth v) (pushed (as_object e) s)
 finishes (Some (reason.Returning w)) v s = unwinds (reason.Returning w) s
@@ -213,11 +213,11 @@ asks_truth s = takes_off s.stack (λ v rest. asks (request.Truth v) (with_stack 
 
 -- a block begins at the depth of the stack
 abbrev pub opens : BlockType → State → Step
-opens typ s = Goes (within (record { typ = typ; level = length s.stack }) (next s))
+opens typ s = Goes (opened (record { typ = typ; level = length s.stack }) (next s))
 
 -- a loop is set up, which is a round
 abbrev pub setup_loop : State → Step
-setup_loop s = Tells (Rounds s.at) (within (record { typ = Loop; level = length s.stack }) (next s))
+setup_loop s = Tells (Rounds s.at) (opened (record { typ = Loop; level = length s.stack }) (next s))
 
 -- a manager, which stays, is entered
 abbrev pub asks_enter : State → Step

@@ -63,5 +63,5 @@ started code slot args =
 
 -- steps that lead from one state to another, with the events that they hear and tell
 pub data Runs (objects : List Payload) (setting : Setting) (s : State) : List Own → State → Type 0 where
-  stays : Runs objects setting s [] s
+  none : Runs objects setting s [] s
   on : {us vs : List Own} {t : State} (u : State) → Runs objects setting s us t → Steps objects setting t vs u → Runs objects setting s (us ++ vs) u

@@ -65,8 +65,8 @@ abbrev pub pushed : Obj → State → State
 pushed v s = record s { stack = v ∷ s.stack }
 
 -- a block is opened
-abbrev pub within : Block → State → State
-within b s = record s { blocks = b ∷ s.blocks }
+abbrev pub opened : Block → State → State
+opened b s = record s { blocks = b ∷ s.blocks }
 
 -- a transfer of control by the unit that runs; one to a unit that isn't later is a round
 abbrev pub jumps : ℕ → State → Step

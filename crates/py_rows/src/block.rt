@@ -4,7 +4,7 @@ use py_objects::{PyBaseExceptionRef, PyObjectRef};
 
 /// Why blocks are left.
 #[derive(Clone, Copy, Debug, PartialEq, Eq)]
-pub enum Reason {
+pub enum UnwindReason {
     /// An exception is raised.
     Raising(PyBaseExceptionRef),
     /// The frame returns a value.
@@ -30,7 +30,7 @@ pub enum BlockType {
     },
     /// The handler of a `Finally`: why it was entered, and the exception that was handled outside of it.
     FinallyHandler {
-        reason: Option<Reason>,
+        reason: Option<UnwindReason>,
         kept: Option<PyBaseExceptionRef>,
     },
     /// The handler of a `TryExcept`: the exception that it handles, and the one that was handled outside of it.

@@ -1,6 +1,6 @@
 //! What holds of every run of the rows.
 
-ghost use Rattle.py_rows.specs.Laws.{EndsKeepSlot, EventsTold, FitsGrow, FitsWithin, NextFits, RunsFit, RunsGrow, RunsKeepSlot, RunsStayBelow, SilentLater, SlotKept, StartFits, StartStands, StartStays, StepsFit, StepsStand, StepsStay};
+ghost use Rattle.py_rows.specs.Laws.{EndsKeepSlot, EventsTold, FitsGrow, FitsWithin, NextFits, RunsFit, RunsGrow, RunsKeepSlot, RunsBelow, SilentLater, SlotKept, StartFits, StartStands, StartBelow, StepsFit, StepsStand, StepsBelow};
 
 /// States laws, and does nothing.
 ///
@@ -22,10 +22,10 @@ pub fn laws_of_rows()
     ensures steps_stand { StepsStand }
     ensures told { EventsTold }
     ensures later { SilentLater }
-    ensures start_stays { StartStays }
-    ensures steps_stay { StepsStay }
+    ensures start_below { StartBelow }
+    ensures steps_below { StepsBelow }
     ensures runs_fit { RunsFit }
-    ensures runs_stay_below { RunsStayBelow }
+    ensures runs_below { RunsBelow }
     ensures runs_keep_slot { RunsKeepSlot }
     ensures slot_kept { EndsKeepSlot }
     ensures fits_grow { FitsGrow }

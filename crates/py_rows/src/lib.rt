@@ -5,6 +5,6 @@ mod block;
 mod expect;
 mod laws;
 
-pub use block::{Block, BlockType, Reason};
+pub use block::{Block, BlockType, UnwindReason};
 pub use expect::{Expect, Wanted};
 pub use laws::laws_of_rows;

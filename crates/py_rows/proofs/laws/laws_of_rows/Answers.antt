@@ -1,8 +1,8 @@
 use Rattle.py_rows.proofs.StepLemmas.{start_fits, next_fits, steps_fit, within}
 use Rattle.py_rows.proofs.StandingLemmas.{slot_kept, start_stands, steps_stand, events_told, silent_later}
 use Rattle.py_rows.proofs.GrowingLemmas.{fits_grown, run_grown}
-use Rattle.py_rows.proofs.StayingLemmas.{start_stays, steps_stay}
-use Rattle.py_rows.proofs.RunLemmas.{runs_fit, runs_stay, runs_keep_slot, ends_keep_slot}
+use Rattle.py_rows.proofs.StepsBelowLemmas.{start_below, steps_below}
+use Rattle.py_rows.proofs.RunLemmas.{runs_fit, runs_below, runs_keep_slot, ends_keep_slot}
 use Rattle.py_rows.proofs.laws.laws_of_rows.Goals as goal
 
 pub returns-clause-start : goal.returns-clause-start
@@ -38,17 +38,17 @@ returns-clause-told c = events_told
 pub returns-clause-later : goal.returns-clause-later
 returns-clause-later c = silent_later
 
-pub returns-clause-start_stays : goal.returns-clause-start_stays
-returns-clause-start_stays c = start_stays
+pub returns-clause-start_below : goal.returns-clause-start_below
+returns-clause-start_below c = start_below
 
-pub returns-clause-steps_stay : goal.returns-clause-steps_stay
-returns-clause-steps_stay c = steps_stay
+pub returns-clause-steps_below : goal.returns-clause-steps_below
+returns-clause-steps_below c = steps_below
 
 pub returns-clause-runs_fit : goal.returns-clause-runs_fit
 returns-clause-runs_fit c = runs_fit
 
-pub returns-clause-runs_stay_below : goal.returns-clause-runs_stay_below
-returns-clause-runs_stay_below c = runs_stay
+pub returns-clause-runs_below : goal.returns-clause-runs_below
+returns-clause-runs_below c = runs_below
 
 pub returns-clause-runs_keep_slot : goal.returns-clause-runs_keep_slot
 returns-clause-runs_keep_slot c = runs_keep_slot

@@ -28,8 +28,8 @@ use Rattle.py_check.specs.Taking.{picked}
 use Rattle.py_rows.specs.declared.block.Block.{Block}
 use Rattle.py_rows.specs.declared.block.BlockType.{BlockType}
 use Rattle.py_rows.specs.declared.block.BlockType.TheVariants.{Loop, TryExcept, Finally, FinallyHandler, ExceptHandler}
-use Rattle.py_rows.specs.declared.block.Reason.{Reason}
-use Rattle.py_rows.specs.declared.block.Reason.TheVariants as reason
+use Rattle.py_rows.specs.declared.block.UnwindReason.{UnwindReason}
+use Rattle.py_rows.specs.declared.block.UnwindReason.TheVariants as reason
 use Rattle.py_rows.specs.declared.expect.Expect.{Expect}
 use Rattle.py_rows.specs.declared.expect.Expect.TheVariants as expect
 use Rattle.py_rows.specs.States.{Setting, State, Step, Goes, Tells, Stuck, Move, Plainly, Loads, Decides, Exits, begun, next, waiting, with_stack, pushed, landed, jumps}
@@ -41,7 +41,7 @@ use Rattle.py_rows.specs.Receiving.{jumps_if, passes_if, causes, raised, answere
 use Rattle.py_rows.specs.RunOfRows.{Hears, IsExit, MayLead, filled, started, Steps, silent, telling, hearing}
 use Rattle.py_rows.proofs.BelowLemmas.{joined_below, drop_below, take_below, values_below, picked_below}
 use Rattle.py_rows.proofs.AskingLemmas.{Asks, AsksAny, operand_there, asked_as}
-use Rattle.py_rows.specs.Staying.{heard_numbers, told_numbers, HearsBelow, TellsBelow, ReasonBelow, IfBelow, TypeBelow, BlocksBelow, ExpectBelow, HeldBelow, HoldsBelow}
+use Rattle.py_rows.specs.Below.{heard_numbers, told_numbers, HearsBelow, TellsBelow, ReasonBelow, IfBelow, TypeBelow, BlocksBelow, ExpectBelow, HeldBelow, HoldsBelow}
 
 -- a place of a list after one was set
 set_there : (n : ℕ) (xs : List (Option Obj)) (i j : ℕ) (x : Option Obj) (w : Obj) → ((v : Obj) → x ≡ Some v → v.number < n) → ((k : ℕ) (u : Obj) → slice_get xs k ≡ Some (Some u) → u.number < n)
@@ -53,7 +53,7 @@ set_there n (y ∷ ys) (suc i) zero x w new old here = old zero w here
 set_there n (y ∷ ys) (suc i) (suc j) x w new old here = set_there n ys i j x w new (λ k u. old (suc k) u) here
 
 -- what is handled in blocks
-reason_handled : (n : ℕ) (r : Option Reason) (outer : Option PyBaseExceptionRef) → IfBelow n r → AllBelow n (number_if outer) → AllBelow n (number_if (entered_if r outer))
+reason_handled : (n : ℕ) (r : Option UnwindReason) (outer : Option PyBaseExceptionRef) → IfBelow n r → AllBelow n (number_if outer) → AllBelow n (number_if (entered_if r outer))
 reason_handled n None outer low below = below
 reason_handled n (Some (reason.Raising e)) outer low below = (low, tt)
 reason_handled n (Some (reason.Returning v)) outer low below = below
@@ -153,13 +153,13 @@ module _ (n : ℕ) where
   left_below : (level : ℕ) (outer : List Block) (s : State) → BlocksBelow n outer → HoldsBelow n s → HoldsBelow n (left level outer s)
   left_below level outer s below h = blocked below (stacked (drop_below n (length s.stack - level) s.stack h.in_stack) h)
 
-  entered_below : (r : Reason) (slot : Option PyBaseExceptionRef) → ReasonBelow n r → AllBelow n (number_if slot) → AllBelow n (number_if (entered_by r slot))
+  entered_below : (r : UnwindReason) (slot : Option PyBaseExceptionRef) → ReasonBelow n r → AllBelow n (number_if slot) → AllBelow n (number_if (entered_by r slot))
   entered_below (reason.Raising e) slot below low = (below, tt)
   entered_below (reason.Returning v) slot below low = low
   entered_below (reason.Break to) slot below low = low
   entered_below (reason.Continue to) slot below low = low
 
-  met : (r : Reason) (typ : BlockType) (level : ℕ) (outer : List Block) (s : State) → ReasonBelow n r → TypeBelow n typ → BlocksBelow n outer → HoldsBelow n s
+  met : (r : UnwindReason) (typ : BlockType) (level : ℕ) (outer : List Block) (s : State) → ReasonBelow n r → TypeBelow n typ → BlocksBelow n outer → HoldsBelow n s
       → (on : State → Step) → ((t : State) → HoldsBelow n t → Led (on t)) → Led (meets r typ level outer s on)
   met (reason.Raising e) Loop level outer s low typ_low below h on out = out (left level outer s) (left_below level outer s below h)
   met (reason.Returning v) Loop level outer s low typ_low below h on out = out (left level outer s) (left_below level outer s below h)
@@ -178,14 +178,14 @@ module _ (n : ℕ) where
   met r (FinallyHandler old kept) level outer s low typ_low below h on out = out (left_handler level kept outer s) (slotted typ_low.1 (left_below level outer s below h))
   met r (ExceptHandler e kept) level outer s low typ_low below h on out = out (left_handler level kept outer s) (slotted typ_low.1 (left_below level outer s below h))
 
-  unwinding : (r : Reason) (ds : List Block) (s : State) → ReasonBelow n r → BlocksBelow n ds → HoldsBelow n s → Led (unwind r ds s)
+  unwinding : (r : UnwindReason) (ds : List Block) (s : State) → ReasonBelow n r → BlocksBelow n ds → HoldsBelow n s → Led (unwind r ds s)
   unwinding (reason.Raising e) [] s low below h = ((low, tt), expecting tt h)
   unwinding (reason.Returning v) [] s low below h = ((low, tt), expecting tt h)
   unwinding (reason.Break to) [] s low below h = tt
   unwinding (reason.Continue to) [] s low below h = tt
   unwinding r (d ∷ ds) s low below h = met r d.typ d.level ds s low below.0 below.1 h (λ t. unwind r ds t) (λ t held. unwinding r ds t low below.1 held)
 
-  unwinds_led : (r : Reason) (s : State) → ReasonBelow n r → HoldsBelow n s → Led (unwinds r s)
+  unwinds_led : (r : UnwindReason) (s : State) → ReasonBelow n r → HoldsBelow n s → Led (unwinds r s)
   unfolding unwinds
   unwinds_led r s low h = unwinding r s.blocks s low h.in_blocks h
 
@@ -229,8 +229,8 @@ module _ (n : ℕ) where
       by_type (ExceptHandler e kept) low = slotted low.1 (left_below d.level ds s below.1 h)
       by_type _ low = tt
 
-  in_finally_led : (ds : List Block) → BlocksBelow n ds → (f : ℕ → Option Reason → Option PyBaseExceptionRef → List Block → Step)
-      → ((level : ℕ) (r : Option Reason) (kept : Option PyBaseExceptionRef) (outer : List Block) → IfBelow n r → AllBelow n (number_if kept) → BlocksBelow n outer → Led (f level r kept outer)) → Led (in_finally ds f)
+  in_finally_led : (ds : List Block) → BlocksBelow n ds → (f : ℕ → Option UnwindReason → Option PyBaseExceptionRef → List Block → Step)
+      → ((level : ℕ) (r : Option UnwindReason) (kept : Option PyBaseExceptionRef) (outer : List Block) → IfBelow n r → AllBelow n (number_if kept) → BlocksBelow n outer → Led (f level r kept outer)) → Led (in_finally ds f)
   in_finally_led [] below f led = tt
   in_finally_led (d ∷ ds) below f led = by_type d.typ below.0
     where
@@ -238,11 +238,11 @@ module _ (n : ℕ) where
       by_type (FinallyHandler r old) low = led d.level r old ds low.0 low.1 below.1
       by_type _ low = tt
 
-  goes_on_led : (r : Option Reason) (s : State) → IfBelow n r → HoldsBelow n s → Led (goes_on r s)
+  goes_on_led : (r : Option UnwindReason) (s : State) → IfBelow n r → HoldsBelow n s → Led (goes_on r s)
   goes_on_led None s low h = h
   goes_on_led (Some r) s low h = unwinds_led r s low h
 
-  finishes_led : (r : Option Reason) (v : Obj) (s : State) → IfBelow n r → v.number < n → HoldsBelow n s → Led (finishes r v s)
+  finishes_led : (r : Option UnwindReason) (v : Obj) (s : State) → IfBelow n r → v.number < n → HoldsBelow n s → Led (finishes r v s)
   finishes_led None v s low there h = h
   finishes_led (Some (reason.Raising e)) v s low there h = asks_led (request.Truth v) (pushed (as_object e) s) (there, tt) (stacked (low, h.in_stack) h)
   finishes_led (Some (reason.Returning w)) v s low there h = unwinds_led _ s low h
@@ -260,7 +260,7 @@ module _ (n : ℕ) where
   raised_low [] below = tt
   raised_low (d ∷ ds) below = by_type d.typ below.0
     where
-      by_reason : (r : Option Reason) → IfBelow n r → AllBelow n (number_if (raised_by r))
+      by_reason : (r : Option UnwindReason) → IfBelow n r → AllBelow n (number_if (raised_by r))
       by_reason None low = tt
       by_reason (Some (reason.Raising e)) low = (low, tt)
       by_reason (Some (reason.Returning v)) low = tt
@@ -395,12 +395,12 @@ heard_silent objects setting n (expect.Answer wanted) (Gets g) w hears = tt
 heard_silent objects setting n expect.Resume (Resumes h) w hears = tt
 heard_silent objects setting n _ _ w hears = absurd hears
 
-pub steps_stay : (objects : List Payload) (setting : Setting) (s t : State) (xs : List Own) → setting.globals.number < length objects → HoldsBelow (length objects) s → HearsBelow (length objects) xs → Steps objects setting s xs t
+pub steps_below : (objects : List Payload) (setting : Setting) (s t : State) (xs : List Own) → setting.globals.number < length objects → HoldsBelow (length objects) s → HearsBelow (length objects) xs → Steps objects setting s xs t
     → TellsBelow (length objects) xs × HoldsBelow (length objects) t
-steps_stay objects setting s _ _ there h hears (silent t may) = (tt, may_led objects (moves setting s.wants s) (Goes t) (moves_led (length objects) setting s.wants s there h) may)
-steps_stay objects setting s _ _ there h hears (telling x t may) =
+steps_below objects setting s _ _ there h hears (silent t may) = (tt, may_led objects (moves setting s.wants s) (Goes t) (moves_led (length objects) setting s.wants s there h) may)
+steps_below objects setting s _ _ there h hears (telling x t may) =
     let led = may_led objects (moves setting s.wants s) (Tells x t) (moves_led (length objects) setting s.wants s there h) may in ((led.0, tt), led.1)
-steps_stay objects setting s _ _ there h hears (hearing x w heard) =
+steps_below objects setting s _ _ there h hears (hearing x w heard) =
     ((heard_silent objects setting (length objects) s.wants x w heard, tt), expecting (length objects) (heard_low objects setting (length objects) s.wants x w hears.0 heard) h)
 
 -- the arguments as locals
@@ -411,5 +411,5 @@ filled_below n (suc m) [] below (suc i) v here = filled_below n m [] below i v h
 filled_below n (suc m) (w ∷ vs) below zero v here = let same : w ≡ v = cc in subst (λ (u : Obj). u.number < n) same below.0
 filled_below n (suc m) (w ∷ vs) below (suc i) v here = filled_below n m vs below.1 i v here
 
-pub start_stays : (n : ℕ) (code : PyCode) (slot : Option PyBaseExceptionRef) (args : List Obj) → AllBelow n (number_if slot) → AllBelow n (numbers args) → HoldsBelow n (started code slot args)
-start_stays n code slot args low below = record { in_stack = tt; in_locals = filled_below n (length code.code.varnames.items) args below; in_blocks = tt; in_slot = low; in_wants = tt }
+pub start_below : (n : ℕ) (code : PyCode) (slot : Option PyBaseExceptionRef) (args : List Obj) → AllBelow n (number_if slot) → AllBelow n (numbers args) → HoldsBelow n (started code slot args)
+start_below n code slot args low below = record { in_stack = tt; in_locals = filled_below n (length code.code.varnames.items) args below; in_blocks = tt; in_slot = low; in_wants = tt }

@@ -6,8 +6,8 @@ use Rattle.py_objects.specs.Own.{Own, Resumes, Asks, Gets, Yields, Ends}
 use Rattle.py_rows.specs.declared.block.Block.{Block}
 use Rattle.py_rows.specs.declared.block.BlockType.{BlockType}
 use Rattle.py_rows.specs.declared.block.BlockType.TheVariants.{Loop, TryExcept, Finally, FinallyHandler, ExceptHandler}
-use Rattle.py_rows.specs.declared.block.Reason.{Reason}
-use Rattle.py_rows.specs.declared.block.Reason.TheVariants as reason
+use Rattle.py_rows.specs.declared.block.UnwindReason.{UnwindReason}
+use Rattle.py_rows.specs.declared.block.UnwindReason.TheVariants as reason
 use Rattle.py_rows.specs.declared.expect.Expect.{Expect}
 use Rattle.py_rows.specs.declared.expect.Expect.TheVariants as expect
 use Rattle.py_rows.specs.States.{State}
@@ -35,14 +35,14 @@ TellsBelow n [] = Unit {0}
 TellsBelow n (x ∷ xs) = AllBelow n (told_numbers x) × TellsBelow n xs
 
 -- what a reason names is among the first n
-abbrev pub ReasonBelow : ℕ → Reason → Type 0
+abbrev pub ReasonBelow : ℕ → UnwindReason → Type 0
 ReasonBelow n (reason.Raising e) = e.number < n
 ReasonBelow n (reason.Returning v) = v.number < n
 ReasonBelow n (reason.Break to) = Unit {0}
 ReasonBelow n (reason.Continue to) = Unit {0}
 
 -- the same of a reason, if any
-abbrev pub IfBelow : ℕ → Option Reason → Type 0
+abbrev pub IfBelow : ℕ → Option UnwindReason → Type 0
 IfBelow n None = Unit {0}
 IfBelow n (Some r) = ReasonBelow n r
 
