@@ -20,3 +20,5 @@ pub mod Below
 pub mod Fitting
 -- what holds of every run
 pub mod Laws
+-- frames that leave blocks, worked by hand
+pub mod WorkedUnwinding

@@ -4,7 +4,9 @@
 mod block;
 mod expect;
 mod laws;
+mod worked;
 
 pub use block::{Block, BlockType, UnwindReason};
 pub use expect::{Expect, Wanted};
 pub use laws::laws_of_rows;
+pub use worked::worked_unwinding;
