@@ -1,5 +1,5 @@
 -- A frame that waits isn't stuck by an answer that is as wanted, and fits behind the unit that waited.
-use Rattle.std.proofs.Common.{subst, zero, ◌≡◌, ◌+◌, ◌<◌, ◌≤◌, ℕ, suc, List, [], ◌∷◌, Bool, Option, None, Some, true, false, ◌&&◌, not, ◌⊎◌, inl, inr, refl, ap, length, drop, length-drop, arith}
+use Rattle.std.proofs.Common.{subst, zero, ◌≡◌, ◌+◌, ◌<◌, ◌≤◌, ℕ, suc, List, [], ◌∷◌, Bool, Option, None, Some, true, false, ◌&&◌, not, ◌⊎◌, inl, inr, refl, ap, length, drop, length-drop, arith, cond}
 use Rattle.std.specs.Prelude.{slice_get, nat_lt, nat_le, ◌==◌}
 use Rattle.std.specs.List.{list_all}
 use Rattle.std.proofs.lemmas.Bool.{and_parts, eqb-true, ltb-true, leb-true}
@@ -34,8 +34,9 @@ use Rattle.py_rows.specs.States.{State, Step, Move, next, with_stack, pushed}
 use Rattle.py_rows.specs.Unwinding.{left}
 use Rattle.py_rows.specs.Answers.{IsValue}
 use Rattle.py_rows.specs.Rows.{takes_off}
-use Rattle.py_rows.specs.Receiving.{passes_if, jumps_if, causes, raised, answered_by, answered_own, answered}
-use Rattle.py_rows.specs.Fitting.{HaveKinds, IsBlock, AreBlocks, Has, Waiting, cause_left, raise_left, left_own, left_by, left_of}
+use Rattle.py_objects.specs.declared.request.Request.TheVariants as request
+use Rattle.py_rows.specs.Receiving.{entered, asks_again, enters_top, enters, passes_if, jumps_if, causes, raised, answered_by, answered_own, answered}
+use Rattle.py_rows.specs.Fitting.{with_left, HaveKinds, IsBlock, AreBlocks, Has, Waiting, cause_left, raise_left, left_own, left_by, left_of}
 use Rattle.py_check.specs.declared.note.Note.TheVariants.{Live}
 use Rattle.py_rows.specs.declared.expect.Wanted.TheVariants as want
 use Rattle.py_rows.specs.Laws.{LeadsTo, AlwaysLeads}
@@ -142,18 +143,45 @@ module _ (objects : List Payload) (code : Annotated) (s : State) (kinds : List K
   raised_fits i v (Some raise.Raise) is_op operand kind_is keeps given = leaves_with objects code (reason.Raising (record { number = v.number })) (drop 1 kinds) blocks s goes given.1 given.0
   raised_fits i v (Some raise.RaiseCause) is_op operand kind_is keeps given = causes_fit i v s.phase refl is_op operand kind_is keeps given
 
+  -- a manager is entered, or has no exit
+  entered_fit : (to : ℕ) (v : Obj) → is_prefix unit.op ≡ false → keeps_own (sheet_of code) s.at SetupWith to kinds blocks ≡ true → Has objects code kinds blocks s → Led (entered to v s)
+  entered_fit to v plain keeps has =
+      let rest = takes_rest (kind.Any ∷ []) kinds blocks (λ rest. opens (sheet_of code) s.at to (kind.Any ∷ kind.Any ∷ rest) (note.Finally (suc (length rest)) to ∷ blocks)) keeps in
+      let may = (and_parts (is_label code.code.code.instructions.items to) (goes_with (kind.Any ∷ kind.Any ∷ drop 1 kinds) (note.Finally (suc (length (drop 1 kinds))) to ∷ blocks)) rest.0).1 in
+      let level : length s.stack ≡ suc (length (drop 1 kinds)) = omega (arith, kinds_counted objects s.stack kinds has.holds, length-drop 1 kinds, rest.2) in
+      let block : IsBlock objects (record { typ = Finally to; level = length s.stack }) (note.Finally (suc (length (drop 1 kinds))) to) = record { number = refl; level = level; handler = refl; waits = tt } in
+      goes_behind plain (kind.Any ∷ kind.Any ∷ drop 1 kinds) (note.Finally (suc (length (drop 1 kinds))) to ∷ blocks) (v ∷ s.stack) (record { typ = Finally to; level = length s.stack } ∷ s.blocks) may
+      (tt, any_top objects s.stack kinds has.holds rest.2) (block, has.blocks) has.locals
+
+  no_exit_fits : (m : Obj) → unit.op ≡ SetupWith → Has objects code kinds blocks s → Led (asks_again (request.NoExit m) s)
+  no_exit_fits m is_op has =
+      let t : State = record s { phase = suc s.phase; wants = expect.Answer want.NoValue } in
+      let waits : left_of unit.op (with_byte s.prefix unit.arg) (suc s.phase) kinds blocks ≡ Some (record { kinds = kinds; blocks = blocks; wanted = want.NoValue }) = rw is_op refl in
+      let left_has : Has objects code kinds blocks t = record { holds = has.holds; blocks = has.blocks; handlers = has.handlers; room = has.room; block_room = has.block_room; locals = has.locals } in
+      record { unit = unit; is = is; kinds = kinds; block_notes = blocks; note = note_is; left = record { kinds = kinds; blocks = blocks; wanted = want.NoValue }; waits = waits; wanted = refl; has = left_has; carries = carries }
+
+  enters_top_fit : (to : ℕ) (v : Obj) → unit.op ≡ SetupWith → keeps_own (sheet_of code) s.at SetupWith to kinds blocks ≡ true → Has objects code kinds blocks s → (stack : List Obj) → 1 ≤ length stack
+      → AlwaysLeads objects (Fits objects code) (enters_top stack to v s)
+  enters_top_fit to v is_op keeps has [] some = absurd (omega (arith, some))
+  enters_top_fit to v is_op keeps has (m ∷ rest) some = by_test
+    where
+      by_test : (b : Bool) → Led (cond b (entered to v s) (asks_again (request.NoExit m) s))
+      by_test true = entered_fit to v (ap is_prefix is_op) keeps has
+      by_test false = no_exit_fits m is_op has
+
+  enters_fit : (to : ℕ) (v : Obj) (n : ℕ) → unit.op ≡ SetupWith → with_byte s.prefix unit.arg ≡ to → keeps_own (sheet_of code) s.at SetupWith to kinds blocks ≡ true → Given v (with_left n kinds blocks)
+      → AlwaysLeads objects (Fits objects code) (enters n to v s)
+  enters_fit to v zero is_op operand keeps given =
+      let rest = takes_rest (kind.Any ∷ []) kinds blocks (λ rest. opens (sheet_of code) s.at to (kind.Any ∷ kind.Any ∷ rest) (note.Finally (suc (length rest)) to ∷ blocks)) keeps in
+      enters_top_fit to v is_op keeps given.0 s.stack (omega (arith, kinds_counted objects s.stack kinds given.0.holds, rest.2))
+  enters_fit to v (suc n) is_op operand keeps given = absurd given.1
+
   own_answered : (op : Instruction) (i : ℕ) (v : Obj) → unit.op ≡ op → with_byte s.prefix unit.arg ≡ i → keeps_own (sheet_of code) s.at op i kinds blocks ≡ true → Given v (left_own op i s.phase kinds blocks) → AlwaysLeads objects (Fits objects code) (answered_own op i v s)
   own_answered LoadFast i v is_op operand keeps given = absurd given.1
   own_answered DeleteFast i v is_op operand keeps given = absurd given.1
   own_answered JumpIfTrue to v is_op operand keeps given = (given.1, λ b. ways_fit (ap is_prefix is_op) to keeps given.0 b)
   own_answered JumpIfFalse to v is_op operand keeps given = (given.1, λ b. ways_fit (ap is_prefix is_op) to keeps given.0 (not b))
-  own_answered SetupWith to v is_op operand keeps given =
-      let rest = takes_rest (kind.Any ∷ []) kinds blocks (λ rest. opens (sheet_of code) s.at to (kind.Any ∷ kind.Any ∷ rest) (note.Finally (suc (length rest)) to ∷ blocks)) keeps in
-      let may = (and_parts (is_label code.code.code.instructions.items to) (goes_with (kind.Any ∷ kind.Any ∷ drop 1 kinds) (note.Finally (suc (length (drop 1 kinds))) to ∷ blocks)) rest.0).1 in
-      let level : length s.stack ≡ suc (length (drop 1 kinds)) = omega (arith, kinds_counted objects s.stack kinds given.0.holds, length-drop 1 kinds, rest.2) in
-      let block : IsBlock objects (record { typ = Finally to; level = length s.stack }) (note.Finally (suc (length (drop 1 kinds))) to) = record { number = refl; level = level; handler = refl; waits = tt } in
-      goes_behind (ap is_prefix is_op) (kind.Any ∷ kind.Any ∷ drop 1 kinds) (note.Finally (suc (length (drop 1 kinds))) to ∷ blocks) (v ∷ s.stack) (record { typ = Finally to; level = length s.stack } ∷ s.blocks) may
-      (tt, any_top objects s.stack kinds given.0.holds rest.2) (block, given.0.blocks) given.0.locals
+  own_answered SetupWith to v is_op operand keeps given = enters_fit to v s.phase is_op operand keeps given
   own_answered WithCleanupStart i v is_op operand keeps given = starts_fit (ap is_prefix is_op) v blocks keeps given.0
   own_answered WithCleanupFinish i v is_op operand keeps given = (given.1, λ b. passes_fit (ap is_prefix is_op) blocks keeps given.0 b s.stack given.0.holds)
   own_answered Raise i v is_op operand keeps given = raised_fits i v (slice_get raise_kinds i) is_op operand refl keeps given

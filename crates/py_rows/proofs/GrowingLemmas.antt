@@ -25,7 +25,7 @@ use Rattle.py_rows.specs.Answers.{HasKind, IsValue}
 use Rattle.py_objects.specs.declared.event.GotAnswer.{GotAnswer}
 use Rattle.py_objects.specs.declared.event.ResumeHow.TheVariants as how
 use Rattle.py_objects.specs.Own.{Own, Resumes, Gets}
-use Rattle.py_rows.specs.States.{Setting, Step, Goes, Tells, Move, Plainly, Loads, Decides, Exits}
+use Rattle.py_rows.specs.States.{Setting, Step, Goes, Tells, Move, Plainly, Loads, Decides, Manages, Exits}
 use Rattle.py_rows.specs.Receiving.{moves}
 use Rattle.py_rows.specs.RunOfRows.{IsExit, MayLead, Hears, Steps, silent, telling, hearing, Runs, none, on}
 use Rattle.py_rows.specs.Answers.{IsAnswer}
@@ -137,6 +137,7 @@ lead_grown : (objects objects' : List Payload) → Grows objects objects' → (m
 lead_grown objects objects' grows (Plainly done) step may = may
 lead_grown objects objects' grows (Loads p f) step (v, has, is) = (v, payload_grown objects objects' v p grows has, is)
 lead_grown objects objects' grows (Decides v f) step (b, has, is) = (b, payload_grown objects objects' v _ grows has, is)
+lead_grown objects objects' grows (Manages m f) step (b, (p, has, manages), is) = (b, (p, payload_grown objects objects' m p grows has, manages), is)
 lead_grown objects objects' grows (Exits e f) step (t, v, b, exits, is) = (t, v, b, exit_grown e exits, is)
   where
     exit_grown : (e : _) → IsExit objects e t v b → IsExit objects' e t v b

@@ -33,11 +33,11 @@ use Rattle.py_rows.specs.declared.block.UnwindReason.{UnwindReason}
 use Rattle.py_rows.specs.declared.block.UnwindReason.TheVariants as reason
 use Rattle.py_rows.specs.declared.expect.Expect.{Expect}
 use Rattle.py_rows.specs.declared.expect.Expect.TheVariants as expect
-use Rattle.py_rows.specs.States.{Setting, State, Step, Goes, Tells, Stuck, Move, Plainly, Loads, Decides, Exits, begun, next, waiting, with_stack, landed, jumps}
+use Rattle.py_rows.specs.States.{Setting, State, Step, Goes, Tells, Stuck, Move, Plainly, Loads, Decides, Manages, Exits, begun, next, waiting, with_stack, landed, jumps}
 use Rattle.py_rows.specs.Handled.{entered_by, handled_by, handled_in, AllKeep, Keeps, KeepsSlot}
 use Rattle.py_rows.specs.Unwinding.{left, left_handler, meets, unwind, unwinds}
 use Rattle.py_rows.specs.Asked.{asked}
-use Rattle.py_rows.specs.Receiving.{jumps_if, passes_if, causes, raised, answered_by, answered_own, unit_answered, moves}
+use Rattle.py_rows.specs.Receiving.{entered, asks_again, enters_top, enters, jumps_if, passes_if, causes, raised, answered_by, answered_own, unit_answered, moves}
 use Rattle.py_rows.specs.RunOfRows.{Hears, MayLead, started, Steps, silent, telling, hearing}
 use Rattle.py_rows.specs.Standing.{IsPlaced, IsOf, IsStanding}
 
@@ -64,6 +64,7 @@ module _ (first : Option PyBaseExceptionRef) (at last : ℕ) where
   AllLed (Plainly step) = Led step
   AllLed (Loads p f) = (v : Obj) → Led (f v)
   AllLed (Decides v f) = (b : Bool) → Led (f b)
+  AllLed (Manages m f) = (b : Bool) → Led (f b)
   AllLed (Exits e f) = (t v b : Obj) → Led (f t v b)
 
   same : (s t : State) → t.blocks ≡ s.blocks → t.slot ≡ s.slot → KeepsSlot first s → KeepsSlot first t
@@ -266,10 +267,22 @@ module _ (first : Option PyBaseExceptionRef) (at last : ℕ) where
   passes_led true e s k = on_same s _ refl refl refl refl k
   passes_led false e s k = unwinds_led _ s k
 
+  entered_led : (b : Bool) (m : Obj) (to : ℕ) (v : Obj) (s : State) → Stands s → Led (cond b (entered to v s) (asks_again (request.NoExit m) s))
+  entered_led true m to v s k = on_with s _ refl refl (record { slot = k.kept.slot; outer = (tt, k.kept.outer) }) k
+  entered_led false m to v s k = asks_led (request.NoExit m) _ (still s _ refl refl refl refl refl k)
+
+  enters_top_led : (stack : List Obj) (to : ℕ) (v : Obj) (s : State) → Stands s → AllLed (enters_top stack to v s)
+  enters_top_led [] to v s k = tt
+  enters_top_led (m ∷ rest) to v s k = λ b. entered_led b m to v s k
+
+  enters_led : (n to : ℕ) (v : Obj) (s : State) → Stands s → AllLed (enters n to v s)
+  enters_led zero to v s k = enters_top_led s.stack to v s k
+  enters_led (suc n) to v s k = tt
+
   own_answer_led : (op : Instruction) (i : ℕ) (v : Obj) (s : State) → Stands s → AllLed (answered_own op i v s)
   own_answer_led JumpIfTrue to v s k = λ b. jumps_if_led b to s k
   own_answer_led JumpIfFalse to v s k = λ b. jumps_if_led (not b) to s k
-  own_answer_led SetupWith to v s k = on_with s _ refl refl (record { slot = k.kept.slot; outer = (tt, k.kept.outer) }) k
+  own_answer_led SetupWith to v s k = enters_led s.phase to v s k
   own_answer_led WithCleanupStart i v s k = on_same s _ refl refl refl refl k
   own_answer_led WithCleanupFinish i v s k = λ b. off_led s.stack _ (λ e rest. passes_led b e _ (still s _ refl refl refl refl refl k))
   own_answer_led Raise i v s k = raised_led (slice_get raise_kinds i) v s k
@@ -286,6 +299,7 @@ module _ (first : Option PyBaseExceptionRef) (at last : ℕ) where
   may_led objects (Plainly done) step all may = subst Led may all
   may_led objects (Loads p f) step all (v, has, is) = subst Led is (all v)
   may_led objects (Decides v f) step all (b, has, is) = subst Led is (all b)
+  may_led objects (Manages m f) step all (b, manages, is) = subst Led is (all b)
   may_led objects (Exits e f) step all (t, v, b, exits, is) = subst Led is (all t v b)
 
 -- the place behind the unit that was begun last, where a frame makes a step that expects this

@@ -23,7 +23,7 @@ use Rattle.py_rows.specs.declared.expect.Wanted.TheVariants as want
 use Rattle.py_rows.specs.declared.expect.Expect.{Expect}
 use Rattle.py_rows.specs.declared.expect.Expect.TheVariants as expect
 use Rattle.py_rows.specs.declared.block.UnwindReason.TheVariants as reason
-use Rattle.py_rows.specs.States.{State, Step, Goes, Tells, Stuck, Move, Plainly, Loads, Decides, Exits, begun, waiting}
+use Rattle.py_rows.specs.States.{State, Step, Goes, Tells, Stuck, Move, Plainly, Loads, Decides, Manages, Exits, begun, waiting}
 use Rattle.py_rows.specs.Answers.{IsValue}
 use Rattle.py_rows.specs.Rows.{unit_move}
 use Rattle.py_rows.specs.Receiving.{unit_answered, moves}
@@ -115,6 +115,7 @@ module _ (objects : List Payload) (names : List (List ℕ)) (globals : Obj) (cod
   led (Plainly done) step all may = subst (LeadsTo (Fits objects code)) may all
   led (Loads p f) step all (v, has, is) = subst (LeadsTo (Fits objects code)) is (all v has)
   led (Decides v f) step all (b, has, is) = subst (LeadsTo (Fits objects code)) is (all.1 b)
+  led (Manages m f) step all (b, manages, is) = subst (LeadsTo (Fits objects code)) is (all b)
   led (Exits e f) step all (t, v, b, exits, is) = subst (LeadsTo (Fits objects code)) is (all.1 t v b)
 
   if_led : (step : Step) → LeadsTo (Fits objects code) step → IfLeads (Fits objects code) step

@@ -32,12 +32,12 @@ use Rattle.py_rows.specs.declared.block.UnwindReason.{UnwindReason}
 use Rattle.py_rows.specs.declared.block.UnwindReason.TheVariants as reason
 use Rattle.py_rows.specs.declared.expect.Expect.{Expect}
 use Rattle.py_rows.specs.declared.expect.Expect.TheVariants as expect
-use Rattle.py_rows.specs.States.{Setting, State, Step, Goes, Tells, Stuck, Move, Plainly, Loads, Decides, Exits, begun, next, waiting, with_stack, pushed, landed, jumps}
+use Rattle.py_rows.specs.States.{Setting, State, Step, Goes, Tells, Stuck, Move, Plainly, Loads, Decides, Manages, Exits, begun, next, waiting, with_stack, pushed, landed, jumps}
 use Rattle.py_rows.specs.Handled.{entered_by, entered_if, handled_by, handled_in}
 use Rattle.py_rows.specs.Unwinding.{left, left_handler, meets, unwind, unwinds}
 use Rattle.py_rows.specs.Asked.{asked}
 use Rattle.py_rows.specs.Rows.{asks, is_there, reaches, loads, or_stuck, payload_of, asks_if, takes_off, where_there, acts_by, load_fast, delete_fast, if_popped, pop_block, pop_type, pop_exception, finally_type, in_finally, goes_on, raised_by, raised_of, raised_in, finishes, raises, act_own, unit_move}
-use Rattle.py_rows.specs.Receiving.{jumps_if, passes_if, causes, raised, answered_by, answered_own, unit_answered, moves}
+use Rattle.py_rows.specs.Receiving.{entered, asks_again, enters_top, enters, jumps_if, passes_if, causes, raised, answered_by, answered_own, unit_answered, moves}
 use Rattle.py_rows.specs.RunOfRows.{Hears, IsExit, MayLead, filled, started, Steps, silent, telling, hearing}
 use Rattle.py_rows.proofs.BelowLemmas.{joined_below, drop_below, take_below, values_below, picked_below}
 use Rattle.py_rows.proofs.AskingLemmas.{Asks, AsksAny, operand_there, asked_as}
@@ -110,6 +110,7 @@ module _ (n : ℕ) where
   AllLed (Plainly step) = Led step
   AllLed (Loads p f) = (v : Obj) → v.number < n → Led (f v)
   AllLed (Decides v f) = (b : Bool) → Led (f b)
+  AllLed (Manages m f) = (b : Bool) → Led (f b)
   AllLed (Exits e f) = AllBelow n (number_if e) × ((t v b : Obj) → t.number < n → v.number < n → b.number < n → Led (f t v b))
 
   stacked : {stack new : List Obj} {locals : List (Option Obj)} {blocks : List Block} {slot : Option PyBaseExceptionRef} {wants : Expect} → AllBelow n (numbers new) → HeldBelow n stack locals blocks slot wants → HeldBelow n new locals blocks slot wants
@@ -330,10 +331,22 @@ module _ (n : ℕ) where
   passes_led true e s low h = h
   passes_led false e s low h = unwinds_led _ s low h
 
+  entered_led : (b : Bool) (m : Obj) (to : ℕ) (v : Obj) (s : State) → m.number < n → v.number < n → HoldsBelow n s → Led (cond b (entered to v s) (asks_again (request.NoExit m) s))
+  entered_led true m to v s m_low low h = stacked (low, h.in_stack) (blocked (tt, h.in_blocks) h)
+  entered_led false m to v s m_low low h = asks_led (request.NoExit m) (record s { phase = suc s.phase }) (m_low, tt) h
+
+  enters_top_led : (stack : List Obj) (to : ℕ) (v : Obj) (s : State) → AllBelow n (numbers stack) → v.number < n → HoldsBelow n s → AllLed (enters_top stack to v s)
+  enters_top_led [] to v s below low h = tt
+  enters_top_led (m ∷ rest) to v s below low h = λ b. entered_led b m to v s below.0 low h
+
+  enters_led : (k to : ℕ) (v : Obj) (s : State) → v.number < n → HoldsBelow n s → AllLed (enters k to v s)
+  enters_led zero to v s low h = enters_top_led s.stack to v s h.in_stack low h
+  enters_led (suc k) to v s low h = tt
+
   own_answer_led : (op : Instruction) (i : ℕ) (v : Obj) (s : State) → v.number < n → HoldsBelow n s → AllLed (answered_own op i v s)
   own_answer_led JumpIfTrue to v s low h = λ b. jumps_if_led b to s h
   own_answer_led JumpIfFalse to v s low h = λ b. jumps_if_led (not b) to s h
-  own_answer_led SetupWith to v s low h = stacked (low, h.in_stack) (blocked (tt, h.in_blocks) h)
+  own_answer_led SetupWith to v s low h = enters_led s.phase to v s low h
   own_answer_led WithCleanupStart i v s low h = stacked (low, h.in_stack) h
   own_answer_led WithCleanupFinish i v s low h = λ b. off_led s.stack _ h.in_stack (λ e rest e_low under. passes_led b e (with_stack rest s) e_low (stacked under h))
   own_answer_led Raise i v s low h = raised_led (slice_get raise_kinds i) v s low h
@@ -373,6 +386,7 @@ may_led : (objects : List Payload) (m : Move) (step : Step) → AllLed (length o
 may_led objects (Plainly done) step all may = subst (Led (length objects)) may all
 may_led objects (Loads p f) step all (v, has, is) = subst (Led (length objects)) is (all v (slice_get_within objects v.number p has))
 may_led objects (Decides v f) step all (b, has, is) = subst (Led (length objects)) is (all b)
+may_led objects (Manages m f) step all (b, manages, is) = subst (Led (length objects)) is (all b)
 may_led objects (Exits e f) step all (t, v, b, exits, is) = let low = exit_low e all.0 exits in subst (Led (length objects)) is (all.1 t v b low.0 low.1 low.2)
   where
     exit_low : (e : Option PyBaseExceptionRef) → AllBelow (length objects) (number_if e) → IsExit objects e t v b → (t.number < length objects) × (v.number < length objects) × (b.number < length objects)

@@ -139,13 +139,18 @@ raise_left (Some raise.Reraise) phase ks bs = Some (record { kinds = ks; blocks 
 raise_left (Some raise.Raise) phase ks bs = Some (record { kinds = drop 1 ks; blocks = bs; wanted = want.Of kind.Exc })
 raise_left (Some raise.RaiseCause) phase ks bs = cause_left phase ks bs
 
+-- while a manager is entered, and then its exit, which isn't there, is asked for
+abbrev pub with_left : ℕ → List Kind → List BlockNote → Option Waiting
+with_left zero ks bs = Some (record { kinds = ks; blocks = bs; wanted = want.Of kind.Any })
+with_left (suc n) ks bs = Some (record { kinds = ks; blocks = bs; wanted = want.NoValue })
+
 -- the instructions that wait for an answer, or for what is sent
 abbrev pub left_own : Instruction → ℕ → ℕ → List Kind → List BlockNote → Option Waiting
 left_own LoadFast i phase ks bs = Some (record { kinds = ks; blocks = bs; wanted = want.NoValue })
 left_own DeleteFast i phase ks bs = Some (record { kinds = ks; blocks = bs; wanted = want.NoValue })
 left_own JumpIfTrue i phase ks bs = Some (record { kinds = drop 1 ks; blocks = bs; wanted = want.Truth })
 left_own JumpIfFalse i phase ks bs = Some (record { kinds = drop 1 ks; blocks = bs; wanted = want.Truth })
-left_own SetupWith i phase ks bs = Some (record { kinds = ks; blocks = bs; wanted = want.Of kind.Any })
+left_own SetupWith i phase ks bs = with_left phase ks bs
 left_own WithCleanupStart i phase ks bs = Some (record { kinds = ks; blocks = bs; wanted = want.Of kind.Any })
 left_own WithCleanupFinish i phase ks bs = Some (record { kinds = kind.Exc ∷ drop 2 ks; blocks = drop 1 bs; wanted = want.Truth })
 left_own Raise i phase ks bs = raise_left (slice_get raise_kinds i) phase ks bs

@@ -11,7 +11,7 @@ use Rattle.py_check.specs.declared.annotated.Annotated.{Annotated}
 use Rattle.py_check.specs.Depths.{deepest}
 use Rattle.py_rows.specs.declared.expect.Expect.{Expect}
 use Rattle.py_rows.specs.declared.expect.Expect.TheVariants as expect
-use Rattle.py_rows.specs.States.{Setting, State, Step, Goes, Tells, Stuck, Move, Plainly, Loads, Decides, Exits}
+use Rattle.py_rows.specs.States.{Setting, State, Step, Goes, Tells, Stuck, Move, Plainly, Loads, Decides, Manages, Exits}
 use Rattle.py_rows.specs.Handled.{KeepsSlot}
 use Rattle.py_check.specs.declared.note.Kind.TheVariants as kind
 use Rattle.py_rows.specs.Answers.{HasKind}
@@ -37,6 +37,7 @@ abbrev pub AlwaysLeads : List Payload → (State → Type 0) → Move → Type 0
 AlwaysLeads objects P (Plainly step) = LeadsTo P step
 AlwaysLeads objects P (Loads p f) = (v : Obj) → HasPayload objects v p → LeadsTo P (f v)
 AlwaysLeads objects P (Decides v f) = ((b : Bool) × HasPayload objects v (payload.Bool b)) × ((b : Bool) → LeadsTo P (f b))
+AlwaysLeads objects P (Manages m f) = (b : Bool) → LeadsTo P (f b)
 AlwaysLeads objects P (Exits e f) = RaisedThere objects e × ((t v b : Obj) → LeadsTo P (f t v b))
 
 -- the stack and the blocks are within the sizes

@@ -1,5 +1,5 @@
 -- What a frame does by what it hears, an equation an instruction that waits.
-use Rattle.std.specs.Prelude.{ℕ, zero, suc, Option, Some, None, ◌++◌, slice_get, length, Bool, not, option_map, if◌then◌else◌}
+use Rattle.std.specs.Prelude.{ℕ, zero, suc, Option, Some, None, List, [], ◌∷◌, ◌++◌, slice_get, length, Bool, not, option_map, if◌then◌else◌}
 use Rattle.py_code.specs.declared.instruction.Instruction.{Instruction}
 use Rattle.py_code.specs.declared.instruction.Instruction.TheVariants.{JumpIfTrue, JumpIfFalse, SetupWith, WithCleanupStart, WithCleanupFinish, Raise, YieldValue}
 use Rattle.py_code.specs.declared.unit.CodeUnit.{CodeUnit}
@@ -18,7 +18,7 @@ use Rattle.py_rows.specs.declared.block.BlockType.TheVariants.{Finally}
 use Rattle.py_rows.specs.declared.block.UnwindReason.TheVariants as reason
 use Rattle.py_rows.specs.declared.expect.Expect.{Expect}
 use Rattle.py_rows.specs.declared.expect.Expect.TheVariants as expect
-use Rattle.py_rows.specs.States.{Setting, State, Step, Goes, Stuck, Move, Plainly, Decides, next, waiting, with_stack, pushed, opened, jumps}
+use Rattle.py_rows.specs.States.{Setting, State, Step, Goes, Stuck, Move, Plainly, Decides, Manages, next, waiting, with_stack, pushed, opened, jumps}
 use Rattle.py_rows.specs.Unwinding.{unwinds}
 use Rattle.py_rows.specs.Answers.{wanted}
 use Rattle.py_rows.specs.Rows.{asks, takes_off, as_exception, advance}
@@ -45,6 +45,16 @@ answered_by Other own v s = own
 abbrev pub asks_again : Request → State → Step
 asks_again r s = asks r (record s { phase = suc s.phase })
 
+-- an object, the top, was entered; one that is no manager has no exit, which is asked for next
+abbrev pub enters_top : List Obj → ℕ → Obj → State → Move
+enters_top [] to v s = Plainly Stuck
+enters_top (m ∷ rest) to v s = Manages m (λ b. if b then entered to v s else asks_again (request.NoExit m) s)
+
+-- only the first answer is a value
+abbrev pub enters : ℕ → ℕ → Obj → State → Move
+enters zero to v s = enters_top s.stack to v s
+enters (suc n) to v s = Plainly Stuck
+
 -- a raise with a cause: the exception is asked for behind the cause, and raised
 abbrev pub causes : ℕ → Obj → State → Step
 causes zero v s = takes_off s.stack (λ w rest. asks_again (request.Raisable w) (with_stack rest s))
@@ -61,7 +71,7 @@ raised (Some raise.RaiseCause) v s = causes s.phase v s
 abbrev pub answered_own : Instruction → ℕ → Obj → State → Move
 answered_own JumpIfTrue to v s = Decides v (λ b. jumps_if b to s)
 answered_own JumpIfFalse to v s = Decides v (λ b. jumps_if (not b) to s)
-answered_own SetupWith to v s = Plainly (entered to v s)
+answered_own SetupWith to v s = enters s.phase to v s
 answered_own WithCleanupStart i v s = Plainly (Goes (pushed v (next s)))
 answered_own WithCleanupFinish i v s = Decides v (λ b. takes_off s.stack (λ e rest. passes_if b e (with_stack rest s)))
 answered_own Raise i v s = Plainly (raised (slice_get raise_kinds i) v s)

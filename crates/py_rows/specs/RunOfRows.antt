@@ -1,5 +1,5 @@
 -- A run of the rows of a code: which own events an activation may tell, step by step, and where it has come to.
-use Rattle.std.specs.Prelude.{ℕ, ◌<◌, zero, suc, Bool, true, ◌||◌, ◌==◌, Option, Some, None, List, [], ◌∷◌, ◌++◌, ◌≡◌, length}
+use Rattle.std.specs.Prelude.{ℕ, ◌<◌, zero, suc, Bool, true, false, ◌||◌, ◌==◌, Option, Some, None, List, [], ◌∷◌, ◌++◌, ◌≡◌, length}
 use Rattle.py_code.specs.declared.code.PyCode.{PyCode}
 use Rattle.py_objects.specs.declared.refs.PyBaseExceptionRef.{PyBaseExceptionRef}
 use Rattle.py_objects.specs.declared.payload.Payload.{Payload}
@@ -14,7 +14,7 @@ use Rattle.py_check.specs.Rules.{counts_if}
 use Rattle.py_check.specs.declared.note.Kind.TheVariants as kind
 use Rattle.py_rows.specs.declared.expect.Expect.{Expect}
 use Rattle.py_rows.specs.declared.expect.Expect.TheVariants as expect
-use Rattle.py_rows.specs.States.{Setting, State, Step, Goes, Tells, Move, Plainly, Loads, Decides, Exits, waiting}
+use Rattle.py_rows.specs.States.{Setting, State, Step, Goes, Tells, Move, Plainly, Loads, Decides, Manages, Exits, waiting}
 use Rattle.py_rows.specs.Answers.{HasKind, IsAnswer}
 use Rattle.py_rows.specs.Receiving.{moves}
 
@@ -24,11 +24,17 @@ abbrev pub IsExit : List Payload → Option PyBaseExceptionRef → Obj → Obj �
 IsExit objects None t v b = HasPayload objects t payload.None × HasPayload objects v payload.None × HasPayload objects b payload.None
 IsExit objects (Some e) t v b = (v ≡ as_object e) × ((body : ExceptionBody) × HasPayload objects v (payload.Exception body) × (t ≡ class_object body.class)) × (t.number < length objects) × (b.number < length objects)
 
+-- whether a payload is a manager, which has an exit
+abbrev pub is_manager : Payload → Bool
+is_manager (payload.Manager m) = true
+is_manager _ = false
+
 -- a move may lead to a step
 abbrev pub MayLead : List Payload → Move → Step → Type 0
 MayLead objects (Plainly step) done = step ≡ done
 MayLead objects (Loads p f) done = (v : Obj) × HasPayload objects v p × (f v ≡ done)
 MayLead objects (Decides v f) done = (b : Bool) × HasPayload objects v (payload.Bool b) × (f b ≡ done)
+MayLead objects (Manages m f) done = (b : Bool) × ((p : Payload) × HasPayload objects m p × (is_manager p ≡ b)) × (f b ≡ done)
 MayLead objects (Exits e f) done = (t : Obj) × (v : Obj) × (b : Obj) × IsExit objects e t v b × (f t v b ≡ done)
 
 -- the flags of generators and coroutines: an exception may be thrown into their frames, also into one that hasn't begun
