@@ -3,7 +3,7 @@ use Rattle.std.proofs.Common.{◌≡◌, ◌<◌, ℕ, zero, suc, List, [], ◌�
 use Rattle.std.specs.Prelude.{Option, slice_get, slice_set, bytes_eq, ◌||◌}
 use Rattle.std.specs.List.{list_any}
 use Rattle.py_objects.specs.Objects.{Obj}
-use Rattle.py_frame.specs.RunOfRows.{filled}
+use Rattle.py_rows.specs.RunOfRows.{filled}
 use Rattle.py_body.specs.Tree.{Name}
 use Rattle.py_body.specs.Binding.{Env, find_local, set_local, begun}
 use Rattle.py_body.specs.Code.{place}

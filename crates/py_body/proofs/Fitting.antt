@@ -4,8 +4,7 @@ use Rattle.py_code.specs.declared.code.PyCode.{PyCode}
 use Rattle.py_code.specs.declared.code.CodeObject.{CodeObject}
 use Rattle.py_code.specs.Literals.{literals_of}
 use Rattle.py_check.specs.declared.annotated.Annotated.{Annotated}
-use Rattle.py_frame.specs.Signature.{params_of}
-use Rattle.py_frame.proofs.SignatureLemmas.{params_stay}
+use Rattle.py_rows.specs.Signature.{params_of}
 use Rattle.py_body.specs.Tree.{Name, Tree}
 use Rattle.py_body.specs.Binding.{locals_of}
 use Rattle.py_body.specs.Compilable.{IsCompilable}
@@ -14,7 +13,7 @@ use Rattle.py_body.specs.Depths.{notes_of}
 use Rattle.py_body.specs.Emitting.{IsEmitted}
 use Rattle.py_body.specs.Fits.{Fits, Continues}
 use Rattle.py_body.specs.Naming.{IsNamed}
-use Rattle.py_body.proofs.NamingLemmas.{NamesAll-below, NamesAll-grown, params_named}
+use Rattle.py_body.proofs.NamingLemmas.{NamesAll-below, NamesAll-grown, params_named, params_stay}
 use Rattle.py_body.proofs.Tracing.{traces_laid}
 use Rattle.py_body.proofs.TypedCode.{typed_code}
 
@@ -54,10 +53,12 @@ fits_emitted table globals code t compilable emitted laid plain noted named = re
       globals = λ i id here. NamesAll-below table _ globals i id named.names here;
     };
   };
-  traces = λ grown dict objects args ts grows same run.
-      traces_laid globals code.code t compilable laid grown dict (NamesAll-grown table grown _ globals grows named.names) (NamesAll-grown table grown _ (locals_of t) grows named.varnames) objects args ts same run;
+  traces = λ grown dict objects slot args ts s grows same run.
+      traces_laid (record { code = code.code; names = grown; globals = dict }) t globals compilable laid plain (NamesAll-grown table grown _ globals grows named.names)
+          (NamesAll-grown table grown _ (locals_of t) grows named.varnames) objects slot args ts s same run;
 }
 
 -- the parameters stay where the table goes on
 pub params_continue : (table longer : List (List ℕ)) (code : Annotated) (t : Tree) → Continues table longer → Fits table code t → params_of longer code.code ≡ t.params
-params_continue table longer code t (more, is) fits = ap (λ (names : List (List ℕ)). params_of names code.code) is ∙ params_stay table more code.code fits.sound.named ∙ fits.params
+params_continue table longer code t (more, is) fits =
+    ap (λ (names : List (List ℕ)). params_of names code.code) is ∙ params_stay table more code.code.code.arg_count code.code.code.varnames.items fits.sound.named.locals ∙ fits.params

@@ -1,5 +1,7 @@
 -- the locals of a frame as those of a body
 pub mod Env
+-- runs read from the front
+pub mod Reaching
 -- runs over a unit and its prefixes
 pub mod Decoding
 -- where laid code stands

@@ -12,8 +12,8 @@ use Rattle.py_code.specs.declared.code.CodeObject.{CodeObject}
 use Rattle.py_code.specs.declared.code.PyCode.{PyCode}
 use Rattle.py_code.specs.declared.names.NameId.{NameId}
 use Rattle.py_code.specs.Names.{interned}
-use Rattle.py_frame.specs.Rows.{name_in}
-use Rattle.py_frame.specs.Signature.{characters, params_of}
+use Rattle.py_rows.specs.Asked.{name_in}
+use Rattle.py_rows.specs.Signature.{characters, params_of}
 use Rattle.py_body.specs.Tree.{Name, Tree}
 use Rattle.py_body.specs.Binding.{locals_of}
 use Rattle.py_body.specs.Naming.{IsNameOf, IsNameFor, NamesAll, IsNamed}
@@ -113,6 +113,16 @@ named_params table (id ∷ ids) (x ∷ xs) zero named = refl
 named_params table (id ∷ ids) (x ∷ xs) (suc n) (((low, is), spells), rest) =
     let one : characters (name_in table (Some id)) ≡ x = ap (λ (o : Option (List ℕ)). characters (option_map chars o)) is ∙ spells in
     let others = named_params table ids xs n rest in
+    λ k. one k ∷ others k
+
+-- the names of the first places stay, where the table goes on
+pub params_stay : (table more : List (List ℕ)) (n : ℕ) (ids : List NameId) → ((i : ℕ) (id : NameId) → slice_get ids i ≡ Some id → id.index < length table)
+    → map (λ id. characters (name_in (table ++ more) (Some id))) (take n ids) ≡ map (λ id. characters (name_in table (Some id))) (take n ids)
+params_stay table more zero ids there = refl
+params_stay table more (suc n) [] there = refl
+params_stay table more (suc n) (id ∷ ids) there =
+    let one : characters (name_in (table ++ more) (Some id)) ≡ characters (name_in table (Some id)) = ap (λ (o : Option (List ℕ)). characters (option_map chars o)) (slice_get-front table more id.index (there zero id refl)) in
+    let others = params_stay table more n ids (λ i k here. there (suc i) k here) in
     λ k. one k ∷ others k
 
 -- the first locals of a body are its parameters

@@ -8,7 +8,9 @@ use Rattle.py_code.specs.declared.flags.TheConstants.CodeFlags.{HAS_VARARGS, HAS
 use Rattle.py_check.specs.declared.annotated.Annotated.{Annotated}
 use Rattle.py_check.specs.declared.note.Note.{Note}
 use Rattle.py_check.specs.Sheet.{Sheet, sheet_of}
-use Rattle.py_check.specs.Rules.{is_start, counts_match, counts_if, parameters, parameters_fit, cells_fit, keeps_whole, IsTyped}
+use Rattle.py_check.specs.Rules.{is_start, counts_match, counts_if, parameters, parameters_fit, cells_fit, keeps_whole, IsTyped as IsTypedToday}
+use Rattle.py_check.specs.Typing.{IsTyped}
+use Rattle.py_check.proofs.WideningLemmas.{kept_by_all}
 use Rattle.py_body.specs.Tree.{Name, Tree}
 use Rattle.py_body.specs.Binding.{locals_of}
 use Rattle.py_body.specs.Compilable.{IsCompilable}
@@ -100,7 +102,6 @@ module _ (code : Annotated) (t : Tree) (names : List Name) (compilable : IsCompi
       (le-leb _ _ (omega (arith, plain.max_stackdepth, most-least units (length units) 256 (λ k low. (kept k (omega arith) low).1))))) emitted.matched.2
 
   pub typed_code : IsTyped code
-  typed_code = record {
-    whole = whole;
-    each = λ at low. (kept at (omega arith) low).0;
-  }
+  typed_code =
+      let today : IsTypedToday code = record { whole = whole; each = λ at low. (kept at (omega arith) low).0 } in
+      kept_by_all code today

@@ -20,5 +20,7 @@ pub mod Below
 pub mod Fitting
 -- what holds of every run
 pub mod Laws
+-- the parameters of a code
+pub mod Signature
 -- frames that leave blocks, worked by hand
 pub mod WorkedUnwinding
