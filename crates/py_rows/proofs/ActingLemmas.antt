@@ -129,7 +129,7 @@ pub drop_two : (kinds : List Kind) → drop 1 (drop 1 kinds) ≡ drop 2 kinds
 drop_two [] = refl
 drop_two (k ∷ kinds) = refl
 
-module _ (objects : List Payload) (names : List (List ℕ)) (globals : Obj) (code : Annotated) (sound : IsSound names code) (s : State) (kinds : List Kind) (blocks : List BlockNote) (unit : CodeUnit) (is : slice_get code.code.code.instructions.items s.at ≡ Some unit) (note_is : slice_get code.notes s.at ≡ Some (Live kinds blocks)) (goes : s.wants ≡ expect.Go) (fresh : s.phase ≡ 0) (has : Has objects code kinds blocks s) (carries : s.prefix ≡ carried code.code.code.instructions.items s.at) where
+module _ (objects : List Payload) (names : List (List ℕ)) (globals : Obj) (closure : List Obj) (code : Annotated) (sound : IsSound names code) (s : State) (kinds : List Kind) (blocks : List BlockNote) (unit : CodeUnit) (is : slice_get code.code.code.instructions.items s.at ≡ Some unit) (note_is : slice_get code.notes s.at ≡ Some (Live kinds blocks)) (goes : s.wants ≡ expect.Go) (fresh : s.phase ≡ 0) (has : Has objects code kinds blocks s) (carries : s.prefix ≡ carried code.code.code.instructions.items s.at) where
   abbrev Led : Step → Type 0
   Led step = LeadsTo (Fits objects code) step
 
@@ -202,7 +202,7 @@ module _ (objects : List Payload) (names : List (List ℕ)) (globals : Obj) (cod
 
   -- a local that is unset is asked for by its name
   unbound_fits : (op : Instruction) (i : ℕ) → unit.op ≡ op → with_byte s.prefix unit.arg ≡ i → left_of op i 0 kinds blocks ≡ Some (record { kinds = kinds; blocks = blocks; wanted = want.NoValue }) → nat_lt i (length code.code.code.varnames.items) ≡ true
-      → Led (asks_if (option_map (λ x. request.Unbound x) (name_of_local (record { code = code.code; names = names; globals = globals }) i)) s)
+      → Led (asks_if (option_map (λ x. request.Unbound x) (name_of_local (record { code = code.code; names = names; globals = globals; closure = closure }) i)) s)
   unbound_fits op i is_op operand left below =
       let (x, there) = named names code.code.code.varnames.items i sound.named.locals (ltb-true i (length code.code.code.varnames.items) below) in
       subst (λ (o : Option Name). Led (asks_if (option_map (λ x. request.Unbound x) o) s)) (sym there)
@@ -217,13 +217,13 @@ module _ (objects : List Payload) (names : List (List ℕ)) (globals : Obj) (cod
       not_there (x ∷ xs) (suc i) below is = not_there xs i (omega arith) is
 
   load_fast_fits : (i : ℕ) → unit.op ≡ LoadFast → with_byte s.prefix unit.arg ≡ i → nat_lt i (length code.code.code.varnames.items) ≡ true → goes_with (kind.Any ∷ kinds) blocks ≡ true → (local : Option (Option Obj)) → slice_get s.locals i ≡ local
-      → Led (load_fast (name_of_local (record { code = code.code; names = names; globals = globals }) i) local s)
+      → Led (load_fast (name_of_local (record { code = code.code; names = names; globals = globals; closure = closure }) i) local s)
   load_fast_fits i is_op operand below may None here = absurd (local_there i below here)
   load_fast_fits i is_op operand below may (Some None) here = unbound_fits LoadFast i is_op operand refl below
   load_fast_fits i is_op operand below may (Some (Some v)) here = goes_behind (ap is_prefix is_op) (kind.Any ∷ kinds) blocks (v ∷ s.stack) s.blocks s.locals s.slot may (tt, has.holds) has.blocks has.locals
 
   delete_fast_fits : (i : ℕ) → unit.op ≡ DeleteFast → with_byte s.prefix unit.arg ≡ i → nat_lt i (length code.code.code.varnames.items) ≡ true → goes_with kinds blocks ≡ true → (local : Option (Option Obj)) → slice_get s.locals i ≡ local
-      → Led (delete_fast (name_of_local (record { code = code.code; names = names; globals = globals }) i) i local s)
+      → Led (delete_fast (name_of_local (record { code = code.code; names = names; globals = globals; closure = closure }) i) i local s)
   delete_fast_fits i is_op operand below may None here = absurd (local_there i below here)
   delete_fast_fits i is_op operand below may (Some None) here = unbound_fits DeleteFast i is_op operand refl below
   delete_fast_fits i is_op operand below may (Some (Some v)) here =
@@ -404,7 +404,7 @@ module _ (objects : List Payload) (names : List (List ℕ)) (globals : Obj) (cod
 
   -- an instruction that isn't in the table leads to frames that fit
   own_fits : (op : Instruction) (i : ℕ) → unit.op ≡ op → with_byte s.prefix unit.arg ≡ i → keeps_own (sheet_of code) s.at op i kinds blocks ≡ true
-      → AlwaysLeads objects (Fits objects code) (act_own (record { code = code.code; names = names; globals = globals }) op i s)
+      → AlwaysLeads objects (Fits objects code) (act_own (record { code = code.code; names = names; globals = globals; closure = closure }) op i s)
   own_fits LoadConst i is_op operand keeps =
       loads_fit (slice_get (literals_of code.code.code.constants) i) (λ k. goes_with (k ∷ kinds) blocks) _ keeps
       (λ k v may is_kind. goes_behind (ap is_prefix is_op) (k ∷ kinds) blocks (v ∷ s.stack) s.blocks s.locals s.slot may (is_kind, has.holds) has.blocks has.locals)
@@ -465,7 +465,7 @@ module _ (objects : List Payload) (names : List (List ℕ)) (globals : Obj) (cod
 
   -- each instruction that keeps the rules does
   pub act_fits : (op : Instruction) (i : ℕ) → unit.op ≡ op → with_byte s.prefix unit.arg ≡ i → keeps_op (sheet_of code) s.at op i kinds blocks ≡ true
-      → AlwaysLeads objects (Fits objects code) (act (record { code = code.code; names = names; globals = globals }) op i s)
+      → AlwaysLeads objects (Fits objects code) (act (record { code = code.code; names = names; globals = globals; closure = closure }) op i s)
   act_fits op i is_op operand keeps =
-      by_effect op i (effect op i) (asked (record { code = code.code; names = names; globals = globals }) op i) (act_own (record { code = code.code; names = names; globals = globals }) op i s) (has_operand (sheet_of code) op i)
-      (keeps_own (sheet_of code) s.at op i kinds blocks) is_op operand (other_or_plain op i unit.op is_op) refl (asked_there names globals code sound.named op i) (own_fits op i is_op operand) keeps
+      by_effect op i (effect op i) (asked (record { code = code.code; names = names; globals = globals; closure = closure }) op i) (act_own (record { code = code.code; names = names; globals = globals; closure = closure }) op i s) (has_operand (sheet_of code) op i)
+      (keeps_own (sheet_of code) s.at op i kinds blocks) is_op operand (other_or_plain op i unit.op is_op) refl (asked_there names globals closure code sound.named op i) (own_fits op i is_op operand) keeps

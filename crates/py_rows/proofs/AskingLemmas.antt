@@ -124,19 +124,19 @@ is_named names ids i places below =
     ap is_there is
 
 -- an operand in range is there
-operand_is : (names : List (List ℕ)) (globals : Obj) (code : Annotated) → AreNames names code.code → (op : Instruction) (i : ℕ) → has_operand (sheet_of code) op i ≡ true → operand_there (record { code = code.code; names = names; globals = globals }) op i ≡ true
-operand_is names globals code are LoadGlobal i there = is_named names code.code.code.names.items i are.globals there
-operand_is names globals code are BinaryOperation i there = operator_there (slice_get binary_operators i) there
-operand_is names globals code are CompareOperation i there = comparison_there (slice_get comparison_operators i) there
-operand_is names globals code are TestOperation i there = there
-operand_is names globals code are _ i there = refl
+operand_is : (names : List (List ℕ)) (globals : Obj) (closure : List Obj) (code : Annotated) → AreNames names code.code → (op : Instruction) (i : ℕ) → has_operand (sheet_of code) op i ≡ true → operand_there (record { code = code.code; names = names; globals = globals; closure = closure }) op i ≡ true
+operand_is names globals closure code are LoadGlobal i there = is_named names code.code.code.names.items i are.globals there
+operand_is names globals closure code are BinaryOperation i there = operator_there (slice_get binary_operators i) there
+operand_is names globals closure code are CompareOperation i there = comparison_there (slice_get comparison_operators i) there
+operand_is names globals closure code are TestOperation i there = there
+operand_is names globals closure code are _ i there = refl
 
-pub asked_there : (names : List (List ℕ)) (globals : Obj) (code : Annotated) → AreNames names code.code → (op : Instruction) (i : ℕ) → has_operand (sheet_of code) op i ≡ true
-    → AsksAs (effect op i) (asked (record { code = code.code; names = names; globals = globals }) op i)
-asked_there names globals code are op i there = by_effect (effect op i) (asked setting op i) (operand_there setting op i) (operand_is names globals code are op i there) (asked_as ⊥ setting op i)
+pub asked_there : (names : List (List ℕ)) (globals : Obj) (closure : List Obj) (code : Annotated) → AreNames names code.code → (op : Instruction) (i : ℕ) → has_operand (sheet_of code) op i ≡ true
+    → AsksAs (effect op i) (asked (record { code = code.code; names = names; globals = globals; closure = closure }) op i)
+asked_there names globals closure code are op i there = by_effect (effect op i) (asked setting op i) (operand_there setting op i) (operand_is names globals closure code are op i there) (asked_as ⊥ setting op i)
   where
     setting : Setting
-    setting = record { code = code.code; names = names; globals = globals }
+    setting = record { code = code.code; names = names; globals = globals; closure = closure }
 
     wants : (pushes : Option Kind) (vs : List Obj) (r : Option Request) → Asks ⊥ setting pushes vs r → Wants pushes r
     wants pushes vs None asks = absurd asks
