@@ -69,7 +69,7 @@ module _ (objects : List Payload) (names : List (List ℕ)) (globals : Obj) (clo
     note = f.note;
     left = f.left;
     waits = f.waits;
-    wanted = f.wanted;
+    suits = f.suits;
     has = has_waiting f.left.kinds f.left.blocks x f.has;
     carries = f.carries;
   }
@@ -93,7 +93,7 @@ module _ (objects : List Payload) (names : List (List ℕ)) (globals : Obj) (clo
       subst (λ (x : CodeUnit). keeps_op (sheet_of code) s.at x.op (with_byte (carried code.code.code.instructions.items s.at) x.arg) f.kinds f.block_notes ≡ true) there kept.keeps in
       let keeps : keeps_op (sheet_of code) s.at u.op (with_byte s.prefix u.arg) f.kinds f.block_notes ≡ true =
       subst (λ (n : ℕ). keeps_op (sheet_of code) s.at u.op (with_byte n u.arg) f.kinds f.block_notes ≡ true) (sym f.carries) kept_keeps in
-      let known : Given objects code (waiting expect.Go s) f.kinds f.block_notes u f.is refl f.note f.carries v (Some f.left) = (has_waiting f.left.kinds f.left.blocks expect.Go f.has, subst (λ (x : Wanted). IsValue objects x v) f.wanted is_value) in
+      let known : Given objects code (waiting expect.Go s) f.kinds f.block_notes u f.is refl f.note f.carries v (Some f.left) = (has_waiting f.left.kinds f.left.blocks expect.Go f.has, f.suits objects v is_value) in
       let given : Given objects code (waiting expect.Go s) f.kinds f.block_notes u f.is refl f.note f.carries v (left_of u.op (with_byte s.prefix u.arg) s.phase f.kinds f.block_notes) =
       subst (Given objects code (waiting expect.Go s) f.kinds f.block_notes u f.is refl f.note f.carries v) (sym f.waits) known in
       subst (λ (o : Option CodeUnit). AlwaysLeads objects (Fits objects code) (unit_answered o v (waiting expect.Go s))) (sym f.is)
