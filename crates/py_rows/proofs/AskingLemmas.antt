@@ -106,7 +106,7 @@ module _ (Gap : Type 0) (setting : Setting) where
   asked_as PrintExpr i = λ vs gap. one_asked None _ vs (λ no. gap (inl no)) (λ v. (λ objects v is. tt, λ n there low. low))
   asked_as _ i = tt
 
-got_there : {A : Type 0} (xs : List A) (i : ℕ) → i < length xs → (x : A) × (slice_get xs i ≡ Some x)
+pub got_there : {A : Type 0} (xs : List A) (i : ℕ) → i < length xs → (x : A) × (slice_get xs i ≡ Some x)
 got_there [] i below = absurd (omega arith)
 got_there (x ∷ xs) zero below = (x, refl)
 got_there (x ∷ xs) (suc i) below = got_there xs i (omega arith)

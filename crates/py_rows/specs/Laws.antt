@@ -32,7 +32,7 @@ abbrev pub RaisedThere : List Payload → Option PyBaseExceptionRef → Type 0
 RaisedThere objects None = Unit {0}
 RaisedThere objects (Some e) = HasKind objects (as_object e) kind.Exc
 
--- the same of a move, whatever it loads or is told; what it decides by is a truth value
+-- the same of a move, whichever object it loads or is told, and whether or not one is a manager; what it decides by is a truth value
 abbrev pub AlwaysLeads : List Payload → (State → Type 0) → Move → Type 0
 AlwaysLeads objects P (Plainly step) = LeadsTo P step
 AlwaysLeads objects P (Loads p f) = (v : Obj) → HasPayload objects v p → LeadsTo P (f v)
@@ -62,7 +62,13 @@ abbrev pub NextFits : Type 0
 NextFits = (objects : List Payload) (names : List (List ℕ)) (globals : Obj) (closure : List Obj) (code : Annotated) (s : State)
     → IsSound names code → FitsAt objects code s.wants s → IsMoving s.wants → AlwaysLeads objects (λ t. FitsAt objects code t.wants t) (moves (setting_of names globals closure code) s.wants s)
 
--- so it does behind each step of a run
+-- so there is a step that it can make: where not among these objects, then among more, since a constant may have to be made
+abbrev pub NextGoes : Type 0
+NextGoes = (objects : List Payload) (names : List (List ℕ)) (globals : Obj) (closure : List Obj) (code : Annotated) (s : State)
+    → IsSound names code → FitsAt objects code s.wants s → IsMoving s.wants
+    → (objects' : List Payload) × Grows objects objects' × ((xs : List Own) × (t : State) × Steps objects' (setting_of names globals closure code) s xs t)
+
+-- it fits behind each step of a run
 abbrev pub StepsFit : Type 0
 StepsFit = (objects : List Payload) (names : List (List ℕ)) (globals : Obj) (closure : List Obj) (code : Annotated) (s t : State) (xs : List Own)
     → IsSound names code → FitsAt objects code s.wants s → Steps objects (setting_of names globals closure code) s xs t → FitsAt objects code t.wants t
