@@ -53,8 +53,8 @@ fits_emitted table globals code t compilable emitted laid plain noted named = re
       globals = λ i id here. NamesAll-below table _ globals i id named.names here;
     };
   };
-  traces = λ grown dict objects slot args ts s grows same run.
-      traces_laid (record { code = code.code; names = grown; globals = dict }) t globals compilable laid plain (NamesAll-grown table grown _ globals grows named.names)
+  traces = λ grown dict closure objects slot args ts s grows same run.
+      traces_laid (record { code = code.code; names = grown; globals = dict; closure = closure }) t globals compilable laid plain (NamesAll-grown table grown _ globals grows named.names)
           (NamesAll-grown table grown _ (locals_of t) grows named.varnames) objects slot args ts s same run;
 }
 

@@ -34,5 +34,5 @@ pub record Fits (names : List (List ℕ)) (code : Annotated) (t : Tree) : Type 0
   pub arity : code.code.code.arg_count ≡ length t.params
   pub params : params_of names code.code ≡ t.params
   pub sound : IsSound names code
-  pub traces : (table : List (List ℕ)) (globals : Obj) (objects : List Payload) (slot : Option PyBaseExceptionRef) (args : List Obj) (ts : List Own) (s : State) → Continues names table → length args ≡ length t.params
-      → Runs objects (record { code = code.code; names = table; globals = globals }) (started code.code slot args) ts s → IsTrace (located code.code objects globals) t args (Makes ∷ ts)
+  pub traces : (table : List (List ℕ)) (globals : Obj) (closure : List Obj) (objects : List Payload) (slot : Option PyBaseExceptionRef) (args : List Obj) (ts : List Own) (s : State) → Continues names table → length args ≡ length t.params
+      → Runs objects (record { code = code.code; names = table; globals = globals; closure = closure }) (started code.code slot args) ts s → IsTrace (located code.code objects globals) t args (Makes ∷ ts)
