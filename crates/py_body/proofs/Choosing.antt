@@ -1,6 +1,6 @@
 -- A laid test runs as that of the tree, and goes where the truth value says.
 use Rattle.std.proofs.Common.{◌≡◌, ◌<◌, ◌≤◌, ℕ, suc, List, [], ◌∷◌, Bool, true, false, not, cond, refl, sym, subst, length, arith, inl}
-use Rattle.std.specs.Prelude.{None, nat_lt}
+use Rattle.std.specs.Prelude.{None}
 use Rattle.std.proofs.lemmas.Bool.{lt-ltb}
 use Rattle.py_code.specs.declared.instruction.Instruction.TheVariants.{JumpIfFalse}
 use Rattle.py_objects.specs.declared.request.Request.TheVariants.{Truth}

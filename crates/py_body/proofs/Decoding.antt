@@ -23,7 +23,7 @@ use Rattle.py_body.specs.Fits.{is_line, located}
 use Rattle.py_body.specs.Code.{Parts, Stands, parts_with}
 use Rattle.py_body.specs.Naming.{NamesAll}
 use Rattle.py_body.proofs.Env.{env_of}
-use Rattle.py_body.proofs.Reaching.{ByStep, ByMove, StepsTell, by_plain}
+use Rattle.py_body.proofs.Reaching.{ByStep, ByMove, StepsTell}
 
 -- the unit in front of those that are left
 pub slice_get-drop : (units : List CodeUnit) (at : ℕ) (u : CodeUnit) (us : List CodeUnit) → drop at units ≡ u ∷ us → (slice_get units at ≡ Some u) × (drop (suc at) units ≡ us)
@@ -96,6 +96,10 @@ module _ (ex : Execution) where
   abbrev pub Behind : ℕ → Step → List Own → Type 0
   Behind n step ts = ByStep step ts (λ s mid. Told n s mid)
 
+  -- a move that is a step
+  pub step_left : (n : ℕ) (step : Step) (ts : List Own) → Left n (Plainly step) ts → Behind n step ts
+  step_left n step ts (done, is, left) = subst (λ (s : Step). Behind n s ts) (sym is) left
+
   -- each run of at most n steps from a place, in so many loops, tells this
   abbrev pub TellsFrom : ℕ → ℕ → ℕ → (Env → List Own → Type 0) → Type 0
   TellsFrom at depth n tells = (now : Now) (last m : ℕ) (ts : List Own) → m ≤ n → length now.locals ≡ length ex.vars → From m at last [] depth now ts → tells (env_of ex.vars now.locals) ts
@@ -142,7 +146,7 @@ module _ (ex : Execution) where
           let place : at + 1 ≡ suc at = add-one at in
           let extended : Left n (act ex.setting ExtendedArg (with_byte prefix u.arg) (running at (suc at) prefix stack depth now)) ts =
           subst (λ (o : Instruction). Left n (act ex.setting o (with_byte prefix u.arg) (running at (suc at) prefix stack depth now)) ts) (prefix_is u.op prefixed) moved in
-          later (rw place at d) (by_plain ex.objects (Goes (running (suc at) (suc at) (with_byte prefix u.arg) stack depth now)) ts (λ s mid. Told n s mid) extended) cut further
+          later (rw place at d) (step_left n (Goes (running (suc at) (suc at) (with_byte prefix u.arg) stack depth now)) ts extended) cut further
       by false plain d later =
           let (is_op, is_arg, is_next) = decoded_is _ _ d in
           go at prefix n (omega arith) (sym (add-one at) ∙ is_next) (omega arith) (u, first.0, is_op, is_arg)
@@ -173,4 +177,4 @@ module _ (ex : Execution) where
       → Q
   steps_run step line at last to op arg stack depth now n ts stands makes run cut go =
       stands_run (λ k p b. Plainly (step k p b)) line at last to op arg stack depth now n ts stands makes run cut
-      (λ k p m is_next less has_op of_line left. go k p m is_next less (by_plain ex.objects (step k p to) ts (λ s mid. Told m s mid) left))
+      (λ k p m is_next less has_op of_line left. go k p m is_next less (step_left m (step k p to) ts left))

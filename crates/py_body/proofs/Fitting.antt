@@ -55,7 +55,7 @@ fits_emitted table globals code t compilable emitted laid plain noted named = re
   };
   traces = λ grown dict closure objects slot args ts s grows same run.
       traces_laid (record { code = code.code; names = grown; globals = dict; closure = closure }) t globals compilable laid plain (NamesAll-grown table grown _ globals grows named.names)
-          (NamesAll-grown table grown _ (locals_of t) grows named.varnames) objects slot args ts s same run;
+      (NamesAll-grown table grown _ (locals_of t) grows named.varnames) objects slot args ts s same run;
 }
 
 -- the parameters stay where the table goes on

@@ -93,9 +93,9 @@ module _ (ex : Execution) where
 
     global_run : (x : Name) (i : ℕ) → name_of_global ex.setting i ≡ Some x → Stands (parts_of ex) line at LoadGlobal i to → Named (scene_of ex) line None x None ts (Use env K next)
     global_run x i named stands =
-        asked_once_run ex K closes depth now next line at last to LoadGlobal i (Global ex.setting.globals x) stack stack (λ v. v ∷ stack) n ts stands
-        (λ k p. ap (λ (o : Option Name). Plainly (asks_if (on_none (option_map (λ y. Global ex.setting.globals y) o) []) (running k (suc k) p stack depth now))) named)
-        (λ k p v. refl) run stops later
+        asked_once_run ex K closes depth now next line at last to LoadGlobal i (Global ex.setting.globals x) stack stack n ts stands
+        (λ k p. ap (λ (o : Option Name). Plainly (asks_if (on_none (option_map (λ y. Global ex.setting.globals y) o) []) (running k (suc k) p stack depth now))) named) run
+        (λ v. v ∷ stack) (λ k p v. refl) stops later
 
     module _ (same : length now.locals ≡ length ex.vars) where
       name_run : (x : Name) (b : Bool) → list_any (bytes_eq x) ex.vars ≡ b → LaidName b (parts_of ex) line x at to → Named (scene_of ex) line (find_local x env) x None ts (Use env K next)

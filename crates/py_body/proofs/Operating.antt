@@ -1,6 +1,6 @@
 -- The loads of an operator's atoms, and its unit, run as those of the tree.
-use Rattle.std.proofs.Common.{◌≡◌, ◌<◌, ◌≤◌, ℕ, suc, List, [], ◌∷◌, ◌++◌, true, refl, sym, ap, ◌∙◌, subst, length, take, drop, reverse, arith, le_refl, append_assoc, length-append, replicate}
-use Rattle.std.specs.Prelude.{Option, None}
+use Rattle.std.proofs.Common.{◌≡◌, ◌<◌, ◌≤◌, ℕ, suc, List, [], ◌∷◌, ◌++◌, true, refl, sym, ap, ◌∙◌, subst, length, take, drop, reverse, arith, le_refl, append_assoc, length-append}
+use Rattle.std.specs.Prelude.{None}
 use Rattle.std.proofs.Math.ListN.{length-replicate}
 use Rattle.std.proofs.lemmas.List.{length-reverse, reverse-append, reverse-reverse}
 use Rattle.py_code.specs.declared.instruction.Instruction.{Instruction}
@@ -22,7 +22,6 @@ use Rattle.py_rows.proofs.TakingLemmas.{reached}
 use Rattle.py_body.specs.declared.atom.Atom.{Atom}
 use Rattle.py_body.specs.declared.atom.Operator.{Operator}
 use Rattle.py_body.specs.declared.atom.Operator.TheVariants as operator
-use Rattle.py_body.specs.Tree.{Name}
 use Rattle.py_body.specs.Binding.{Env, takes_count}
 use Rattle.py_body.specs.Outcome.{After, Use, LoadsAll, of_two, of_call, request_of, Requests_if}
 use Rattle.py_body.specs.Code.{Stands, LaidAtoms, LaidCall, LaidOperator}
@@ -83,26 +82,26 @@ module _ (ex : Execution) (line : ℕ) (K : After) (closes : Closes K) (depth : 
     call_run : (vs : List Obj) → LaidCall (parts_of ex) line at (length vs) to → From ex n at last (reverse vs ++ []) depth now ts → Requests_if (scene_of ex) line (of_call vs) None ts (Use env K next)
     call_run [] stands run = absurd stands
     call_run (f ∷ vs) stands run =
-        asked_once_run ex K closes depth now next line at last to CallFunctionPositional (length vs) (Call f vs keywords.None) (reverse (f ∷ vs) ++ []) [] (λ v. v ∷ []) n ts stands
+        asked_once_run ex K closes depth now next line at last to CallFunctionPositional (length vs) (Call f vs keywords.None) (reverse (f ∷ vs) ++ []) [] n ts stands
         (λ k p.
         ap (λ (count : ℕ). Plainly (asks_once count (λ ws. calls (reverse ws)) (running k (suc k) p (reverse (f ∷ vs) ++ []) depth now))) (length-replicate (suc (length vs)) kind.Any)
         ∙ λ j. Plainly (where_there (reaches-reverse (f ∷ vs) j) (asks_if (calls (take-reverse (f ∷ vs) j)) (running k (suc k) p (drop-reverse (f ∷ vs) j) depth now))))
-        (λ k p v. refl) run stops later
+        run (λ v. v ∷ []) (λ k p v. refl) stops later
 
     -- so does a unit of two operands
     two_run : (op : Instruction) (arg : ℕ) (r : Obj → Obj → Request) (vs : List Obj) → length vs ≡ 2
         → ((v w : Obj) (k p : ℕ) → act ex.setting op arg (running k (suc k) p (w ∷ v ∷ []) depth now) ≡ Plainly (asks (r v w) (running k (suc k) p [] depth now)))
-        → ((u : Obj) (k p : ℕ) → answered op arg u (running k (suc k) p [] depth now) ≡ Plainly (Goes (running (suc k) (suc k) 0 (u ∷ []) depth now)))
+        → ((k p : ℕ) (u : Obj) → answered op arg u (running k (suc k) p [] depth now) ≡ Plainly (Goes (running (suc k) (suc k) 0 (u ∷ []) depth now)))
         → Stands (parts_of ex) line at op arg to → From ex n at last (reverse vs ++ []) depth now ts → Requests_if (scene_of ex) line (of_two r vs) None ts (Use env K next)
     two_run op arg r vs two makes gives stands =
         two_values (λ ws. From ex n at last (reverse ws ++ []) depth now ts → Requests_if (scene_of ex) line (of_two r ws) None ts (Use env K next)) vs two
-        (λ v w run. asked_once_run ex K closes depth now next line at last to op arg (r v w) (w ∷ v ∷ []) [] (λ u. u ∷ []) n ts stands (makes v w) (λ k p u. gives u k p) run stops later)
+        (λ v w run. asked_once_run ex K closes depth now next line at last to op arg (r v w) (w ∷ v ∷ []) [] n ts stands (makes v w) run (λ u. u ∷ []) gives stops later)
 
     -- an operator asks for what comes of the values on the stack
     pub operator_run : (op : Operator) (vs : List Obj) → takes_count op (length vs) ≡ true → LaidOperator (parts_of ex) line at op (length vs) to → From ex n at last (reverse vs ++ []) depth now ts
         → Requests_if (scene_of ex) line (request_of op vs) None ts (Use env K next)
-    operator_run operator.Add vs takes stands = two_run BinaryOperation (binary_number binary.Add) (Binary binary.Add) vs (is_two (length vs) takes) (λ v w k p. refl) (λ u k p. refl) stands
-    operator_run operator.Sub vs takes stands = two_run BinaryOperation (binary_number binary.Subtract) (Binary binary.Subtract) vs (is_two (length vs) takes) (λ v w k p. refl) (λ u k p. refl) stands
-    operator_run operator.Lt vs takes stands = two_run CompareOperation (comparison_number comparison.Less) (Compare comparison.Less) vs (is_two (length vs) takes) (λ v w k p. refl) (λ u k p. refl) stands
-    operator_run operator.Eq vs takes stands = two_run CompareOperation (comparison_number comparison.Equal) (Compare comparison.Equal) vs (is_two (length vs) takes) (λ v w k p. refl) (λ u k p. refl) stands
+    operator_run operator.Add vs takes stands = two_run BinaryOperation (binary_number binary.Add) (Binary binary.Add) vs (is_two (length vs) takes) (λ v w k p. refl) (λ k p u. refl) stands
+    operator_run operator.Sub vs takes stands = two_run BinaryOperation (binary_number binary.Subtract) (Binary binary.Subtract) vs (is_two (length vs) takes) (λ v w k p. refl) (λ k p u. refl) stands
+    operator_run operator.Lt vs takes stands = two_run CompareOperation (comparison_number comparison.Less) (Compare comparison.Less) vs (is_two (length vs) takes) (λ v w k p. refl) (λ k p u. refl) stands
+    operator_run operator.Eq vs takes stands = two_run CompareOperation (comparison_number comparison.Equal) (Compare comparison.Equal) vs (is_two (length vs) takes) (λ v w k p. refl) (λ k p u. refl) stands
     operator_run operator.Call vs takes stands = call_run vs stands

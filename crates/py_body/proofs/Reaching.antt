@@ -4,8 +4,7 @@ use Rattle.std.specs.Prelude.{◌⊎◌}
 use Rattle.py_objects.specs.declared.payload.Payload.{Payload}
 use Rattle.py_objects.specs.Own.{Own}
 use Rattle.py_rows.specs.declared.expect.Expect.{Expect}
-use Rattle.py_rows.specs.declared.expect.Expect.TheVariants as expect
-use Rattle.py_rows.specs.States.{Setting, State, Step, Goes, Tells, Stuck, Move, Plainly, waiting}
+use Rattle.py_rows.specs.States.{Setting, State, Step, Goes, Tells, Stuck, Move, waiting}
 use Rattle.py_rows.specs.Receiving.{moves}
 use Rattle.py_rows.specs.RunOfRows.{MayLead, Hears, Steps, silent, telling, hearing, Runs, none, on}
 
@@ -13,15 +12,17 @@ use Rattle.py_rows.specs.RunOfRows.{MayLead, Hears, Steps, silent, telling, hear
 abbrev pub Follows : Type 1
 Follows = State → List Own → Type 0
 
+-- a step leads there
 abbrev pub ByStep : Step → List Own → Follows → Type 0
 ByStep (Goes s) ts K = K s ts
 ByStep (Tells x s) ts K = (mid : List Own) × (ts ≡ x ∷ mid) × K s mid
 ByStep Stuck ts K = ⊥
 
+-- a move may lead there
 abbrev pub ByMove : List Payload → Move → List Own → Follows → Type 0
 ByMove objects move ts K = (done : Step) × MayLead objects move done × ByStep done ts K
 
--- what is heard
+-- a frame that hears goes there
 abbrev pub ByInput : List Payload → Setting → State → List Own → Follows → Type 0
 ByInput objects setting s ts K = (x : Own) × (w : Expect) × (mid : List Own) × Hears objects setting s.wants x w × (ts ≡ x ∷ mid) × K (waiting w s) mid
 
@@ -30,9 +31,6 @@ abbrev pub StepsTell : List Payload → Setting → ℕ → State → List Own �
 StepsTell objects setting zero s ts = ts ≡ []
 StepsTell objects setting (suc n) s ts =
     ByMove objects (moves setting s.wants s) ts (λ t mid. StepsTell objects setting n t mid) ⊎ ByInput objects setting s ts (λ t mid. StepsTell objects setting n t mid)
-
-pub by_plain : (objects : List Payload) (step : Step) (ts : List Own) (K : Follows) → ByMove objects (Plainly step) ts K → ByStep step ts K
-by_plain objects step ts K (done, is, by) = subst (λ (d : Step). ByStep d ts K) (sym is) by
 
 module _ (objects : List Payload) (setting : Setting) where
   -- one step, and those behind it

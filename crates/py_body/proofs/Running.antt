@@ -1,15 +1,14 @@
 -- Laid code runs as its tree.
-use Rattle.std.proofs.Common.{◌≡◌, ◌<◌, ◌≤◌, ◌-◌, ℕ, zero, suc, List, [], ◌∷◌, Bool, true, false, cond, refl, sym, ap, ◌∙◌, subst, length, arith, le_refl, inl, inr}
+use Rattle.std.proofs.Common.{◌≡◌, ◌<◌, ◌≤◌, ℕ, zero, suc, List, [], ◌∷◌, Bool, true, false, cond, refl, sym, ◌∙◌, subst, length, arith, le_refl, inl, inr}
 use Rattle.std.specs.Prelude.{Option, None, Some, slice_set, nat_lt}
 use Rattle.std.proofs.lemmas.Bool.{le-ltb, ltb-true}
 use Rattle.std.proofs.lemmas.List.{length-set}
 use Rattle.py_code.specs.declared.instruction.Instruction.{Instruction}
 use Rattle.py_code.specs.declared.instruction.Instruction.TheVariants.{StoreFast, Pop, JumpIfFalse, PrintExpr, ReturnValue, Jump, SetupLoop, PopBlock}
-use Rattle.py_objects.specs.declared.event.Ending.TheVariants as ending
 use Rattle.py_objects.specs.declared.request.Request.TheVariants.{Show}
 use Rattle.py_objects.specs.Objects.{Obj}
 use Rattle.py_objects.specs.Own.{Own, Rounds}
-use Rattle.py_rows.specs.declared.block.UnwindReason.TheVariants as reason
+use Rattle.py_objects.specs.declared.event.Ending.TheVariants as ending
 use Rattle.py_rows.specs.States.{Goes, Tells, Stuck, Plainly, jumps as jumps_there}
 use Rattle.py_rows.specs.Unwinding.{unwinds}
 use Rattle.py_rows.specs.Rows.{act}
@@ -22,7 +21,7 @@ use Rattle.py_body.specs.Outcome.{After, Normal, By_truth, Runner, On_normal, On
 use Rattle.py_body.specs.Code.{place, Stands, LaidAtom, LaidTarget, LaidOperator, LaidForm, LaidSuite}
 use Rattle.py_body.proofs.Closing.{Closes, closes_next, closes_turn, cut_suite, cut_loop, cut_operator}
 use Rattle.py_body.proofs.Decoding.{Now, running, Execution, From, Behind, TellsFrom, parts_of, scene_of, steps_run}
-use Rattle.py_body.proofs.Asking.{asked_once_run, return_run}
+use Rattle.py_body.proofs.Asking.{reason_of, frame_ends, asked_once_run}
 use Rattle.py_body.proofs.Env.{env_of, set_local-env_of}
 use Rattle.py_body.proofs.Loads.{atom_run}
 use Rattle.py_body.proofs.Operating.{atoms_run, operator_run}
@@ -85,7 +84,7 @@ module _ (ex : Execution) where
   show_run line at to a (asks, loads, stands) K depth n closes later now last m ts most same run =
       atom_run ex K closes depth now _ line at last asks [] m ts run (λ v. inl (refl, closes.cut (env_of ex.vars now.locals)))
       (λ v j us less more.
-      asked_once_run ex K closes depth now _ line asks asks to PrintExpr 0 (Show v) (v ∷ []) [] (λ u. []) j us stands (λ k p. refl) (λ k p u. refl) more
+      asked_once_run ex K closes depth now _ line asks asks to PrintExpr 0 (Show v) (v ∷ []) [] j us stands (λ k p. refl) more (λ u. []) (λ k p u. refl)
       (λ u. closes.paused (env_of ex.vars now.locals))
       (λ u i rest fewer step. later now to i rest (omega (arith, fewer, less, most)) same step)) same a loads
 
@@ -93,9 +92,9 @@ module _ (ex : Execution) where
   give_run line at to a (ends, loads, stands) K depth n closes later now last m ts most same run =
       atom_run ex K closes depth now _ line at last ends [] m ts run (λ v. closes.returned (env_of ex.vars now.locals) v [] (inl refl))
       (λ v j us less more.
-      steps_run ex (λ k p b. unwinds (reason.Returning v) (running k (suc k) p [] depth now)) line ends ends to ReturnValue 0 (v ∷ []) depth now j us stands (λ k p. refl) more
+      steps_run ex (λ k p b. unwinds (reason_of (ending.Return v)) (running k (suc k) p [] depth now)) line ends ends to ReturnValue 0 (v ∷ []) depth now j us stands (λ k p. refl) more
       (λ none. closes.returned (env_of ex.vars now.locals) v us (inl none))
-      (λ k p i is_next fewer step. closes.returned (env_of ex.vars now.locals) v us (return_run ex v k (suc k) p depth [] now i us step))) same a loads
+      (λ k p i is_next fewer step. closes.returned (env_of ex.vars now.locals) v us (frame_ends ex (ending.Return v) k (suc k) p depth [] now i us step))) same a loads
 
   -- ---- operators
 

@@ -7,9 +7,9 @@ use Rattle.py_objects.specs.declared.refs.PyBaseExceptionRef.{PyBaseExceptionRef
 use Rattle.py_objects.specs.declared.payload.Payload.{Payload}
 use Rattle.py_objects.specs.declared.payload.Payload.TheVariants as payload
 use Rattle.py_objects.specs.declared.event.ResumeHow.TheVariants as how
+use Rattle.py_objects.specs.declared.event.Ending.TheVariants as ending
 use Rattle.py_objects.specs.Objects.{Obj}
 use Rattle.py_objects.specs.Own.{Own, Makes, Resumes}
-use Rattle.py_rows.specs.declared.block.UnwindReason.TheVariants as reason
 use Rattle.py_rows.specs.declared.expect.Expect.{Expect}
 use Rattle.py_rows.specs.declared.expect.Expect.TheVariants as expect
 use Rattle.py_rows.specs.States.{Setting, State, Stuck, waiting}
@@ -23,18 +23,18 @@ use Rattle.py_body.specs.Trace.{EndsBy, IsBegun, IsTrace}
 use Rattle.py_body.specs.Code.{StandsConst, IsLaid, IsPlain}
 use Rattle.py_body.specs.Naming.{NamesAll}
 use Rattle.py_body.proofs.Closing.{closes_ends}
-use Rattle.py_body.proofs.Reaching.{by_plain, run_steps}
-use Rattle.py_body.proofs.Decoding.{Now, running, Execution, Told, TellsFrom, parts_of, scene_of}
-use Rattle.py_body.proofs.Asking.{return_run}
+use Rattle.py_body.proofs.Reaching.{run_steps}
+use Rattle.py_body.proofs.Decoding.{Now, running, Execution, Told, TellsFrom, step_left, parts_of, scene_of}
+use Rattle.py_body.proofs.Asking.{reason_of, frame_ends}
 use Rattle.py_body.proofs.Env.{env_of, begun-env_of, length-filled}
 use Rattle.py_body.proofs.Loads.{const_run}
 use Rattle.py_body.proofs.Running.{suite_run}
 
 -- a frame that hasn't begun starts, where no exception is thrown into it
-heard : (objects : List Payload) (setting : Setting) (x : Own) (y : Expect) → is_thrown_into setting.code.code.flags ≡ is_thrown_into 33 → Hears objects setting expect.Start x y → (x ≡ Resumes how.Start) × (y ≡ expect.Go)
-heard objects setting (Resumes how.Start) y flags is = (refl, is)
-heard objects setting (Resumes (how.Throw e)) y flags (exception, is, thrown) = absurd (cc)
-heard objects setting _ y flags never = absurd never
+entered : (objects : List Payload) (setting : Setting) (x : Own) (y : Expect) → is_thrown_into setting.code.code.flags ≡ is_thrown_into 33 → Hears objects setting expect.Start x y → (x ≡ Resumes how.Start) × (y ≡ expect.Go)
+entered objects setting (Resumes how.Start) y flags is = (refl, is)
+entered objects setting (Resumes (how.Throw e)) y flags (exception, is, thrown) = absurd (cc)
+entered objects setting _ y flags never = absurd never
 
 module _ (setting : Setting) (t : Tree) (globals : List Name) (compilable : IsCompilable t) (laid : IsLaid globals setting.code t) (plain : IsPlain setting.code t)
     (globals_named : NamesAll setting.names setting.code.code.names.items globals) (locals_named : NamesAll setting.names setting.code.code.varnames.items (locals_of t)) (objects : List Payload) where
@@ -44,9 +44,9 @@ module _ (setting : Setting) (t : Tree) (globals : List Name) (compilable : IsCo
   -- the return of None at the end
   none_run : (at to n : ℕ) → StandsConst (parts_of ex) t.line at ReturnConst NoneLiteral to → TellsFrom ex at 0 n (λ env. EndsBy (scene_of ex) env Normal)
   none_run at to n stands now last m ts most same run =
-      const_run ex t.line ReturnConst NoneLiteral payload.None (λ k p b v. unwinds (reason.Returning v) (running k (suc k) p [] 0 now)) at last to [] 0 now m ts refl (λ i k p. refl) stands run
+      const_run ex t.line ReturnConst NoneLiteral payload.None (λ k p b v. unwinds (reason_of (ending.Return v)) (running k (suc k) p [] 0 now)) at last to [] 0 now m ts refl (λ i k p. refl) stands run
       (λ none. inl none)
-      (λ v k p j less has step. inr (v, has, return_run ex v k (suc k) p 0 [] now j ts step))
+      (λ v k p j less has step. inr (v, has, frame_ends ex (ending.Return v) k (suc k) p 0 [] now j ts step))
 
   -- where the frame has started
   suite_told : (slot : Option PyBaseExceptionRef) (args : List Obj) (n : ℕ) (ts : List Own) → Told ex n (waiting expect.Go (started setting.code slot args)) ts → RunsSuite (scene_of ex) t.suite (start_env t args) None ts (EndsBy (scene_of ex))
@@ -61,9 +61,9 @@ module _ (setting : Setting) (t : Tree) (globals : List Name) (compilable : IsCo
   -- a run of the code has told a beginning of what the body tells
   begun_run : (slot : Option PyBaseExceptionRef) (args : List Obj) (n : ℕ) (ts : List Own) → Told ex n (started setting.code slot args) ts → IsBegun (scene_of ex) t args ts
   begun_run slot args zero ts none = subst (IsBegun (scene_of ex) t args) (sym none) tt
-  begun_run slot args (suc n) ts (inl stuck) = absurd (by_plain objects Stuck ts (λ s mid. Told ex n s mid) stuck)
+  begun_run slot args (suc n) ts (inl stuck) = absurd (step_left ex n Stuck ts stuck)
   begun_run slot args (suc n) ts (inr (x, w, mid, hears, is, run)) =
-      let (starts, goes) = heard objects setting x w (ap is_thrown_into plain.flags) hears in
+      let (starts, goes) = entered objects setting x w (ap is_thrown_into plain.flags) hears in
       let told = suite_told slot args n mid (subst (λ (y : Expect). Told ex n (waiting y (started setting.code slot args)) mid) goes run) in
       subst (IsBegun (scene_of ex) t args) (sym (is ∙ ap (λ (y : Own). y ∷ mid) starts)) (tt, told)
 

@@ -1,6 +1,5 @@
-use Rattle.std.proofs.Common.{◌<◌, ◌≤◌, List, length, subst}
+use Rattle.std.proofs.Common.{◌<◌, ◌≤◌, length, subst}
 use Rattle.std.proofs.lemmas.Result.{on_ok_weaker}
-use Rattle.py_body.specs.Tree.{Name}
 use Rattle.py_body.specs.Emitting.{parts_of}
 use Rattle.py_body.specs.Code.{place}
 use Rattle.py_body.proofs.Operands.{local_emitted, global_emitted}
