@@ -1,5 +1,5 @@
 -- A frame that fits its code can make a step, where the objects that this needs are there.
-use Rattle.std.proofs.Common.{◌≡◌, ◌++◌, ◌<◌, ℕ, suc, List, [], ◌∷◌, Option, None, Some, refl, sym, append-nil, length, length-append, arith}
+use Rattle.std.proofs.Common.{◌≡◌, ◌++◌, ℕ, suc, List, [], ◌∷◌, None, Some, refl, sym, append-nil, length, length-append, arith}
 use Rattle.std.proofs.Math.ListN.{length-replicate}
 use Rattle.std.specs.Prelude.{slice_get, replicate}
 use Rattle.std.proofs.lemmas.Option.{slice_get_within}

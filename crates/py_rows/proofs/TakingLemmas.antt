@@ -1,18 +1,19 @@
 -- Operands that are taken off the stack.
 use Rattle.std.proofs.Common.{◌≡◌, ◌∙◌, ◌-◌, ◌<◌, ◌≤◌, ℕ, zero, suc, List, [], ◌∷◌, Bool, true, ◌&&◌, refl, sym, ap, subst, length, take, drop, length-drop, arith}
-use Rattle.std.specs.Prelude.{nat_le, nat_lt, slice_get}
+use Rattle.std.specs.Prelude.{nat_le, nat_lt, slice_get, ◌==◌}
 use Rattle.std.specs.List.{list_all}
-use Rattle.std.proofs.lemmas.Bool.{and_parts, and_from, leb-true, ltb-true}
+use Rattle.std.proofs.lemmas.Bool.{and_parts, and_from, eqb-true, leb-true, ltb-true}
 use Rattle.py_objects.specs.declared.payload.Payload.{Payload}
 use Rattle.py_objects.specs.Objects.{Obj}
 use Rattle.py_check.specs.declared.note.Kind.{Kind}
 use Rattle.py_check.specs.declared.note.Kind.TheVariants as kind
 use Rattle.py_check.specs.declared.note.BlockNote.{BlockNote}
 use Rattle.py_check.specs.declared.annotated.Annotated.{Annotated}
-use Rattle.py_check.specs.Notes.{kind_fits}
+use Rattle.py_check.specs.Notes.{kind_fits, level_of, pending_of}
+use Rattle.py_check.specs.Leaving.{is_finally_handler, ends_with, ends_cleanup, walks}
 use Rattle.py_rows.specs.Rows.{is_there, takes_off, reaches}
 use Rattle.py_check.specs.Sheet.{Sheet, sheet_of}
-use Rattle.py_check.specs.Rules.{bottom, handler_lands, handlers_land, top_level}
+use Rattle.py_check.specs.Rules.{bottom, goes_on, handler_lands, handlers_land, top_level}
 use Rattle.py_check.specs.Taking.{takes}
 use Rattle.py_rows.specs.States.{State, Step, with_stack}
 use Rattle.py_rows.specs.Fitting.{HaveKinds, Has}
@@ -84,6 +85,25 @@ off objects code kinds blocks rest s P f may has then =
     by_stack [] ks holds enough has keeps then = absurd (omega (arith, enough))
     by_stack (v ∷ vs) [] holds enough has keeps then = absurd holds
     by_stack (v ∷ vs) (k ∷ ks) holds enough has keeps then = then v vs has keeps refl holds
+
+-- what the rules say of the end of an exit: its answer alone lies above the block, and the exit right under it
+pub record EndsExit (code : Annotated) (to : ℕ) (kinds : List Kind) (c : BlockNote) (cs : List BlockNote) : Type 0 where
+  pub depth : length kinds ≡ suc (level_of c)
+  pub nested : top_level cs < level_of c
+  pub top : top_level cs ≤ length (drop 2 kinds)
+  pub handler : is_finally_handler c ≡ true
+  pub goes : goes_on (sheet_of code) to (drop 2 kinds) cs ≡ true
+  pub walk : list_all (λ p. walks (sheet_of code) p (drop 2 kinds) cs) (pending_of c) ≡ true
+
+pub ends_exit : (code : Annotated) (to : ℕ) (kinds : List Kind) (c : BlockNote) (cs : List BlockNote) → ends_cleanup (sheet_of code) to kinds (c ∷ cs) ≡ true → EndsExit code to kinds c cs
+ends_exit code to kinds c cs may =
+    let ends = and_parts ((length kinds == suc (level_of c)) && nat_lt (top_level cs) (level_of c)) (ends_with (sheet_of code) to c (drop 2 kinds) cs) may in
+    let deep = and_parts (length kinds == suc (level_of c)) (nat_lt (top_level cs) (level_of c)) ends.0 in
+    let depth : length kinds ≡ suc (level_of c) = eqb-true (length kinds) (suc (level_of c)) deep.0 in
+    let nested : top_level cs < level_of c = ltb-true (top_level cs) (level_of c) deep.1 in
+    let parts = and_parts (is_finally_handler c && goes_on (sheet_of code) to (drop 2 kinds) cs) (list_all (λ p. walks (sheet_of code) p (drop 2 kinds) cs) (pending_of c)) ends.1 in
+    let two = and_parts (is_finally_handler c) (goes_on (sheet_of code) to (drop 2 kinds) cs) parts.0 in
+    record { depth = depth; nested = nested; top = omega (arith, depth, nested, length-drop 2 kinds); handler = two.0; goes = two.1; walk = parts.1 }
 
 -- entries at these places
 pub places_there : (objects : List Payload) (ps : List ℕ) (stack : List Obj) → list_all (λ p. nat_lt p (length stack)) ps ≡ true → list_all (λ p. is_there (slice_get stack p)) ps ≡ true
