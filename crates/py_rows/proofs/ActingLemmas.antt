@@ -23,7 +23,6 @@ use Rattle.py_objects.specs.Objects.{Obj, Name, HasPayload, as_object}
 use Rattle.py_check.specs.declared.note.Kind.{Kind}
 use Rattle.py_check.specs.declared.note.Kind.TheVariants as kind
 use Rattle.py_check.specs.declared.note.Note.TheVariants.{Live}
-use Rattle.py_check.specs.declared.note.Pending.{Pending}
 use Rattle.py_check.specs.declared.note.Pending.TheVariants as pending
 use Rattle.py_check.specs.declared.note.BlockNote.{BlockNote}
 use Rattle.py_check.specs.declared.note.BlockNote.TheVariants as note
@@ -54,14 +53,14 @@ use Rattle.py_rows.specs.Unwinding.{left}
 use Rattle.py_rows.specs.Answers.{HasKind, Suits}
 use Rattle.py_rows.specs.Answers as answers
 use Rattle.py_rows.specs.Asked.{name_of_local, asked}
-use Rattle.py_rows.specs.Fitting.{HaveKinds, WaitsIn, MayWait, TypeWaits, type_number, IsBlock, AreBlocks, Has, wanted_of, raise_left, left_own, left_by, left_of, FitsBut, IsSound}
+use Rattle.py_rows.specs.Fitting.{HaveKinds, MayWait, TypeWaits, type_number, IsBlock, AreBlocks, Has, wanted_of, raise_left, left_own, left_by, left_of, FitsBut, IsSound}
 use Rattle.py_rows.specs.Laws.{LeadsTo, RaisedThere, AlwaysLeads}
 use Rattle.py_rows.proofs.KindLemmas.{kinds_counted, kinds_dropped, kinds_under, kinds_joined, kinds_moved}
-use Rattle.py_rows.proofs.BlockLemmas.{one_of}
+use Rattle.py_rows.proofs.BlockLemmas.{waiting_admitted}
 use Rattle.py_rows.proofs.TypingLemmas.{prefix_carried}
 use Rattle.py_rows.proofs.LandingLemmas.{Fits, arrived, on_fits, may_jumped}
 use Rattle.py_rows.proofs.BehindLemmas.{arrives_behind, fits_behind}
-use Rattle.py_rows.proofs.UnwindingLemmas.{MayLeave, leaves, leaves_with}
+use Rattle.py_rows.proofs.UnwindingLemmas.{leaves, leaves_with}
 use Rattle.py_rows.proofs.TakingLemmas.{bottom-cons, bottom-drop, handlers_same, reached, places_there, Taken, taken, has_under, off, EndsExit, ends_exit}
 use Rattle.py_rows.proofs.AskingLemmas.{Wants, AsksAs, named, asked_there}
 
@@ -97,14 +96,6 @@ listed_moves n places is = let clash : false ≡ true = ap is_other is in cc
 
 pub listed_asks : (wanted : List Kind) (pushes : Option Kind) → AsksOnce wanted pushes ≡ Other → ⊥
 listed_asks wanted pushes is = let clash : false ≡ true = ap is_other is in cc
-
--- what waits in a finally may leave the blocks around it
-pub may_leave : (objects : List Payload) (code : Annotated) (ks : List Kind) (bs : List BlockNote) (ps : List Pending) (r : UnwindReason) → list_all (λ p. walks (sheet_of code) p ks bs) ps ≡ true → WaitsIn objects ps r
-    → MayLeave objects code r ks bs
-may_leave objects code ks bs ps (reason.Raising e) walk waits = waits
-may_leave objects code ks bs ps (reason.Returning v) walk waits = tt
-may_leave objects code ks bs ps (reason.Break to) walk waits = one_of (λ p. walks (sheet_of code) p ks bs) (pending.Break to) ps walk waits
-may_leave objects code ks bs ps (reason.Continue to) walk waits = one_of (λ p. walks (sheet_of code) p ks bs) (pending.Continue to) ps walk waits
 
 -- the handlers outside of the innermost block
 pub outer_handlers : (sheet : Sheet) (ks : List Kind) (b : BlockNote) (bs : List BlockNote) → handlers_land sheet ks (b ∷ bs) ≡ true → handlers_land sheet (bottom (level_of b) ks) bs ≡ true
@@ -284,7 +275,7 @@ module _ (objects : List Payload) (names : List (List ℕ)) (globals : Obj) (clo
       → Led (goes_on_with r (record s { stack = stack; blocks = outer; slot = kept }))
   goes_on_fits plain c cs ks stack outer kept None may walk hs waits holds are = goes_behind plain ks cs stack outer s.locals kept may holds are has.locals
   goes_on_fits plain c cs ks stack outer kept (Some r) may walk hs waits holds are =
-      leaves objects code r ks cs (record s { stack = stack; blocks = outer; slot = kept }) goes (leb-true (length ks) code.code.code.max_stackdepth (and_parts (has_room (sheet_of code) ks) (lands (sheet_of code) (s.at + 1) ks cs) may).0) (may_leave objects code ks cs (pending_of c) r walk waits) hs holds are has.locals
+      leaves objects code r ks cs (record s { stack = stack; blocks = outer; slot = kept }) goes (leb-true (length ks) code.code.code.max_stackdepth (and_parts (has_room (sheet_of code) ks) (lands (sheet_of code) (s.at + 1) ks cs) may).0) (waiting_admitted objects (λ p. walks (sheet_of code) p ks cs) (pending_of c) r walk waits) hs holds are has.locals
 
   end_finally_fits : is_prefix unit.op ≡ false → (bs : List BlockNote) → AreBlocks objects s.blocks bs → handlers_land (sheet_of code) kinds bs ≡ true → ends_finally (sheet_of code) (s.at + 1) kinds bs ≡ true → Led (end_finally s)
   end_finally_fits plain [] are hs may = cc
