@@ -1,5 +1,5 @@
 -- A frame that fits its note isn't stuck, and fits behind the unit that runs.
-use Rattle.std.proofs.Common.{◌≡◌, ◌∙◌, ◌+◌, ◌-◌, ◌<◌, ◌≤◌, ℕ, zero, suc, List, [], ◌∷◌, ◌++◌, Bool, Option, None, Some, true, false, ◌&&◌, ◌⊎◌, inl, inr, refl, sym, ap, subst, length, take, drop, length-drop, arith}
+use Rattle.std.proofs.Common.{◌≡◌, ◌∙◌, ◌+◌, ◌-◌, ◌<◌, ◌≤◌, ℕ, suc, List, [], ◌∷◌, ◌++◌, Bool, Option, None, Some, true, false, ◌&&◌, ◌⊎◌, inl, inr, refl, sym, ap, subst, length, take, drop, length-drop, arith}
 use Rattle.std.specs.Prelude.{slice_get, slice_set, nat_lt, nat_le, option_map, ◌==◌}
 use Rattle.std.specs.List.{list_all}
 use Rattle.std.proofs.Math.ListN.{length-set}
@@ -61,8 +61,8 @@ use Rattle.py_rows.proofs.TypingLemmas.{prefix_carried}
 use Rattle.py_rows.proofs.LandingLemmas.{Fits, arrived, on_fits, may_jumped}
 use Rattle.py_rows.proofs.BehindLemmas.{arrives_behind, fits_behind}
 use Rattle.py_rows.proofs.UnwindingLemmas.{leaves, leaves_with}
-use Rattle.py_rows.proofs.TakingLemmas.{bottom-cons, bottom-drop, handlers_same, reached, places_there, Taken, taken, has_under, off, EndsExit, ends_exit}
-use Rattle.py_rows.proofs.AskingLemmas.{Wants, AsksAs, named, asked_there}
+use Rattle.py_rows.proofs.TakingLemmas.{bottom-cons, bottom-drop, handlers_same, reached, places_there, takes_rest, has_under, off, EndsExit, ends_exit}
+use Rattle.py_rows.proofs.AskingLemmas.{got_there, Wants, AsksAs, named, asked_there}
 
 -- a loaded constant has a payload, and an object of it is of the constant's kind
 literal_kind : (objects : List Payload) (l : Literal) → is_loaded l ≡ true → (p : Payload) × (payload_of l ≡ Some p) × ((v : Obj) → HasPayload objects v p → HasKind objects v (kind_of l))
@@ -171,9 +171,10 @@ module _ (objects : List Payload) (names : List (List ℕ)) (globals : Obj) (clo
       has.blocks has.locals)
   by_effect op i (AsksOnce wanted pushes) f own there keeps is_op operand plain left asks led may =
       let parts = and_parts there (takes wanted kinds blocks (λ rest. goes_with (at_place pushes ++ rest) blocks)) may in
-      let t : Taken objects wanted kinds blocks (λ rest. goes_with (at_place pushes ++ rest) blocks) s.stack = taken objects wanted kinds blocks (λ rest. goes_with (at_place pushes ++ rest) blocks) s.stack parts.1 has.holds in
-      where_true (Fits objects code) _ _ (reached (length wanted) s.stack t.enough)
-      (asks_fit (f (take (length wanted) s.stack)) (asks parts.0 (take (length wanted) s.stack) (length-take-le (length wanted) s.stack t.enough)) (has_under objects code (length wanted) kinds blocks s t.level t.holds has))
+      let below = takes_rest wanted kinds blocks (λ rest. goes_with (at_place pushes ++ rest) blocks) parts.1 in
+      let enough : length wanted ≤ length s.stack = omega (arith, kinds_counted objects s.stack kinds has.holds, below.2) in
+      where_true (Fits objects code) _ _ (reached (length wanted) s.stack enough)
+      (asks_fit (f (take (length wanted) s.stack)) (asks parts.0 (take (length wanted) s.stack) (length-take-le (length wanted) s.stack enough)) (has_under objects code (length wanted) kinds blocks s below.1 has))
     where
       asks_fit : (r : Option Request) → Wants pushes r → Has objects code (drop (length wanted) kinds) blocks (with_stack (drop (length wanted) s.stack) s) → Led (asks_if r (with_stack (drop (length wanted) s.stack) s))
       asks_fit None wants has' = absurd wants
@@ -200,12 +201,7 @@ module _ (objects : List Payload) (names : List (List ℕ)) (globals : Obj) (clo
       (waits_but op i is_op operand want.NoValue kinds blocks want.NoValue s.stack s.blocks s.slot (expect.Answer want.NoValue) left (λ o v is. is) has)
 
   local_there : (i : ℕ) → nat_lt i (length code.code.code.varnames.items) ≡ true → slice_get s.locals i ≡ None → ⊥
-  local_there i below none = not_there s.locals i (omega (arith, ltb-true i (length code.code.code.varnames.items) below, has.locals)) none
-    where
-      not_there : (xs : List (Option Obj)) (i : ℕ) → i < length xs → slice_get xs i ≡ None → ⊥
-      not_there [] i below is = absurd (omega arith)
-      not_there (x ∷ xs) zero below is = cc
-      not_there (x ∷ xs) (suc i) below is = not_there xs i (omega arith) is
+  local_there i below none = let (local, is) = got_there s.locals i (omega (arith, ltb-true i (length code.code.code.varnames.items) below, has.locals)) in cc
 
   load_fast_fits : (i : ℕ) → unit.op ≡ LoadFast → with_byte s.prefix unit.arg ≡ i → nat_lt i (length code.code.code.varnames.items) ≡ true → goes_with (kind.Any ∷ kinds) blocks ≡ true → (local : Option (Option Obj)) → slice_get s.locals i ≡ local
       → Led (load_fast (name_of_local (record { code = code.code; names = names; globals = globals; closure = closure }) i) local s)

@@ -1,7 +1,7 @@
 -- A frame that waits isn't stuck by an answer that is as wanted, and fits behind the unit that waited.
 use Rattle.std.proofs.Common.{subst, zero, ◌≡◌, ◌+◌, ◌≤◌, ℕ, suc, List, [], ◌∷◌, Bool, Option, None, Some, true, false, ◌&&◌, not, ◌⊎◌, inl, inr, refl, ap, length, drop, length-drop, arith, cond}
-use Rattle.std.specs.Prelude.{slice_get, nat_lt, nat_le, ◌==◌}
-use Rattle.std.proofs.lemmas.Bool.{and_parts, leb-true}
+use Rattle.std.specs.Prelude.{slice_get, nat_lt, ◌==◌}
+use Rattle.std.proofs.lemmas.Bool.{and_parts}
 use Rattle.py_code.specs.declared.unit.CodeUnit.{CodeUnit}
 use Rattle.py_code.specs.declared.instruction.Instruction.{Instruction}
 use Rattle.py_code.specs.declared.instruction.Instruction.TheVariants.{LoadFast, DeleteFast, JumpIfTrue, JumpIfFalse, SetupWith, WithCleanupStart, WithCleanupFinish, Raise, YieldValue}
@@ -43,16 +43,8 @@ use Rattle.py_rows.proofs.KindLemmas.{kinds_counted}
 use Rattle.py_rows.proofs.LandingLemmas.{Fits, may_jumped}
 use Rattle.py_rows.proofs.BehindLemmas.{fits_behind}
 use Rattle.py_rows.proofs.UnwindingLemmas.{leaves, leaves_with}
-use Rattle.py_rows.proofs.TakingLemmas.{off, bottom-cons, handlers_same, taken, ends_exit}
+use Rattle.py_rows.proofs.TakingLemmas.{off, bottom-cons, handlers_same, takes_rest, ends_exit}
 use Rattle.py_rows.proofs.ActingLemmas.{second_taken, drop_two, other_or_plain, listed_asks}
-
--- what the rest of a rule says
-takes_rest : (wanted kinds : List Kind) (blocks : List BlockNote) (rest : List Kind → Bool) → takes wanted kinds blocks rest ≡ true → (rest (drop (length wanted) kinds) ≡ true) × (top_level blocks ≤ length (drop (length wanted) kinds)) × (length wanted ≤ length kinds)
-takes_rest [] kinds blocks rest may =
-    let parts = and_parts (nat_le (top_level blocks) (length kinds)) (rest kinds) may in (parts.1, leb-true (top_level blocks) (length kinds) parts.0, omega arith)
-takes_rest (w ∷ wanted) [] blocks rest may = cc
-takes_rest (w ∷ wanted) (k ∷ kinds) blocks rest may =
-    let more = takes_rest wanted kinds blocks rest (and_parts _ (takes wanted kinds blocks rest) may).1 in (more.0, more.1, omega (arith, more.2))
 
 -- any top will do where any is wanted
 any_top : (objects : List Payload) (stack : List Obj) (kinds : List Kind) → HaveKinds objects stack kinds → 1 ≤ length kinds → HaveKinds objects stack (kind.Any ∷ drop 1 kinds)
