@@ -1,5 +1,5 @@
 -- What is handled in blocks, and what is asked, is among the first n objects where the blocks and the operands are.
-use Rattle.std.proofs.Common.{◌≡◌, ◌<◌, ℕ, zero, suc, List, [], ◌∷◌, Bool, Option, None, Some, subst}
+use Rattle.std.proofs.Common.{◌≡◌, ◌<◌, ℕ, zero, suc, List, [], ◌∷◌, Option, None, Some, subst}
 use Rattle.std.specs.Prelude.{slice_get, slice_set, option_map}
 use Rattle.py_code.specs.declared.instruction.Instruction.{Instruction}
 use Rattle.py_objects.specs.declared.refs.PyBaseExceptionRef.{PyBaseExceptionRef}

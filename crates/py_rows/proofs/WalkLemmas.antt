@@ -1,6 +1,6 @@
 -- Where every row leads to: silently to a later unit, or behind an event of the unit that runs; the slot is kept; and where all that goes
 -- in is among the first n objects, so is all that comes out.
-use Rattle.std.proofs.Common.{◌≡◌, ◌∙◌, ◌<◌, ◌-◌, ℕ, zero, suc, List, [], ◌∷◌, ◌++◌, Bool, Option, None, Some, true, false, ◌&&◌, not, cond, refl, sym, ap, subst, length, take, drop, arith}
+use Rattle.std.proofs.Common.{◌≡◌, ◌<◌, ◌-◌, ℕ, zero, suc, List, [], ◌∷◌, ◌++◌, Bool, Option, None, Some, true, false, ◌&&◌, not, cond, refl, sym, ap, subst, length, take, drop, arith}
 use Rattle.std.specs.Prelude.{slice_get, slice_set, nat_lt}
 use Rattle.std.specs.List.{list_all}
 use Rattle.std.proofs.lemmas.Bool.{ltb-true}
@@ -21,7 +21,7 @@ use Rattle.py_objects.specs.declared.request.Request.{Request}
 use Rattle.py_objects.specs.declared.request.Request.TheVariants as request
 use Rattle.py_objects.specs.declared.event.GotAnswer.TheVariants as got
 use Rattle.py_objects.specs.Objects.{Obj, Name, AllBelow, numbers, number_if, request_numbers, as_object}
-use Rattle.py_objects.specs.Own.{Own, Rounds}
+use Rattle.py_objects.specs.Own.{Rounds}
 use Rattle.py_check.specs.Effects.{Effect, Moves, AsksOnce, Other, effect}
 use Rattle.py_check.specs.Taking.{picked}
 use Rattle.py_rows.specs.declared.block.Block.{Block}
@@ -35,7 +35,7 @@ use Rattle.py_rows.specs.States.{Setting, State, Step, Goes, Tells, Stuck, Move,
 use Rattle.py_rows.specs.Handled.{entered_by, handled_by, handled_in, AllKeep, Keeps}
 use Rattle.py_rows.specs.Unwinding.{left, left_handler, meets, unwind, unwinds}
 use Rattle.py_rows.specs.Asked.{asked}
-use Rattle.py_rows.specs.Rows.{asks, opens, is_there, reaches, loads, or_stuck, payload_of, asks_if, takes_off, where_there, acts_by, load_fast, delete_fast, if_popped, pop_block, pop_type, pop_exception, finally_type, in_finally, goes_on, raised_in, finishes, raises, act_own, unit_move}
+use Rattle.py_rows.specs.Rows.{asks, opens, is_there, reaches, loads, or_stuck, payload_of, asks_if, takes_off, where_there, acts_by, load_fast, delete_fast, if_popped, pop_block, pop_type, pop_exception, finally_type, in_finally, goes_on, finishes, raises, act_own, unit_move}
 use Rattle.py_rows.specs.Receiving.{entered, asks_again, enters_top, enters, jumps_if, passes_if, causes, raised, answered_by, answered_own, unit_answered, moves}
 use Rattle.py_rows.specs.RunOfRows.{IsExit, MayLead}
 use Rattle.py_rows.specs.Standing.{IsPlaced, IsOf}
