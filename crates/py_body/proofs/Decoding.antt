@@ -52,8 +52,8 @@ pub record Now : Type 0 where
 abbrev pub loops : ℕ → List Block
 loops depth = replicate depth (record { typ = Loop; level = 0 })
 
--- a frame that runs the unit at a place next, behind what prefixes carry and in so many loops; `last` is the place behind the last unit
--- that was begun
+-- a frame that runs the unit at a place next, behind what prefixes carry and in so many loops; `last` is the place behind the
+-- last unit that was begun
 abbrev pub running : (at last prefix : ℕ) → List Obj → ℕ → Now → State
 running at last prefix stack depth now =
     record { at = at; last = last; prefix = prefix; stack = stack; blocks = loops depth; locals = now.locals; slot = now.slot; phase = 0; wants = expect.Go }

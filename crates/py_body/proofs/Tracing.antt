@@ -1,5 +1,5 @@
 -- A run of code that is laid for a body is a trace of it.
-use Rattle.std.proofs.Common.{◌≡◌, ℕ, zero, suc, List, [], ◌∷◌, refl, sym, ap, ◌∙◌, subst, length, le_refl, inl, inr}
+use Rattle.std.proofs.Common.{◌≡◌, false, ℕ, zero, suc, List, [], ◌∷◌, refl, sym, ap, ◌∙◌, subst, length, le_refl, inl, inr}
 use Rattle.std.specs.Prelude.{Option, None}
 use Rattle.py_code.specs.declared.instruction.Instruction.TheVariants.{ReturnConst}
 use Rattle.py_code.specs.declared.literal.Literal.{None as NoneLiteral}
@@ -31,7 +31,7 @@ use Rattle.py_body.proofs.Loads.{const_run}
 use Rattle.py_body.proofs.Running.{suite_run}
 
 -- a frame that hasn't begun starts, where no exception is thrown into it
-entered : (objects : List Payload) (setting : Setting) (x : Own) (y : Expect) → is_thrown_into setting.code.code.flags ≡ is_thrown_into 33 → Hears objects setting expect.Start x y → (x ≡ Resumes how.Start) × (y ≡ expect.Go)
+entered : (objects : List Payload) (setting : Setting) (x : Own) (y : Expect) → is_thrown_into setting.code.code.flags ≡ false → Hears objects setting expect.Start x y → (x ≡ Resumes how.Start) × (y ≡ expect.Go)
 entered objects setting (Resumes how.Start) y flags is = (refl, is)
 entered objects setting (Resumes (how.Throw e)) y flags (exception, is, thrown) = absurd (cc)
 entered objects setting _ y flags never = absurd never

@@ -28,8 +28,9 @@ abbrev pub located : PyCode → List Payload → Obj → Scene
 located code objects globals = record { objects = objects; globals = globals; is_of = λ at line. is_line line (slice_get code.code.locations.items at) }
 
 -- the code has the body's parameters, keeps the typing rules with its notes, its names are in the table, and each run of its
--- rows, whole or cut, from any arguments, whatever the slot holds and whatever answers come, is a trace of the body, behind the making
--- of its activation, in which each unit that asks has its statement's line; all this where the table may have grown since
+-- rows, whole or cut, from any arguments, with any closure, whatever the slot holds at first and whatever answers come, is a
+-- trace of the body behind the making of its activation, in which each unit that asks has its statement's line; all this where
+-- the table may have grown since
 pub record Fits (names : List (List ℕ)) (code : Annotated) (t : Tree) : Type 0 where
   pub arity : code.code.code.arg_count ≡ length t.params
   pub params : params_of names code.code ≡ t.params
