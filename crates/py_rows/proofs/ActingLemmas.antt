@@ -51,7 +51,7 @@ use Rattle.py_rows.specs.declared.expect.Expect.{Expect}
 use Rattle.py_rows.specs.declared.expect.Expect.TheVariants as expect
 use Rattle.py_rows.specs.States.{State, Step, Goes, Move, next, with_stack, opened}
 use Rattle.py_rows.specs.Unwinding.{left}
-use Rattle.py_rows.specs.Answers.{HasKind}
+use Rattle.py_rows.specs.Answers.{HasKind, Suits}
 use Rattle.py_rows.specs.Answers as answers
 use Rattle.py_rows.specs.Asked.{name_of_local, asked}
 use Rattle.py_rows.specs.Fitting.{HaveKinds, WaitsIn, MayWait, TypeWaits, type_number, IsBlock, AreBlocks, Has, wanted_of, raise_left, left_own, left_by, left_of, FitsBut, IsSound}
@@ -129,7 +129,7 @@ pub drop_two : (kinds : List Kind) → drop 1 (drop 1 kinds) ≡ drop 2 kinds
 drop_two [] = refl
 drop_two (k ∷ kinds) = refl
 
-module _ (objects : List Payload) (names : List (List ℕ)) (globals : Obj) (code : Annotated) (sound : IsSound names code) (s : State) (kinds : List Kind) (blocks : List BlockNote) (unit : CodeUnit) (is : slice_get code.code.code.instructions.items s.at ≡ Some unit) (note_is : slice_get code.notes s.at ≡ Some (Live kinds blocks)) (goes : s.wants ≡ expect.Go) (fresh : s.phase ≡ 0) (has : Has objects code kinds blocks s) (carries : s.prefix ≡ carried code.code.code.instructions.items s.at) where
+module _ (objects : List Payload) (names : List (List ℕ)) (globals : Obj) (closure : List Obj) (code : Annotated) (sound : IsSound names code) (s : State) (kinds : List Kind) (blocks : List BlockNote) (unit : CodeUnit) (is : slice_get code.code.code.instructions.items s.at ≡ Some unit) (note_is : slice_get code.notes s.at ≡ Some (Live kinds blocks)) (goes : s.wants ≡ expect.Go) (fresh : s.phase ≡ 0) (has : Has objects code kinds blocks s) (carries : s.prefix ≡ carried code.code.code.instructions.items s.at) where
   abbrev Led : Step → Type 0
   Led step = LeadsTo (Fits objects code) step
 
@@ -145,9 +145,9 @@ module _ (objects : List Payload) (names : List (List ℕ)) (globals : Obj) (cod
 
   -- a frame that waits fits the note but for what its unit took
   waits_but : (op : Instruction) (i : ℕ) → unit.op ≡ op → with_byte s.prefix unit.arg ≡ i → (w : Wanted) (ks : List Kind) (bs : List BlockNote) (wanted : Wanted) (stack : List Obj) (ds : List Block) (slot : Option PyBaseExceptionRef) (x : Expect)
-      → left_of op i 0 kinds blocks ≡ Some (record { kinds = ks; blocks = bs; wanted = wanted }) → w ≡ wanted → Has objects code ks bs (record s { stack = stack; blocks = ds; slot = slot })
+      → left_of op i 0 kinds blocks ≡ Some (record { kinds = ks; blocks = bs; wanted = wanted }) → Suits w wanted → Has objects code ks bs (record s { stack = stack; blocks = ds; slot = slot })
       → FitsBut objects code w (record s { stack = stack; blocks = ds; slot = slot; wants = x })
-  waits_but op i is_op operand w ks bs wanted stack ds slot x waits same has' = record {
+  waits_but op i is_op operand w ks bs wanted stack ds slot x waits suits has' = record {
     unit = unit;
     is = is;
     kinds = kinds;
@@ -157,7 +157,7 @@ module _ (objects : List Payload) (names : List (List ℕ)) (globals : Obj) (cod
     waits = subst (λ (o : Instruction). left_of o (with_byte s.prefix unit.arg) s.phase kinds blocks ≡ Some (record { kinds = ks; blocks = bs; wanted = wanted })) (sym is_op)
         (subst (λ (n : ℕ). left_of op n s.phase kinds blocks ≡ Some (record { kinds = ks; blocks = bs; wanted = wanted })) (sym operand)
         (subst (λ (p : ℕ). left_of op i p kinds blocks ≡ Some (record { kinds = ks; blocks = bs; wanted = wanted })) (sym fresh) waits));
-    wanted = same;
+    suits = suits;
     has = record { holds = has'.holds; blocks = has'.blocks; handlers = has'.handlers; room = has'.room; block_room = has'.block_room; locals = has'.locals };
     carries = carries;
   }
@@ -202,11 +202,11 @@ module _ (objects : List Payload) (names : List (List ℕ)) (globals : Obj) (cod
 
   -- a local that is unset is asked for by its name
   unbound_fits : (op : Instruction) (i : ℕ) → unit.op ≡ op → with_byte s.prefix unit.arg ≡ i → left_of op i 0 kinds blocks ≡ Some (record { kinds = kinds; blocks = blocks; wanted = want.NoValue }) → nat_lt i (length code.code.code.varnames.items) ≡ true
-      → Led (asks_if (option_map (λ x. request.Unbound x) (name_of_local (record { code = code.code; names = names; globals = globals }) i)) s)
+      → Led (asks_if (option_map (λ x. request.Unbound x) (name_of_local (record { code = code.code; names = names; globals = globals; closure = closure }) i)) s)
   unbound_fits op i is_op operand left below =
       let (x, there) = named names code.code.code.varnames.items i sound.named.locals (ltb-true i (length code.code.code.varnames.items) below) in
       subst (λ (o : Option Name). Led (asks_if (option_map (λ x. request.Unbound x) o) s)) (sym there)
-      (waits_but op i is_op operand want.NoValue kinds blocks want.NoValue s.stack s.blocks s.slot (expect.Answer want.NoValue) left refl has)
+      (waits_but op i is_op operand want.NoValue kinds blocks want.NoValue s.stack s.blocks s.slot (expect.Answer want.NoValue) left (λ o v is. is) has)
 
   local_there : (i : ℕ) → nat_lt i (length code.code.code.varnames.items) ≡ true → slice_get s.locals i ≡ None → ⊥
   local_there i below none = not_there s.locals i (omega (arith, ltb-true i (length code.code.code.varnames.items) below, has.locals)) none
@@ -217,13 +217,13 @@ module _ (objects : List Payload) (names : List (List ℕ)) (globals : Obj) (cod
       not_there (x ∷ xs) (suc i) below is = not_there xs i (omega arith) is
 
   load_fast_fits : (i : ℕ) → unit.op ≡ LoadFast → with_byte s.prefix unit.arg ≡ i → nat_lt i (length code.code.code.varnames.items) ≡ true → goes_with (kind.Any ∷ kinds) blocks ≡ true → (local : Option (Option Obj)) → slice_get s.locals i ≡ local
-      → Led (load_fast (name_of_local (record { code = code.code; names = names; globals = globals }) i) local s)
+      → Led (load_fast (name_of_local (record { code = code.code; names = names; globals = globals; closure = closure }) i) local s)
   load_fast_fits i is_op operand below may None here = absurd (local_there i below here)
   load_fast_fits i is_op operand below may (Some None) here = unbound_fits LoadFast i is_op operand refl below
   load_fast_fits i is_op operand below may (Some (Some v)) here = goes_behind (ap is_prefix is_op) (kind.Any ∷ kinds) blocks (v ∷ s.stack) s.blocks s.locals s.slot may (tt, has.holds) has.blocks has.locals
 
   delete_fast_fits : (i : ℕ) → unit.op ≡ DeleteFast → with_byte s.prefix unit.arg ≡ i → nat_lt i (length code.code.code.varnames.items) ≡ true → goes_with kinds blocks ≡ true → (local : Option (Option Obj)) → slice_get s.locals i ≡ local
-      → Led (delete_fast (name_of_local (record { code = code.code; names = names; globals = globals }) i) i local s)
+      → Led (delete_fast (name_of_local (record { code = code.code; names = names; globals = globals; closure = closure }) i) i local s)
   delete_fast_fits i is_op operand below may None here = absurd (local_there i below here)
   delete_fast_fits i is_op operand below may (Some None) here = unbound_fits DeleteFast i is_op operand refl below
   delete_fast_fits i is_op operand below may (Some (Some v)) here =
@@ -333,7 +333,7 @@ module _ (objects : List Payload) (names : List (List ℕ)) (globals : Obj) (cod
       let count : length (bottom level s.stack) ≡ length s.stack - (length s.stack - level) = length-drop (length s.stack - level) s.stack in
       where_true (Fits objects code) _ _ (eq-eqb (length s.stack) level (omega (arith, stack_count, depth, level_is)))
       (off_there (bottom level s.stack) (omega (arith, count, stack_count, depth, nested, level_is)) _
-      (λ x rest same. waits_but WithCleanupStart i is_op operand (want.Of kind.Any) kinds blocks (want.Of kind.Any) s.stack s.blocks s.slot (expect.Answer (want.Of kind.Any)) refl refl has)))
+      (λ x rest same. waits_but WithCleanupStart i is_op operand (want.Of kind.Any) kinds blocks (want.Of kind.Any) s.stack s.blocks s.slot (expect.Answer (want.Of kind.Any)) refl (λ o v is. is) has)))
 
   -- the block of an exit ends, and what it held waits or goes on
   finishes_fit : is_prefix unit.op ≡ false → unit.op ≡ WithCleanupFinish → (i : ℕ) → with_byte s.prefix unit.arg ≡ i → (c : BlockNote) (cs : List BlockNote) → blocks ≡ c ∷ cs → (top_level cs ≤ length (drop 2 kinds)) → (2 ≤ length kinds)
@@ -352,7 +352,7 @@ module _ (objects : List Payload) (names : List (List ℕ)) (globals : Obj) (cod
         block_room = omega (arith, has.block_room, count);
         locals = has.locals;
       } in
-      waits_but WithCleanupFinish i is_op operand want.Truth (kind.Exc ∷ drop 2 kinds) (drop 1 blocks) want.Truth (as_object e ∷ stack) outer kept (expect.Answer want.Truth) refl refl
+      waits_but WithCleanupFinish i is_op operand want.Truth (kind.Exc ∷ drop 2 kinds) (drop 1 blocks) want.Truth (as_object e ∷ stack) outer kept (expect.Answer want.Truth) refl (λ o v is. is)
       (subst (λ (bs : List BlockNote). Has objects code (kind.Exc ∷ drop 2 kinds) bs (record s { stack = as_object e ∷ stack; blocks = outer; slot = kept })) (sym blocks_same) inner)
   finishes_fit plain is_op i operand c cs same top two hs may walk (Some (reason.Returning w)) waits v stack outer kept holds are =
       leaves objects code (reason.Returning w) (drop 2 kinds) cs (record s { stack = stack; blocks = outer; slot = kept }) goes (omega (arith, has.room, length-drop 2 kinds)) tt hs holds are has.locals
@@ -392,19 +392,19 @@ module _ (objects : List Payload) (names : List (List ℕ)) (globals : Obj) (cod
   raises_fit : (i : ℕ) → unit.op ≡ Raise → with_byte s.prefix unit.arg ≡ i → (k : Option RaiseKind) → slice_get raise_kinds i ≡ k → typing.raises k kinds blocks ≡ true → Led (raises k s)
   raises_fit i is_op operand None here may = cc
   raises_fit i is_op operand (Some raise.Reraise) here may =
-      waits_but Raise i is_op operand (want.Of kind.Exc) kinds blocks (want.Of kind.Exc) s.stack s.blocks s.slot (expect.Answer (want.Of kind.Exc)) (ap (λ k. raise_left k 0 kinds blocks) here) refl has
+      waits_but Raise i is_op operand (want.Of kind.Exc) kinds blocks (want.Of kind.Exc) s.stack s.blocks s.slot (expect.Answer (want.Of kind.Exc)) (ap (λ k. raise_left k 0 kinds blocks) here) (λ o v is. is) has
   raises_fit i is_op operand (Some raise.Raise) here may =
       off objects code kinds blocks (λ rest. true) s (Fits objects code) _ may has
       (λ v vs has' keeps count holds.
-      waits_but Raise i is_op operand (want.Of kind.Exc) (drop 1 kinds) blocks (want.Of kind.Exc) vs s.blocks s.slot (expect.Answer (want.Of kind.Exc)) (ap (λ k. raise_left k 0 kinds blocks) here) refl has')
+      waits_but Raise i is_op operand (want.Of kind.Exc) (drop 1 kinds) blocks (want.Of kind.Exc) vs s.blocks s.slot (expect.Answer (want.Of kind.Exc)) (ap (λ k. raise_left k 0 kinds blocks) here) (λ o v is. is) has')
   raises_fit i is_op operand (Some raise.RaiseCause) here may =
       off objects code kinds blocks (λ rest. true) s (Fits objects code) _ (first_taken kinds blocks may) has
       (λ c vs has' keeps count holds.
-      waits_but Raise i is_op operand (want.Of kind.Any) (drop 1 kinds) blocks (want.Of kind.Any) vs s.blocks s.slot (expect.Answer (want.Of kind.Any)) (ap (λ k. raise_left k 0 kinds blocks) here) refl has')
+      waits_but Raise i is_op operand want.ExceptionOrNone (drop 1 kinds) blocks want.ExceptionOrNone vs s.blocks s.slot (expect.Answer want.ExceptionOrNone) (ap (λ k. raise_left k 0 kinds blocks) here) (λ o v is. is) has')
 
   -- an instruction that isn't in the table leads to frames that fit
   own_fits : (op : Instruction) (i : ℕ) → unit.op ≡ op → with_byte s.prefix unit.arg ≡ i → keeps_own (sheet_of code) s.at op i kinds blocks ≡ true
-      → AlwaysLeads objects (Fits objects code) (act_own (record { code = code.code; names = names; globals = globals }) op i s)
+      → AlwaysLeads objects (Fits objects code) (act_own (record { code = code.code; names = names; globals = globals; closure = closure }) op i s)
   own_fits LoadConst i is_op operand keeps =
       loads_fit (slice_get (literals_of code.code.code.constants) i) (λ k. goes_with (k ∷ kinds) blocks) _ keeps
       (λ k v may is_kind. goes_behind (ap is_prefix is_op) (k ∷ kinds) blocks (v ∷ s.stack) s.blocks s.locals s.slot may (is_kind, has.holds) has.blocks has.locals)
@@ -422,10 +422,10 @@ module _ (objects : List Payload) (names : List (List ℕ)) (globals : Obj) (cod
   own_fits Jump to is_op operand keeps = may_jumped objects code to kinds blocks s goes keeps has.holds has.blocks has.locals
   own_fits JumpIfTrue to is_op operand keeps =
       off objects code kinds blocks (λ rest. may_jump (sheet_of code) to rest blocks && goes_with rest blocks) s (Fits objects code) _ keeps has
-      (λ v vs has' may count holds. waits_but JumpIfTrue to is_op operand want.Truth (drop 1 kinds) blocks want.Truth vs s.blocks s.slot (expect.Answer want.Truth) refl refl has')
+      (λ v vs has' may count holds. waits_but JumpIfTrue to is_op operand want.Truth (drop 1 kinds) blocks want.Truth vs s.blocks s.slot (expect.Answer want.Truth) refl (λ o v is. is) has')
   own_fits JumpIfFalse to is_op operand keeps =
       off objects code kinds blocks (λ rest. may_jump (sheet_of code) to rest blocks && goes_with rest blocks) s (Fits objects code) _ keeps has
-      (λ v vs has' may count holds. waits_but JumpIfFalse to is_op operand want.Truth (drop 1 kinds) blocks want.Truth vs s.blocks s.slot (expect.Answer want.Truth) refl refl has')
+      (λ v vs has' may count holds. waits_but JumpIfFalse to is_op operand want.Truth (drop 1 kinds) blocks want.Truth vs s.blocks s.slot (expect.Answer want.Truth) refl (λ o v is. is) has')
   own_fits SetupLoop i is_op operand keeps =
       opens_fit (ap is_prefix is_op) (record { typ = Loop; level = length s.stack }) (note.Loop (length kinds)) (record { number = refl; level = stack_count; handler = refl; waits = tt }) keeps
   own_fits SetupExcept to is_op operand keeps =
@@ -439,7 +439,7 @@ module _ (objects : List Payload) (names : List (List ℕ)) (globals : Obj) (cod
   own_fits EndFinally i is_op operand keeps = end_finally_fits (ap is_prefix is_op) blocks has.blocks has.handlers keeps
   own_fits SetupWith to is_op operand keeps =
       off objects code kinds blocks (λ rest. opens (sheet_of code) s.at to (kind.Any ∷ kind.Any ∷ rest) (note.Finally (suc (length rest)) to ∷ blocks)) s (Fits objects code) _ keeps has
-      (λ v vs has' may count holds. waits_but SetupWith to is_op operand (want.Of kind.Any) kinds blocks (want.Of kind.Any) s.stack s.blocks s.slot (expect.Answer (want.Of kind.Any)) refl refl has)
+      (λ v vs has' may count holds. waits_but SetupWith to is_op operand (want.Of kind.Any) kinds blocks (want.Of kind.Any) s.stack s.blocks s.slot (expect.Answer (want.Of kind.Any)) refl (λ o v is. is) has)
   own_fits WithCleanupStart i is_op operand keeps = (raised_there s.blocks blocks has.blocks, λ t v b. cleanup_starts is_op i operand blocks has.blocks keeps t v b)
   own_fits WithCleanupFinish i is_op operand keeps = cleanup_finishes (ap is_prefix is_op) is_op i operand blocks refl has.blocks has.handlers keeps
   own_fits PopBlock i is_op operand keeps = pop_block_fits (ap is_prefix is_op) s.blocks blocks has.blocks keeps
@@ -455,7 +455,7 @@ module _ (objects : List Payload) (names : List (List ℕ)) (globals : Obj) (cod
   own_fits YieldValue i is_op operand keeps =
       let parts = and_parts (is_generator code.code.code.flags) (takes_top kinds blocks (λ rest. goes_with (kind.Any ∷ rest) blocks)) keeps in
       off objects code kinds blocks (λ rest. goes_with (kind.Any ∷ rest) blocks) s (Fits objects code) _ parts.1 has
-      (λ v vs has' may count holds. waits_but YieldValue i is_op operand (want.Of kind.Any) (drop 1 kinds) blocks (want.Of kind.Any) vs s.blocks s.slot expect.Resume refl refl has')
+      (λ v vs has' may count holds. waits_but YieldValue i is_op operand (want.Of kind.Any) (drop 1 kinds) blocks (want.Of kind.Any) vs s.blocks s.slot expect.Resume refl (λ o v is. is) has')
   own_fits ExtendedArg i is_op operand keeps =
       let parts = and_parts (nat_lt (prefixes code.code.code.instructions.items s.at) 3) (goes_with kinds blocks) keeps in
       let t : State = record (next s) { prefix = i } in
@@ -465,7 +465,7 @@ module _ (objects : List Payload) (names : List (List ℕ)) (globals : Obj) (cod
 
   -- each instruction that keeps the rules does
   pub act_fits : (op : Instruction) (i : ℕ) → unit.op ≡ op → with_byte s.prefix unit.arg ≡ i → keeps_op (sheet_of code) s.at op i kinds blocks ≡ true
-      → AlwaysLeads objects (Fits objects code) (act (record { code = code.code; names = names; globals = globals }) op i s)
+      → AlwaysLeads objects (Fits objects code) (act (record { code = code.code; names = names; globals = globals; closure = closure }) op i s)
   act_fits op i is_op operand keeps =
-      by_effect op i (effect op i) (asked (record { code = code.code; names = names; globals = globals }) op i) (act_own (record { code = code.code; names = names; globals = globals }) op i s) (has_operand (sheet_of code) op i)
-      (keeps_own (sheet_of code) s.at op i kinds blocks) is_op operand (other_or_plain op i unit.op is_op) refl (asked_there names globals code sound.named op i) (own_fits op i is_op operand) keeps
+      by_effect op i (effect op i) (asked (record { code = code.code; names = names; globals = globals; closure = closure }) op i) (act_own (record { code = code.code; names = names; globals = globals; closure = closure }) op i s) (has_operand (sheet_of code) op i)
+      (keeps_own (sheet_of code) s.at op i kinds blocks) is_op operand (other_or_plain op i unit.op is_op) refl (asked_there names globals closure code sound.named op i) (own_fits op i is_op operand) keeps

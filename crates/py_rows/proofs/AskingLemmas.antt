@@ -25,13 +25,13 @@ use Rattle.py_rows.specs.Rows.{is_there}
 use Rattle.py_check.specs.Sheet.{sheet_of}
 use Rattle.py_rows.specs.States.{Setting}
 use Rattle.py_rows.proofs.BelowLemmas.{joined_below, reverse_below}
-use Rattle.py_rows.specs.Answers.{wanted}
+use Rattle.py_rows.specs.Answers.{wanted, Suits}
 use Rattle.py_rows.specs.Fitting.{wanted_of, ArePlaces, AreNames}
 
 -- a request is there, and wants what is pushed
 abbrev pub Wants : Option Kind → Option Request → Type 0
 Wants pushes None = ⊥
-Wants pushes (Some r) = wanted r ≡ wanted_of pushes
+Wants pushes (Some r) = Suits (wanted r) (wanted_of pushes)
 
 abbrev pub AsksAs : Effect → (List Obj → Option Request) → Type 0
 AsksAs (Moves n places) f = Unit {0}
@@ -59,7 +59,7 @@ module _ (Gap : Type 0) (setting : Setting) where
   -- a request wants what is pushed, and names the globals and the operands at most; where there is none, there is a gap
   abbrev pub Asks : Option Kind → List Obj → Option Request → Type 0
   Asks pushes vs None = Gap
-  Asks pushes vs (Some r) = (wanted r ≡ wanted_of pushes) × ((n : ℕ) → setting.globals.number < n → AllBelow n (numbers vs) → AllBelow n (request_numbers r))
+  Asks pushes vs (Some r) = Suits (wanted r) (wanted_of pushes) × ((n : ℕ) → setting.globals.number < n → AllBelow n (numbers vs) → AllBelow n (request_numbers r))
 
   -- the same of an effect, where there is a gap only by a wrong number of operands or an operand that isn't there
   abbrev pub AsksAny : Bool → Effect → (List Obj → Option Request) → Type 0
@@ -89,24 +89,24 @@ module _ (Gap : Type 0) (setting : Setting) where
   called : (k : ℕ) (ws vs : List Obj) → reverse vs ≡ ws → ((length vs ≡ length (replicate (suc k) kind.Any) → ⊥) → Gap) → Asks (Some kind.Any) vs (calls ws)
   called k [] vs is gap = gap (λ count. let none : length (reverse vs) ≡ 0 = ap length is in absurd (omega (arith, none, length-reverse vs, count, length-replicate (suc k) kind.Any)))
   called k (f ∷ args) vs is gap =
-      (refl, λ n there low. let all : AllBelow n (numbers (f ∷ args)) = subst (λ (ws : List Obj). AllBelow n (numbers ws)) is (reverse_below n vs low) in (all.0, joined_below n (numbers args) [] all.1 tt))
+      (λ objects v is. tt, λ n there low. let all : AllBelow n (numbers (f ∷ args)) = subst (λ (ws : List Obj). AllBelow n (numbers ws)) is (reverse_below n vs low) in (all.0, joined_below n (numbers args) [] all.1 tt))
 
   tested : (op : Option TestOperator) (a b : Obj) → (is_tested op ≡ false → Gap) → Asks (Some kind.Any) (b ∷ a ∷ []) (tests op a b)
-  tested (Some test.ExceptionMatch) a b gap = (refl, λ n there low. (low.1.0, (low.0, tt)))
+  tested (Some test.ExceptionMatch) a b gap = (λ objects v is. tt, λ n there low. (low.1.0, (low.0, tt)))
   tested _ a b gap = gap refl
 
   pub asked_as : (op : Instruction) (i : ℕ) → AsksAny (operand_there setting op i) (effect op i) (asked setting op i)
-  asked_as LoadGlobal i = λ vs gap. none_asked (Some kind.Any) _ vs (λ no. gap (inl no)) (mapped (Some kind.Any) [] (name_of_global setting i) _ (λ no. gap (inr no)) (λ x. (refl, λ n there low. (there, tt))))
+  asked_as LoadGlobal i = λ vs gap. none_asked (Some kind.Any) _ vs (λ no. gap (inl no)) (mapped (Some kind.Any) [] (name_of_global setting i) _ (λ no. gap (inr no)) (λ x. (λ objects v is. tt, λ n there low. (there, tt))))
   asked_as BinaryOperation i =
-      λ vs gap. two_asked (Some kind.Any) _ vs (λ no. gap (inl no)) (λ a b. mapped (Some kind.Any) (b ∷ a ∷ []) (asked_operator (slice_get binary_operators i)) _ (λ no. gap (inr no)) (λ op. (refl, λ n there low. (low.1.0, (low.0, tt)))))
+      λ vs gap. two_asked (Some kind.Any) _ vs (λ no. gap (inl no)) (λ a b. mapped (Some kind.Any) (b ∷ a ∷ []) (asked_operator (slice_get binary_operators i)) _ (λ no. gap (inr no)) (λ op. (λ objects v is. tt, λ n there low. (low.1.0, (low.0, tt)))))
   asked_as CompareOperation i =
-      λ vs gap. two_asked (Some kind.Any) _ vs (λ no. gap (inl no)) (λ a b. mapped (Some kind.Any) (b ∷ a ∷ []) (asked_comparison (slice_get comparison_operators i)) _ (λ no. gap (inr no)) (λ op. (refl, λ n there low. (low.1.0, (low.0, tt)))))
+      λ vs gap. two_asked (Some kind.Any) _ vs (λ no. gap (inl no)) (λ a b. mapped (Some kind.Any) (b ∷ a ∷ []) (asked_comparison (slice_get comparison_operators i)) _ (λ no. gap (inr no)) (λ op. (λ objects v is. tt, λ n there low. (low.1.0, (low.0, tt)))))
   asked_as TestOperation i = λ vs gap. two_asked (Some kind.Any) _ vs (λ no. gap (inl no)) (λ a b. tested (slice_get test_operators i) a b (λ no. gap (inr no)))
   asked_as CallFunctionPositional k = λ vs gap. called k (reverse vs) vs refl (λ no. gap (inl no))
-  asked_as PrintExpr i = λ vs gap. one_asked None _ vs (λ no. gap (inl no)) (λ v. (refl, λ n there low. low))
+  asked_as PrintExpr i = λ vs gap. one_asked None _ vs (λ no. gap (inl no)) (λ v. (λ objects v is. tt, λ n there low. low))
   asked_as _ i = tt
 
-got_there : {A : Type 0} (xs : List A) (i : ℕ) → i < length xs → (x : A) × (slice_get xs i ≡ Some x)
+pub got_there : {A : Type 0} (xs : List A) (i : ℕ) → i < length xs → (x : A) × (slice_get xs i ≡ Some x)
 got_there [] i below = absurd (omega arith)
 got_there (x ∷ xs) zero below = (x, refl)
 got_there (x ∷ xs) (suc i) below = got_there xs i (omega arith)
@@ -124,19 +124,19 @@ is_named names ids i places below =
     ap is_there is
 
 -- an operand in range is there
-operand_is : (names : List (List ℕ)) (globals : Obj) (code : Annotated) → AreNames names code.code → (op : Instruction) (i : ℕ) → has_operand (sheet_of code) op i ≡ true → operand_there (record { code = code.code; names = names; globals = globals }) op i ≡ true
-operand_is names globals code are LoadGlobal i there = is_named names code.code.code.names.items i are.globals there
-operand_is names globals code are BinaryOperation i there = operator_there (slice_get binary_operators i) there
-operand_is names globals code are CompareOperation i there = comparison_there (slice_get comparison_operators i) there
-operand_is names globals code are TestOperation i there = there
-operand_is names globals code are _ i there = refl
+operand_is : (names : List (List ℕ)) (globals : Obj) (closure : List Obj) (code : Annotated) → AreNames names code.code → (op : Instruction) (i : ℕ) → has_operand (sheet_of code) op i ≡ true → operand_there (record { code = code.code; names = names; globals = globals; closure = closure }) op i ≡ true
+operand_is names globals closure code are LoadGlobal i there = is_named names code.code.code.names.items i are.globals there
+operand_is names globals closure code are BinaryOperation i there = operator_there (slice_get binary_operators i) there
+operand_is names globals closure code are CompareOperation i there = comparison_there (slice_get comparison_operators i) there
+operand_is names globals closure code are TestOperation i there = there
+operand_is names globals closure code are _ i there = refl
 
-pub asked_there : (names : List (List ℕ)) (globals : Obj) (code : Annotated) → AreNames names code.code → (op : Instruction) (i : ℕ) → has_operand (sheet_of code) op i ≡ true
-    → AsksAs (effect op i) (asked (record { code = code.code; names = names; globals = globals }) op i)
-asked_there names globals code are op i there = by_effect (effect op i) (asked setting op i) (operand_there setting op i) (operand_is names globals code are op i there) (asked_as ⊥ setting op i)
+pub asked_there : (names : List (List ℕ)) (globals : Obj) (closure : List Obj) (code : Annotated) → AreNames names code.code → (op : Instruction) (i : ℕ) → has_operand (sheet_of code) op i ≡ true
+    → AsksAs (effect op i) (asked (record { code = code.code; names = names; globals = globals; closure = closure }) op i)
+asked_there names globals closure code are op i there = by_effect (effect op i) (asked setting op i) (operand_there setting op i) (operand_is names globals closure code are op i there) (asked_as ⊥ setting op i)
   where
     setting : Setting
-    setting = record { code = code.code; names = names; globals = globals }
+    setting = record { code = code.code; names = names; globals = globals; closure = closure }
 
     wants : (pushes : Option Kind) (vs : List Obj) (r : Option Request) → Asks ⊥ setting pushes vs r → Wants pushes r
     wants pushes vs None asks = absurd asks

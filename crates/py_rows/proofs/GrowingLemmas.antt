@@ -1,5 +1,5 @@
 -- What fits goes on to fit as objects grow.
-use Rattle.std.proofs.Common.{◌≡◌, ◌++◌, ◌<◌, ℕ, zero, suc, List, [], ◌∷◌, Option, None, Some, append_assoc, ap, ◌∙◌, length, length-append, arith}
+use Rattle.std.proofs.Common.{◌≡◌, ◌++◌, ◌<◌, ℕ, zero, suc, List, [], ◌∷◌, Option, None, Some, inl, inr, ⊎_elim, append_assoc, ap, ◌∙◌, length, length-append, arith}
 use Rattle.std.specs.Prelude.{slice_get}
 use Rattle.py_objects.specs.declared.payload.Payload.{Payload}
 use Rattle.py_objects.specs.declared.event.GotAnswer.TheVariants as got
@@ -97,6 +97,9 @@ module _ (objects objects' : List Payload) (grows : Grows objects objects') wher
   pub value_grown : (w : Wanted) (v : Obj) → IsValue objects w v → IsValue objects' w v
   value_grown (want.Of k) v is = kind_grown objects objects' v k grows is
   value_grown want.Truth v (b, has) = (b, payload_grown objects objects' v _ grows has)
+  value_grown want.ExceptionOrNone v is = ⊎_elim (λ e. inl (kind_grown objects objects' v kind.Exc grows e)) (λ none. inr (payload_grown objects objects' v _ grows none)) is
+  value_grown (want.Items n) v (vs, (has, count)) = (vs, (payload_grown objects objects' v _ grows has, count))
+  value_grown (want.Unpacked before after) v (vs, tuple, (w, here, list)) = absurd list
   value_grown want.NoValue v is = is
 
   note_grown : (code : Annotated) (s : State) → FitsNote objects code s → FitsNote objects' code s
@@ -112,7 +115,7 @@ module _ (objects objects' : List Payload) (grows : Grows objects objects') wher
     note = f.note;
     left = f.left;
     waits = f.waits;
-    wanted = f.wanted;
+    suits = f.suits;
     has = has_grown code f.left.kinds f.left.blocks s f.has;
     carries = f.carries;
   }

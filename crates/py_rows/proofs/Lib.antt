@@ -26,6 +26,8 @@ pub mod StepLemmas
 pub mod StandingLemmas
 -- more objects
 pub mod GrowingLemmas
+-- steps that can be made
+pub mod GoingLemmas
 -- numbers of objects
 pub mod StepsBelowLemmas
 -- whole runs

@@ -18,14 +18,14 @@ use Rattle.py_rows.proofs.StepLemmas.{steps_fit, start_fits}
 use Rattle.py_rows.proofs.StandingLemmas.{start_stands, steps_stand}
 use Rattle.py_rows.proofs.StepsBelowLemmas.{steps_below, start_below}
 
-fits_on : (objects : List Payload) (names : List (List ℕ)) (globals : Obj) (code : Annotated) → IsSound names code → (s t : State) (xs : List Own) → FitsAt objects code s.wants s → Runs objects (setting_of names globals code) s xs t
+fits_on : (objects : List Payload) (names : List (List ℕ)) (globals : Obj) (closure : List Obj) (code : Annotated) → IsSound names code → (s t : State) (xs : List Own) → FitsAt objects code s.wants s → Runs objects (setting_of names globals closure code) s xs t
     → FitsAt objects code t.wants t
-fits_on objects names globals code sound s _ _ fits none = fits
-fits_on objects names globals code sound s _ _ fits (on {us = us} {vs = vs} {t = t} u run step) = steps_fit objects names globals code sound t vs u (fits_on objects names globals code sound s t us fits run) step
+fits_on objects names globals closure code sound s _ _ fits none = fits
+fits_on objects names globals closure code sound s _ _ fits (on {us = us} {vs = vs} {t = t} u run step) = steps_fit objects names globals closure code sound t vs u (fits_on objects names globals closure code sound s t us fits run) step
 
-pub runs_fit : (objects : List Payload) (names : List (List ℕ)) (globals : Obj) (code : Annotated) (slot : Option PyBaseExceptionRef) (args : List Obj) (t : State) (xs : List Own) → IsSound names code
-    → Runs objects (setting_of names globals code) (started code.code slot args) xs t → FitsAt objects code t.wants t
-runs_fit objects names globals code slot args t xs sound run = fits_on objects names globals code sound (started code.code slot args) t xs (start_fits objects names code slot args sound) run
+pub runs_fit : (objects : List Payload) (names : List (List ℕ)) (globals : Obj) (closure : List Obj) (code : Annotated) (slot : Option PyBaseExceptionRef) (args : List Obj) (t : State) (xs : List Own) → IsSound names code
+    → Runs objects (setting_of names globals closure code) (started code.code slot args) xs t → FitsAt objects code t.wants t
+runs_fit objects names globals closure code slot args t xs sound run = fits_on objects names globals closure code sound (started code.code slot args) t xs (start_fits objects names code slot args sound) run
 
 -- what is heard first, and then
 heard_parts : (n : ℕ) (xs ys : List Own) → HearsBelow n (xs ++ ys) → HearsBelow n xs × HearsBelow n ys

@@ -44,7 +44,7 @@ IfLeads P (Goes t) = P t
 IfLeads P (Tells x t) = P t
 IfLeads P Stuck = Unit {0}
 
-module _ (objects : List Payload) (names : List (List ℕ)) (globals : Obj) (code : Annotated) (sound : IsSound names code) (s : State) where
+module _ (objects : List Payload) (names : List (List ℕ)) (globals : Obj) (closure : List Obj) (code : Annotated) (sound : IsSound names code) (s : State) where
   -- what a frame has that fits a note
   has_noted : (f : FitsNote objects code s) → (last : ℕ) (wants : Expect) → Has objects code f.kinds f.block_notes (record s { last = last; wants = wants })
   has_noted f last wants =
@@ -69,21 +69,21 @@ module _ (objects : List Payload) (names : List (List ℕ)) (globals : Obj) (cod
     note = f.note;
     left = f.left;
     waits = f.waits;
-    wanted = f.wanted;
+    suits = f.suits;
     has = has_waiting f.left.kinds f.left.blocks x f.has;
     carries = f.carries;
   }
 
-  go_fits : FitsNote objects code s → AlwaysLeads objects (Fits objects code) (moves (setting_of names globals code) expect.Go s)
+  go_fits : FitsNote objects code s → AlwaysLeads objects (Fits objects code) (moves (setting_of names globals closure code) expect.Go s)
   go_fits f =
       let kept = unit_kept code s.at f.kinds f.block_notes sound.typed f.note in
       let u : CodeUnit = kept.there in
       let keeps : keeps_op (sheet_of code) s.at u.op (with_byte s.prefix u.arg) f.kinds f.block_notes ≡ true =
       subst (λ (n : ℕ). keeps_op (sheet_of code) s.at u.op (with_byte n u.arg) f.kinds f.block_notes ≡ true) (sym f.carries) kept.keeps in
-      subst (λ (o : Option CodeUnit). AlwaysLeads objects (Fits objects code) (unit_move (setting_of names globals code) o s)) (sym kept.is)
-      (act_fits objects names globals code sound (begun s) f.kinds f.block_notes u kept.is f.note refl refl (has_begun f) f.carries u.op (with_byte s.prefix u.arg) refl refl keeps)
+      subst (λ (o : Option CodeUnit). AlwaysLeads objects (Fits objects code) (unit_move (setting_of names globals closure code) o s)) (sym kept.is)
+      (act_fits objects names globals closure code sound (begun s) f.kinds f.block_notes u kept.is f.note refl refl (has_begun f) f.carries u.op (with_byte s.prefix u.arg) refl refl keeps)
 
-  value_fits : (w : Wanted) (v : Obj) → FitsBut objects code w s → IsValue objects w v → AlwaysLeads objects (Fits objects code) (moves (setting_of names globals code) (expect.Heard (got.Value v)) s)
+  value_fits : (w : Wanted) (v : Obj) → FitsBut objects code w s → IsValue objects w v → AlwaysLeads objects (Fits objects code) (moves (setting_of names globals closure code) (expect.Heard (got.Value v)) s)
   value_fits w v f is_value =
       let kept = unit_kept code s.at f.kinds f.block_notes sound.typed f.note in
       let u : CodeUnit = f.unit in
@@ -93,13 +93,13 @@ module _ (objects : List Payload) (names : List (List ℕ)) (globals : Obj) (cod
       subst (λ (x : CodeUnit). keeps_op (sheet_of code) s.at x.op (with_byte (carried code.code.code.instructions.items s.at) x.arg) f.kinds f.block_notes ≡ true) there kept.keeps in
       let keeps : keeps_op (sheet_of code) s.at u.op (with_byte s.prefix u.arg) f.kinds f.block_notes ≡ true =
       subst (λ (n : ℕ). keeps_op (sheet_of code) s.at u.op (with_byte n u.arg) f.kinds f.block_notes ≡ true) (sym f.carries) kept_keeps in
-      let known : Given objects code (waiting expect.Go s) f.kinds f.block_notes u f.is refl f.note f.carries v (Some f.left) = (has_waiting f.left.kinds f.left.blocks expect.Go f.has, subst (λ (x : Wanted). IsValue objects x v) f.wanted is_value) in
+      let known : Given objects code (waiting expect.Go s) f.kinds f.block_notes u f.is refl f.note f.carries v (Some f.left) = (has_waiting f.left.kinds f.left.blocks expect.Go f.has, f.suits objects v is_value) in
       let given : Given objects code (waiting expect.Go s) f.kinds f.block_notes u f.is refl f.note f.carries v (left_of u.op (with_byte s.prefix u.arg) s.phase f.kinds f.block_notes) =
       subst (Given objects code (waiting expect.Go s) f.kinds f.block_notes u f.is refl f.note f.carries v) (sym f.waits) known in
       subst (λ (o : Option CodeUnit). AlwaysLeads objects (Fits objects code) (unit_answered o v (waiting expect.Go s))) (sym f.is)
       (answered_fits objects code (waiting expect.Go s) f.kinds f.block_notes u f.is refl f.note f.carries u.op (with_byte s.prefix u.arg) v refl refl keeps given)
 
-  pub next_fits : (x : Expect) → FitsAt objects code x s → IsMoving x → AlwaysLeads objects (Fits objects code) (moves (setting_of names globals code) x s)
+  pub next_fits : (x : Expect) → FitsAt objects code x s → IsMoving x → AlwaysLeads objects (Fits objects code) (moves (setting_of names globals closure code) x s)
   next_fits expect.Start f moving = absurd moving
   next_fits expect.Go f moving = go_fits f
   next_fits (expect.Answer w) f moving = absurd moving
@@ -126,19 +126,19 @@ module _ (objects : List Payload) (names : List (List ℕ)) (globals : Obj) (cod
   stuck_led : (step : Step) → Stuck ≡ step → IfLeads (Fits objects code) step
   stuck_led step is = subst (IfLeads (Fits objects code)) is tt
 
-  moved_fits : (x : Expect) (step : Step) → FitsAt objects code x s → MayLead objects (moves (setting_of names globals code) x s) step → IfLeads (Fits objects code) step
+  moved_fits : (x : Expect) (step : Step) → FitsAt objects code x s → MayLead objects (moves (setting_of names globals closure code) x s) step → IfLeads (Fits objects code) step
   moved_fits expect.Start step f may = stuck_led step may
-  moved_fits expect.Go step f may = if_led step (led (moves (setting_of names globals code) expect.Go s) step (next_fits expect.Go f tt) may)
+  moved_fits expect.Go step f may = if_led step (led (moves (setting_of names globals closure code) expect.Go s) step (next_fits expect.Go f tt) may)
   moved_fits (expect.Answer w) step f may = stuck_led step may
   moved_fits expect.Resume step f may = stuck_led step may
-  moved_fits (expect.Heard w) step f may = if_led step (led (moves (setting_of names globals code) (expect.Heard w) s) step (next_fits (expect.Heard w) f tt) may)
+  moved_fits (expect.Heard w) step f may = if_led step (led (moves (setting_of names globals closure code) (expect.Heard w) s) step (next_fits (expect.Heard w) f tt) may)
   moved_fits expect.Ended step f may = stuck_led step may
 
   can_unwind : (w : Wanted) (x : Expect) → FitsBut objects code w s → CanUnwind objects code (waiting x s)
   can_unwind w x f = record { kinds = f.left.kinds; block_notes = f.left.blocks; has = has_waiting f.left.kinds f.left.blocks x f.has; there = slice_get_within code.code.code.instructions.items s.at f.unit f.is }
 
   -- what a frame hears that waits
-  heard_fits : (x : Expect) (o : Own) (w : Expect) → FitsAt objects code x s → Hears objects (setting_of names globals code) x o w → FitsAt objects code w (waiting w s)
+  heard_fits : (x : Expect) (o : Own) (w : Expect) → FitsAt objects code x s → Hears objects (setting_of names globals closure code) x o w → FitsAt objects code w (waiting w s)
   heard_fits expect.Start (Resumes how.Start) w f hears = subst (λ (y : Expect). FitsAt objects code y (waiting y s)) (sym hears) (note_waiting expect.Go f.1)
   heard_fits expect.Start (Resumes (how.Throw e)) w f hears =
       let raised : Expect = expect.Heard (got.Raise e) in
@@ -169,7 +169,7 @@ module _ (objects : List Payload) (names : List (List ℕ)) (globals : Obj) (cod
   within (expect.Heard (got.Raise e)) f = has_within f.1.kinds f.1.block_notes f.1.has
   within expect.Ended f = (f.1, let none : length s.blocks ≡ 0 = ap length f.0 in omega (arith, none))
 
-  pub steps_fit : (xs : List Own) (t : State) → FitsAt objects code s.wants s → Steps objects (setting_of names globals code) s xs t → FitsAt objects code t.wants t
+  pub steps_fit : (xs : List Own) (t : State) → FitsAt objects code s.wants s → Steps objects (setting_of names globals closure code) s xs t → FitsAt objects code t.wants t
   steps_fit _ _ f (silent t may) = moved_fits s.wants (Goes t) f may
   steps_fit _ _ f (telling x t may) = moved_fits s.wants (Tells x t) f may
   steps_fit _ _ f (hearing x w hears) = heard_fits s.wants x w f hears

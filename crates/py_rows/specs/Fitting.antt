@@ -38,7 +38,7 @@ use Rattle.py_rows.specs.declared.expect.Wanted.TheVariants as want
 use Rattle.py_rows.specs.declared.expect.Expect.{Expect}
 use Rattle.py_rows.specs.declared.expect.Expect.TheVariants as expect
 use Rattle.py_rows.specs.States.{State}
-use Rattle.py_rows.specs.Answers.{HasKind, IsValue}
+use Rattle.py_rows.specs.Answers.{HasKind, IsValue, Suits}
 
 -- objects are of these kinds, in order
 abbrev pub HaveKinds : List Payload → List Obj → List Kind → Type 0
@@ -116,20 +116,20 @@ pub record FitsNote (objects : List Payload) (code : Annotated) (s : State) : Ty
   pub carries : s.prefix ≡ carried code.code.code.instructions.items s.at
   pub locals : length s.locals ≡ length code.code.code.varnames.items
 
--- what is left of a note while its unit waits, and for what
+-- what is left of a note while its unit waits, and what an answer must be at least
 pub record Waiting : Type 0 where
   pub kinds : List Kind
   pub blocks : List BlockNote
   pub wanted : Wanted
 
--- nothing else is wanted of a value
+-- an answer that is pushed is of the kind that the table of effects says
 abbrev pub wanted_of : Option Kind → Wanted
 wanted_of None = want.Of kind.Any
 wanted_of (Some k) = want.Of k
 
 -- while a raise with a cause waits for the cause, and then for the exception
 abbrev pub cause_left : ℕ → List Kind → List BlockNote → Option Waiting
-cause_left zero ks bs = Some (record { kinds = drop 1 ks; blocks = bs; wanted = want.Of kind.Any })
+cause_left zero ks bs = Some (record { kinds = drop 1 ks; blocks = bs; wanted = want.ExceptionOrNone })
 cause_left (suc n) ks bs = Some (record { kinds = drop 2 ks; blocks = bs; wanted = want.Of kind.Exc })
 
 -- while a raise waits
@@ -176,7 +176,7 @@ pub record FitsBut (objects : List Payload) (code : Annotated) (w : Wanted) (s :
   pub note : slice_get code.notes s.at ≡ Some (Live kinds block_notes)
   pub left : Waiting
   pub waits : left_of unit.op (with_byte s.prefix unit.arg) s.phase kinds block_notes ≡ Some left
-  pub wanted : w ≡ left.wanted
+  pub suits : Suits w left.wanted
   pub has : Has objects code left.kinds left.blocks s
   pub carries : s.prefix ≡ carried code.code.code.instructions.items s.at
 

@@ -32,7 +32,7 @@ abbrev pub RaisedThere : List Payload → Option PyBaseExceptionRef → Type 0
 RaisedThere objects None = Unit {0}
 RaisedThere objects (Some e) = HasKind objects (as_object e) kind.Exc
 
--- the same of a move, whatever it loads or is told; what it decides by is a truth value
+-- the same of a move, whichever object it loads or is told, and whether or not one is a manager; what it decides by is a truth value
 abbrev pub AlwaysLeads : List Payload → (State → Type 0) → Move → Type 0
 AlwaysLeads objects P (Plainly step) = LeadsTo P step
 AlwaysLeads objects P (Loads p f) = (v : Obj) → HasPayload objects v p → LeadsTo P (f v)
@@ -53,19 +53,25 @@ IsMoving expect.Resume = ⊥
 IsMoving (expect.Heard w) = Unit {0}
 IsMoving expect.Ended = ⊥
 
--- a code with its table of names and its globals
-abbrev pub setting_of : List (List ℕ) → Obj → Annotated → Setting
-setting_of names globals code = record { code = code.code; names = names; globals = globals }
+-- a code with its table of names, its globals and its closure
+abbrev pub setting_of : List (List ℕ) → Obj → List Obj → Annotated → Setting
+setting_of names globals closure code = record { code = code.code; names = names; globals = globals; closure = closure }
 
 -- a frame that fits its code and expects no input isn't stuck, and fits its code behind its step
 abbrev pub NextFits : Type 0
-NextFits = (objects : List Payload) (names : List (List ℕ)) (globals : Obj) (code : Annotated) (s : State)
-    → IsSound names code → FitsAt objects code s.wants s → IsMoving s.wants → AlwaysLeads objects (λ t. FitsAt objects code t.wants t) (moves (setting_of names globals code) s.wants s)
+NextFits = (objects : List Payload) (names : List (List ℕ)) (globals : Obj) (closure : List Obj) (code : Annotated) (s : State)
+    → IsSound names code → FitsAt objects code s.wants s → IsMoving s.wants → AlwaysLeads objects (λ t. FitsAt objects code t.wants t) (moves (setting_of names globals closure code) s.wants s)
 
--- so it does behind each step of a run
+-- so there is a step that it can make: where not among these objects, then among more, since a constant may have to be made
+abbrev pub NextGoes : Type 0
+NextGoes = (objects : List Payload) (names : List (List ℕ)) (globals : Obj) (closure : List Obj) (code : Annotated) (s : State)
+    → IsSound names code → FitsAt objects code s.wants s → IsMoving s.wants
+    → (objects' : List Payload) × Grows objects objects' × ((xs : List Own) × (t : State) × Steps objects' (setting_of names globals closure code) s xs t)
+
+-- it fits behind each step of a run
 abbrev pub StepsFit : Type 0
-StepsFit = (objects : List Payload) (names : List (List ℕ)) (globals : Obj) (code : Annotated) (s t : State) (xs : List Own)
-    → IsSound names code → FitsAt objects code s.wants s → Steps objects (setting_of names globals code) s xs t → FitsAt objects code t.wants t
+StepsFit = (objects : List Payload) (names : List (List ℕ)) (globals : Obj) (closure : List Obj) (code : Annotated) (s t : State) (xs : List Own)
+    → IsSound names code → FitsAt objects code s.wants s → Steps objects (setting_of names globals closure code) s xs t → FitsAt objects code t.wants t
 
 -- it is within the sizes
 abbrev pub FitsWithin : Type 0
@@ -115,8 +121,8 @@ StepsBelow = (objects : List Payload) (setting : Setting) (s t : State) (xs : Li
 
 -- a run of a sound code fits its notes, wherever it comes to
 abbrev pub RunsFit : Type 0
-RunsFit = (objects : List Payload) (names : List (List ℕ)) (globals : Obj) (code : Annotated) (slot : Option PyBaseExceptionRef) (args : List Obj) (t : State) (xs : List Own)
-    → IsSound names code → Runs objects (setting_of names globals code) (started code.code slot args) xs t → FitsAt objects code t.wants t
+RunsFit = (objects : List Payload) (names : List (List ℕ)) (globals : Obj) (closure : List Obj) (code : Annotated) (slot : Option PyBaseExceptionRef) (args : List Obj) (t : State) (xs : List Own)
+    → IsSound names code → Runs objects (setting_of names globals closure code) (started code.code slot args) xs t → FitsAt objects code t.wants t
 
 -- where the globals, the arguments, what is in the slot and all that a run hears are objects, so is all that it tells
 abbrev pub RunsBelow : Type 0

@@ -1,5 +1,5 @@
 -- States of frames, and what a step leads to.
-use Rattle.std.specs.Prelude.{ℕ, suc, Bool, Option, List, ◌∷◌, if◌then◌else◌, nat_lt}
+use Rattle.std.specs.Prelude.{ℕ, suc, Bool, Option, List, ◌∷◌, ◌≡◌, length, if◌then◌else◌, nat_lt}
 use Rattle.py_code.specs.declared.code.PyCode.{PyCode}
 use Rattle.py_objects.specs.declared.refs.PyBaseExceptionRef.{PyBaseExceptionRef}
 use Rattle.py_objects.specs.declared.payload.Payload.{Payload}
@@ -9,11 +9,16 @@ use Rattle.py_rows.specs.declared.block.Block.{Block}
 use Rattle.py_rows.specs.declared.expect.Expect.{Expect}
 use Rattle.py_rows.specs.declared.expect.Expect.TheVariants as expect
 
--- a code with what its units refer to
+-- what the units of a frame refer to: its code, and what its function has beside it
 pub record Setting : Type 0 where
   pub code : PyCode
   pub names : List (List ℕ)  -- the table that its names are places in, in UTF-8
   pub globals : Obj  -- the dict of its globals
+  pub closure : List Obj  -- the cells of the bodies around, one for each free name of the code
+
+-- each free name has a cell
+abbrev pub IsClosed : Setting → Type 0
+IsClosed setting = length setting.closure ≡ length setting.code.code.freevars.items
 
 -- what a frame stands at
 pub record State : Type 0 where

@@ -10,6 +10,12 @@ pub enum Wanted {
     Of(Kind),
     /// True or False.
     Truth,
+    /// An exception, or None.
+    ExceptionOrNone,
+    /// A tuple of so many items.
+    Items(u32),
+    /// A tuple of so many first items, a list, and so many last ones.
+    Unpacked { before: u32, after: u32 },
     /// No value: only a raise answers.
     NoValue,
 }

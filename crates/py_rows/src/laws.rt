@@ -1,11 +1,11 @@
 //! What holds of every run of the rows.
 
-ghost use Rattle.py_rows.specs.Laws.{EndsKeepSlot, EventsTold, FitsGrow, FitsWithin, NextFits, RunsFit, RunsGrow, RunsKeepSlot, RunsBelow, SilentLater, SlotKept, StartFits, StartStands, StartBelow, StepsFit, StepsStand, StepsBelow};
+ghost use Rattle.py_rows.specs.Laws.{EndsKeepSlot, EventsTold, FitsGrow, FitsWithin, NextFits, NextGoes, RunsFit, RunsGrow, RunsKeepSlot, RunsBelow, SilentLater, SlotKept, StartFits, StartStands, StartBelow, StepsFit, StepsStand, StepsBelow};
 
 /// States laws, and does nothing.
 ///
-/// A frame of a code that keeps the rules fits its notes before it has begun. It is never stuck, and fits behind what it does
-/// next. It fits behind each step, also one that it hears, and so wherever a run comes to; and where it fits it is within the
+/// A frame of a code that keeps the rules fits its notes before it has begun. It is never stuck: there is a step that it can
+/// make, as soon as a constant that this loads is among the objects; and it fits behind what it does next. It fits behind each step, also one that it hears, and so wherever a run comes to; and where it fits it is within the
 /// sizes.
 ///
 /// The slot holds the exception of the innermost handler, or what it held at first, and this where a run has ended. Of every code: a frame that waits is at
@@ -15,6 +15,7 @@ ghost use Rattle.py_rows.specs.Laws.{EndsKeepSlot, EventsTold, FitsGrow, FitsWit
 pub fn laws_of_rows()
     ensures start { StartFits }
     ensures next { NextFits }
+    ensures goes { NextGoes }
     ensures steps { StepsFit }
     ensures within { FitsWithin }
     ensures slot { SlotKept }

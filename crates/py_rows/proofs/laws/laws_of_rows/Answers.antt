@@ -1,6 +1,8 @@
+use Rattle.std.specs.Prelude.{[]}
 use Rattle.py_rows.proofs.StepLemmas.{start_fits, next_fits, steps_fit, within}
 use Rattle.py_rows.proofs.StandingLemmas.{slot_kept, start_stands, steps_stand, events_told, silent_later}
 use Rattle.py_rows.proofs.GrowingLemmas.{fits_grown, run_grown}
+use Rattle.py_rows.proofs.GoingLemmas.{next_goes}
 use Rattle.py_rows.proofs.StepsBelowLemmas.{start_below, steps_below}
 use Rattle.py_rows.proofs.RunLemmas.{runs_fit, runs_below, runs_keep_slot, ends_keep_slot}
 use Rattle.py_rows.proofs.laws.laws_of_rows.Goals as goal
@@ -9,13 +11,16 @@ pub returns-clause-start : goal.returns-clause-start
 returns-clause-start c = start_fits
 
 pub returns-clause-next : goal.returns-clause-next
-returns-clause-next c = λ objects names globals code s sound fits moving. next_fits objects names globals code sound s s.wants fits moving
+returns-clause-next c = λ objects names globals closure code s sound fits moving. next_fits objects names globals closure code sound s s.wants fits moving
+
+pub returns-clause-goes : goal.returns-clause-goes
+returns-clause-goes c = next_goes
 
 pub returns-clause-steps : goal.returns-clause-steps
-returns-clause-steps c = λ objects names globals code s t xs sound fits steps. steps_fit objects names globals code sound s xs t fits steps
+returns-clause-steps c = λ objects names globals closure code s t xs sound fits steps. steps_fit objects names globals closure code sound s xs t fits steps
 
 pub returns-clause-within : goal.returns-clause-within
-returns-clause-within c = λ objects names code s sound fits. within objects names (record { number = 0 }) code sound s s.wants fits
+returns-clause-within c = λ objects names code s sound fits. within objects names (record { number = 0 }) [] code sound s s.wants fits
 
 pub returns-clause-slot : goal.returns-clause-slot
 returns-clause-slot c = slot_kept
