@@ -1,12 +1,11 @@
 -- Frames as callers see them.
-use Rattle.std.specs.Prelude.{ℕ, Option, None, List, [], ◌≡◌}
+use Rattle.std.specs.Prelude.{ℕ, Option, None, List, []}
 use Rattle.py_code.specs.declared.code.PyCode.{PyCode}
 use Rattle.py_objects.specs.declared.refs.PyBaseExceptionRef.{PyBaseExceptionRef}
 use Rattle.py_objects.specs.declared.refs.FrameRef.{FrameRef}
 use Rattle.py_objects.specs.declared.scope.Scope.{Scope}
 use Rattle.py_objects.specs.Objects.{Obj}
 use Rattle.py_check.specs.declared.annotated.Annotated.{Annotated}
-use Rattle.py_rows.specs.declared.expect.Expect.TheVariants as expect
 use Rattle.py_rows.specs.States.{Setting, State, with_stack}
 use Rattle.py_rows.specs.RunOfRows.{started}
 
@@ -26,7 +25,7 @@ over f stack room = record f { state = with_stack stack f.state; room = room }
 
 -- the setting of a frame's run
 abbrev pub setting_in : PyCode → List (List ℕ) → Framed → Setting
-setting_in code names f = record { code = code; names = names; globals = f.scope.globals }
+setting_in code names f = record { code = code; names = names; globals = f.scope.globals; closure = f.closure }
 
 abbrev pub setting_of : List (List ℕ) → Annotated → Framed → Setting
 setting_of names code f = setting_in code.code names f

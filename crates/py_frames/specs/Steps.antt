@@ -1,5 +1,5 @@
 -- What a frame hears and tells by a step.
-use Rattle.std.specs.Prelude.{ℕ, ◌<◌, Option, Some, None, List, [], ◌∷◌, ◌++◌, ◌≡◌, length}
+use Rattle.std.specs.Prelude.{ℕ, Option, Some, None, List, [], ◌∷◌, ◌++◌, ◌≡◌}
 use Rattle.py_objects.specs.declared.refs.PyBaseExceptionRef.{PyBaseExceptionRef}
 use Rattle.py_objects.specs.declared.payload.Payload.{Payload}
 use Rattle.py_objects.specs.declared.event.GotAnswer.{GotAnswer}
@@ -12,7 +12,6 @@ use Rattle.py_rows.specs.declared.expect.Expect.TheVariants as expect
 use Rattle.py_rows.specs.States.{Setting, State}
 use Rattle.py_rows.specs.Answers.{wanted}
 use Rattle.py_rows.specs.Handled.{handled_in, KeepsSlot}
-use Rattle.py_rows.specs.Below.{HearsBelow, TellsBelow, HoldsBelow}
 use Rattle.py_rows.specs.Laws.{IsMoving}
 use Rattle.py_rows.specs.RunOfRows.{Hears, Runs}
 use Rattle.py_frames.specs.declared.input.Input.{Input}
@@ -72,6 +71,10 @@ told at (step.Return v) = Some (Ends at (ending.Return v))
 told at (step.Raise e) = Some (Ends at (ending.Raise e))
 told at step.NoMemory = None
 
+-- where a frame that takes an input is, with this in the slot
+abbrev pub hearing : Option PyBaseExceptionRef → Input → State → State
+hearing slot i s = record s { slot = slot; wants = taken i s.wants }
+
 -- an event, or none
 abbrev pub events : Option Own → List Own
 events None = []
@@ -111,8 +114,3 @@ GivesBack first t step.NoMemory = Unit {0}
 -- what the slot held when the frame was entered, it holds when the frame ends
 abbrev pub KeepsFirst : State → FrameStep → State → Type 0
 KeepsFirst s told t = (first : Option PyBaseExceptionRef) → KeepsSlot first s → GivesBack first t told
-
--- where the globals, all that a frame holds and all that it hears are objects, so is all that it tells and holds then
-abbrev pub StaysBelow : List Payload → List Payload → Setting → State → Option Own → Option Own → State → Type 0
-StaysBelow old new setting s hears tells t =
-    setting.globals.number < length old → HoldsBelow (length old) s → HearsBelow (length old) (events hears) → TellsBelow (length new) (events tells) × HoldsBelow (length new) t
