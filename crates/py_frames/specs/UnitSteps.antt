@@ -6,12 +6,14 @@ use Rattle.py_objects.specs.declared.payload.Payload.TheVariants as payload
 use Rattle.py_objects.specs.Objects.{Obj, HasPayload}
 use Rattle.py_objects.specs.Growth.{Grows}
 use Rattle.py_objects.specs.Own.{Own}
+use Rattle.py_objects.specs.declared.request.Request.{Request}
+use Rattle.py_check.specs.Effects.{Effect, Moves, AsksOnce, Other}
 use Rattle.py_check.specs.Constants.{is_loaded}
 use Rattle.py_rows.specs.declared.block.Block.{Block}
 use Rattle.py_rows.specs.declared.block.UnwindReason.{UnwindReason}
 use Rattle.py_rows.specs.States.{State, Step, Goes, Tells, Stuck, Move, Plainly, Loads, Decides, Manages, Exits}
 use Rattle.py_rows.specs.Unwinding.{unwind}
-use Rattle.py_rows.specs.Rows.{payload_of}
+use Rattle.py_rows.specs.Rows.{payload_of, moves_entries, asks_once}
 use Rattle.py_rows.specs.RunOfRows.{MayLead}
 use Rattle.py_rows.specs.Laws.{LeadsTo, IsWithin, RaisedThere}
 use Rattle.py_frames.specs.declared.unit_step.UnitStep.{UnitStep}
@@ -41,6 +43,18 @@ tells (Some x) s = Tells x s
 abbrev pub done : ℕ → UnitStep → State → Step
 done at unit.Goes s = Goes s
 done at (unit.Tells step) s = tells (told at step) s
+
+-- what the table of effects says of an instruction that moves entries
+abbrev pub moves_by : Effect → State → Step
+moves_by (Moves n places) s = moves_entries n places s
+moves_by (AsksOnce wanted pushes) s = Stuck
+moves_by Other s = Stuck
+
+-- and of one that asks once
+abbrev pub asks_by : Effect → (List Obj → Option Request) → State → Step
+asks_by (Moves n places) f s = Stuck
+asks_by (AsksOnce wanted pushes) f s = asks_once (length wanted) f s
+asks_by Other f s = Stuck
 
 -- a unit did what a row says, and left the same frame
 pub record Does (act : State → Step) (f : Framed) (step : UnitStep) (g : Framed) : Type 0 where

@@ -45,7 +45,7 @@ impl FrameCore {
     }
 
     /// The exception that the innermost block was entered by, where it is the handler of a finally.
-    pub(crate) fn raised(&self) -> Option<PyBaseExceptionRef>
+    pub(crate) fn raised_in(&self) -> Option<PyBaseExceptionRef>
         ensures { result ≡ raised_in self.now.state.blocks }
     {
         match self.blocks.last() {
