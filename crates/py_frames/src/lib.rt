@@ -2,6 +2,7 @@
 #![tactic(auto)]
 
 mod blocks;
+mod constants;
 mod filled;
 mod frame_core;
 mod input;
