@@ -8,3 +8,5 @@ pub mod PlainGrowth
 mod LoadingLemmas
 -- steps that can be made
 mod SafeLemmas
+-- what exits are told
+mod ExitLemmas

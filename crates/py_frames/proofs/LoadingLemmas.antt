@@ -50,30 +50,3 @@ add_grows (Err e) old new p is added err = rw (ap (λ (s : Kept). s.made) err) (
 pub has_constant : {E : Type 0} (r : Result Obj E) (objects : List Payload) (l : Literal) (p : Payload) → payload_of l ≡ Some p → IfOk r (λ v. HasPayload objects v p) → IfOk r (λ v. IsConstant objects (Some l) v)
 has_constant (Ok v) objects l p is has = subst (λ (o : Option Payload). HasIf objects o v) (sym is) has
 has_constant (Err e) objects l p is has = tt
-
--- a constant that may be loaded is there, and one that is loaded leads where the row says
-pub is_there_to_load : (objects : List Payload) (f : Framed) (l : Option Literal) (g : Obj → Step) → CanMove objects f (loads l g) → IsLoaded l
-is_there_to_load objects f None g can = absurd can
-is_there_to_load objects f (Some NoneLiteral) g can = refl
-is_there_to_load objects f (Some (BoolLiteral b)) g can = refl
-is_there_to_load objects f (Some (IntLiteral n)) g can = refl
-is_there_to_load objects f (Some (StrLiteral s)) g can = refl
-is_there_to_load objects f (Some (TupleLiteral shape items)) g can = absurd can
-is_there_to_load objects f (Some (CodeLiteral c)) g can = absurd can
-is_there_to_load objects f (Some (BuiltinLiteral b)) g can = absurd can
-
-pub can_load : (objects objects' : List Payload) (f : Framed) (l : Option Literal) (g : Obj → Step) (v : Obj) → CanMove objects f (loads l g) → GrowsPlainly objects objects' → IsConstant objects' l v → CanDo f (g v)
-can_load objects objects' f None g v can grows is = absurd is
-can_load objects objects' f (Some l) g v can grows is = by_payload (payload_of l) can is
-  where
-    by_payload : (p : Option Payload) → CanMove objects f (or_stuck p g) → HasIf objects' p v → CanDo f (g v)
-    by_payload None can is = absurd is
-    by_payload (Some p) can is = can objects' v (grows.more, grows.is) is
-
-pub may_load : (objects : List Payload) (l : Option Literal) (g : Obj → Step) (v : Obj) → IsConstant objects l v → MayLead objects (loads l g) (g v)
-may_load objects None g v is = absurd is
-may_load objects (Some l) g v is = by_payload (payload_of l) is
-  where
-    by_payload : (p : Option Payload) → HasIf objects p v → MayLead objects (or_stuck p g) (g v)
-    by_payload None is = absurd is
-    by_payload (Some p) is = (v, is, refl)

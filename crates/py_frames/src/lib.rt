@@ -2,7 +2,9 @@
 #![tactic(auto)]
 
 mod blocks;
+mod cleanup;
 mod constants;
+mod exits;
 mod filled;
 mod frame_core;
 mod input;
