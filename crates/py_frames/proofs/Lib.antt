@@ -1,0 +1,12 @@
+-- locals that are filled
+mod Filling
+-- what objects are now, and as they were made
+mod ObjectsLemmas
+-- growth by payloads that declare nothing
+pub mod PlainGrowth
+-- constants that are loaded
+mod LoadingLemmas
+-- steps that can be made
+mod SafeLemmas
+-- what exits are told
+mod ExitLemmas

@@ -1,0 +1,107 @@
+-- Growth by payloads that declare nothing.
+use Rattle.std.proofs.Common.{◌≡◌, ◌<◌, ◌≤◌, ◌-◌, ◌++◌, ℕ, zero, suc, List, [], ◌∷◌, Bool, true, false, cond, Some, refl, sym, ap, subst, ◌∙◌, length, length-append, append_assoc, append-nil, arith, ◌⊎◌, inl, inr}
+use Rattle.std.specs.Prelude.{Option, None, slice_get}
+use Rattle.py_objects.specs.declared.payload.Payload.{Payload}
+use Rattle.py_objects.specs.declared.payload.Payload.TheVariants as payload
+use Rattle.py_objects.specs.Objects.{Obj, Name, declares, is_name, declared_from, declared, payload_numbers, AllBelow, IsMade, AllFit, IfThere}
+use Rattle.py_objects.specs.Growth.{Grows, GrowsPlainly}
+use Rattle.py_rows.proofs.GrowingLemmas.{payload_grown}
+
+-- what is below stays below more
+pub below_more : (n m : ℕ) (ks : List ℕ) → n ≤ m → AllBelow n ks → AllBelow m ks
+below_more n m [] more below = tt
+below_more n m (k ∷ ks) more below = (let here : k < n = below.0 in omega (arith, here), below_more n m ks more below.1)
+
+-- an entry of a longer list is one of its front, or one behind it
+pub slice_get_split : {A : Type 0} (xs ys : List A) (i : ℕ) (x : A) → slice_get (xs ++ ys) i ≡ Some x → (slice_get xs i ≡ Some x) ⊎ (slice_get ys (i - length xs) ≡ Some x)
+slice_get_split [] ys i x here = let same : i - 0 ≡ i = omega arith in inr (rw same here)
+slice_get_split (z ∷ zs) ys zero x here = inl here
+slice_get_split (z ∷ zs) ys (suc i) x here =
+    let same : suc i - suc (length zs) ≡ i - length zs = omega arith in
+    elim (slice_get_split zs ys i x here) [ inl front ↦ inl front | inr back ↦ inr (rw same back) ]
+
+-- more objects are not fewer
+pub length_grown : (objects objects' : List Payload) → Grows objects objects' → length objects ≤ length objects'
+length_grown objects objects' (more, is) = omega (arith, ap length is, length-append objects more)
+
+-- the first object of a name stays the first, wherever the numbering begins
+declared_from_grown : (i : ℕ) (objects more : List Payload) (n : Name) (v : Obj) → declared_from i objects n ≡ Some v → declared_from i (objects ++ more) n ≡ Some v
+declared_from_grown i [] more n v is = cc
+declared_from_grown i (p ∷ ps) more n v is =
+    let P : Bool → Type 0 = λ b. cond b (Some (record { number = i })) (declared_from (suc i) ps n) ≡ Some v → cond b (Some (record { number = i })) (declared_from (suc i) (ps ++ more) n) ≡ Some v in
+    let cases : (b : Bool) → P b = λ b. elim b as P [ true ↦ λ h. h | false ↦ λ h. declared_from_grown (suc i) ps more n v h ] in
+    cases (is_name n (declares p)) is
+
+-- the same, of all objects
+pub declared_grown : (objects objects' : List Payload) (n : Name) (v : Obj) → Grows objects objects' → declared objects n ≡ Some v → declared objects' n ≡ Some v
+declared_grown objects objects' n v (more, same) is = rw same (declared_from_grown 0 objects more n v is)
+
+-- what holds of an object, where there is one, may be weakened
+there_grown : {P Q : Obj → Type 0} (v : Option Obj) → ((w : Obj) → P w → Q w) → IfThere P v → IfThere Q v
+there_grown None f there = tt
+there_grown (Some v) f there = f v there
+
+-- an entry's objects are of their kinds also among more objects
+pub made_grown : (objects objects' : List Payload) (p : Payload) → Grows objects objects' → IsMade objects p → IsMade objects' p
+made_grown objects objects' payload.None grows made = tt
+made_grown objects objects' (payload.Bool b) grows made = tt
+made_grown objects objects' (payload.Int n) grows made = tt
+made_grown objects objects' (payload.Str s) grows made = tt
+made_grown objects objects' (payload.Tuple vs) grows made = tt
+made_grown objects objects' (payload.Dict ps) grows made = tt
+made_grown objects objects' (payload.Class c) grows made = tt
+made_grown objects objects' (payload.Function f) grows made = tt
+made_grown objects objects' (payload.Manager m) grows ((f, is_enter), (g, is_exit)) =
+    ((f, payload_grown objects objects' _ _ grows is_enter), (g, payload_grown objects objects' _ _ grows is_exit))
+made_grown objects objects' (payload.Frame c) grows made = tt
+made_grown objects objects' (payload.Generator g) grows made = tt
+made_grown objects objects' (payload.Exception e) grows made = record {
+  class = made.class;
+  is_class = payload_grown objects objects' _ _ grows made.is_class;
+  is_declared = declared_grown objects objects' _ _ grows made.is_declared;
+  arguments = made.arguments;
+  are_arguments = payload_grown objects objects' _ _ grows made.are_arguments;
+  cause = there_grown e.cause (λ v (b, is). (b, payload_grown objects objects' _ _ grows is)) made.cause;
+  context = there_grown e.context (λ v (b, is). (b, payload_grown objects objects' _ _ grows is)) made.context;
+  traceback = there_grown e.traceback (λ v (b, is). (b, payload_grown objects objects' _ _ grows is)) made.traceback;
+}
+made_grown objects objects' (payload.Traceback t) grows (is_next, (c, is_frame)) =
+    (there_grown t.next (λ v (b, is). (b, payload_grown objects objects' _ _ grows is)) is_next, (c, payload_grown objects objects' _ _ grows is_frame))
+
+-- plain growth is growth
+pub plainly_grows : (old new : List Payload) → GrowsPlainly old new → Grows old new
+plainly_grows old new grows = (grows.more, grows.is)
+
+-- nothing more is plain growth
+pub grows_plainly_refl : (objects : List Payload) → GrowsPlainly objects objects
+grows_plainly_refl objects = record { more = []; is = sym (append-nil objects); plain = λ i p here. cc; fit = λ fit. fit }
+
+-- plain growth and plain growth are plain growth
+pub grows_plainly_trans : (old mid new : List Payload) → GrowsPlainly old mid → GrowsPlainly mid new → GrowsPlainly old new
+grows_plainly_trans old mid new first second = record {
+  more = first.more ++ second.more;
+  is = second.is ∙ ap (λ os. os ++ second.more) first.is ∙ append_assoc old first.more second.more;
+  plain = λ i p here. elim (slice_get_split first.more second.more i p here) [ inl front ↦ first.plain i p front | inr back ↦ second.plain _ p back ];
+  fit = λ fit. second.fit (first.fit fit);
+}
+
+-- the entry of a list of one
+one_entry : (q p : Payload) (i : ℕ) → slice_get (q ∷ []) i ≡ Some p → q ≡ p
+one_entry q p zero here = cc
+one_entry q p (suc i) here = cc
+
+-- a payload that declares nothing and names objects that are there, of the kinds that it needs
+pub grows_plainly_by : (objects : List Payload) (q : Payload) → declares q ≡ None → (AllFit objects → AllBelow (length objects) (payload_numbers q)) → (AllFit objects → IsMade objects q) → GrowsPlainly objects (objects ++ q ∷ [])
+grows_plainly_by objects q plain below made =
+    let grows : Grows objects (objects ++ q ∷ []) = (q ∷ [], refl) in
+    let longer : length objects ≤ length (objects ++ q ∷ []) = length_grown _ _ grows in
+    let Fits : Payload → Type 0 = λ p. AllBelow (length (objects ++ q ∷ [])) (payload_numbers p) × IsMade (objects ++ q ∷ []) p in
+    record {
+      more = q ∷ [];
+      is = refl;
+      plain = λ i p here. subst (λ (r : Payload). declares r ≡ None) (one_entry q p i here) plain;
+      fit = λ fit i p here. elim (slice_get_split objects (q ∷ []) i p here) [
+        | inl front ↦ (below_more _ _ _ longer (fit i p front).0, made_grown _ _ p grows (fit i p front).1)
+        | inr back ↦ subst Fits (one_entry q p _ back) (below_more _ _ _ longer (below fit), made_grown _ _ q grows (made fit))
+      ];
+    }

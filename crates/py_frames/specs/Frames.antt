@@ -1,0 +1,40 @@
+-- Frames as callers see them.
+use Rattle.std.specs.Prelude.{ℕ, Option, None, List, []}
+use Rattle.py_code.specs.declared.code.PyCode.{PyCode}
+use Rattle.py_objects.specs.declared.refs.PyBaseExceptionRef.{PyBaseExceptionRef}
+use Rattle.py_objects.specs.declared.refs.FrameRef.{FrameRef}
+use Rattle.py_objects.specs.declared.scope.Scope.{Scope}
+use Rattle.py_objects.specs.Objects.{Obj}
+use Rattle.py_check.specs.declared.annotated.Annotated.{Annotated}
+use Rattle.py_rows.specs.States.{Setting, State, with_stack}
+use Rattle.py_rows.specs.RunOfRows.{started}
+
+-- a frame: where a run of the rows has come to, the places that are left, and what the frame is made for
+pub record Framed : Type 0 where
+  pub state : State
+  pub room : ℕ  -- the places that are left on its stack
+  pub block_room : ℕ  -- the places that are left for blocks
+  pub code : ℕ  -- the number of its code
+  pub entry : FrameRef  -- the object that stands for it
+  pub scope : Scope
+  pub closure : List Obj  -- the cells of the bodies around it
+
+-- a core, which is a frame without its stack, over a stack of these values and so many places left
+abbrev pub over : Framed → List Obj → ℕ → Framed
+over f stack room = record f { state = with_stack stack f.state; room = room }
+
+-- the setting of a frame's run
+abbrev pub setting_in : PyCode → List (List ℕ) → Framed → Setting
+setting_in code names f = record { code = code; names = names; globals = f.scope.globals; closure = f.closure }
+
+abbrev pub setting_of : List (List ℕ) → Annotated → Framed → Setting
+setting_of names code f = setting_in code.code names f
+
+-- with this exception in the slot
+abbrev pub handed : Option PyBaseExceptionRef → State → State
+handed slot s = record s { slot = slot }
+
+-- a frame that hasn't begun, whose locals are unset
+abbrev pub unfilled : Annotated → ℕ → FrameRef → Scope → List Obj → ℕ → ℕ → Framed
+unfilled code number entry scope closure room block_room =
+    record { state = started code.code None []; room = room; block_room = block_room; code = number; entry = entry; scope = scope; closure = closure }

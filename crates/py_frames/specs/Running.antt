@@ -1,0 +1,40 @@
+-- What holds of a frame between steps.
+use Rattle.std.specs.Prelude.{ℕ, ◌+◌, ◌<◌, ◌≤◌, ◌≡◌, ◌⊎◌, Option, List, length}
+use Rattle.py_objects.specs.declared.refs.PyBaseExceptionRef.{PyBaseExceptionRef}
+use Rattle.py_objects.specs.declared.payload.Payload.{Payload}
+use Rattle.py_objects.specs.Objects.{AllBelow, number_if}
+use Rattle.py_check.specs.declared.annotated.Annotated.{Annotated}
+use Rattle.py_check.specs.Depths.{deepest}
+use Rattle.py_rows.specs.declared.expect.Expect.TheVariants as expect
+use Rattle.py_rows.specs.States.{State}
+use Rattle.py_rows.specs.Below.{HoldsBelow}
+use Rattle.py_rows.specs.Standing.{IsStanding}
+use Rattle.py_rows.specs.Fitting.{FitsAt, IsSound}
+use Rattle.py_frames.specs.Frames.{Framed}
+
+-- a frame of a code that it can run: it fits the notes of its code, stands where it waits, holds objects alone, and has room for the
+-- values and blocks that the code needs
+pub record IsRunning (objects : List Payload) (names : List (List ℕ)) (code : Annotated) (f : Framed) : Type 0 where
+  pub sound : IsSound names code
+  pub fits : FitsAt objects code f.state.wants f.state
+  pub first : Option PyBaseExceptionRef  -- what the slot held when the frame was entered
+  pub stands : IsStanding first f.state
+  pub below : HoldsBelow (length objects) f.state
+  pub globals : f.scope.globals.number < length objects
+  pub within : f.state.last ≤ length code.code.code.instructions.items
+  pub room : code.code.code.max_stackdepth ≤ length f.state.stack + f.room
+  pub block_room : deepest code.notes ≤ length f.state.blocks + f.block_room
+
+-- the slot holds an exception, if any; behind a frame's first step it is what the last one left there
+pub record SlotFits (objects : List Payload) (s : State) (slot : Option PyBaseExceptionRef) : Type 0 where
+  pub below : AllBelow (length objects) (number_if slot)
+  pub left : (s.wants ≡ expect.Start) ⊎ (slot ≡ s.slot)
+
+-- the same frame in another state: it has as many places for values and for blocks
+pub record IsSame (f g : Framed) : Type 0 where
+  pub code : g.code ≡ f.code
+  pub entry : g.entry ≡ f.entry
+  pub scope : g.scope ≡ f.scope
+  pub closure : g.closure ≡ f.closure
+  pub room : length g.state.stack + g.room ≡ length f.state.stack + f.room
+  pub block_room : length g.state.blocks + g.block_room ≡ length f.state.blocks + f.block_room

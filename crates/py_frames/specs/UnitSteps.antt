@@ -1,0 +1,91 @@
+-- What a unit did, as its row says it.
+use Rattle.std.specs.Prelude.{ℕ, ◌+◌, ◌≡◌, Bool, true, Option, None, Some, List, [], ◌∷◌, length}
+use Rattle.py_code.specs.declared.literal.Literal.{Literal}
+use Rattle.py_objects.specs.declared.payload.Payload.{Payload}
+use Rattle.py_objects.specs.declared.payload.Payload.TheVariants as payload
+use Rattle.py_objects.specs.Objects.{Obj, HasPayload}
+use Rattle.py_objects.specs.Growth.{Grows}
+use Rattle.py_objects.specs.Own.{Own}
+use Rattle.py_objects.specs.declared.request.Request.{Request}
+use Rattle.py_check.specs.Effects.{Effect, Moves, AsksOnce, Other}
+use Rattle.py_check.specs.Constants.{is_loaded}
+use Rattle.py_rows.specs.declared.block.Block.{Block}
+use Rattle.py_rows.specs.declared.block.UnwindReason.{UnwindReason}
+use Rattle.py_rows.specs.States.{State, Step, Goes, Tells, Stuck, Move, Plainly, Loads, Decides, Manages, Exits}
+use Rattle.py_rows.specs.Unwinding.{unwind}
+use Rattle.py_rows.specs.Rows.{payload_of, moves_entries, asks_once}
+use Rattle.py_rows.specs.RunOfRows.{MayLead}
+use Rattle.py_rows.specs.Laws.{LeadsTo, IsWithin, RaisedThere}
+use Rattle.py_frames.specs.declared.unit_step.UnitStep.{UnitStep}
+use Rattle.py_frames.specs.declared.unit_step.UnitStep.TheVariants as unit
+use Rattle.py_frames.specs.Frames.{Framed}
+use Rattle.py_frames.specs.Steps.{told}
+use Rattle.py_frames.specs.Running.{IsSame}
+
+-- a frame has room for a step
+abbrev pub CanDo : Framed → Step → Type 0
+CanDo f step = LeadsTo (IsWithin (length f.state.stack + f.room) (length f.state.blocks + f.block_room)) step
+
+-- it has room for a move, whatever object is loaded later, and what the move goes by is there
+abbrev pub CanMove : List Payload → Framed → Move → Type 0
+CanMove objects f (Plainly step) = CanDo f step
+CanMove objects f (Loads p g) = (objects' : List Payload) (v : Obj) → Grows objects objects' → HasPayload objects' v p → CanDo f (g v)
+CanMove objects f (Decides v g) = ((b : Bool) × HasPayload objects v (payload.Bool b)) × ((b : Bool) → CanDo f (g b))
+CanMove objects f (Manages m g) = ((p : Payload) × HasPayload objects m p) × ((b : Bool) → CanDo f (g b))
+CanMove objects f (Exits e g) = RaisedThere objects e × ((t v b : Obj) → CanDo f (g t v b))
+
+-- an event that is told, as a step; it has to be one
+abbrev pub tells : Option Own → State → Step
+tells None s = Stuck
+tells (Some x) s = Tells x s
+
+-- the unit `at` left the frame in this state, as a step
+abbrev pub done : ℕ → UnitStep → State → Step
+done at unit.Goes s = Goes s
+done at (unit.Tells step) s = tells (told at step) s
+
+-- what the table of effects says of an instruction that moves entries
+abbrev pub moves_by : Effect → State → Step
+moves_by (Moves n places) s = moves_entries n places s
+moves_by (AsksOnce wanted pushes) s = Stuck
+moves_by Other s = Stuck
+
+-- and of one that asks once
+abbrev pub asks_by : Effect → (List Obj → Option Request) → State → Step
+asks_by (Moves n places) f s = Stuck
+asks_by (AsksOnce wanted pushes) f s = asks_once (length wanted) f s
+asks_by Other f s = Stuck
+
+-- a unit did what a row says, and left the same frame
+pub record Does (act : State → Step) (f : Framed) (step : UnitStep) (g : Framed) : Type 0 where
+  pub row : act f.state ≡ done f.state.at step g.state
+  pub same : IsSame f g
+
+-- the same of a move, which it may lead to
+pub record MayDo (objects : List Payload) (act : State → Move) (f : Framed) (step : UnitStep) (g : Framed) : Type 0 where
+  pub row : MayLead objects (act f.state) (done f.state.at step g.state)
+  pub same : IsSame f g
+
+-- where a block is passed, the others are left
+abbrev pub passed : ℕ → Option UnitStep → UnwindReason → State → Step
+passed at None r s = unwind r s.blocks s
+passed at (Some step) r s = done at step s
+
+-- the innermost block was taken off, where there was one
+abbrev pub PopsBlock : Framed → Option Block → Framed → Type 0
+PopsBlock f None g = (f.state.blocks ≡ []) × (g ≡ f)
+PopsBlock f (Some b) g = f ≡ record g { state = record g.state { blocks = b ∷ g.state.blocks }; block_room = f.block_room }
+
+-- an object is of a constant's payload
+abbrev pub HasIf : List Payload → Option Payload → Obj → Type 0
+HasIf objects None v = ⊥
+HasIf objects (Some p) v = HasPayload objects v p
+
+abbrev pub IsConstant : List Payload → Option Literal → Obj → Type 0
+IsConstant objects None v = ⊥
+IsConstant objects (Some l) v = HasIf objects (payload_of l) v
+
+-- a constant that is there and loaded so far
+abbrev pub IsLoaded : Option Literal → Type 0
+IsLoaded None = ⊥
+IsLoaded (Some l) = is_loaded l ≡ true

@@ -1,0 +1,26 @@
+//! Frames: running code, one event at a time.
+#![tactic(auto)]
+
+mod blocks;
+mod cleanup;
+mod constants;
+mod exits;
+mod filled;
+mod frame_core;
+mod input;
+mod jumps;
+mod locals;
+mod managers;
+mod objects;
+mod questions;
+mod raising;
+mod stacks;
+mod table;
+mod unit_step;
+mod unwinding;
+mod wanted;
+
+pub use filled::{Filled, positional};
+pub use input::{Answer, FrameStep, Input};
+pub use py_rows::{Expect, Wanted};
+pub use py_stack::{OwnStack, ValueStack};

@@ -1,0 +1,60 @@
+//! What objects are, by the store.
+
+ghost use Rattle.std.specs.Prelude.{◌≡◌, Bool, Some, IfOk};
+ghost use Rattle.py_code.specs.declared.literal.Literal.{Literal as LiteralOf};
+ghost use Rattle.py_objects.specs.declared.payload.Payload.{Payload as PayloadOf};
+ghost use Rattle.py_objects.specs.declared.payload.Payload.TheVariants as payload;
+ghost use Rattle.py_objects.specs.Objects.{HasPayload, as_object};
+ghost use Rattle.py_objects.specs.Growth.{GrowsPlainly};
+ghost use Rattle.py_rows.specs.Rows.{as_exception, payload_of};
+ghost use Rattle.py_rows.specs.RunOfRows.{is_manager};
+
+use py_code::NoMemory;
+use py_objects::{Payload, PyBaseExceptionRef, PyObjectRef, Store};
+
+/// An exception as an object.
+pub(crate) fn as_object(exception: PyBaseExceptionRef) -> PyObjectRef
+    ensures { result ≡ as_object exception }
+{
+    PyObjectRef {
+        number: exception.number,
+    }
+}
+
+/// An object as an exception.
+pub(crate) fn as_exception(value: PyObjectRef) -> PyBaseExceptionRef
+    ensures { result ≡ as_exception value }
+{
+    PyBaseExceptionRef {
+        number: value.number,
+    }
+}
+
+/// Which truth value an object is.
+pub(crate) fn truth(store: &Store, value: PyObjectRef) -> bool
+    requires { (b : Bool) × HasPayload store.now.made value (payload.Bool b) }
+    ensures { HasPayload store.now.made value (payload.Bool result) }
+{
+    match store.get(value) {
+        Payload::Bool(truth) => *truth,
+        _ => unreachable!(),
+    }
+}
+
+/// Whether an object is a manager, which has an exit.
+pub(crate) fn is_manager(store: &Store, value: PyObjectRef) -> bool
+    requires { (p : PayloadOf) × HasPayload store.now.made value p }
+    ensures { (p : PayloadOf) × HasPayload store.now.made value p × (is_manager p ≡ result) }
+{
+    matches!(store.get(value), Payload::Manager(_))
+}
+
+/// A new object of a constant's payload.
+pub(crate) fn add_constant(store: &mut Store, payload: Payload) -> Result<PyObjectRef, NoMemory>
+    requires { (literal : LiteralOf) × (payload_of literal ≡ Some payload) }
+    ensures has { IfOk result (λ object. HasPayload store.new.made object payload) }
+    ensures objects { GrowsPlainly store.old.made store.new.made }
+    ensures unchanged { store.new ≡ record store.old { made = store.new.made } }
+{
+    store.add(payload)
+}
