@@ -1,5 +1,5 @@
 -- A frame that fits its note isn't stuck, and fits behind the unit that runs.
-use Rattle.std.proofs.Common.{◌≡◌, ◌∙◌, ◌+◌, ◌-◌, ◌<◌, ◌≤◌, ℕ, zero, suc, List, [], ◌∷◌, ◌++◌, Bool, Option, None, Some, true, false, ◌&&◌, ◌⊎◌, inl, inr, refl, sym, ap, subst, length, take, drop, length-drop, arith}
+use Rattle.std.proofs.Common.{◌≡◌, ◌∙◌, ◌+◌, ◌-◌, ◌<◌, ◌≤◌, ℕ, suc, List, [], ◌∷◌, ◌++◌, Bool, Option, None, Some, true, false, ◌&&◌, ◌⊎◌, inl, inr, refl, sym, ap, subst, length, take, drop, length-drop, arith}
 use Rattle.std.specs.Prelude.{slice_get, slice_set, nat_lt, nat_le, option_map, ◌==◌}
 use Rattle.std.specs.List.{list_all}
 use Rattle.std.proofs.Math.ListN.{length-set}
@@ -23,7 +23,6 @@ use Rattle.py_objects.specs.Objects.{Obj, Name, HasPayload, as_object}
 use Rattle.py_check.specs.declared.note.Kind.{Kind}
 use Rattle.py_check.specs.declared.note.Kind.TheVariants as kind
 use Rattle.py_check.specs.declared.note.Note.TheVariants.{Live}
-use Rattle.py_check.specs.declared.note.Pending.{Pending}
 use Rattle.py_check.specs.declared.note.Pending.TheVariants as pending
 use Rattle.py_check.specs.declared.note.BlockNote.{BlockNote}
 use Rattle.py_check.specs.declared.note.BlockNote.TheVariants as note
@@ -36,7 +35,7 @@ use Rattle.py_rows.specs.Rows.{is_there, reaches, payload_of, or_stuck, loads, a
 use Rattle.py_check.specs.Sheet.{Sheet, sheet_of}
 use Rattle.py_check.specs.Rules.{bottom, top_level, has_room, lands, goes_on, jumps as may_jump, handlers_land, is_popped, leaves_block}
 use Rattle.py_check.specs.Taking.{takes, takes_top, at_place, picked, moved_kinds, may_move}
-use Rattle.py_check.specs.Leaving.{is_finally_handler, is_except_handler, ends_with, ends_finally, leaves_handler, starts_cleanup, ends_cleanup, walks}
+use Rattle.py_check.specs.Leaving.{is_finally_handler, is_except_handler, ends_finally, leaves_handler, starts_cleanup, ends_cleanup, walks}
 use Rattle.py_check.specs.Typing.{is_generator, opens, keeps_by, keeps_own, keeps_op}
 use Rattle.py_check.specs.Rules as rules
 use Rattle.py_check.specs.Typing as typing
@@ -54,16 +53,16 @@ use Rattle.py_rows.specs.Unwinding.{left}
 use Rattle.py_rows.specs.Answers.{HasKind, Suits}
 use Rattle.py_rows.specs.Answers as answers
 use Rattle.py_rows.specs.Asked.{name_of_local, asked}
-use Rattle.py_rows.specs.Fitting.{HaveKinds, WaitsIn, MayWait, TypeWaits, type_number, IsBlock, AreBlocks, Has, wanted_of, raise_left, left_own, left_by, left_of, FitsBut, IsSound}
+use Rattle.py_rows.specs.Fitting.{HaveKinds, MayWait, TypeWaits, type_number, IsBlock, AreBlocks, Has, wanted_of, raise_left, left_own, left_by, left_of, FitsBut, IsSound}
 use Rattle.py_rows.specs.Laws.{LeadsTo, RaisedThere, AlwaysLeads}
 use Rattle.py_rows.proofs.KindLemmas.{kinds_counted, kinds_dropped, kinds_under, kinds_joined, kinds_moved}
-use Rattle.py_rows.proofs.BlockLemmas.{one_of}
+use Rattle.py_rows.proofs.BlockLemmas.{waiting_admitted}
 use Rattle.py_rows.proofs.TypingLemmas.{prefix_carried}
 use Rattle.py_rows.proofs.LandingLemmas.{Fits, arrived, on_fits, may_jumped}
 use Rattle.py_rows.proofs.BehindLemmas.{arrives_behind, fits_behind}
-use Rattle.py_rows.proofs.UnwindingLemmas.{MayLeave, leaves, leaves_with}
-use Rattle.py_rows.proofs.TakingLemmas.{bottom-cons, bottom-drop, handlers_same, reached, places_there, Taken, taken, has_under, off}
-use Rattle.py_rows.proofs.AskingLemmas.{Wants, AsksAs, named, asked_there}
+use Rattle.py_rows.proofs.UnwindingLemmas.{leaves, leaves_with}
+use Rattle.py_rows.proofs.TakingLemmas.{bottom-cons, bottom-drop, handlers_same, reached, places_there, takes_rest, has_under, off, EndsExit, ends_exit}
+use Rattle.py_rows.proofs.AskingLemmas.{got_there, Wants, AsksAs, named, asked_there}
 
 -- a loaded constant has a payload, and an object of it is of the constant's kind
 literal_kind : (objects : List Payload) (l : Literal) → is_loaded l ≡ true → (p : Payload) × (payload_of l ≡ Some p) × ((v : Obj) → HasPayload objects v p → HasKind objects v (kind_of l))
@@ -97,14 +96,6 @@ listed_moves n places is = let clash : false ≡ true = ap is_other is in cc
 
 pub listed_asks : (wanted : List Kind) (pushes : Option Kind) → AsksOnce wanted pushes ≡ Other → ⊥
 listed_asks wanted pushes is = let clash : false ≡ true = ap is_other is in cc
-
--- what waits in a finally may leave the blocks around it
-pub may_leave : (objects : List Payload) (code : Annotated) (ks : List Kind) (bs : List BlockNote) (ps : List Pending) (r : UnwindReason) → list_all (λ p. walks (sheet_of code) p ks bs) ps ≡ true → WaitsIn objects ps r
-    → MayLeave objects code r ks bs
-may_leave objects code ks bs ps (reason.Raising e) walk waits = waits
-may_leave objects code ks bs ps (reason.Returning v) walk waits = tt
-may_leave objects code ks bs ps (reason.Break to) walk waits = one_of (λ p. walks (sheet_of code) p ks bs) (pending.Break to) ps walk waits
-may_leave objects code ks bs ps (reason.Continue to) walk waits = one_of (λ p. walks (sheet_of code) p ks bs) (pending.Continue to) ps walk waits
 
 -- the handlers outside of the innermost block
 pub outer_handlers : (sheet : Sheet) (ks : List Kind) (b : BlockNote) (bs : List BlockNote) → handlers_land sheet ks (b ∷ bs) ≡ true → handlers_land sheet (bottom (level_of b) ks) bs ≡ true
@@ -180,9 +171,10 @@ module _ (objects : List Payload) (names : List (List ℕ)) (globals : Obj) (clo
       has.blocks has.locals)
   by_effect op i (AsksOnce wanted pushes) f own there keeps is_op operand plain left asks led may =
       let parts = and_parts there (takes wanted kinds blocks (λ rest. goes_with (at_place pushes ++ rest) blocks)) may in
-      let t : Taken objects wanted kinds blocks (λ rest. goes_with (at_place pushes ++ rest) blocks) s.stack = taken objects wanted kinds blocks (λ rest. goes_with (at_place pushes ++ rest) blocks) s.stack parts.1 has.holds in
-      where_true (Fits objects code) _ _ (reached (length wanted) s.stack t.enough)
-      (asks_fit (f (take (length wanted) s.stack)) (asks parts.0 (take (length wanted) s.stack) (length-take-le (length wanted) s.stack t.enough)) (has_under objects code (length wanted) kinds blocks s t.level t.holds has))
+      let below = takes_rest wanted kinds blocks (λ rest. goes_with (at_place pushes ++ rest) blocks) parts.1 in
+      let enough : length wanted ≤ length s.stack = omega (arith, kinds_counted objects s.stack kinds has.holds, below.2) in
+      where_true (Fits objects code) _ _ (reached (length wanted) s.stack enough)
+      (asks_fit (f (take (length wanted) s.stack)) (asks parts.0 (take (length wanted) s.stack) (length-take-le (length wanted) s.stack enough)) (has_under objects code (length wanted) kinds blocks s below.1 has))
     where
       asks_fit : (r : Option Request) → Wants pushes r → Has objects code (drop (length wanted) kinds) blocks (with_stack (drop (length wanted) s.stack) s) → Led (asks_if r (with_stack (drop (length wanted) s.stack) s))
       asks_fit None wants has' = absurd wants
@@ -209,12 +201,7 @@ module _ (objects : List Payload) (names : List (List ℕ)) (globals : Obj) (clo
       (waits_but op i is_op operand want.NoValue kinds blocks want.NoValue s.stack s.blocks s.slot (expect.Answer want.NoValue) left (λ o v is. is) has)
 
   local_there : (i : ℕ) → nat_lt i (length code.code.code.varnames.items) ≡ true → slice_get s.locals i ≡ None → ⊥
-  local_there i below none = not_there s.locals i (omega (arith, ltb-true i (length code.code.code.varnames.items) below, has.locals)) none
-    where
-      not_there : (xs : List (Option Obj)) (i : ℕ) → i < length xs → slice_get xs i ≡ None → ⊥
-      not_there [] i below is = absurd (omega arith)
-      not_there (x ∷ xs) zero below is = cc
-      not_there (x ∷ xs) (suc i) below is = not_there xs i (omega arith) is
+  local_there i below none = let (local, is) = got_there s.locals i (omega (arith, ltb-true i (length code.code.code.varnames.items) below, has.locals)) in cc
 
   load_fast_fits : (i : ℕ) → unit.op ≡ LoadFast → with_byte s.prefix unit.arg ≡ i → nat_lt i (length code.code.code.varnames.items) ≡ true → goes_with (kind.Any ∷ kinds) blocks ≡ true → (local : Option (Option Obj)) → slice_get s.locals i ≡ local
       → Led (load_fast (name_of_local (record { code = code.code; names = names; globals = globals; closure = closure }) i) local s)
@@ -284,7 +271,7 @@ module _ (objects : List Payload) (names : List (List ℕ)) (globals : Obj) (clo
       → Led (goes_on_with r (record s { stack = stack; blocks = outer; slot = kept }))
   goes_on_fits plain c cs ks stack outer kept None may walk hs waits holds are = goes_behind plain ks cs stack outer s.locals kept may holds are has.locals
   goes_on_fits plain c cs ks stack outer kept (Some r) may walk hs waits holds are =
-      leaves objects code r ks cs (record s { stack = stack; blocks = outer; slot = kept }) goes (leb-true (length ks) code.code.code.max_stackdepth (and_parts (has_room (sheet_of code) ks) (lands (sheet_of code) (s.at + 1) ks cs) may).0) (may_leave objects code ks cs (pending_of c) r walk waits) hs holds are has.locals
+      leaves objects code r ks cs (record s { stack = stack; blocks = outer; slot = kept }) goes (leb-true (length ks) code.code.code.max_stackdepth (and_parts (has_room (sheet_of code) ks) (lands (sheet_of code) (s.at + 1) ks cs) may).0) (waiting_admitted objects (λ p. walks (sheet_of code) p ks cs) (pending_of c) r walk waits) hs holds are has.locals
 
   end_finally_fits : is_prefix unit.op ≡ false → (bs : List BlockNote) → AreBlocks objects s.blocks bs → handlers_land (sheet_of code) kinds bs ≡ true → ends_finally (sheet_of code) (s.at + 1) kinds bs ≡ true → Led (end_finally s)
   end_finally_fits plain [] are hs may = cc
@@ -336,57 +323,47 @@ module _ (objects : List Payload) (names : List (List ℕ)) (globals : Obj) (clo
       (λ x rest same. waits_but WithCleanupStart i is_op operand (want.Of kind.Any) kinds blocks (want.Of kind.Any) s.stack s.blocks s.slot (expect.Answer (want.Of kind.Any)) refl (λ o v is. is) has)))
 
   -- the block of an exit ends, and what it held waits or goes on
-  finishes_fit : is_prefix unit.op ≡ false → unit.op ≡ WithCleanupFinish → (i : ℕ) → with_byte s.prefix unit.arg ≡ i → (c : BlockNote) (cs : List BlockNote) → blocks ≡ c ∷ cs → (top_level cs ≤ length (drop 2 kinds)) → (2 ≤ length kinds)
-      → handlers_land (sheet_of code) (drop 2 kinds) cs ≡ true → goes_with (drop 2 kinds) cs ≡ true → list_all (λ p. walks (sheet_of code) p (drop 2 kinds) cs) (pending_of c) ≡ true
+  finishes_fit : is_prefix unit.op ≡ false → unit.op ≡ WithCleanupFinish → (i : ℕ) → with_byte s.prefix unit.arg ≡ i → (c : BlockNote) (cs : List BlockNote) → blocks ≡ c ∷ cs → EndsExit code (s.at + 1) kinds c cs → handlers_land (sheet_of code) (drop 2 kinds) cs ≡ true
       → (r : Option UnwindReason) → MayWait objects (pending_of c) r → (v : Obj) (stack : List Obj) (outer : List Block) (kept : Option PyBaseExceptionRef) → HaveKinds objects stack (drop 2 kinds) → AreBlocks objects outer cs
       → Led (finishes r v (record s { stack = stack; blocks = outer; slot = kept }))
-  finishes_fit plain is_op i operand c cs same top two hs may walk None waits v stack outer kept holds are = goes_behind plain (drop 2 kinds) cs stack outer s.locals kept may holds are has.locals
-  finishes_fit plain is_op i operand c cs same top two hs may walk (Some (reason.Raising e)) waits v stack outer kept holds are =
+  finishes_fit plain is_op i operand c cs same ends hs (Some (reason.Raising e)) waits v stack outer kept holds are =
       let blocks_same : drop 1 blocks ≡ cs = ap (drop 1) same in
       let count : length blocks ≡ suc (length cs) = ap length same in
       let inner : Has objects code (kind.Exc ∷ drop 2 kinds) cs (record s { stack = as_object e ∷ stack; blocks = outer; slot = kept }) = record {
         holds = (waits, holds);
         blocks = are;
-        handlers = handlers_same (sheet_of code) (drop 2 kinds) (kind.Exc ∷ drop 2 kinds) cs (sym (bottom-cons (top_level cs) kind.Exc (drop 2 kinds) top)) hs;
-        room = omega (arith, has.room, length-drop 2 kinds, two);
+        handlers = handlers_same (sheet_of code) (drop 2 kinds) (kind.Exc ∷ drop 2 kinds) cs (sym (bottom-cons (top_level cs) kind.Exc (drop 2 kinds) ends.top)) hs;
+        room = omega (arith, has.room, length-drop 2 kinds, ends.depth, ends.nested);
         block_room = omega (arith, has.block_room, count);
         locals = has.locals;
       } in
       waits_but WithCleanupFinish i is_op operand want.Truth (kind.Exc ∷ drop 2 kinds) (drop 1 blocks) want.Truth (as_object e ∷ stack) outer kept (expect.Answer want.Truth) refl (λ o v is. is)
       (subst (λ (bs : List BlockNote). Has objects code (kind.Exc ∷ drop 2 kinds) bs (record s { stack = as_object e ∷ stack; blocks = outer; slot = kept })) (sym blocks_same) inner)
-  finishes_fit plain is_op i operand c cs same top two hs may walk (Some (reason.Returning w)) waits v stack outer kept holds are =
-      leaves objects code (reason.Returning w) (drop 2 kinds) cs (record s { stack = stack; blocks = outer; slot = kept }) goes (omega (arith, has.room, length-drop 2 kinds)) tt hs holds are has.locals
-  finishes_fit plain is_op i operand c cs same top two hs may walk (Some (reason.Break to)) waits v stack outer kept holds are =
-      leaves objects code (reason.Break to) (drop 2 kinds) cs (record s { stack = stack; blocks = outer; slot = kept }) goes (omega (arith, has.room, length-drop 2 kinds)) (may_leave objects code (drop 2 kinds) cs (pending_of c) (reason.Break to) walk waits) hs holds are has.locals
-  finishes_fit plain is_op i operand c cs same top two hs may walk (Some (reason.Continue to)) waits v stack outer kept holds are =
-      leaves objects code (reason.Continue to) (drop 2 kinds) cs (record s { stack = stack; blocks = outer; slot = kept }) goes (omega (arith, has.room, length-drop 2 kinds)) (may_leave objects code (drop 2 kinds) cs (pending_of c) (reason.Continue to) walk waits) hs holds are has.locals
+  finishes_fit plain is_op i operand c cs same ends hs None waits v stack outer kept holds are = goes_on_fits plain c cs (drop 2 kinds) stack outer kept None ends.goes ends.walk hs waits holds are
+  finishes_fit plain is_op i operand c cs same ends hs (Some (reason.Returning w)) waits v stack outer kept holds are = goes_on_fits plain c cs (drop 2 kinds) stack outer kept (Some (reason.Returning w)) ends.goes ends.walk hs waits holds are
+  finishes_fit plain is_op i operand c cs same ends hs (Some (reason.Break to)) waits v stack outer kept holds are = goes_on_fits plain c cs (drop 2 kinds) stack outer kept (Some (reason.Break to)) ends.goes ends.walk hs waits holds are
+  finishes_fit plain is_op i operand c cs same ends hs (Some (reason.Continue to)) waits v stack outer kept holds are = goes_on_fits plain c cs (drop 2 kinds) stack outer kept (Some (reason.Continue to)) ends.goes ends.walk hs waits holds are
 
   cleanup_finishes : is_prefix unit.op ≡ false → unit.op ≡ WithCleanupFinish → (i : ℕ) → with_byte s.prefix unit.arg ≡ i → (bs : List BlockNote) → blocks ≡ bs → AreBlocks objects s.blocks bs → handlers_land (sheet_of code) kinds bs ≡ true
       → ends_cleanup (sheet_of code) (s.at + 1) kinds bs ≡ true → Led (finish_cleanup s)
   cleanup_finishes plain is_op i operand [] same are hs may = cc
   cleanup_finishes plain is_op i operand (c ∷ cs) same are hs may =
-      let ends = and_parts ((length kinds == suc (level_of c)) && nat_lt (top_level cs) (level_of c)) (ends_with (sheet_of code) (s.at + 1) c (drop 2 kinds) cs) may in
-      let deep = and_parts (length kinds == suc (level_of c)) (nat_lt (top_level cs) (level_of c)) ends.0 in
-      let depth : length kinds ≡ suc (level_of c) = eqb-true (length kinds) (suc (level_of c)) deep.0 in
-      let nested : top_level cs < level_of c = ltb-true (top_level cs) (level_of c) deep.1 in
-      let parts = and_parts (is_finally_handler c && goes_with (drop 2 kinds) cs) (list_all (λ p. walks (sheet_of code) p (drop 2 kinds) cs) (pending_of c)) ends.1 in
-      let two = and_parts (is_finally_handler c) (goes_with (drop 2 kinds) cs) parts.0 in
-      let top : top_level cs ≤ length (drop 2 kinds) = omega (arith, depth, nested, length-drop 2 kinds) in
-      let one : length kinds - level_of c ≡ 1 = omega (arith, depth) in
+      let ends : EndsExit code (s.at + 1) kinds c cs = ends_exit code (s.at + 1) kinds c cs may in
+      let one : length kinds - level_of c ≡ 1 = omega (arith, ends.depth) in
       let under : bottom (level_of c) kinds ≡ drop 1 kinds = ap (λ (n : ℕ). drop n kinds) one in
       let outer_hs : handlers_land (sheet_of code) (drop 1 kinds) cs ≡ true = subst (λ (ks : List Kind). handlers_land (sheet_of code) ks cs ≡ true) under (outer_handlers (sheet_of code) kinds c cs hs) in
-      let below : top_level cs ≤ length (drop 1 kinds) = omega (arith, depth, nested, length-drop 1 kinds) in
-      let inner_hs : handlers_land (sheet_of code) (drop 2 kinds) cs ≡ true = handlers_same (sheet_of code) (drop 1 kinds) (drop 2 kinds) cs (bottom-drop 1 (top_level cs) kinds below ∙ sym (bottom-drop 2 (top_level cs) kinds top)) outer_hs in
+      let below : top_level cs ≤ length (drop 1 kinds) = omega (arith, ends.depth, ends.nested, length-drop 1 kinds) in
+      let inner_hs : handlers_land (sheet_of code) (drop 2 kinds) cs ≡ true = handlers_same (sheet_of code) (drop 1 kinds) (drop 2 kinds) cs (bottom-drop 1 (top_level cs) kinds below ∙ sym (bottom-drop 2 (top_level cs) kinds ends.top)) outer_hs in
       let there : HaveKinds objects (drop 2 s.stack) (drop 2 kinds) = kinds_dropped objects 2 s.stack kinds has.holds in
-      off_there s.stack (omega (arith, stack_count, depth)) _
+      off_there s.stack (omega (arith, stack_count, ends.depth)) _
       (λ v above stack_is.
       let more : length s.stack ≡ suc (length above) = ap length stack_is in
-      off_there above (omega (arith, stack_count, depth, nested, more)) _
+      off_there above (omega (arith, stack_count, ends.depth, ends.nested, more)) _
       (λ exit rest above_is.
-      in_finally_fits s.blocks c cs are two.0 _
+      in_finally_fits s.blocks c cs are ends.handler _
       (λ level r kept outer level_is waits outer_are.
-      where_true (Fits objects code) _ _ (eq-eqb (length above) level (omega (arith, stack_count, depth, more, level_is)))
-      (finishes_fit plain is_op i operand c cs same top (omega (arith, depth, nested)) inner_hs two.1 parts.1 r waits v rest outer kept
+      where_true (Fits objects code) _ _ (eq-eqb (length above) level (omega (arith, stack_count, ends.depth, more, level_is)))
+      (finishes_fit plain is_op i operand c cs same ends inner_hs r waits v rest outer kept
       (subst (λ (vs : List Obj). HaveKinds objects (drop 2 vs) (drop 2 kinds)) (stack_is ∙ ap (λ (vs : List Obj). v ∷ vs) above_is) there) outer_are))))
 
   raises_fit : (i : ℕ) → unit.op ≡ Raise → with_byte s.prefix unit.arg ≡ i → (k : Option RaiseKind) → slice_get raise_kinds i ≡ k → typing.raises k kinds blocks ≡ true → Led (raises k s)

@@ -1,8 +1,7 @@
 -- A frame that waits isn't stuck by an answer that is as wanted, and fits behind the unit that waited.
-use Rattle.std.proofs.Common.{subst, zero, ◌≡◌, ◌+◌, ◌<◌, ◌≤◌, ℕ, suc, List, [], ◌∷◌, Bool, Option, None, Some, true, false, ◌&&◌, not, ◌⊎◌, inl, inr, refl, ap, length, drop, length-drop, arith, cond}
-use Rattle.std.specs.Prelude.{slice_get, nat_lt, nat_le, ◌==◌}
-use Rattle.std.specs.List.{list_all}
-use Rattle.std.proofs.lemmas.Bool.{and_parts, eqb-true, ltb-true, leb-true}
+use Rattle.std.proofs.Common.{subst, zero, ◌≡◌, ◌+◌, ◌≤◌, ℕ, suc, List, [], ◌∷◌, Bool, Option, None, Some, true, false, ◌&&◌, not, ◌⊎◌, inl, inr, refl, ap, length, drop, length-drop, arith, cond}
+use Rattle.std.specs.Prelude.{slice_get, nat_lt, ◌==◌}
+use Rattle.std.proofs.lemmas.Bool.{and_parts}
 use Rattle.py_code.specs.declared.unit.CodeUnit.{CodeUnit}
 use Rattle.py_code.specs.declared.instruction.Instruction.{Instruction}
 use Rattle.py_code.specs.declared.instruction.Instruction.TheVariants.{LoadFast, DeleteFast, JumpIfTrue, JumpIfFalse, SetupWith, WithCleanupStart, WithCleanupFinish, Raise, YieldValue}
@@ -17,13 +16,13 @@ use Rattle.py_check.specs.declared.note.Kind.TheVariants as kind
 use Rattle.py_check.specs.declared.note.BlockNote.{BlockNote}
 use Rattle.py_check.specs.declared.note.BlockNote.TheVariants as note
 use Rattle.py_check.specs.declared.annotated.Annotated.{Annotated}
-use Rattle.py_check.specs.Notes.{level_of, pending_of}
+use Rattle.py_check.specs.Notes.{level_of}
 use Rattle.py_check.specs.Operands.{carried, is_label}
 use Rattle.py_check.specs.Effects.{Effect, Moves, AsksOnce, Other, effect, has_operand}
 use Rattle.py_check.specs.Sheet.{sheet_of}
 use Rattle.py_check.specs.Rules.{top_level, goes_on, jumps as may_jump, handlers_land}
 use Rattle.py_check.specs.Taking.{takes, takes_top}
-use Rattle.py_check.specs.Leaving.{is_finally_handler, ends_with, starts_cleanup, ends_cleanup, walks}
+use Rattle.py_check.specs.Leaving.{is_finally_handler, starts_cleanup, ends_cleanup}
 use Rattle.py_check.specs.Typing.{is_generator, opens, keeps_by, keeps_own, keeps_op}
 use Rattle.py_check.specs.Typing as typing
 use Rattle.py_rows.specs.declared.block.Block.{Block}
@@ -44,16 +43,8 @@ use Rattle.py_rows.proofs.KindLemmas.{kinds_counted}
 use Rattle.py_rows.proofs.LandingLemmas.{Fits, may_jumped}
 use Rattle.py_rows.proofs.BehindLemmas.{fits_behind}
 use Rattle.py_rows.proofs.UnwindingLemmas.{leaves, leaves_with}
-use Rattle.py_rows.proofs.TakingLemmas.{off, bottom-cons, handlers_same, taken}
+use Rattle.py_rows.proofs.TakingLemmas.{off, bottom-cons, handlers_same, takes_rest, ends_exit}
 use Rattle.py_rows.proofs.ActingLemmas.{second_taken, drop_two, other_or_plain, listed_asks}
-
--- what the rest of a rule says
-takes_rest : (wanted kinds : List Kind) (blocks : List BlockNote) (rest : List Kind → Bool) → takes wanted kinds blocks rest ≡ true → (rest (drop (length wanted) kinds) ≡ true) × (top_level blocks ≤ length (drop (length wanted) kinds)) × (length wanted ≤ length kinds)
-takes_rest [] kinds blocks rest may =
-    let parts = and_parts (nat_le (top_level blocks) (length kinds)) (rest kinds) may in (parts.1, leb-true (top_level blocks) (length kinds) parts.0, omega arith)
-takes_rest (w ∷ wanted) [] blocks rest may = cc
-takes_rest (w ∷ wanted) (k ∷ kinds) blocks rest may =
-    let more = takes_rest wanted kinds blocks rest (and_parts _ (takes wanted kinds blocks rest) may).1 in (more.0, more.1, omega (arith, more.2))
 
 -- any top will do where any is wanted
 any_top : (objects : List Payload) (stack : List Obj) (kinds : List Kind) → HaveKinds objects stack kinds → 1 ≤ length kinds → HaveKinds objects stack (kind.Any ∷ drop 1 kinds)
@@ -110,18 +101,10 @@ module _ (objects : List Payload) (code : Annotated) (s : State) (kinds : List K
   passes_fit plain [] keeps has b stack holds = cc
   passes_fit plain (c ∷ cs) keeps has b [] holds = absurd holds
   passes_fit plain (c ∷ cs) keeps has true (e ∷ rest) holds =
-      let ends = and_parts ((length kinds == suc (level_of c)) && nat_lt (top_level cs) (level_of c)) (ends_with (sheet_of code) (s.at + 1) c (drop 2 kinds) cs) keeps in
-      let parts = and_parts (is_finally_handler c && goes_with (drop 2 kinds) cs) (list_all (λ p. walks (sheet_of code) p (drop 2 kinds) cs) (pending_of c)) ends.1 in
-      let two = and_parts (is_finally_handler c) (goes_with (drop 2 kinds) cs) parts.0 in
-      goes_behind plain (drop 2 kinds) cs rest s.blocks two.1 holds.1 has.blocks has.locals
+      goes_behind plain (drop 2 kinds) cs rest s.blocks (ends_exit code (s.at + 1) kinds c cs keeps).goes holds.1 has.blocks has.locals
   passes_fit plain (c ∷ cs) keeps has false (e ∷ rest) holds =
-      let ends = and_parts ((length kinds == suc (level_of c)) && nat_lt (top_level cs) (level_of c)) (ends_with (sheet_of code) (s.at + 1) c (drop 2 kinds) cs) keeps in
-      let deep = and_parts (length kinds == suc (level_of c)) (nat_lt (top_level cs) (level_of c)) ends.0 in
-      let depth : length kinds ≡ suc (level_of c) = eqb-true (length kinds) (suc (level_of c)) deep.0 in
-      let nested : top_level cs < level_of c = ltb-true (top_level cs) (level_of c) deep.1 in
-      let top : top_level cs ≤ length (drop 2 kinds) = omega (arith, depth, nested, length-drop 2 kinds) in
       leaves objects code (reason.Raising (record { number = e.number })) (drop 2 kinds) cs (with_stack rest s) goes (omega (arith, has.room, length-drop 2 kinds)) holds.0
-      (handlers_same (sheet_of code) (kind.Exc ∷ drop 2 kinds) (drop 2 kinds) cs (bottom-cons (top_level cs) kind.Exc (drop 2 kinds) top) has.handlers) holds.1 has.blocks has.locals
+      (handlers_same (sheet_of code) (kind.Exc ∷ drop 2 kinds) (drop 2 kinds) cs (bottom-cons (top_level cs) kind.Exc (drop 2 kinds) (ends_exit code (s.at + 1) kinds c cs keeps).top) has.handlers) holds.1 has.blocks has.locals
 
   causes_fit : (i : ℕ) (v : Obj) (n : ℕ) → s.phase ≡ n → unit.op ≡ Raise → with_byte s.prefix unit.arg ≡ i → slice_get raise_kinds i ≡ Some raise.RaiseCause → typing.raises (Some raise.RaiseCause) kinds blocks ≡ true
       → Given v (cause_left n kinds blocks) → Led (causes n v s)

@@ -15,7 +15,7 @@ use Rattle.py_rows.specs.declared.block.BlockType.{BlockType}
 use Rattle.py_rows.specs.declared.block.BlockType.TheVariants.{Loop, TryExcept, Finally, FinallyHandler, ExceptHandler}
 use Rattle.py_rows.specs.declared.block.UnwindReason.{UnwindReason}
 use Rattle.py_rows.specs.declared.block.UnwindReason.TheVariants as reason
-use Rattle.py_rows.specs.Fitting.{WaitsIn, MayWait, TypeWaits, IsBlock, AreBlocks}
+use Rattle.py_rows.specs.Fitting.{Admits, WaitsIn, MayWait, TypeWaits, IsBlock, AreBlocks}
 
 pub same_jump : (p q : Pending) → same_pending p q ≡ true → p ≡ q
 same_jump (pending.Break t) (pending.Break u) same = ap pending.Break (eqb-true t u same)
@@ -33,15 +33,20 @@ one_of test p (q ∷ ps) all any =
     (λ (more : list_any (same_pending p) ps ≡ true). one_of test p ps parts.1 more)
     (or_cases (same_pending p q) (list_any (same_pending p) ps) any)
 
-reason_fitted : (objects : List Payload) (ps qs : List Pending) (r : UnwindReason) → WaitsIn objects ps r → is_subset ps qs ≡ true → WaitsIn objects qs r
-reason_fitted objects ps qs (reason.Raising e) waits subset = waits
-reason_fitted objects ps qs (reason.Returning v) waits subset = waits
-reason_fitted objects ps qs (reason.Break to) waits subset = one_of (λ p. list_any (same_pending p) qs) (pending.Break to) ps subset waits
-reason_fitted objects ps qs (reason.Continue to) waits subset = one_of (λ p. list_any (same_pending p) qs) (pending.Continue to) ps subset waits
+-- a reason stays one that may be as the test that it passes is wider
+pub admitted : (objects : List Payload) (test wider : Pending → Bool) → ((p : Pending) → test p ≡ true → wider p ≡ true) → (r : UnwindReason) → Admits objects test r → Admits objects wider r
+admitted objects test wider on (reason.Raising e) admits = admits
+admitted objects test wider on (reason.Returning v) admits = admits
+admitted objects test wider on (reason.Break to) admits = on (pending.Break to) admits
+admitted objects test wider on (reason.Continue to) admits = on (pending.Continue to) admits
+
+-- what waits may, where all jumps that may wait pass a test
+pub waiting_admitted : (objects : List Payload) (test : Pending → Bool) (ps : List Pending) (r : UnwindReason) → list_all test ps ≡ true → WaitsIn objects ps r → Admits objects test r
+waiting_admitted objects test ps r all waits = admitted objects (λ p. list_any (same_pending p) ps) test (λ p any. one_of test p ps all any) r waits
 
 if_fitted : (objects : List Payload) (ps qs : List Pending) (r : Option UnwindReason) → MayWait objects ps r → is_subset ps qs ≡ true → MayWait objects qs r
 if_fitted objects ps qs None waits subset = tt
-if_fitted objects ps qs (Some r) waits subset = reason_fitted objects ps qs r waits subset
+if_fitted objects ps qs (Some r) waits subset = waiting_admitted objects (λ p. list_any (same_pending p) qs) ps r subset waits
 
 waits_fitted : (objects : List Payload) (ps qs : List Pending) (typ : BlockType) → TypeWaits objects ps typ → is_subset ps qs ≡ true → TypeWaits objects qs typ
 waits_fitted objects ps qs Loop waits subset = tt

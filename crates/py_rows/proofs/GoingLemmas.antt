@@ -1,8 +1,9 @@
 -- A frame that fits its code can make a step, where the objects that this needs are there.
-use Rattle.std.proofs.Common.{◌≡◌, ◌++◌, ◌<◌, ℕ, suc, List, [], ◌∷◌, Option, None, Some, refl, sym, append-nil, length, length-append, arith}
+use Rattle.std.proofs.Common.{◌≡◌, ◌++◌, ℕ, suc, List, [], ◌∷◌, None, Some, refl, sym, append-nil, length, length-append, arith}
 use Rattle.std.proofs.Math.ListN.{length-replicate}
 use Rattle.std.specs.Prelude.{slice_get, replicate}
 use Rattle.std.proofs.lemmas.Option.{slice_get_within}
+use Rattle.py_code.proofs.NamesLemmas.{slice_get-append_last}
 use Rattle.py_objects.specs.declared.payload.Payload.{Payload}
 use Rattle.py_objects.specs.declared.payload.Payload.TheVariants as payload
 use Rattle.py_objects.specs.Objects.{Obj, HasPayload, as_object, class_object}
@@ -18,11 +19,6 @@ use Rattle.py_rows.proofs.AskingLemmas.{got_there}
 use Rattle.py_rows.proofs.LandingLemmas.{Fits}
 use Rattle.py_rows.proofs.StepLemmas.{next_fits}
 use Rattle.py_rows.proofs.GrowingLemmas.{payload_grown, fits_grown}
-
--- one more object
-last_there : (objects : List Payload) (p : Payload) → slice_get (objects ++ p ∷ []) (length objects) ≡ Some p
-last_there [] p = refl
-last_there (q ∷ objects) p = last_there objects p
 
 -- so many more that a number is one's
 padded : List Payload → ℕ → List Payload
@@ -49,7 +45,7 @@ module _ (objects : List Payload) (P : List Payload → State → Type 0) where
   found (Loads p f) leads =
       let v : Obj = record { number = length objects } in
       let grows : Grows objects (objects ++ p ∷ []) = (p ∷ [], refl) in
-      (objects ++ p ∷ [], grows, (f v, (v, last_there objects p, refl), leads (objects ++ p ∷ []) grows v (last_there objects p)))
+      (objects ++ p ∷ [], grows, (f v, (v, slice_get-append_last objects p, refl), leads (objects ++ p ∷ []) grows v (slice_get-append_last objects p)))
   found (Decides v f) leads =
       let ((b, has), all) = leads objects same in
       (objects, same, (f b, (b, has, refl), all b))
@@ -59,7 +55,7 @@ module _ (objects : List Payload) (P : List Payload → State → Type 0) where
   found (Exits None f) leads =
       let v : Obj = record { number = length objects } in
       let grows : Grows objects (objects ++ payload.None ∷ []) = (payload.None ∷ [], refl) in
-      let has = last_there objects payload.None in
+      let has = slice_get-append_last objects payload.None in
       (objects ++ payload.None ∷ [], grows, (f v v v, (v, v, v, (has, has, has), refl), (leads (objects ++ payload.None ∷ []) grows).1 v v v))
   found (Exits (Some e) f) leads =
       let ((body, has), all) = leads objects same in

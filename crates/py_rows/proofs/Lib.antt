@@ -22,13 +22,15 @@ pub mod ActingLemmas
 pub mod AnsweringLemmas
 -- steps
 pub mod StepLemmas
--- where every row leads to, and the slot
+-- what is handled, among the first objects
+pub mod HandledBelowLemmas
+-- where every row leads to
+pub mod WalkLemmas
+-- the slot, units that tell, and numbers of objects
 pub mod StandingLemmas
 -- more objects
 pub mod GrowingLemmas
 -- steps that can be made
 pub mod GoingLemmas
--- numbers of objects
-pub mod StepsBelowLemmas
 -- whole runs
 pub mod RunLemmas

@@ -15,8 +15,7 @@ use Rattle.py_rows.specs.Fitting.{FitsAt, IsSound}
 use Rattle.py_rows.specs.Below.{HearsBelow, TellsBelow, HoldsBelow}
 use Rattle.py_rows.specs.Laws.{setting_of}
 use Rattle.py_rows.proofs.StepLemmas.{steps_fit, start_fits}
-use Rattle.py_rows.proofs.StandingLemmas.{start_stands, steps_stand}
-use Rattle.py_rows.proofs.StepsBelowLemmas.{steps_below, start_below}
+use Rattle.py_rows.proofs.StandingLemmas.{start_stands, steps_stand, start_below, steps_below}
 
 fits_on : (objects : List Payload) (names : List (List ℕ)) (globals : Obj) (closure : List Obj) (code : Annotated) → IsSound names code → (s t : State) (xs : List Own) → FitsAt objects code s.wants s → Runs objects (setting_of names globals closure code) s xs t
     → FitsAt objects code t.wants t

@@ -38,12 +38,6 @@ use Rattle.py_rows.proofs.UnwindingLemmas.{leaves_with}
 use Rattle.py_rows.proofs.ActingLemmas.{act_fits}
 use Rattle.py_rows.proofs.AnsweringLemmas.{Given, answered_fits}
 
--- what a step leads to has a property, where it leads anywhere
-abbrev IfLeads : (State → Type 0) → Step → Type 0
-IfLeads P (Goes t) = P t
-IfLeads P (Tells x t) = P t
-IfLeads P Stuck = Unit {0}
-
 module _ (objects : List Payload) (names : List (List ℕ)) (globals : Obj) (closure : List Obj) (code : Annotated) (sound : IsSound names code) (s : State) where
   -- what a frame has that fits a note
   has_noted : (f : FitsNote objects code s) → (last : ℕ) (wants : Expect) → Has objects code f.kinds f.block_notes (record s { last = last; wants = wants })
@@ -118,21 +112,17 @@ module _ (objects : List Payload) (names : List (List ℕ)) (globals : Obj) (clo
   led (Manages m f) step all (b, manages, is) = subst (LeadsTo (Fits objects code)) is (all b)
   led (Exits e f) step all (t, v, b, exits, is) = subst (LeadsTo (Fits objects code)) is (all.1 t v b)
 
-  if_led : (step : Step) → LeadsTo (Fits objects code) step → IfLeads (Fits objects code) step
-  if_led (Goes t) fits = fits
-  if_led (Tells x t) fits = fits
-  if_led Stuck fits = tt
+  -- a frame that expects an input does nothing by itself
+  moving : (x : Expect) (step : Step) → (Stuck ≡ step → ⊥) → MayLead objects (moves (setting_of names globals closure code) x s) step → IsMoving x
+  moving expect.Start step some may = absurd (some may)
+  moving expect.Go step some may = tt
+  moving (expect.Answer w) step some may = absurd (some may)
+  moving expect.Resume step some may = absurd (some may)
+  moving (expect.Heard w) step some may = tt
+  moving expect.Ended step some may = absurd (some may)
 
-  stuck_led : (step : Step) → Stuck ≡ step → IfLeads (Fits objects code) step
-  stuck_led step is = subst (IfLeads (Fits objects code)) is tt
-
-  moved_fits : (x : Expect) (step : Step) → FitsAt objects code x s → MayLead objects (moves (setting_of names globals closure code) x s) step → IfLeads (Fits objects code) step
-  moved_fits expect.Start step f may = stuck_led step may
-  moved_fits expect.Go step f may = if_led step (led (moves (setting_of names globals closure code) expect.Go s) step (next_fits expect.Go f tt) may)
-  moved_fits (expect.Answer w) step f may = stuck_led step may
-  moved_fits expect.Resume step f may = stuck_led step may
-  moved_fits (expect.Heard w) step f may = if_led step (led (moves (setting_of names globals closure code) (expect.Heard w) s) step (next_fits (expect.Heard w) f tt) may)
-  moved_fits expect.Ended step f may = stuck_led step may
+  moved_fits : (step : Step) → FitsAt objects code s.wants s → (Stuck ≡ step → ⊥) → MayLead objects (moves (setting_of names globals closure code) s.wants s) step → LeadsTo (Fits objects code) step
+  moved_fits step f some may = led (moves (setting_of names globals closure code) s.wants s) step (next_fits s.wants f (moving s.wants step some may)) may
 
   can_unwind : (w : Wanted) (x : Expect) → FitsBut objects code w s → CanUnwind objects code (waiting x s)
   can_unwind w x f = record { kinds = f.left.kinds; block_notes = f.left.blocks; has = has_waiting f.left.kinds f.left.blocks x f.has; there = slice_get_within code.code.code.instructions.items s.at f.unit f.is }
@@ -170,8 +160,8 @@ module _ (objects : List Payload) (names : List (List ℕ)) (globals : Obj) (clo
   within expect.Ended f = (f.1, let none : length s.blocks ≡ 0 = ap length f.0 in omega (arith, none))
 
   pub steps_fit : (xs : List Own) (t : State) → FitsAt objects code s.wants s → Steps objects (setting_of names globals closure code) s xs t → FitsAt objects code t.wants t
-  steps_fit _ _ f (silent t may) = moved_fits s.wants (Goes t) f may
-  steps_fit _ _ f (telling x t may) = moved_fits s.wants (Tells x t) f may
+  steps_fit _ _ f (silent t may) = moved_fits (Goes t) f (λ is. cc) may
+  steps_fit _ _ f (telling x t may) = moved_fits (Tells x t) f (λ is. cc) may
   steps_fit _ _ f (hearing x w hears) = heard_fits s.wants x w f hears
 
 -- the locals of a frame are as many as their names

@@ -1,23 +1,25 @@
 -- Operands that are taken off the stack.
-use Rattle.std.proofs.Common.{◌≡◌, ◌∙◌, ◌-◌, ◌<◌, ◌≤◌, ℕ, zero, suc, List, [], ◌∷◌, Bool, true, ◌&&◌, refl, sym, ap, subst, length, take, drop, length-drop, arith}
-use Rattle.std.specs.Prelude.{nat_le, nat_lt, slice_get}
+use Rattle.std.proofs.Common.{◌≡◌, ◌∙◌, ◌-◌, ◌<◌, ◌≤◌, ℕ, zero, suc, List, [], ◌∷◌, Bool, true, ◌&&◌, refl, sym, ap, subst, length, drop, length-drop, arith}
+use Rattle.std.specs.Prelude.{nat_le, nat_lt, slice_get, ◌==◌}
 use Rattle.std.specs.List.{list_all}
-use Rattle.std.proofs.lemmas.Bool.{and_parts, and_from, leb-true, ltb-true}
+use Rattle.std.proofs.lemmas.Bool.{and_parts, and_from, eqb-true, leb-true, ltb-true}
 use Rattle.py_objects.specs.declared.payload.Payload.{Payload}
 use Rattle.py_objects.specs.Objects.{Obj}
 use Rattle.py_check.specs.declared.note.Kind.{Kind}
 use Rattle.py_check.specs.declared.note.Kind.TheVariants as kind
 use Rattle.py_check.specs.declared.note.BlockNote.{BlockNote}
 use Rattle.py_check.specs.declared.annotated.Annotated.{Annotated}
-use Rattle.py_check.specs.Notes.{kind_fits}
+use Rattle.py_check.specs.Notes.{level_of, pending_of}
+use Rattle.py_check.specs.Leaving.{is_finally_handler, ends_with, ends_cleanup, walks}
 use Rattle.py_rows.specs.Rows.{is_there, takes_off, reaches}
 use Rattle.py_check.specs.Sheet.{Sheet, sheet_of}
-use Rattle.py_check.specs.Rules.{bottom, handler_lands, handlers_land, top_level}
+use Rattle.py_check.specs.Rules.{bottom, goes_on, handler_lands, handlers_land, top_level}
 use Rattle.py_check.specs.Taking.{takes}
 use Rattle.py_rows.specs.States.{State, Step, with_stack}
 use Rattle.py_rows.specs.Fitting.{HaveKinds, Has}
 use Rattle.py_rows.specs.Laws.{LeadsTo}
-use Rattle.py_rows.proofs.KindLemmas.{kind_fitted}
+use Rattle.py_rows.proofs.AskingLemmas.{got_there}
+use Rattle.py_rows.proofs.KindLemmas.{kinds_counted, kinds_dropped}
 
 pub bottom-cons : (l : ℕ) (k : Kind) (ks : List Kind) → l ≤ length ks → bottom l (k ∷ ks) ≡ bottom l ks
 bottom-cons l k ks below = let same : suc (length ks) - l ≡ suc (length ks - l) = omega (arith, below) in ap (λ (n : ℕ). drop n (k ∷ ks)) same
@@ -37,31 +39,19 @@ reached zero xs below = refl
 reached (suc n) [] below = absurd (omega (arith, below))
 reached (suc n) (x ∷ xs) below = reached n xs (omega (arith, below))
 
--- operands of these kinds, and what lies below them
-pub record Taken (objects : List Payload) (wanted kinds : List Kind) (blocks : List BlockNote) (rest : List Kind → Bool) (stack : List Obj) : Type 0 where
-  pub enough : length wanted ≤ length stack
-  pub taken : HaveKinds objects (take (length wanted) stack) wanted
-  pub holds : HaveKinds objects (drop (length wanted) stack) (drop (length wanted) kinds)
-  pub level : top_level blocks ≤ length (drop (length wanted) kinds)
-  pub keeps : rest (drop (length wanted) kinds) ≡ true
-
-pub taken : (objects : List Payload) (wanted kinds : List Kind) (blocks : List BlockNote) (rest : List Kind → Bool) (stack : List Obj) → takes wanted kinds blocks rest ≡ true → HaveKinds objects stack kinds
-    → Taken objects wanted kinds blocks rest stack
-taken objects [] kinds blocks rest stack may holds =
-    let parts = and_parts (nat_le (top_level blocks) (length kinds)) (rest kinds) may in
-    record { enough = omega arith; taken = tt; holds = holds; level = leb-true (top_level blocks) (length kinds) parts.0; keeps = parts.1 }
-taken objects (w ∷ wanted) [] blocks rest stack may holds = cc
-taken objects (w ∷ wanted) (k ∷ kinds) blocks rest [] may holds = absurd holds
-taken objects (w ∷ wanted) (k ∷ kinds) blocks rest (v ∷ stack) may holds =
-    let parts = and_parts (kind_fits k w) (takes wanted kinds blocks rest) may in
-    let more : Taken objects wanted kinds blocks rest stack = taken objects wanted kinds blocks rest stack parts.1 holds.1 in
-    record { enough = omega (arith, more.enough); taken = (kind_fitted objects v k w holds.0 parts.0, more.taken); holds = more.holds; level = more.level; keeps = more.keeps }
+-- what the rest of a rule says
+pub takes_rest : (wanted kinds : List Kind) (blocks : List BlockNote) (rest : List Kind → Bool) → takes wanted kinds blocks rest ≡ true → (rest (drop (length wanted) kinds) ≡ true) × (top_level blocks ≤ length (drop (length wanted) kinds)) × (length wanted ≤ length kinds)
+takes_rest [] kinds blocks rest may =
+    let parts = and_parts (nat_le (top_level blocks) (length kinds)) (rest kinds) may in (parts.1, leb-true (top_level blocks) (length kinds) parts.0, omega arith)
+takes_rest (w ∷ wanted) [] blocks rest may = cc
+takes_rest (w ∷ wanted) (k ∷ kinds) blocks rest may =
+    let more = takes_rest wanted kinds blocks rest (and_parts _ (takes wanted kinds blocks rest) may).1 in (more.0, more.1, omega (arith, more.2))
 
 -- a frame whose operands are taken
-pub has_under : (objects : List Payload) (code : Annotated) (n : ℕ) (kinds : List Kind) (blocks : List BlockNote) (s : State) → top_level blocks ≤ length (drop n kinds) → HaveKinds objects (drop n s.stack) (drop n kinds)
+pub has_under : (objects : List Payload) (code : Annotated) (n : ℕ) (kinds : List Kind) (blocks : List BlockNote) (s : State) → top_level blocks ≤ length (drop n kinds)
     → Has objects code kinds blocks s → Has objects code (drop n kinds) blocks (with_stack (drop n s.stack) s)
-has_under objects code n kinds blocks s level holds has = record {
-  holds = holds;
+has_under objects code n kinds blocks s level has = record {
+  holds = kinds_dropped objects n s.stack kinds has.holds;
   blocks = has.blocks;
   handlers = handlers_same (sheet_of code) kinds (drop n kinds) blocks (sym (bottom-drop n (top_level blocks) kinds level)) has.handlers;
   room = omega (arith, has.room, length-drop n kinds);
@@ -75,8 +65,8 @@ pub off : (objects : List Payload) (code : Annotated) (kinds : List Kind) (block
     → ((v : Obj) (vs : List Obj) → Has objects code (drop 1 kinds) blocks (with_stack vs s) → rest (drop 1 kinds) ≡ true → length kinds ≡ suc (length (drop 1 kinds)) → HaveKinds objects (v ∷ vs) kinds → LeadsTo P (f v vs))
     → LeadsTo P (takes_off s.stack f)
 off objects code kinds blocks rest s P f may has then =
-    let t : Taken objects (kind.Any ∷ []) kinds blocks rest s.stack = taken objects (kind.Any ∷ []) kinds blocks rest s.stack may has.holds in
-    by_stack s.stack kinds has.holds t.enough (has_under objects code 1 kinds blocks s t.level t.holds has) t.keeps then
+    let below = takes_rest (kind.Any ∷ []) kinds blocks rest may in
+    by_stack s.stack kinds has.holds (omega (arith, kinds_counted objects s.stack kinds has.holds, below.2)) (has_under objects code 1 kinds blocks s below.1 has) below.0 then
   where
     by_stack : (stack : List Obj) (ks : List Kind) → HaveKinds objects stack ks → 1 ≤ length stack → Has objects code (drop 1 ks) blocks (with_stack (drop 1 stack) s) → rest (drop 1 ks) ≡ true
         → ((v : Obj) (vs : List Obj) → Has objects code (drop 1 ks) blocks (with_stack vs s) → rest (drop 1 ks) ≡ true → length ks ≡ suc (length (drop 1 ks)) → HaveKinds objects (v ∷ vs) ks → LeadsTo P (f v vs))
@@ -85,14 +75,28 @@ off objects code kinds blocks rest s P f may has then =
     by_stack (v ∷ vs) [] holds enough has keeps then = absurd holds
     by_stack (v ∷ vs) (k ∷ ks) holds enough has keeps then = then v vs has keeps refl holds
 
+-- what the rules say of the end of an exit: its answer alone lies above the block, and the exit right under it
+pub record EndsExit (code : Annotated) (to : ℕ) (kinds : List Kind) (c : BlockNote) (cs : List BlockNote) : Type 0 where
+  pub depth : length kinds ≡ suc (level_of c)
+  pub nested : top_level cs < level_of c
+  pub top : top_level cs ≤ length (drop 2 kinds)
+  pub handler : is_finally_handler c ≡ true
+  pub goes : goes_on (sheet_of code) to (drop 2 kinds) cs ≡ true
+  pub walk : list_all (λ p. walks (sheet_of code) p (drop 2 kinds) cs) (pending_of c) ≡ true
+
+pub ends_exit : (code : Annotated) (to : ℕ) (kinds : List Kind) (c : BlockNote) (cs : List BlockNote) → ends_cleanup (sheet_of code) to kinds (c ∷ cs) ≡ true → EndsExit code to kinds c cs
+ends_exit code to kinds c cs may =
+    let ends = and_parts ((length kinds == suc (level_of c)) && nat_lt (top_level cs) (level_of c)) (ends_with (sheet_of code) to c (drop 2 kinds) cs) may in
+    let deep = and_parts (length kinds == suc (level_of c)) (nat_lt (top_level cs) (level_of c)) ends.0 in
+    let depth : length kinds ≡ suc (level_of c) = eqb-true (length kinds) (suc (level_of c)) deep.0 in
+    let nested : top_level cs < level_of c = ltb-true (top_level cs) (level_of c) deep.1 in
+    let parts = and_parts (is_finally_handler c && goes_on (sheet_of code) to (drop 2 kinds) cs) (list_all (λ p. walks (sheet_of code) p (drop 2 kinds) cs) (pending_of c)) ends.1 in
+    let two = and_parts (is_finally_handler c) (goes_on (sheet_of code) to (drop 2 kinds) cs) parts.0 in
+    record { depth = depth; nested = nested; top = omega (arith, depth, nested, length-drop 2 kinds); handler = two.0; goes = two.1; walk = parts.1 }
+
 -- entries at these places
 pub places_there : (objects : List Payload) (ps : List ℕ) (stack : List Obj) → list_all (λ p. nat_lt p (length stack)) ps ≡ true → list_all (λ p. is_there (slice_get stack p)) ps ≡ true
 places_there objects [] stack below = refl
 places_there objects (p ∷ ps) stack below =
     let parts = and_parts (nat_lt p (length stack)) (list_all (λ p. nat_lt p (length stack)) ps) below in
-    and_from (is_there (slice_get stack p)) (list_all (λ p. is_there (slice_get stack p)) ps) (one_there p stack (ltb-true p (length stack) parts.0)) (places_there objects ps stack parts.1)
-  where
-    one_there : (p : ℕ) (stack : List Obj) → p < length stack → is_there (slice_get stack p) ≡ true
-    one_there p [] below = absurd (omega (arith, below))
-    one_there zero (v ∷ stack) below = refl
-    one_there (suc p) (v ∷ stack) below = one_there p stack (omega (arith, below))
+    and_from (is_there (slice_get stack p)) (list_all (λ p. is_there (slice_get stack p)) ps) (ap is_there (got_there stack p (ltb-true p (length stack) parts.0)).1) (places_there objects ps stack parts.1)

@@ -16,12 +16,6 @@ use Rattle.py_check.specs.Sheet.{Sheet, sheet_of}
 use Rattle.py_check.specs.Rules.{has_room, handlers_land, is_start, counts_match}
 use Rattle.py_check.specs.Typing.{keeps_op, keeps_both, IsTyped}
 
--- a place of a list
-pub slice_get_there : {A : Type 0} (xs : List A) (i : ℕ) → i < length xs → slice_get xs i ≡ None → ⊥
-slice_get_there [] i below is = absurd (omega arith)
-slice_get_there (x ∷ xs) zero below is = cc
-slice_get_there (x ∷ xs) (suc i) below is = slice_get_there xs i (omega arith) is
-
 -- what the rules say of a whole code
 pub record IsWhole (code : Annotated) : Type 0 where
   pub some : 0 < length code.code.code.instructions.items

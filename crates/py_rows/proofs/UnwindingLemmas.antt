@@ -9,12 +9,10 @@ use Rattle.py_check.specs.declared.note.Kind.{Kind}
 use Rattle.py_check.specs.declared.note.Kind.TheVariants as kind
 use Rattle.py_check.specs.declared.note.Note.{Note}
 use Rattle.py_check.specs.declared.note.Note.TheVariants.{Dead, Live}
-use Rattle.py_check.specs.declared.note.Pending.{Pending}
-use Rattle.py_check.specs.declared.note.Pending.TheVariants as pending
 use Rattle.py_check.specs.declared.note.BlockNote.{BlockNote}
 use Rattle.py_check.specs.declared.note.BlockNote.TheVariants as note
 use Rattle.py_check.specs.declared.annotated.Annotated.{Annotated}
-use Rattle.py_check.specs.Notes.{level_of, pending_of, kinds_fit, blocks_fit, block_fits, note_fits}
+use Rattle.py_check.specs.Notes.{level_of, kinds_fit, blocks_fit, block_fits, note_fits}
 use Rattle.py_check.specs.Operands.{is_label}
 use Rattle.py_check.specs.Sheet.{sheet_of}
 use Rattle.py_check.specs.Rules.{bottom, lands, handler_lands, handlers_land}
@@ -28,8 +26,7 @@ use Rattle.py_rows.specs.declared.expect.Expect.TheVariants as expect
 use Rattle.py_rows.specs.States.{State, Step, jumps}
 use Rattle.py_rows.specs.Handled.{entered_by}
 use Rattle.py_rows.specs.Unwinding.{left, left_handler, meets, unwind, unwinds}
-use Rattle.py_rows.specs.Answers.{HasKind}
-use Rattle.py_rows.specs.Fitting.{HaveKinds, WaitsIn, IsBlock, AreBlocks, Has}
+use Rattle.py_rows.specs.Fitting.{HaveKinds, Admits, IsBlock, AreBlocks, Has}
 use Rattle.py_rows.specs.Laws.{LeadsTo}
 use Rattle.py_rows.proofs.KindLemmas.{kinds_fitted, kinds_counted, kinds_under}
 use Rattle.py_rows.proofs.BlockLemmas.{Common, common, blocks_fitted}
@@ -37,33 +34,11 @@ use Rattle.py_rows.proofs.LandingLemmas.{Fits, Arrives, jumped, may_jumped}
 
 -- a reason that blocks may be left for
 abbrev pub MayLeave : List Payload → Annotated → UnwindReason → List Kind → List BlockNote → Type 0
-MayLeave objects code (reason.Raising e) ks bs = HasKind objects (as_object e) kind.Exc
-MayLeave objects code (reason.Returning v) ks bs = Unit {0}
-MayLeave objects code (reason.Break to) ks bs = walks (sheet_of code) (pending.Break to) ks bs ≡ true
-MayLeave objects code (reason.Continue to) ks bs = walks (sheet_of code) (pending.Continue to) ks bs ≡ true
-
--- the handler of a finally lets the reason wait
-abbrev LetsIn : List Payload → Option Note → UnwindReason → Type 0
-LetsIn objects n (reason.Raising e) = HasKind objects (as_object e) kind.Exc
-LetsIn objects n (reason.Returning v) = Unit {0}
-LetsIn objects n (reason.Break to) = lets_wait n (pending.Break to) ≡ true
-LetsIn objects n (reason.Continue to) = lets_wait n (pending.Continue to) ≡ true
-
-lets_in : (objects : List Payload) (code : Annotated) (r : UnwindReason) (ks : List Kind) (bs : List BlockNote) (l h : ℕ) → MayLeave objects code r ks (note.Finally l h ∷ bs) → LetsIn objects (slice_get code.notes h) r
-lets_in objects code (reason.Raising e) ks bs l h may = may
-lets_in objects code (reason.Returning v) ks bs l h may = may
-lets_in objects code (reason.Break to) ks bs l h may = may
-lets_in objects code (reason.Continue to) ks bs l h may = may
-
-waits_in : (objects : List Payload) (ks : List Kind) (c : BlockNote) (cs : List BlockNote) (r : UnwindReason) → LetsIn objects (Some (Live ks (c ∷ cs))) r → WaitsIn objects (pending_of c) r
-waits_in objects ks c cs (reason.Raising e) lets = lets
-waits_in objects ks c cs (reason.Returning v) lets = lets
-waits_in objects ks c cs (reason.Break to) lets = lets
-waits_in objects ks c cs (reason.Continue to) lets = lets
+MayLeave objects code r ks bs = Admits objects (λ p. walks (sheet_of code) p ks bs) r
 
 -- a finally is entered for a reason that its handler lets wait
 enters : (objects : List Payload) (stack : List Obj) (m l : ℕ) (r : UnwindReason) (kept : Option PyBaseExceptionRef) (outer : List Block) (ks : List Kind) (bs : List BlockNote) (n : Option Note) → m ≡ l
-    → note_fits ks (note.FinallyHandler l [] ∷ bs) n ≡ true → LetsIn objects n r → HaveKinds objects stack ks → AreBlocks objects outer bs
+    → note_fits ks (note.FinallyHandler l [] ∷ bs) n ≡ true → Admits objects (lets_wait n) r → HaveKinds objects stack ks → AreBlocks objects outer bs
     → Arrives objects stack (record { typ = FinallyHandler (Some r) kept; level = m } ∷ outer) n
 enters objects stack m l r kept outer ks bs None level fits lets holds are = cc
 enters objects stack m l r kept outer ks bs (Some Dead) level fits lets holds are = cc
@@ -72,7 +47,7 @@ enters objects stack m l r kept outer ks bs (Some (Live ls (c ∷ cs))) level fi
     let parts = and_parts (kinds_fit ks ls) (blocks_fit (note.FinallyHandler l [] ∷ bs) (c ∷ cs)) fits in
     let inner = and_parts (block_fits (note.FinallyHandler l []) c) (blocks_fit bs cs) parts.1 in
     let same : Common (note.FinallyHandler l []) c = common (note.FinallyHandler l []) c inner.0 in
-    let block : IsBlock objects (record { typ = FinallyHandler (Some r) kept; level = m }) c = record { number = same.number; level = level ∙ same.level; handler = same.handler; waits = waits_in objects ls c cs r lets } in
+    let block : IsBlock objects (record { typ = FinallyHandler (Some r) kept; level = m }) c = record { number = same.number; level = level ∙ same.level; handler = same.handler; waits = lets } in
     record { kinds = ls; block_notes = c ∷ cs; is = refl; holds = kinds_fitted objects stack ks ls holds parts.0; are = (block, blocks_fitted objects outer bs cs are inner.1) }
 
 module _ (objects : List Payload) (code : Annotated) where
@@ -115,28 +90,16 @@ module _ (objects : List Payload) (code : Annotated) where
         let parts = and_parts (is_label code.code.code.instructions.items h) (lands (sheet_of code) h (bottom l ks) (note.FinallyHandler l [] ∷ bs)) there in
         subst (λ (to : ℕ). LeadsTo (Fits objects code) (jumps to t)) (sym is.handler)
         (jumped objects code h t goes parts.0
-        (enters objects t.stack m l r s.slot outer (bottom l ks) bs (slice_get code.notes h) is.level parts.1 (lets_in objects code r ks bs l h may) (kinds_under objects l m s.stack ks is.level holds) are) locals)
-
-    out_of : (r : UnwindReason) (l : ℕ) (ps : List Pending) → MayLeave objects code r ks (note.FinallyHandler l ps ∷ bs) → MayLeave objects code r (bottom l ks) bs
-    out_of (reason.Raising e) l ps may = may
-    out_of (reason.Returning v) l ps may = may
-    out_of (reason.Break to) l ps may = may
-    out_of (reason.Continue to) l ps may = may
-
-    out_of_except : (r : UnwindReason) (l : ℕ) → MayLeave objects code r ks (note.ExceptHandler l ∷ bs) → MayLeave objects code r (bottom l ks) bs
-    out_of_except (reason.Raising e) l may = may
-    out_of_except (reason.Returning v) l may = may
-    out_of_except (reason.Break to) l may = may
-    out_of_except (reason.Continue to) l may = may
+        (enters objects t.stack m l r s.slot outer (bottom l ks) bs (slice_get code.notes h) is.level parts.1 may (kinds_under objects l m s.stack ks is.level holds) are) locals)
 
     pub met : (r : UnwindReason) (typ : BlockType) (c : BlockNote) → Meets r typ c
     met r Loop (note.Loop l) q is h hs may on out = loop_met r l q is h hs may on out
     met r (TryExcept handler) (note.TryExcept l h) q is there hs may on out = except_met r handler l h q is there hs may on out
     met r (Finally handler) (note.Finally l h) q is there hs may on out = finally_met r handler l h q is there hs may on out
     met r (FinallyHandler old kept) (note.FinallyHandler l ps) q is h hs may on out =
-        out (bottom l ks) (left_handler m kept outer s) refl goes (under l) hs (out_of r l ps may) (kinds_under objects l m s.stack ks is.level holds) locals
+        out (bottom l ks) (left_handler m kept outer s) refl goes (under l) hs may (kinds_under objects l m s.stack ks is.level holds) locals
     met r (ExceptHandler e kept) (note.ExceptHandler l) q is h hs may on out =
-        out (bottom l ks) (left_handler m kept outer s) refl goes (under l) hs (out_of_except r l may) (kinds_under objects l m s.stack ks is.level holds) locals
+        out (bottom l ks) (left_handler m kept outer s) refl goes (under l) hs may (kinds_under objects l m s.stack ks is.level holds) locals
     met r typ c q is h hs may on out = let differ = is.number in cc
 
   -- leaving blocks for a reason

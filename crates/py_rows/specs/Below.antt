@@ -2,7 +2,7 @@
 use Rattle.std.specs.Prelude.{ℕ, ◌<◌, ◌≡◌, Option, Some, None, List, [], ◌∷◌, ◌++◌, slice_get}
 use Rattle.py_objects.specs.declared.refs.PyBaseExceptionRef.{PyBaseExceptionRef}
 use Rattle.py_objects.specs.Objects.{Obj, AllBelow, numbers, number_if, request_numbers, how_numbers, got_numbers, ending_numbers}
-use Rattle.py_objects.specs.Own.{Own, Resumes, Asks, Gets, Yields, Ends}
+use Rattle.py_objects.specs.Own.{Own, Makes, Resumes, Asks, Gets, Rounds, Yields, Ends}
 use Rattle.py_rows.specs.declared.block.Block.{Block}
 use Rattle.py_rows.specs.declared.block.BlockType.{BlockType}
 use Rattle.py_rows.specs.declared.block.BlockType.TheVariants.{Loop, TryExcept, Finally, FinallyHandler, ExceptHandler}
@@ -14,16 +14,23 @@ use Rattle.py_rows.specs.States.{State}
 
 -- the numbers that come into an activation by an event
 abbrev pub heard_numbers : Own → List ℕ
+heard_numbers Makes = []
 heard_numbers (Resumes h) = how_numbers h
+heard_numbers (Asks at r own) = []
 heard_numbers (Gets w) = got_numbers w
-heard_numbers _ = []
+heard_numbers (Rounds at) = []
+heard_numbers (Yields at v) = []
+heard_numbers (Ends at e) = []
 
 -- the numbers that an activation names by an event
 abbrev pub told_numbers : Own → List ℕ
+told_numbers Makes = []
+told_numbers (Resumes h) = []
 told_numbers (Asks at r own) = number_if own ++ request_numbers r
+told_numbers (Gets w) = []
+told_numbers (Rounds at) = []
 told_numbers (Yields at v) = v.number ∷ []
 told_numbers (Ends at e) = ending_numbers e
-told_numbers _ = []
 
 -- the same of several events
 abbrev pub HearsBelow : ℕ → List Own → Type 0
@@ -61,8 +68,12 @@ BlocksBelow n (b ∷ blocks) = TypeBelow n b.typ × BlocksBelow n blocks
 
 -- and of what a frame expects, which may be something that it heard
 abbrev pub ExpectBelow : ℕ → Expect → Type 0
+ExpectBelow n expect.Start = Unit {0}
+ExpectBelow n expect.Go = Unit {0}
+ExpectBelow n (expect.Answer w) = Unit {0}
+ExpectBelow n expect.Resume = Unit {0}
 ExpectBelow n (expect.Heard w) = AllBelow n (got_numbers w)
-ExpectBelow n _ = Unit {0}
+ExpectBelow n expect.Ended = Unit {0}
 
 -- and of all that a frame holds
 pub record HeldBelow (n : ℕ) (stack : List Obj) (locals : List (Option Obj)) (blocks : List Block) (slot : Option PyBaseExceptionRef) (wants : Expect) : Type 0 where

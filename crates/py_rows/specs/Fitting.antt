@@ -1,5 +1,5 @@
 -- How a frame fits the notes of its code.
-use Rattle.std.specs.Prelude.{ℕ, zero, suc, ◌≤◌, ◌<◌, true, Option, Some, None, List, [], ◌∷◌, ◌≡◌, slice_get, length, drop}
+use Rattle.std.specs.Prelude.{ℕ, zero, suc, ◌≤◌, ◌<◌, Bool, true, Option, Some, None, List, [], ◌∷◌, ◌≡◌, slice_get, length, drop}
 use Rattle.std.specs.List.{list_any}
 use Rattle.py_code.specs.declared.code.PyCode.{PyCode}
 use Rattle.py_code.specs.declared.names.NameId.{NameId}
@@ -63,12 +63,16 @@ type_handler (Finally handler) = handler
 type_handler (FinallyHandler r kept) = 0
 type_handler (ExceptHandler e kept) = 0
 
--- a reason that may wait where these jumps may
+-- a reason for which blocks may be left: an exception that is one, any value, or a jump that a test lets through
+abbrev pub Admits : List Payload → (Pending → Bool) → UnwindReason → Type 0
+Admits objects test (reason.Raising e) = HasKind objects (as_object e) kind.Exc
+Admits objects test (reason.Returning v) = Unit {0}
+Admits objects test (reason.Break to) = test (pending.Break to) ≡ true
+Admits objects test (reason.Continue to) = test (pending.Continue to) ≡ true
+
+-- one that may wait where these jumps may
 abbrev pub WaitsIn : List Payload → List Pending → UnwindReason → Type 0
-WaitsIn objects ps (reason.Raising e) = HasKind objects (as_object e) kind.Exc
-WaitsIn objects ps (reason.Returning v) = Unit {0}
-WaitsIn objects ps (reason.Break to) = list_any (same_pending (pending.Break to)) ps ≡ true
-WaitsIn objects ps (reason.Continue to) = list_any (same_pending (pending.Continue to)) ps ≡ true
+WaitsIn objects ps r = Admits objects (λ p. list_any (same_pending p) ps) r
 
 -- the same of a reason, if any
 abbrev pub MayWait : List Payload → List Pending → Option UnwindReason → Type 0

@@ -5,13 +5,13 @@ ghost use Rattle.py_rows.specs.Laws.{EndsKeepSlot, EventsTold, FitsGrow, FitsWit
 /// States laws, and does nothing.
 ///
 /// A frame of a code that keeps the rules fits its notes before it has begun. It is never stuck: there is a step that it can
-/// make, as soon as a constant that this loads is among the objects; and it fits behind what it does next. It fits behind each step, also one that it hears, and so wherever a run comes to; and where it fits it is within the
-/// sizes.
+/// make, among these objects or more, as a constant may have to be made; and it fits behind what it does next. It fits behind
+/// each step, also one that it hears, and so wherever a run comes to; and where it fits it is within the sizes.
 ///
-/// The slot holds the exception of the innermost handler, or what it held at first, and this where a run has ended. Of every code: a frame that waits is at
-/// the unit that was begun last, and each event that it tells is of that unit; a question names what is handled in its
-/// blocks; a silent step leads to a later unit; and where all that goes in are objects, so is all that comes out. What fits,
-/// and what is a run, stays so as objects are added.
+/// The slot holds the exception of the innermost handler, or what it held at first, and this where a run has ended. Of every
+/// code: a frame that waits is at the unit that was begun last, and each event that it tells is of that unit; a question names
+/// what is handled in its blocks; a silent step leads to a later unit; and where all that goes in are objects, so is all that
+/// comes out. What fits, and what is a run, stays so as objects are added.
 pub fn laws_of_rows()
     ensures start { StartFits }
     ensures next { NextFits }

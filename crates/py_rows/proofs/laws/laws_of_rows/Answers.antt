@@ -1,9 +1,8 @@
 use Rattle.std.specs.Prelude.{[]}
 use Rattle.py_rows.proofs.StepLemmas.{start_fits, next_fits, steps_fit, within}
-use Rattle.py_rows.proofs.StandingLemmas.{slot_kept, start_stands, steps_stand, events_told, silent_later}
+use Rattle.py_rows.proofs.StandingLemmas.{slot_kept, start_stands, steps_stand, events_told, silent_later, start_below, steps_below}
 use Rattle.py_rows.proofs.GrowingLemmas.{fits_grown, run_grown}
 use Rattle.py_rows.proofs.GoingLemmas.{next_goes}
-use Rattle.py_rows.proofs.StepsBelowLemmas.{start_below, steps_below}
 use Rattle.py_rows.proofs.RunLemmas.{runs_fit, runs_below, runs_keep_slot, ends_keep_slot}
 use Rattle.py_rows.proofs.laws.laws_of_rows.Goals as goal
 
