@@ -1,8 +1,10 @@
 -- Steps that can be made.
-use Rattle.std.proofs.Common.{◌≡◌, ◌∙◌, ◌≤◌, ◌<◌, ◌+◌, ℕ, zero, suc, List, [], ◌∷◌, ◌++◌, Bool, true, false, cond, refl, ap, length, take, drop, reverse, arith}
+use Rattle.std.proofs.Common.{◌≡◌, ◌∙◌, ◌≤◌, ◌<◌, ◌+◌, ℕ, zero, suc, List, [], ◌∷◌, ◌++◌, Bool, true, false, cond, refl, ap, subst, length, take, drop, reverse, arith}
 use Rattle.std.specs.Prelude.{Option, Some, nat_lt, replicate}
 use Rattle.std.proofs.Math.ListN.{length-replicate}
 use Rattle.std.proofs.lemmas.List.{reverse-append}
+use Rattle.py_code.specs.declared.instruction.Instruction.{Instruction}
+use Rattle.py_code.specs.declared.instruction.Instruction.TheVariants.{WithCleanupFinish}
 use Rattle.py_objects.specs.declared.payload.Payload.{Payload}
 use Rattle.py_objects.specs.declared.request.Request.{Request}
 use Rattle.py_objects.specs.declared.request.Request.TheVariants.{Call}
@@ -12,8 +14,8 @@ use Rattle.py_objects.specs.Own.{Rounds}
 use Rattle.py_check.specs.declared.note.Kind.TheVariants.{Any}
 use Rattle.py_rows.specs.States.{State, Step, Goes, Tells, landed, with_stack, jumps}
 use Rattle.py_rows.specs.Asked.{calls}
-use Rattle.py_rows.specs.Rows.{asks, asks_if, asks_once, reaches, where_there}
-use Rattle.py_rows.specs.Receiving.{entered, enters, enters_top}
+use Rattle.py_rows.specs.Rows.{asks, asks_if, asks_once, reaches, takes_off, where_there}
+use Rattle.py_rows.specs.Receiving.{answered, entered, enters, enters_top, passes_if}
 use Rattle.py_rows.specs.Laws.{LeadsTo, IsWithin}
 use Rattle.py_frames.specs.Frames.{Framed}
 use Rattle.py_frames.specs.UnitSteps.{CanDo, CanMove}
@@ -72,3 +74,8 @@ can_enter objects f zero to v can = by_stack f.state.stack can
     by_stack [] can = absurd can
     by_stack (m ∷ rest) can = can.1 true
 can_enter objects f (suc n) to v can = absurd can
+
+-- an exception that waited may be passed on or not
+pub can_pass : (objects : List Payload) (f : Framed) (op : Instruction) (arg : ℕ) (v : Obj) (b : Bool) → op ≡ WithCleanupFinish → CanMove objects f (answered op arg v f.state)
+    → CanDo f (takes_off f.state.stack (λ e rest. passes_if b e (with_stack rest f.state)))
+can_pass objects f op arg v b is can = let done : CanMove objects f (answered WithCleanupFinish arg v f.state) = subst (λ (o : Instruction). CanMove objects f (answered o arg v f.state)) is can in done.1 b

@@ -1,7 +1,8 @@
 //! Instructions that open blocks and end them.
 
-ghost use Rattle.std.specs.Prelude.{◌+◌, ◌^◌, ◌<◌};
+ghost use Rattle.std.specs.Prelude.{◌+◌, ◌^◌, ◌<◌, None};
 ghost use Rattle.py_rows.specs.Rows.{end_finally, goes_on, opens, pop_block, pop_exception, setup_loop};
+ghost use Rattle.py_rows.specs.declared.block.BlockType.TheVariants as typ;
 ghost use Rattle.py_frames.specs.Frames.{over};
 ghost use Rattle.py_frames.specs.UnitSteps.{CanDo, Does};
 
@@ -23,6 +24,16 @@ impl FrameCore {
         self.goes_on();
         self.push_block(Block { typ, level });
         UnitStep::Goes
+    }
+
+    /// Opens the block of a handler of a finally that control came to in order.
+    pub(crate) fn enters_finally<S: ValueStack>(&mut self, stack: &mut S) -> UnitStep
+        requires next { self.old.state.at + 1 < 2 ^ 32 }
+        requires safe { let f = over self.old (S.list stack.old) (S.room stack.old) in CanDo f (opens (typ.FinallyHandler None f.state.slot) f.state) }
+        ensures { Does (λ s. opens (typ.FinallyHandler None s.slot) s) (over self.old (S.list stack.old) (S.room stack.old)) result (over self.new (S.list stack.new) (S.room stack.new)) }
+    {
+        let kept = self.slot();
+        self.opens(stack, BlockType::FinallyHandler { reason: None, kept })
     }
 
     /// Opens the block of a loop, which is its first round.

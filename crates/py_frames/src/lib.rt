@@ -1,9 +1,11 @@
 //! Frames: running code, one event at a time.
 #![tactic(auto)]
 
+mod answering;
 mod blocks;
 mod cleanup;
 mod constants;
+mod execute;
 mod exits;
 mod filled;
 mod frame_core;
