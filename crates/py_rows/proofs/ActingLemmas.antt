@@ -54,11 +54,11 @@ use Rattle.py_rows.specs.Answers.{HasKind, Suits}
 use Rattle.py_rows.specs.Answers as answers
 use Rattle.py_rows.specs.Asked.{name_of_local, asked}
 use Rattle.py_rows.specs.Fitting.{HaveKinds, MayWait, TypeWaits, type_number, IsBlock, AreBlocks, Has, wanted_of, raise_left, left_own, left_by, left_of, FitsBut, IsSound}
-use Rattle.py_rows.specs.Laws.{LeadsTo, RaisedThere, AlwaysLeads}
+use Rattle.py_rows.specs.Laws.{RaisedThere, Always}
 use Rattle.py_rows.proofs.KindLemmas.{kinds_counted, kinds_dropped, kinds_under, kinds_joined, kinds_moved}
 use Rattle.py_rows.proofs.BlockLemmas.{waiting_admitted}
 use Rattle.py_rows.proofs.TypingLemmas.{prefix_carried}
-use Rattle.py_rows.proofs.LandingLemmas.{Fits, arrived, on_fits, may_jumped}
+use Rattle.py_rows.proofs.LandingLemmas.{Fits, StepFits, arrived, on_fits, may_jumped}
 use Rattle.py_rows.proofs.BehindLemmas.{arrives_behind, fits_behind}
 use Rattle.py_rows.proofs.UnwindingLemmas.{leaves, leaves_with}
 use Rattle.py_rows.proofs.TakingLemmas.{bottom-cons, bottom-drop, handlers_same, reached, places_there, takes_rest, has_under, off, EndsExit, ends_exit}
@@ -74,9 +74,9 @@ literal_kind objects (TupleLiteral shape items) loaded = cc
 literal_kind objects (CodeLiteral c) loaded = cc
 literal_kind objects (BuiltinLiteral f) loaded = cc
 
-pub where_true : (P : State → Type 0) (b : Bool) (step : Step) → b ≡ true → LeadsTo P step → LeadsTo P (where_there b step)
+pub where_true : (P : Step → Type 0) (b : Bool) (step : Step) → b ≡ true → P step → P (where_there b step)
 where_true P true step is led = led
-where_true P false step is led = cc
+where_true P false step is led = absurd (cc is)
 
 -- only instructions that aren't in the table are prefixes
 by_prefix : (op : Instruction) (i : ℕ) → (effect op i ≡ Other) ⊎ (is_prefix op ≡ false)
@@ -122,7 +122,7 @@ drop_two (k ∷ kinds) = refl
 
 module _ (objects : List Payload) (names : List (List ℕ)) (globals : Obj) (closure : List Obj) (code : Annotated) (sound : IsSound names code) (s : State) (kinds : List Kind) (blocks : List BlockNote) (unit : CodeUnit) (is : slice_get code.code.code.instructions.items s.at ≡ Some unit) (note_is : slice_get code.notes s.at ≡ Some (Live kinds blocks)) (goes : s.wants ≡ expect.Go) (fresh : s.phase ≡ 0) (has : Has objects code kinds blocks s) (carries : s.prefix ≡ carried code.code.code.instructions.items s.at) where
   abbrev Led : Step → Type 0
-  Led step = LeadsTo (Fits objects code) step
+  Led step = StepFits objects code step
 
   abbrev goes_with : List Kind → List BlockNote → Bool
   goes_with ks bs = goes_on (sheet_of code) (s.at + 1) ks bs
@@ -134,29 +134,32 @@ module _ (objects : List Payload) (names : List (List ℕ)) (globals : Obj) (clo
       → HaveKinds objects stack ks → AreBlocks objects ds bs → length locals ≡ length code.code.code.varnames.items → Fits objects code (behind stack ds locals slot)
   goes_behind plain ks bs stack ds locals slot may holds are count = fits_behind objects code s unit is goes plain ks bs stack ds locals slot may holds are count
 
-  -- a frame that waits fits the note but for what its unit took
+  -- a frame that waits, behind a question or a value that is yielded, fits the note but for what its unit took
   waits_but : (op : Instruction) (i : ℕ) → unit.op ≡ op → with_byte s.prefix unit.arg ≡ i → (w : Wanted) (ks : List Kind) (bs : List BlockNote) (wanted : Wanted) (stack : List Obj) (ds : List Block) (slot : Option PyBaseExceptionRef) (x : Expect)
       → left_of op i 0 kinds blocks ≡ Some (record { kinds = ks; blocks = bs; wanted = wanted }) → Suits w wanted → Has objects code ks bs (record s { stack = stack; blocks = ds; slot = slot })
-      → FitsBut objects code w (record s { stack = stack; blocks = ds; slot = slot; wants = x })
-  waits_but op i is_op operand w ks bs wanted stack ds slot x waits suits has' = record {
-    unit = unit;
-    is = is;
-    kinds = kinds;
-    block_notes = blocks;
-    note = note_is;
-    left = record { kinds = ks; blocks = bs; wanted = wanted };
-    waits = subst (λ (o : Instruction). left_of o (with_byte s.prefix unit.arg) s.phase kinds blocks ≡ Some (record { kinds = ks; blocks = bs; wanted = wanted })) (sym is_op)
-        (subst (λ (n : ℕ). left_of op n s.phase kinds blocks ≡ Some (record { kinds = ks; blocks = bs; wanted = wanted })) (sym operand)
-        (subst (λ (p : ℕ). left_of op i p kinds blocks ≡ Some (record { kinds = ks; blocks = bs; wanted = wanted })) (sym fresh) waits));
-    suits = suits;
-    has = record { holds = has'.holds; blocks = has'.blocks; handlers = has'.handlers; room = has'.room; block_room = has'.block_room; locals = has'.locals };
-    carries = carries;
-  }
+      → Unit {0} × FitsBut objects code w (record s { stack = stack; blocks = ds; slot = slot; wants = x })
+  waits_but op i is_op operand w ks bs wanted stack ds slot x waits suits has' = (
+    tt,
+    record {
+      unit = unit;
+      is = is;
+      kinds = kinds;
+      block_notes = blocks;
+      note = note_is;
+      left = record { kinds = ks; blocks = bs; wanted = wanted };
+      waits = subst (λ (o : Instruction). left_of o (with_byte s.prefix unit.arg) s.phase kinds blocks ≡ Some (record { kinds = ks; blocks = bs; wanted = wanted })) (sym is_op)
+          (subst (λ (n : ℕ). left_of op n s.phase kinds blocks ≡ Some (record { kinds = ks; blocks = bs; wanted = wanted })) (sym operand)
+          (subst (λ (p : ℕ). left_of op i p kinds blocks ≡ Some (record { kinds = ks; blocks = bs; wanted = wanted })) (sym fresh) waits));
+      suits = suits;
+      has = record { holds = has'.holds; blocks = has'.blocks; handlers = has'.handlers; room = has'.room; block_room = has'.block_room; locals = has'.locals };
+      carries = carries;
+    },
+  )
 
   -- what the table of effects describes
   by_effect : (op : Instruction) (i : ℕ) (e : Effect) (f : List Obj → Option Request) (own : Move) (there keeps : Bool) → unit.op ≡ op → with_byte s.prefix unit.arg ≡ i → (e ≡ Other) ⊎ (is_prefix unit.op ≡ false)
-      → left_of op i 0 kinds blocks ≡ left_by e (left_own op i 0 kinds blocks) kinds blocks → (there ≡ true → AsksAs e f) → (keeps ≡ true → AlwaysLeads objects (Fits objects code) own)
-      → keeps_by (sheet_of code) s.at e there keeps kinds blocks ≡ true → AlwaysLeads objects (Fits objects code) (acts_by e f own s)
+      → left_of op i 0 kinds blocks ≡ left_by e (left_own op i 0 kinds blocks) kinds blocks → (there ≡ true → AsksAs e f) → (keeps ≡ true → Always objects (StepFits objects code) own)
+      → keeps_by (sheet_of code) s.at e there keeps kinds blocks ≡ true → Always objects (StepFits objects code) (acts_by e f own s)
   by_effect op i (Moves n places) f own there keeps is_op operand (inl other) left asks led may = absurd (listed_moves n places other)
   by_effect op i (Moves n places) f own there keeps is_op operand (inr plain) left asks led may =
       let parts = and_parts (may_move n places (length kinds) (top_level blocks)) (goes_with (moved_kinds n places kinds ++ drop n kinds) blocks) may in
@@ -165,7 +168,7 @@ module _ (objects : List Payload) (names : List (List ℕ)) (globals : Obj) (clo
       let count : length kinds ≡ length s.stack = sym (kinds_counted objects s.stack kinds has.holds) in
       let places_below : list_all (λ p. nat_lt p (length s.stack)) places ≡ true = subst (λ (m : ℕ). list_all (λ p. nat_lt p m) places ≡ true) count moves.1 in
       let test = and_from (reaches n s.stack) (list_all (λ p. is_there (slice_get s.stack p)) places) (reached n s.stack (omega (arith, count, leb-true n (length kinds) enough))) (places_there objects places s.stack places_below) in
-      where_true (Fits objects code) _ _ test
+      where_true (StepFits objects code) _ _ test
       (goes_behind plain (moved_kinds n places kinds ++ drop n kinds) blocks (picked places s.stack ++ drop n s.stack) s.blocks s.locals s.slot parts.1
       (kinds_joined objects (picked places s.stack) (drop n s.stack) (moved_kinds n places kinds) (drop n kinds) (kinds_moved objects n places s.stack kinds places_below has.holds) (kinds_dropped objects n s.stack kinds has.holds))
       has.blocks has.locals)
@@ -173,7 +176,7 @@ module _ (objects : List Payload) (names : List (List ℕ)) (globals : Obj) (clo
       let parts = and_parts there (takes wanted kinds blocks (λ rest. goes_with (at_place pushes ++ rest) blocks)) may in
       let below = takes_rest wanted kinds blocks (λ rest. goes_with (at_place pushes ++ rest) blocks) parts.1 in
       let enough : length wanted ≤ length s.stack = omega (arith, kinds_counted objects s.stack kinds has.holds, below.2) in
-      where_true (Fits objects code) _ _ (reached (length wanted) s.stack enough)
+      where_true (StepFits objects code) _ _ (reached (length wanted) s.stack enough)
       (asks_fit (f (take (length wanted) s.stack)) (asks parts.0 (take (length wanted) s.stack) (length-take-le (length wanted) s.stack enough)) (has_under objects code (length wanted) kinds blocks s below.1 has))
     where
       asks_fit : (r : Option Request) → Wants pushes r → Has objects code (drop (length wanted) kinds) blocks (with_stack (drop (length wanted) s.stack) s) → Led (asks_if r (with_stack (drop (length wanted) s.stack) s))
@@ -184,13 +187,13 @@ module _ (objects : List Payload) (names : List (List ℕ)) (globals : Obj) (clo
 
   -- loads
   loads_fit : (literal : Option Literal) (rest : Kind → Bool) (f : Obj → Step) → rules.loads literal rest ≡ true → ((k : Kind) (v : Obj) → rest k ≡ true → HasKind objects v k → Led (f v))
-      → AlwaysLeads objects (Fits objects code) (loads literal f)
+      → Always objects (StepFits objects code) (loads literal f)
   loads_fit None rest f keeps fits = cc
   loads_fit (Some l) rest f keeps fits =
       let parts = and_parts (is_loaded l) (rest (kind_of l)) keeps in
       let (p, is, kind) = literal_kind objects l parts.0 in
-      let move : AlwaysLeads objects (Fits objects code) (or_stuck (Some p) f) = λ v has. fits (kind_of l) v parts.1 (kind v has) in
-      subst (λ (q : Option Payload). AlwaysLeads objects (Fits objects code) (or_stuck q f)) (sym is) move
+      let move : Always objects (StepFits objects code) (or_stuck (Some p) f) = λ v has. fits (kind_of l) v parts.1 (kind v has) in
+      subst (λ (q : Option Payload). Always objects (StepFits objects code) (or_stuck q f)) (sym is) move
 
   -- a local that is unset is asked for by its name
   unbound_fits : (op : Instruction) (i : ℕ) → unit.op ≡ op → with_byte s.prefix unit.arg ≡ i → left_of op i 0 kinds blocks ≡ Some (record { kinds = kinds; blocks = blocks; wanted = want.NoValue }) → nat_lt i (length code.code.code.varnames.items) ≡ true
@@ -318,7 +321,7 @@ module _ (objects : List Payload) (names : List (List ℕ)) (globals : Obj) (clo
       in_finally_fits s.blocks c cs are one.0 _
       (λ level r kept outer level_is waits outer_are.
       let count : length (bottom level s.stack) ≡ length s.stack - (length s.stack - level) = length-drop (length s.stack - level) s.stack in
-      where_true (Fits objects code) _ _ (eq-eqb (length s.stack) level (omega (arith, stack_count, depth, level_is)))
+      where_true (StepFits objects code) _ _ (eq-eqb (length s.stack) level (omega (arith, stack_count, depth, level_is)))
       (off_there (bottom level s.stack) (omega (arith, count, stack_count, depth, nested, level_is)) _
       (λ x rest same. waits_but WithCleanupStart i is_op operand (want.Of kind.Any) kinds blocks (want.Of kind.Any) s.stack s.blocks s.slot (expect.Answer (want.Of kind.Any)) refl (λ o v is. is) has)))
 
@@ -362,7 +365,7 @@ module _ (objects : List Payload) (names : List (List ℕ)) (globals : Obj) (clo
       (λ exit rest above_is.
       in_finally_fits s.blocks c cs are ends.handler _
       (λ level r kept outer level_is waits outer_are.
-      where_true (Fits objects code) _ _ (eq-eqb (length above) level (omega (arith, stack_count, ends.depth, more, level_is)))
+      where_true (StepFits objects code) _ _ (eq-eqb (length above) level (omega (arith, stack_count, ends.depth, more, level_is)))
       (finishes_fit plain is_op i operand c cs same ends inner_hs r waits v rest outer kept
       (subst (λ (vs : List Obj). HaveKinds objects (drop 2 vs) (drop 2 kinds)) (stack_is ∙ ap (λ (vs : List Obj). v ∷ vs) above_is) there) outer_are))))
 
@@ -371,17 +374,17 @@ module _ (objects : List Payload) (names : List (List ℕ)) (globals : Obj) (clo
   raises_fit i is_op operand (Some raise.Reraise) here may =
       waits_but Raise i is_op operand (want.Of kind.Exc) kinds blocks (want.Of kind.Exc) s.stack s.blocks s.slot (expect.Answer (want.Of kind.Exc)) (ap (λ k. raise_left k 0 kinds blocks) here) (λ o v is. is) has
   raises_fit i is_op operand (Some raise.Raise) here may =
-      off objects code kinds blocks (λ rest. true) s (Fits objects code) _ may has
+      off objects code kinds blocks (λ rest. true) s (StepFits objects code) _ may has
       (λ v vs has' keeps count holds.
       waits_but Raise i is_op operand (want.Of kind.Exc) (drop 1 kinds) blocks (want.Of kind.Exc) vs s.blocks s.slot (expect.Answer (want.Of kind.Exc)) (ap (λ k. raise_left k 0 kinds blocks) here) (λ o v is. is) has')
   raises_fit i is_op operand (Some raise.RaiseCause) here may =
-      off objects code kinds blocks (λ rest. true) s (Fits objects code) _ (first_taken kinds blocks may) has
+      off objects code kinds blocks (λ rest. true) s (StepFits objects code) _ (first_taken kinds blocks may) has
       (λ c vs has' keeps count holds.
       waits_but Raise i is_op operand want.ExceptionOrNone (drop 1 kinds) blocks want.ExceptionOrNone vs s.blocks s.slot (expect.Answer want.ExceptionOrNone) (ap (λ k. raise_left k 0 kinds blocks) here) (λ o v is. is) has')
 
   -- an instruction that isn't in the table leads to frames that fit
   own_fits : (op : Instruction) (i : ℕ) → unit.op ≡ op → with_byte s.prefix unit.arg ≡ i → keeps_own (sheet_of code) s.at op i kinds blocks ≡ true
-      → AlwaysLeads objects (Fits objects code) (act_own (record { code = code.code; names = names; globals = globals; closure = closure }) op i s)
+      → Always objects (StepFits objects code) (act_own (record { code = code.code; names = names; globals = globals; closure = closure }) op i s)
   own_fits LoadConst i is_op operand keeps =
       loads_fit (slice_get (literals_of code.code.code.constants) i) (λ k. goes_with (k ∷ kinds) blocks) _ keeps
       (λ k v may is_kind. goes_behind (ap is_prefix is_op) (k ∷ kinds) blocks (v ∷ s.stack) s.blocks s.locals s.slot may (is_kind, has.holds) has.blocks has.locals)
@@ -390,21 +393,21 @@ module _ (objects : List Payload) (names : List (List ℕ)) (globals : Obj) (clo
       load_fast_fits i is_op operand parts.0 parts.1 (slice_get s.locals i) refl
   own_fits StoreFast i is_op operand keeps =
       let parts = and_parts (nat_lt i (length code.code.code.varnames.items)) (takes_top kinds blocks (λ rest. goes_with rest blocks)) keeps in
-      where_true (Fits objects code) _ _ (ap (nat_lt i) has.locals ∙ parts.0)
-      (off objects code kinds blocks (λ rest. goes_with rest blocks) s (Fits objects code) _ parts.1 has
+      where_true (StepFits objects code) _ _ (ap (nat_lt i) has.locals ∙ parts.0)
+      (off objects code kinds blocks (λ rest. goes_with rest blocks) s (StepFits objects code) _ parts.1 has
       (λ v vs has' may count holds. goes_behind (ap is_prefix is_op) (drop 1 kinds) blocks vs s.blocks (slice_set s.locals i (Some v)) s.slot may has'.holds has.blocks (length-set s.locals i (Some v) ∙ has.locals)))
   own_fits DeleteFast i is_op operand keeps =
       let parts = and_parts (nat_lt i (length code.code.code.varnames.items)) (goes_with kinds blocks) keeps in
       delete_fast_fits i is_op operand parts.0 parts.1 (slice_get s.locals i) refl
   own_fits Jump to is_op operand keeps = may_jumped objects code to kinds blocks s goes keeps has.holds has.blocks has.locals
   own_fits JumpIfTrue to is_op operand keeps =
-      off objects code kinds blocks (λ rest. may_jump (sheet_of code) to rest blocks && goes_with rest blocks) s (Fits objects code) _ keeps has
+      off objects code kinds blocks (λ rest. may_jump (sheet_of code) to rest blocks && goes_with rest blocks) s (StepFits objects code) _ keeps has
       (λ v vs has' may count holds. waits_but JumpIfTrue to is_op operand want.Truth (drop 1 kinds) blocks want.Truth vs s.blocks s.slot (expect.Answer want.Truth) refl (λ o v is. is) has')
   own_fits JumpIfFalse to is_op operand keeps =
-      off objects code kinds blocks (λ rest. may_jump (sheet_of code) to rest blocks && goes_with rest blocks) s (Fits objects code) _ keeps has
+      off objects code kinds blocks (λ rest. may_jump (sheet_of code) to rest blocks && goes_with rest blocks) s (StepFits objects code) _ keeps has
       (λ v vs has' may count holds. waits_but JumpIfFalse to is_op operand want.Truth (drop 1 kinds) blocks want.Truth vs s.blocks s.slot (expect.Answer want.Truth) refl (λ o v is. is) has')
   own_fits SetupLoop i is_op operand keeps =
-      opens_fit (ap is_prefix is_op) (record { typ = Loop; level = length s.stack }) (note.Loop (length kinds)) (record { number = refl; level = stack_count; handler = refl; waits = tt }) keeps
+      (tt, opens_fit (ap is_prefix is_op) (record { typ = Loop; level = length s.stack }) (note.Loop (length kinds)) (record { number = refl; level = stack_count; handler = refl; waits = tt }) keeps)
   own_fits SetupExcept to is_op operand keeps =
       let parts = and_parts (is_label code.code.code.instructions.items to) (goes_with kinds (note.TryExcept (length kinds) to ∷ blocks)) keeps in
       opens_fit (ap is_prefix is_op) (record { typ = TryExcept to; level = length s.stack }) (note.TryExcept (length kinds) to) (record { number = refl; level = stack_count; handler = refl; waits = tt }) parts.1
@@ -415,7 +418,7 @@ module _ (objects : List Payload) (names : List (List ℕ)) (globals : Obj) (clo
       opens_fit (ap is_prefix is_op) (record { typ = FinallyHandler None s.slot; level = length s.stack }) (note.FinallyHandler (length kinds) []) (record { number = refl; level = stack_count; handler = refl; waits = tt }) keeps
   own_fits EndFinally i is_op operand keeps = end_finally_fits (ap is_prefix is_op) blocks has.blocks has.handlers keeps
   own_fits SetupWith to is_op operand keeps =
-      off objects code kinds blocks (λ rest. opens (sheet_of code) s.at to (kind.Any ∷ kind.Any ∷ rest) (note.Finally (suc (length rest)) to ∷ blocks)) s (Fits objects code) _ keeps has
+      off objects code kinds blocks (λ rest. opens (sheet_of code) s.at to (kind.Any ∷ kind.Any ∷ rest) (note.Finally (suc (length rest)) to ∷ blocks)) s (StepFits objects code) _ keeps has
       (λ v vs has' may count holds. waits_but SetupWith to is_op operand (want.Of kind.Any) kinds blocks (want.Of kind.Any) s.stack s.blocks s.slot (expect.Answer (want.Of kind.Any)) refl (λ o v is. is) has)
   own_fits WithCleanupStart i is_op operand keeps = (raised_there s.blocks blocks has.blocks, λ t v b. cleanup_starts is_op i operand blocks has.blocks keeps t v b)
   own_fits WithCleanupFinish i is_op operand keeps = cleanup_finishes (ap is_prefix is_op) is_op i operand blocks refl has.blocks has.handlers keeps
@@ -426,12 +429,12 @@ module _ (objects : List Payload) (names : List (List ℕ)) (globals : Obj) (clo
   own_fits Continue to is_op operand keeps =
       leaves_with objects code (reason.Continue to) kinds blocks s goes (and_parts (is_label code.code.code.instructions.items to) (walks (sheet_of code) (pending.Continue to) kinds blocks) keeps).1 has
   own_fits ReturnValue i is_op operand keeps =
-      off objects code kinds blocks (λ rest. true) s (Fits objects code) _ keeps has (λ v vs has' may count holds. leaves_with objects code (reason.Returning v) (drop 1 kinds) blocks (with_stack vs s) goes tt has')
+      off objects code kinds blocks (λ rest. true) s (StepFits objects code) _ keeps has (λ v vs has' may count holds. leaves_with objects code (reason.Returning v) (drop 1 kinds) blocks (with_stack vs s) goes tt has')
   own_fits ReturnConst i is_op operand keeps =
       loads_fit (slice_get (literals_of code.code.code.constants) i) (λ k. true) _ keeps (λ k v may is_kind. leaves_with objects code (reason.Returning v) kinds blocks s goes tt has)
   own_fits YieldValue i is_op operand keeps =
       let parts = and_parts (is_generator code.code.code.flags) (takes_top kinds blocks (λ rest. goes_with (kind.Any ∷ rest) blocks)) keeps in
-      off objects code kinds blocks (λ rest. goes_with (kind.Any ∷ rest) blocks) s (Fits objects code) _ parts.1 has
+      off objects code kinds blocks (λ rest. goes_with (kind.Any ∷ rest) blocks) s (StepFits objects code) _ parts.1 has
       (λ v vs has' may count holds. waits_but YieldValue i is_op operand (want.Of kind.Any) (drop 1 kinds) blocks (want.Of kind.Any) vs s.blocks s.slot expect.Resume refl (λ o v is. is) has')
   own_fits ExtendedArg i is_op operand keeps =
       let parts = and_parts (nat_lt (prefixes code.code.code.instructions.items s.at) 3) (goes_with kinds blocks) keeps in
@@ -442,7 +445,7 @@ module _ (objects : List Payload) (names : List (List ℕ)) (globals : Obj) (clo
 
   -- each instruction that keeps the rules does
   pub act_fits : (op : Instruction) (i : ℕ) → unit.op ≡ op → with_byte s.prefix unit.arg ≡ i → keeps_op (sheet_of code) s.at op i kinds blocks ≡ true
-      → AlwaysLeads objects (Fits objects code) (act (record { code = code.code; names = names; globals = globals; closure = closure }) op i s)
+      → Always objects (StepFits objects code) (act (record { code = code.code; names = names; globals = globals; closure = closure }) op i s)
   act_fits op i is_op operand keeps =
       by_effect op i (effect op i) (asked (record { code = code.code; names = names; globals = globals; closure = closure }) op i) (act_own (record { code = code.code; names = names; globals = globals; closure = closure }) op i s) (has_operand (sheet_of code) op i)
       (keeps_own (sheet_of code) s.at op i kinds blocks) is_op operand (other_or_plain op i unit.op is_op) refl (asked_there names globals closure code sound.named op i) (own_fits op i is_op operand) keeps

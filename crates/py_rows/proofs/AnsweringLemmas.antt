@@ -38,9 +38,9 @@ use Rattle.py_rows.specs.Receiving.{entered, asks_again, enters_top, enters, pas
 use Rattle.py_rows.specs.Fitting.{with_left, HaveKinds, IsBlock, AreBlocks, Has, Waiting, cause_left, raise_left, left_own, left_by, left_of}
 use Rattle.py_check.specs.declared.note.Note.TheVariants.{Live}
 use Rattle.py_rows.specs.declared.expect.Wanted.TheVariants as want
-use Rattle.py_rows.specs.Laws.{LeadsTo, AlwaysLeads}
+use Rattle.py_rows.specs.Laws.{Always}
 use Rattle.py_rows.proofs.KindLemmas.{kinds_counted}
-use Rattle.py_rows.proofs.LandingLemmas.{Fits, may_jumped}
+use Rattle.py_rows.proofs.LandingLemmas.{Fits, StepFits, may_jumped}
 use Rattle.py_rows.proofs.BehindLemmas.{fits_behind}
 use Rattle.py_rows.proofs.UnwindingLemmas.{leaves, leaves_with}
 use Rattle.py_rows.proofs.TakingLemmas.{off, bottom-cons, handlers_same, takes_rest, ends_exit}
@@ -54,7 +54,7 @@ any_top objects (v ∷ stack) (k ∷ kinds) holds some = (tt, holds.1)
 
 module _ (objects : List Payload) (code : Annotated) (s : State) (kinds : List Kind) (blocks : List BlockNote) (unit : CodeUnit) (is : slice_get code.code.code.instructions.items s.at ≡ Some unit) (goes : s.wants ≡ expect.Go) (note_is : slice_get code.notes s.at ≡ Some (Live kinds blocks)) (carries : s.prefix ≡ carried code.code.code.instructions.items s.at) where
   abbrev Led : Step → Type 0
-  Led step = LeadsTo (Fits objects code) step
+  Led step = StepFits objects code step
 
   abbrev goes_with : List Kind → List BlockNote → Bool
   goes_with ks bs = goes_on (sheet_of code) (s.at + 1) ks bs
@@ -78,7 +78,7 @@ module _ (objects : List Payload) (code : Annotated) (s : State) (kinds : List K
       goes_behind plain (drop 1 kinds) blocks s.stack s.blocks (and_parts (may_jump (sheet_of code) to (drop 1 kinds) blocks) (goes_with (drop 1 kinds) blocks) both.0).1 has.holds has.blocks has.locals
 
   by_answer : (e : Effect) (own : Move) (left : Option Waiting) (there keeps : Bool) (v : Obj) → (e ≡ Other) ⊎ (is_prefix unit.op ≡ false) → keeps_by (sheet_of code) s.at e there keeps kinds blocks ≡ true → Given v (left_by e left kinds blocks)
-      → (keeps ≡ true → Given v left → AlwaysLeads objects (Fits objects code) own) → AlwaysLeads objects (Fits objects code) (answered_by e own v s)
+      → (keeps ≡ true → Given v left → Always objects (StepFits objects code) own) → Always objects (StepFits objects code) (answered_by e own v s)
   by_answer (Moves n places) own left there keeps v plain may given led = absurd given
   by_answer (AsksOnce taken pushes) own left there keeps v (inl other) may given led = absurd (listed_asks taken pushes other)
   by_answer (AsksOnce taken None) own left there keeps v (inr plain) may given led =
@@ -109,7 +109,7 @@ module _ (objects : List Payload) (code : Annotated) (s : State) (kinds : List K
   causes_fit : (i : ℕ) (v : Obj) (n : ℕ) → s.phase ≡ n → unit.op ≡ Raise → with_byte s.prefix unit.arg ≡ i → slice_get raise_kinds i ≡ Some raise.RaiseCause → typing.raises (Some raise.RaiseCause) kinds blocks ≡ true
       → Given v (cause_left n kinds blocks) → Led (causes n v s)
   causes_fit i v zero here is_op operand kind_is keeps given =
-      off objects code (drop 1 kinds) blocks (λ rest. true) s (Fits objects code) _ (second_taken kinds blocks keeps) given.0
+      off objects code (drop 1 kinds) blocks (λ rest. true) s (StepFits objects code) _ (second_taken kinds blocks keeps) given.0
       (λ w vs has' keeps count holds.
       let t : State = record s { stack = vs; phase = suc s.phase; wants = expect.Answer (want.Of kind.Exc) } in
       let one : suc s.phase ≡ 1 = ap suc here in
@@ -117,7 +117,7 @@ module _ (objects : List Payload) (code : Annotated) (s : State) (kinds : List K
       rw (is_op, operand, one, kind_is) refl in
       let left_has : Has objects code (drop 2 kinds) blocks t =
       record { holds = subst (HaveKinds objects vs) (drop_two kinds) has'.holds; blocks = has'.blocks; handlers = subst (λ (ks : List Kind). handlers_land (sheet_of code) ks blocks ≡ true) (drop_two kinds) has'.handlers; room = subst (λ (ks : List Kind). length ks ≤ code.code.code.max_stackdepth) (drop_two kinds) has'.room; block_room = has'.block_room; locals = has'.locals } in
-      record { unit = unit; is = is; kinds = kinds; block_notes = blocks; note = note_is; left = record { kinds = drop 2 kinds; blocks = blocks; wanted = want.Of kind.Exc }; waits = waits; suits = λ objects v is. is; has = left_has; carries = carries })
+      (tt, record { unit = unit; is = is; kinds = kinds; block_notes = blocks; note = note_is; left = record { kinds = drop 2 kinds; blocks = blocks; wanted = want.Of kind.Exc }; waits = waits; suits = λ objects v is. is; has = left_has; carries = carries }))
   causes_fit i v (suc n) here is_op operand kind_is keeps given = leaves_with objects code (reason.Raising (record { number = v.number })) (drop 2 kinds) blocks s goes given.1 given.0
 
   raised_fits : (i : ℕ) (v : Obj) (k : Option RaiseKind) → unit.op ≡ Raise → with_byte s.prefix unit.arg ≡ i → slice_get raise_kinds i ≡ k → typing.raises k kinds blocks ≡ true → Given v (raise_left k s.phase kinds blocks) → Led (raised k v s)
@@ -141,10 +141,10 @@ module _ (objects : List Payload) (code : Annotated) (s : State) (kinds : List K
       let t : State = record s { phase = suc s.phase; wants = expect.Answer want.NoValue } in
       let waits : left_of unit.op (with_byte s.prefix unit.arg) (suc s.phase) kinds blocks ≡ Some (record { kinds = kinds; blocks = blocks; wanted = want.NoValue }) = rw is_op refl in
       let left_has : Has objects code kinds blocks t = record { holds = has.holds; blocks = has.blocks; handlers = has.handlers; room = has.room; block_room = has.block_room; locals = has.locals } in
-      record { unit = unit; is = is; kinds = kinds; block_notes = blocks; note = note_is; left = record { kinds = kinds; blocks = blocks; wanted = want.NoValue }; waits = waits; suits = λ objects v is. is; has = left_has; carries = carries }
+      (tt, record { unit = unit; is = is; kinds = kinds; block_notes = blocks; note = note_is; left = record { kinds = kinds; blocks = blocks; wanted = want.NoValue }; waits = waits; suits = λ objects v is. is; has = left_has; carries = carries })
 
   enters_top_fit : (to : ℕ) (v : Obj) → unit.op ≡ SetupWith → keeps_own (sheet_of code) s.at SetupWith to kinds blocks ≡ true → Has objects code kinds blocks s → (stack : List Obj) → 1 ≤ length stack
-      → AlwaysLeads objects (Fits objects code) (enters_top stack to v s)
+      → Always objects (StepFits objects code) (enters_top stack to v s)
   enters_top_fit to v is_op keeps has [] some = absurd (omega (arith, some))
   enters_top_fit to v is_op keeps has (m ∷ rest) some = by_test
     where
@@ -153,13 +153,13 @@ module _ (objects : List Payload) (code : Annotated) (s : State) (kinds : List K
       by_test false = no_exit_fits m is_op has
 
   enters_fit : (to : ℕ) (v : Obj) (n : ℕ) → unit.op ≡ SetupWith → with_byte s.prefix unit.arg ≡ to → keeps_own (sheet_of code) s.at SetupWith to kinds blocks ≡ true → Given v (with_left n kinds blocks)
-      → AlwaysLeads objects (Fits objects code) (enters n to v s)
+      → Always objects (StepFits objects code) (enters n to v s)
   enters_fit to v zero is_op operand keeps given =
       let rest = takes_rest (kind.Any ∷ []) kinds blocks (λ rest. opens (sheet_of code) s.at to (kind.Any ∷ kind.Any ∷ rest) (note.Finally (suc (length rest)) to ∷ blocks)) keeps in
       enters_top_fit to v is_op keeps given.0 s.stack (omega (arith, kinds_counted objects s.stack kinds given.0.holds, rest.2))
   enters_fit to v (suc n) is_op operand keeps given = absurd given.1
 
-  own_answered : (op : Instruction) (i : ℕ) (v : Obj) → unit.op ≡ op → with_byte s.prefix unit.arg ≡ i → keeps_own (sheet_of code) s.at op i kinds blocks ≡ true → Given v (left_own op i s.phase kinds blocks) → AlwaysLeads objects (Fits objects code) (answered_own op i v s)
+  own_answered : (op : Instruction) (i : ℕ) (v : Obj) → unit.op ≡ op → with_byte s.prefix unit.arg ≡ i → keeps_own (sheet_of code) s.at op i kinds blocks ≡ true → Given v (left_own op i s.phase kinds blocks) → Always objects (StepFits objects code) (answered_own op i v s)
   own_answered LoadFast i v is_op operand keeps given = absurd given.1
   own_answered DeleteFast i v is_op operand keeps given = absurd given.1
   own_answered JumpIfTrue to v is_op operand keeps given = (given.1, λ b. ways_fit (ap is_prefix is_op) to keeps given.0 b)
@@ -174,7 +174,7 @@ module _ (objects : List Payload) (code : Annotated) (s : State) (kinds : List K
       goes_behind (ap is_prefix is_op) (kind.Any ∷ drop 1 kinds) blocks (v ∷ s.stack) s.blocks rest.0 (tt, given.0.holds) given.0.blocks given.0.locals
   own_answered _ i v is_op operand keeps given = absurd given
 
-  pub answered_fits : (op : Instruction) (i : ℕ) (v : Obj) → unit.op ≡ op → with_byte s.prefix unit.arg ≡ i → keeps_op (sheet_of code) s.at op i kinds blocks ≡ true → Given v (left_of op i s.phase kinds blocks) → AlwaysLeads objects (Fits objects code) (answered op i v s)
+  pub answered_fits : (op : Instruction) (i : ℕ) (v : Obj) → unit.op ≡ op → with_byte s.prefix unit.arg ≡ i → keeps_op (sheet_of code) s.at op i kinds blocks ≡ true → Given v (left_of op i s.phase kinds blocks) → Always objects (StepFits objects code) (answered op i v s)
   answered_fits op i v is_op operand keeps given =
       by_answer (effect op i) (answered_own op i v s) (left_own op i s.phase kinds blocks) (has_operand (sheet_of code) op i) (keeps_own (sheet_of code) s.at op i kinds blocks) v (other_or_plain op i unit.op is_op) keeps given
       (λ own given. own_answered op i v is_op operand own given)

@@ -17,9 +17,9 @@ use Rattle.py_check.specs.Rules.{lands, jumps as may_jump}
 use Rattle.py_rows.specs.declared.block.Block.{Block}
 use Rattle.py_rows.specs.declared.expect.Expect.{Expect}
 use Rattle.py_rows.specs.declared.expect.Expect.TheVariants as expect
-use Rattle.py_rows.specs.States.{State, Goes, Tells, landed, jumps}
+use Rattle.py_rows.specs.States.{State, Step, Goes, Tells, Stuck, landed, jumps}
 use Rattle.py_rows.specs.Fitting.{HaveKinds, AreBlocks, FitsNote, FitsAt}
-use Rattle.py_rows.specs.Laws.{LeadsTo}
+use Rattle.py_rows.specs.Laws.{RaisesException}
 use Rattle.py_rows.proofs.KindLemmas.{kinds_fitted}
 use Rattle.py_rows.proofs.BlockLemmas.{blocks_fitted}
 use Rattle.py_rows.proofs.TypingLemmas.{label_carried}
@@ -27,6 +27,12 @@ use Rattle.py_rows.proofs.TypingLemmas.{label_carried}
 -- a frame fits by what it expects
 abbrev pub Fits : List Payload → Annotated → State → Type 0
 Fits objects code t = FitsAt objects code t.wants t
+
+-- a step leads to one that fits, and ends no frame by a raise but that of an exception
+abbrev pub StepFits : List Payload → Annotated → Step → Type 0
+StepFits objects code (Goes t) = Fits objects code t
+StepFits objects code (Tells x t) = RaisesException objects x × Fits objects code t
+StepFits objects code Stuck = ⊥
 
 pub on_fits : (objects : List Payload) (code : Annotated) (t : State) → t.wants ≡ expect.Go → FitsNote objects code t → Fits objects code t
 on_fits objects code t goes fits = subst (λ (x : Expect). FitsAt objects code x t) (sym goes) fits
@@ -54,15 +60,15 @@ arrived objects code t to carries locals = record { kinds = to.kinds; block_note
 
 -- a jump to a label
 pub jumped : (objects : List Payload) (code : Annotated) (to : ℕ) (s : State) → s.wants ≡ expect.Go → is_label code.code.code.instructions.items to ≡ true
-    → Arrives objects s.stack s.blocks (slice_get code.notes to) → length s.locals ≡ length code.code.code.varnames.items → LeadsTo (Fits objects code) (jumps to s)
+    → Arrives objects s.stack s.blocks (slice_get code.notes to) → length s.locals ≡ length code.code.code.varnames.items → StepFits objects code (jumps to s)
 jumped objects code to s goes label there locals =
     let fits : Fits objects code (landed to s) = on_fits objects code (landed to s) goes (arrived objects code (landed to s) there (label_carried code.code.code.instructions.items to label) locals) in
-    let P : Bool → Type 0 = λ b. LeadsTo (Fits objects code) (cond b (Goes (landed to s)) (Tells (Rounds s.at) (landed to s))) in
-    let cases : (b : Bool) → P b = λ b. elim b as P [ true ↦ fits | false ↦ fits ] in
+    let P : Bool → Type 0 = λ b. StepFits objects code (cond b (Goes (landed to s)) (Tells (Rounds s.at) (landed to s))) in
+    let cases : (b : Bool) → P b = λ b. elim b as P [ true ↦ fits | false ↦ (tt, fits) ] in
     cases (nat_lt s.at to)
 
 pub may_jumped : (objects : List Payload) (code : Annotated) (to : ℕ) (ks : List Kind) (bs : List BlockNote) (s : State) → s.wants ≡ expect.Go → may_jump (sheet_of code) to ks bs ≡ true
-    → HaveKinds objects s.stack ks → AreBlocks objects s.blocks bs → length s.locals ≡ length code.code.code.varnames.items → LeadsTo (Fits objects code) (jumps to s)
+    → HaveKinds objects s.stack ks → AreBlocks objects s.blocks bs → length s.locals ≡ length code.code.code.varnames.items → StepFits objects code (jumps to s)
 may_jumped objects code to ks bs s goes may holds are locals =
     let parts = and_parts (is_label code.code.code.instructions.items to) (lands (sheet_of code) to ks bs) may in
     jumped objects code to s goes parts.0 (arrives objects s.stack s.blocks ks bs (slice_get code.notes to) parts.1 holds are) locals

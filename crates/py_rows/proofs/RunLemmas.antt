@@ -13,8 +13,8 @@ use Rattle.py_rows.specs.Standing.{IsPlaced, IsStanding}
 use Rattle.py_rows.specs.RunOfRows.{Runs, none, on, started}
 use Rattle.py_rows.specs.Fitting.{FitsAt, IsSound}
 use Rattle.py_rows.specs.Below.{HearsBelow, TellsBelow, HoldsBelow}
-use Rattle.py_rows.specs.Laws.{setting_of}
-use Rattle.py_rows.proofs.StepLemmas.{steps_fit, start_fits}
+use Rattle.py_rows.specs.Laws.{RaiseExceptions, setting_of}
+use Rattle.py_rows.proofs.StepLemmas.{steps_fit, steps_raise, start_fits}
 use Rattle.py_rows.proofs.StandingLemmas.{start_stands, steps_stand, start_below, steps_below}
 
 fits_on : (objects : List Payload) (names : List (List ℕ)) (globals : Obj) (closure : List Obj) (code : Annotated) → IsSound names code → (s t : State) (xs : List Own) → FitsAt objects code s.wants s → Runs objects (setting_of names globals closure code) s xs t
@@ -25,6 +25,21 @@ fits_on objects names globals closure code sound s _ _ fits (on {us = us} {vs = 
 pub runs_fit : (objects : List Payload) (names : List (List ℕ)) (globals : Obj) (closure : List Obj) (code : Annotated) (slot : Option PyBaseExceptionRef) (args : List Obj) (t : State) (xs : List Own) → IsSound names code
     → Runs objects (setting_of names globals closure code) (started code.code slot args) xs t → FitsAt objects code t.wants t
 runs_fit objects names globals closure code slot args t xs sound run = fits_on objects names globals closure code sound (started code.code slot args) t xs (start_fits objects names code slot args sound) run
+
+-- what raises in parts raises together
+raise_joined : (objects : List Payload) (xs ys : List Own) → RaiseExceptions objects xs → RaiseExceptions objects ys → RaiseExceptions objects (xs ++ ys)
+raise_joined objects [] ys first last = last
+raise_joined objects (x ∷ xs) ys first last = (first.0, raise_joined objects xs ys first.1 last)
+
+raise_on : (objects : List Payload) (names : List (List ℕ)) (globals : Obj) (closure : List Obj) (code : Annotated) → IsSound names code → (s t : State) (xs : List Own) → FitsAt objects code s.wants s → Runs objects (setting_of names globals closure code) s xs t
+    → RaiseExceptions objects xs
+raise_on objects names globals closure code sound s _ _ fits none = tt
+raise_on objects names globals closure code sound s _ _ fits (on {us = us} {vs = vs} {t = t} u run step) =
+    raise_joined objects us vs (raise_on objects names globals closure code sound s t us fits run) (steps_raise objects names globals closure code sound t vs u (fits_on objects names globals closure code sound s t us fits run) step)
+
+pub runs_raise : (objects : List Payload) (names : List (List ℕ)) (globals : Obj) (closure : List Obj) (code : Annotated) (slot : Option PyBaseExceptionRef) (args : List Obj) (t : State) (xs : List Own) → IsSound names code
+    → Runs objects (setting_of names globals closure code) (started code.code slot args) xs t → RaiseExceptions objects xs
+runs_raise objects names globals closure code slot args t xs sound run = raise_on objects names globals closure code sound (started code.code slot args) t xs (start_fits objects names code slot args sound) run
 
 -- what is heard first, and then
 heard_parts : (n : ℕ) (xs ys : List Own) → HearsBelow n (xs ++ ys) → HearsBelow n xs × HearsBelow n ys

@@ -29,11 +29,11 @@ use Rattle.py_rows.specs.Rows.{unit_move}
 use Rattle.py_rows.specs.Receiving.{unit_answered, moves}
 use Rattle.py_rows.specs.RunOfRows.{MayLead, Hears, Steps, silent, telling, hearing, filled, started}
 use Rattle.py_rows.specs.Fitting.{Has, FitsNote, left_of, FitsBut, CanUnwind, FitsAt, IsSound}
-use Rattle.py_rows.specs.Laws.{LeadsTo, AlwaysLeads, IsMoving, IsWithin, setting_of}
+use Rattle.py_rows.specs.Laws.{LeadsTo, Always, AlwaysLeads, RaisesException, RaiseExceptions, IsMoving, IsWithin, setting_of}
 use Rattle.py_rows.proofs.KindLemmas.{kinds_counted}
 use Rattle.py_rows.proofs.BlockLemmas.{blocks_counted, deepest_there}
 use Rattle.py_rows.proofs.TypingLemmas.{IsWhole, typed_whole, unit_kept}
-use Rattle.py_rows.proofs.LandingLemmas.{Fits}
+use Rattle.py_rows.proofs.LandingLemmas.{Fits, StepFits}
 use Rattle.py_rows.proofs.UnwindingLemmas.{leaves_with}
 use Rattle.py_rows.proofs.ActingLemmas.{act_fits}
 use Rattle.py_rows.proofs.AnsweringLemmas.{Given, answered_fits}
@@ -68,16 +68,16 @@ module _ (objects : List Payload) (names : List (List ℕ)) (globals : Obj) (clo
     carries = f.carries;
   }
 
-  go_fits : FitsNote objects code s → AlwaysLeads objects (Fits objects code) (moves (setting_of names globals closure code) expect.Go s)
+  go_fits : FitsNote objects code s → Always objects (StepFits objects code) (moves (setting_of names globals closure code) expect.Go s)
   go_fits f =
       let kept = unit_kept code s.at f.kinds f.block_notes sound.typed f.note in
       let u : CodeUnit = kept.there in
       let keeps : keeps_op (sheet_of code) s.at u.op (with_byte s.prefix u.arg) f.kinds f.block_notes ≡ true =
       subst (λ (n : ℕ). keeps_op (sheet_of code) s.at u.op (with_byte n u.arg) f.kinds f.block_notes ≡ true) (sym f.carries) kept.keeps in
-      subst (λ (o : Option CodeUnit). AlwaysLeads objects (Fits objects code) (unit_move (setting_of names globals closure code) o s)) (sym kept.is)
+      subst (λ (o : Option CodeUnit). Always objects (StepFits objects code) (unit_move (setting_of names globals closure code) o s)) (sym kept.is)
       (act_fits objects names globals closure code sound (begun s) f.kinds f.block_notes u kept.is f.note refl refl (has_begun f) f.carries u.op (with_byte s.prefix u.arg) refl refl keeps)
 
-  value_fits : (w : Wanted) (v : Obj) → FitsBut objects code w s → IsValue objects w v → AlwaysLeads objects (Fits objects code) (moves (setting_of names globals closure code) (expect.Heard (got.Value v)) s)
+  value_fits : (w : Wanted) (v : Obj) → FitsBut objects code w s → IsValue objects w v → Always objects (StepFits objects code) (moves (setting_of names globals closure code) (expect.Heard (got.Value v)) s)
   value_fits w v f is_value =
       let kept = unit_kept code s.at f.kinds f.block_notes sound.typed f.note in
       let u : CodeUnit = f.unit in
@@ -90,27 +90,43 @@ module _ (objects : List Payload) (names : List (List ℕ)) (globals : Obj) (clo
       let known : Given objects code (waiting expect.Go s) f.kinds f.block_notes u f.is refl f.note f.carries v (Some f.left) = (has_waiting f.left.kinds f.left.blocks expect.Go f.has, f.suits objects v is_value) in
       let given : Given objects code (waiting expect.Go s) f.kinds f.block_notes u f.is refl f.note f.carries v (left_of u.op (with_byte s.prefix u.arg) s.phase f.kinds f.block_notes) =
       subst (Given objects code (waiting expect.Go s) f.kinds f.block_notes u f.is refl f.note f.carries v) (sym f.waits) known in
-      subst (λ (o : Option CodeUnit). AlwaysLeads objects (Fits objects code) (unit_answered o v (waiting expect.Go s))) (sym f.is)
+      subst (λ (o : Option CodeUnit). Always objects (StepFits objects code) (unit_answered o v (waiting expect.Go s))) (sym f.is)
       (answered_fits objects code (waiting expect.Go s) f.kinds f.block_notes u f.is refl f.note f.carries u.op (with_byte s.prefix u.arg) v refl refl keeps given)
 
-  pub next_fits : (x : Expect) → FitsAt objects code x s → IsMoving x → AlwaysLeads objects (Fits objects code) (moves (setting_of names globals closure code) x s)
-  next_fits expect.Start f moving = absurd moving
-  next_fits expect.Go f moving = go_fits f
-  next_fits (expect.Answer w) f moving = absurd moving
-  next_fits expect.Resume f moving = absurd moving
-  next_fits (expect.Heard (got.Value v)) f moving = value_fits f.0 v f.1 f.2
-  next_fits (expect.Heard (got.Stop v)) f moving = absurd f
-  next_fits (expect.Heard (got.Raise e)) f moving =
+  -- a frame that expects no input fits behind its step
+  steps_on : (x : Expect) → FitsAt objects code x s → IsMoving x → Always objects (StepFits objects code) (moves (setting_of names globals closure code) x s)
+  steps_on expect.Start f moving = absurd moving
+  steps_on expect.Go f moving = go_fits f
+  steps_on (expect.Answer w) f moving = absurd moving
+  steps_on expect.Resume f moving = absurd moving
+  steps_on (expect.Heard (got.Value v)) f moving = value_fits f.0 v f.1 f.2
+  steps_on (expect.Heard (got.Stop v)) f moving = absurd f
+  steps_on (expect.Heard (got.Raise e)) f moving =
       leaves_with objects code (reason.Raising e) f.1.kinds f.1.block_notes (waiting expect.Go s) refl f.0 (has_waiting f.1.kinds f.1.block_notes expect.Go f.1.has)
-  next_fits expect.Ended f moving = absurd moving
+  steps_on expect.Ended f moving = absurd moving
+
+  pub next_fits : (x : Expect) → FitsAt objects code x s → IsMoving x → AlwaysLeads objects (Fits objects code) (moves (setting_of names globals closure code) x s)
+  next_fits x f moving = leads (moves (setting_of names globals closure code) x s) (steps_on x f moving)
+    where
+      step_leads : (step : Step) → StepFits objects code step → LeadsTo (Fits objects code) step
+      step_leads (Goes t) fits = fits
+      step_leads (Tells x t) fits = fits.1
+      step_leads Stuck fits = fits
+
+      leads : (m : Move) → Always objects (StepFits objects code) m → AlwaysLeads objects (Fits objects code) m
+      leads (Plainly step) all = step_leads step all
+      leads (Loads p f) all = λ v has. step_leads (f v) (all v has)
+      leads (Decides v f) all = (all.0, λ b. step_leads (f b) (all.1 b))
+      leads (Manages m f) all = λ b. step_leads (f b) (all b)
+      leads (Exits e f) all = (all.0, λ t v b. step_leads (f t v b) (all.1 t v b))
 
   -- a step that a move may lead to
-  led : (m : Move) (step : Step) → AlwaysLeads objects (Fits objects code) m → MayLead objects m step → LeadsTo (Fits objects code) step
-  led (Plainly done) step all may = subst (LeadsTo (Fits objects code)) may all
-  led (Loads p f) step all (v, has, is) = subst (LeadsTo (Fits objects code)) is (all v has)
-  led (Decides v f) step all (b, has, is) = subst (LeadsTo (Fits objects code)) is (all.1 b)
-  led (Manages m f) step all (b, manages, is) = subst (LeadsTo (Fits objects code)) is (all b)
-  led (Exits e f) step all (t, v, b, exits, is) = subst (LeadsTo (Fits objects code)) is (all.1 t v b)
+  led : (m : Move) (step : Step) → Always objects (StepFits objects code) m → MayLead objects m step → StepFits objects code step
+  led (Plainly done) step all may = subst (StepFits objects code) may all
+  led (Loads p f) step all (v, has, is) = subst (StepFits objects code) is (all v has)
+  led (Decides v f) step all (b, has, is) = subst (StepFits objects code) is (all.1 b)
+  led (Manages m f) step all (b, manages, is) = subst (StepFits objects code) is (all b)
+  led (Exits e f) step all (t, v, b, exits, is) = subst (StepFits objects code) is (all.1 t v b)
 
   -- a frame that expects an input does nothing by itself
   moving : (x : Expect) (step : Step) → (Stuck ≡ step → ⊥) → MayLead objects (moves (setting_of names globals closure code) x s) step → IsMoving x
@@ -121,8 +137,8 @@ module _ (objects : List Payload) (names : List (List ℕ)) (globals : Obj) (clo
   moving (expect.Heard w) step some may = tt
   moving expect.Ended step some may = absurd (some may)
 
-  moved_fits : (step : Step) → FitsAt objects code s.wants s → (Stuck ≡ step → ⊥) → MayLead objects (moves (setting_of names globals closure code) s.wants s) step → LeadsTo (Fits objects code) step
-  moved_fits step f some may = led (moves (setting_of names globals closure code) s.wants s) step (next_fits s.wants f (moving s.wants step some may)) may
+  moved_fits : (step : Step) → FitsAt objects code s.wants s → (Stuck ≡ step → ⊥) → MayLead objects (moves (setting_of names globals closure code) s.wants s) step → StepFits objects code step
+  moved_fits step f some may = led (moves (setting_of names globals closure code) s.wants s) step (steps_on s.wants f (moving s.wants step some may)) may
 
   can_unwind : (w : Wanted) (x : Expect) → FitsBut objects code w s → CanUnwind objects code (waiting x s)
   can_unwind w x f = record { kinds = f.left.kinds; block_notes = f.left.blocks; has = has_waiting f.left.kinds f.left.blocks x f.has; there = slice_get_within code.code.code.instructions.items s.at f.unit f.is }
@@ -161,8 +177,22 @@ module _ (objects : List Payload) (names : List (List ℕ)) (globals : Obj) (clo
 
   pub steps_fit : (xs : List Own) (t : State) → FitsAt objects code s.wants s → Steps objects (setting_of names globals closure code) s xs t → FitsAt objects code t.wants t
   steps_fit _ _ f (silent t may) = moved_fits (Goes t) f (λ is. cc) may
-  steps_fit _ _ f (telling x t may) = moved_fits (Tells x t) f (λ is. cc) may
+  steps_fit _ _ f (telling x t may) = (moved_fits (Tells x t) f (λ is. cc) may).1
   steps_fit _ _ f (hearing x w hears) = heard_fits s.wants x w f hears
+
+  -- what is heard ends no frame
+  heard_raises : (x : Expect) (o : Own) (w : Expect) → Hears objects (setting_of names globals closure code) x o w → RaisesException objects o
+  heard_raises expect.Start (Resumes how.Start) w hears = tt
+  heard_raises expect.Start (Resumes (how.Throw e)) w hears = tt
+  heard_raises (expect.Answer wanted) (Gets g) w hears = tt
+  heard_raises expect.Resume (Resumes (how.Send v)) w hears = tt
+  heard_raises expect.Resume (Resumes (how.Throw e)) w hears = tt
+  heard_raises _ _ w hears = absurd hears
+
+  pub steps_raise : (xs : List Own) (t : State) → FitsAt objects code s.wants s → Steps objects (setting_of names globals closure code) s xs t → RaiseExceptions objects xs
+  steps_raise _ _ f (silent t may) = tt
+  steps_raise _ _ f (telling x t may) = ((moved_fits (Tells x t) f (λ is. cc) may).0, tt)
+  steps_raise _ _ f (hearing x w hears) = (heard_raises s.wants x w hears, tt)
 
 -- the locals of a frame are as many as their names
 pub length-filled : (n : ℕ) (vs : List Obj) → length (filled n vs) ≡ n

@@ -17,7 +17,6 @@ use Rattle.py_check.specs.Rules.{bottom, goes_on, handler_lands, handlers_land, 
 use Rattle.py_check.specs.Taking.{takes}
 use Rattle.py_rows.specs.States.{State, Step, with_stack}
 use Rattle.py_rows.specs.Fitting.{HaveKinds, Has}
-use Rattle.py_rows.specs.Laws.{LeadsTo}
 use Rattle.py_rows.proofs.AskingLemmas.{got_there}
 use Rattle.py_rows.proofs.KindLemmas.{kinds_counted, kinds_dropped}
 
@@ -60,17 +59,17 @@ has_under objects code n kinds blocks s level has = record {
 }
 
 -- the topmost value is taken off
-pub off : (objects : List Payload) (code : Annotated) (kinds : List Kind) (blocks : List BlockNote) (rest : List Kind → Bool) (s : State) (P : State → Type 0) (f : Obj → List Obj → Step)
+pub off : (objects : List Payload) (code : Annotated) (kinds : List Kind) (blocks : List BlockNote) (rest : List Kind → Bool) (s : State) (P : Step → Type 0) (f : Obj → List Obj → Step)
     → takes (kind.Any ∷ []) kinds blocks rest ≡ true → Has objects code kinds blocks s
-    → ((v : Obj) (vs : List Obj) → Has objects code (drop 1 kinds) blocks (with_stack vs s) → rest (drop 1 kinds) ≡ true → length kinds ≡ suc (length (drop 1 kinds)) → HaveKinds objects (v ∷ vs) kinds → LeadsTo P (f v vs))
-    → LeadsTo P (takes_off s.stack f)
+    → ((v : Obj) (vs : List Obj) → Has objects code (drop 1 kinds) blocks (with_stack vs s) → rest (drop 1 kinds) ≡ true → length kinds ≡ suc (length (drop 1 kinds)) → HaveKinds objects (v ∷ vs) kinds → P (f v vs))
+    → P (takes_off s.stack f)
 off objects code kinds blocks rest s P f may has then =
     let below = takes_rest (kind.Any ∷ []) kinds blocks rest may in
     by_stack s.stack kinds has.holds (omega (arith, kinds_counted objects s.stack kinds has.holds, below.2)) (has_under objects code 1 kinds blocks s below.1 has) below.0 then
   where
     by_stack : (stack : List Obj) (ks : List Kind) → HaveKinds objects stack ks → 1 ≤ length stack → Has objects code (drop 1 ks) blocks (with_stack (drop 1 stack) s) → rest (drop 1 ks) ≡ true
-        → ((v : Obj) (vs : List Obj) → Has objects code (drop 1 ks) blocks (with_stack vs s) → rest (drop 1 ks) ≡ true → length ks ≡ suc (length (drop 1 ks)) → HaveKinds objects (v ∷ vs) ks → LeadsTo P (f v vs))
-        → LeadsTo P (takes_off stack f)
+        → ((v : Obj) (vs : List Obj) → Has objects code (drop 1 ks) blocks (with_stack vs s) → rest (drop 1 ks) ≡ true → length ks ≡ suc (length (drop 1 ks)) → HaveKinds objects (v ∷ vs) ks → P (f v vs))
+        → P (takes_off stack f)
     by_stack [] ks holds enough has keeps then = absurd (omega (arith, enough))
     by_stack (v ∷ vs) [] holds enough has keeps then = absurd holds
     by_stack (v ∷ vs) (k ∷ ks) holds enough has keeps then = then v vs has keeps refl holds

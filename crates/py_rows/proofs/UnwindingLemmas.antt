@@ -27,10 +27,9 @@ use Rattle.py_rows.specs.States.{State, Step, jumps}
 use Rattle.py_rows.specs.Handled.{entered_by}
 use Rattle.py_rows.specs.Unwinding.{left, left_handler, meets, unwind, unwinds}
 use Rattle.py_rows.specs.Fitting.{HaveKinds, Admits, IsBlock, AreBlocks, Has}
-use Rattle.py_rows.specs.Laws.{LeadsTo}
 use Rattle.py_rows.proofs.KindLemmas.{kinds_fitted, kinds_counted, kinds_under}
 use Rattle.py_rows.proofs.BlockLemmas.{Common, common, blocks_fitted}
-use Rattle.py_rows.proofs.LandingLemmas.{Fits, Arrives, jumped, may_jumped}
+use Rattle.py_rows.proofs.LandingLemmas.{StepFits, Arrives, jumped, may_jumped}
 
 -- a reason that blocks may be left for
 abbrev pub MayLeave : List Payload → Annotated → UnwindReason → List Kind → List BlockNote → Type 0
@@ -55,13 +54,13 @@ module _ (objects : List Payload) (code : Annotated) where
   abbrev Onward : UnwindReason → List BlockNote → List Block → (State → Step) → Type 0
   Onward r bs outer on =
       (ks : List Kind) (s : State) → s.blocks ≡ outer → s.wants ≡ expect.Go → length ks ≤ code.code.code.max_stackdepth → handlers_land (sheet_of code) ks bs ≡ true → MayLeave objects code r ks bs → HaveKinds objects s.stack ks
-      → length s.locals ≡ length code.code.code.varnames.items → LeadsTo (Fits objects code) (on s)
+      → length s.locals ≡ length code.code.code.varnames.items → StepFits objects code (on s)
 
   module _ (ks : List Kind) (bs : List BlockNote) (outer : List Block) (m : ℕ) (s : State) (goes : s.wants ≡ expect.Go) (room : length ks ≤ code.code.code.max_stackdepth) (holds : HaveKinds objects s.stack ks) (are : AreBlocks objects outer bs) (locals : length s.locals ≡ length code.code.code.varnames.items) where
     abbrev Meets : UnwindReason → BlockType → BlockNote → Type 0
     Meets r typ c =
         s.blocks ≡ record { typ = typ; level = m } ∷ outer → IsBlock objects (record { typ = typ; level = m }) c → handler_lands (sheet_of code) c (bottom (level_of c) ks) bs ≡ true
-        → handlers_land (sheet_of code) (bottom (level_of c) ks) bs ≡ true → MayLeave objects code r ks (c ∷ bs) → (on : State → Step) → Onward r bs outer on → LeadsTo (Fits objects code) (meets r typ m outer s on)
+        → handlers_land (sheet_of code) (bottom (level_of c) ks) bs ≡ true → MayLeave objects code r ks (c ∷ bs) → (on : State → Step) → Onward r bs outer on → StepFits objects code (meets r typ m outer s on)
 
     under : (l : ℕ) → length (bottom l ks) ≤ code.code.code.max_stackdepth
     under l = omega (arith, room, length-drop (length ks - l) ks)
@@ -77,7 +76,7 @@ module _ (objects : List Payload) (code : Annotated) where
     except_met : (r : UnwindReason) (handler l h : ℕ) → Meets r (TryExcept handler) (note.TryExcept l h)
     except_met (reason.Raising e) handler l h q is there hs may on out =
         let block : IsBlock objects (record { typ = ExceptHandler e s.slot; level = m }) (note.ExceptHandler l) = record { number = refl; level = is.level; handler = refl; waits = tt } in
-        subst (λ (to : ℕ). LeadsTo (Fits objects code) (jumps to (record s { stack = as_object e ∷ bottom m s.stack; blocks = record { typ = ExceptHandler e s.slot; level = m } ∷ outer; slot = Some e }))) (sym is.handler)
+        subst (λ (to : ℕ). StepFits objects code (jumps to (record s { stack = as_object e ∷ bottom m s.stack; blocks = record { typ = ExceptHandler e s.slot; level = m } ∷ outer; slot = Some e }))) (sym is.handler)
         (may_jumped objects code h (kind.Exc ∷ bottom l ks) (note.ExceptHandler l ∷ bs) (record s { stack = as_object e ∷ bottom m s.stack; blocks = record { typ = ExceptHandler e s.slot; level = m } ∷ outer; slot = Some e }) goes there
         (may, kinds_under objects l m s.stack ks is.level holds) (block, are) locals)
     except_met (reason.Returning v) handler l h q is there hs may on out = out (bottom l ks) (left m outer s) refl goes (under l) hs may (kinds_under objects l m s.stack ks is.level holds) locals
@@ -88,7 +87,7 @@ module _ (objects : List Payload) (code : Annotated) where
     finally_met r handler l h q is there hs may on out =
         let t : State = record s { stack = bottom m s.stack; blocks = record { typ = FinallyHandler (Some r) s.slot; level = m } ∷ outer; slot = entered_by r s.slot } in
         let parts = and_parts (is_label code.code.code.instructions.items h) (lands (sheet_of code) h (bottom l ks) (note.FinallyHandler l [] ∷ bs)) there in
-        subst (λ (to : ℕ). LeadsTo (Fits objects code) (jumps to t)) (sym is.handler)
+        subst (λ (to : ℕ). StepFits objects code (jumps to t)) (sym is.handler)
         (jumped objects code h t goes parts.0
         (enters objects t.stack m l r s.slot outer (bottom l ks) bs (slice_get code.notes h) is.level parts.1 may (kinds_under objects l m s.stack ks is.level holds) are) locals)
 
@@ -104,9 +103,9 @@ module _ (objects : List Payload) (code : Annotated) where
 
   -- leaving blocks for a reason
   pub unwound : (r : UnwindReason) (bs : List BlockNote) (ds : List Block) (ks : List Kind) (s : State) → s.blocks ≡ ds → s.wants ≡ expect.Go → length ks ≤ code.code.code.max_stackdepth → handlers_land (sheet_of code) ks bs ≡ true → MayLeave objects code r ks bs
-      → HaveKinds objects s.stack ks → AreBlocks objects ds bs → length s.locals ≡ length code.code.code.varnames.items → LeadsTo (Fits objects code) (unwind r ds s)
-  unwound (reason.Raising e) [] [] ks s q goes room hs may holds are locals = (q, omega (arith, kinds_counted objects s.stack ks holds, room))
-  unwound (reason.Returning v) [] [] ks s q goes room hs may holds are locals = (q, omega (arith, kinds_counted objects s.stack ks holds, room))
+      → HaveKinds objects s.stack ks → AreBlocks objects ds bs → length s.locals ≡ length code.code.code.varnames.items → StepFits objects code (unwind r ds s)
+  unwound (reason.Raising e) [] [] ks s q goes room hs may holds are locals = (may, (q, omega (arith, kinds_counted objects s.stack ks holds, room)))
+  unwound (reason.Returning v) [] [] ks s q goes room hs may holds are locals = (tt, (q, omega (arith, kinds_counted objects s.stack ks holds, room)))
   unwound (reason.Break to) [] [] ks s q goes room hs may holds are locals = cc
   unwound (reason.Continue to) [] [] ks s q goes room hs may holds are locals = cc
   unwound r [] (d ∷ ds) ks s q goes room hs may holds are locals = absurd are
@@ -117,9 +116,9 @@ module _ (objects : List Payload) (code : Annotated) where
       (λ ks' s' q' goes' room' hs' may' holds' locals'. unwound r bs ds ks' s' q' goes' room' hs' may' holds' are.1 locals')
 
   pub leaves : (r : UnwindReason) (ks : List Kind) (bs : List BlockNote) (s : State) → s.wants ≡ expect.Go → length ks ≤ code.code.code.max_stackdepth → MayLeave objects code r ks bs → handlers_land (sheet_of code) ks bs ≡ true → HaveKinds objects s.stack ks → AreBlocks objects s.blocks bs
-      → length s.locals ≡ length code.code.code.varnames.items → LeadsTo (Fits objects code) (unwinds r s)
+      → length s.locals ≡ length code.code.code.varnames.items → StepFits objects code (unwinds r s)
   unfolding unwinds
   leaves r ks bs s goes room may hs holds are locals = unwound r bs s.blocks ks s refl goes room hs may holds are locals
 
-  pub leaves_with : (r : UnwindReason) (ks : List Kind) (bs : List BlockNote) (s : State) → s.wants ≡ expect.Go → MayLeave objects code r ks bs → Has objects code ks bs s → LeadsTo (Fits objects code) (unwinds r s)
+  pub leaves_with : (r : UnwindReason) (ks : List Kind) (bs : List BlockNote) (s : State) → s.wants ≡ expect.Go → MayLeave objects code r ks bs → Has objects code ks bs s → StepFits objects code (unwinds r s)
   leaves_with r ks bs s goes may has = leaves r ks bs s goes has.room may has.handlers has.holds has.blocks has.locals

@@ -6,7 +6,8 @@ use Rattle.py_objects.specs.declared.payload.Payload.{Payload}
 use Rattle.py_objects.specs.declared.payload.Payload.TheVariants as payload
 use Rattle.py_objects.specs.Objects.{Obj, HasPayload, AllBelow, numbers, number_if, as_object}
 use Rattle.py_objects.specs.Growth.{Grows}
-use Rattle.py_objects.specs.Own.{Own}
+use Rattle.py_objects.specs.declared.event.Ending.TheVariants as ending
+use Rattle.py_objects.specs.Own.{Own, Makes, Resumes, Asks, Gets, Rounds, Yields, Ends}
 use Rattle.py_check.specs.declared.annotated.Annotated.{Annotated}
 use Rattle.py_check.specs.Depths.{deepest}
 use Rattle.py_rows.specs.declared.expect.Expect.{Expect}
@@ -32,13 +33,34 @@ abbrev pub RaisedThere : List Payload → Option PyBaseExceptionRef → Type 0
 RaisedThere objects None = Unit {0}
 RaisedThere objects (Some e) = HasKind objects (as_object e) kind.Exc
 
--- the same of a move, whichever object it loads or is told, and whether or not one is a manager; what it decides by is a truth value
+-- a step that a move leads to has a property, whichever object it loads or is told, and whether or not one is a manager; what it decides
+-- by is a truth value
+abbrev pub Always : List Payload → (Step → Type 0) → Move → Type 0
+Always objects P (Plainly step) = P step
+Always objects P (Loads p f) = (v : Obj) → HasPayload objects v p → P (f v)
+Always objects P (Decides v f) = ((b : Bool) × HasPayload objects v (payload.Bool b)) × ((b : Bool) → P (f b))
+Always objects P (Manages m f) = (b : Bool) → P (f b)
+Always objects P (Exits e f) = RaisedThere objects e × ((t v b : Obj) → P (f t v b))
+
+-- so what a move leads to has one
 abbrev pub AlwaysLeads : List Payload → (State → Type 0) → Move → Type 0
-AlwaysLeads objects P (Plainly step) = LeadsTo P step
-AlwaysLeads objects P (Loads p f) = (v : Obj) → HasPayload objects v p → LeadsTo P (f v)
-AlwaysLeads objects P (Decides v f) = ((b : Bool) × HasPayload objects v (payload.Bool b)) × ((b : Bool) → LeadsTo P (f b))
-AlwaysLeads objects P (Manages m f) = (b : Bool) → LeadsTo P (f b)
-AlwaysLeads objects P (Exits e f) = RaisedThere objects e × ((t v b : Obj) → LeadsTo P (f t v b))
+AlwaysLeads objects P m = Always objects (LeadsTo P) m
+
+-- what a frame ends by, where that is a raise, is an exception
+abbrev pub RaisesException : List Payload → Own → Type 0
+RaisesException objects Makes = Unit {0}
+RaisesException objects (Resumes h) = Unit {0}
+RaisesException objects (Asks at r own) = Unit {0}
+RaisesException objects (Gets w) = Unit {0}
+RaisesException objects (Rounds at) = Unit {0}
+RaisesException objects (Yields at v) = Unit {0}
+RaisesException objects (Ends at (ending.Return v)) = Unit {0}
+RaisesException objects (Ends at (ending.Raise e)) = HasKind objects (as_object e) kind.Exc
+
+-- the same of several events
+abbrev pub RaiseExceptions : List Payload → List Own → Type 0
+RaiseExceptions objects [] = Unit {0}
+RaiseExceptions objects (x ∷ xs) = RaisesException objects x × RaiseExceptions objects xs
 
 -- the stack and the blocks are within the sizes
 abbrev pub IsWithin : ℕ → ℕ → State → Type 0
@@ -72,6 +94,11 @@ NextGoes = (objects : List Payload) (names : List (List ℕ)) (globals : Obj) (c
 abbrev pub StepsFit : Type 0
 StepsFit = (objects : List Payload) (names : List (List ℕ)) (globals : Obj) (closure : List Obj) (code : Annotated) (s t : State) (xs : List Own)
     → IsSound names code → FitsAt objects code s.wants s → Steps objects (setting_of names globals closure code) s xs t → FitsAt objects code t.wants t
+
+-- and ends by no raise but that of an exception
+abbrev pub StepsRaise : Type 0
+StepsRaise = (objects : List Payload) (names : List (List ℕ)) (globals : Obj) (closure : List Obj) (code : Annotated) (s t : State) (xs : List Own)
+    → IsSound names code → FitsAt objects code s.wants s → Steps objects (setting_of names globals closure code) s xs t → RaiseExceptions objects xs
 
 -- it is within the sizes
 abbrev pub FitsWithin : Type 0
@@ -123,6 +150,11 @@ StepsBelow = (objects : List Payload) (setting : Setting) (s t : State) (xs : Li
 abbrev pub RunsFit : Type 0
 RunsFit = (objects : List Payload) (names : List (List ℕ)) (globals : Obj) (closure : List Obj) (code : Annotated) (slot : Option PyBaseExceptionRef) (args : List Obj) (t : State) (xs : List Own)
     → IsSound names code → Runs objects (setting_of names globals closure code) (started code.code slot args) xs t → FitsAt objects code t.wants t
+
+-- and ends by no raise but that of an exception
+abbrev pub RunsRaise : Type 0
+RunsRaise = (objects : List Payload) (names : List (List ℕ)) (globals : Obj) (closure : List Obj) (code : Annotated) (slot : Option PyBaseExceptionRef) (args : List Obj) (t : State) (xs : List Own)
+    → IsSound names code → Runs objects (setting_of names globals closure code) (started code.code slot args) xs t → RaiseExceptions objects xs
 
 -- where the globals, the arguments, what is in the slot and all that a run hears are objects, so is all that it tells
 abbrev pub RunsBelow : Type 0
