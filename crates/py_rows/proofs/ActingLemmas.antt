@@ -53,6 +53,7 @@ use Rattle.py_rows.specs.Unwinding.{left}
 use Rattle.py_rows.specs.Answers.{HasKind, Suits}
 use Rattle.py_rows.specs.Answers as answers
 use Rattle.py_rows.specs.Asked.{name_of_local, asked}
+use Rattle.py_rows.specs.Questions.{may_ask, UnitAsks, UnitYields}
 use Rattle.py_rows.specs.Fitting.{HaveKinds, MayWait, TypeWaits, type_number, IsBlock, AreBlocks, Has, wanted_of, raise_left, left_own, left_by, left_of, FitsBut, IsSound}
 use Rattle.py_rows.specs.Laws.{RaisedThere, Always}
 use Rattle.py_rows.proofs.KindLemmas.{kinds_counted, kinds_dropped, kinds_under, kinds_joined, kinds_moved}
@@ -62,7 +63,7 @@ use Rattle.py_rows.proofs.LandingLemmas.{Fits, StepFits, arrived, on_fits, may_j
 use Rattle.py_rows.proofs.BehindLemmas.{arrives_behind, fits_behind}
 use Rattle.py_rows.proofs.UnwindingLemmas.{leaves, leaves_with}
 use Rattle.py_rows.proofs.TakingLemmas.{bottom-cons, bottom-drop, handlers_same, reached, places_there, takes_rest, has_under, off, EndsExit, ends_exit}
-use Rattle.py_rows.proofs.AskingLemmas.{got_there, Wants, AsksAs, named, asked_there}
+use Rattle.py_rows.proofs.AskingLemmas.{unit_asks, got_there, Wants, AsksAs, named, asked_there}
 
 -- a loaded constant has a payload, and an object of it is of the constant's kind
 literal_kind : (objects : List Payload) (l : Literal) → is_loaded l ≡ true → (p : Payload) × (payload_of l ≡ Some p) × ((v : Obj) → HasPayload objects v p → HasKind objects v (kind_of l))
@@ -134,31 +135,32 @@ module _ (objects : List Payload) (names : List (List ℕ)) (globals : Obj) (clo
       → HaveKinds objects stack ks → AreBlocks objects ds bs → length locals ≡ length code.code.code.varnames.items → Fits objects code (behind stack ds locals slot)
   goes_behind plain ks bs stack ds locals slot may holds are count = fits_behind objects code s unit is goes plain ks bs stack ds locals slot may holds are count
 
-  -- a frame that waits, behind a question or a value that is yielded, fits the note but for what its unit took
+  -- the unit may ask what its instruction may
+  may_be_asked : (op : Instruction) → unit.op ≡ op → (r : Request) → may_ask op r ≡ true → UnitAsks (slice_get code.code.code.instructions.items s.at) r
+  may_be_asked op is_op r asks = unit_asks code.code.code.instructions.items s.at unit is op is_op r asks
+
+  -- a frame that waits fits the note but for what its unit took
   waits_but : (op : Instruction) (i : ℕ) → unit.op ≡ op → with_byte s.prefix unit.arg ≡ i → (w : Wanted) (ks : List Kind) (bs : List BlockNote) (wanted : Wanted) (stack : List Obj) (ds : List Block) (slot : Option PyBaseExceptionRef) (x : Expect)
       → left_of op i 0 kinds blocks ≡ Some (record { kinds = ks; blocks = bs; wanted = wanted }) → Suits w wanted → Has objects code ks bs (record s { stack = stack; blocks = ds; slot = slot })
-      → Unit {0} × FitsBut objects code w (record s { stack = stack; blocks = ds; slot = slot; wants = x })
-  waits_but op i is_op operand w ks bs wanted stack ds slot x waits suits has' = (
-    tt,
-    record {
-      unit = unit;
-      is = is;
-      kinds = kinds;
-      block_notes = blocks;
-      note = note_is;
-      left = record { kinds = ks; blocks = bs; wanted = wanted };
-      waits = subst (λ (o : Instruction). left_of o (with_byte s.prefix unit.arg) s.phase kinds blocks ≡ Some (record { kinds = ks; blocks = bs; wanted = wanted })) (sym is_op)
-          (subst (λ (n : ℕ). left_of op n s.phase kinds blocks ≡ Some (record { kinds = ks; blocks = bs; wanted = wanted })) (sym operand)
-          (subst (λ (p : ℕ). left_of op i p kinds blocks ≡ Some (record { kinds = ks; blocks = bs; wanted = wanted })) (sym fresh) waits));
-      suits = suits;
-      has = record { holds = has'.holds; blocks = has'.blocks; handlers = has'.handlers; room = has'.room; block_room = has'.block_room; locals = has'.locals };
-      carries = carries;
-    },
-  )
+      → FitsBut objects code w (record s { stack = stack; blocks = ds; slot = slot; wants = x })
+  waits_but op i is_op operand w ks bs wanted stack ds slot x waits suits has' = record {
+    unit = unit;
+    is = is;
+    kinds = kinds;
+    block_notes = blocks;
+    note = note_is;
+    left = record { kinds = ks; blocks = bs; wanted = wanted };
+    waits = subst (λ (o : Instruction). left_of o (with_byte s.prefix unit.arg) s.phase kinds blocks ≡ Some (record { kinds = ks; blocks = bs; wanted = wanted })) (sym is_op)
+        (subst (λ (n : ℕ). left_of op n s.phase kinds blocks ≡ Some (record { kinds = ks; blocks = bs; wanted = wanted })) (sym operand)
+        (subst (λ (p : ℕ). left_of op i p kinds blocks ≡ Some (record { kinds = ks; blocks = bs; wanted = wanted })) (sym fresh) waits));
+    suits = suits;
+    has = record { holds = has'.holds; blocks = has'.blocks; handlers = has'.handlers; room = has'.room; block_room = has'.block_room; locals = has'.locals };
+    carries = carries;
+  }
 
   -- what the table of effects describes
   by_effect : (op : Instruction) (i : ℕ) (e : Effect) (f : List Obj → Option Request) (own : Move) (there keeps : Bool) → unit.op ≡ op → with_byte s.prefix unit.arg ≡ i → (e ≡ Other) ⊎ (is_prefix unit.op ≡ false)
-      → left_of op i 0 kinds blocks ≡ left_by e (left_own op i 0 kinds blocks) kinds blocks → (there ≡ true → AsksAs e f) → (keeps ≡ true → Always objects (StepFits objects code) own)
+      → left_of op i 0 kinds blocks ≡ left_by e (left_own op i 0 kinds blocks) kinds blocks → (there ≡ true → AsksAs op e f) → (keeps ≡ true → Always objects (StepFits objects code) own)
       → keeps_by (sheet_of code) s.at e there keeps kinds blocks ≡ true → Always objects (StepFits objects code) (acts_by e f own s)
   by_effect op i (Moves n places) f own there keeps is_op operand (inl other) left asks led may = absurd (listed_moves n places other)
   by_effect op i (Moves n places) f own there keeps is_op operand (inr plain) left asks led may =
@@ -179,10 +181,10 @@ module _ (objects : List Payload) (names : List (List ℕ)) (globals : Obj) (clo
       where_true (StepFits objects code) _ _ (reached (length wanted) s.stack enough)
       (asks_fit (f (take (length wanted) s.stack)) (asks parts.0 (take (length wanted) s.stack) (length-take-le (length wanted) s.stack enough)) (has_under objects code (length wanted) kinds blocks s below.1 has))
     where
-      asks_fit : (r : Option Request) → Wants pushes r → Has objects code (drop (length wanted) kinds) blocks (with_stack (drop (length wanted) s.stack) s) → Led (asks_if r (with_stack (drop (length wanted) s.stack) s))
+      asks_fit : (r : Option Request) → Wants op pushes r → Has objects code (drop (length wanted) kinds) blocks (with_stack (drop (length wanted) s.stack) s) → Led (asks_if r (with_stack (drop (length wanted) s.stack) s))
       asks_fit None wants has' = absurd wants
       asks_fit (Some r) wants has' =
-          waits_but op i is_op operand (answers.wanted r) (drop (length wanted) kinds) blocks (wanted_of pushes) (drop (length wanted) s.stack) s.blocks s.slot (expect.Answer (answers.wanted r)) left wants has'
+          (may_be_asked op is_op r wants.1, waits_but op i is_op operand (answers.wanted r) (drop (length wanted) kinds) blocks (wanted_of pushes) (drop (length wanted) s.stack) s.blocks s.slot (expect.Answer (answers.wanted r)) left wants.0 has')
   by_effect op i Other f own there keeps is_op operand plain left asks led may = led may
 
   -- loads
@@ -196,12 +198,12 @@ module _ (objects : List Payload) (names : List (List ℕ)) (globals : Obj) (clo
       subst (λ (q : Option Payload). Always objects (StepFits objects code) (or_stuck q f)) (sym is) move
 
   -- a local that is unset is asked for by its name
-  unbound_fits : (op : Instruction) (i : ℕ) → unit.op ≡ op → with_byte s.prefix unit.arg ≡ i → left_of op i 0 kinds blocks ≡ Some (record { kinds = kinds; blocks = blocks; wanted = want.NoValue }) → nat_lt i (length code.code.code.varnames.items) ≡ true
-      → Led (asks_if (option_map (λ x. request.Unbound x) (name_of_local (record { code = code.code; names = names; globals = globals; closure = closure }) i)) s)
-  unbound_fits op i is_op operand left below =
+  unbound_fits : (op : Instruction) (i : ℕ) → unit.op ≡ op → with_byte s.prefix unit.arg ≡ i → left_of op i 0 kinds blocks ≡ Some (record { kinds = kinds; blocks = blocks; wanted = want.NoValue }) → ((x : Name) → may_ask op (request.Unbound x) ≡ true)
+      → nat_lt i (length code.code.code.varnames.items) ≡ true → Led (asks_if (option_map (λ x. request.Unbound x) (name_of_local (record { code = code.code; names = names; globals = globals; closure = closure }) i)) s)
+  unbound_fits op i is_op operand left asks below =
       let (x, there) = named names code.code.code.varnames.items i sound.named.locals (ltb-true i (length code.code.code.varnames.items) below) in
       subst (λ (o : Option Name). Led (asks_if (option_map (λ x. request.Unbound x) o) s)) (sym there)
-      (waits_but op i is_op operand want.NoValue kinds blocks want.NoValue s.stack s.blocks s.slot (expect.Answer want.NoValue) left (λ o v is. is) has)
+      (may_be_asked op is_op (request.Unbound x) (asks x), waits_but op i is_op operand want.NoValue kinds blocks want.NoValue s.stack s.blocks s.slot (expect.Answer want.NoValue) left (λ o v is. is) has)
 
   local_there : (i : ℕ) → nat_lt i (length code.code.code.varnames.items) ≡ true → slice_get s.locals i ≡ None → ⊥
   local_there i below none = let (local, is) = got_there s.locals i (omega (arith, ltb-true i (length code.code.code.varnames.items) below, has.locals)) in cc
@@ -209,13 +211,13 @@ module _ (objects : List Payload) (names : List (List ℕ)) (globals : Obj) (clo
   load_fast_fits : (i : ℕ) → unit.op ≡ LoadFast → with_byte s.prefix unit.arg ≡ i → nat_lt i (length code.code.code.varnames.items) ≡ true → goes_with (kind.Any ∷ kinds) blocks ≡ true → (local : Option (Option Obj)) → slice_get s.locals i ≡ local
       → Led (load_fast (name_of_local (record { code = code.code; names = names; globals = globals; closure = closure }) i) local s)
   load_fast_fits i is_op operand below may None here = absurd (local_there i below here)
-  load_fast_fits i is_op operand below may (Some None) here = unbound_fits LoadFast i is_op operand refl below
+  load_fast_fits i is_op operand below may (Some None) here = unbound_fits LoadFast i is_op operand refl (λ x. refl) below
   load_fast_fits i is_op operand below may (Some (Some v)) here = goes_behind (ap is_prefix is_op) (kind.Any ∷ kinds) blocks (v ∷ s.stack) s.blocks s.locals s.slot may (tt, has.holds) has.blocks has.locals
 
   delete_fast_fits : (i : ℕ) → unit.op ≡ DeleteFast → with_byte s.prefix unit.arg ≡ i → nat_lt i (length code.code.code.varnames.items) ≡ true → goes_with kinds blocks ≡ true → (local : Option (Option Obj)) → slice_get s.locals i ≡ local
       → Led (delete_fast (name_of_local (record { code = code.code; names = names; globals = globals; closure = closure }) i) i local s)
   delete_fast_fits i is_op operand below may None here = absurd (local_there i below here)
-  delete_fast_fits i is_op operand below may (Some None) here = unbound_fits DeleteFast i is_op operand refl below
+  delete_fast_fits i is_op operand below may (Some None) here = unbound_fits DeleteFast i is_op operand refl (λ x. refl) below
   delete_fast_fits i is_op operand below may (Some (Some v)) here =
       goes_behind (ap is_prefix is_op) kinds blocks s.stack s.blocks (slice_set s.locals i None) s.slot may has.holds has.blocks (length-set s.locals i None ∙ has.locals)
 
@@ -323,7 +325,7 @@ module _ (objects : List Payload) (names : List (List ℕ)) (globals : Obj) (clo
       let count : length (bottom level s.stack) ≡ length s.stack - (length s.stack - level) = length-drop (length s.stack - level) s.stack in
       where_true (StepFits objects code) _ _ (eq-eqb (length s.stack) level (omega (arith, stack_count, depth, level_is)))
       (off_there (bottom level s.stack) (omega (arith, count, stack_count, depth, nested, level_is)) _
-      (λ x rest same. waits_but WithCleanupStart i is_op operand (want.Of kind.Any) kinds blocks (want.Of kind.Any) s.stack s.blocks s.slot (expect.Answer (want.Of kind.Any)) refl (λ o v is. is) has)))
+      (λ x rest same. (may_be_asked WithCleanupStart is_op (request.Exit x t v b) refl, waits_but WithCleanupStart i is_op operand (want.Of kind.Any) kinds blocks (want.Of kind.Any) s.stack s.blocks s.slot (expect.Answer (want.Of kind.Any)) refl (λ o v is. is) has))))
 
   -- the block of an exit ends, and what it held waits or goes on
   finishes_fit : is_prefix unit.op ≡ false → unit.op ≡ WithCleanupFinish → (i : ℕ) → with_byte s.prefix unit.arg ≡ i → (c : BlockNote) (cs : List BlockNote) → blocks ≡ c ∷ cs → EndsExit code (s.at + 1) kinds c cs → handlers_land (sheet_of code) (drop 2 kinds) cs ≡ true
@@ -339,9 +341,11 @@ module _ (objects : List Payload) (names : List (List ℕ)) (globals : Obj) (clo
         room = omega (arith, has.room, length-drop 2 kinds, ends.depth, ends.nested);
         block_room = omega (arith, has.block_room, count);
         locals = has.locals;
-      } in
-      waits_but WithCleanupFinish i is_op operand want.Truth (kind.Exc ∷ drop 2 kinds) (drop 1 blocks) want.Truth (as_object e ∷ stack) outer kept (expect.Answer want.Truth) refl (λ o v is. is)
-      (subst (λ (bs : List BlockNote). Has objects code (kind.Exc ∷ drop 2 kinds) bs (record s { stack = as_object e ∷ stack; blocks = outer; slot = kept })) (sym blocks_same) inner)
+      } in (
+        may_be_asked WithCleanupFinish is_op (request.Truth v) refl,
+        waits_but WithCleanupFinish i is_op operand want.Truth (kind.Exc ∷ drop 2 kinds) (drop 1 blocks) want.Truth (as_object e ∷ stack) outer kept (expect.Answer want.Truth) refl (λ o v is. is)
+            (subst (λ (bs : List BlockNote). Has objects code (kind.Exc ∷ drop 2 kinds) bs (record s { stack = as_object e ∷ stack; blocks = outer; slot = kept })) (sym blocks_same) inner),
+      )
   finishes_fit plain is_op i operand c cs same ends hs None waits v stack outer kept holds are = goes_on_fits plain c cs (drop 2 kinds) stack outer kept None ends.goes ends.walk hs waits holds are
   finishes_fit plain is_op i operand c cs same ends hs (Some (reason.Returning w)) waits v stack outer kept holds are = goes_on_fits plain c cs (drop 2 kinds) stack outer kept (Some (reason.Returning w)) ends.goes ends.walk hs waits holds are
   finishes_fit plain is_op i operand c cs same ends hs (Some (reason.Break to)) waits v stack outer kept holds are = goes_on_fits plain c cs (drop 2 kinds) stack outer kept (Some (reason.Break to)) ends.goes ends.walk hs waits holds are
@@ -372,15 +376,15 @@ module _ (objects : List Payload) (names : List (List ℕ)) (globals : Obj) (clo
   raises_fit : (i : ℕ) → unit.op ≡ Raise → with_byte s.prefix unit.arg ≡ i → (k : Option RaiseKind) → slice_get raise_kinds i ≡ k → typing.raises k kinds blocks ≡ true → Led (raises k s)
   raises_fit i is_op operand None here may = cc
   raises_fit i is_op operand (Some raise.Reraise) here may =
-      waits_but Raise i is_op operand (want.Of kind.Exc) kinds blocks (want.Of kind.Exc) s.stack s.blocks s.slot (expect.Answer (want.Of kind.Exc)) (ap (λ k. raise_left k 0 kinds blocks) here) (λ o v is. is) has
+      (may_be_asked Raise is_op request.Handled refl, waits_but Raise i is_op operand (want.Of kind.Exc) kinds blocks (want.Of kind.Exc) s.stack s.blocks s.slot (expect.Answer (want.Of kind.Exc)) (ap (λ k. raise_left k 0 kinds blocks) here) (λ o v is. is) has)
   raises_fit i is_op operand (Some raise.Raise) here may =
       off objects code kinds blocks (λ rest. true) s (StepFits objects code) _ may has
       (λ v vs has' keeps count holds.
-      waits_but Raise i is_op operand (want.Of kind.Exc) (drop 1 kinds) blocks (want.Of kind.Exc) vs s.blocks s.slot (expect.Answer (want.Of kind.Exc)) (ap (λ k. raise_left k 0 kinds blocks) here) (λ o v is. is) has')
+      (may_be_asked Raise is_op (request.Raisable v) refl, waits_but Raise i is_op operand (want.Of kind.Exc) (drop 1 kinds) blocks (want.Of kind.Exc) vs s.blocks s.slot (expect.Answer (want.Of kind.Exc)) (ap (λ k. raise_left k 0 kinds blocks) here) (λ o v is. is) has'))
   raises_fit i is_op operand (Some raise.RaiseCause) here may =
       off objects code kinds blocks (λ rest. true) s (StepFits objects code) _ (first_taken kinds blocks may) has
       (λ c vs has' keeps count holds.
-      waits_but Raise i is_op operand want.ExceptionOrNone (drop 1 kinds) blocks want.ExceptionOrNone vs s.blocks s.slot (expect.Answer want.ExceptionOrNone) (ap (λ k. raise_left k 0 kinds blocks) here) (λ o v is. is) has')
+      (may_be_asked Raise is_op (request.Cause c) refl, waits_but Raise i is_op operand want.ExceptionOrNone (drop 1 kinds) blocks want.ExceptionOrNone vs s.blocks s.slot (expect.Answer want.ExceptionOrNone) (ap (λ k. raise_left k 0 kinds blocks) here) (λ o v is. is) has'))
 
   -- an instruction that isn't in the table leads to frames that fit
   own_fits : (op : Instruction) (i : ℕ) → unit.op ≡ op → with_byte s.prefix unit.arg ≡ i → keeps_own (sheet_of code) s.at op i kinds blocks ≡ true
@@ -402,10 +406,10 @@ module _ (objects : List Payload) (names : List (List ℕ)) (globals : Obj) (clo
   own_fits Jump to is_op operand keeps = may_jumped objects code to kinds blocks s goes keeps has.holds has.blocks has.locals
   own_fits JumpIfTrue to is_op operand keeps =
       off objects code kinds blocks (λ rest. may_jump (sheet_of code) to rest blocks && goes_with rest blocks) s (StepFits objects code) _ keeps has
-      (λ v vs has' may count holds. waits_but JumpIfTrue to is_op operand want.Truth (drop 1 kinds) blocks want.Truth vs s.blocks s.slot (expect.Answer want.Truth) refl (λ o v is. is) has')
+      (λ v vs has' may count holds. (may_be_asked JumpIfTrue is_op (request.Truth v) refl, waits_but JumpIfTrue to is_op operand want.Truth (drop 1 kinds) blocks want.Truth vs s.blocks s.slot (expect.Answer want.Truth) refl (λ o v is. is) has'))
   own_fits JumpIfFalse to is_op operand keeps =
       off objects code kinds blocks (λ rest. may_jump (sheet_of code) to rest blocks && goes_with rest blocks) s (StepFits objects code) _ keeps has
-      (λ v vs has' may count holds. waits_but JumpIfFalse to is_op operand want.Truth (drop 1 kinds) blocks want.Truth vs s.blocks s.slot (expect.Answer want.Truth) refl (λ o v is. is) has')
+      (λ v vs has' may count holds. (may_be_asked JumpIfFalse is_op (request.Truth v) refl, waits_but JumpIfFalse to is_op operand want.Truth (drop 1 kinds) blocks want.Truth vs s.blocks s.slot (expect.Answer want.Truth) refl (λ o v is. is) has'))
   own_fits SetupLoop i is_op operand keeps =
       (tt, opens_fit (ap is_prefix is_op) (record { typ = Loop; level = length s.stack }) (note.Loop (length kinds)) (record { number = refl; level = stack_count; handler = refl; waits = tt }) keeps)
   own_fits SetupExcept to is_op operand keeps =
@@ -419,7 +423,7 @@ module _ (objects : List Payload) (names : List (List ℕ)) (globals : Obj) (clo
   own_fits EndFinally i is_op operand keeps = end_finally_fits (ap is_prefix is_op) blocks has.blocks has.handlers keeps
   own_fits SetupWith to is_op operand keeps =
       off objects code kinds blocks (λ rest. opens (sheet_of code) s.at to (kind.Any ∷ kind.Any ∷ rest) (note.Finally (suc (length rest)) to ∷ blocks)) s (StepFits objects code) _ keeps has
-      (λ v vs has' may count holds. waits_but SetupWith to is_op operand (want.Of kind.Any) kinds blocks (want.Of kind.Any) s.stack s.blocks s.slot (expect.Answer (want.Of kind.Any)) refl (λ o v is. is) has)
+      (λ v vs has' may count holds. (may_be_asked SetupWith is_op (request.Enter v) refl, waits_but SetupWith to is_op operand (want.Of kind.Any) kinds blocks (want.Of kind.Any) s.stack s.blocks s.slot (expect.Answer (want.Of kind.Any)) refl (λ o v is. is) has))
   own_fits WithCleanupStart i is_op operand keeps = (raised_there s.blocks blocks has.blocks, λ t v b. cleanup_starts is_op i operand blocks has.blocks keeps t v b)
   own_fits WithCleanupFinish i is_op operand keeps = cleanup_finishes (ap is_prefix is_op) is_op i operand blocks refl has.blocks has.handlers keeps
   own_fits PopBlock i is_op operand keeps = pop_block_fits (ap is_prefix is_op) s.blocks blocks has.blocks keeps
@@ -435,7 +439,7 @@ module _ (objects : List Payload) (names : List (List ℕ)) (globals : Obj) (clo
   own_fits YieldValue i is_op operand keeps =
       let parts = and_parts (is_generator code.code.code.flags) (takes_top kinds blocks (λ rest. goes_with (kind.Any ∷ rest) blocks)) keeps in
       off objects code kinds blocks (λ rest. goes_with (kind.Any ∷ rest) blocks) s (StepFits objects code) _ parts.1 has
-      (λ v vs has' may count holds. waits_but YieldValue i is_op operand (want.Of kind.Any) (drop 1 kinds) blocks (want.Of kind.Any) vs s.blocks s.slot expect.Resume refl (λ o v is. is) has')
+      (λ v vs has' may count holds. (subst UnitYields (sym is) is_op, waits_but YieldValue i is_op operand (want.Of kind.Any) (drop 1 kinds) blocks (want.Of kind.Any) vs s.blocks s.slot expect.Resume refl (λ o v is. is) has'))
   own_fits ExtendedArg i is_op operand keeps =
       let parts = and_parts (nat_lt (prefixes code.code.code.instructions.items s.at) 3) (goes_with kinds blocks) keeps in
       let t : State = record (next s) { prefix = i } in

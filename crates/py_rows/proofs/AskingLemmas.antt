@@ -1,16 +1,17 @@
 -- What instructions ask of the operands that they take is there, and wants what the table of effects says.
-use Rattle.std.proofs.Common.{◌≡◌, ◌∙◌, ◌<◌, ℕ, zero, suc, List, [], ◌∷◌, Option, None, Some, Bool, true, false, ◌⊎◌, inl, inr, ⊎_elim, subst, refl, ap, length, reverse, arith}
+use Rattle.std.proofs.Common.{◌≡◌, ◌∙◌, ◌<◌, ℕ, zero, suc, List, [], ◌∷◌, Option, None, Some, Bool, true, false, cond, ◌⊎◌, inl, inr, ⊎_elim, subst, refl, sym, ap, length, reverse, arith}
 use Rattle.std.proofs.lemmas.List.{length-reverse}
 use Rattle.std.specs.Prelude.{slice_get, nat_lt, option_map, chars, replicate}
 use Rattle.std.proofs.lemmas.Bool.{ltb-true, both_ways}
 use Rattle.std.proofs.Math.ListN.{length-replicate}
+use Rattle.py_code.specs.declared.unit.CodeUnit.{CodeUnit}
 use Rattle.py_code.specs.declared.instruction.Instruction.{Instruction}
 use Rattle.py_code.specs.declared.instruction.Instruction.TheVariants.{LoadGlobal, BinaryOperation, CompareOperation, TestOperation, CallFunctionPositional, PrintExpr}
 use Rattle.py_code.specs.declared.operator.TestOperator.{TestOperator}
 use Rattle.py_code.specs.declared.operator.TestOperator.TheVariants as test
 use Rattle.py_code.specs.declared.operator.BinaryOperator.{BinaryOperator}
 use Rattle.py_code.specs.declared.operator.ComparisonOperator.{ComparisonOperator}
-use Rattle.py_check.specs.Rules.{asks_operator, asks_comparison}
+use Rattle.py_check.specs.Rules.{asks_operator, asks_comparison, is_asked, is_compared}
 use Rattle.py_rows.specs.Asked.{name_of_global, asked_operator, asked_comparison, name_in, on_none, on_one, on_two, calls, tests, asked}
 use Rattle.py_code.specs.declared.names.NameId.{NameId}
 use Rattle.py_code.specs.Operators.{binary_operators, comparison_operators}
@@ -26,17 +27,18 @@ use Rattle.py_check.specs.Sheet.{sheet_of}
 use Rattle.py_rows.specs.States.{Setting}
 use Rattle.py_rows.proofs.BelowLemmas.{joined_below, reverse_below}
 use Rattle.py_rows.specs.Answers.{wanted, Suits}
+use Rattle.py_rows.specs.Questions.{may_ask, UnitAsks}
 use Rattle.py_rows.specs.Fitting.{wanted_of, ArePlaces, AreNames}
 
--- a request is there, and wants what is pushed
-abbrev pub Wants : Option Kind → Option Request → Type 0
-Wants pushes None = ⊥
-Wants pushes (Some r) = Suits (wanted r) (wanted_of pushes)
+-- a request is there that the instruction may ask, and wants what is pushed
+abbrev pub Wants : Instruction → Option Kind → Option Request → Type 0
+Wants op pushes None = ⊥
+Wants op pushes (Some r) = Suits (wanted r) (wanted_of pushes) × (may_ask op r ≡ true)
 
-abbrev pub AsksAs : Effect → (List Obj → Option Request) → Type 0
-AsksAs (Moves n places) f = Unit {0}
-AsksAs (AsksOnce taken pushes) f = (vs : List Obj) → length vs ≡ length taken → Wants pushes (f vs)
-AsksAs Other f = Unit {0}
+abbrev pub AsksAs : Instruction → Effect → (List Obj → Option Request) → Type 0
+AsksAs op (Moves n places) f = Unit {0}
+AsksAs op (AsksOnce taken pushes) f = (vs : List Obj) → length vs ≡ length taken → Wants op pushes (f vs)
+AsksAs op Other f = Unit {0}
 
 -- operators that the rules admit are asked
 operator_there : (op : Option BinaryOperator) → asks_operator op ≡ true → is_there (asked_operator op) ≡ true
@@ -47,6 +49,23 @@ comparison_there : (op : Option ComparisonOperator) → asks_comparison op ≡ t
 comparison_there None runs = cc
 comparison_there (Some op) runs = rw runs refl
 
+-- and those that are asked are operators that run so far
+operator_runs : (o : Option BinaryOperator) (op : BinaryOperator) → asked_operator o ≡ Some op → is_asked op ≡ true
+operator_runs None op is = absurd (cc is)
+operator_runs (Some x) op is = by_test (is_asked x) refl is
+  where
+    by_test : (b : Bool) → is_asked x ≡ b → cond b (Some x) None ≡ Some op → is_asked op ≡ true
+    by_test true runs is = let same : x ≡ op = cc in subst (λ (y : BinaryOperator). is_asked y ≡ true) same runs
+    by_test false runs is = absurd (cc is)
+
+comparison_runs : (o : Option ComparisonOperator) (op : ComparisonOperator) → asked_comparison o ≡ Some op → is_compared op ≡ true
+comparison_runs None op is = absurd (cc is)
+comparison_runs (Some x) op is = by_test (is_compared x) refl is
+  where
+    by_test : (b : Bool) → is_compared x ≡ b → cond b (Some x) None ≡ Some op → is_compared op ≡ true
+    by_test true runs is = let same : x ≡ op = cc in subst (λ (y : ComparisonOperator). is_compared y ≡ true) same runs
+    by_test false runs is = absurd (cc is)
+
 -- whether what an instruction's operand speaks of is there, and runs so far
 abbrev pub operand_there : Setting → Instruction → ℕ → Bool
 operand_there setting LoadGlobal i = is_there (name_of_global setting i)
@@ -56,55 +75,60 @@ operand_there setting TestOperation i = is_tested (slice_get test_operators i)
 operand_there setting _ i = true
 
 module _ (Gap : Type 0) (setting : Setting) where
-  -- a request wants what is pushed, and names the globals and the operands at most; where there is none, there is a gap
-  abbrev pub Asks : Option Kind → List Obj → Option Request → Type 0
-  Asks pushes vs None = Gap
-  Asks pushes vs (Some r) = Suits (wanted r) (wanted_of pushes) × ((n : ℕ) → setting.globals.number < n → AllBelow n (numbers vs) → AllBelow n (request_numbers r))
+  -- a request wants what is pushed, names the globals and the operands at most, and is one that the instruction may ask; where there is
+  -- none, there is a gap
+  abbrev pub Asks : Instruction → Option Kind → List Obj → Option Request → Type 0
+  Asks op pushes vs None = Gap
+  Asks op pushes vs (Some r) = Suits (wanted r) (wanted_of pushes) × ((n : ℕ) → setting.globals.number < n → AllBelow n (numbers vs) → AllBelow n (request_numbers r)) × (may_ask op r ≡ true)
 
   -- the same of an effect, where there is a gap only by a wrong number of operands or an operand that isn't there
-  abbrev pub AsksAny : Bool → Effect → (List Obj → Option Request) → Type 0
-  AsksAny there (Moves n places) f = Unit {0}
-  AsksAny there (AsksOnce taken pushes) f = (vs : List Obj) → ((length vs ≡ length taken → ⊥) ⊎ (there ≡ false) → Gap) → Asks pushes vs (f vs)
-  AsksAny there Other f = Unit {0}
+  abbrev pub AsksAny : Instruction → Bool → Effect → (List Obj → Option Request) → Type 0
+  AsksAny op there (Moves n places) f = Unit {0}
+  AsksAny op there (AsksOnce taken pushes) f = (vs : List Obj) → ((length vs ≡ length taken → ⊥) ⊎ (there ≡ false) → Gap) → Asks op pushes vs (f vs)
+  AsksAny op there Other f = Unit {0}
 
-  mapped : {A : Type 0} (pushes : Option Kind) (vs : List Obj) (o : Option A) (f : A → Request) → (is_there o ≡ false → Gap) → ((x : A) → Asks pushes vs (Some (f x))) → Asks pushes vs (option_map f o)
-  mapped pushes vs None f gap asks = gap refl
-  mapped pushes vs (Some x) f gap asks = asks x
+  mapped : {A : Type 0} (op : Instruction) (pushes : Option Kind) (vs : List Obj) (o : Option A) (f : A → Request) → (is_there o ≡ false → Gap) → ((x : A) → o ≡ Some x → Asks op pushes vs (Some (f x))) → Asks op pushes vs (option_map f o)
+  mapped op pushes vs None f gap asks = gap refl
+  mapped op pushes vs (Some x) f gap asks = asks x refl
 
-  none_asked : (pushes : Option Kind) (r : Option Request) (vs : List Obj) → ((length vs ≡ 0 → ⊥) → Gap) → Asks pushes [] r → Asks pushes vs (on_none r vs)
-  none_asked pushes r [] gap asks = asks
-  none_asked pushes r (v ∷ vs) gap asks = gap (λ count. absurd (omega (arith, count)))
+  none_asked : (op : Instruction) (pushes : Option Kind) (r : Option Request) (vs : List Obj) → ((length vs ≡ 0 → ⊥) → Gap) → Asks op pushes [] r → Asks op pushes vs (on_none r vs)
+  none_asked op pushes r [] gap asks = asks
+  none_asked op pushes r (v ∷ vs) gap asks = gap (λ count. absurd (omega (arith, count)))
 
-  one_asked : (pushes : Option Kind) (f : Obj → Option Request) (vs : List Obj) → ((length vs ≡ 1 → ⊥) → Gap) → ((a : Obj) → Asks pushes (a ∷ []) (f a)) → Asks pushes vs (on_one f vs)
-  one_asked pushes f [] gap asks = gap (λ count. absurd (omega (arith, count)))
-  one_asked pushes f (a ∷ []) gap asks = asks a
-  one_asked pushes f (a ∷ b ∷ vs) gap asks = gap (λ count. absurd (omega (arith, count)))
+  one_asked : (op : Instruction) (pushes : Option Kind) (f : Obj → Option Request) (vs : List Obj) → ((length vs ≡ 1 → ⊥) → Gap) → ((a : Obj) → Asks op pushes (a ∷ []) (f a)) → Asks op pushes vs (on_one f vs)
+  one_asked op pushes f [] gap asks = gap (λ count. absurd (omega (arith, count)))
+  one_asked op pushes f (a ∷ []) gap asks = asks a
+  one_asked op pushes f (a ∷ b ∷ vs) gap asks = gap (λ count. absurd (omega (arith, count)))
 
-  two_asked : (pushes : Option Kind) (f : Obj → Obj → Option Request) (vs : List Obj) → ((length vs ≡ 2 → ⊥) → Gap) → ((a b : Obj) → Asks pushes (b ∷ a ∷ []) (f a b)) → Asks pushes vs (on_two f vs)
-  two_asked pushes f [] gap asks = gap (λ count. absurd (omega (arith, count)))
-  two_asked pushes f (b ∷ []) gap asks = gap (λ count. absurd (omega (arith, count)))
-  two_asked pushes f (b ∷ a ∷ []) gap asks = asks a b
-  two_asked pushes f (b ∷ a ∷ v ∷ vs) gap asks = gap (λ count. absurd (omega (arith, count)))
+  two_asked : (op : Instruction) (pushes : Option Kind) (f : Obj → Obj → Option Request) (vs : List Obj) → ((length vs ≡ 2 → ⊥) → Gap) → ((a b : Obj) → Asks op pushes (b ∷ a ∷ []) (f a b)) → Asks op pushes vs (on_two f vs)
+  two_asked op pushes f [] gap asks = gap (λ count. absurd (omega (arith, count)))
+  two_asked op pushes f (b ∷ []) gap asks = gap (λ count. absurd (omega (arith, count)))
+  two_asked op pushes f (b ∷ a ∷ []) gap asks = asks a b
+  two_asked op pushes f (b ∷ a ∷ v ∷ vs) gap asks = gap (λ count. absurd (omega (arith, count)))
 
-  called : (k : ℕ) (ws vs : List Obj) → reverse vs ≡ ws → ((length vs ≡ length (replicate (suc k) kind.Any) → ⊥) → Gap) → Asks (Some kind.Any) vs (calls ws)
+  called : (k : ℕ) (ws vs : List Obj) → reverse vs ≡ ws → ((length vs ≡ length (replicate (suc k) kind.Any) → ⊥) → Gap) → Asks CallFunctionPositional (Some kind.Any) vs (calls ws)
   called k [] vs is gap = gap (λ count. let none : length (reverse vs) ≡ 0 = ap length is in absurd (omega (arith, none, length-reverse vs, count, length-replicate (suc k) kind.Any)))
   called k (f ∷ args) vs is gap =
-      (λ objects v is. tt, λ n there low. let all : AllBelow n (numbers (f ∷ args)) = subst (λ (ws : List Obj). AllBelow n (numbers ws)) is (reverse_below n vs low) in (all.0, joined_below n (numbers args) [] all.1 tt))
+      (λ objects v is. tt, λ n there low. let all : AllBelow n (numbers (f ∷ args)) = subst (λ (ws : List Obj). AllBelow n (numbers ws)) is (reverse_below n vs low) in (all.0, joined_below n (numbers args) [] all.1 tt), refl)
 
-  tested : (op : Option TestOperator) (a b : Obj) → (is_tested op ≡ false → Gap) → Asks (Some kind.Any) (b ∷ a ∷ []) (tests op a b)
-  tested (Some test.ExceptionMatch) a b gap = (λ objects v is. tt, λ n there low. (low.1.0, (low.0, tt)))
+  tested : (op : Option TestOperator) (a b : Obj) → (is_tested op ≡ false → Gap) → Asks TestOperation (Some kind.Any) (b ∷ a ∷ []) (tests op a b)
+  tested (Some test.ExceptionMatch) a b gap = (λ objects v is. tt, λ n there low. (low.1.0, (low.0, tt)), refl)
   tested _ a b gap = gap refl
 
-  pub asked_as : (op : Instruction) (i : ℕ) → AsksAny (operand_there setting op i) (effect op i) (asked setting op i)
-  asked_as LoadGlobal i = λ vs gap. none_asked (Some kind.Any) _ vs (λ no. gap (inl no)) (mapped (Some kind.Any) [] (name_of_global setting i) _ (λ no. gap (inr no)) (λ x. (λ objects v is. tt, λ n there low. (there, tt))))
+  pub asked_as : (op : Instruction) (i : ℕ) → AsksAny op (operand_there setting op i) (effect op i) (asked setting op i)
+  asked_as LoadGlobal i = λ vs gap. none_asked LoadGlobal (Some kind.Any) _ vs (λ no. gap (inl no)) (mapped LoadGlobal (Some kind.Any) [] (name_of_global setting i) _ (λ no. gap (inr no)) (λ x is. (λ objects v is. tt, λ n there low. (there, tt), refl)))
   asked_as BinaryOperation i =
-      λ vs gap. two_asked (Some kind.Any) _ vs (λ no. gap (inl no)) (λ a b. mapped (Some kind.Any) (b ∷ a ∷ []) (asked_operator (slice_get binary_operators i)) _ (λ no. gap (inr no)) (λ op. (λ objects v is. tt, λ n there low. (low.1.0, (low.0, tt)))))
+      λ vs gap. two_asked BinaryOperation (Some kind.Any) _ vs (λ no. gap (inl no)) (λ a b. mapped BinaryOperation (Some kind.Any) (b ∷ a ∷ []) (asked_operator (slice_get binary_operators i)) _ (λ no. gap (inr no)) (λ op is. (λ objects v is. tt, λ n there low. (low.1.0, (low.0, tt)), operator_runs (slice_get binary_operators i) op is)))
   asked_as CompareOperation i =
-      λ vs gap. two_asked (Some kind.Any) _ vs (λ no. gap (inl no)) (λ a b. mapped (Some kind.Any) (b ∷ a ∷ []) (asked_comparison (slice_get comparison_operators i)) _ (λ no. gap (inr no)) (λ op. (λ objects v is. tt, λ n there low. (low.1.0, (low.0, tt)))))
-  asked_as TestOperation i = λ vs gap. two_asked (Some kind.Any) _ vs (λ no. gap (inl no)) (λ a b. tested (slice_get test_operators i) a b (λ no. gap (inr no)))
+      λ vs gap. two_asked CompareOperation (Some kind.Any) _ vs (λ no. gap (inl no)) (λ a b. mapped CompareOperation (Some kind.Any) (b ∷ a ∷ []) (asked_comparison (slice_get comparison_operators i)) _ (λ no. gap (inr no)) (λ op is. (λ objects v is. tt, λ n there low. (low.1.0, (low.0, tt)), comparison_runs (slice_get comparison_operators i) op is)))
+  asked_as TestOperation i = λ vs gap. two_asked TestOperation (Some kind.Any) _ vs (λ no. gap (inl no)) (λ a b. tested (slice_get test_operators i) a b (λ no. gap (inr no)))
   asked_as CallFunctionPositional k = λ vs gap. called k (reverse vs) vs refl (λ no. gap (inl no))
-  asked_as PrintExpr i = λ vs gap. one_asked None _ vs (λ no. gap (inl no)) (λ v. (λ objects v is. tt, λ n there low. low))
+  asked_as PrintExpr i = λ vs gap. one_asked PrintExpr None _ vs (λ no. gap (inl no)) (λ v. (λ objects v is. tt, λ n there low. low, refl))
   asked_as _ i = tt
+
+-- what an instruction may ask, its unit may
+pub unit_asks : (units : List CodeUnit) (at : ℕ) (unit : CodeUnit) → slice_get units at ≡ Some unit → (op : Instruction) → unit.op ≡ op → (r : Request) → may_ask op r ≡ true → UnitAsks (slice_get units at) r
+unit_asks units at unit is op is_op r asks = subst (λ (o : Option CodeUnit). UnitAsks o r) (sym is) (subst (λ (o : Instruction). may_ask o r ≡ true) (sym is_op) asks)
 
 pub got_there : {A : Type 0} (xs : List A) (i : ℕ) → i < length xs → (x : A) × (slice_get xs i ≡ Some x)
 got_there [] i below = absurd (omega arith)
@@ -132,17 +156,17 @@ operand_is names globals closure code are TestOperation i there = there
 operand_is names globals closure code are _ i there = refl
 
 pub asked_there : (names : List (List ℕ)) (globals : Obj) (closure : List Obj) (code : Annotated) → AreNames names code.code → (op : Instruction) (i : ℕ) → has_operand (sheet_of code) op i ≡ true
-    → AsksAs (effect op i) (asked (record { code = code.code; names = names; globals = globals; closure = closure }) op i)
+    → AsksAs op (effect op i) (asked (record { code = code.code; names = names; globals = globals; closure = closure }) op i)
 asked_there names globals closure code are op i there = by_effect (effect op i) (asked setting op i) (operand_there setting op i) (operand_is names globals closure code are op i there) (asked_as ⊥ setting op i)
   where
     setting : Setting
     setting = record { code = code.code; names = names; globals = globals; closure = closure }
 
-    wants : (pushes : Option Kind) (vs : List Obj) (r : Option Request) → Asks ⊥ setting pushes vs r → Wants pushes r
+    wants : (pushes : Option Kind) (vs : List Obj) (r : Option Request) → Asks ⊥ setting op pushes vs r → Wants op pushes r
     wants pushes vs None asks = absurd asks
-    wants pushes vs (Some r) asks = asks.0
+    wants pushes vs (Some r) asks = (asks.0, asks.2)
 
-    by_effect : (e : Effect) (f : List Obj → Option Request) (b : Bool) → b ≡ true → AsksAny ⊥ setting b e f → AsksAs e f
+    by_effect : (e : Effect) (f : List Obj → Option Request) (b : Bool) → b ≡ true → AsksAny ⊥ setting op b e f → AsksAs op e f
     by_effect (Moves n places) f b is asks = tt
     by_effect (AsksOnce taken pushes) f b is asks = λ vs count. wants pushes vs (f vs) (asks vs (λ m. ⊎_elim (λ no. no count) (λ no. both_ways b no is) m))
     by_effect Other f b is asks = tt

@@ -32,7 +32,7 @@ use Rattle.py_rows.specs.Answers.{IsAnswer}
 use Rattle.py_rows.specs.Fitting.{HaveKinds, WaitsIn, MayWait, TypeWaits, AreBlocks, Has, FitsNote, FitsBut, FitsAt}
 
 -- an entry stays where it is as more comes behind
-slice_get_grown : {A : Type 0} (xs ys : List A) (i : ℕ) (x : A) → slice_get xs i ≡ Some x → slice_get (xs ++ ys) i ≡ Some x
+pub slice_get_grown : {A : Type 0} (xs ys : List A) (i : ℕ) (x : A) → slice_get xs i ≡ Some x → slice_get (xs ++ ys) i ≡ Some x
 slice_get_grown [] ys i x here = cc
 slice_get_grown (z ∷ zs) ys zero x here = here
 slice_get_grown (z ∷ zs) ys (suc i) x here = slice_get_grown zs ys i x here

@@ -71,11 +71,11 @@ AsksBelow n Other f = Unit {0}
 pub asked_below : (n : ℕ) (setting : Setting) (op : Instruction) (i : ℕ) → setting.globals.number < n → AsksBelow n (effect op i) (asked setting op i)
 asked_below n setting op i there = by_effect (effect op i) (asked setting op i) (asked_as (Unit {0}) setting op i)
   where
-    below : (pushes : Option Kind) (vs : List Obj) (r : Option Request) → AllBelow n (numbers vs) → Asks (Unit {0}) setting pushes vs r → RequestBelow n r
+    below : (pushes : Option Kind) (vs : List Obj) (r : Option Request) → AllBelow n (numbers vs) → Asks (Unit {0}) setting op pushes vs r → RequestBelow n r
     below pushes vs None low asks = tt
     below pushes vs (Some r) low asks = asks.1 n there low
 
-    by_effect : (e : Effect) (f : List Obj → Option Request) → AsksAny (Unit {0}) setting (operand_there setting op i) e f → AsksBelow n e f
+    by_effect : (e : Effect) (f : List Obj → Option Request) → AsksAny (Unit {0}) setting op (operand_there setting op i) e f → AsksBelow n e f
     by_effect (Moves k places) f asks = tt
     by_effect (AsksOnce wanted pushes) f asks = λ vs low. below pushes vs (f vs) low (asks vs (λ m. tt))
     by_effect Other f asks = tt

@@ -19,7 +19,7 @@ use Rattle.py_rows.specs.declared.expect.Expect.{Expect}
 use Rattle.py_rows.specs.declared.expect.Expect.TheVariants as expect
 use Rattle.py_rows.specs.States.{State, Step, Goes, Tells, Stuck, landed, jumps}
 use Rattle.py_rows.specs.Fitting.{HaveKinds, AreBlocks, FitsNote, FitsAt}
-use Rattle.py_rows.specs.Laws.{RaisesException}
+use Rattle.py_rows.specs.Laws.{MayTell}
 use Rattle.py_rows.proofs.KindLemmas.{kinds_fitted}
 use Rattle.py_rows.proofs.BlockLemmas.{blocks_fitted}
 use Rattle.py_rows.proofs.TypingLemmas.{label_carried}
@@ -28,10 +28,10 @@ use Rattle.py_rows.proofs.TypingLemmas.{label_carried}
 abbrev pub Fits : List Payload → Annotated → State → Type 0
 Fits objects code t = FitsAt objects code t.wants t
 
--- a step leads to one that fits, and ends no frame by a raise but that of an exception
+-- a step leads to one that fits, and tells what its unit may tell
 abbrev pub StepFits : List Payload → Annotated → Step → Type 0
 StepFits objects code (Goes t) = Fits objects code t
-StepFits objects code (Tells x t) = RaisesException objects x × Fits objects code t
+StepFits objects code (Tells x t) = MayTell objects code.code x × Fits objects code t
 StepFits objects code Stuck = ⊥
 
 pub on_fits : (objects : List Payload) (code : Annotated) (t : State) → t.wants ≡ expect.Go → FitsNote objects code t → Fits objects code t

@@ -1,5 +1,6 @@
 -- What holds of each step holds of whole runs.
 use Rattle.std.proofs.Common.{◌≡◌, ◌∙◌, ◌<◌, ◌-◌, ◌++◌, ℕ, List, [], ◌∷◌, Option, ap, subst, length}
+use Rattle.py_code.specs.declared.code.PyCode.{PyCode}
 use Rattle.py_objects.specs.declared.refs.PyBaseExceptionRef.{PyBaseExceptionRef}
 use Rattle.py_objects.specs.declared.payload.Payload.{Payload}
 use Rattle.py_objects.specs.Objects.{Obj, AllBelow, numbers, number_if}
@@ -13,8 +14,8 @@ use Rattle.py_rows.specs.Standing.{IsPlaced, IsStanding}
 use Rattle.py_rows.specs.RunOfRows.{Runs, none, on, started}
 use Rattle.py_rows.specs.Fitting.{FitsAt, IsSound}
 use Rattle.py_rows.specs.Below.{HearsBelow, TellsBelow, HoldsBelow}
-use Rattle.py_rows.specs.Laws.{RaiseExceptions, setting_of}
-use Rattle.py_rows.proofs.StepLemmas.{steps_fit, steps_raise, start_fits}
+use Rattle.py_rows.specs.Laws.{AllMayTell, setting_of}
+use Rattle.py_rows.proofs.StepLemmas.{steps_fit, steps_tell, start_fits}
 use Rattle.py_rows.proofs.StandingLemmas.{start_stands, steps_stand, start_below, steps_below}
 
 fits_on : (objects : List Payload) (names : List (List ℕ)) (globals : Obj) (closure : List Obj) (code : Annotated) → IsSound names code → (s t : State) (xs : List Own) → FitsAt objects code s.wants s → Runs objects (setting_of names globals closure code) s xs t
@@ -26,20 +27,20 @@ pub runs_fit : (objects : List Payload) (names : List (List ℕ)) (globals : Obj
     → Runs objects (setting_of names globals closure code) (started code.code slot args) xs t → FitsAt objects code t.wants t
 runs_fit objects names globals closure code slot args t xs sound run = fits_on objects names globals closure code sound (started code.code slot args) t xs (start_fits objects names code slot args sound) run
 
--- what raises in parts raises together
-raise_joined : (objects : List Payload) (xs ys : List Own) → RaiseExceptions objects xs → RaiseExceptions objects ys → RaiseExceptions objects (xs ++ ys)
-raise_joined objects [] ys first last = last
-raise_joined objects (x ∷ xs) ys first last = (first.0, raise_joined objects xs ys first.1 last)
+-- what may be told in parts may be told together
+tell_joined : (objects : List Payload) (code : PyCode) (xs ys : List Own) → AllMayTell objects code xs → AllMayTell objects code ys → AllMayTell objects code (xs ++ ys)
+tell_joined objects code [] ys first last = last
+tell_joined objects code (x ∷ xs) ys first last = (first.0, tell_joined objects code xs ys first.1 last)
 
-raise_on : (objects : List Payload) (names : List (List ℕ)) (globals : Obj) (closure : List Obj) (code : Annotated) → IsSound names code → (s t : State) (xs : List Own) → FitsAt objects code s.wants s → Runs objects (setting_of names globals closure code) s xs t
-    → RaiseExceptions objects xs
-raise_on objects names globals closure code sound s _ _ fits none = tt
-raise_on objects names globals closure code sound s _ _ fits (on {us = us} {vs = vs} {t = t} u run step) =
-    raise_joined objects us vs (raise_on objects names globals closure code sound s t us fits run) (steps_raise objects names globals closure code sound t vs u (fits_on objects names globals closure code sound s t us fits run) step)
+tell_on : (objects : List Payload) (names : List (List ℕ)) (globals : Obj) (closure : List Obj) (code : Annotated) → IsSound names code → (s t : State) (xs : List Own) → FitsAt objects code s.wants s → Runs objects (setting_of names globals closure code) s xs t
+    → AllMayTell objects code.code xs
+tell_on objects names globals closure code sound s _ _ fits none = tt
+tell_on objects names globals closure code sound s _ _ fits (on {us = us} {vs = vs} {t = t} u run step) =
+    tell_joined objects code.code us vs (tell_on objects names globals closure code sound s t us fits run) (steps_tell objects names globals closure code sound t vs u (fits_on objects names globals closure code sound s t us fits run) step)
 
-pub runs_raise : (objects : List Payload) (names : List (List ℕ)) (globals : Obj) (closure : List Obj) (code : Annotated) (slot : Option PyBaseExceptionRef) (args : List Obj) (t : State) (xs : List Own) → IsSound names code
-    → Runs objects (setting_of names globals closure code) (started code.code slot args) xs t → RaiseExceptions objects xs
-runs_raise objects names globals closure code slot args t xs sound run = raise_on objects names globals closure code sound (started code.code slot args) t xs (start_fits objects names code slot args sound) run
+pub runs_tell : (objects : List Payload) (names : List (List ℕ)) (globals : Obj) (closure : List Obj) (code : Annotated) (slot : Option PyBaseExceptionRef) (args : List Obj) (t : State) (xs : List Own) → IsSound names code
+    → Runs objects (setting_of names globals closure code) (started code.code slot args) xs t → AllMayTell objects code.code xs
+runs_tell objects names globals closure code slot args t xs sound run = tell_on objects names globals closure code sound (started code.code slot args) t xs (start_fits objects names code slot args sound) run
 
 -- what is heard first, and then
 heard_parts : (n : ℕ) (xs ys : List Own) → HearsBelow n (xs ++ ys) → HearsBelow n xs × HearsBelow n ys

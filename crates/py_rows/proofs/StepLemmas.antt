@@ -29,7 +29,7 @@ use Rattle.py_rows.specs.Rows.{unit_move}
 use Rattle.py_rows.specs.Receiving.{unit_answered, moves}
 use Rattle.py_rows.specs.RunOfRows.{MayLead, Hears, Steps, silent, telling, hearing, filled, started}
 use Rattle.py_rows.specs.Fitting.{Has, FitsNote, left_of, FitsBut, CanUnwind, FitsAt, IsSound}
-use Rattle.py_rows.specs.Laws.{LeadsTo, Always, AlwaysLeads, RaisesException, RaiseExceptions, IsMoving, IsWithin, setting_of}
+use Rattle.py_rows.specs.Laws.{LeadsTo, Always, AlwaysLeads, MayTell, AllMayTell, IsMoving, IsWithin, setting_of}
 use Rattle.py_rows.proofs.KindLemmas.{kinds_counted}
 use Rattle.py_rows.proofs.BlockLemmas.{blocks_counted, deepest_there}
 use Rattle.py_rows.proofs.TypingLemmas.{IsWhole, typed_whole, unit_kept}
@@ -180,19 +180,19 @@ module _ (objects : List Payload) (names : List (List ℕ)) (globals : Obj) (clo
   steps_fit _ _ f (telling x t may) = (moved_fits (Tells x t) f (λ is. cc) may).1
   steps_fit _ _ f (hearing x w hears) = heard_fits s.wants x w f hears
 
-  -- what is heard ends no frame
-  heard_raises : (x : Expect) (o : Own) (w : Expect) → Hears objects (setting_of names globals closure code) x o w → RaisesException objects o
-  heard_raises expect.Start (Resumes how.Start) w hears = tt
-  heard_raises expect.Start (Resumes (how.Throw e)) w hears = tt
-  heard_raises (expect.Answer wanted) (Gets g) w hears = tt
-  heard_raises expect.Resume (Resumes (how.Send v)) w hears = tt
-  heard_raises expect.Resume (Resumes (how.Throw e)) w hears = tt
-  heard_raises _ _ w hears = absurd hears
+  -- what is heard is told by no unit
+  heard_told : (x : Expect) (o : Own) (w : Expect) → Hears objects (setting_of names globals closure code) x o w → MayTell objects code.code o
+  heard_told expect.Start (Resumes how.Start) w hears = tt
+  heard_told expect.Start (Resumes (how.Throw e)) w hears = tt
+  heard_told (expect.Answer wanted) (Gets g) w hears = tt
+  heard_told expect.Resume (Resumes (how.Send v)) w hears = tt
+  heard_told expect.Resume (Resumes (how.Throw e)) w hears = tt
+  heard_told _ _ w hears = absurd hears
 
-  pub steps_raise : (xs : List Own) (t : State) → FitsAt objects code s.wants s → Steps objects (setting_of names globals closure code) s xs t → RaiseExceptions objects xs
-  steps_raise _ _ f (silent t may) = tt
-  steps_raise _ _ f (telling x t may) = ((moved_fits (Tells x t) f (λ is. cc) may).0, tt)
-  steps_raise _ _ f (hearing x w hears) = (heard_raises s.wants x w hears, tt)
+  pub steps_tell : (xs : List Own) (t : State) → FitsAt objects code s.wants s → Steps objects (setting_of names globals closure code) s xs t → AllMayTell objects code.code xs
+  steps_tell _ _ f (silent t may) = tt
+  steps_tell _ _ f (telling x t may) = ((moved_fits (Tells x t) f (λ is. cc) may).0, tt)
+  steps_tell _ _ f (hearing x w hears) = (heard_told s.wants x w hears, tt)
 
 -- the locals of a frame are as many as their names
 pub length-filled : (n : ℕ) (vs : List Obj) → length (filled n vs) ≡ n

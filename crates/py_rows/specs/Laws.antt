@@ -1,5 +1,5 @@
 -- What holds of every step and every run.
-use Rattle.std.specs.Prelude.{ℕ, ◌≤◌, ◌<◌, ◌-◌, ◌≡◌, Bool, Option, Some, None, List, [], ◌∷◌, length}
+use Rattle.std.specs.Prelude.{ℕ, ◌≤◌, ◌<◌, ◌-◌, ◌≡◌, Bool, Option, Some, None, List, [], ◌∷◌, slice_get, length}
 use Rattle.py_code.specs.declared.code.PyCode.{PyCode}
 use Rattle.py_objects.specs.declared.refs.PyBaseExceptionRef.{PyBaseExceptionRef}
 use Rattle.py_objects.specs.declared.payload.Payload.{Payload}
@@ -17,6 +17,7 @@ use Rattle.py_rows.specs.Handled.{KeepsSlot}
 use Rattle.py_check.specs.declared.note.Kind.TheVariants as kind
 use Rattle.py_rows.specs.Answers.{HasKind}
 use Rattle.py_rows.specs.Receiving.{moves}
+use Rattle.py_rows.specs.Questions.{UnitAsks, UnitYields}
 use Rattle.py_rows.specs.RunOfRows.{Steps, Runs, started}
 use Rattle.py_rows.specs.Below.{HearsBelow, TellsBelow, HoldsBelow}
 use Rattle.py_rows.specs.Standing.{IsOf, IsStanding}
@@ -42,25 +43,26 @@ Always objects P (Decides v f) = ((b : Bool) × HasPayload objects v (payload.Bo
 Always objects P (Manages m f) = (b : Bool) → P (f b)
 Always objects P (Exits e f) = RaisedThere objects e × ((t v b : Obj) → P (f t v b))
 
--- so what a move leads to has one
+-- so has the state that it leads to
 abbrev pub AlwaysLeads : List Payload → (State → Type 0) → Move → Type 0
 AlwaysLeads objects P m = Always objects (LeadsTo P) m
 
--- what a frame ends by, where that is a raise, is an exception
-abbrev pub RaisesException : List Payload → Own → Type 0
-RaisesException objects Makes = Unit {0}
-RaisesException objects (Resumes h) = Unit {0}
-RaisesException objects (Asks at r own) = Unit {0}
-RaisesException objects (Gets w) = Unit {0}
-RaisesException objects (Rounds at) = Unit {0}
-RaisesException objects (Yields at v) = Unit {0}
-RaisesException objects (Ends at (ending.Return v)) = Unit {0}
-RaisesException objects (Ends at (ending.Raise e)) = HasKind objects (as_object e) kind.Exc
+-- an event is one that its unit may tell: what is asked, its instruction may ask; only YieldValue yields; and a frame that ends by a raise
+-- ends by an exception
+abbrev pub MayTell : List Payload → PyCode → Own → Type 0
+MayTell objects code Makes = Unit {0}
+MayTell objects code (Resumes h) = Unit {0}
+MayTell objects code (Asks at r own) = UnitAsks (slice_get code.code.instructions.items at) r
+MayTell objects code (Gets w) = Unit {0}
+MayTell objects code (Rounds at) = Unit {0}
+MayTell objects code (Yields at v) = UnitYields (slice_get code.code.instructions.items at)
+MayTell objects code (Ends at (ending.Return v)) = Unit {0}
+MayTell objects code (Ends at (ending.Raise e)) = HasKind objects (as_object e) kind.Exc
 
 -- the same of several events
-abbrev pub RaiseExceptions : List Payload → List Own → Type 0
-RaiseExceptions objects [] = Unit {0}
-RaiseExceptions objects (x ∷ xs) = RaisesException objects x × RaiseExceptions objects xs
+abbrev pub AllMayTell : List Payload → PyCode → List Own → Type 0
+AllMayTell objects code [] = Unit {0}
+AllMayTell objects code (x ∷ xs) = MayTell objects code x × AllMayTell objects code xs
 
 -- the stack and the blocks are within the sizes
 abbrev pub IsWithin : ℕ → ℕ → State → Type 0
@@ -95,10 +97,10 @@ abbrev pub StepsFit : Type 0
 StepsFit = (objects : List Payload) (names : List (List ℕ)) (globals : Obj) (closure : List Obj) (code : Annotated) (s t : State) (xs : List Own)
     → IsSound names code → FitsAt objects code s.wants s → Steps objects (setting_of names globals closure code) s xs t → FitsAt objects code t.wants t
 
--- and ends by no raise but that of an exception
-abbrev pub StepsRaise : Type 0
-StepsRaise = (objects : List Payload) (names : List (List ℕ)) (globals : Obj) (closure : List Obj) (code : Annotated) (s t : State) (xs : List Own)
-    → IsSound names code → FitsAt objects code s.wants s → Steps objects (setting_of names globals closure code) s xs t → RaiseExceptions objects xs
+-- each event that it tells there is one that its unit may tell
+abbrev pub StepsTell : Type 0
+StepsTell = (objects : List Payload) (names : List (List ℕ)) (globals : Obj) (closure : List Obj) (code : Annotated) (s t : State) (xs : List Own)
+    → IsSound names code → FitsAt objects code s.wants s → Steps objects (setting_of names globals closure code) s xs t → AllMayTell objects code.code xs
 
 -- it is within the sizes
 abbrev pub FitsWithin : Type 0
@@ -151,10 +153,10 @@ abbrev pub RunsFit : Type 0
 RunsFit = (objects : List Payload) (names : List (List ℕ)) (globals : Obj) (closure : List Obj) (code : Annotated) (slot : Option PyBaseExceptionRef) (args : List Obj) (t : State) (xs : List Own)
     → IsSound names code → Runs objects (setting_of names globals closure code) (started code.code slot args) xs t → FitsAt objects code t.wants t
 
--- and ends by no raise but that of an exception
-abbrev pub RunsRaise : Type 0
-RunsRaise = (objects : List Payload) (names : List (List ℕ)) (globals : Obj) (closure : List Obj) (code : Annotated) (slot : Option PyBaseExceptionRef) (args : List Obj) (t : State) (xs : List Own)
-    → IsSound names code → Runs objects (setting_of names globals closure code) (started code.code slot args) xs t → RaiseExceptions objects xs
+-- and tells what its units may tell
+abbrev pub RunsTell : Type 0
+RunsTell = (objects : List Payload) (names : List (List ℕ)) (globals : Obj) (closure : List Obj) (code : Annotated) (slot : Option PyBaseExceptionRef) (args : List Obj) (t : State) (xs : List Own)
+    → IsSound names code → Runs objects (setting_of names globals closure code) (started code.code slot args) xs t → AllMayTell objects code.code xs
 
 -- where the globals, the arguments, what is in the slot and all that a run hears are objects, so is all that it tells
 abbrev pub RunsBelow : Type 0

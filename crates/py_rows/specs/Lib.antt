@@ -10,6 +10,8 @@ pub mod Answers
 pub mod Asked
 pub mod Rows
 pub mod Receiving
+-- which instruction may ask what
+pub mod Questions
 -- runs of the rows of a code
 pub mod RunOfRows
 -- where a frame stands, and of which unit it tells

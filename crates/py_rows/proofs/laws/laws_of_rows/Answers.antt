@@ -1,9 +1,9 @@
 use Rattle.std.specs.Prelude.{[]}
-use Rattle.py_rows.proofs.StepLemmas.{start_fits, next_fits, steps_fit, steps_raise, within}
+use Rattle.py_rows.proofs.StepLemmas.{start_fits, next_fits, steps_fit, steps_tell, within}
 use Rattle.py_rows.proofs.StandingLemmas.{slot_kept, start_stands, steps_stand, events_told, silent_later, start_below, steps_below}
 use Rattle.py_rows.proofs.GrowingLemmas.{fits_grown, run_grown}
 use Rattle.py_rows.proofs.GoingLemmas.{next_goes}
-use Rattle.py_rows.proofs.RunLemmas.{runs_fit, runs_raise, runs_below, runs_keep_slot, ends_keep_slot}
+use Rattle.py_rows.proofs.RunLemmas.{runs_fit, runs_tell, runs_below, runs_keep_slot, ends_keep_slot}
 use Rattle.py_rows.proofs.laws.laws_of_rows.Goals as goal
 
 pub returns-clause-start : goal.returns-clause-start
@@ -18,8 +18,8 @@ returns-clause-goes c = next_goes
 pub returns-clause-steps : goal.returns-clause-steps
 returns-clause-steps c = λ objects names globals closure code s t xs sound fits steps. steps_fit objects names globals closure code sound s xs t fits steps
 
-pub returns-clause-raises : goal.returns-clause-raises
-returns-clause-raises c = λ objects names globals closure code s t xs sound fits steps. steps_raise objects names globals closure code sound s xs t fits steps
+pub returns-clause-tells : goal.returns-clause-tells
+returns-clause-tells c = λ objects names globals closure code s t xs sound fits steps. steps_tell objects names globals closure code sound s xs t fits steps
 
 pub returns-clause-within : goal.returns-clause-within
 returns-clause-within c = λ objects names code s sound fits. within objects names (record { number = 0 }) [] code sound s s.wants fits
@@ -54,8 +54,8 @@ returns-clause-steps_below c = steps_below
 pub returns-clause-runs_fit : goal.returns-clause-runs_fit
 returns-clause-runs_fit c = runs_fit
 
-pub returns-clause-runs_raise : goal.returns-clause-runs_raise
-returns-clause-runs_raise c = runs_raise
+pub returns-clause-runs_tell : goal.returns-clause-runs_tell
+returns-clause-runs_tell c = runs_tell
 
 pub returns-clause-runs_below : goal.returns-clause-runs_below
 returns-clause-runs_below c = runs_below
