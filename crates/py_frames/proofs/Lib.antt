@@ -18,3 +18,5 @@ pub mod MoreLemmas
 mod ManagerLemmas
 -- frames that run
 pub mod RunningLemmas
+-- inputs that are taken
+pub mod HearingLemmas

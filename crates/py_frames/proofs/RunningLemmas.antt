@@ -1,6 +1,7 @@
 -- Frames that run go on to run.
 use Rattle.std.proofs.Common.{◌≡◌, ◌∙◌, ◌++◌, ◌+◌, ◌-◌, ◌<◌, ◌≤◌, ◌^◌, ℕ, suc, List, [], ◌∷◌, Bool, None, Some, refl, sym, ap, subst, length, append-nil, append_assoc, arith}
-use Rattle.std.specs.Prelude.{Option}
+use Rattle.std.specs.Prelude.{Option, Result, Ok, Err, OnErr}
+use Rattle.py_objects.specs.Edits.{Kept}
 use Rattle.py_objects.specs.declared.event.Ending.TheVariants as ending
 use Rattle.std.proofs.lemmas.Option.{slice_get_within, slice_get-get_or}
 use Rattle.py_objects.specs.declared.refs.PyBaseExceptionRef.{PyBaseExceptionRef}
@@ -30,7 +31,9 @@ use Rattle.py_rows.proofs.GrowingLemmas.{fits_grown, run_grown, grows_on}
 use Rattle.py_frames.specs.Frames.{Framed, setting_of}
 use Rattle.py_frames.specs.Steps.{told}
 use Rattle.py_frames.specs.Running.{IsRunning, IsSame, HasTold, IsCut}
-use Rattle.py_frames.specs.UnitSteps.{CanDo, CanMove, tells}
+use Rattle.py_frames.specs.UnitSteps.{CanDo, CanMove, done, tells}
+use Rattle.py_frames.specs.declared.unit_step.UnitStep.{UnitStep}
+use Rattle.py_frames.specs.declared.unit_step.UnitStep.TheVariants as unit
 use Rattle.py_frames.specs.declared.input.FrameStep.{FrameStep}
 use Rattle.py_frames.specs.declared.input.FrameStep.TheVariants as frame_step
 use Rattle.py_frames.proofs.PlainGrowth.{length_grown}
@@ -66,6 +69,20 @@ unit_there objects names code (expect.Heard (got.Value v)) s sound fits moving =
 unit_there objects names code (expect.Heard (got.Raise e)) s sound fits moving = fits.1.there
 unit_there objects names code (expect.Heard (got.Stop v)) s sound fits moving = absurd fits
 unit_there objects names code _ s sound fits moving = absurd moving
+
+-- a row that was done leads on, or tells an event
+pub row_goes : (objects : List Payload) (m : Move) (at : ℕ) (u : UnitStep) (s : State) → u ≡ unit.Goes → MayLead objects m (done at u s) → MayLead objects m (Goes s)
+row_goes objects m at u s is may = subst (λ (x : UnitStep). MayLead objects m (done at x s)) is may
+
+pub row_tells : (objects : List Payload) (m : Move) (at : ℕ) (u : UnitStep) (step : FrameStep) (s : State) → u ≡ unit.Tells step → MayLead objects m (done at u s) → MayLead objects m (tells (told at step) s)
+row_tells objects m at u step s is may = subst (λ (x : UnitStep). MayLead objects m (done at x s)) is may
+
+pub store_on : (a b c : Kept) → b ≡ record a { made = b.made } → c ≡ record b { made = c.made } → c ≡ record a { made = c.made }
+store_on a b c first second = second ∙ ap (λ (s : Kept). record s { made = c.made }) first
+
+pub erred : {A E : Type 0} (r : Result A E) (P : Type 0) → P → OnErr r P
+erred (Ok v) P p = tt
+erred (Err e) P p = p
 
 -- an event that is told is of the unit that tells it, and hears nothing
 told_at : (at n : ℕ) (t : State) (step : FrameStep) (x : Own) → told at step ≡ Some x → IsOf n t x → at ≡ n
@@ -187,8 +204,8 @@ module _ (names : List (List ℕ)) (code : Annotated) (sound : IsSound names cod
       }
 
     -- it tells an event
-    pub tells_on : IsRunning objects names code f → (step : FrameStep) (x : Own) → told g.state.at step ≡ Some x → MayLead objects' (moves (setting_of names code g) g.state.wants g.state) (Tells x h.state) → HasTold objects' names code f step h
-    tells_on running step x is may =
+    pub tells_on : (first : List Payload) → IsRunning first names code f → (step : FrameStep) (x : Own) → told g.state.at step ≡ Some x → MayLead objects' (moves (setting_of names code g) g.state.wants g.state) (Tells x h.state) → HasTold objects' names code f step h
+    tells_on first running step x is may =
         let told_step : Steps objects' (setting_of names code g) g.state (x ∷ []) h.state = telling x h.state may in
         let of : IsOf (h.state.last - 1) h.state x = events_told objects' (setting_of names code g) silently.first g.state h.state x silently.stands told_step in
         let here : g.state.at ≡ h.state.last - 1 = told_at g.state.at (h.state.last - 1) h.state step x is of in
@@ -215,7 +232,7 @@ module _ (names : List (List ℕ)) (code : Annotated) (sound : IsSound names cod
         }
 
   -- memory ran out in the unit that had begun
-  pub cut_short : (objects objects' : List Payload) (f g h : Framed) → IsSilent objects names code f g → Grows objects objects' → h ≡ record g { state = begun g.state } → IsCut objects' code h × IsSame f h
+  pub cut_short : (objects objects' : List Payload) (f g h : Framed) → IsSilent objects names code f g → Grows objects objects' → h ≡ record g { state = begun g.state } → IsCut objects' code h
   cut_short objects objects' f g h silently grows same =
       let low : HoldsBelow (length objects') g.state = holds_more (length objects) (length objects') (length_grown objects objects' grows) g.state silently.below in
       let cut : IsCut objects' code (record g { state = begun g.state }) = record {
@@ -224,14 +241,7 @@ module _ (names : List (List ℕ)) (code : Annotated) (sound : IsSound names cod
         within = (within objects names g.scope.globals g.closure code sound g.state g.state.wants silently.fits).0;
         below = record { in_stack = low.in_stack; in_locals = low.in_locals; in_blocks = low.in_blocks; in_slot = low.in_slot; in_wants = tt };
       } in
-      subst (λ (x : Framed). IsCut objects' code x × IsSame f x) (sym same) (cut, record {
-        code = silently.same.code;
-        entry = silently.same.entry;
-        scope = silently.same.scope;
-        closure = silently.same.closure;
-        room = silently.same.room;
-        block_room = silently.same.block_room;
-      })
+      subst (IsCut objects' code) (sym same) cut
 
   -- a unit that tells isn't stuck
   pub told_there : (objects objects' : List Payload) (f g h : Framed) → IsSilent objects names code f g → Grows objects objects' → (step : FrameStep)
