@@ -10,3 +10,13 @@ mod LoadingLemmas
 mod SafeLemmas
 -- what exits are told
 mod ExitLemmas
+-- lines of units
+mod LocationLemmas
+-- objects among more
+pub mod MoreLemmas
+-- managers
+mod ManagerLemmas
+-- frames that run
+pub mod RunningLemmas
+-- inputs that are taken
+pub mod HearingLemmas

@@ -30,6 +30,10 @@ setting_in code names f = record { code = code; names = names; globals = f.scope
 abbrev pub setting_of : List (List ℕ) → Annotated → Framed → Setting
 setting_of names code f = setting_in code.code names f
 
+-- a frame's entry as an object
+abbrev pub frame_object : FrameRef → Obj
+frame_object f = record { number = f.number }
+
 -- with this exception in the slot
 abbrev pub handed : Option PyBaseExceptionRef → State → State
 handed slot s = record s { slot = slot }

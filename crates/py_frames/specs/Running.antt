@@ -1,5 +1,5 @@
 -- What holds of a frame between steps.
-use Rattle.std.specs.Prelude.{ℕ, ◌+◌, ◌<◌, ◌≤◌, ◌≡◌, ◌⊎◌, Option, List, length}
+use Rattle.std.specs.Prelude.{ℕ, suc, ◌+◌, ◌-◌, ◌<◌, ◌≤◌, ◌≡◌, ◌⊎◌, Option, Some, List, [], ◌∷◌, ◌++◌, length}
 use Rattle.py_objects.specs.declared.refs.PyBaseExceptionRef.{PyBaseExceptionRef}
 use Rattle.py_objects.specs.declared.payload.Payload.{Payload}
 use Rattle.py_objects.specs.Objects.{AllBelow, number_if}
@@ -7,10 +7,15 @@ use Rattle.py_check.specs.declared.annotated.Annotated.{Annotated}
 use Rattle.py_check.specs.Depths.{deepest}
 use Rattle.py_rows.specs.declared.expect.Expect.TheVariants as expect
 use Rattle.py_rows.specs.States.{State}
-use Rattle.py_rows.specs.Below.{HoldsBelow}
-use Rattle.py_rows.specs.Standing.{IsStanding}
+use Rattle.py_objects.specs.Own.{Own}
+use Rattle.py_rows.specs.Below.{HoldsBelow, TellsBelow}
+use Rattle.py_rows.specs.RunOfRows.{Runs}
+use Rattle.py_rows.specs.Standing.{IsOf, IsStanding}
 use Rattle.py_rows.specs.Fitting.{FitsAt, IsSound}
-use Rattle.py_frames.specs.Frames.{Framed}
+use Rattle.py_frames.specs.declared.input.Input.{Input}
+use Rattle.py_frames.specs.declared.input.FrameStep.{FrameStep}
+use Rattle.py_frames.specs.Frames.{Framed, setting_of, handed}
+use Rattle.py_frames.specs.Steps.{Extends, IfTold, KeepsFirst, NamesHandled, events, expected, heard, told}
 
 -- a frame of a code that it can run: it fits the notes of its code, stands where it waits, holds objects alone, and has room for the
 -- values and blocks that the code needs
@@ -38,3 +43,29 @@ pub record IsSame (f g : Framed) : Type 0 where
   pub closure : g.closure ≡ f.closure
   pub room : length g.state.stack + g.room ≡ length f.state.stack + f.room
   pub block_room : length g.state.blocks + g.block_room ≡ length f.state.blocks + f.block_room
+
+-- a frame has told an event: silent steps led to one that told it, of the unit that was begun last
+pub record HasTold (objects : List Payload) (names : List (List ℕ)) (code : Annotated) (f : Framed) (step : FrameStep) (g : Framed) : Type 0 where
+  pub event : Own
+  pub told : told (g.state.last - 1) step ≡ Some event
+  pub run : Runs objects (setting_of names code f) f.state (event ∷ []) g.state
+  pub of : IsOf (g.state.last - 1) g.state event
+  pub below : TellsBelow (length objects) (event ∷ [])
+  pub running : IsRunning objects names code g
+
+-- a frame whose unit has begun, where memory ran out
+pub record IsCut (objects : List Payload) (code : Annotated) (f : Framed) : Type 0 where
+  pub begun : f.state.last ≡ suc f.state.at
+  pub there : f.state.at < length code.code.code.instructions.items
+  pub within : length f.state.stack ≤ code.code.code.max_stackdepth
+  pub below : HoldsBelow (length objects) f.state
+
+-- a frame took an input, and told an event, or memory ran out and it has ended
+pub record IsStepped (objects : List Payload) (names : List (List ℕ)) (code : Annotated) (slot : Option PyBaseExceptionRef) (i : Input) (f : Framed) (step : FrameStep) (g : Framed) : Type 0 where
+  pub extends : IfTold step (Extends objects (setting_of names code f) (handed slot f.state) (events (heard i) ++ events (told (g.state.last - 1) step)) g.state)
+  pub expects : g.state.wants ≡ expected step
+  pub own : NamesHandled g.state step
+  pub told : TellsBelow (length objects) (events (told (g.state.last - 1) step))
+  pub given_back : KeepsFirst (handed slot f.state) step g.state
+  pub running : IsRunning objects names code g
+  pub same : IsSame f g

@@ -5,12 +5,13 @@ ghost use Rattle.py_objects.specs.Objects.{AllFit};
 ghost use Rattle.py_objects.specs.Growth.{GrowsPlainly};
 ghost use Rattle.py_rows.specs.States.{Goes, begun, next, pushed};
 ghost use Rattle.py_rows.specs.Receiving.{answered, moves, receive};
-ghost use Rattle.py_frames.specs.Frames.{over, setting_in};
+ghost use Rattle.py_frames.specs.Frames.{over, setting_in, setting_of};
 ghost use Rattle.py_frames.specs.UnitSteps.{CanDo, CanMove, Does, MayDo};
 
 use crate::frame_core::FrameCore;
 use crate::objects::truth;
 use crate::unit_step::UnitStep;
+use py_check::CheckedCode;
 use py_code::{Instruction, Names, NoMemory, PyCode};
 use py_objects::{GotAnswer, PyObjectRef, Store};
 use py_rows::{Expect, UnwindReason};
@@ -23,22 +24,22 @@ impl FrameCore {
         &mut self,
         stack: &mut S,
         alloc: Global,
-        code: &PyCode,
+        code: &CheckedCode,
         names: &Names,
         store: &mut Store,
     ) -> Result<UnitStep, NoMemory>
-        requires there { self.old.state.at < length code.now.code.instructions.items }
-        requires few { length code.now.code.instructions.items < 2 ^ 32 }
+        requires there { self.old.state.at < length code.now.code.code.instructions.items }
+        requires few { length code.now.code.code.instructions.items < 2 ^ 32 }
         requires fit { AllFit store.old.made }
-        requires safe { let f = over self.old (S.list stack.old) (S.room stack.old) in CanMove store.old.made f (moves (setting_in code.now names.now f) f.state.wants f.state) }
-        ensures row { IfOk result (λ step. MayDo store.new.made (λ s. moves (setting_in code.now names.now self.old) s.wants s) (over self.old (S.list stack.old) (S.room stack.old)) step (over self.new (S.list stack.new) (S.room stack.new))) }
+        requires safe { let f = over self.old (S.list stack.old) (S.room stack.old) in CanMove store.old.made f (moves (setting_of names.now code.now f) f.state.wants f.state) }
+        ensures row { IfOk result (λ step. MayDo store.new.made (λ s. moves (setting_of names.now code.now self.old) s.wants s) (over self.old (S.list stack.old) (S.room stack.old)) step (over self.new (S.list stack.new) (S.room stack.new))) }
         ensures err { OnErr result ((over self.new (S.list stack.new) (S.room stack.new)) ≡ record (over self.old (S.list stack.old) (S.room stack.old)) { state = begun ((over self.old (S.list stack.old) (S.room stack.old))).state }) }
         ensures objects { GrowsPlainly store.old.made store.new.made }
         ensures unchanged { store.new ≡ record store.old { made = store.new.made } }
     {
         match self.expects() {
-            Expect::Go => self.execute(stack, alloc, code, names, store),
-            Expect::Heard(heard) => Ok(self.receive(stack, code, store, heard)),
+            Expect::Go => self.execute(stack, alloc, code.code(), names, store),
+            Expect::Heard(heard) => Ok(self.receive(stack, code.code(), store, heard)),
             _ => unreachable!(),
         }
     }
