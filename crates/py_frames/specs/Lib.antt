@@ -2,8 +2,6 @@
 pub mod Frames
 -- what a frame hears and tells by a step
 pub mod Steps
--- which instruction asks what
-pub mod Questions
 -- what holds of a frame between steps
 pub mod Running
 -- what a unit did, as its row says it
