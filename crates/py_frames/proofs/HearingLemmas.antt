@@ -178,6 +178,7 @@ module _ (objects objects' : List Payload) (names : List (List ℕ)) (code : Ann
         extends = if_told step _ (λ first past run. run_joined objects' setting first (handed slot f.state) h.state past (events (heard i) ++ events (told (h.state.last - 1) step)) run whole);
         expects = known.0;
         own = known.1;
+        asks = has.asks;
         told = subst (λ (o : Option Own). TellsBelow (length objects') (events o)) (sym has.told) has.below;
         given_back = λ first keeps. gives_back first (h.state.last - 1) h.state step known.0 has.running.stands.placed (run_keeps objects' setting first (handed slot f.state) h.state _ keeps whole);
         running = has.running;
@@ -213,6 +214,7 @@ module _ (objects objects' : List Payload) (names : List (List ℕ)) (code : Ann
         extends = tt;
         expects = refl;
         own = tt;
+        asks = tt;
         told = tt;
         given_back = λ first keeps. tt;
         running = runs;

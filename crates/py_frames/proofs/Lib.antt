@@ -20,3 +20,5 @@ mod ManagerLemmas
 pub mod RunningLemmas
 -- inputs that are taken
 pub mod HearingLemmas
+-- what instructions ask
+mod QuestionLemmas

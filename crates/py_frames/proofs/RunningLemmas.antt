@@ -38,6 +38,7 @@ use Rattle.py_frames.specs.declared.input.FrameStep.{FrameStep}
 use Rattle.py_frames.specs.declared.input.FrameStep.TheVariants as frame_step
 use Rattle.py_frames.proofs.PlainGrowth.{length_grown}
 use Rattle.py_frames.proofs.MoreLemmas.{holds_more}
+use Rattle.py_frames.proofs.QuestionLemmas.{step_asks}
 use Rattle.py_frames.proofs.ManagerLemmas.{ManagerBelow, manager_there}
 
 pub same_joined : (f g h : Framed) → IsSame f g → IsSame g h → IsSame f h
@@ -217,6 +218,7 @@ module _ (names : List (List ℕ)) (code : Annotated) (sound : IsSound names cod
           told = subst (λ (n : ℕ). told n step ≡ Some x) here is;
           run = run_on (x ∷ []) told_step;
           of = of;
+          asks = step_asks objects' (setting_of names code g) g.state h.state step x is here may;
           below = below.0;
           running = record {
             sound = sound;
