@@ -22,7 +22,7 @@ use Rattle.py_rows.specs.RunOfRows.{Hears, Steps, hearing as hearing_step, Runs,
 use Rattle.py_rows.specs.Standing.{IsPlaced, IsOf, IsStanding}
 use Rattle.py_rows.specs.Below.{HearsBelow, TellsBelow, HoldsBelow}
 use Rattle.py_rows.specs.Fitting.{AreBlocks, FitsNote, FitsAt, IsSound}
-use Rattle.py_rows.specs.Laws.{IsMoving}
+use Rattle.py_rows.specs.Laws.{AllMayTell, IsMoving}
 use Rattle.py_rows.proofs.TypingLemmas.{typed_whole}
 use Rattle.py_rows.proofs.StepLemmas.{steps_fit}
 use Rattle.py_rows.proofs.StandingLemmas.{steps_stand, steps_below}
@@ -178,7 +178,7 @@ module _ (objects objects' : List Payload) (names : List (List ℕ)) (code : Ann
         extends = if_told step _ (λ first past run. run_joined objects' setting first (handed slot f.state) h.state past (events (heard i) ++ events (told (h.state.last - 1) step)) run whole);
         expects = known.0;
         own = known.1;
-        asks = has.asks;
+        may = subst (λ (o : Option Own). AllMayTell objects' code.code (events o)) (sym has.told) has.may;
         told = subst (λ (o : Option Own). TellsBelow (length objects') (events o)) (sym has.told) has.below;
         given_back = λ first keeps. gives_back first (h.state.last - 1) h.state step known.0 has.running.stands.placed (run_keeps objects' setting first (handed slot f.state) h.state _ keeps whole);
         running = has.running;
@@ -214,7 +214,7 @@ module _ (objects objects' : List Payload) (names : List (List ℕ)) (code : Ann
         extends = tt;
         expects = refl;
         own = tt;
-        asks = tt;
+        may = tt;
         told = tt;
         given_back = λ first keeps. tt;
         running = runs;

@@ -20,5 +20,3 @@ mod ManagerLemmas
 pub mod RunningLemmas
 -- inputs that are taken
 pub mod HearingLemmas
--- what instructions ask
-mod QuestionLemmas

@@ -25,7 +25,7 @@ use Rattle.py_rows.specs.Below.{HearsBelow, TellsBelow, HoldsBelow}
 use Rattle.py_rows.specs.Fitting.{FitsAt, IsSound}
 use Rattle.py_rows.specs.Laws.{LeadsTo, AlwaysLeads, IsMoving, IsWithin}
 use Rattle.py_rows.proofs.TypingLemmas.{typed_whole, unit_kept}
-use Rattle.py_rows.proofs.StepLemmas.{next_fits, steps_fit, within}
+use Rattle.py_rows.proofs.StepLemmas.{next_fits, steps_fit, steps_tell, within}
 use Rattle.py_rows.proofs.StandingLemmas.{slot_kept, steps_stand, steps_below, events_told, silent_later}
 use Rattle.py_rows.proofs.GrowingLemmas.{fits_grown, run_grown, grows_on}
 use Rattle.py_frames.specs.Frames.{Framed, setting_of}
@@ -38,7 +38,6 @@ use Rattle.py_frames.specs.declared.input.FrameStep.{FrameStep}
 use Rattle.py_frames.specs.declared.input.FrameStep.TheVariants as frame_step
 use Rattle.py_frames.proofs.PlainGrowth.{length_grown}
 use Rattle.py_frames.proofs.MoreLemmas.{holds_more}
-use Rattle.py_frames.proofs.QuestionLemmas.{step_asks}
 use Rattle.py_frames.proofs.ManagerLemmas.{ManagerBelow, manager_there}
 
 pub same_joined : (f g h : Framed) → IsSame f g → IsSame g h → IsSame f h
@@ -218,7 +217,7 @@ module _ (names : List (List ℕ)) (code : Annotated) (sound : IsSound names cod
           told = subst (λ (n : ℕ). told n step ≡ Some x) here is;
           run = run_on (x ∷ []) told_step;
           of = of;
-          asks = step_asks objects' (setting_of names code g) g.state h.state step x is here may;
+          may = steps_tell objects' names g.scope.globals g.closure code sound g.state (x ∷ []) h.state (fits_grown objects objects' grows code g.state.wants g.state silently.fits) told_step;
           below = below.0;
           running = record {
             sound = sound;

@@ -15,7 +15,7 @@ use Rattle.py_rows.specs.Fitting.{FitsAt, IsSound}
 use Rattle.py_frames.specs.declared.input.Input.{Input}
 use Rattle.py_frames.specs.declared.input.FrameStep.{FrameStep}
 use Rattle.py_frames.specs.Frames.{Framed, setting_of, handed}
-use Rattle.py_frames.specs.Questions.{AsksOwn}
+use Rattle.py_rows.specs.Laws.{AllMayTell}
 use Rattle.py_frames.specs.Steps.{Extends, IfTold, KeepsFirst, NamesHandled, events, expected, heard, told}
 
 -- a frame of a code that it can run: it fits the notes of its code, stands where it waits, holds objects alone, and has room for the
@@ -51,7 +51,7 @@ pub record HasTold (objects : List Payload) (names : List (List ℕ)) (code : An
   pub told : told (g.state.last - 1) step ≡ Some event
   pub run : Runs objects (setting_of names code f) f.state (event ∷ []) g.state
   pub of : IsOf (g.state.last - 1) g.state event
-  pub asks : AsksOwn code.code g.state step
+  pub may : AllMayTell objects code.code (event ∷ [])
   pub below : TellsBelow (length objects) (event ∷ [])
   pub running : IsRunning objects names code g
 
@@ -67,7 +67,7 @@ pub record IsStepped (objects : List Payload) (names : List (List ℕ)) (code : 
   pub extends : IfTold step (Extends objects (setting_of names code f) (handed slot f.state) (events (heard i) ++ events (told (g.state.last - 1) step)) g.state)
   pub expects : g.state.wants ≡ expected step
   pub own : NamesHandled g.state step
-  pub asks : AsksOwn code.code g.state step
+  pub may : AllMayTell objects code.code (events (told (g.state.last - 1) step))
   pub told : TellsBelow (length objects) (events (told (g.state.last - 1) step))
   pub given_back : KeepsFirst (handed slot f.state) step g.state
   pub running : IsRunning objects names code g

@@ -9,7 +9,7 @@ ghost use Rattle.py_rows.specs.Below.{HearsBelow, TellsBelow};
 ghost use Rattle.py_rows.specs.declared.expect.Expect.TheVariants as expect;
 ghost use Rattle.py_frames.specs.Frames.{frame_object, handed, setting_of, unfilled};
 ghost use Rattle.py_frames.specs.Steps.{Expects, Extends, IfTold, KeepsFirst, NamesHandled, events, expected, heard, hearing, told};
-ghost use Rattle.py_frames.specs.Questions.{AsksOwn};
+ghost use Rattle.py_rows.specs.Laws.{AllMayTell};
 ghost use Rattle.py_frames.specs.Running.{IsRunning, IsSame, SlotFits};
 
 use crate::filled::Filled;
@@ -120,7 +120,8 @@ impl<S: ValueStack + Drop> Frame<S> {
         ensures extends { IfTold result (Extends store.new.made (setting_of names.now code.now self.old) (handed slot.old self.old.state) (events (heard input) ++ events (told (self.new.state.last - 1) result)) self.new.state) }
         ensures expects { self.new.state.wants ≡ expected result }
         ensures own { NamesHandled self.new.state result }
-        ensures asks { AsksOwn code.now.code self.new.state result }
+        // What is asked, the instruction of its unit may ask; only YieldValue yields; a raise is one of an exception.
+        ensures may { AllMayTell store.new.made code.now.code (events (told (self.new.state.last - 1) result)) }
         ensures told { TellsBelow (length store.new.made) (events (told (self.new.state.last - 1) result)) }
         ensures slot { slot.new ≡ self.new.state.slot }
         ensures given_back { KeepsFirst (handed slot.old self.old.state) result self.new.state }
