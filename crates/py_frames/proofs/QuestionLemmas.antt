@@ -42,7 +42,7 @@ use Rattle.py_rows.specs.Unwinding.{ends, left, meets, unwind, unwinds}
 use Rattle.py_rows.specs.Asked.{asked, asked_comparison, asked_operator, calls, name_of_global, name_of_local, on_none, on_one, on_two, tests}
 use Rattle.py_rows.specs.Rows.{is_there, payload_of, or_stuck, loads, asks_if, takes_off, where_there, reaches, acts_by, load_fast, delete_fast, if_popped, pop_block, pop_type, pop_exception, finally_type, in_finally, goes_on, finishes, raises, act_own, unit_move}
 use Rattle.py_rows.specs.Receiving.{answered_by, answered_own, causes, enters, enters_top, entered, asks_again, jumps_if, passes_if, raised, unit_answered, moves}
-use Rattle.py_rows.specs.RunOfRows.{MayLead, Steps, telling, hearing}
+use Rattle.py_rows.specs.RunOfRows.{MayLead}
 use Rattle.py_frames.specs.Questions.{may_ask, UnitAsks, AsksOwn}
 use Rattle.py_frames.specs.Steps.{told}
 use Rattle.py_frames.specs.declared.input.FrameStep.{FrameStep}

@@ -69,7 +69,10 @@ impl FrameCore {
             Instruction::Jump => Ok(self.transfers(stack, arg)),
             Instruction::JumpIfTrue | Instruction::JumpIfFalse => Ok(self.asks_truth(stack)),
             Instruction::SetupLoop => Ok(self.setup_loop(stack)),
-            Instruction::SetupExcept => Ok(self.opens(stack, BlockType::TryExcept { handler: arg })),
+            Instruction::SetupExcept => Ok(self.opens(
+                stack,
+                BlockType::TryExcept { handler: arg },
+            )),
             Instruction::SetupFinally => Ok(self.opens(stack, BlockType::Finally { handler: arg })),
             Instruction::EnterFinally => Ok(self.enters_finally(stack)),
             Instruction::EndFinally => Ok(self.end_finally(stack)),

@@ -114,9 +114,7 @@ impl FrameCore {
                 UnwindReason::Raising(exception) => {
                     Some(self.enter_except(stack, block.level, handler, exception))
                 }
-                UnwindReason::Returning(_)
-                | UnwindReason::Break(_)
-                | UnwindReason::Continue(_) => {
+                UnwindReason::Returning(_) | UnwindReason::Break(_) | UnwindReason::Continue(_) => {
                     lower(stack, block.level);
                     None
                 }
@@ -139,11 +137,7 @@ impl FrameCore {
 
     /// Leaves blocks for a reason, until one takes it or the frame ends.
     #[tactic(auto, unfolding(py_rows::specs::Unwinding::unwinds))]
-    pub(crate) fn unwind<S: ValueStack>(
-        &mut self,
-        stack: &mut S,
-        reason: UnwindReason,
-    ) -> UnitStep
+    pub(crate) fn unwind<S: ValueStack>(&mut self, stack: &mut S, reason: UnwindReason) -> UnitStep
         requires { let f = over self.old (S.list stack.old) (S.room stack.old) in CanDo f (unwinds reason f.state) }
         ensures { Does (unwinds reason) (over self.old (S.list stack.old) (S.room stack.old)) result (over self.new (S.list stack.new) (S.room stack.new)) }
     {

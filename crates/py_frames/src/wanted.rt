@@ -16,10 +16,8 @@ pub(crate) fn wanted(request: &Request) -> Wanted
         | Request::UnboundCell(_, _)
         | Request::NoExit(_)
         | Request::NoAExit(_) => Wanted::NoValue,
-        Request::Is(_, _)
-        | Request::Contains(_, _)
-        | Request::Truth(_)
-        | Request::Match(_, _) => Wanted::Truth,
+        Request::Is(_, _) | Request::Contains(_, _) | Request::Truth(_) | Request::Match(_, _) =>
+            Wanted::Truth,
         Request::Handled | Request::Raisable(_) => Wanted::Of(Kind::Exc),
         Request::Cause(_) => Wanted::ExceptionOrNone,
         Request::Method(_, _) => Wanted::Items(3),
