@@ -1,5 +1,5 @@
 -- What exits are told, as objects grow.
-use Rattle.std.proofs.Common.{◌≡◌, ◌<◌, ◌≤◌, List, None, Some, length, arith}
+use Rattle.std.proofs.Common.{◌≡◌, ◌<◌, List, None, Some, length, arith}
 use Rattle.py_objects.specs.declared.refs.PyBaseExceptionRef.{PyBaseExceptionRef}
 use Rattle.py_objects.specs.declared.payload.Payload.{Payload}
 use Rattle.py_objects.specs.declared.payload.Payload.TheVariants as payload

@@ -1,12 +1,11 @@
 -- Frames that take an input, and what holds behind a step.
-use Rattle.std.proofs.Common.{◌≡◌, ◌∙◌, ◌++◌, ◌+◌, ◌-◌, ◌<◌, ◌≤◌, ℕ, suc, List, [], ◌∷◌, ◌⊎◌, inl, inr, None, Some, refl, sym, ap, subst, length, arith}
+use Rattle.std.proofs.Common.{◌≡◌, ◌∙◌, ◌++◌, ◌+◌, ◌-◌, ◌<◌, ℕ, List, [], ◌∷◌, inl, inr, Some, refl, sym, ap, subst, length, arith}
 use Rattle.std.specs.Prelude.{Option, slice_get}
 use Rattle.py_objects.specs.declared.refs.PyBaseExceptionRef.{PyBaseExceptionRef}
 use Rattle.py_objects.specs.declared.payload.Payload.{Payload}
 use Rattle.py_objects.specs.declared.event.GotAnswer.TheVariants as got
 use Rattle.py_objects.specs.declared.event.ResumeHow.TheVariants as how
 use Rattle.py_objects.specs.declared.event.Ending.TheVariants as ending
-use Rattle.py_objects.specs.Objects.{number_if, AllBelow}
 use Rattle.py_objects.specs.declared.scope.Scope.{Scope}
 use Rattle.py_objects.specs.Growth.{Grows}
 use Rattle.py_objects.specs.Own.{Own, Resumes, Asks, Gets, Rounds, Yields, Ends}
@@ -19,23 +18,23 @@ use Rattle.py_rows.specs.declared.expect.Expect.TheVariants as expect
 use Rattle.py_rows.specs.States.{Setting, State, waiting}
 use Rattle.py_rows.specs.Handled.{handled_in, AllKeep, KeepsSlot}
 use Rattle.py_rows.specs.RunOfRows.{Hears, Steps, hearing as hearing_step, Runs, none, on}
-use Rattle.py_rows.specs.Standing.{IsPlaced, IsOf, IsStanding}
-use Rattle.py_rows.specs.Below.{HearsBelow, TellsBelow, HoldsBelow}
-use Rattle.py_rows.specs.Fitting.{AreBlocks, FitsNote, FitsAt, IsSound}
+use Rattle.py_rows.specs.Standing.{IsPlaced, IsOf}
+use Rattle.py_rows.specs.Below.{HearsBelow, TellsBelow}
+use Rattle.py_rows.specs.Fitting.{AreBlocks, FitsAt}
 use Rattle.py_rows.specs.Laws.{AllMayTell, IsMoving}
 use Rattle.py_rows.proofs.TypingLemmas.{typed_whole}
 use Rattle.py_rows.proofs.StepLemmas.{steps_fit}
 use Rattle.py_rows.proofs.StandingLemmas.{steps_stand, steps_below}
 use Rattle.py_rows.proofs.GrowingLemmas.{run_grown}
 use Rattle.py_frames.specs.Frames.{Framed, setting_of, handed}
-use Rattle.py_frames.specs.Steps.{Expects, Extends, GivesBack, IfTold, KeepsFirst, NamesHandled, events, expected, got_of, heard, hearing, taken, told}
+use Rattle.py_frames.specs.Steps.{Expects, GivesBack, IfTold, NamesHandled, events, expected, got_of, heard, hearing, taken, told}
 use Rattle.py_frames.specs.Running.{IsRunning, IsSame, SlotFits, HasTold, IsCut, IsStepped}
 use Rattle.py_frames.specs.declared.input.Input.{Input}
 use Rattle.py_frames.specs.declared.input.Input.TheVariants as input
 use Rattle.py_frames.specs.declared.input.FrameStep.{FrameStep}
 use Rattle.py_frames.specs.declared.input.FrameStep.TheVariants as frame_step
 use Rattle.py_frames.proofs.PlainGrowth.{length_grown}
-use Rattle.py_frames.proofs.RunningLemmas.{same_first, same_joined, run_joined, run_keeps}
+use Rattle.py_frames.proofs.RunningLemmas.{run_joined, run_keeps}
 
 -- a frame that takes an input goes on
 pub taken_moves : (objects : List Payload) (setting : Setting) (x : Expect) (i : Input) → Expects objects setting x i → IsMoving (taken i x)

@@ -1,17 +1,14 @@
 -- What loads a constant.
 use Rattle.std.proofs.Common.{◌≡◌, ◌++◌, ℕ, List, [], ◌∷◌, Some, refl, sym, ap, subst, length}
-use Rattle.std.specs.Prelude.{Option, None, slice_get, Result, Ok, Err, IfOk, OnOk, OnErr}
+use Rattle.std.specs.Prelude.{Option, slice_get, Result, Ok, Err, IfOk, OnOk, OnErr}
 use Rattle.py_code.specs.declared.literal.Literal.{Literal, None as NoneLiteral, Bool as BoolLiteral, Int as IntLiteral, Str as StrLiteral, Tuple' as TupleLiteral, Code as CodeLiteral, Builtin as BuiltinLiteral}
 use Rattle.py_objects.specs.declared.payload.Payload.{Payload}
 use Rattle.py_objects.specs.declared.payload.Payload.TheVariants as payload
 use Rattle.py_objects.specs.Objects.{Obj, HasPayload, AllBelow, payload_numbers}
 use Rattle.py_objects.specs.Growth.{GrowsPlainly}
 use Rattle.py_objects.specs.Edits.{Kept}
-use Rattle.py_rows.specs.States.{Step}
-use Rattle.py_rows.specs.Rows.{payload_of, or_stuck, loads}
-use Rattle.py_rows.specs.RunOfRows.{MayLead}
-use Rattle.py_frames.specs.Frames.{Framed}
-use Rattle.py_frames.specs.UnitSteps.{CanDo, CanMove, HasIf, IsConstant, IsLoaded}
+use Rattle.py_rows.specs.Rows.{payload_of}
+use Rattle.py_frames.specs.UnitSteps.{HasIf, IsConstant}
 use Rattle.py_frames.proofs.PlainGrowth.{grows_plainly_refl, grows_plainly_by}
 
 -- a payload that declares nothing and names nothing, so that it may come behind any objects

@@ -1,5 +1,5 @@
 -- What a row asks for a manager is on the frame's stack.
-use Rattle.std.proofs.Common.{◌≡◌, ◌<◌, ℕ, zero, suc, List, [], ◌∷◌, Some}
+use Rattle.std.proofs.Common.{◌<◌, ℕ, zero, suc, List, [], ◌∷◌, Some}
 use Rattle.std.specs.Prelude.{Option, None, slice_get}
 use Rattle.py_code.specs.declared.literal.Literal.{Literal}
 use Rattle.py_code.specs.declared.instruction.Instruction.{Instruction}
@@ -14,7 +14,7 @@ use Rattle.py_objects.specs.Objects.{Obj, AllBelow, numbers}
 use Rattle.py_check.specs.Effects.{Effect, Moves, AsksOnce, Other, effect}
 use Rattle.py_rows.specs.declared.expect.Expect.{Expect}
 use Rattle.py_rows.specs.declared.expect.Expect.TheVariants as expect
-use Rattle.py_rows.specs.States.{Setting, State, Step, Move, Plainly, Loads, Decides, Manages, Exits, begun, waiting}
+use Rattle.py_rows.specs.States.{Setting, State, Step, Move, Manages, begun, waiting}
 use Rattle.py_rows.specs.Asked.{asked}
 use Rattle.py_rows.specs.Rows.{payload_of, or_stuck, loads, acts_by, act_own, unit_move}
 use Rattle.py_rows.specs.Receiving.{answered_by, answered_own, enters, enters_top, unit_answered, moves}

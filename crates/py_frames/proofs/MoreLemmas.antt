@@ -1,8 +1,7 @@
 -- What names objects among the first ones goes on to do so as more come.
-use Rattle.std.proofs.Common.{◌<◌, ◌≤◌, ℕ, List, [], ◌∷◌, None, Some, arith}
+use Rattle.std.proofs.Common.{◌≤◌, ℕ, List, [], ◌∷◌, None, Some, arith}
 use Rattle.std.specs.Prelude.{Option}
 use Rattle.py_objects.specs.Objects.{number_if}
-use Rattle.py_objects.specs.declared.event.GotAnswer.{GotAnswer}
 use Rattle.py_rows.specs.declared.block.Block.{Block}
 use Rattle.py_rows.specs.declared.block.BlockType.{BlockType}
 use Rattle.py_rows.specs.declared.block.BlockType.TheVariants.{Loop, TryExcept, Finally, FinallyHandler, ExceptHandler}

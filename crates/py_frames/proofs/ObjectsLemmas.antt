@@ -1,5 +1,5 @@
 -- What no edit changes: truth values stay such, and so do managers, exceptions and their classes.
-use Rattle.std.proofs.Common.{◌≡◌, ◌∙◌, ℕ, zero, suc, List, [], ◌∷◌, Bool, true, false, Some, refl, sym, ap, subst}
+use Rattle.std.proofs.Common.{◌≡◌, ◌∙◌, ℕ, zero, suc, List, [], ◌∷◌, Bool, false, Some, refl, sym, ap}
 use Rattle.std.specs.Prelude.{Option, None, slice_get, slice_set}
 use Rattle.py_objects.specs.declared.payload.Payload.{Payload}
 use Rattle.py_objects.specs.declared.payload.Payload.TheVariants as payload

@@ -1,5 +1,5 @@
 -- Frames that run go on to run.
-use Rattle.std.proofs.Common.{◌≡◌, ◌∙◌, ◌++◌, ◌+◌, ◌-◌, ◌<◌, ◌≤◌, ◌^◌, ℕ, suc, List, [], ◌∷◌, Bool, None, Some, refl, sym, ap, subst, length, append-nil, append_assoc, arith}
+use Rattle.std.proofs.Common.{◌≡◌, ◌∙◌, ◌++◌, ◌+◌, ◌-◌, ◌<◌, ◌≤◌, ℕ, List, [], ◌∷◌, None, Some, refl, sym, ap, subst, length, append-nil, append_assoc, arith}
 use Rattle.std.specs.Prelude.{Option, Result, Ok, Err, OnErr}
 use Rattle.py_objects.specs.Edits.{Kept}
 use Rattle.py_objects.specs.declared.event.Ending.TheVariants as ending
@@ -9,7 +9,8 @@ use Rattle.py_objects.specs.declared.payload.Payload.{Payload}
 use Rattle.py_objects.specs.declared.payload.Payload.TheVariants as payload
 use Rattle.py_objects.specs.declared.event.GotAnswer.TheVariants as got
 use Rattle.py_objects.specs.declared.scope.Scope.{Scope}
-use Rattle.py_objects.specs.Objects.{Obj, HasPayload}
+use Rattle.py_objects.specs.declared.refs.FrameRef.{FrameRef}
+use Rattle.py_objects.specs.Objects.{Obj, AllBelow, numbers}
 use Rattle.py_objects.specs.Growth.{Grows}
 use Rattle.py_objects.specs.Own.{Own, Asks, Rounds, Yields, Ends}
 use Rattle.py_check.specs.declared.annotated.Annotated.{Annotated}
@@ -19,16 +20,16 @@ use Rattle.py_rows.specs.declared.expect.Expect.TheVariants as expect
 use Rattle.py_rows.specs.States.{Setting, State, Step, Goes, Tells, Stuck, Move, Plainly, Loads, Decides, Manages, Exits, begun}
 use Rattle.py_rows.specs.Handled.{KeepsSlot}
 use Rattle.py_rows.specs.Receiving.{moves}
-use Rattle.py_rows.specs.RunOfRows.{MayLead, Steps, silent, telling, Runs, none, on}
+use Rattle.py_rows.specs.RunOfRows.{started, MayLead, Steps, silent, telling, Runs, none, on}
 use Rattle.py_rows.specs.Standing.{IsOf, IsStanding}
 use Rattle.py_rows.specs.Below.{HearsBelow, TellsBelow, HoldsBelow}
 use Rattle.py_rows.specs.Fitting.{FitsAt, IsSound}
 use Rattle.py_rows.specs.Laws.{LeadsTo, AlwaysLeads, IsMoving, IsWithin}
-use Rattle.py_rows.proofs.TypingLemmas.{typed_whole, unit_kept}
-use Rattle.py_rows.proofs.StepLemmas.{next_fits, steps_fit, steps_tell, within}
-use Rattle.py_rows.proofs.StandingLemmas.{slot_kept, steps_stand, steps_below, events_told, silent_later}
-use Rattle.py_rows.proofs.GrowingLemmas.{fits_grown, run_grown, grows_on}
-use Rattle.py_frames.specs.Frames.{Framed, setting_of}
+use Rattle.py_rows.proofs.TypingLemmas.{unit_kept}
+use Rattle.py_rows.proofs.StepLemmas.{next_fits, start_fits, steps_fit, steps_tell, within}
+use Rattle.py_rows.proofs.StandingLemmas.{slot_kept, start_below, start_stands, steps_stand, steps_below, events_told, silent_later}
+use Rattle.py_rows.proofs.GrowingLemmas.{fits_grown, run_grown}
+use Rattle.py_frames.specs.Frames.{Framed, setting_of, unfilled}
 use Rattle.py_frames.specs.Steps.{told}
 use Rattle.py_frames.specs.Running.{IsRunning, IsSame, HasTold, IsCut}
 use Rattle.py_frames.specs.UnitSteps.{CanDo, CanMove, done, tells}
@@ -256,3 +257,32 @@ module _ (names : List (List ℕ)) (code : Annotated) (sound : IsSound names cod
           absurd (never_stuck objects' (λ t. FitsAt objects' code t.wants t) (moves (setting_of names code g) g.state.wants g.state)
           (next_fits objects' names g.scope.globals g.closure code sound g.state g.state.wants (fits_grown objects objects' grows code g.state.wants g.state silently.fits) silently.moving) may)
       by_event (Some x) is may = (x, is, may)
+
+-- a frame that was filled and hasn't begun runs
+pub fresh_runs : (objects : List Payload) (names : List (List ℕ)) (code : Annotated) (number : ℕ) (entry : FrameRef) (scope : Scope) (closure : List Obj) (room block_room : ℕ) (args : List Obj) → IsSound names code → scope.globals.number < length objects
+    → AllBelow (length objects) (numbers args) → code.code.code.max_stackdepth ≤ room → deepest code.notes ≤ block_room → IsRunning objects names code (record (unfilled code number entry scope closure room block_room) { state = started code.code None args })
+fresh_runs objects names code number entry scope closure room block_room args sound globals low has_room has_blocks = record {
+  sound = sound;
+  fits = start_fits objects names code None args sound;
+  first = None;
+  stands = start_stands code.code None args;
+  below = start_below (length objects) code.code None args tt low;
+  globals = globals;
+  within = omega arith;
+  room = omega (arith, has_room);
+  block_room = omega (arith, has_blocks);
+}
+
+-- a frame that runs goes on to run as objects are added
+pub running_grown : (objects objects' : List Payload) (names : List (List ℕ)) (code : Annotated) (f : Framed) → Grows objects objects' → IsRunning objects names code f → IsRunning objects' names code f
+running_grown objects objects' names code f grows running = record {
+  sound = running.sound;
+  fits = fits_grown objects objects' grows code f.state.wants f.state running.fits;
+  first = running.first;
+  stands = running.stands;
+  below = holds_more (length objects) (length objects') (length_grown objects objects' grows) f.state running.below;
+  globals = omega (arith, running.globals, length_grown objects objects' grows);
+  within = running.within;
+  room = running.room;
+  block_room = running.block_room;
+}

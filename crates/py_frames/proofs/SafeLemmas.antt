@@ -1,6 +1,6 @@
 -- Steps that can be made.
-use Rattle.std.proofs.Common.{◌≡◌, ◌∙◌, ◌≤◌, ◌<◌, ◌+◌, ℕ, zero, suc, List, [], ◌∷◌, ◌++◌, Bool, true, false, cond, refl, ap, subst, length, take, drop, reverse, arith}
-use Rattle.std.specs.Prelude.{Option, Some, nat_lt, replicate}
+use Rattle.std.proofs.Common.{◌≡◌, ◌∙◌, ◌≤◌, ◌<◌, ℕ, zero, suc, List, [], ◌∷◌, ◌++◌, Bool, true, false, cond, refl, ap, subst, length, take, drop, reverse, arith}
+use Rattle.std.specs.Prelude.{Option, nat_lt, replicate}
 use Rattle.std.proofs.Math.ListN.{length-replicate}
 use Rattle.std.proofs.lemmas.List.{reverse-append}
 use Rattle.py_code.specs.declared.instruction.Instruction.{Instruction}

@@ -1,6 +1,4 @@
-use Rattle.std.proofs.Common.{◌≡◌, ◌∙◌, ap}
-use Rattle.std.specs.Prelude.{true, false}
-use Rattle.py_objects.specs.declared.payload.Payload.{Payload}
+use Rattle.std.proofs.Common.{◌∙◌, ap}
 use Rattle.py_rows.specs.RunOfRows.{is_manager}
 use Rattle.py_frames.proofs.ObjectsLemmas.{manager_found, no_manager}
 use Rattle.py_frames.proofs.objects.is_manager.Goals as goal

@@ -1,11 +1,10 @@
-use Rattle.std.proofs.Common.{◌≡◌, ◌∙◌, ◌+◌, List, ◌∷◌, sym, ap, length, drop, reverse, length-drop, arith}
+use Rattle.std.proofs.Common.{◌≡◌, ◌∙◌, List, ◌∷◌, sym, ap, length, drop, reverse, length-drop, arith}
 use Rattle.py_objects.specs.declared.request.Request.TheVariants.{Call}
 use Rattle.py_objects.specs.declared.request.Keywords.TheVariants as keywords
 use Rattle.py_objects.specs.Objects.{Obj}
 use Rattle.py_rows.specs.States.{State, with_stack}
 use Rattle.py_rows.specs.Rows.{asks}
 use Rattle.py_rows.specs.Asked.{calls}
-use Rattle.py_frames.specs.Frames.{Framed, over}
 use Rattle.py_frames.proofs.SafeLemmas.{call_there, call_row}
 use Rattle.py_frames.proofs.frame_core.FrameCore.call_function.Goals as goal
 

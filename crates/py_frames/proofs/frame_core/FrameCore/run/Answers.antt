@@ -1,8 +1,5 @@
 use Rattle.std.proofs.Common.{◌<◌, refl, arith}
-use Rattle.py_rows.specs.States.{State, Goes}
-use Rattle.py_rows.specs.Receiving.{moves}
-use Rattle.py_rows.specs.RunOfRows.{MayLead}
-use Rattle.py_frames.specs.Frames.{Framed, over, setting_of}
+use Rattle.py_frames.specs.Frames.{over}
 use Rattle.py_frames.proofs.PlainGrowth.{plainly_grows, grows_plainly_refl, grows_plainly_trans}
 use Rattle.py_frames.proofs.RunningLemmas.{silent_first, unit_there, can_move, row_goes, row_tells, silent_falls, silent_on, told_there, tells_on, cut_short, store_on, erred}
 use Rattle.py_frames.proofs.frame_core.FrameCore.run.Goals as goal

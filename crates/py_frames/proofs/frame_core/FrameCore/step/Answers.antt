@@ -1,5 +1,4 @@
 use Rattle.std.proofs.Common.{sym, ap, subst}
-use Rattle.py_objects.specs.Objects.{Obj}
 use Rattle.py_frames.specs.Frames.{Framed, over}
 use Rattle.py_frames.specs.Running.{IsRunning, IsSame, HasTold}
 use Rattle.py_frames.proofs.PlainGrowth.{plainly_grows}
