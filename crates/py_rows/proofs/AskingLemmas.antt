@@ -2,7 +2,7 @@
 use Rattle.std.proofs.Common.{◌≡◌, ◌∙◌, ◌<◌, ℕ, zero, suc, List, [], ◌∷◌, Option, None, Some, Bool, true, false, cond, ◌⊎◌, inl, inr, ⊎_elim, subst, refl, sym, ap, length, reverse, arith}
 use Rattle.std.proofs.lemmas.List.{length-reverse}
 use Rattle.std.specs.Prelude.{slice_get, nat_lt, option_map, chars, replicate}
-use Rattle.std.proofs.lemmas.Bool.{ltb-true, both_ways}
+use Rattle.std.proofs.lemmas.Bool.{both_ways, cases_lt, le-ltb}
 use Rattle.std.proofs.Math.ListN.{length-replicate}
 use Rattle.py_code.specs.declared.unit.CodeUnit.{CodeUnit}
 use Rattle.py_code.specs.declared.instruction.Instruction.{Instruction}
@@ -22,8 +22,7 @@ use Rattle.py_check.specs.declared.note.Kind.{Kind}
 use Rattle.py_check.specs.declared.note.Kind.TheVariants as kind
 use Rattle.py_check.specs.declared.annotated.Annotated.{Annotated}
 use Rattle.py_check.specs.Effects.{Effect, Moves, AsksOnce, Other, effect, is_tested, has_operand}
-use Rattle.py_rows.specs.Rows.{is_there}
-use Rattle.py_check.specs.Sheet.{sheet_of}
+use Rattle.py_check.specs.Sheet.{Sheet, sheet_of}
 use Rattle.py_rows.specs.States.{Setting}
 use Rattle.py_rows.proofs.BelowLemmas.{joined_below, reverse_below}
 use Rattle.py_rows.specs.Answers.{wanted, Suits}
@@ -40,56 +39,41 @@ AsksAs op (Moves n places) f = Unit {0}
 AsksAs op (AsksOnce taken pushes) f = (vs : List Obj) → length vs ≡ length taken → Wants op pushes (f vs)
 AsksAs op Other f = Unit {0}
 
--- operators that the rules admit are asked
-operator_there : (op : Option BinaryOperator) → asks_operator op ≡ true → is_there (asked_operator op) ≡ true
-operator_there None runs = cc
-operator_there (Some op) runs = rw runs refl
-
-comparison_there : (op : Option ComparisonOperator) → asks_comparison op ≡ true → is_there (asked_comparison op) ≡ true
-comparison_there None runs = cc
-comparison_there (Some op) runs = rw runs refl
-
--- and those that are asked are operators that run so far
-operator_runs : (o : Option BinaryOperator) (op : BinaryOperator) → asked_operator o ≡ Some op → is_asked op ≡ true
-operator_runs None op is = absurd (cc is)
-operator_runs (Some x) op is = by_test (is_asked x) refl is
-  where
-    by_test : (b : Bool) → is_asked x ≡ b → cond b (Some x) None ≡ Some op → is_asked op ≡ true
-    by_test true runs is = let same : x ≡ op = cc in subst (λ (y : BinaryOperator). is_asked y ≡ true) same runs
-    by_test false runs is = absurd (cc is)
-
-comparison_runs : (o : Option ComparisonOperator) (op : ComparisonOperator) → asked_comparison o ≡ Some op → is_compared op ≡ true
-comparison_runs None op is = absurd (cc is)
-comparison_runs (Some x) op is = by_test (is_compared x) refl is
-  where
-    by_test : (b : Bool) → is_compared x ≡ b → cond b (Some x) None ≡ Some op → is_compared op ≡ true
-    by_test true runs is = let same : x ≡ op = cc in subst (λ (y : ComparisonOperator). is_compared y ≡ true) same runs
-    by_test false runs is = absurd (cc is)
-
--- whether what an instruction's operand speaks of is there, and runs so far
-abbrev pub operand_there : Setting → Instruction → ℕ → Bool
-operand_there setting LoadGlobal i = is_there (name_of_global setting i)
-operand_there setting BinaryOperation i = is_there (asked_operator (slice_get binary_operators i))
-operand_there setting CompareOperation i = is_there (asked_comparison (slice_get comparison_operators i))
-operand_there setting TestOperation i = is_tested (slice_get test_operators i)
-operand_there setting _ i = true
-
-module _ (Gap : Type 0) (setting : Setting) where
+-- a name of globals that isn't there is out of range, or there is a gap
+module _ (Gap : Type 0) (setting : Setting) (sheet : Sheet) (places : (i : ℕ) → name_of_global setting i ≡ None → (nat_lt i sheet.names ≡ false → Gap) → Gap) where
   -- a request wants what is pushed, names the globals and the operands at most, and is one that the instruction may ask; where there is
   -- none, there is a gap
   abbrev pub Asks : Instruction → Option Kind → List Obj → Option Request → Type 0
   Asks op pushes vs None = Gap
   Asks op pushes vs (Some r) = Suits (wanted r) (wanted_of pushes) × ((n : ℕ) → setting.globals.number < n → AllBelow n (numbers vs) → AllBelow n (request_numbers r)) × (may_ask op r ≡ true)
 
-  -- the same of an effect, where there is a gap only by a wrong number of operands or an operand that isn't there
+  -- the same of an effect, where there is a gap only by a wrong number of operands or an operand that is out of range
   abbrev pub AsksAny : Instruction → Bool → Effect → (List Obj → Option Request) → Type 0
   AsksAny op there (Moves n places) f = Unit {0}
   AsksAny op there (AsksOnce taken pushes) f = (vs : List Obj) → ((length vs ≡ length taken → ⊥) ⊎ (there ≡ false) → Gap) → Asks op pushes vs (f vs)
   AsksAny op there Other f = Unit {0}
 
-  mapped : {A : Type 0} (op : Instruction) (pushes : Option Kind) (vs : List Obj) (o : Option A) (f : A → Request) → (is_there o ≡ false → Gap) → ((x : A) → o ≡ Some x → Asks op pushes vs (Some (f x))) → Asks op pushes vs (option_map f o)
-  mapped op pushes vs None f gap asks = gap refl
-  mapped op pushes vs (Some x) f gap asks = asks x refl
+  -- what an operand speaks of: a name, an operator, a comparison
+  by_name : (op : Instruction) (pushes : Option Kind) (vs : List Obj) (i : ℕ) (f : Name → Request) → (nat_lt i sheet.names ≡ false → Gap) → ((x : Name) → Asks op pushes vs (Some (f x))) → Asks op pushes vs (option_map f (name_of_global setting i))
+  by_name op pushes vs i f gap asks = by_cases (name_of_global setting i) refl
+    where
+      by_cases : (name : Option Name) → name_of_global setting i ≡ name → Asks op pushes vs (option_map f name)
+      by_cases None is = places i is gap
+      by_cases (Some x) is = asks x
+
+  sieved : {A : Type 0} (op : Instruction) (pushes : Option Kind) (vs : List Obj) (b : Bool) (x : A) (f : A → Request) → (b ≡ false → Gap) → (b ≡ true → Asks op pushes vs (Some (f x))) → Asks op pushes vs (option_map f (cond b (Some x) None))
+  sieved op pushes vs true x f gap asks = asks refl
+  sieved op pushes vs false x f gap asks = gap refl
+
+  by_operator : (op : Instruction) (pushes : Option Kind) (vs : List Obj) (o : Option BinaryOperator) (f : BinaryOperator → Request) → (asks_operator o ≡ false → Gap) → ((x : BinaryOperator) → is_asked x ≡ true → Asks op pushes vs (Some (f x)))
+      → Asks op pushes vs (option_map f (asked_operator o))
+  by_operator op pushes vs None f gap asks = gap refl
+  by_operator op pushes vs (Some x) f gap asks = sieved op pushes vs (is_asked x) x f gap (asks x)
+
+  by_comparison : (op : Instruction) (pushes : Option Kind) (vs : List Obj) (o : Option ComparisonOperator) (f : ComparisonOperator → Request) → (asks_comparison o ≡ false → Gap) → ((x : ComparisonOperator) → is_compared x ≡ true → Asks op pushes vs (Some (f x)))
+      → Asks op pushes vs (option_map f (asked_comparison o))
+  by_comparison op pushes vs None f gap asks = gap refl
+  by_comparison op pushes vs (Some x) f gap asks = sieved op pushes vs (is_compared x) x f gap (asks x)
 
   none_asked : (op : Instruction) (pushes : Option Kind) (r : Option Request) (vs : List Obj) → ((length vs ≡ 0 → ⊥) → Gap) → Asks op pushes [] r → Asks op pushes vs (on_none r vs)
   none_asked op pushes r [] gap asks = asks
@@ -115,12 +99,12 @@ module _ (Gap : Type 0) (setting : Setting) where
   tested (Some test.ExceptionMatch) a b gap = (λ objects v is. tt, λ n there low. (low.1.0, (low.0, tt)), refl)
   tested _ a b gap = gap refl
 
-  pub asked_as : (op : Instruction) (i : ℕ) → AsksAny op (operand_there setting op i) (effect op i) (asked setting op i)
-  asked_as LoadGlobal i = λ vs gap. none_asked LoadGlobal (Some kind.Any) _ vs (λ no. gap (inl no)) (mapped LoadGlobal (Some kind.Any) [] (name_of_global setting i) _ (λ no. gap (inr no)) (λ x is. (λ objects v is. tt, λ n there low. (there, tt), refl)))
+  pub asked_as : (op : Instruction) (i : ℕ) → AsksAny op (has_operand sheet op i) (effect op i) (asked setting op i)
+  asked_as LoadGlobal i = λ vs gap. none_asked LoadGlobal (Some kind.Any) _ vs (λ no. gap (inl no)) (by_name LoadGlobal (Some kind.Any) [] i _ (λ no. gap (inr no)) (λ x. (λ objects v is. tt, λ n there low. (there, tt), refl)))
   asked_as BinaryOperation i =
-      λ vs gap. two_asked BinaryOperation (Some kind.Any) _ vs (λ no. gap (inl no)) (λ a b. mapped BinaryOperation (Some kind.Any) (b ∷ a ∷ []) (asked_operator (slice_get binary_operators i)) _ (λ no. gap (inr no)) (λ op is. (λ objects v is. tt, λ n there low. (low.1.0, (low.0, tt)), operator_runs (slice_get binary_operators i) op is)))
+      λ vs gap. two_asked BinaryOperation (Some kind.Any) _ vs (λ no. gap (inl no)) (λ a b. by_operator BinaryOperation (Some kind.Any) (b ∷ a ∷ []) (slice_get binary_operators i) _ (λ no. gap (inr no)) (λ x runs. (λ objects v is. tt, λ n there low. (low.1.0, (low.0, tt)), runs)))
   asked_as CompareOperation i =
-      λ vs gap. two_asked CompareOperation (Some kind.Any) _ vs (λ no. gap (inl no)) (λ a b. mapped CompareOperation (Some kind.Any) (b ∷ a ∷ []) (asked_comparison (slice_get comparison_operators i)) _ (λ no. gap (inr no)) (λ op is. (λ objects v is. tt, λ n there low. (low.1.0, (low.0, tt)), comparison_runs (slice_get comparison_operators i) op is)))
+      λ vs gap. two_asked CompareOperation (Some kind.Any) _ vs (λ no. gap (inl no)) (λ a b. by_comparison CompareOperation (Some kind.Any) (b ∷ a ∷ []) (slice_get comparison_operators i) _ (λ no. gap (inr no)) (λ x runs. (λ objects v is. tt, λ n there low. (low.1.0, (low.0, tt)), runs)))
   asked_as TestOperation i = λ vs gap. two_asked TestOperation (Some kind.Any) _ vs (λ no. gap (inl no)) (λ a b. tested (slice_get test_operators i) a b (λ no. gap (inr no)))
   asked_as CallFunctionPositional k = λ vs gap. called k (reverse vs) vs refl (λ no. gap (inl no))
   asked_as PrintExpr i = λ vs gap. one_asked PrintExpr None _ vs (λ no. gap (inl no)) (λ v. (λ objects v is. tt, λ n there low. low, refl))
@@ -142,31 +126,22 @@ named names ids i places below =
     let (text, there) = got_there names id.index (places i id is) in
     (chars text, ap (name_in names) is ∙ ap (option_map chars) there)
 
-pub is_named : (names : List (List ℕ)) (ids : List NameId) (i : ℕ) → ArePlaces names ids → nat_lt i (length ids) ≡ true → is_there (name_in names (slice_get ids i)) ≡ true
-is_named names ids i places below =
-    let (x, is) = named names ids i places (ltb-true i (length ids) below) in
-    ap is_there is
-
--- an operand in range is there
-operand_is : (names : List (List ℕ)) (globals : Obj) (closure : List Obj) (code : Annotated) → AreNames names code.code → (op : Instruction) (i : ℕ) → has_operand (sheet_of code) op i ≡ true → operand_there (record { code = code.code; names = names; globals = globals; closure = closure }) op i ≡ true
-operand_is names globals closure code are LoadGlobal i there = is_named names code.code.code.names.items i are.globals there
-operand_is names globals closure code are BinaryOperation i there = operator_there (slice_get binary_operators i) there
-operand_is names globals closure code are CompareOperation i there = comparison_there (slice_get comparison_operators i) there
-operand_is names globals closure code are TestOperation i there = there
-operand_is names globals closure code are _ i there = refl
-
 pub asked_there : (names : List (List ℕ)) (globals : Obj) (closure : List Obj) (code : Annotated) → AreNames names code.code → (op : Instruction) (i : ℕ) → has_operand (sheet_of code) op i ≡ true
     → AsksAs op (effect op i) (asked (record { code = code.code; names = names; globals = globals; closure = closure }) op i)
-asked_there names globals closure code are op i there = by_effect (effect op i) (asked setting op i) (operand_there setting op i) (operand_is names globals closure code are op i there) (asked_as ⊥ setting op i)
+asked_there names globals closure code are op i there = by_effect (effect op i) (asked setting op i) (has_operand (sheet_of code) op i) there (asked_as ⊥ setting (sheet_of code) places op i)
   where
     setting : Setting
     setting = record { code = code.code; names = names; globals = globals; closure = closure }
 
-    wants : (pushes : Option Kind) (vs : List Obj) (r : Option Request) → Asks ⊥ setting op pushes vs r → Wants op pushes r
+    -- a name that isn't there is out of range
+    places : (j : ℕ) → name_of_global setting j ≡ None → (nat_lt j (length code.code.code.names.items) ≡ false → ⊥) → ⊥
+    places j none gap = ⊎_elim (λ below. let (x, is) = named names code.code.code.names.items j are.globals below in cc) (λ over. gap (le-ltb j (length code.code.code.names.items) over)) (cases_lt j (length code.code.code.names.items))
+
+    wants : (pushes : Option Kind) (vs : List Obj) (r : Option Request) → Asks ⊥ setting (sheet_of code) places op pushes vs r → Wants op pushes r
     wants pushes vs None asks = absurd asks
     wants pushes vs (Some r) asks = (asks.0, asks.2)
 
-    by_effect : (e : Effect) (f : List Obj → Option Request) (b : Bool) → b ≡ true → AsksAny ⊥ setting op b e f → AsksAs op e f
-    by_effect (Moves n places) f b is asks = tt
+    by_effect : (e : Effect) (f : List Obj → Option Request) (b : Bool) → b ≡ true → AsksAny ⊥ setting (sheet_of code) places op b e f → AsksAs op e f
+    by_effect (Moves n ps) f b is asks = tt
     by_effect (AsksOnce taken pushes) f b is asks = λ vs count. wants pushes vs (f vs) (asks vs (λ m. ⊎_elim (λ no. no count) (λ no. both_ways b no is) m))
     by_effect Other f b is asks = tt

@@ -7,7 +7,8 @@ use Rattle.py_objects.specs.declared.request.Request.{Request}
 use Rattle.py_objects.specs.declared.request.Request.TheVariants as request
 use Rattle.py_objects.specs.Objects.{Obj, Name, AllBelow, numbers, number_if, request_numbers}
 use Rattle.py_check.specs.declared.note.Kind.{Kind}
-use Rattle.py_check.specs.Effects.{Effect, Moves, AsksOnce, Other, effect}
+use Rattle.py_check.specs.Effects.{Effect, Moves, AsksOnce, Other, effect, has_operand}
+use Rattle.py_check.specs.Sheet.{Sheet, sheet_of}
 use Rattle.py_rows.specs.declared.block.Block.{Block}
 use Rattle.py_rows.specs.declared.block.BlockType.{BlockType}
 use Rattle.py_rows.specs.declared.block.BlockType.TheVariants.{Loop, TryExcept, Finally, FinallyHandler, ExceptHandler}
@@ -19,7 +20,7 @@ use Rattle.py_rows.specs.Asked.{asked}
 use Rattle.py_rows.specs.Rows.{raised_by, raised_of, raised_in}
 use Rattle.py_rows.specs.RunOfRows.{filled}
 use Rattle.py_rows.specs.Below.{ReasonBelow, IfBelow, TypeBelow, BlocksBelow}
-use Rattle.py_rows.proofs.AskingLemmas.{Asks, AsksAny, operand_there, asked_as}
+use Rattle.py_rows.proofs.AskingLemmas.{Asks, AsksAny, asked_as}
 
 -- a place of a list after one was set
 pub set_there : (n : ℕ) (xs : List (Option Obj)) (i j : ℕ) (x : Option Obj) (w : Obj) → ((v : Obj) → x ≡ Some v → v.number < n) → ((k : ℕ) (u : Obj) → slice_get xs k ≡ Some (Some u) → u.number < n)
@@ -69,13 +70,16 @@ AsksBelow n (AsksOnce wanted pushes) f = (vs : List Obj) → AllBelow n (numbers
 AsksBelow n Other f = Unit {0}
 
 pub asked_below : (n : ℕ) (setting : Setting) (op : Instruction) (i : ℕ) → setting.globals.number < n → AsksBelow n (effect op i) (asked setting op i)
-asked_below n setting op i there = by_effect (effect op i) (asked setting op i) (asked_as (Unit {0}) setting op i)
+asked_below n setting op i there = by_effect (effect op i) (asked setting op i) (asked_as (Unit {0}) setting sheet (λ j none gap. tt) op i)
   where
-    below : (pushes : Option Kind) (vs : List Obj) (r : Option Request) → AllBelow n (numbers vs) → Asks (Unit {0}) setting op pushes vs r → RequestBelow n r
+    sheet : Sheet
+    sheet = sheet_of (record { code = setting.code; notes = [] })
+
+    below : (pushes : Option Kind) (vs : List Obj) (r : Option Request) → AllBelow n (numbers vs) → Asks (Unit {0}) setting sheet (λ j none gap. tt) op pushes vs r → RequestBelow n r
     below pushes vs None low asks = tt
     below pushes vs (Some r) low asks = asks.1 n there low
 
-    by_effect : (e : Effect) (f : List Obj → Option Request) → AsksAny (Unit {0}) setting op (operand_there setting op i) e f → AsksBelow n e f
+    by_effect : (e : Effect) (f : List Obj → Option Request) → AsksAny (Unit {0}) setting sheet (λ j none gap. tt) op (has_operand sheet op i) e f → AsksBelow n e f
     by_effect (Moves k places) f asks = tt
     by_effect (AsksOnce wanted pushes) f asks = λ vs low. below pushes vs (f vs) low (asks vs (λ m. tt))
     by_effect Other f asks = tt
