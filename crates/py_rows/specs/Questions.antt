@@ -14,71 +14,26 @@ abbrev pub is_positional : Keywords → Bool
 is_positional keywords.None = true
 is_positional _ = false
 
--- the questions of each instruction that asks so far
-abbrev pub asks_unbound : Request → Bool
-asks_unbound (request.Unbound x) = true
-asks_unbound _ = false
-
-abbrev pub asks_global : Request → Bool
-asks_global (request.Global globals x) = true
-asks_global _ = false
-
-abbrev pub asks_binary : Request → Bool
-asks_binary (request.Binary op a b) = is_asked op
-asks_binary _ = false
-
-abbrev pub asks_compare : Request → Bool
-asks_compare (request.Compare op a b) = is_compared op
-asks_compare _ = false
-
-abbrev pub asks_match : Request → Bool
-asks_match (request.Match e c) = true
-asks_match _ = false
-
-abbrev pub asks_call : Request → Bool
-asks_call (request.Call f vs named) = is_positional named
-asks_call _ = false
-
-abbrev pub asks_show : Request → Bool
-asks_show (request.Show v) = true
-asks_show _ = false
-
-abbrev pub asks_truth : Request → Bool
-asks_truth (request.Truth v) = true
-asks_truth _ = false
-
-abbrev pub asks_manager : Request → Bool
-asks_manager (request.Enter m) = true
-asks_manager (request.NoExit m) = true
-asks_manager _ = false
-
-abbrev pub asks_exit : Request → Bool
-asks_exit (request.Exit x t v b) = true
-asks_exit _ = false
-
-abbrev pub asks_exception : Request → Bool
-asks_exception request.Handled = true
-asks_exception (request.Raisable v) = true
-asks_exception (request.Cause c) = true
-asks_exception _ = false
-
 -- whether an instruction may ask this
 abbrev pub may_ask : Instruction → Request → Bool
-may_ask LoadFast r = asks_unbound r
-may_ask DeleteFast r = asks_unbound r
-may_ask LoadGlobal r = asks_global r
-may_ask BinaryOperation r = asks_binary r
-may_ask CompareOperation r = asks_compare r
-may_ask TestOperation r = asks_match r
-may_ask CallFunctionPositional r = asks_call r
-may_ask PrintExpr r = asks_show r
-may_ask JumpIfTrue r = asks_truth r
-may_ask JumpIfFalse r = asks_truth r
-may_ask SetupWith r = asks_manager r
-may_ask WithCleanupStart r = asks_exit r
-may_ask WithCleanupFinish r = asks_truth r
-may_ask Raise r = asks_exception r
-may_ask _ r = false
+may_ask LoadFast (request.Unbound x) = true
+may_ask DeleteFast (request.Unbound x) = true
+may_ask LoadGlobal (request.Global globals x) = true
+may_ask BinaryOperation (request.Binary op a b) = is_asked op
+may_ask CompareOperation (request.Compare op a b) = is_compared op
+may_ask TestOperation (request.Match e c) = true
+may_ask CallFunctionPositional (request.Call f vs named) = is_positional named
+may_ask PrintExpr (request.Show v) = true
+may_ask JumpIfTrue (request.Truth v) = true
+may_ask JumpIfFalse (request.Truth v) = true
+may_ask SetupWith (request.Enter m) = true
+may_ask SetupWith (request.NoExit m) = true
+may_ask WithCleanupStart (request.Exit x t v b) = true
+may_ask WithCleanupFinish (request.Truth v) = true
+may_ask Raise request.Handled = true
+may_ask Raise (request.Raisable v) = true
+may_ask Raise (request.Cause c) = true
+may_ask _ _ = false
 
 -- a unit may ask this
 abbrev pub UnitAsks : Option CodeUnit → Request → Type 0
