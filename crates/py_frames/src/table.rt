@@ -1,11 +1,12 @@
 //! Instructions that the table of effects describes.
 
-ghost use Rattle.std.specs.Prelude.{◌≡◌, ◌+◌, ◌^◌, ◌<◌, reverse, slice_get, Some, true, IfOk, OnErr};
+ghost use Rattle.std.specs.Prelude.{◌≡◌, ◌+◌, ◌^◌, ◌<◌, length, reverse, slice_get, Some, true, IfOk, OnOk, OnErr};
 ghost use Rattle.py_code.specs.declared.instruction.Instruction.TheVariants as instruction;
 ghost use Rattle.py_code.specs.Numbers.{test_operators};
 ghost use Rattle.py_check.specs.Effects.{effect};
 ghost use Rattle.py_rows.specs.Asked.{asked, calls, name_in, on_two, tests};
-ghost use Rattle.py_rows.specs.Rows.{asks_once, is_there};
+ghost use Rattle.py_rows.specs.States.{with_stack};
+ghost use Rattle.py_rows.specs.Rows.{asks, asks_once, is_there};
 ghost use Rattle.py_frames.specs.Frames.{over, setting_in};
 ghost use Rattle.py_frames.specs.UnitSteps.{CanDo, Does, asks_by, moves_by};
 
@@ -72,65 +73,84 @@ impl FrameCore {
         ensures row { IfOk result (λ step. Does (asks_by (effect op arg) (asked (setting_in code.now names.now self.old) op arg)) (over self.old (S.list stack.old) (S.room stack.old)) step (over self.new (S.list stack.new) (S.room stack.new))) }
         ensures err { OnErr result (over self.new (S.list stack.new) (S.room stack.new) ≡ over self.old (S.list stack.old) (S.room stack.old)) }
     {
+        let request = self.request(stack, alloc, code, names, op, arg)?;
+        Ok(self.asks(stack, request))
+    }
+
+    /// Takes the operands of an instruction off, and hands over what it asks of them.
+    fn request<S: ValueStack>(
+        &self,
+        stack: &mut S,
+        alloc: Global,
+        code: &PyCode,
+        names: &Names,
+        op: Instruction,
+        arg: u32,
+    ) -> Result<Request, NoMemory>
+        requires safe { let f = over self.now (S.list stack.old) (S.room stack.old) in CanDo f (asks_by (effect op arg) (asked (setting_in code.now names.now f) op arg) f.state) }
+        ensures request { IfOk result (λ request. asks_by (effect op arg) (asked (setting_in code.now names.now self.now) op arg) (with_stack (S.list stack.old) self.now.state) ≡ asks request (with_stack (S.list stack.new) self.now.state)) }
+        ensures places { OnOk result (length (S.list stack.new) + S.room stack.new ≡ length (S.list stack.old) + S.room stack.old) }
+        ensures err_list { OnErr result (S.list stack.new ≡ S.list stack.old) }
+        ensures err_room { OnErr result (S.room stack.new ≡ S.room stack.old) }
+    {
         match op {
             Instruction::LoadGlobal => {
                 let name = name_of_global(alloc, code, names, arg as usize)?;
-                let globals = self.globals();
-                Ok(self.asks(stack, Request::Global(globals, name)))
+                Ok(Request::Global(self.globals(), name))
             }
             Instruction::BinaryOperation => {
                 let Ok(operator) = BinaryOperator::try_from(arg) else {
                     unreachable!();
                 };
                 let (left, right) = pop_two(stack);
-                Ok(self.asks(stack, Request::Binary(operator, left, right)))
+                Ok(Request::Binary(operator, left, right))
             }
             Instruction::CompareOperation => {
                 let Ok(operator) = ComparisonOperator::try_from(arg) else {
                     unreachable!();
                 };
                 let (left, right) = pop_two(stack);
-                Ok(self.asks(stack, Request::Compare(operator, left, right)))
+                Ok(Request::Compare(operator, left, right))
             }
-            Instruction::TestOperation => Ok(self.test_operation(stack, arg)),
-            Instruction::CallFunctionPositional => self.call_function(stack, alloc, arg as usize),
-            Instruction::PrintExpr => {
-                let value = stack.pop();
-                Ok(self.asks(stack, Request::Show(value)))
-            }
+            Instruction::TestOperation => Ok(self.test_request(stack, arg)),
+            Instruction::CallFunctionPositional => self.call_request(stack, alloc, arg as usize),
+            Instruction::PrintExpr => Ok(Request::Show(stack.pop())),
             _ => unreachable!(),
         }
     }
 
-    /// Asks a test of the top two values, the left one of which lies lower.
-    fn test_operation<S: ValueStack>(&mut self, stack: &mut S, arg: u32) -> UnitStep
-        requires { let f = over self.old (S.list stack.old) (S.room stack.old) in CanDo f (asks_once 2 (λ vs. on_two (λ a b. tests (slice_get test_operators arg) a b) vs) f.state) }
-        ensures { Does (asks_once 2 (λ vs. on_two (λ a b. tests (slice_get test_operators arg) a b) vs)) (over self.old (S.list stack.old) (S.room stack.old)) result (over self.new (S.list stack.new) (S.room stack.new)) }
+    /// A test of the top two values, the left one of which lies lower.
+    fn test_request<S: ValueStack>(&self, stack: &mut S, arg: u32) -> Request
+        requires { let f = over self.now (S.list stack.old) (S.room stack.old) in CanDo f (asks_once 2 (λ vs. on_two (λ a b. tests (slice_get test_operators arg) a b) vs) f.state) }
+        ensures request { asks_once 2 (λ vs. on_two (λ a b. tests (slice_get test_operators arg) a b) vs) (with_stack (S.list stack.old) self.now.state) ≡ asks result (with_stack (S.list stack.new) self.now.state) }
+        ensures places { length (S.list stack.new) + S.room stack.new ≡ length (S.list stack.old) + S.room stack.old }
     {
         let Ok(operator) = TestOperator::try_from(arg) else {
             unreachable!();
         };
         let (left, right) = pop_two(stack);
         match operator {
-            TestOperator::ExceptionMatch => self.asks(stack, Request::Match(left, right)),
+            TestOperator::ExceptionMatch => Request::Match(left, right),
             _ => unreachable!(),
         }
     }
 
-    /// Asks for a call with the top `count` values in order, whose callee lies under them.
-    fn call_function<S: ValueStack>(
-        &mut self,
+    /// A call with the top `count` values in order, whose callee lies under them.
+    fn call_request<S: ValueStack>(
+        &self,
         stack: &mut S,
         alloc: Global,
         count: usize,
-    ) -> Result<UnitStep, NoMemory>
-        requires safe { let f = over self.old (S.list stack.old) (S.room stack.old) in CanDo f (asks_by (effect instruction.CallFunctionPositional count) (λ vs. calls (reverse vs)) f.state) }
-        ensures row { IfOk result (λ step. Does (asks_by (effect instruction.CallFunctionPositional count) (λ vs. calls (reverse vs))) (over self.old (S.list stack.old) (S.room stack.old)) step (over self.new (S.list stack.new) (S.room stack.new))) }
-        ensures err { OnErr result ((over self.new (S.list stack.new) (S.room stack.new)) ≡ (over self.old (S.list stack.old) (S.room stack.old))) }
+    ) -> Result<Request, NoMemory>
+        requires safe { let f = over self.now (S.list stack.old) (S.room stack.old) in CanDo f (asks_by (effect instruction.CallFunctionPositional count) (λ vs. calls (reverse vs)) f.state) }
+        ensures request { IfOk result (λ request. asks_by (effect instruction.CallFunctionPositional count) (λ vs. calls (reverse vs)) (with_stack (S.list stack.old) self.now.state) ≡ asks request (with_stack (S.list stack.new) self.now.state)) }
+        ensures places { OnOk result (length (S.list stack.new) + S.room stack.new ≡ length (S.list stack.old) + S.room stack.old) }
+        ensures err_list { OnErr result (S.list stack.new ≡ S.list stack.old) }
+        ensures err_room { OnErr result (S.room stack.new ≡ S.room stack.old) }
     {
         let arguments = pop_many(stack, alloc, count)?;
         let callee = stack.pop();
-        Ok(self.asks(stack, Request::Call(callee, arguments, Keywords::None)))
+        Ok(Request::Call(callee, arguments, Keywords::None))
     }
 }
 

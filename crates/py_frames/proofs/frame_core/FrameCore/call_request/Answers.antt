@@ -6,7 +6,7 @@ use Rattle.py_rows.specs.States.{State, with_stack}
 use Rattle.py_rows.specs.Rows.{asks}
 use Rattle.py_rows.specs.Asked.{calls}
 use Rattle.py_frames.proofs.SafeLemmas.{call_there, call_row}
-use Rattle.py_frames.proofs.frame_core.FrameCore.call_function.Goals as goal
+use Rattle.py_frames.proofs.frame_core.FrameCore.call_request.Goals as goal
 
 pub pop_many-requires : goal.pop_many-requires
 pop_many-requires g c = omega (arith, call_there _ _ c.args.count (λ vs. calls (reverse vs)) (with_stack (g.S.ValueStack.list c.args.stack.now) c.args.self.now.state) c.requires.safe)
@@ -17,22 +17,10 @@ pop-callee-requires g c =
     let count : length (g.S.ValueStack.list c.pop_many.new.stack) ≡ length (drop c.args.count stack) = ap length c.in_ok-arguments.ensures.list in
     omega (arith, count, length-drop c.args.count stack, call_there _ _ c.args.count (λ vs. calls (reverse vs)) (with_stack stack c.args.self.now.state) c.requires.safe)
 
-pub returns-clause-row : goal.returns-clause-row
-returns-clause-row g c =
+pub returns-clause-request : goal.returns-clause-request
+returns-clause-request g c =
     let stack : List Obj = g.S.ValueStack.list c.args.stack.now in
     let under : List Obj = g.S.ValueStack.list c.pop-callee.new.self in
     let s : State = with_stack stack c.args.self.now.state in
     let lies : drop c.args.count stack ≡ c.pop-callee.result ∷ under = sym c.in_ok-arguments.ensures.list ∙ c.pop-callee.ensures.list in
-    let count : length (g.S.ValueStack.list c.pop_many.new.stack) ≡ length (c.pop-callee.result ∷ under) = ap length c.pop-callee.ensures.list in
-    record {
-      row = call_row c.args.count s c.pop-callee.result under lies
-          ∙ ap (λ (vs : List Obj). asks (Call c.pop-callee.result vs keywords.None) (with_stack under s)) (sym c.in_ok-arguments.ensures.values) ∙ c.asks.ensures.row;
-      same = record {
-        code = c.asks.ensures.same.code;
-        entry = c.asks.ensures.same.entry;
-        scope = c.asks.ensures.same.scope;
-        closure = c.asks.ensures.same.closure;
-        room = c.asks.ensures.same.room ∙ omega (arith, count, c.pop-callee.ensures.room, c.in_ok-arguments.ensures.room);
-        block_room = c.asks.ensures.same.block_room;
-      };
-    }
+    call_row c.args.count s c.pop-callee.result under lies ∙ ap (λ (vs : List Obj). asks (Call c.pop-callee.result vs keywords.None) (with_stack under s)) (sym c.in_ok-arguments.ensures.values)
