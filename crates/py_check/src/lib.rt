@@ -16,6 +16,3 @@ pub use laws::laws_of_rules;
 pub use note::{BlockList, BlockNote, Kind, KindList, Note, NoteList, Pending, PendingSet};
 pub use typing_laws::laws_of_typing;
 pub use worked::{worked_blocks, worked_codes, worked_loops, worked_notes};
-
-#[cfg(test)]
-mod tests;

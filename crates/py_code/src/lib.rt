@@ -30,6 +30,3 @@ pub use text::{
     utf8_of,
 };
 pub use unit::{CodeUnit, Label, OpArg, OpArgState};
-
-#[cfg(test)]
-mod tests;

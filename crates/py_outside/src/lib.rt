@@ -14,6 +14,3 @@ pub use sink::{Sink, WriteFailed};
 pub use source::{ReadFailed, Source};
 pub use stdio::{StdSink, StdSource};
 pub use writing::write_bytes;
-
-#[cfg(test)]
-mod tests;

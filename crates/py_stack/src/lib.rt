@@ -8,6 +8,3 @@ mod stack;
 pub use laws::{drain_push, push_all, push_at, push_pop, push_truncate, put_at, put_beside};
 pub use own::OwnStack;
 pub use stack::ValueStack;
-
-#[cfg(test)]
-mod tests;

@@ -1,0 +1,184 @@
+//! Codes, units, names and texts, as far as they can be worked out by hand.
+
+use py_code::{
+    BinaryOperator, CodeFlags, CodeList, CodeObject, CodeUnit, ComparisonOperator, ConversionFlag,
+    Instruction, Literal, LiteralList, MakeFunctionFlags, NameId, Names, NoOperator, OpArg,
+    OpArgState, PyCode, PyText, RaiseKind, TestOperator, UnaryOperator, same_text, text_of,
+    text_of_str,
+};
+use std::alloc::Global;
+use std::test::Fail;
+
+/// A code that does nothing, whose numbers all differ.
+fn some_code(alloc: Global) -> CodeObject {
+    CodeObject {
+        instructions: Vec::new(alloc),
+        locations: Vec::new(alloc),
+        flags: CodeFlags::new(CodeFlags::NEW_LOCALS | CodeFlags::IS_OPTIMIZED),
+        posonlyarg_count: 1,
+        arg_count: 2,
+        kwonlyarg_count: 3,
+        source_path: NameId { index: 4 },
+        first_line_number: None,
+        max_stackdepth: 5,
+        obj_name: NameId { index: 6 },
+        cell2arg: Vec::new(alloc),
+        constants: LiteralList::new(alloc),
+        names: Vec::new(alloc),
+        varnames: Vec::new(alloc),
+        cellvars: Vec::new(alloc),
+        freevars: Vec::new(alloc),
+    }
+}
+
+#[test]
+fn a_unit_stands_behind_its_prefixes(rt: HostRuntime) -> Result<(), Fail> {
+    let units = [
+        (Instruction::ExtendedArg, 1),
+        (Instruction::ExtendedArg, 2),
+        (Instruction::LoadConst, 3),
+        (Instruction::Pop, 0),
+        (Instruction::ExtendedArg, 9),
+    ];
+    let mut code = some_code(rt.alloc());
+    for (op, arg) in units {
+        code.instructions.push(CodeUnit { op, arg })?;
+    }
+    let code = PyCode::new(code);
+    let load = Instruction::LoadConst;
+    let cases = [
+        (0, Some((load, 66051, 3))),
+        (1, Some((load, 515, 3))),
+        (2, Some((load, 3, 3))),
+        (3, Some((Instruction::Pop, 0, 4))),
+        (4, None),
+        (5, None),
+        (99, None),
+    ];
+    for (at, want) in cases {
+        let decoded = code
+            .decoded(at)
+            .map(|unit| (unit.op, unit.arg.0, unit.next));
+        assert_eq!(rt; decoded, want, "at {at}");
+    }
+    Ok(())
+}
+
+#[test]
+fn an_argument_keeps_its_low_32_bits(rt: HostRuntime) {
+    let mut state = OpArgState::new();
+    for byte in [1, 2, 3, 4] {
+        state.extend(byte);
+    }
+    assert_eq!(rt; state.extend(5), OpArg(0x0203_0405));
+    state.reset();
+    assert_eq!(rt; state.extend(7), OpArg(7));
+    let mut built = OpArgState::of(OpArg(2));
+    assert_eq!(rt; built.arg(), OpArg(2));
+    assert_eq!(rt; built.extend(1), OpArg(513));
+}
+
+#[test]
+fn a_known_text_keeps_its_place(rt: HostRuntime) -> Result<(), Fail> {
+    let mut names = Names::new(rt.alloc());
+    let places = [("x", 0), ("print", 1), ("x", 0), ("", 2), ("print", 1)];
+    for (text, index) in places {
+        let id = names.intern(text)?;
+        assert_eq!(rt; id, NameId { index }, "of {text}");
+        assert_eq!(rt; names.get(text), Some(id), "of {text}");
+        assert!(rt; id.index < names.len());
+        assert_eq!(rt; names.text(id), text);
+    }
+    assert_eq!(rt; names.get("y"), None);
+    assert_eq!(rt; names.len(), 3);
+    Ok(())
+}
+
+#[test]
+fn an_operator_has_its_number(rt: HostRuntime) {
+    assert_eq!(rt; BinaryOperator::try_from(6), Ok(BinaryOperator::Add));
+    assert_eq!(rt; BinaryOperator::try_from(13), Err(NoOperator(13)));
+    assert_eq!(rt;
+        ComparisonOperator::try_from(2),
+        Ok(ComparisonOperator::Equal)
+    );
+    assert_eq!(rt; UnaryOperator::try_from(2), Ok(UnaryOperator::Minus));
+    assert_eq!(rt; TestOperator::try_from(4), Ok(TestOperator::ExceptionMatch));
+    assert_eq!(rt; ConversionFlag::try_from(3), Ok(ConversionFlag::Repr));
+    assert_eq!(rt; RaiseKind::try_from(1), Ok(RaiseKind::Raise));
+    assert_eq!(rt; u32::from(BinaryOperator::Or), 12);
+    assert_eq!(rt; u32::from(ComparisonOperator::NotEqual), 5);
+    assert_eq!(rt; u32::from(UnaryOperator::Plus), 3);
+    assert_eq!(rt; u32::from(TestOperator::Is), 2);
+    assert_eq!(rt; u32::from(ConversionFlag::Ascii), 2);
+    assert_eq!(rt; u32::from(RaiseKind::RaiseCause), 2);
+}
+
+#[test]
+fn a_getter_gives_its_own_field(rt: HostRuntime) -> Result<(), Fail> {
+    let alloc = rt.alloc();
+    let mut code = some_code(alloc);
+    code.constants.push(Literal::Bool(true))?;
+    for index in [7, 8] {
+        code.varnames.push(NameId { index })?;
+    }
+    let code = PyCode::new(code);
+    assert_eq!(rt;
+        (
+            code.co_posonlyargcount(),
+            code.co_argcount(),
+            code.co_kwonlyargcount()
+        ),
+        (1, 2, 3)
+    );
+    assert_eq!(rt; (code.co_stacksize(), code.co_firstlineno()), (5, 0));
+    assert_eq!(rt; (code.co_nlocals(), code.co_flags()), (2, 33));
+    assert_eq!(rt; (code.co_filename().index, code.co_name().index), (4, 6));
+    assert_eq!(rt; code.co_varnames().first(), Some(&NameId { index: 7 }));
+    assert!(rt;
+        code.co_names().is_empty() && code.co_cellvars().is_empty() && code.co_freevars().is_empty()
+    );
+    assert!(rt; matches!(code.co_consts().get(0), Some(Literal::Bool(true))));
+    assert_eq!(rt; code.co_consts().len(), 1);
+    Ok(())
+}
+
+#[test]
+fn a_code_has_its_place_in_the_list(rt: HostRuntime) -> Result<(), Fail> {
+    let alloc = rt.alloc();
+    let mut names = Names::new(alloc);
+    names.intern("main")?;
+    let mut codes = CodeList::new(alloc, names);
+    codes.push(PyCode::new(some_code(alloc)))?;
+    assert_eq!(rt; codes.len(), 1);
+    assert_eq!(rt; codes.names().len(), 1);
+    assert_eq!(rt; codes.get(0).map(|code| code.co_argcount()), Some(2));
+    assert!(rt; codes.get(1).is_none());
+    let mut items = Vec::new(alloc);
+    items.push(PyCode::new(some_code(alloc)))?;
+    let codes = CodeList::of(Names::new(alloc), items);
+    assert_eq!(rt; (codes.len(), codes.names().len()), (1, 0));
+    Ok(())
+}
+
+#[test]
+fn a_text_is_a_list_of_characters(rt: HostRuntime) -> Result<(), Fail> {
+    let alloc = rt.alloc();
+    let text = text_of(alloc, b"ab")?;
+    let copy = text.copy(alloc)?;
+    assert!(rt; same_text(&text, &copy));
+    assert!(rt; !same_text(&text, &PyText::new(alloc)));
+    assert_eq!(rt; text.get(1), Some(&'b'));
+    assert_eq!(rt; text.len(), 2);
+    assert!(rt; same_text(&text, &text_of_str(alloc, "ab")?));
+    let mut characters = text.into_vec();
+    characters.push('c')?;
+    assert!(rt; same_text(&PyText::of(characters), &text_of(alloc, b"abc")?));
+    Ok(())
+}
+
+#[test]
+fn a_new_function_has_the_parts_that_its_number_stands_for(rt: HostRuntime) {
+    let flags = MakeFunctionFlags::CLOSURE | MakeFunctionFlags::DEFAULTS;
+    assert_eq!(rt; MakeFunctionFlags::new(flags).bits(), 9);
+}

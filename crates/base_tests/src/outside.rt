@@ -1,0 +1,151 @@
+//! What sources and sinks answer at worked values, faults in mid-stream among them.
+
+ghost use Rattle.std.specs.Prelude.{◌≤◌};
+
+use py_code::NoMemory;
+use py_outside::{
+    LIMIT, ReadError, SinkMemory, SourceMemory, StdSink, StdSource, WriteFailed, read_bytes,
+    write_bytes,
+};
+use std::alloc::Global;
+use std::io::{self, ErrorKind, Read, Write};
+use std::test::Fail;
+
+fn source(alloc: Global, bytes: &[u8], fails: &[u64], most: usize) -> Result<SourceMemory, NoMemory>
+    requires { 1 ≤ most }
+{
+    Ok(SourceMemory::new(bytes.to_vec(alloc)?, fails.to_vec(alloc)?, most))
+}
+
+fn sink(alloc: Global, fails: &[u64], most: usize, room: usize) -> Result<SinkMemory, NoMemory>
+    requires { 1 ≤ most }
+{
+    SinkMemory::new(alloc, fails.to_vec(alloc)?, most, room)
+}
+
+fn length_read(alloc: Global, bytes: Vec<u8>) -> Result<usize, ReadError> {
+    let mut source = SourceMemory::new(bytes, Vec::new(alloc), LIMIT);
+    Ok(read_bytes(alloc, &mut source)?.len())
+}
+
+#[test]
+fn a_source_is_read_to_its_end_or_to_its_fault(rt: HostRuntime) -> Result<(), Fail> {
+    let alloc = rt.alloc();
+    let rows: [(&[u8], &[u64], bool); 3] = [
+        (b"spam", &[], true),
+        (b"spam", &[3, 9], false),
+        (b"spam", &[5], false),
+    ];
+    for (bytes, fails, whole) in rows {
+        let mut source = source(alloc, bytes, fails, 1)?;
+        match read_bytes(alloc, &mut source) {
+            Ok(read) => {
+                assert!(rt; whole);
+                assert_eq!(rt; read.as_slice(), bytes);
+            }
+            Err(error) => {
+                assert!(rt; !whole);
+                assert_eq!(rt; error, ReadError::Fault);
+            }
+        }
+    }
+    Ok(())
+}
+
+#[test]
+fn the_limit_is_read_and_a_byte_more_is_too_long(rt: HostRuntime) -> Result<(), Fail> {
+    let alloc = rt.alloc();
+    assert_eq!(rt; LIMIT, 1024 * 1024);
+    let limit = vec![in alloc; b'a'; 1_048_576]?;
+    assert_eq!(rt; length_read(alloc, limit), Ok(1_048_576));
+    let longer = vec![in alloc; b'a'; 1_048_577]?;
+    assert_eq!(rt; length_read(alloc, longer), Err(ReadError::TooLong));
+    Ok(())
+}
+
+#[test]
+fn a_sink_takes_the_bytes_or_those_before_its_fault(rt: HostRuntime) -> Result<(), Fail> {
+    let alloc = rt.alloc();
+    // The calls that fail, the room, and what is taken of "spam", byte for byte.
+    let rows: [(&[u64], usize, &[u8]); 3] = [
+        (&[], 4, b"spam"),
+        (&[3, 4], 4, b"sp"),
+        (&[], 3, b"spa"),
+    ];
+    for (fails, room, taken) in rows {
+        let mut sink = sink(alloc, fails, 1, room)?;
+        let written = write_bytes(&mut sink, b"spam");
+        assert_eq!(rt; written.is_ok(), taken.len() == 4);
+        assert_eq!(rt; sink.bytes(), taken);
+    }
+    Ok(())
+}
+
+/// A reader and writer of std that moves a byte a call, and fails once none is left.
+#[derive(Drop)]
+struct Broken {
+    left: usize,
+}
+
+impl Read for Broken {
+    fn read(&mut self, room: &mut [u8]) -> io::Result<usize> {
+        if self.left == 0 {
+            return Err(io::Error::from(ErrorKind::Other));
+        }
+        match room.first_mut() {
+            Some(byte) => {
+                *byte = b's';
+                self.left -= 1;
+                Ok(1)
+            }
+            None => Ok(0),
+        }
+    }
+}
+
+impl Write for Broken {
+    fn write(&mut self, piece: &[u8]) -> io::Result<usize> {
+        if self.left == 0 {
+            return Err(io::Error::from(ErrorKind::Other));
+        }
+        if piece.is_empty() {
+            return Ok(0);
+        }
+        self.left -= 1;
+        Ok(1)
+    }
+
+    fn flush(&mut self) -> io::Result<()> {
+        Ok(())
+    }
+}
+
+#[test]
+fn readers_and_writers_of_std_serve(rt: HostRuntime) -> Result<(), Fail> {
+    let alloc = rt.alloc();
+    let mut whole = StdSource::new(b"spam".as_slice());
+    assert_eq!(rt;
+        read_bytes(alloc, &mut whole)?.as_slice(),
+        b"spam".as_slice()
+    );
+    let mut broken = StdSource::new(Broken { left: 2 });
+    assert!(rt; matches!(read_bytes(alloc, &mut broken), Err(ReadError::Fault)));
+
+    let mut taken = [0u8; 4];
+    assert_eq!(rt;
+        write_bytes(&mut StdSink::new(taken.as_mut_slice()), b"spam"),
+        Ok(())
+    );
+    assert_eq!(rt; taken.as_slice(), b"spam".as_slice());
+    // A full writer takes nothing, which isn't an error to std.
+    let mut small = [0u8; 2];
+    assert_eq!(rt;
+        write_bytes(&mut StdSink::new(small.as_mut_slice()), b"spam"),
+        Err(WriteFailed)
+    );
+    assert_eq!(rt; small.as_slice(), b"sp".as_slice());
+    let mut broken = StdSink::new(Broken { left: 2 });
+    assert_eq!(rt; write_bytes(&mut broken, b"spam"), Err(WriteFailed));
+    assert_eq!(rt; write_bytes(&mut broken, b""), Ok(()));
+    Ok(())
+}
