@@ -1,10 +1,9 @@
-//! Codes, units, names and texts, as far as they can be worked out by hand.
+//! Codes, units and operators, as far as they can be worked out by hand and no script shows them.
 
 use py_code::{
-    BinaryOperator, CodeFlags, CodeList, CodeObject, CodeUnit, ComparisonOperator, ConversionFlag,
-    Instruction, Literal, LiteralList, MakeFunctionFlags, NameId, Names, NoOperator, OpArg,
-    OpArgState, PyCode, PyText, RaiseKind, TestOperator, UnaryOperator, same_text, text_of,
-    text_of_str,
+    BinaryOperator, CodeFlags, CodeObject, CodeUnit, ComparisonOperator, ConversionFlag,
+    Instruction, Literal, LiteralList, MakeFunctionFlags, NameId, NoOperator, OpArg, OpArgState,
+    PyCode, RaiseKind, TestOperator, UnaryOperator,
 };
 use std::alloc::Global;
 use std::test::Fail;
@@ -79,22 +78,6 @@ fn an_argument_keeps_its_low_32_bits(rt: HostRuntime) {
 }
 
 #[test]
-fn a_known_text_keeps_its_place(rt: HostRuntime) -> Result<(), Fail> {
-    let mut names = Names::new(rt.alloc());
-    let places = [("x", 0), ("print", 1), ("x", 0), ("", 2), ("print", 1)];
-    for (text, index) in places {
-        let id = names.intern(text)?;
-        assert_eq!(rt; id, NameId { index }, "of {text}");
-        assert_eq!(rt; names.get(text), Some(id), "of {text}");
-        assert!(rt; id.index < names.len());
-        assert_eq!(rt; names.text(id), text);
-    }
-    assert_eq!(rt; names.get("y"), None);
-    assert_eq!(rt; names.len(), 3);
-    Ok(())
-}
-
-#[test]
 fn an_operator_has_its_number(rt: HostRuntime) {
     assert_eq!(rt; BinaryOperator::try_from(6), Ok(BinaryOperator::Add));
     assert_eq!(rt; BinaryOperator::try_from(13), Err(NoOperator(13)));
@@ -140,40 +123,6 @@ fn a_getter_gives_its_own_field(rt: HostRuntime) -> Result<(), Fail> {
     );
     assert!(rt; matches!(code.co_consts().get(0), Some(Literal::Bool(true))));
     assert_eq!(rt; code.co_consts().len(), 1);
-    Ok(())
-}
-
-#[test]
-fn a_code_has_its_place_in_the_list(rt: HostRuntime) -> Result<(), Fail> {
-    let alloc = rt.alloc();
-    let mut names = Names::new(alloc);
-    names.intern("main")?;
-    let mut codes = CodeList::new(alloc, names);
-    codes.push(PyCode::new(some_code(alloc)))?;
-    assert_eq!(rt; codes.len(), 1);
-    assert_eq!(rt; codes.names().len(), 1);
-    assert_eq!(rt; codes.get(0).map(|code| code.co_argcount()), Some(2));
-    assert!(rt; codes.get(1).is_none());
-    let mut items = Vec::new(alloc);
-    items.push(PyCode::new(some_code(alloc)))?;
-    let codes = CodeList::of(Names::new(alloc), items);
-    assert_eq!(rt; (codes.len(), codes.names().len()), (1, 0));
-    Ok(())
-}
-
-#[test]
-fn a_text_is_a_list_of_characters(rt: HostRuntime) -> Result<(), Fail> {
-    let alloc = rt.alloc();
-    let text = text_of(alloc, b"ab")?;
-    let copy = text.copy(alloc)?;
-    assert!(rt; same_text(&text, &copy));
-    assert!(rt; !same_text(&text, &PyText::new(alloc)));
-    assert_eq!(rt; text.get(1), Some(&'b'));
-    assert_eq!(rt; text.len(), 2);
-    assert!(rt; same_text(&text, &text_of_str(alloc, "ab")?));
-    let mut characters = text.into_vec();
-    characters.push('c')?;
-    assert!(rt; same_text(&PyText::of(characters), &text_of(alloc, b"abc")?));
     Ok(())
 }
 

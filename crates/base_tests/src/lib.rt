@@ -9,5 +9,3 @@ mod notes;
 mod objects;
 #[cfg(test)]
 mod outside;
-#[cfg(test)]
-mod stacks;

@@ -1,14 +1,11 @@
 //! The sum of two parameters, with its notes.
 
-ghost use Rattle.std.specs.Prelude.{◌≡◌, [], ◌∷◌, IfOk, map};
-ghost use Rattle.py_check.specs.declared.note.BlockNote.TheVariants as block;
+ghost use Rattle.std.specs.Prelude.{◌≡◌, IfOk, map};
 ghost use Rattle.py_check.specs.declared.note.Note.TheVariants as note;
 ghost use Rattle.py_check.specs.Sheet.{sheet_of};
-ghost use Rattle.py_check.specs.Worked.{guarded, handles, sheet, sum, unit};
+ghost use Rattle.py_check.specs.Worked.{sheet, sum, unit};
 
-use py_check::{
-    Annotated, BlockList, BlockNote, CheckedCode, Kind, KindList, Note, NoteList, worked_notes,
-};
+use py_check::{Annotated, BlockList, CheckedCode, Kind, KindList, Note, NoteList, worked_notes};
 use py_code::{
     CodeFlags, CodeObject, CodeUnit, Instruction, ItemList, Literal, LiteralList, NameId, NoMemory,
     PyCode,
@@ -67,15 +64,6 @@ fn code_of(
     Ok(Annotated { code, notes })
 }
 
-/// A list of one block.
-fn one_block(alloc: Global, block: BlockNote) -> Result<BlockList, NoMemory>
-    ensures { IfOk result (λ blocks. blocks ≡ block ∷ []) }
-{
-    let mut blocks = BlockList::new(alloc);
-    blocks.push(block)?;
-    Ok(blocks)
-}
-
 /// A note of these entries and blocks.
 fn note_of(alloc: Global, entries: &[Kind], blocks: BlockList) -> Result<Note, NoMemory>
     ensures { IfOk result (λ made. made ≡ note.Live entries.now blocks) }
@@ -105,26 +93,6 @@ fn sum(alloc: Global) -> Result<Annotated, NoMemory>
     code_of(alloc, units_of(alloc, &units)?, notes)
 }
 
-/// None is returned, and so it is in a `try` and in its handler, where control never gets.
-fn handled(alloc: Global) -> Result<Annotated, NoMemory>
-    ensures { IfOk result (λ code. sheet_of code ≡ guarded [] (block.TryExcept 0 2) handles) }
-{
-    let units = [(Instruction::ReturnConst, 0); 3];
-    let body = BlockNote::TryExcept {
-        level: 0,
-        handler: 2,
-    };
-    let mut notes = NoteList::new(alloc);
-    notes.push(note_of(alloc, &[], BlockList::new(alloc))?)?;
-    notes.push(note_of(alloc, &[], one_block(alloc, body)?)?)?;
-    notes.push(note_of(
-        alloc,
-        &[Kind::Exc],
-        one_block(alloc, BlockNote::ExceptHandler { level: 0 })?,
-    )?)?;
-    code_of(alloc, units_of(alloc, &units)?, notes)
-}
-
 /// How many entries and blocks a note has.
 fn sizes(note: &Note) -> Option<(usize, usize)> {
     match note {
@@ -146,13 +114,5 @@ fn a_checked_code_is_what_was_handed_in(rt: HostRuntime) -> Result<(), Fail> {
     assert!(rt; checked.note(4).is_none());
     assert_eq!(rt; checked.into_code().co_argcount(), 2);
     worked_notes();
-    Ok(())
-}
-
-#[test]
-fn blocks_are_counted(rt: HostRuntime) -> Result<(), Fail> {
-    let checked = CheckedCode::of(handled(rt.alloc())?);
-    assert_eq!(rt; checked.block_depth(), 1);
-    assert_eq!(rt; checked.note(2).and_then(|note| sizes(note)), Some((1, 1)));
     Ok(())
 }

@@ -1,10 +1,10 @@
-//! Small stores worked by hand: which object has which number, what it is, and what changes make of it.
+//! Small stores worked by hand, and what changes make of their objects, which no script makes so far.
 
 ghost use Rattle.std.specs.Prelude.{◌≡◌, IfOk};
 ghost use Rattle.py_objects.specs.Objects.{AllBelow};
 ghost use Rattle.py_objects.specs.Edits.{edit_numbers, FitsException, IsInPlace};
 
-use py_code::{NoMemory, same_text, text_of};
+use py_code::{NoMemory, text_of};
 use py_objects::{
     AttrMap, Change, ClassBody, Edit, ExceptionBody, History, LinkField, ObjList, PairList,
     Payload, PyObjectRef, PyTypeRef, Scope, Store,
@@ -17,26 +17,6 @@ fn object(number: u64) -> PyObjectRef
     ensures { result.number ≡ number }
 {
     PyObjectRef { number }
-}
-
-#[test]
-fn an_object_is_what_it_was_made_as(rt: HostRuntime) -> Result<(), Fail> {
-    let alloc = rt.alloc();
-    let mut store = Store::new(alloc)?;
-    assert_eq!(rt; (store.len(), store.none()), (1, object(0)));
-    let flag = store.add(Payload::Bool(true))?;
-    let number = store.add(Payload::Int(-7))?;
-    let spam = text_of(alloc, b"spam")?;
-    let text = store.add(Payload::Str(spam.copy(alloc)?))?;
-    assert_eq!(rt; (flag, number, text), (object(1), object(2), object(3)));
-    assert_eq!(rt; store.get(flag).number(), Some(1));
-    assert_eq!(rt; store.get(number).number(), Some(-7));
-    assert!(rt; matches!(store.get(text).text(), Some(s) if same_text(s, &spam)));
-    assert!(rt; !store.get(text).same_value(store.get(flag)));
-    let History { objects, changes } = store.into_history();
-    assert_eq!(rt; (objects.len(), changes.len()), (4, 0));
-    assert!(rt; matches!(objects.get(0), Some(Payload::None)));
-    Ok(())
 }
 
 #[test]

@@ -1,55 +1,15 @@
-//! What sources and sinks answer at worked values, faults in mid-stream among them.
+//! The longest text that is read, and readers and writers of std, with faults in mid-stream.
 
-ghost use Rattle.std.specs.Prelude.{◌≤◌};
-
-use py_code::NoMemory;
 use py_outside::{
-    LIMIT, ReadError, SinkMemory, SourceMemory, StdSink, StdSource, WriteFailed, read_bytes,
-    write_bytes,
+    LIMIT, ReadError, SourceMemory, StdSink, StdSource, WriteFailed, read_bytes, write_bytes,
 };
 use std::alloc::Global;
 use std::io::{self, ErrorKind, Read, Write};
 use std::test::Fail;
 
-fn source(alloc: Global, bytes: &[u8], fails: &[u64], most: usize) -> Result<SourceMemory, NoMemory>
-    requires { 1 ≤ most }
-{
-    Ok(SourceMemory::new(bytes.to_vec(alloc)?, fails.to_vec(alloc)?, most))
-}
-
-fn sink(alloc: Global, fails: &[u64], most: usize, room: usize) -> Result<SinkMemory, NoMemory>
-    requires { 1 ≤ most }
-{
-    SinkMemory::new(alloc, fails.to_vec(alloc)?, most, room)
-}
-
 fn length_read(alloc: Global, bytes: Vec<u8>) -> Result<usize, ReadError> {
     let mut source = SourceMemory::new(bytes, Vec::new(alloc), LIMIT);
     Ok(read_bytes(alloc, &mut source)?.len())
-}
-
-#[test]
-fn a_source_is_read_to_its_end_or_to_its_fault(rt: HostRuntime) -> Result<(), Fail> {
-    let alloc = rt.alloc();
-    let rows: [(&[u8], &[u64], bool); 3] = [
-        (b"spam", &[], true),
-        (b"spam", &[3, 9], false),
-        (b"spam", &[5], false),
-    ];
-    for (bytes, fails, whole) in rows {
-        let mut source = source(alloc, bytes, fails, 1)?;
-        match read_bytes(alloc, &mut source) {
-            Ok(read) => {
-                assert!(rt; whole);
-                assert_eq!(rt; read.as_slice(), bytes);
-            }
-            Err(error) => {
-                assert!(rt; !whole);
-                assert_eq!(rt; error, ReadError::Fault);
-            }
-        }
-    }
-    Ok(())
 }
 
 #[test]
@@ -60,24 +20,6 @@ fn the_limit_is_read_and_a_byte_more_is_too_long(rt: HostRuntime) -> Result<(), 
     assert_eq!(rt; length_read(alloc, limit), Ok(1_048_576));
     let longer = vec![in alloc; b'a'; 1_048_577]?;
     assert_eq!(rt; length_read(alloc, longer), Err(ReadError::TooLong));
-    Ok(())
-}
-
-#[test]
-fn a_sink_takes_the_bytes_or_those_before_its_fault(rt: HostRuntime) -> Result<(), Fail> {
-    let alloc = rt.alloc();
-    // The calls that fail, the room, and what is taken of "spam", byte for byte.
-    let rows: [(&[u64], usize, &[u8]); 3] = [
-        (&[], 4, b"spam"),
-        (&[3, 4], 4, b"sp"),
-        (&[], 3, b"spa"),
-    ];
-    for (fails, room, taken) in rows {
-        let mut sink = sink(alloc, fails, 1, room)?;
-        let written = write_bytes(&mut sink, b"spam");
-        assert_eq!(rt; written.is_ok(), taken.len() == 4);
-        assert_eq!(rt; sink.bytes(), taken);
-    }
     Ok(())
 }
 

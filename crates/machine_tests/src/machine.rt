@@ -21,7 +21,7 @@ fn machine(alloc: Global) -> Result<VirtualMachine, NoMemory>
 
 /// What is seen of a machine from outside.
 #[derive(Clone, Copy, Debug, PartialEq, Eq)]
-struct Outline {
+struct Seen {
     names: usize,
     objects: u64,
     events: u64,
@@ -29,8 +29,8 @@ struct Outline {
     has_frames: bool,
 }
 
-fn outline(vm: &VirtualMachine) -> Outline {
-    Outline {
+fn seen_of(vm: &VirtualMachine) -> Seen {
+    Seen {
         names: vm.names().len(),
         objects: vm.store().len(),
         events: vm.events(),
@@ -71,7 +71,9 @@ fn call_none(alloc: Global, vm: &mut VirtualMachine, turns: u64) -> Outcome {
 }
 
 /// Has a machine use a new dict as its globals, and gives the number of that.
-fn use_new_globals(alloc: Global, vm: &mut VirtualMachine) -> PyResult<u64> {
+fn use_new_globals(alloc: Global, vm: &mut VirtualMachine) -> PyResult<u64>
+    requires { vm.old.events ≡ [] }
+{
     let globals = vm.add_object(Payload::Dict(PairList::new(alloc)))?;
     vm.use_globals(globals)?;
     Ok(vm.globals().number)
@@ -105,14 +107,14 @@ fn set_number(vm: &mut VirtualMachine, name: &str, number: i128) -> PyResult<()>
 #[test]
 fn a_machine_begins_with_seven_objects(rt: HostRuntime) -> Result<(), Fail> {
     let mut vm = machine(rt.alloc())?;
-    let begun = Outline {
+    let begun = Seen {
         names: 1,
         objects: 7,
         events: 0,
         depth: 0,
         has_frames: false,
     };
-    assert_eq!(rt; outline(&vm), begun);
+    assert_eq!(rt; seen_of(&vm), begun);
     let state = vm.state();
     assert_eq!(rt; (state.finalizing, state.int_max_str_digits), (false, 4300));
     assert_eq!(rt; use_new_globals(rt.alloc(), &mut vm).ok(), Some(7));
@@ -154,8 +156,11 @@ fn turns_run_out(rt: HostRuntime) -> Result<(), Fail> {
         call_none(rt.alloc(), &mut vm, 1),
         call_none(rt.alloc(), &mut vm, 2),
     ];
-    assert_eq!(rt; outcomes, [Outcome::Raises, Outcome::OutOfTurns, Outcome::Failed]);
-    let seen = outline(&vm);
+    assert_eq!(rt;
+        outcomes,
+        [Outcome::Raises, Outcome::OutOfTurns, Outcome::Failed]
+    );
+    let seen = seen_of(&vm);
     assert_eq!(rt; (seen.events, seen.has_frames), (3, false));
     Ok(())
 }

@@ -14,4 +14,4 @@ last_dict : (old new : List Payload) (ps : Pairs) (v : Obj) → new ≡ old ++ p
 last_dict old new ps v added last = (ps, ap (λ os. slice_get os v.number) added ∙ ap (slice_get (old ++ payload.Dict ps ∷ [])) last ∙ newest old (payload.Dict ps))
 
 pub use_globals-requires-clause-dict : goal.use_globals-requires-clause-dict
-use_globals-requires-clause-dict g c = last_dict _ _ _ _ (ap (λ (m : Machine). m.objects) c.in_ok-globals.ensures.1.1) c.in_ok-globals.ensures.1.0
+use_globals-requires-clause-dict c = last_dict _ _ _ _ (ap (λ (m : Machine). m.objects) c.in_ok-globals.ensures.1.1) c.in_ok-globals.ensures.1.0
