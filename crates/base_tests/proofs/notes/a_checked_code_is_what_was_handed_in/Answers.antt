@@ -1,6 +1,6 @@
 use Rattle.std.proofs.Common.{refl}
 use Rattle.py_check.specs.Worked.{sum}
-use Rattle.py_check.proofs.WorkedLemmas.{typed}
+use Rattle.py_check.proofs.WorkedHandlerLemmas.{typed}
 use Rattle.base_tests.proofs.notes.a_checked_code_is_what_was_handed_in.Goals as goal
 
 pub of-checked-requires : goal.of-checked-requires
