@@ -101,7 +101,9 @@ module _ (code : Annotated) (t : Tree) (names : List Name) (compilable : IsCompi
       and_from _ _ (and_from _ _ (and_from _ _ (and_from _ _ (and_from _ _ counts (ap is_start (note_is 0 is_there))) parameters_within) (ap (cells_fit (sheet_of code)) plain.cells.1))
       (le-leb _ _ (omega (arith, plain.max_stackdepth, most-least units (length units) 256 (λ k low. (kept k (omega arith) low).1))))) emitted.matched.2
 
+  -- by the rules of what is answered so far, too
+  pub typed_today : IsTypedToday code
+  typed_today = record { whole = whole; each = λ at low. (kept at (omega arith) low).0 }
+
   pub typed_code : IsTyped code
-  typed_code =
-      let today : IsTypedToday code = record { whole = whole; each = λ at low. (kept at (omega arith) low).0 } in
-      kept_by_all code today
+  typed_code = kept_by_all code typed_today

@@ -1,6 +1,7 @@
 //! The compiler: the code of a body.
 
 ghost use Rattle.std.specs.Prelude.{◌≡◌, ◌<◌, ◌≤◌, ◌^◌, suc, length, List, IfOk};
+ghost use Rattle.py_check.specs.Rules.{IsTyped};
 ghost use Rattle.py_body.specs.Tree.{Name, tree_of};
 ghost use Rattle.py_body.specs.Compilable.{IsCompilable};
 ghost use Rattle.py_body.specs.Code.{IsLaid, IsPlain};
@@ -25,6 +26,7 @@ pub fn compile_body(alloc: Global, names: &mut Names, body: &Body) -> Result<Ann
     ensures fits { IfOk result (λ code. Fits names.new code (tree_of body.now)) }
     ensures laid { IfOk result (λ code. (globals : List Name) × IsLaid globals code.code (tree_of body.now) × IsNamed names.new globals code.code (tree_of body.now)) }
     ensures plain { IfOk result (λ code. IsPlain code.code (tree_of body.now)) }
+    ensures typed { IfOk result IsTyped }
     ensures grows { Continues names.old names.new }
 {
     let emitter = emit_body(alloc, body)?;
