@@ -12,12 +12,11 @@ use Rattle.py_objects.specs.Attrs.{Attrs, inserted}
 use Rattle.py_objects.specs.Edits.{Kept}
 use Rattle.py_objects.specs.Originals.{IsDict}
 use Rattle.py_check.specs.declared.annotated.Annotated.{Annotated}
-use Rattle.py_frame.specs.Sound.{IsSound}
 use Rattle.py_frames.proofs.PlainGrowth.{made_grown, below_more, length_grown, declared_grown, plainly_grows, grows_plainly_refl, grows_plainly_by}
 use Rattle.py_vm.specs.declared.stage.Stage.{Stage}
 use Rattle.py_vm.specs.declared.stage.Stage.TheVariants as stage
 use Rattle.py_vm.specs.declared.machinery.Core.{Core}
-use Rattle.py_vm.specs.Codes.{Checked}
+use Rattle.py_vm.specs.Codes.{Checked, IsRunnable}
 use Rattle.py_vm.specs.Declaring.{first_name, added_as, IsAddable, IsPutInto}
 use Rattle.py_vm.specs.Holds.{ChangeDicts, IsCoded, AreRunnable, AreFirst}
 use Rattle.py_vm.specs.Stands.{AreStored, AreCallers, AtStage, frames_at, IsTold, Keeps, IsIdle}
@@ -64,6 +63,7 @@ idle_with m entered store codes globals names grows stored marked runnable told 
           apart = k.nested.apart;
           frames = k.nested.frames;
           are_frames = frames_still m.store.made store.made m.frames grows k.nested.are_frames;
+          slot = k.nested.slot;
         };
         at_stage = subst (AtStage codes globals store.made m.events m.made m.callers) (sym idle.idle) none;
       };
@@ -94,22 +94,22 @@ abbrev with_code : Checked → Annotated → Checked
 with_code codes code = record codes { codes = codes.codes ++ code ∷ [] }
 
 -- codes can run with one more that can
-runnable_with : (codes : Checked) (code : Annotated) (objects : List Payload) → IsSound codes.names code → AreRunnable codes objects → AreRunnable (with_code codes code) objects
-runnable_with codes code objects sound runnable = record {
-  sound = λ i c here. elim (one_more codes.codes code c i here) [
-    | inl front ↦ runnable.sound i c front
-    | inr (last, same) ↦ subst (IsSound codes.names) same sound
+runnable_with : (codes : Checked) (code : Annotated) (objects : List Payload) → IsRunnable codes.names code → AreRunnable codes objects → AreRunnable (with_code codes code) objects
+runnable_with codes code objects runs runnable = record {
+  each = λ i c here. elim (one_more codes.codes code c i here) [
+    | inl front ↦ runnable.each i c front
+    | inr (last, same) ↦ subst (IsRunnable codes.names) same runs
   ];
   coded = λ i p here. let one : length (codes.codes ++ code ∷ []) ≡ length codes.codes + 1 = length-append codes.codes (code ∷ []) in
       coded_more (length codes.codes) (length (codes.codes ++ code ∷ [])) p (omega (arith, one)) (runnable.coded i p here);
 }
 
 -- so is a machine with one more code
-pub code_idle : (m : Core) (codes : Checked) (code : Annotated) → codes ≡ with_code m.codes code → IsSound m.codes.names code → IsIdle m → IsIdle (record m { codes = codes })
-code_idle m codes code added sound idle =
+pub code_idle : (m : Core) (codes : Checked) (code : Annotated) → codes ≡ with_code m.codes code → IsRunnable m.codes.names code → IsIdle m → IsIdle (record m { codes = codes })
+code_idle m codes code added runs idle =
     let k = idle.keeps in
     subst (λ (c : Checked). IsIdle (record m { codes = c })) (sym added)
-    (idle_with m m.entered m.store (with_code m.codes code) m.globals m.declarations (same_grows m.store.made) k.stored k.marked (runnable_with m.codes code m.store.made sound k.runnable)
+    (idle_with m m.entered m.store (with_code m.codes code) m.globals m.declarations (same_grows m.store.made) k.stored k.marked (runnable_with m.codes code m.store.made runs k.runnable)
     (record { tells = tells_behind_code m.codes code m.globals m.store.made m.events k.told.tells; later = k.told.later; named = k.told.named }) idle)
 
 -- entries fit also with one more that fits
@@ -157,7 +157,7 @@ object_idle m names p below made addable are idle =
       names_are = are;
     }) k.marked
     (record {
-      sound = k.runnable.sound;
+      each = k.runnable.each;
       coded = λ i q here. elim (one_more objects p q i here) [
         | inl front ↦ k.runnable.coded i q front
         | inr (last, same) ↦ subst (IsCoded (length m.codes.codes)) same (addable_coded m p addable)

@@ -13,7 +13,7 @@ use Rattle.py_vm.specs.declared.machinery.Core.{Core}
 use Rattle.py_vm.specs.Run.{State, start, state_after}
 use Rattle.py_vm.specs.Classes.{class_payload, first_objects, first_classes, first_declarations, HaveClasses}
 use Rattle.py_vm.specs.Holds.{IsCoded, AreFirst}
-use Rattle.py_vm.specs.Stands.{AreCallers, AreApart, AtStage, phase_of, acts_of, frames_at, IsIdle}
+use Rattle.py_vm.specs.Stands.{AreCallers, AreApart, AtStage, phase_of, acts_of, frames_at, slot_at, IsIdle}
 use Rattle.py_vm.proofs.OwnLemmas.{own_events-nil}
 use Rattle.py_vm.proofs.GrownLemmas.{with_object, added_made}
 use Rattle.py_vm.proofs.ReplyingLemmas.{added_has}
@@ -94,8 +94,8 @@ dict_begins old new pairs globals made unchanged mark none added last =
 
 -- a machine that has done nothing is between drives
 pub start_idle : (m : Core) → m.events ≡ [] → Begins m.store m.globals → m.codes.codes ≡ [] → m.exceptions ≡ first_classes → m.declarations ≡ first_declarations → m.done ≡ 0 → m.made ≡ 0
-    → m.callers ≡ [] → m.frames ≡ [] → m.stage ≡ stage.Idle → IsIdle m
-start_idle m no_events begins no_codes classes names none_done none_made no_callers no_frames idle =
+    → m.callers ≡ [] → m.frames ≡ [] → m.slot ≡ None → m.stage ≡ stage.Idle → IsIdle m
+start_idle m no_events begins no_codes classes names none_done none_made no_callers no_frames empty idle =
     let fit : AllFit m.store.made = subst AllFit (sym begins.objects) first_fit in
     let nothing : state_after start m.events ≡ start = ap (state_after start) no_events in
     record {
@@ -118,7 +118,7 @@ start_idle m no_events begins no_codes classes names none_done none_made no_call
         };
         marked = omega (arith, begins.mark);
         runnable = record {
-          sound = λ i c here. absurd (let none : None ≡ Some c = sym (ap (λ l. slice_get l i) no_codes) ∙ here in cc none);
+          each = λ i c here. absurd (let none : None ≡ Some c = sym (ap (λ l. slice_get l i) no_codes) ∙ here in cc none);
           coded = λ i p here. subst (λ n. IsCoded n p) (ap length (sym no_codes)) (first_coded i p (ap (λ l. slice_get l i) (sym begins.objects) ∙ here));
         };
         told = record {
@@ -134,6 +134,7 @@ start_idle m no_events begins no_codes classes names none_done none_made no_call
           apart = subst AreApart (sym no_callers) tt;
           frames = no_frames ∙ ap (λ hs. frames_at hs stage.Idle) (sym no_callers) ∙ ap (frames_at m.callers) (sym idle);
           are_frames = λ i f here. absurd (let none : None ≡ Some f = sym (ap (λ l. slice_get l i) no_frames) ∙ here in cc none);
+          slot = empty ∙ ap (λ hs. slot_at hs stage.Idle) (sym no_callers) ∙ ap (slot_at m.callers) (sym idle);
         };
         at_stage = subst (AtStage m.codes m.globals m.store.made m.events m.made m.callers) (sym idle) no_callers;
       };
