@@ -37,7 +37,7 @@ use Rattle.py_rows.specs.States.{State}
 use Rattle.py_rows.specs.Answers.{HasKind, wanted, IsValue, IsAnswer}
 use Rattle.py_rows.specs.Fitting.{FitsAt, FitsBut}
 use Rattle.py_rows.specs.Standing.{IsPlaced}
-use Rattle.py_rows.specs.Questions.{is_positional, asks_unbound, asks_global, asks_binary, asks_compare, asks_call, asks_show, asks_truth, may_ask, UnitAsks, UnitYields}
+use Rattle.py_rows.specs.Questions.{may_ask, UnitAsks, UnitYields}
 use Rattle.py_rows.specs.Laws.{AllMayTell}
 use Rattle.py_frames.specs.declared.input.FrameStep.{FrameStep}
 use Rattle.py_frames.specs.declared.input.FrameStep.TheVariants as step
@@ -49,48 +49,49 @@ use Rattle.py_vm.specs.Calls.{Signature, Says, ComesTo}
 use Rattle.py_vm.specs.Replying.{is_answered}
 use Rattle.py_vm.specs.Turns.{IsPlain}
 
--- which question it is
-unbound_is : (q : Request) → asks_unbound q ≡ true → (x : Name) × (q ≡ request.Unbound x)
-unbound_is (request.Unbound x) asks = (x, refl)
-unbound_is _ asks = absurd (cc asks)
+-- what each instruction asks is answered
+unbound_answered : (q : Request) → may_ask LoadFast q ≡ true → is_answered q ≡ true
+unbound_answered (request.Unbound x) asks = refl
+unbound_answered _ asks = absurd (cc asks)
 
-global_is : (q : Request) → asks_global q ≡ true → (globals : Obj) × (x : Name) × (q ≡ request.Global globals x)
-global_is (request.Global globals x) asks = (globals, x, refl)
-global_is _ asks = absurd (cc asks)
+global_answered : (q : Request) → may_ask LoadGlobal q ≡ true → is_answered q ≡ true
+global_answered (request.Global globals x) asks = refl
+global_answered _ asks = absurd (cc asks)
 
-binary_is : (q : Request) → asks_binary q ≡ true → (op : BinaryOperator) × (a : Obj) × (b : Obj) × (q ≡ request.Binary op a b) × (is_asked op ≡ true)
-binary_is (request.Binary op a b) asks = (op, a, b, refl, asks)
-binary_is _ asks = absurd (cc asks)
+binary_answered : (q : Request) → may_ask BinaryOperation q ≡ true → is_answered q ≡ true
+binary_answered (request.Binary op a b) asks = asks
+binary_answered _ asks = absurd (cc asks)
 
-compare_is : (q : Request) → asks_compare q ≡ true → (op : ComparisonOperator) × (a : Obj) × (b : Obj) × (q ≡ request.Compare op a b) × (is_compared op ≡ true)
-compare_is (request.Compare op a b) asks = (op, a, b, refl, asks)
-compare_is _ asks = absurd (cc asks)
+compare_answered : (q : Request) → may_ask CompareOperation q ≡ true → is_answered q ≡ true
+compare_answered (request.Compare op a b) asks = asks
+compare_answered _ asks = absurd (cc asks)
 
-call_is : (q : Request) → asks_call q ≡ true → (f : Obj) × (vs : List Obj) × (named : Keywords) × (q ≡ request.Call f vs named) × (is_positional named ≡ true)
-call_is (request.Call f vs named) asks = (f, vs, named, refl, asks)
-call_is _ asks = absurd (cc asks)
+call_answered : (q : Request) → may_ask CallFunctionPositional q ≡ true → is_answered q ≡ true
+call_answered (request.Call f vs named) asks = asks
+call_answered _ asks = absurd (cc asks)
 
-show_is : (q : Request) → asks_show q ≡ true → (v : Obj) × (q ≡ request.Show v)
-show_is (request.Show v) asks = (v, refl)
-show_is _ asks = absurd (cc asks)
+show_answered : (q : Request) → may_ask PrintExpr q ≡ true → is_answered q ≡ true
+show_answered (request.Show v) asks = refl
+show_answered _ asks = absurd (cc asks)
 
-truth_is : (q : Request) → asks_truth q ≡ true → (v : Obj) × (q ≡ request.Truth v)
-truth_is (request.Truth v) asks = (v, refl)
-truth_is _ asks = absurd (cc asks)
+if_true_answered : (q : Request) → may_ask JumpIfTrue q ≡ true → is_answered q ≡ true
+if_true_answered (request.Truth v) asks = refl
+if_true_answered _ asks = absurd (cc asks)
 
-truth_answered : (q : Request) → asks_truth q ≡ true → is_answered q ≡ true
-truth_answered q asks = let (v, is) = truth_is q asks in ap is_answered is
+if_false_answered : (q : Request) → may_ask JumpIfFalse q ≡ true → is_answered q ≡ true
+if_false_answered (request.Truth v) asks = refl
+if_false_answered _ asks = absurd (cc asks)
 
 -- an instruction that keeps the rules asks what is answered, and doesn't yield
 op_answered : (sheet : Sheet) (at : ℕ) (kinds : List Kind) (blocks : List BlockNote) (q : Request) (op : Instruction) (i : ℕ) → keeps_op sheet at op i kinds blocks ≡ true → may_ask op q ≡ true → is_answered q ≡ true
-op_answered sheet at kinds blocks q LoadFast i keeps asks = let (x, is) = unbound_is q asks in ap is_answered is
-op_answered sheet at kinds blocks q LoadGlobal i keeps asks = let (globals, x, is) = global_is q asks in ap is_answered is
-op_answered sheet at kinds blocks q BinaryOperation i keeps asks = let (op, a, b, is, runs) = binary_is q asks in ap is_answered is ∙ runs
-op_answered sheet at kinds blocks q CompareOperation i keeps asks = let (op, a, b, is, runs) = compare_is q asks in ap is_answered is ∙ runs
-op_answered sheet at kinds blocks q CallFunctionPositional i keeps asks = let (f, vs, named, is, plain) = call_is q asks in ap is_answered is ∙ plain
-op_answered sheet at kinds blocks q PrintExpr i keeps asks = let (v, is) = show_is q asks in ap is_answered is
-op_answered sheet at kinds blocks q JumpIfTrue i keeps asks = truth_answered q asks
-op_answered sheet at kinds blocks q JumpIfFalse i keeps asks = truth_answered q asks
+op_answered sheet at kinds blocks q LoadFast i keeps asks = unbound_answered q asks
+op_answered sheet at kinds blocks q LoadGlobal i keeps asks = global_answered q asks
+op_answered sheet at kinds blocks q BinaryOperation i keeps asks = binary_answered q asks
+op_answered sheet at kinds blocks q CompareOperation i keeps asks = compare_answered q asks
+op_answered sheet at kinds blocks q CallFunctionPositional i keeps asks = call_answered q asks
+op_answered sheet at kinds blocks q PrintExpr i keeps asks = show_answered q asks
+op_answered sheet at kinds blocks q JumpIfTrue i keeps asks = if_true_answered q asks
+op_answered sheet at kinds blocks q JumpIfFalse i keeps asks = if_false_answered q asks
 op_answered sheet at kinds blocks q LoadConst i keeps asks = absurd (cc asks)
 op_answered sheet at kinds blocks q StoreFast i keeps asks = absurd (cc asks)
 op_answered sheet at kinds blocks q Pop i keeps asks = absurd (cc asks)
