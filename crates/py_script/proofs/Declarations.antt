@@ -8,8 +8,8 @@ use Rattle.py_check.specs.declared.annotated.Annotated.{Annotated}
 use Rattle.py_objects.specs.declared.payload.Payload.{Payload}
 use Rattle.py_objects.specs.declared.payload.Payload.TheVariants as payload
 use Rattle.py_objects.specs.Objects.{Obj, Name, numbers, AllBelow}
-use Rattle.py_frame.specs.Sound.{AreNames, IsSound}
-use Rattle.py_frame.proofs.Growing.{slice_get_grown}
+use Rattle.py_rows.specs.Fitting.{AreNames, IsSound}
+use Rattle.py_rows.proofs.GrowingLemmas.{slice_get_grown}
 use Rattle.py_body.specs.Tree.{Tree}
 use Rattle.py_body.specs.Fits.{Fits, Continues}
 use Rattle.py_body.proofs.Fitting.{params_continue}
@@ -73,7 +73,7 @@ fits_continues names names' c t grows fits = record {
   arity = fits.arity;
   params = params_continue names names' c t grows fits;
   sound = sound_continues names names' c grows fits.sound;
-  traces = λ table globals objects args ts on. fits.traces table globals objects args ts (continues_on names names' table grows on);
+  traces = λ table globals closure objects slot args ts s on. fits.traces table globals closure objects slot args ts s (continues_on names names' table grows on);
 }
 
 -- no body is compiled yet

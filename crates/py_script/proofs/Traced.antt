@@ -1,5 +1,5 @@
 -- What the rows of compiled code may tell is a trace of its body.
-use Rattle.std.proofs.Common.{◌≡◌, ℕ, suc, List, [], ◌∷◌, ◌++◌, length, Some, sym, ap, ◌∙◌, subst, append-nil, inl, inr}
+use Rattle.std.proofs.Common.{◌≡◌, ℕ, suc, List, [], ◌∷◌, ◌++◌, length, Some, sym, ap, ◌∙◌, subst, append-nil}
 use Rattle.std.specs.Prelude.{slice_get, map, All}
 use Rattle.std.proofs.lemmas.Option.{slice_get_within, get_or_from_slice_get}
 use Rattle.py_code.specs.Codes.{Codes}
@@ -10,16 +10,14 @@ use Rattle.py_objects.specs.declared.payload.Payload.TheVariants as payload
 use Rattle.py_objects.specs.declared.payload.FunctionBody.{FunctionBody}
 use Rattle.py_objects.specs.declared.event.Event.{Event}
 use Rattle.py_objects.specs.Objects.{Obj}
-use Rattle.py_objects.specs.Own.{Own, own_events}
-use Rattle.py_frame.specs.Rows.{Setting}
-use Rattle.py_frame.specs.RunOfRows.{RowsRun}
+use Rattle.py_objects.specs.Own.{Own, Makes, own_events}
 use Rattle.py_body.specs.Tree.{Tree}
 use Rattle.py_body.specs.Scene.{anywhere}
 use Rattle.py_body.specs.Trace.{IsTrace}
 use Rattle.py_body.specs.Fits.{Fits, located}
 use Rattle.py_body.proofs.Carry.{widens_anywhere, trace_goes}
 use Rattle.py_vm.specs.Run.{Posed, Activation, start, Comes, EachTells}
-use Rattle.py_vm.specs.RowsOf.{RowsTell, RowsOf}
+use Rattle.py_vm.specs.RowsOf.{RowsOf}
 use Rattle.py_vm.proofs.BoundLemmas.{IsBound, comes_bound}
 use Rattle.py_script.specs.Whole.{AreCompiled, signature_of, plan_of, Traces}
 use Rattle.py_script.proofs.Declarations.{signed_by_body}
@@ -29,15 +27,10 @@ use Rattle.py_script.proofs.Made.{HasTold, activation_tells}
 pub one_of_all : {X : Type 0} (P : X → Type 0) (xs : List X) (k : ℕ) (x : X) → All P xs → slice_get xs k ≡ Some x → P x
 one_of_all P xs k x all is = subst P (get_or_from_slice_get xs k x x is) (all k x (slice_get_within xs k x is))
 
--- what rows tell goes on to a run of them
-goes_on : (objects : List Payload) (c : Setting) (vs : List Obj) (own : List Own) → RowsTell objects c vs own → (more : List Own) × RowsRun objects c vs (own ++ more)
-goes_on objects c vs own (inl rows) = ([], subst (λ (l : List Own). RowsRun objects c vs l) (sym (append-nil own)) rows)
-goes_on objects c vs own (inr (front, w, x, is, rows)) = (x ∷ [], rows)
-
 -- an activation that was made has its tree's trace where its code's rows tell it
 traced : (trees : List Tree) (globals : Obj) (objects : List Payload) (codes : Codes) (act : Activation) (own : List Own) → AreCompiled trees codes → IsBound (map signature_of trees) objects act
     → HasTold own → RowsOf codes globals objects act.function act.args own → Traces trees globals objects act.function act.args own
-traced trees globals objects codes act own compiled bound told (b, has, c, is, tells) = go (signed_by_body trees bound.body.code bound.signature bound.is_signature)
+traced trees globals objects codes act own compiled bound told (b, has, c, is, closure, closed, (slot, us, s, own_is, run)) = go (signed_by_body trees bound.body.code bound.signature bound.is_signature)
   where
     go : (t : Tree) × (slice_get trees bound.body.code ≡ Some t) × (bound.signature.params ≡ t.params) → Traces trees globals objects act.function act.args own
     go (t, at, params) =
@@ -48,12 +41,12 @@ traced trees globals objects codes act own compiled bound told (b, has, c, is, t
         let (k, k_at, k_fits) = compiled.fit bound.body.code t at in
         let same_code : Some k ≡ Some c = sym k_at ∙ ap (slice_get codes.codes) (sym place) ∙ is in
         let (notes, fits) = subst (λ (x : PyCode). (notes : List Note) × Fits codes.names (record { code = x; notes = notes }) t) (let e : k ≡ c = cc same_code in e) k_fits in
-        let (more, runs) = goes_on objects (record { code = c; names = codes.names; globals = globals }) act.args own tells in
         let arity : length act.args ≡ length t.params = bound.binds ∙ ap length params in
-        let whole : IsTrace (located c objects globals) t act.args (own ++ more) = fits.traces codes.names globals objects act.args (own ++ more) ([], sym (append-nil codes.names)) arity runs in
-        let split : IsTrace (located c objects globals) t act.args ((told.front ∷ told.behind) ++ more) = subst (λ (l : List Own). IsTrace (located c objects globals) t act.args (l ++ more)) told.is whole in
+        let whole : IsTrace (located c objects globals) t act.args (Makes ∷ us) = fits.traces codes.names globals closure objects slot act.args us s ([], sym (append-nil codes.names)) arity run in
+        let split : IsTrace (located c objects globals) t act.args ((told.front ∷ told.behind) ++ []) =
+        subst (IsTrace (located c objects globals) t act.args) (sym own_is ∙ told.is ∙ sym (append-nil (told.front ∷ told.behind))) whole in
         let front : IsTrace (anywhere objects globals) t act.args (told.front ∷ told.behind) =
-        trace_goes (located c objects globals) (anywhere objects globals) (widens_anywhere (located c objects globals) objects ([], sym (append-nil objects))) more t act.args told.front told.behind split in
+        trace_goes (located c objects globals) (anywhere objects globals) (widens_anywhere (located c objects globals) objects ([], sym (append-nil objects))) [] t act.args told.front told.behind split in
         (b, has, (t, ap (slice_get trees) place ∙ at, subst (IsTrace (anywhere objects globals) t act.args) (sym told.is) front))
 
 -- what activations tell by their rows they tell by their bodies

@@ -1,4 +1,7 @@
 use Rattle.std.proofs.Common.{◌+◌, ◌++◌, ◌∷◌, [], ℕ, List, map, take, sym, subst, arith}
+use Rattle.std.specs.Prelude.{All}
+use Rattle.std.proofs.lemmas.List.Elements.{All-push}
+use Rattle.py_check.specs.Rules.{IsTyped}
 use Rattle.py_check.specs.declared.annotated.Annotated.{Annotated}
 use Rattle.py_body.specs.Tree.{Tree}
 use Rattle.py_grammar.specs.Script.{declared_tree}
@@ -11,7 +14,10 @@ compile_one-requires c = c.requires c.loop-declaration.declaration-index (declar
     (entry_read declared_tree c.args.declarations.now c.loop-declaration.declaration-index c.declaration-item.result c.loop-declaration-test.true c.declaration-item.is)
 
 pub loop-declaration-init : goal.loop-declaration-init
-loop-declaration-init c = record { checked = rw c.new-codes.ensures.items (none_checked _) }
+loop-declaration-init c = record {
+  checked = rw c.new-codes.ensures.items (none_checked _);
+  typed = rw c.new-codes.ensures.items (λ i x low. absurd (omega (arith, low)));
+}
 
 pub loop-declaration-preserved : goal.loop-declaration-preserved
 loop-declaration-preserved c =
@@ -26,8 +32,9 @@ loop-declaration-preserved c =
     record {
       checked = subst (λ (cs : List Annotated). AreChecked (map declared_tree (take (i + 1) ds)) (record { names = names; codes = cs })) (sym c.in_ok-push.ensures.items)
           (subst (λ (ts : List Tree). AreChecked ts (record { names = names; codes = codes ++ code ∷ [] })) (sym (front_more declared_tree ds i c.declaration-item.result c.loop-declaration-test.true c.declaration-item.is)) more);
+      typed = subst (All (λ (a : Annotated). IsTyped a)) (sym c.in_ok-push.ensures.items) (All-push (λ (a : Annotated). IsTyped a) codes code c.loop-declaration.invariant.typed c.in_ok-code.ensures.typed);
     }
 
-pub returns : goal.returns
-returns c = subst (λ (ts : List Tree). AreChecked ts (record { names = c.loop-declaration.names; codes = c.loop-declaration.codes.items }))
+pub returns-clause-checked : goal.returns-clause-checked
+returns-clause-checked c = subst (λ (ts : List Tree). AreChecked ts (record { names = c.loop-declaration.names; codes = c.loop-declaration.codes.items }))
     (front_whole declared_tree c.args.declarations.now c.loop-declaration.declaration-index (omega (arith, c.loop-declaration-test.false))) c.loop-declaration.invariant.checked
