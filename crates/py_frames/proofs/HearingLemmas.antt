@@ -7,19 +7,22 @@ use Rattle.py_objects.specs.declared.event.GotAnswer.TheVariants as got
 use Rattle.py_objects.specs.declared.event.ResumeHow.TheVariants as how
 use Rattle.py_objects.specs.declared.event.Ending.TheVariants as ending
 use Rattle.py_objects.specs.declared.scope.Scope.{Scope}
+use Rattle.py_objects.specs.Objects.{AllBelow, number_if}
 use Rattle.py_objects.specs.Growth.{Grows}
 use Rattle.py_objects.specs.Own.{Own, Resumes, Asks, Gets, Rounds, Yields, Ends}
 use Rattle.py_check.specs.declared.note.BlockNote.{BlockNote}
 use Rattle.py_check.specs.declared.note.Note.TheVariants.{Live}
 use Rattle.py_check.specs.declared.annotated.Annotated.{Annotated}
 use Rattle.py_rows.specs.declared.block.Block.{Block}
+use Rattle.py_rows.specs.declared.block.BlockType.{BlockType}
+use Rattle.py_rows.specs.declared.block.BlockType.TheVariants.{Loop, TryExcept, Finally, FinallyHandler, ExceptHandler}
 use Rattle.py_rows.specs.declared.expect.Expect.{Expect}
 use Rattle.py_rows.specs.declared.expect.Expect.TheVariants as expect
 use Rattle.py_rows.specs.States.{Setting, State, waiting}
-use Rattle.py_rows.specs.Handled.{handled_in, AllKeep, KeepsSlot}
+use Rattle.py_rows.specs.Handled.{handled_by, handled_in, Keeps, AllKeep, KeepsSlot}
 use Rattle.py_rows.specs.RunOfRows.{Hears, Steps, hearing as hearing_step, Runs, none, on}
 use Rattle.py_rows.specs.Standing.{IsPlaced, IsOf}
-use Rattle.py_rows.specs.Below.{HearsBelow, TellsBelow}
+use Rattle.py_rows.specs.Below.{TypeBelow, BlocksBelow, HearsBelow, TellsBelow}
 use Rattle.py_rows.specs.Fitting.{AreBlocks, FitsAt}
 use Rattle.py_rows.specs.Laws.{AllMayTell, IsMoving}
 use Rattle.py_rows.proofs.TypingLemmas.{typed_whole}
@@ -141,17 +144,21 @@ told_expects n t (frame_step.Return v) x is of = let same : Ends n (ending.Retur
 told_expects n t (frame_step.Raise e) x is of = let same : Ends n (ending.Raise e) ≡ x = cc in ((subst (IsOf n t) (sym same) of).1, tt)
 told_expects n t frame_step.NoMemory x is of = cc
 
-ended_gives : (first : Option PyBaseExceptionRef) (n : ℕ) (t : State) → t.wants ≡ expect.Ended → IsPlaced n t.wants t → KeepsSlot first t → t.slot ≡ first
-ended_gives first n t ended placed keeps =
+ended_gives : (first : Option PyBaseExceptionRef) (n : ℕ) (t : State) → IsPlaced n t.wants t → KeepsSlot first t → t.wants ≡ expect.Ended → t.slot ≡ first
+ended_gives first n t placed keeps ended =
     let here : IsPlaced n expect.Ended t = subst (λ (x : Expect). IsPlaced n x t) ended placed in keeps.slot ∙ ap (handled_in first) here.1
 
-gives_back : (first : Option PyBaseExceptionRef) (n : ℕ) (t : State) (step : FrameStep) → t.wants ≡ expected step → IsPlaced n t.wants t → KeepsSlot first t → GivesBack first t step
-gives_back first n t (frame_step.Ask r own) expects placed keeps = tt
-gives_back first n t frame_step.Round expects placed keeps = tt
-gives_back first n t (frame_step.Yield v) expects placed keeps = tt
-gives_back first n t (frame_step.Return v) expects placed keeps = ended_gives first n t expects placed keeps
-gives_back first n t (frame_step.Raise e) expects placed keeps = ended_gives first n t expects placed keeps
-gives_back first n t frame_step.NoMemory expects placed keeps = tt
+-- what the slot held at first is among the objects, where what it holds is and what handlers kept
+kept_below : (n : ℕ) (first : Option PyBaseExceptionRef) (typ : BlockType) (outer : List Block) → TypeBelow n typ → Keeps typ (handled_in first outer) → AllBelow n (number_if (handled_by typ (handled_in first outer))) → AllBelow n (number_if (handled_in first outer))
+kept_below n first Loop outer low keeps handled = handled
+kept_below n first (TryExcept handler) outer low keeps handled = handled
+kept_below n first (Finally handler) outer low keeps handled = handled
+kept_below n first (FinallyHandler r kept) outer low keeps handled = subst (λ (x : Option PyBaseExceptionRef). AllBelow n (number_if x)) keeps low.1
+kept_below n first (ExceptHandler e kept) outer low keeps handled = subst (λ (x : Option PyBaseExceptionRef). AllBelow n (number_if x)) keeps low.1
+
+first_below : (n : ℕ) (first : Option PyBaseExceptionRef) (blocks : List Block) → BlocksBelow n blocks → AllKeep first blocks → AllBelow n (number_if (handled_in first blocks)) → AllBelow n (number_if first)
+first_below n first [] low keep handled = handled
+first_below n first (b ∷ blocks) low keep handled = first_below n first blocks low.1 keep.1 (kept_below n first b.typ blocks low.0 keep.0 handled)
 
 if_told : (step : FrameStep) (P : Type 0) → P → IfTold step P
 if_told (frame_step.Ask r own) P p = p
@@ -179,29 +186,42 @@ module _ (objects objects' : List Payload) (names : List (List ℕ)) (code : Ann
         own = known.1;
         may = subst (λ (o : Option Own). AllMayTell objects' code.code (events o)) (sym has.told) has.may;
         told = subst (λ (o : Option Own). TellsBelow (length objects') (events o)) (sym has.told) has.below;
-        given_back = λ first keeps. gives_back first (h.state.last - 1) h.state step known.0 has.running.stands.placed (run_keeps objects' setting first (handed slot f.state) h.state _ keeps whole);
+        given_back =
+            let kept : (first : Option PyBaseExceptionRef) → KeepsSlot first (handed slot f.state) → KeepsSlot first h.state = λ first keeps. run_keeps objects' setting first (handed slot f.state) h.state _ keeps whole in
+            (kept, λ ended first keeps. ended_gives first (h.state.last - 1) h.state has.running.stands.placed (kept first keeps) ended);
         running = has.running;
         same = record { code = same.code; entry = same.entry; scope = same.scope; closure = same.closure; room = same.room; block_room = same.block_room };
       }
 
   -- it has ended where memory ran out
-  pub stepped_cut : (k : Framed) → IsRunning objects names code f → IsCut objects' code k → IsSame took k → h ≡ record k { state = record k.state { blocks = []; wants = expect.Ended }; block_room = h.block_room } → h.block_room ≡ length k.state.blocks + k.block_room
-      → IsStepped objects' names code slot i f frame_step.NoMemory h
-  stepped_cut k running cut same is room = subst (λ (x : Framed). IsStepped objects' names code slot i f frame_step.NoMemory x) (sym is) stepped
+  pub stepped_cut : (k : Framed) → IsRunning objects names code took → IsCut objects' code took k → IsSame took k
+      → h ≡ record k { state = record k.state { blocks = []; slot = h.state.slot; wants = expect.Ended }; block_room = h.block_room } → GivesBack k.state h.state
+      → h.block_room ≡ length k.state.blocks + k.block_room → IsStepped objects' names code slot i f frame_step.NoMemory h
+  stepped_cut k running cut same is back room = subst (λ (x : Framed). IsStepped objects' names code slot i f frame_step.NoMemory x) (sym is) stepped
     where
       ended : Framed
-      ended = record k { state = record k.state { blocks = []; wants = expect.Ended }; block_room = h.block_room }
+      ended = record k { state = record k.state { blocks = []; slot = h.state.slot; wants = expect.Ended }; block_room = h.block_room }
 
       globals : k.scope.globals.number < length objects'
       globals = subst (λ (s : Scope). s.globals.number < length objects') (sym same.scope) (omega (arith, running.globals, length_grown objects objects' grows))
+
+      -- the slot is as before the frame was entered
+      given : GivesBack took.state h.state
+      given first keeps = back first (cut.keeps first keeps)
+
+      slot_below : AllBelow (length objects') (number_if h.state.slot)
+      slot_below =
+          let keeps : KeepsSlot running.first k.state = cut.keeps running.first running.stands.slot in
+          let Below : Option PyBaseExceptionRef → Type 0 = λ x. AllBelow (length objects') (number_if x) in
+          subst Below (sym (back running.first keeps)) (first_below (length objects') running.first k.state.blocks cut.below.in_blocks keeps.outer (subst Below keeps.slot cut.below.in_slot))
 
       runs : IsRunning objects' names code ended
       runs = record {
         sound = running.sound;
         fits = (refl, cut.within);
-        first = k.state.slot;
-        stands = record { placed = (omega (arith, cut.begun), refl); slot = record { slot = refl; outer = tt } };
-        below = record { in_stack = cut.below.in_stack; in_locals = cut.below.in_locals; in_blocks = tt; in_slot = cut.below.in_slot; in_wants = tt };
+        first = running.first;
+        stands = record { placed = (omega (arith, cut.begun), refl); slot = record { slot = given running.first running.stands.slot; outer = tt } };
+        below = record { in_stack = cut.below.in_stack; in_locals = cut.below.in_locals; in_blocks = tt; in_slot = slot_below; in_wants = tt };
         globals = globals;
         within = omega (arith, cut.begun, cut.there);
         room = omega (arith, running.room, same.room);
@@ -215,7 +235,7 @@ module _ (objects objects' : List Payload) (names : List (List ℕ)) (code : Ann
         own = tt;
         may = tt;
         told = tt;
-        given_back = λ first keeps. tt;
+        given_back = (λ first keeps. record { slot = given first (record { slot = keeps.slot; outer = keeps.outer }); outer = tt }, λ ended first keeps. given first (record { slot = keeps.slot; outer = keeps.outer }));
         running = runs;
         same = record { code = same.code; entry = same.entry; scope = same.scope; closure = same.closure; room = same.room; block_room = omega (arith, same.block_room, room) };
       }

@@ -234,16 +234,17 @@ module _ (names : List (List ℕ)) (code : Annotated) (sound : IsSound names cod
         }
 
   -- memory ran out in the unit that had begun
-  pub cut_short : (objects objects' : List Payload) (f g h : Framed) → IsSilent objects names code f g → Grows objects objects' → h ≡ record g { state = begun g.state } → IsCut objects' code h
+  pub cut_short : (objects objects' : List Payload) (f g h : Framed) → IsSilent objects names code f g → Grows objects objects' → h ≡ record g { state = begun g.state } → IsCut objects' code f h
   cut_short objects objects' f g h silently grows same =
       let low : HoldsBelow (length objects') g.state = holds_more (length objects) (length objects') (length_grown objects objects' grows) g.state silently.below in
-      let cut : IsCut objects' code (record g { state = begun g.state }) = record {
+      let cut : IsCut objects' code f (record g { state = begun g.state }) = record {
         begun = refl;
         there = unit_there objects names code g.state.wants g.state sound silently.fits silently.moving;
         within = (within objects names g.scope.globals g.closure code sound g.state g.state.wants silently.fits).0;
         below = record { in_stack = low.in_stack; in_locals = low.in_locals; in_blocks = low.in_blocks; in_slot = low.in_slot; in_wants = tt };
+        keeps = λ first keeps. let kept = run_keeps objects (setting_of names code f) first f.state g.state [] keeps silently.run in record { slot = kept.slot; outer = kept.outer };
       } in
-      subst (IsCut objects' code) (sym same) cut
+      subst (IsCut objects' code f) (sym same) cut
 
   -- a unit that tells isn't stuck
   pub told_there : (objects objects' : List Payload) (f g h : Framed) → IsSilent objects names code f g → Grows objects objects' → (step : FrameStep)

@@ -7,6 +7,7 @@ use Rattle.py_check.specs.declared.annotated.Annotated.{Annotated}
 use Rattle.py_check.specs.Depths.{deepest}
 use Rattle.py_rows.specs.declared.expect.Expect.TheVariants as expect
 use Rattle.py_rows.specs.States.{State}
+use Rattle.py_rows.specs.Handled.{KeepsSlot}
 use Rattle.py_objects.specs.Own.{Own}
 use Rattle.py_rows.specs.Below.{HoldsBelow, TellsBelow}
 use Rattle.py_rows.specs.RunOfRows.{Runs}
@@ -55,12 +56,13 @@ pub record HasTold (objects : List Payload) (names : List (List ℕ)) (code : An
   pub below : TellsBelow (length objects) (event ∷ [])
   pub running : IsRunning objects names code g
 
--- a frame whose unit has begun, where memory ran out
-pub record IsCut (objects : List Payload) (code : Annotated) (f : Framed) : Type 0 where
-  pub begun : f.state.last ≡ suc f.state.at
-  pub there : f.state.at < length code.code.code.instructions.items
-  pub within : length f.state.stack ≤ code.code.code.max_stackdepth
-  pub below : HoldsBelow (length objects) f.state
+-- a frame came by silent steps to a unit that has begun, where memory ran out
+pub record IsCut (objects : List Payload) (code : Annotated) (f g : Framed) : Type 0 where
+  pub begun : g.state.last ≡ suc g.state.at
+  pub there : g.state.at < length code.code.code.instructions.items
+  pub within : length g.state.stack ≤ code.code.code.max_stackdepth
+  pub below : HoldsBelow (length objects) g.state
+  pub keeps : (first : Option PyBaseExceptionRef) → KeepsSlot first f.state → KeepsSlot first g.state
 
 -- a frame took an input, and told an event, or memory ran out and it has ended
 pub record IsStepped (objects : List Payload) (names : List (List ℕ)) (code : Annotated) (slot : Option PyBaseExceptionRef) (i : Input) (f : Framed) (step : FrameStep) (g : Framed) : Type 0 where
@@ -69,6 +71,6 @@ pub record IsStepped (objects : List Payload) (names : List (List ℕ)) (code : 
   pub own : NamesHandled g.state step
   pub may : AllMayTell objects code.code (events (told (g.state.last - 1) step))
   pub told : TellsBelow (length objects) (events (told (g.state.last - 1) step))
-  pub given_back : KeepsFirst (handed slot f.state) step g.state
+  pub given_back : KeepsFirst (handed slot f.state) g.state
   pub running : IsRunning objects names code g
   pub same : IsSame f g

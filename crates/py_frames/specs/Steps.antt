@@ -102,15 +102,10 @@ NamesHandled s (step.Return v) = Unit {0}
 NamesHandled s (step.Raise e) = Unit {0}
 NamesHandled s step.NoMemory = Unit {0}
 
--- a frame that ends leaves this in the slot
-abbrev pub GivesBack : Option PyBaseExceptionRef → State → FrameStep → Type 0
-GivesBack first t (step.Ask r own) = Unit {0}
-GivesBack first t step.Round = Unit {0}
-GivesBack first t (step.Yield v) = Unit {0}
-GivesBack first t (step.Return v) = t.slot ≡ first
-GivesBack first t (step.Raise e) = t.slot ≡ first
-GivesBack first t step.NoMemory = Unit {0}
+-- what the slot held when the frame was entered it holds again
+abbrev pub GivesBack : State → State → Type 0
+GivesBack s t = (first : Option PyBaseExceptionRef) → KeepsSlot first s → t.slot ≡ first
 
--- what the slot held when the frame was entered, it holds when the frame ends
-abbrev pub KeepsFirst : State → FrameStep → State → Type 0
-KeepsFirst s told t = (first : Option PyBaseExceptionRef) → KeepsSlot first s → GivesBack first t told
+-- it goes on to hold what is handled, where it held this then, and the frame gives it back where it has ended
+abbrev pub KeepsFirst : State → State → Type 0
+KeepsFirst s t = ((first : Option PyBaseExceptionRef) → KeepsSlot first s → KeepsSlot first t) × (t.wants ≡ expect.Ended → GivesBack s t)

@@ -124,7 +124,8 @@ impl<S: ValueStack + Drop> Frame<S> {
         ensures may { AllMayTell store.new.made code.now.code (events (told (self.new.state.last - 1) result)) }
         ensures told { TellsBelow (length store.new.made) (events (told (self.new.state.last - 1) result)) }
         ensures slot { slot.new ≡ self.new.state.slot }
-        ensures given_back { KeepsFirst (handed slot.old self.old.state) result self.new.state }
+        // What the slot held when the frame was entered it holds again where the frame has ended, also where memory ran out.
+        ensures given_back { KeepsFirst (handed slot.old self.old.state) self.new.state }
         // The frame runs as before, or has ended.
         ensures running { IsRunning store.new.made names.now code.now self.new }
         ensures same { IsSame self.old self.new }

@@ -77,7 +77,7 @@ impl FrameCore {
         requires moving { IsMoving self.old.state.wants }
         requires fit { AllFit store.old.made }
         ensures told { IfOk result (λ step. HasTold store.new.made names.now code.now (over self.old (S.list stack.old) (S.room stack.old)) step (over self.new (S.list stack.new) (S.room stack.new))) }
-        ensures cut { OnErr result (IsCut store.new.made code.now (over self.new (S.list stack.new) (S.room stack.new))) }
+        ensures cut { OnErr result (IsCut store.new.made code.now (over self.old (S.list stack.old) (S.room stack.old)) (over self.new (S.list stack.new) (S.room stack.new))) }
         ensures same { IsSame (over self.old (S.list stack.old) (S.room stack.old)) (over self.new (S.list stack.new) (S.room stack.new)) }
         ensures objects { GrowsPlainly store.old.made store.new.made }
         ensures unchanged { store.new ≡ record store.old { made = store.new.made } }

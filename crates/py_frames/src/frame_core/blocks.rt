@@ -4,6 +4,7 @@ ghost use Rattle.std.specs.Prelude.{◌≡◌, ◌+◌, ◌<◌, ◌∷◌, [], 
 ghost use Rattle.py_rows.specs.Handled.{handled_in};
 ghost use Rattle.py_rows.specs.Rows.{raised_in};
 ghost use Rattle.py_rows.specs.declared.expect.Expect.TheVariants as expect;
+ghost use Rattle.py_frames.specs.Steps.{GivesBack};
 ghost use Rattle.py_frames.specs.UnitSteps.{PopsBlock};
 
 use super::FrameCore;
@@ -28,13 +29,20 @@ impl FrameCore {
         self.blocks.pop()
     }
 
-    /// Leaves all blocks, and expects nothing more.
+    /// Leaves all blocks, each handler with what it kept, and expects nothing more.
     pub(crate) fn gives_up(&mut self)
-        ensures frame { self.new ≡ record self.old { state = record self.old.state { blocks = []; wants = expect.Ended }; block_room = self.new.block_room } }
+        ensures frame { self.new ≡ record self.old { state = record self.old.state { blocks = []; slot = self.new.state.slot; wants = expect.Ended }; block_room = self.new.block_room } }
+        ensures given_back { GivesBack self.old.state self.new.state }
         ensures room { self.new.block_room ≡ length self.old.state.blocks + self.old.block_room }
     {
-        self.blocks.truncate(0);
-        self.wants = Expect::Ended;
+        'blocks_left: while let Some(block) = self.pop_block() {
+            match block.typ {
+                BlockType::Loop | BlockType::TryExcept { .. } | BlockType::Finally { .. } => {}
+                BlockType::FinallyHandler { reason: _, kept } => self.handles(kept),
+                BlockType::ExceptHandler { exception: _, kept } => self.handles(kept),
+            }
+        }
+        self.waits(Expect::Ended);
     }
 
     /// The exception of the innermost handler that was entered by one.
