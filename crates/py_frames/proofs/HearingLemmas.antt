@@ -1,5 +1,5 @@
 -- Frames that take an input, and what holds behind a step.
-use Rattle.std.proofs.Common.{◌≡◌, ◌∙◌, ◌++◌, ◌+◌, ◌-◌, ◌<◌, ℕ, List, [], ◌∷◌, inl, inr, Some, refl, sym, ap, subst, length, arith}
+use Rattle.std.proofs.Common.{◌≡◌, ◌⊎◌, ◌∙◌, ◌++◌, ◌+◌, ◌-◌, ◌<◌, ℕ, List, [], ◌∷◌, inl, inr, Some, refl, sym, ap, subst, length, arith}
 use Rattle.std.specs.Prelude.{Option, slice_get}
 use Rattle.py_objects.specs.declared.refs.PyBaseExceptionRef.{PyBaseExceptionRef}
 use Rattle.py_objects.specs.declared.payload.Payload.{Payload}
@@ -30,7 +30,7 @@ use Rattle.py_rows.proofs.StepLemmas.{steps_fit}
 use Rattle.py_rows.proofs.StandingLemmas.{steps_stand, steps_below}
 use Rattle.py_rows.proofs.GrowingLemmas.{run_grown}
 use Rattle.py_frames.specs.Frames.{Framed, setting_of, handed}
-use Rattle.py_frames.specs.Steps.{Expects, GivesBack, IfTold, NamesHandled, events, expected, got_of, heard, hearing, taken, told}
+use Rattle.py_frames.specs.Steps.{Expects, GivesBack, IfTold, NamesHandled, events, expected, got_of, heard, hearing, slot_taken, taken, told, unless_ended}
 use Rattle.py_frames.specs.Running.{IsRunning, IsSame, SlotFits, HasTold, IsCut, IsStepped}
 use Rattle.py_frames.specs.declared.input.Input.{Input}
 use Rattle.py_frames.specs.declared.input.Input.TheVariants as input
@@ -39,21 +39,43 @@ use Rattle.py_frames.specs.declared.input.FrameStep.TheVariants as frame_step
 use Rattle.py_frames.proofs.PlainGrowth.{length_grown}
 use Rattle.py_frames.proofs.RunningLemmas.{run_joined, run_keeps}
 
+-- a frame that hears hasn't ended
+not_ended : (objects : List Payload) (setting : Setting) (x y z : Expect) (own : Own) → Hears objects setting x own y → unless_ended x z ≡ z
+not_ended objects setting expect.Start y z own hears = refl
+not_ended objects setting expect.Go y z own hears = refl
+not_ended objects setting (expect.Answer w) y z own hears = refl
+not_ended objects setting expect.Resume y z own hears = refl
+not_ended objects setting (expect.Heard w) y z own hears = refl
+not_ended objects setting expect.Ended y z own hears = absurd hears
+
 -- a frame that takes an input goes on
 pub taken_moves : (objects : List Payload) (setting : Setting) (x : Expect) (i : Input) → Expects objects setting x i → IsMoving (taken i x)
-taken_moves objects setting x input.Start expects = tt
+taken_moves objects setting x input.Start expects = subst IsMoving (sym (not_ended objects setting x _ expect.Go (Resumes how.Start) expects)) tt
 taken_moves objects setting x input.Go expects = expects
-taken_moves objects setting x (input.Send v) expects = tt
-taken_moves objects setting x (input.Throw e) expects = tt
-taken_moves objects setting x (input.Answer w) expects = tt
+taken_moves objects setting x (input.Send v) expects = subst IsMoving (sym (not_ended objects setting x _ (expect.Heard (got.Value v)) (Resumes (how.Send v)) expects)) tt
+taken_moves objects setting x (input.Throw e) expects = subst IsMoving (sym (not_ended objects setting x _ (expect.Heard (got.Raise e)) (Resumes (how.Throw e)) expects)) tt
+taken_moves objects setting x (input.Answer w) expects = subst IsMoving (sym (not_ended objects setting x _ (expect.Heard (got_of w)) (Gets (got_of w)) expects)) tt
 
 -- taking it is a step of the run, or none
 heard_run : (objects : List Payload) (setting : Setting) (s : State) (i : Input) → Expects objects setting s.wants i → Runs objects setting s (events (heard i)) (waiting (taken i s.wants) s)
-heard_run objects setting s input.Start expects = on _ none (hearing_step (Resumes how.Start) expect.Go expects)
+heard_run objects setting s input.Start expects = on _ none (hearing_step (Resumes how.Start) (taken input.Start s.wants) expects)
 heard_run objects setting s input.Go expects = none
-heard_run objects setting s (input.Send v) expects = on _ none (hearing_step (Resumes (how.Send v)) (expect.Heard (got.Value v)) expects)
-heard_run objects setting s (input.Throw e) expects = on _ none (hearing_step (Resumes (how.Throw e)) (expect.Heard (got.Raise e)) expects)
-heard_run objects setting s (input.Answer w) expects = on _ none (hearing_step (Gets (got_of w)) (expect.Heard (got_of w)) expects)
+heard_run objects setting s (input.Send v) expects = on _ none (hearing_step (Resumes (how.Send v)) (taken (input.Send v) s.wants) expects)
+heard_run objects setting s (input.Throw e) expects = on _ none (hearing_step (Resumes (how.Throw e)) (taken (input.Throw e) s.wants) expects)
+heard_run objects setting s (input.Answer w) expects = on _ none (hearing_step (Gets (got_of w)) (taken (input.Answer w) s.wants) expects)
+
+-- a slot that is handed in where the frame hasn't begun, or as the frame left it, is the one that it has
+slot_same : (slot left : Option PyBaseExceptionRef) (x : Expect) → (x ≡ expect.Start) ⊎ (slot ≡ left) → slot_taken slot x left ≡ slot
+slot_same slot left x (inl start) = ap (λ (y : Expect). slot_taken slot y left) start
+slot_same slot left expect.Start (inr same) = refl
+slot_same slot left expect.Go (inr same) = sym same
+slot_same slot left (expect.Answer w) (inr same) = sym same
+slot_same slot left expect.Resume (inr same) = sym same
+slot_same slot left (expect.Heard w) (inr same) = sym same
+slot_same slot left expect.Ended (inr same) = sym same
+
+pub handed_hears : (objects : List Payload) (slot : Option PyBaseExceptionRef) (i : Input) (s : State) → SlotFits objects s slot → hearing slot i s ≡ waiting (taken i s.wants) (handed slot s)
+handed_hears objects slot i s slots = ap (λ (x : Option PyBaseExceptionRef). waiting (taken i s.wants) (handed x s)) (slot_same slot s.slot s.wants slots.left)
 
 no_blocks : (objects : List Payload) (bs : List Block) (cs : List BlockNote) → cs ≡ [] → AreBlocks objects bs cs → bs ≡ []
 no_blocks objects [] cs empty are = refl
@@ -124,16 +146,17 @@ module _ (objects : List Payload) (names : List (List ℕ)) (code : Annotated) w
 
   input_runs : (f : Framed) (i : Input) → IsRunning objects names code f → Expects objects (setting_of names code f) f.state.wants i → HearsBelow (length objects) (events (heard i))
       → IsRunning objects names code (record f { state = waiting (taken i f.state.wants) f.state })
-  input_runs f input.Start running expects named = event_runs f (Resumes how.Start) expect.Go running expects named
+  input_runs f input.Start running expects named = event_runs f (Resumes how.Start) (taken input.Start f.state.wants) running expects named
   input_runs f input.Go running expects named = running
-  input_runs f (input.Send v) running expects named = event_runs f (Resumes (how.Send v)) (expect.Heard (got.Value v)) running expects named
-  input_runs f (input.Throw e) running expects named = event_runs f (Resumes (how.Throw e)) (expect.Heard (got.Raise e)) running expects named
-  input_runs f (input.Answer w) running expects named = event_runs f (Gets (got_of w)) (expect.Heard (got_of w)) running expects named
+  input_runs f (input.Send v) running expects named = event_runs f (Resumes (how.Send v)) (taken (input.Send v) f.state.wants) running expects named
+  input_runs f (input.Throw e) running expects named = event_runs f (Resumes (how.Throw e)) (taken (input.Throw e) f.state.wants) running expects named
+  input_runs f (input.Answer w) running expects named = event_runs f (Gets (got_of w)) (taken (input.Answer w) f.state.wants) running expects named
 
   -- a frame that takes an input runs
   pub hearing_runs : (f : Framed) (slot : Option PyBaseExceptionRef) (i : Input) → IsRunning objects names code f → SlotFits objects f.state slot → Expects objects (setting_of names code f) f.state.wants i → HearsBelow (length objects) (events (heard i))
       → IsRunning objects names code (record f { state = hearing slot i f.state })
-  hearing_runs f slot i running slots expects named = input_runs (record f { state = handed slot f.state }) i (handed_runs f slot running slots) expects named
+  hearing_runs f slot i running slots expects named =
+      subst (λ (s : State). IsRunning objects names code (record f { state = s })) (sym (handed_hears objects slot i f.state slots)) (input_runs (record f { state = handed slot f.state }) i (handed_runs f slot running slots) expects named)
 
 -- what a step that told an event leaves: what it expects, what is handled, and what it gives back
 told_expects : (n : ℕ) (t : State) (step : FrameStep) (x : Own) → told n step ≡ Some x → IsOf n t x → (t.wants ≡ expected step) × NamesHandled t step
@@ -168,15 +191,19 @@ if_told (frame_step.Return v) P p = p
 if_told (frame_step.Raise e) P p = p
 if_told frame_step.NoMemory P p = tt
 
-module _ (objects objects' : List Payload) (names : List (List ℕ)) (code : Annotated) (slot : Option PyBaseExceptionRef) (i : Input) (f h : Framed) (grows : Grows objects objects') where
+module _ (objects objects' : List Payload) (names : List (List ℕ)) (code : Annotated) (slot : Option PyBaseExceptionRef) (i : Input) (f h : Framed) (slots : SlotFits objects f.state slot) (grows : Grows objects objects') where
   -- the frame that took the input, and went on
   abbrev took : Framed
   took = record f { state = hearing slot i f.state }
 
+  heard_there : waiting (taken i f.state.wants) (handed slot f.state) ≡ took.state
+  heard_there = sym (handed_hears objects slot i f.state slots)
+
   pub stepped_told : (step : FrameStep) → Expects objects (setting_of names code f) f.state.wants i → HasTold objects' names code took step h → IsSame took h → IsStepped objects' names code slot i f step h
   stepped_told step expects has same =
       let setting : Setting = setting_of names code f in
-      let before : Runs objects' setting (handed slot f.state) (events (heard i)) took.state = run_grown objects objects' grows setting (handed slot f.state) took.state (events (heard i)) (heard_run objects setting (handed slot f.state) i expects) in
+      let hears : Runs objects setting (handed slot f.state) (events (heard i)) took.state = subst (λ (t : State). Runs objects setting (handed slot f.state) (events (heard i)) t) heard_there (heard_run objects setting (handed slot f.state) i expects) in
+      let before : Runs objects' setting (handed slot f.state) (events (heard i)) took.state = run_grown objects objects' grows setting (handed slot f.state) took.state (events (heard i)) hears in
       let behind : Runs objects' setting took.state (events (told (h.state.last - 1) step)) h.state = subst (λ (o : Option Own). Runs objects' setting took.state (events o) h.state) (sym has.told) has.run in
       let whole = run_joined objects' setting (handed slot f.state) took.state h.state (events (heard i)) (events (told (h.state.last - 1) step)) before behind in
       let known = told_expects (h.state.last - 1) h.state step has.event has.told has.of in
@@ -206,8 +233,8 @@ module _ (objects objects' : List Payload) (names : List (List ℕ)) (code : Ann
       globals = subst (λ (s : Scope). s.globals.number < length objects') (sym same.scope) (omega (arith, running.globals, length_grown objects objects' grows))
 
       -- the slot is as before the frame was entered
-      given : GivesBack took.state h.state
-      given first keeps = back first (cut.keeps first keeps)
+      given : GivesBack (handed slot f.state) h.state
+      given first keeps = back first (cut.keeps first (subst (KeepsSlot first) heard_there (record { slot = keeps.slot; outer = keeps.outer })))
 
       slot_below : AllBelow (length objects') (number_if h.state.slot)
       slot_below =
@@ -220,7 +247,7 @@ module _ (objects objects' : List Payload) (names : List (List ℕ)) (code : Ann
         sound = running.sound;
         fits = (refl, cut.within);
         first = running.first;
-        stands = record { placed = (omega (arith, cut.begun), refl); slot = record { slot = given running.first running.stands.slot; outer = tt } };
+        stands = record { placed = (omega (arith, cut.begun), refl); slot = record { slot = back running.first (cut.keeps running.first running.stands.slot); outer = tt } };
         below = record { in_stack = cut.below.in_stack; in_locals = cut.below.in_locals; in_blocks = tt; in_slot = slot_below; in_wants = tt };
         globals = globals;
         within = omega (arith, cut.begun, cut.there);
@@ -235,7 +262,7 @@ module _ (objects objects' : List Payload) (names : List (List ℕ)) (code : Ann
         own = tt;
         may = tt;
         told = tt;
-        given_back = (λ first keeps. record { slot = given first (record { slot = keeps.slot; outer = keeps.outer }); outer = tt }, λ ended first keeps. given first (record { slot = keeps.slot; outer = keeps.outer }));
+        given_back = (λ first keeps. record { slot = given first keeps; outer = tt }, λ ended. given);
         running = runs;
         same = record { code = same.code; entry = same.entry; scope = same.scope; closure = same.closure; room = same.room; block_room = omega (arith, same.block_room, room) };
       }

@@ -36,13 +36,22 @@ heard (input.Send v) = Some (Resumes (how.Send v))
 heard (input.Throw e) = Some (Resumes (how.Throw e))
 heard (input.Answer w) = Some (Gets (got_of w))
 
+-- a frame that has ended stays so
+abbrev pub unless_ended : Expect → Expect → Expect
+unless_ended expect.Start y = y
+unless_ended expect.Go y = y
+unless_ended (expect.Answer w) y = y
+unless_ended expect.Resume y = y
+unless_ended (expect.Heard w) y = y
+unless_ended expect.Ended y = expect.Ended
+
 -- what a frame does next that took an input, where it expected this
 abbrev pub taken : Input → Expect → Expect
-taken input.Start x = expect.Go
+taken input.Start x = unless_ended x expect.Go
 taken input.Go x = x
-taken (input.Send v) x = expect.Heard (got.Value v)
-taken (input.Throw e) x = expect.Heard (got.Raise e)
-taken (input.Answer w) x = expect.Heard (got_of w)
+taken (input.Send v) x = unless_ended x (expect.Heard (got.Value v))
+taken (input.Throw e) x = unless_ended x (expect.Heard (got.Raise e))
+taken (input.Answer w) x = unless_ended x (expect.Heard (got_of w))
 
 -- a frame may hear an event, and does this next; where there is none it goes on by itself
 abbrev pub MayHear : List Payload → Setting → Expect → Option Own → Expect → Type 0
@@ -71,9 +80,18 @@ told at (step.Return v) = Some (Ends at (ending.Return v))
 told at (step.Raise e) = Some (Ends at (ending.Raise e))
 told at step.NoMemory = None
 
--- where a frame that takes an input is, with this in the slot
+-- the slot that is handed in counts where the frame hasn't begun; later it is as the frame left it
+abbrev pub slot_taken : Option PyBaseExceptionRef → Expect → Option PyBaseExceptionRef → Option PyBaseExceptionRef
+slot_taken slot expect.Start left = slot
+slot_taken slot expect.Go left = left
+slot_taken slot (expect.Answer w) left = left
+slot_taken slot expect.Resume left = left
+slot_taken slot (expect.Heard w) left = left
+slot_taken slot expect.Ended left = left
+
+-- where a frame that takes an input is, which is handed this as the slot
 abbrev pub hearing : Option PyBaseExceptionRef → Input → State → State
-hearing slot i s = record s { slot = slot; wants = taken i s.wants }
+hearing slot i s = record s { slot = slot_taken slot s.wants s.slot; wants = taken i s.wants }
 
 -- an event, or none
 abbrev pub events : Option Own → List Own

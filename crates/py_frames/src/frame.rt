@@ -91,7 +91,8 @@ impl<S: ValueStack + Drop> Frame<S> {
         self.core.locals = locals.into_vec();
     }
 
-    /// Takes an input, with this in the slot. A step goes on by it.
+    /// Takes an input, by which a step goes on. A frame that hasn't begun takes the slot over, a later one has it as it left
+    /// it; one that has ended stays so.
     pub fn hear(&mut self, slot: Option<PyBaseExceptionRef>, input: Input)
         ensures { self.new ≡ record self.old { state = hearing slot input self.old.state } }
     {

@@ -50,11 +50,15 @@ impl FrameCore {
         }
     }
 
-    /// Takes an input, with this in the slot.
+    /// Takes an input. A frame that hasn't begun takes the slot over; one that has ended stays so.
     pub(crate) fn hear(&mut self, slot: Option<PyBaseExceptionRef>, input: Input)
         ensures { self.new ≡ record self.old { state = hearing slot input self.old.state } }
     {
-        self.handles(slot);
+        match self.expects() {
+            Expect::Start => self.handles(slot),
+            Expect::Ended => return,
+            Expect::Go | Expect::Answer(_) | Expect::Resume | Expect::Heard(_) => {}
+        }
         match input {
             Input::Start => self.waits(Expect::Go),
             Input::Go => {}
