@@ -65,7 +65,7 @@ heard_run objects setting s (input.Throw e) expects = on _ none (hearing_step (R
 heard_run objects setting s (input.Answer w) expects = on _ none (hearing_step (Gets (got_of w)) (taken (input.Answer w) s.wants) expects)
 
 -- a slot that is handed in where the frame hasn't begun, or as the frame left it, is the one that it has
-slot_same : (slot left : Option PyBaseExceptionRef) (x : Expect) → (x ≡ expect.Start) ⊎ (slot ≡ left) → slot_taken slot x left ≡ slot
+pub slot_same : (slot left : Option PyBaseExceptionRef) (x : Expect) → (x ≡ expect.Start) ⊎ (slot ≡ left) → slot_taken slot x left ≡ slot
 slot_same slot left x (inl start) = ap (λ (y : Expect). slot_taken slot y left) start
 slot_same slot left expect.Start (inr same) = refl
 slot_same slot left expect.Go (inr same) = sym same
