@@ -1,0 +1,106 @@
+-- Frames that are driven.
+use Rattle.std.proofs.Common.{◌≡◌, ◌∙◌, ◌<◌, ◌≤◌, ◌++◌, ℕ, zero, suc, List, [], ◌∷◌, None, Some, true, false, refl, sym, ap, subst, inl, inr, length, append_assoc, arith}
+use Rattle.std.specs.Prelude.{Option, replicate}
+use Rattle.py_code.specs.declared.names.NameId.{NameId}
+use Rattle.py_objects.specs.declared.refs.FrameRef.{FrameRef}
+use Rattle.py_objects.specs.declared.refs.PyBaseExceptionRef.{PyBaseExceptionRef}
+use Rattle.py_objects.specs.declared.scope.Scope.{Scope}
+use Rattle.py_objects.specs.declared.payload.Payload.{Payload}
+use Rattle.py_objects.specs.declared.payload.Payload.TheVariants as payload
+use Rattle.py_objects.specs.Scopes.{scope_of}
+use Rattle.py_objects.specs.Objects.{Obj, payload_numbers, number_if, AllBelow, IsMade, AllFit}
+use Rattle.py_objects.specs.Growth.{Grows, GrowsPlainly}
+use Rattle.py_check.specs.declared.annotated.Annotated.{Annotated}
+use Rattle.py_check.specs.Depths.{deepest}
+use Rattle.py_check.specs.Typing.{IsTyped}
+use Rattle.py_rows.specs.declared.expect.Expect.{Expect}
+use Rattle.py_rows.specs.declared.expect.Expect.TheVariants as expect
+use Rattle.py_rows.specs.Below.{HearsBelow}
+use Rattle.py_rows.specs.Fitting.{ArePlaces, IsSound}
+use Rattle.py_rows.specs.RunOfRows.{filled, is_thrown_into}
+use Rattle.py_rows.specs.States.{Setting}
+use Rattle.py_frames.specs.declared.input.Input.{Input}
+use Rattle.py_frames.specs.Frames.{Framed, unfilled}
+use Rattle.py_frames.specs.Steps.{Expects, events, heard}
+use Rattle.py_frames.specs.Running.{IsRunning}
+use Rattle.py_frames.proofs.RunningLemmas.{fresh_runs}
+use Rattle.frame_tests.specs.Codes.{IsCodeOf}
+use Rattle.frame_tests.specs.declared.tables.Row.{Row}
+use Rattle.frame_tests.specs.declared.tables.First.TheVariants as first
+use Rattle.frame_tests.specs.Drives.{IsDriven}
+use Rattle.frame_tests.specs.FirstObjects.{first_objects, exception_body, object_at, payload_of}
+use Rattle.frame_tests.specs.Inputs.{IsExpected}
+
+-- an entry among the first objects fits
+abbrev FitsFirst : Payload → Type 0
+FitsFirst p = AllBelow (length first_objects) (payload_numbers p) × IsMade first_objects p
+
+exception_fits : FitsFirst (payload.Exception exception_body)
+exception_fits = ((omega arith, (omega arith, tt)), record { class = _; is_class = refl; is_declared = refl; arguments = []; are_arguments = refl; cause = tt; context = tt; traceback = tt })
+
+-- so does each
+pub first_fit : AllFit first_objects
+first_fit zero p is = subst FitsFirst (let same : payload.None ≡ p = cc in same) (tt, tt)
+first_fit (suc zero) p is = subst FitsFirst (let same : payload.Bool false ≡ p = cc in same) (tt, tt)
+first_fit (suc (suc zero)) p is = subst FitsFirst (let same : payload.Bool true ≡ p = cc in same) (tt, tt)
+first_fit (suc (suc (suc zero))) p is = subst FitsFirst (let same : payload_of first.Class ≡ p = cc in same) (tt, tt)
+first_fit (suc (suc (suc (suc zero)))) p is = subst FitsFirst (let same : payload.Tuple [] ≡ p = cc in same) (tt, tt)
+first_fit (suc (suc (suc (suc (suc zero))))) p is = subst FitsFirst (let same : payload.Exception exception_body ≡ p = cc in same) exception_fits
+first_fit (suc (suc (suc (suc (suc (suc zero)))))) p is = subst FitsFirst (let same : payload.Exception exception_body ≡ p = cc in same) exception_fits
+first_fit (suc (suc (suc (suc (suc (suc (suc zero))))))) p is = subst FitsFirst (let same : payload_of first.Function ≡ p = cc in same) (tt, tt)
+first_fit (suc (suc (suc (suc (suc (suc (suc (suc zero)))))))) p is =
+    subst FitsFirst (let same : payload_of first.Manager ≡ p = cc in same) ((omega arith, (omega arith, tt)), ((_, refl), (_, refl)))
+first_fit (suc (suc (suc (suc (suc (suc (suc (suc (suc zero))))))))) p is = subst FitsFirst (let same : payload.Frame 0 ≡ p = cc in same) (tt, tt)
+first_fit (suc (suc (suc (suc (suc (suc (suc (suc (suc (suc i)))))))))) p is = absurd (cc is)
+
+-- a frame that was filled with a value and a manager runs
+pub frame_runs : (names : List (List ℕ)) (code : Annotated) (made now : Framed) (entry : FrameRef) (scope : Scope) (closure args : List Obj) (room : ℕ) (locals : List (Option Obj))
+    → made ≡ unfilled code 0 entry scope closure room made.block_room → deepest code.notes ≤ made.block_room → locals ≡ filled (length code.code.code.varnames.items) args
+    → now ≡ record made { state = record made.state { locals = locals } } → scope ≡ scope_of None (object_at 0) → args ≡ object_at 2 ∷ object_at 8 ∷ [] → room ≡ code.code.code.max_stackdepth
+    → IsSound names code → IsRunning first_objects names code now
+frame_runs names code made now entry scope closure args room locals is blocks are fills globals low has_room sound =
+    let with_locals : Framed → List (Option Obj) → Framed = λ f ls. record f { state = record f.state { locals = ls } } in
+    let same : now ≡ with_locals (unfilled code 0 entry scope closure room made.block_room) (filled (length code.code.code.varnames.items) args) =
+    fills ∙ ap (λ f. with_locals f locals) is ∙ ap (λ ls. with_locals (unfilled code 0 entry scope closure room made.block_room) ls) are in
+    subst (IsRunning first_objects names code) (sym same)
+    (fresh_runs first_objects names code 0 entry scope closure room made.block_room args sound
+    (rw globals (omega arith)) (rw low (omega arith, (omega arith, tt))) (omega (arith, has_room)) blocks)
+
+-- what is expected among the first objects is among more
+pub expected : (objects : List Payload) (setting : Setting) (x y : Expect) (i : Input) → IsExpected x i → x ≡ y → Grows first_objects objects → is_thrown_into setting.code.code.flags ≡ true
+    → Expects objects setting y i × HearsBelow (length objects) (events (heard i))
+expected objects setting x y i fits same (more, is) flags =
+    subst (λ (z : Expect). Expects objects setting z i × HearsBelow (length objects) (events (heard i))) same
+    (subst (λ (os : List Payload). Expects os setting x i × HearsBelow (length os) (events (heard i))) (sym is) (fits more setting flags))
+
+-- a frame that made a step is still driven
+pub driven_on : (old new : List Payload) (names : List (List ℕ)) (code : Annotated) (before slot : Option PyBaseExceptionRef) (f g : Framed) → IsDriven old names code before f → GrowsPlainly old new
+    → IsRunning new names code g → slot ≡ g.state.slot → IsDriven new names code slot g
+driven_on old new names code before slot f g driven grows running left = record {
+  running = running;
+  fit = grows.fit driven.fit;
+  grown = (driven.grown.0 ++ grows.more, grows.is ∙ ap (λ os. os ++ grows.more) driven.grown.1 ∙ append_assoc first_objects driven.grown.0 grows.more);
+  slot_fits = record { below = subst (λ (s : Option PyBaseExceptionRef). AllBelow (length new) (number_if s)) (sym left) running.below.in_slot; left = inr left };
+}
+
+-- the first name is a place in a table that isn't empty
+first_place : (names : List (List ℕ)) (id : NameId) → 0 < length names → Some (record { index = 0 }) ≡ Some id → id.index < length names
+first_place names id some is = let same : record { index = 0 } ≡ id = cc in subst (λ (x : NameId). x.index < length names) same some
+
+places : (names : List (List ℕ)) (n : ℕ) → 0 < length names → ArePlaces names (replicate n (record { index = 0 }))
+places names zero some i id here = cc
+places names (suc n) some zero id here = first_place names id some here
+places names (suc n) some (suc i) id here = places names n some i id here
+
+-- a table's code is sound
+pub sound : (rows : List Row) (names : List (List ℕ)) (code : Annotated) → IsCodeOf rows code → IsTyped code → 0 < length names → IsSound names code
+sound rows names code of typed some = record { typed = typed; named = record { locals = rw of.varnames (places names 3 some); globals = rw of.names (places names 1 some) } }
+
+-- a frame that hasn't begun is driven
+pub driven_first : (objects : List Payload) (names : List (List ℕ)) (code : Annotated) (f : Framed) → objects ≡ first_objects → IsRunning objects names code f → f.state.wants ≡ expect.Start → IsDriven objects names code (Some (record { number = 6 })) f
+driven_first objects names code f is running fresh = record {
+  running = running;
+  fit = subst AllFit (sym is) first_fit;
+  grown = ([], is);
+  slot_fits = record { below = rw is (omega arith, tt); left = inl fresh };
+}

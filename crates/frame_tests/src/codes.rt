@@ -1,0 +1,130 @@
+//! Codes as tables: what each unit does, and what its note says.
+
+ghost use Rattle.std.specs.Prelude.{◌≡◌, IfOk, map, true};
+ghost use Rattle.py_check.specs.declared.note.Note.TheVariants as note;
+ghost use Rattle.py_check.specs.Typing.{IsTyped};
+ghost use Rattle.frame_tests.specs.Codes.{IsCodeOf, block_of, keeps_rules, note_of, unit_of, waiting_of};
+
+use crate::tables::{Open, Row};
+use py_check::{
+    Annotated, BlockList, BlockNote, CheckedCode, Kind, KindList, Note, NoteList, Pending,
+    PendingSet,
+};
+use py_code::{
+    CodeFlags, CodeObject, CodeUnit, ItemList, Literal, LiteralList, NameId, NoMemory, PyCode,
+};
+use std::alloc::Global;
+
+/// The jumps that may wait where at most one may.
+fn waiting(alloc: Global, jump: Option<Pending>) -> Result<PendingSet, NoMemory>
+    ensures { IfOk result (λ made. made ≡ waiting_of jump) }
+{
+    let mut made = PendingSet::new(alloc);
+    if let Some(jump) = jump {
+        made.push(jump)?;
+    }
+    Ok(made)
+}
+
+/// An open block.
+fn block(alloc: Global, around: Open) -> Result<BlockNote, NoMemory>
+    ensures { IfOk result (λ made. made ≡ block_of around) }
+{
+    match around {
+        Open::Loop(level) => Ok(BlockNote::Loop { level }),
+        Open::TryExcept(level, handler) => Ok(BlockNote::TryExcept { level, handler }),
+        Open::Finally(level, handler) => Ok(BlockNote::Finally { level, handler }),
+        Open::FinallyHandler(level, jump) => {
+            let pending = waiting(alloc, jump)?;
+            Ok(BlockNote::FinallyHandler { level, pending })
+        }
+        Open::ExceptHandler(level) => Ok(BlockNote::ExceptHandler { level }),
+    }
+}
+
+/// Open blocks.
+fn blocks(alloc: Global, opens: &[Open]) -> Result<BlockList, NoMemory>
+    ensures { IfOk result (λ made. made ≡ map block_of opens.now) }
+{
+    let mut made = BlockList::new(alloc);
+    for open in opens {
+        made.push(block(alloc, *open)?)?;
+    }
+    Ok(made)
+}
+
+/// A note.
+fn note(alloc: Global, kinds: &[Kind], opens: &[Open]) -> Result<Note, NoMemory>
+    ensures { IfOk result (λ made. made ≡ note.Live kinds.now (map block_of opens.now)) }
+{
+    let kinds = KindList::of(kinds.to_vec(alloc)?);
+    let blocks = blocks(alloc, opens)?;
+    Ok(Note::Live { kinds, blocks })
+}
+
+/// The notes of a code.
+fn notes(alloc: Global, rows: &[Row]) -> Result<NoteList, NoMemory>
+    ensures { IfOk result (λ made. made ≡ map note_of rows.now) }
+{
+    let mut made = NoteList::new(alloc);
+    for row in rows {
+        made.push(note(alloc, row.2, row.3)?)?;
+    }
+    Ok(made)
+}
+
+/// The units of a code.
+fn units(alloc: Global, rows: &[Row]) -> Result<Vec<CodeUnit>, NoMemory>
+    ensures { IfOk result (λ made. made.items ≡ map unit_of rows.now) }
+{
+    let mut made = Vec::new(alloc);
+    for row in rows {
+        made.push(CodeUnit {
+            op: row.0,
+            arg: row.1,
+        })?;
+    }
+    Ok(made)
+}
+
+/// A generator's code of two parameters and one more local, with the constant None.
+fn annotated(alloc: Global, rows: &[Row]) -> Result<Annotated, NoMemory>
+    ensures { IfOk result (λ code. IsCodeOf rows.now code) }
+{
+    let name = NameId { index: 0 };
+    let mut constants = LiteralList::new(alloc);
+    constants.push(Literal::None)?;
+    let code = PyCode::new(CodeObject {
+        instructions: units(alloc, rows)?,
+        locations: vec![in alloc; 1; rows.len()]?,
+        flags: CodeFlags::new(
+            CodeFlags::NEW_LOCALS | CodeFlags::IS_OPTIMIZED | CodeFlags::IS_GENERATOR,
+        ),
+        posonlyarg_count: 0,
+        arg_count: 2,
+        kwonlyarg_count: 0,
+        source_path: name,
+        first_line_number: None,
+        max_stackdepth: 4,
+        obj_name: name,
+        cell2arg: Vec::new(alloc),
+        constants,
+        names: vec![in alloc; name]?,
+        varnames: vec![in alloc; name, name, name]?,
+        cellvars: Vec::new(alloc),
+        freevars: Vec::new(alloc),
+    });
+    Ok(Annotated {
+        code,
+        notes: notes(alloc, rows)?,
+    })
+}
+
+/// The code of a table whose notes keep the rules.
+pub fn checked(alloc: Global, rows: &[Row]) -> Result<CheckedCode, NoMemory>
+    requires { keeps_rules rows.now ≡ true }
+    ensures of { IfOk result (λ code. IsCodeOf rows.now code) }
+    ensures typed { IfOk result (λ code. IsTyped code) }
+{
+    Ok(CheckedCode::of(annotated(alloc, rows)?))
+}

@@ -1,0 +1,66 @@
+//! The objects that are there at first.
+
+ghost use Rattle.std.specs.Prelude.{◌≡◌, IfOk};
+ghost use Rattle.frame_tests.specs.FirstObjects.{exception_body, first_objects, payload_of};
+
+use crate::tables::{FIRST, First};
+use py_code::{NoMemory, text_of};
+use py_objects::{
+    AttrMap, ClassBody, ExceptionBody, FunctionBody, ManagerBody, ObjList, Payload, PyObjectRef,
+    PyTypeRef, Store,
+};
+use std::alloc::Global;
+
+/// The object with a number.
+pub const fn object(number: u64) -> PyObjectRef
+    ensures { result ≡ record { number = number } }
+{
+    PyObjectRef { number }
+}
+
+/// An exception of class 3 with the arguments 4.
+fn exception(alloc: Global) -> ExceptionBody
+    ensures { result ≡ exception_body }
+{
+    ExceptionBody {
+        class: PyTypeRef { number: 3 },
+        args: object(4),
+        cause: None,
+        context: None,
+        suppress: false,
+        traceback: None,
+        attrs: AttrMap::new(alloc),
+    }
+}
+
+/// The payload of an object.
+fn payload(alloc: Global, first: First) -> Result<Payload, NoMemory>
+    ensures { IfOk result (λ made. made ≡ payload_of first) }
+{
+    let name = text_of(alloc, b"x")?;
+    match first {
+        First::False => Ok(Payload::Bool(false)),
+        First::True => Ok(Payload::Bool(true)),
+        First::Class => Ok(Payload::Class(ClassBody { name })),
+        First::Arguments => Ok(Payload::Tuple(ObjList::new(alloc))),
+        First::Exception => Ok(Payload::Exception(exception(alloc))),
+        First::Function => Ok(Payload::Function(FunctionBody { name, code: 0 })),
+        First::Manager => Ok(Payload::Manager(ManagerBody {
+            name,
+            enter: object(7),
+            exit: object(7),
+        })),
+        First::Frame => Ok(Payload::Frame(0)),
+    }
+}
+
+/// A store of these objects.
+pub fn first_store(alloc: Global) -> Result<Store, NoMemory>
+    ensures { IfOk result (λ store. store.made ≡ first_objects) }
+{
+    let mut store = Store::new(alloc)?;
+    for first in FIRST {
+        store.add(payload(alloc, first)?)?;
+    }
+    Ok(store)
+}

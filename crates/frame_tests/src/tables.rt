@@ -1,0 +1,76 @@
+//! Codes as tables, what their frames are told, and the events that come.
+
+use py_check::{Kind, Pending};
+use py_code::Instruction;
+
+/// An open block of a note, with its level, and its handler or the jump that may wait in it.
+#[derive(Clone, Copy, Debug)]
+pub enum Open {
+    Loop(usize),
+    TryExcept(usize, u32),
+    Finally(usize, u32),
+    FinallyHandler(usize, Option<Pending>),
+    ExceptHandler(usize),
+}
+
+/// A unit: its instruction and operand, and what its note says of the stack, the top first, and of the blocks, the innermost first.
+#[derive(Clone, Copy, Debug)]
+pub struct Row(
+    pub Instruction,
+    pub u8,
+    pub &'static [Kind],
+    pub &'static [Open],
+);
+
+/// What a frame is told.
+#[derive(Clone, Copy, Debug)]
+pub enum Said {
+    Start,
+    Go,
+    /// True is sent.
+    Send,
+    /// Exception 5 is thrown in.
+    Throw,
+    /// None, and other values that answer.
+    Nothing,
+    False,
+    True,
+    Exception,
+    /// The raise of exception 6 answers.
+    Fails,
+}
+
+/// A code that is driven, with what it is told, and the events that come.
+#[derive(Clone, Copy, Debug)]
+pub struct Case {
+    pub name: &'static str,
+    pub rows: &'static [Row],
+    pub said: &'static [Said],
+    pub told: &'static str,
+}
+
+/// What an object is.
+#[derive(Clone, Copy, Debug)]
+pub enum First {
+    False,
+    True,
+    Class,
+    Arguments,
+    Exception,
+    Function,
+    Manager,
+    Frame,
+}
+
+/// The objects behind None, which is object 0.
+pub const FIRST: [First; 9] = [
+    First::False,
+    First::True,
+    First::Class,
+    First::Arguments,
+    First::Exception,
+    First::Exception,
+    First::Function,
+    First::Manager,
+    First::Frame,
+];
