@@ -1,10 +1,11 @@
 -- What no edit changes: truth values stay such, and so do managers, exceptions and their classes.
-use Rattle.std.proofs.Common.{◌≡◌, ◌∙◌, ℕ, zero, suc, List, [], ◌∷◌, Bool, false, Some, refl, sym, ap}
+use Rattle.std.proofs.Common.{◌≡◌, ◌∙◌, ℕ, zero, suc, List, [], ◌∷◌, Bool, true, false, Some, refl, sym, ap}
 use Rattle.std.specs.Prelude.{Option, None, slice_get, slice_set}
 use Rattle.py_objects.specs.declared.payload.Payload.{Payload}
 use Rattle.py_objects.specs.declared.payload.Payload.TheVariants as payload
 use Rattle.py_objects.specs.declared.payload.ExceptionBody.{ExceptionBody}
 use Rattle.py_objects.specs.declared.payload.ManagerBody.{ManagerBody}
+use Rattle.py_objects.specs.declared.payload.TracebackBody.{TracebackBody}
 use Rattle.py_objects.specs.declared.refs.PyTypeRef.{PyTypeRef}
 use Rattle.py_objects.specs.declared.edit.Edit.{Edit}
 use Rattle.py_objects.specs.declared.edit.Edit.TheVariants as edit
@@ -60,12 +61,20 @@ class_stays (edit.Link link.Traceback v) e = refl
 class_stays (edit.Link link.Next v) e = refl
 class_stays _ e = refl
 
+-- whether it is a traceback
+abbrev pub is_traceback : Payload → Bool
+is_traceback (payload.Traceback t) = true
+is_traceback _ = false
+
 -- all of these
-abbrev traits_of : Payload → Option Bool × Bool × Option PyTypeRef
-traits_of p = (truth_of p, is_manager p, class_of p)
+abbrev Traits : Type 0
+Traits = Option Bool × Bool × Option PyTypeRef × Bool
+
+abbrev traits_of : Payload → Traits
+traits_of p = (truth_of p, is_manager p, class_of p, is_traceback p)
 
 traits_stay : (objects : List Payload) (x : Edit) (p : Payload) → traits_of (edited objects x p) ≡ traits_of p
-traits_stay objects x (payload.Exception e) = ap (λ (c : PyTypeRef). (None, false, Some c)) (class_stays x e)
+traits_stay objects x (payload.Exception e) = ap (λ (c : PyTypeRef). (None, false, Some c, false)) (class_stays x e)
 traits_stay objects x _ = refl
 
 traits_now : (made : List Payload) (cs : List Change) (v : Obj) (p found : Payload) → HasPayload made v p → slice_get (changed_by made cs) v.number ≡ Some found → traits_of found ≡ traits_of p
@@ -74,7 +83,7 @@ traits_now made cs v p found has here = seen_now traits_of traits_stay made cs v
 -- a truth value is found as one, and as the one that it was made
 pub truth_found : (made : List Payload) (cs : List Change) (v : Obj) (found : Payload) → ((b : Bool) × HasPayload made v (payload.Bool b)) → slice_get (changed_by made cs) v.number ≡ Some found
     → (b : Bool) × (truth_of found ≡ Some b) × HasPayload made v (payload.Bool b)
-truth_found made cs v found (b, has) here = (b, ap (λ (t : Option Bool × Bool × Option PyTypeRef). t.0) (traits_now made cs v (payload.Bool b) found has here), has)
+truth_found made cs v found (b, has) here = (b, ap (λ (t : Traits). t.0) (traits_now made cs v (payload.Bool b) found has here), has)
 
 pub is_truth : (p : Payload) (b : Bool) → truth_of p ≡ Some b → p ≡ payload.Bool b
 is_truth (payload.Bool c) b is = let same : c ≡ b = cc in ap (λ (x : Bool). payload.Bool x) same
@@ -83,15 +92,27 @@ is_truth _ b is = cc
 -- a manager is found as one, and nothing else is
 pub manager_found : (made : List Payload) (cs : List Change) (v : Obj) (found : Payload) → ((p : Payload) × HasPayload made v p) → slice_get (changed_by made cs) v.number ≡ Some found
     → (p : Payload) × HasPayload made v p × (is_manager p ≡ is_manager found)
-manager_found made cs v found (p, has) here = (p, has, sym (ap (λ (t : Option Bool × Bool × Option PyTypeRef). t.1) (traits_now made cs v p found has here)))
+manager_found made cs v found (p, has) here = (p, has, sym (ap (λ (t : Traits). t.1) (traits_now made cs v p found has here)))
 
 -- an exception is found as one of its class
 pub class_found : (made : List Payload) (cs : List Change) (v : Obj) (e : ExceptionBody) (found : Payload) → HasPayload made v (payload.Exception e) → slice_get (changed_by made cs) v.number ≡ Some found → class_of found ≡ Some e.class
-class_found made cs v e found has here = ap (λ (t : Option Bool × Bool × Option PyTypeRef). t.2) (traits_now made cs v (payload.Exception e) found has here)
+class_found made cs v e found has here = ap (λ (t : Traits). t.2) (traits_now made cs v (payload.Exception e) found has here)
 
 pub is_exception : (p : Payload) (c : PyTypeRef) → class_of p ≡ Some c → (e : ExceptionBody) × (p ≡ payload.Exception e) × (e.class ≡ c)
 is_exception (payload.Exception e) c is = let same : e.class ≡ c = cc in (e, refl, same)
 is_exception _ c is = cc
+
+-- a traceback is found as one, and nothing else is
+pub traceback_found : (made : List Payload) (cs : List Change) (v : Obj) (p found : Payload) → HasPayload made v p → slice_get (changed_by made cs) v.number ≡ Some found → is_traceback found ≡ is_traceback p
+traceback_found made cs v p found has here = ap (λ (t : Traits). t.3) (traits_now made cs v p found has here)
+
+pub traceback_is : (p : Payload) → is_traceback p ≡ true → (t : TracebackBody) × (p ≡ payload.Traceback t)
+traceback_is (payload.Traceback t) is = (t, refl)
+traceback_is _ is = cc
+
+pub no_traceback : (p : Payload) → ((t : TracebackBody) → p ≡ payload.Traceback t → ⊥) → is_traceback p ≡ false
+no_traceback (payload.Traceback t) not = absurd (not t refl)
+no_traceback _ not = refl
 
 pub no_manager : (p : Payload) → ((m : ManagerBody) → p ≡ payload.Manager m → ⊥) → is_manager p ≡ false
 no_manager (payload.Manager m) not = absurd (not m refl)

@@ -6,3 +6,5 @@ pub mod Steps
 pub mod Running
 -- what a unit did, as its row says it
 pub mod UnitSteps
+-- which traceback an exit is told
+pub mod Exits

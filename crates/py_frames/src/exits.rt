@@ -1,14 +1,15 @@
 //! What the exit of a manager is told.
 
-ghost use Rattle.std.specs.Prelude.{◌≡◌, ◌<◌, length, IfOk};
+ghost use Rattle.std.specs.Prelude.{◌≡◌, ◌<◌, length, Some, IfOk};
 ghost use Rattle.py_objects.specs.declared.payload.ExceptionBody.{ExceptionBody};
 ghost use Rattle.py_objects.specs.declared.payload.Payload.TheVariants as payload;
 ghost use Rattle.py_objects.specs.Objects.{AllFit, HasPayload, class_object};
 ghost use Rattle.py_objects.specs.Growth.{GrowsPlainly};
 ghost use Rattle.py_rows.specs.Laws.{RaisedThere};
 ghost use Rattle.py_rows.specs.RunOfRows.{IsExit};
+ghost use Rattle.py_frames.specs.Exits.{HasTraceback, IsTold, TellsIf, TellsTraceback};
 
-use crate::objects::{add_constant, as_object};
+use crate::objects::{add_constant, as_object, is_traceback};
 use py_code::NoMemory;
 use py_objects::{Payload, PyBaseExceptionRef, PyObjectRef, Store};
 
@@ -20,6 +21,7 @@ pub(crate) fn exit_arguments(
     requires fit { AllFit store.old.made }
     requires there { RaisedThere store.old.made raised }
     ensures told { IfOk result (λ told. IsExit store.new.made raised told.0 told.1 told.2) }
+    ensures traceback { IfOk result (λ told. TellsIf store.old store.new raised told.2) }
     ensures objects { GrowsPlainly store.old.made store.new.made }
     ensures unchanged { store.new ≡ record store.old { made = store.new.made } }
 {
@@ -53,28 +55,40 @@ fn class(store: &Store, exception: PyObjectRef) -> PyObjectRef
     }
 }
 
-/// The traceback of an exception, or a new None where it has none that is an object.
+/// The traceback of an exception, where it has one that is a traceback, else a new None.
 fn traceback(store: &mut Store, exception: PyObjectRef) -> Result<PyObjectRef, NoMemory>
     requires { (e : ExceptionBody) × HasPayload store.old.made exception (payload.Exception e) }
-    ensures below { IfOk result (λ traceback. traceback.number < length store.new.made) }
+    ensures told { IfOk result (λ told. TellsTraceback store.old store.new exception told) }
     ensures objects { GrowsPlainly store.old.made store.new.made }
     ensures unchanged { store.new ≡ record store.old { made = store.new.made } }
 {
-    if let Some(traceback) = traceback_of(store, exception) {
-        if traceback.number < store.len() {
-            return Ok(traceback);
-        }
+    match traceback_of(store, exception) {
+        Some(traceback) => own_traceback(store, traceback),
+        None => add_none(store),
     }
-    add_none(store)
 }
 
-/// The traceback that an exception has, if any.
+/// An object that is a traceback, of any other a new None.
+fn own_traceback(store: &mut Store, traceback: PyObjectRef) -> Result<PyObjectRef, NoMemory>
+    ensures told { IfOk result (λ told. IsTold store.old store.new (Some traceback) told) }
+    ensures objects { GrowsPlainly store.old.made store.new.made }
+    ensures unchanged { store.new ≡ record store.old { made = store.new.made } }
+{
+    if is_traceback(store, traceback) {
+        Ok(traceback)
+    } else {
+        add_none(store)
+    }
+}
+
+/// The traceback that an exception has by now, if any.
 fn traceback_of(store: &Store, exception: PyObjectRef) -> Option<PyObjectRef>
     requires { (e : ExceptionBody) × HasPayload store.now.made exception (payload.Exception e) }
+    ensures { HasTraceback store.now exception result }
 {
     match store.get(exception) {
         Payload::Exception(body) => body.traceback,
-        _ => None,
+        _ => unreachable!(),
     }
 }
 

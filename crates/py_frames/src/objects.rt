@@ -1,10 +1,10 @@
 //! What objects are, by the store.
 
-ghost use Rattle.std.specs.Prelude.{◌≡◌, Bool, Some, IfOk};
+ghost use Rattle.std.specs.Prelude.{◌≡◌, Bool, true, false, Some, IfOk};
 ghost use Rattle.py_code.specs.declared.literal.Literal.{Literal as LiteralOf};
 ghost use Rattle.py_objects.specs.declared.payload.Payload.{Payload as PayloadOf};
 ghost use Rattle.py_objects.specs.declared.payload.Payload.TheVariants as payload;
-ghost use Rattle.py_objects.specs.Objects.{HasPayload, as_object};
+ghost use Rattle.py_objects.specs.Objects.{HasPayload, IsTraceback, as_object};
 ghost use Rattle.py_objects.specs.Growth.{GrowsPlainly};
 ghost use Rattle.py_rows.specs.Rows.{as_exception, payload_of};
 ghost use Rattle.py_rows.specs.RunOfRows.{is_manager};
@@ -47,6 +47,14 @@ pub(crate) fn is_manager(store: &Store, value: PyObjectRef) -> bool
     ensures { (p : PayloadOf) × HasPayload store.now.made value p × (is_manager p ≡ result) }
 {
     matches!(store.get(value), Payload::Manager(_))
+}
+
+/// Whether an object is there and a traceback.
+pub(crate) fn is_traceback(store: &Store, value: PyObjectRef) -> bool
+    ensures is { result ≡ true → IsTraceback store.now.made value }
+    ensures no { result ≡ false → IsTraceback store.now.made value → ⊥ }
+{
+    value.number < store.len() && matches!(store.get(value), Payload::Traceback(_))
 }
 
 /// A new object of a constant's payload.

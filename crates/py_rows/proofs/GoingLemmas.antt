@@ -1,5 +1,5 @@
 -- A frame that fits its code can make a step, where the objects that this needs are there.
-use Rattle.std.proofs.Common.{◌≡◌, ◌++◌, ℕ, suc, List, [], ◌∷◌, None, Some, refl, sym, append-nil, length, length-append, arith}
+use Rattle.std.proofs.Common.{◌≡◌, ◌++◌, ℕ, suc, List, [], ◌∷◌, None, Some, inl, refl, sym, append-nil, length, length-append, arith}
 use Rattle.std.proofs.Math.ListN.{length-replicate}
 use Rattle.std.specs.Prelude.{slice_get, replicate}
 use Rattle.std.proofs.lemmas.Option.{slice_get_within}
@@ -18,7 +18,7 @@ use Rattle.py_rows.specs.Laws.{LeadsTo, AlwaysLeads, IsMoving, setting_of}
 use Rattle.py_rows.proofs.AskingLemmas.{got_there}
 use Rattle.py_rows.proofs.LandingLemmas.{Fits}
 use Rattle.py_rows.proofs.StepLemmas.{next_fits}
-use Rattle.py_rows.proofs.GrowingLemmas.{payload_grown, fits_grown}
+use Rattle.py_rows.proofs.GrowingLemmas.{payload_grown, grows_on, fits_grown}
 
 -- so many more that a number is one's
 padded : List Payload → ℕ → List Payload
@@ -61,11 +61,15 @@ module _ (objects : List Payload) (P : List Payload → State → Type 0) where
       let ((body, has), all) = leads objects same in
       let v : Obj = as_object e in
       let t : Obj = class_object body.class in
-      let objects' : List Payload = padded objects t.number in
-      let grows : Grows objects objects' = padded_grows objects t.number in
+      let before : List Payload = padded objects t.number in
+      let objects' : List Payload = before ++ payload.None ∷ [] in
+      let b : Obj = record { number = length before } in
+      let more : Grows before objects' = (payload.None ∷ [], refl) in
+      let grows : Grows objects objects' = grows_on objects before objects' (padded_grows objects t.number) more in
       let there : HasPayload objects' v (payload.Exception body) = payload_grown objects objects' v (payload.Exception body) grows has in
       let (p, class) = padded_there objects t.number in
-      (objects', grows, (f t v v, (t, v, v, (refl, (body, there, refl), slice_get_within objects' t.number p class, slice_get_within objects' v.number (payload.Exception body) there), refl), (leads objects' grows).1 t v v))
+      let class_there : HasPayload objects' t p = payload_grown before objects' t p more class in
+      (objects', grows, (f t v b, (t, v, b, (refl, (body, there, refl), slice_get_within objects' t.number p class_there, inl (slice_get-append_last before payload.None)), refl), (leads objects' grows).1 t v b))
 
 pub next_goes : (objects : List Payload) (names : List (List ℕ)) (globals : Obj) (closure : List Obj) (code : Annotated) (s : State) → IsSound names code → FitsAt objects code s.wants s → IsMoving s.wants
     → (objects' : List Payload) × Grows objects objects' × ((xs : List Own) × (t : State) × Steps objects' (setting_of names globals closure code) s xs t)

@@ -145,7 +145,7 @@ lead_grown objects objects' grows (Exits e f) step (t, v, b, exits, is) = (t, v,
   where
     exit_grown : (e : _) → IsExit objects e t v b → IsExit objects' e t v b
     exit_grown None (x, y, z) = (payload_grown objects objects' t _ grows x, payload_grown objects objects' v _ grows y, payload_grown objects objects' b _ grows z)
-    exit_grown (Some e) (same, (body, has, class), x, z) = (same, (body, payload_grown objects objects' v _ grows has, class), number_grown objects objects' t.number grows x, number_grown objects objects' b.number grows z)
+    exit_grown (Some e) (same, (body, has, class), x, z) = (same, (body, payload_grown objects objects' v _ grows has, class), number_grown objects objects' t.number grows x, ⊎_elim (λ is_none. inl (payload_grown objects objects' b _ grows is_none)) (λ traceback. inr (traceback.0, payload_grown objects objects' b _ grows traceback.1)) z)
 
 -- the same of a whole step
 step_grown : (objects objects' : List Payload) → Grows objects objects' → (setting : Setting) (s t : State) (xs : List Own) → Steps objects setting s xs t → Steps objects' setting s xs t

@@ -1,6 +1,6 @@
 -- Where every row leads to: silently to a later unit, or behind an event of the unit that runs; the slot is kept; and where all that goes
 -- in is among the first n objects, so is all that comes out.
-use Rattle.std.proofs.Common.{◌≡◌, ◌<◌, ◌-◌, ℕ, zero, suc, List, [], ◌∷◌, ◌++◌, Bool, Option, None, Some, true, false, ◌&&◌, not, cond, refl, sym, ap, subst, length, take, drop, arith}
+use Rattle.std.proofs.Common.{◌≡◌, ◌<◌, ◌-◌, ℕ, zero, suc, List, [], ◌∷◌, ◌++◌, Bool, Option, None, Some, true, false, ◌&&◌, not, cond, ⊎_elim, refl, sym, ap, subst, length, take, drop, arith}
 use Rattle.std.specs.Prelude.{slice_get, slice_set, nat_lt}
 use Rattle.std.specs.List.{list_all}
 use Rattle.std.proofs.lemmas.Bool.{ltb-true}
@@ -397,7 +397,7 @@ module _ (first : Option PyBaseExceptionRef) (Kept Low : Type 0) (objects : List
     where
       exit_low : (e : Option PyBaseExceptionRef) → AllBelow (length objects) (number_if e) → IsExit objects e t v b → AllBelow (length objects) (t.number ∷ v.number ∷ b.number ∷ [])
       exit_low None low (x, y, z) = (slice_get_within objects t.number _ x, (slice_get_within objects v.number _ y, (slice_get_within objects b.number _ z, tt)))
-      exit_low (Some e) low (same, class, x, z) = (x, (subst (λ (u : Obj). u.number < length objects) (sym same) low.0, (z, tt)))
+      exit_low (Some e) low (same, class, x, z) = (x, (subst (λ (u : Obj). u.number < length objects) (sym same) low.0, (⊎_elim (slice_get_within objects b.number _) (λ traceback. slice_get_within objects b.number _ traceback.1) z, tt)))
 
   pub step_led : (step : Step) → (Low → setting.globals.number < length objects) → (Low → ExpectBelow (length objects) s.wants) → MayLead objects (moves setting s.wants s) step → Led first (length objects) Kept Low s.at (begun_by s.wants s) step
   step_led step globals low may = may_led s.wants (moves setting s.wants s) step (moves_led s.wants globals low) may

@@ -1,5 +1,5 @@
 -- A run of the rows of a code: which own events an activation may tell, step by step, and where it has come to.
-use Rattle.std.specs.Prelude.{ℕ, ◌<◌, zero, suc, Bool, true, false, ◌||◌, ◌==◌, Option, Some, None, List, [], ◌∷◌, ◌++◌, ◌≡◌, length}
+use Rattle.std.specs.Prelude.{ℕ, ◌<◌, zero, suc, Bool, true, false, ◌||◌, ◌==◌, Option, Some, None, List, [], ◌∷◌, ◌++◌, ◌≡◌, ◌⊎◌, length}
 use Rattle.py_code.specs.declared.code.PyCode.{PyCode}
 use Rattle.py_objects.specs.declared.refs.PyBaseExceptionRef.{PyBaseExceptionRef}
 use Rattle.py_objects.specs.declared.payload.Payload.{Payload}
@@ -7,7 +7,7 @@ use Rattle.py_objects.specs.declared.payload.Payload.TheVariants as payload
 use Rattle.py_objects.specs.declared.event.GotAnswer.TheVariants as got
 use Rattle.py_objects.specs.declared.event.ResumeHow.TheVariants as how
 use Rattle.py_objects.specs.declared.payload.ExceptionBody.{ExceptionBody}
-use Rattle.py_objects.specs.Objects.{Obj, HasPayload, as_object, class_object}
+use Rattle.py_objects.specs.Objects.{Obj, HasPayload, IsTraceback, as_object, class_object}
 use Rattle.py_objects.specs.Own.{Own, Resumes, Gets}
 use Rattle.py_code.specs.declared.flags.TheConstants.CodeFlags.{IS_GENERATOR, IS_COROUTINE}
 use Rattle.py_check.specs.Rules.{counts_if}
@@ -18,11 +18,11 @@ use Rattle.py_rows.specs.States.{Setting, State, Step, Goes, Tells, Move, Plainl
 use Rattle.py_rows.specs.Answers.{HasKind, IsAnswer}
 use Rattle.py_rows.specs.Receiving.{moves}
 
--- what an exit is told: an exception between its class and its traceback, of which only that it is an object is said here, or three
--- times None
+-- what an exit is told: an exception between its class and a traceback or None, or three times None; whose traceback that is, the rows
+-- don't say, as it changes while objects stay
 abbrev pub IsExit : List Payload → Option PyBaseExceptionRef → Obj → Obj → Obj → Type 0
 IsExit objects None t v b = HasPayload objects t payload.None × HasPayload objects v payload.None × HasPayload objects b payload.None
-IsExit objects (Some e) t v b = (v ≡ as_object e) × ((body : ExceptionBody) × HasPayload objects v (payload.Exception body) × (t ≡ class_object body.class)) × (t.number < length objects) × (b.number < length objects)
+IsExit objects (Some e) t v b = (v ≡ as_object e) × ((body : ExceptionBody) × HasPayload objects v (payload.Exception body) × (t ≡ class_object body.class)) × (t.number < length objects) × (HasPayload objects b payload.None ⊎ IsTraceback objects b)
 
 -- whether a payload is a manager, which has an exit
 abbrev pub is_manager : Payload → Bool

@@ -25,4 +25,4 @@ returns-in_ok-traceback-in-None-clause-objects c =
 pub returns-in_ok-traceback-in-Some-clause-told : goal.returns-in_ok-traceback-in-Some-clause-told
 returns-in_ok-traceback-in-Some-clause-told c =
     subst (λ (e : Option PyBaseExceptionRef). IsExit c.traceback.new.store.made e c.class-class.result c.as_object-exception.result c.in_ok-traceback-in-Some.traceback) (sym c.in-Some.is)
-    (exit_raised _ _ c.in-Some.exception _ _ _ (plainly_grows _ _ c.traceback.ensures.objects) c.as_object-exception.ensures c.class-class.ensures c.in_ok-traceback-in-Some.ensures.below)
+    (exit_raised c.args.store.now c.traceback.new.store c.in-Some.exception _ _ _ (plainly_grows _ _ c.traceback.ensures.objects) c.as_object-exception.ensures c.class-class.ensures c.in_ok-traceback-in-Some.ensures.told)
