@@ -19,11 +19,11 @@ use Rattle.py_rows.specs.Below.{HearsBelow}
 use Rattle.py_rows.specs.Fitting.{ArePlaces, IsSound}
 use Rattle.py_rows.specs.RunOfRows.{filled, is_thrown_into}
 use Rattle.py_rows.specs.States.{Setting}
-use Rattle.py_frames.specs.declared.input.Input.{Input}
-use Rattle.py_frames.specs.Frames.{Framed, unfilled}
-use Rattle.py_frames.specs.Steps.{Expects, events, heard}
-use Rattle.py_frames.specs.Running.{IsRunning}
-use Rattle.py_frames.proofs.RunningLemmas.{fresh_runs}
+use Rattle.py_frame.specs.declared.input.Input.{Input}
+use Rattle.py_frame.specs.Frames.{Framed, unfilled}
+use Rattle.py_frame.specs.Steps.{Expects, events, heard}
+use Rattle.py_frame.specs.Running.{IsRunning}
+use Rattle.py_frame.proofs.RunningLemmas.{fresh_runs}
 use Rattle.frame_tests.specs.Codes.{IsCodeOf}
 use Rattle.frame_tests.specs.declared.tables.Row.{Row}
 use Rattle.frame_tests.specs.declared.tables.First.TheVariants as first

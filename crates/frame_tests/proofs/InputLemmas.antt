@@ -6,9 +6,9 @@ use Rattle.py_rows.specs.declared.expect.Wanted.{Wanted}
 use Rattle.py_rows.specs.declared.expect.Wanted.TheVariants as want
 use Rattle.py_check.specs.declared.note.Kind.{Kind}
 use Rattle.py_check.specs.declared.note.Kind.TheVariants as kind
-use Rattle.py_frames.specs.declared.input.Input.{Input}
-use Rattle.py_frames.specs.declared.input.Input.TheVariants as input
-use Rattle.py_frames.specs.declared.input.Answer.TheVariants as answer
+use Rattle.py_frame.specs.declared.input.Input.{Input}
+use Rattle.py_frame.specs.declared.input.Input.TheVariants as input
+use Rattle.py_frame.specs.declared.input.Answer.TheVariants as answer
 use Rattle.frame_tests.specs.FirstObjects.{first_objects, exception_body, object_at}
 use Rattle.frame_tests.specs.Inputs.{IsExpected}
 

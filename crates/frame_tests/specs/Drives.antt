@@ -6,8 +6,8 @@ use Rattle.py_objects.specs.declared.payload.Payload.{Payload}
 use Rattle.py_objects.specs.Objects.{AllFit}
 use Rattle.py_objects.specs.Growth.{Grows}
 use Rattle.py_check.specs.declared.annotated.Annotated.{Annotated}
-use Rattle.py_frames.specs.Frames.{Framed}
-use Rattle.py_frames.specs.Running.{IsRunning, SlotFits}
+use Rattle.py_frame.specs.Frames.{Framed}
+use Rattle.py_frame.specs.Running.{IsRunning, SlotFits}
 use Rattle.frame_tests.specs.Codes.{keeps_rules}
 use Rattle.frame_tests.specs.FirstObjects.{first_objects}
 use Rattle.frame_tests.specs.declared.tables.Case.{Case}

@@ -5,8 +5,8 @@ use Rattle.py_rows.specs.declared.expect.Expect.{Expect}
 use Rattle.py_rows.specs.Below.{HearsBelow}
 use Rattle.py_rows.specs.RunOfRows.{is_thrown_into}
 use Rattle.py_rows.specs.States.{Setting}
-use Rattle.py_frames.specs.declared.input.Input.{Input}
-use Rattle.py_frames.specs.Steps.{Expects, events, heard}
+use Rattle.py_frame.specs.declared.input.Input.{Input}
+use Rattle.py_frame.specs.Steps.{Expects, events, heard}
 use Rattle.frame_tests.specs.FirstObjects.{first_objects}
 
 -- a generator's frame, that expects this, may be told an input, and the input names some of the first objects alone

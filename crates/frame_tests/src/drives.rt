@@ -4,7 +4,7 @@ ghost use Rattle.std.specs.Prelude.{◌≡◌, ◌<◌, ℕ, List, [], ◌∷◌
 ghost use Rattle.py_rows.specs.declared.expect.Expect.TheVariants as expect;
 ghost use Rattle.py_rows.specs.Fitting.{IsSound};
 ghost use Rattle.py_rows.specs.RunOfRows.{is_thrown_into};
-ghost use Rattle.py_frames.specs.Running.{IsRunning};
+ghost use Rattle.py_frame.specs.Running.{IsRunning};
 ghost use Rattle.frame_tests.specs.Codes.{keeps_rules};
 ghost use Rattle.frame_tests.specs.FirstObjects.{first_objects, object_at};
 ghost use Rattle.frame_tests.specs.Drives.{IsDriven, keep_rules};
@@ -15,7 +15,7 @@ use crate::objects::{first_store, object};
 use crate::tables::{Case, Row, Said};
 use py_check::CheckedCode;
 use py_code::{Names, NoMemory, utf8_of};
-use py_frames::{Frame, FrameStep, OwnStack, positional};
+use py_frame::{Frame, FrameStep, OwnStack, positional};
 use py_objects::{FrameRef, ObjList, PyBaseExceptionRef, Request, Scope, Store};
 use std::alloc::Global;
 use std::process::Abort;

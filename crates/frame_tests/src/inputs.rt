@@ -4,15 +4,15 @@ ghost use Rattle.std.specs.Prelude.{◌≡◌, IfSome, true};
 ghost use Rattle.py_check.specs.declared.note.Kind.TheVariants as kind;
 ghost use Rattle.py_rows.specs.declared.expect.Expect.TheVariants as expect;
 ghost use Rattle.py_rows.specs.declared.expect.Wanted.TheVariants as want;
-ghost use Rattle.py_frames.specs.declared.input.Answer.TheVariants as answer;
-ghost use Rattle.py_frames.specs.declared.input.Input.TheVariants as input;
+ghost use Rattle.py_frame.specs.declared.input.Answer.TheVariants as answer;
+ghost use Rattle.py_frame.specs.declared.input.Input.TheVariants as input;
 ghost use Rattle.frame_tests.specs.FirstObjects.{object_at};
 ghost use Rattle.frame_tests.specs.Inputs.{IsExpected};
 
 use crate::objects::object;
 use crate::tables::Said;
 use py_check::Kind;
-use py_frames::{Answer, Expect, Input, Wanted};
+use py_frame::{Answer, Expect, Input, Wanted};
 use py_objects::PyBaseExceptionRef;
 
 /// The exception with a number.

@@ -1,6 +1,6 @@
 //! Answers as frames take them.
 
-use py_frames::Answer;
+use py_frame::Answer;
 use py_objects::{GotAnswer, PyObjectRef};
 
 #[test]

@@ -2,7 +2,7 @@
 use Rattle.std.proofs.Common.{◌≡◌, ◌+◌, ◌++◌, ℕ, zero, suc, List, [], ◌∷◌, Some, refl, ap, add-one}
 use Rattle.std.specs.Prelude.{Option, None, slice_get}
 use Rattle.py_objects.specs.Objects.{Obj}
-use Rattle.py_frame.specs.RunOfRows.{filled}
+use Rattle.py_rows.specs.RunOfRows.{filled}
 
 -- the same, where numbers are counted up from 0
 filled_suc : (n : ℕ) (vs : List Obj) → filled (suc n) vs ≡ filled n vs ++ slice_get vs n ∷ []

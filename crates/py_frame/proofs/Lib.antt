@@ -1,34 +1,22 @@
--- a run goes over to more objects
-pub mod Growing
--- parameters of codes
-pub mod SignatureLemmas
--- runs one behind the other are one run
-pub mod Joining
--- the numbers of a run name objects
-pub mod Staying
+-- locals that are filled
+mod Filling
+-- what objects are now, and as they were made
+mod ObjectsLemmas
 -- growth by payloads that declare nothing
 pub mod PlainGrowth
--- kinds of objects
-mod KindLemmas
--- blocks
-mod BlockLemmas
--- what the rules say of units
-mod TypingLemmas
--- frames that fit their notes
-mod FittingLemmas
--- what units need
-mod NeedsLemmas
--- frames that run go on to run
+-- constants that are loaded
+mod LoadingLemmas
+-- steps that can be made
+mod SafeLemmas
+-- what exits are told
+mod ExitLemmas
+-- lines of units
+mod LocationLemmas
+-- objects among more
+pub mod MoreLemmas
+-- managers
+mod ManagerLemmas
+-- frames that run
 pub mod RunningLemmas
--- truth values
-mod Truths
--- what an answer does
-pub mod Answering
--- locals that are filled one by one
-mod Filling
--- what loads a constant
-mod Loading
--- a unit leads behind itself
-mod Later
--- steps of the code as steps of a run
-pub mod Stepping
+-- inputs that are taken
+pub mod HearingLemmas

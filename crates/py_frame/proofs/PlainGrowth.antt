@@ -5,7 +5,7 @@ use Rattle.py_objects.specs.declared.payload.Payload.{Payload}
 use Rattle.py_objects.specs.declared.payload.Payload.TheVariants as payload
 use Rattle.py_objects.specs.Objects.{Obj, Name, declares, is_name, declared_from, declared, payload_numbers, AllBelow, IsMade, AllFit, IfThere}
 use Rattle.py_objects.specs.Growth.{Grows, GrowsPlainly}
-use Rattle.py_frame.proofs.Growing.{payload_grown}
+use Rattle.py_rows.proofs.GrowingLemmas.{payload_grown}
 
 -- what is below stays below more
 pub below_more : (n m : ℕ) (ks : List ℕ) → n ≤ m → AllBelow n ks → AllBelow m ks

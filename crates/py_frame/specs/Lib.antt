@@ -1,18 +1,10 @@
--- what each instruction does
-pub mod Rows
--- runs of the rows of a code
-pub mod RunOfRows
--- codes that frames can run
-pub mod Sound
--- how a frame fits the notes of its code
-pub mod Fitting
--- the parameters of a code
-pub mod Signature
--- which questions frames ask
-pub mod Questions
--- what a frame's step says
+-- frames as callers see them
+pub mod Frames
+-- what a frame hears and tells by a step
 pub mod Steps
--- what a unit did, as its row
+-- what holds of a frame between steps
+pub mod Running
+-- what a unit did, as its row says it
 pub mod UnitSteps
--- what holds of every run
-pub mod Laws
+-- which traceback an exit is told
+pub mod Exits

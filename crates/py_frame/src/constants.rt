@@ -1,63 +1,65 @@
-//! Instructions that load a constant.
+//! Instructions that load constants.
 
-ghost use Rattle.std.specs.Prelude.{◌≡◌, ◌+◌, ◌^◌, ◌<◌, [], slice_get, Some, IfOk, OnErr, true};
+ghost use Rattle.std.specs.Prelude.{◌≡◌, ◌+◌, ◌^◌, ◌<◌, slice_get, Some, true, IfOk, OnErr};
 ghost use Rattle.py_code.specs.Literals.{literals_of};
-ghost use Rattle.py_code.specs.declared.instruction.Instruction.TheVariants.{LoadConst, ReturnConst};
-ghost use Rattle.py_objects.specs.Objects.{Obj};
 ghost use Rattle.py_objects.specs.Growth.{GrowsPlainly};
 ghost use Rattle.py_check.specs.Constants.{is_loaded};
-ghost use Rattle.py_frame.specs.Rows.{Step, act, loads, payload_of};
-ghost use Rattle.py_frame.specs.UnitSteps.{IsLoaded, IsSame, MayLead, effect};
+ghost use Rattle.py_rows.specs.States.{Goes, next, pushed};
+ghost use Rattle.py_rows.specs.Unwinding.{unwinds};
+ghost use Rattle.py_rows.specs.Rows.{loads, payload_of};
+ghost use Rattle.py_rows.specs.declared.block.UnwindReason.TheVariants as reason;
+ghost use Rattle.py_frame.specs.Frames.{over};
+ghost use Rattle.py_frame.specs.UnitSteps.{CanMove, IsConstant, IsLoaded, MayDo};
 
-use crate::execute::UnitStep;
-use crate::frame::Frame;
+use crate::frame_core::FrameCore;
+use crate::objects::add_constant;
+use crate::unit_step::UnitStep;
 use py_code::{Literal, NoMemory, PyCode};
 use py_objects::{Payload, PyObjectRef, Store};
+use py_rows::UnwindReason;
 use py_stack::ValueStack;
 use std::alloc::Global;
 
-impl<S: ValueStack + Drop> Frame<S> {
+impl FrameCore {
     /// Pushes a constant.
-    pub(crate) fn load_const(
+    pub(crate) fn load_const<S: ValueStack>(
         &mut self,
+        stack: &mut S,
         alloc: Global,
         code: &PyCode,
         store: &mut Store,
         place: usize,
     ) -> Result<UnitStep, NoMemory>
         requires next { self.old.state.at + 1 < 2 ^ 32 }
-        requires loaded { IsLoaded (slice_get (literals_of code.now.code.constants) place) }
-        requires room { 0 < self.old.room }
-        ensures row { IfOk result (λ step. MayLead store.new.made (act (record { code = code.now; names = []; globals = self.old.scope.globals }) LoadConst place self.old.state) (effect self.old.state.at step self.new.state)) }
-        ensures same { IsSame self.old self.new }
-        ensures err { OnErr result (self.new ≡ self.old) }
+        requires safe { let f = over self.old (S.list stack.old) (S.room stack.old) in CanMove store.old.made f (loads (slice_get (literals_of code.now.code.constants) place) (λ v. Goes (pushed v (next f.state)))) }
+        ensures row { IfOk result (λ step. MayDo store.new.made (λ s. loads (slice_get (literals_of code.now.code.constants) place) (λ v. Goes (pushed v (next s)))) (over self.old (S.list stack.old) (S.room stack.old)) step (over self.new (S.list stack.new) (S.room stack.new))) }
+        ensures err { OnErr result (over self.new (S.list stack.new) (S.room stack.new) ≡ over self.old (S.list stack.old) (S.room stack.old)) }
         ensures objects { GrowsPlainly store.old.made store.new.made }
         ensures unchanged { store.new ≡ record store.old { made = store.new.made } }
     {
         let value = load(alloc, code, store, place)?;
         self.goes_on();
-        self.push(value);
+        stack.push(value);
         Ok(UnitStep::Goes)
     }
 
-    /// Ends by a constant.
-    pub(crate) fn return_const(
+    /// Returns a constant.
+    pub(crate) fn return_const<S: ValueStack>(
         &mut self,
+        stack: &mut S,
         alloc: Global,
         code: &PyCode,
         store: &mut Store,
         place: usize,
     ) -> Result<UnitStep, NoMemory>
-        requires next { self.old.state.at + 1 < 2 ^ 32 }
-        requires loaded { IsLoaded (slice_get (literals_of code.now.code.constants) place) }
-        ensures row { IfOk result (λ step. MayLead store.new.made (act (record { code = code.now; names = []; globals = self.old.scope.globals }) ReturnConst place self.old.state) (effect self.old.state.at step self.new.state)) }
-        ensures same { IsSame self.old self.new }
-        ensures err { OnErr result (self.new ≡ self.old) }
+        requires safe { let f = over self.old (S.list stack.old) (S.room stack.old) in CanMove store.old.made f (loads (slice_get (literals_of code.now.code.constants) place) (λ v. unwinds (reason.Returning v) f.state)) }
+        ensures row { IfOk result (λ step. MayDo store.new.made (λ s. loads (slice_get (literals_of code.now.code.constants) place) (λ v. unwinds (reason.Returning v) s)) (over self.old (S.list stack.old) (S.room stack.old)) step (over self.new (S.list stack.new) (S.room stack.new))) }
+        ensures err { OnErr result (over self.new (S.list stack.new) (S.room stack.new) ≡ over self.old (S.list stack.old) (S.room stack.old)) }
         ensures objects { GrowsPlainly store.old.made store.new.made }
         ensures unchanged { store.new ≡ record store.old { made = store.new.made } }
     {
         let value = load(alloc, code, store, place)?;
-        Ok(self.returns(value))
+        Ok(self.unwind(stack, UnwindReason::Returning(value)))
     }
 }
 
@@ -69,7 +71,7 @@ fn load(
     place: usize,
 ) -> Result<PyObjectRef, NoMemory>
     requires { IsLoaded (slice_get (literals_of code.now.code.constants) place) }
-    ensures led { IfOk result (λ object. (f : Obj → Step) → MayLead store.new.made (loads (slice_get (literals_of code.now.code.constants) place) f) (f object)) }
+    ensures constant { IfOk result (λ object. IsConstant store.new.made (slice_get (literals_of code.now.code.constants) place) object) }
     ensures objects { GrowsPlainly store.old.made store.new.made }
     ensures unchanged { store.new ≡ record store.old { made = store.new.made } }
 {
@@ -82,12 +84,12 @@ fn load(
 /// A new object of this constant's payload.
 fn add(alloc: Global, store: &mut Store, literal: &Literal) -> Result<PyObjectRef, NoMemory>
     requires { is_loaded literal.now ≡ true }
-    ensures led { IfOk result (λ object. (f : Obj → Step) → MayLead store.new.made (loads (Some literal.now) f) (f object)) }
+    ensures constant { IfOk result (λ object. IsConstant store.new.made (Some literal.now) object) }
     ensures objects { GrowsPlainly store.old.made store.new.made }
     ensures unchanged { store.new ≡ record store.old { made = store.new.made } }
 {
     let payload = payload_of(alloc, literal)?;
-    store.add(payload)
+    add_constant(store, payload)
 }
 
 /// What an object of a constant is. Its text is a copy.

@@ -1,63 +1,51 @@
 //! Running one unit: an arm an instruction.
 
-ghost use Rattle.std.specs.Prelude.{◌≡◌, ◌+◌, ◌^◌, ◌<◌, slice_get, length, IfOk, OnErr, false};
-ghost use Rattle.py_code.specs.Units.{is_prefix};
+ghost use Rattle.std.specs.Prelude.{◌≡◌, ◌+◌, ◌^◌, ◌<◌, length, IfOk, OnErr};
+ghost use Rattle.py_objects.specs.Objects.{AllFit};
 ghost use Rattle.py_objects.specs.Growth.{GrowsPlainly};
-ghost use Rattle.py_frame.specs.Sound.{AreNames};
-ghost use Rattle.py_frame.specs.Rows.{act, advance};
-ghost use Rattle.py_frame.specs.UnitSteps.{IsSame, MayLead, Needs, UnitNeeds, effect};
+ghost use Rattle.py_rows.specs.States.{Goes, begun, next};
+ghost use Rattle.py_rows.specs.Rows.{act, advance};
+ghost use Rattle.py_frame.specs.Frames.{over, setting_in};
+ghost use Rattle.py_frame.specs.UnitSteps.{CanMove, Does, MayDo};
 
-use crate::frame::Frame;
-use py_code::{Instruction, Names, NoMemory, PyCode};
-use py_objects::{PyObjectRef, Request, Store};
+use crate::frame_core::FrameCore;
+use crate::unit_step::UnitStep;
+use py_code::{Instruction, Names, NoMemory, OpArg, PyCode};
+use py_objects::Store;
+use py_rows::{BlockType, UnwindReason};
 use py_stack::ValueStack;
 use std::alloc::Global;
 
-/// What a unit did.
-#[derive(Drop)]
-pub enum UnitStep {
-    /// It leads to a next unit.
-    Goes,
-    /// It asks.
-    Asks(Request),
-    /// It begins a round of a loop.
-    Rounds,
-    /// It ends the frame by a value.
-    Returns(PyObjectRef),
-}
-
-impl<S: ValueStack + Drop> Frame<S> {
-    /// Runs the unit that comes next.
-    pub(crate) fn execute(
+impl FrameCore {
+    /// Runs the unit that comes next. Where memory runs out it has begun.
+    pub(crate) fn execute<S: ValueStack>(
         &mut self,
+        stack: &mut S,
         alloc: Global,
         code: &PyCode,
         names: &Names,
         store: &mut Store,
     ) -> Result<UnitStep, NoMemory>
-        requires length { length code.now.code.instructions.items < 2 ^ 32 }
-        requires named { AreNames names.now code.now }
-        requires needs { UnitNeeds code.now (slice_get code.now.code.instructions.items self.old.state.at) self.old }
-        ensures row { IfOk result (λ step. MayLead store.new.made (advance (record { code = code.now; names = names.now; globals = self.old.scope.globals }) self.old.state) (effect self.old.state.at step self.new.state)) }
-        ensures same { IsSame self.old self.new }
-        ensures err { OnErr result (self.new ≡ self.old) }
+        requires there { self.old.state.at < length code.now.code.instructions.items }
+        requires few { length code.now.code.instructions.items < 2 ^ 32 }
+        requires fit { AllFit store.old.made }
+        requires safe { let f = over self.old (S.list stack.old) (S.room stack.old) in CanMove store.old.made f (advance (setting_in code.now names.now f) f.state) }
+        ensures row { IfOk result (λ step. MayDo store.new.made (advance (setting_in code.now names.now self.old)) (over self.old (S.list stack.old) (S.room stack.old)) step (over self.new (S.list stack.new) (S.room stack.new))) }
+        ensures err { OnErr result ((over self.new (S.list stack.new) (S.room stack.new)) ≡ record (over self.old (S.list stack.old) (S.room stack.old)) { state = begun ((over self.old (S.list stack.old) (S.room stack.old))).state }) }
         ensures objects { GrowsPlainly store.old.made store.new.made }
         ensures unchanged { store.new ≡ record store.old { made = store.new.made } }
     {
-        let unit = code.code.instructions[self.next_unit() as usize];
+        let unit = code.code.instructions[self.unit() as usize];
         let mut prefix = self.prefix();
         let arg = prefix.extend(unit.arg);
-        if unit.op.is_prefix() {
-            self.goes_on();
-            self.keeps(arg);
-            return Ok(UnitStep::Goes);
-        }
-        self.execute_instruction(alloc, code, names, store, unit.op, arg.0)
+        self.begin();
+        self.execute_instruction(stack, alloc, code, names, store, unit.op, arg.0)
     }
 
     /// Runs an instruction with its whole argument.
-    fn execute_instruction(
+    fn execute_instruction<S: ValueStack>(
         &mut self,
+        stack: &mut S,
         alloc: Global,
         code: &PyCode,
         names: &Names,
@@ -66,33 +54,61 @@ impl<S: ValueStack + Drop> Frame<S> {
         arg: u32,
     ) -> Result<UnitStep, NoMemory>
         requires next { self.old.state.at + 1 < 2 ^ 32 }
-        requires whole { is_prefix op ≡ false }
-        requires named { AreNames names.now code.now }
-        requires needs { Needs code.now op arg self.old }
-        ensures row { IfOk result (λ step. MayLead store.new.made (act (record { code = code.now; names = names.now; globals = self.old.scope.globals }) op arg self.old.state) (effect self.old.state.at step self.new.state)) }
-        ensures same { IsSame self.old self.new }
-        ensures err { OnErr result (self.new ≡ self.old) }
+        requires fit { AllFit store.old.made }
+        requires safe { let f = over self.old (S.list stack.old) (S.room stack.old) in CanMove store.old.made f (act (setting_in code.now names.now f) op arg f.state) }
+        ensures row { IfOk result (λ step. MayDo store.new.made (act (setting_in code.now names.now self.old) op arg) (over self.old (S.list stack.old) (S.room stack.old)) step (over self.new (S.list stack.new) (S.room stack.new))) }
+        ensures err { OnErr result ((over self.new (S.list stack.new) (S.room stack.new)) ≡ (over self.old (S.list stack.old) (S.room stack.old))) }
         ensures objects { GrowsPlainly store.old.made store.new.made }
         ensures unchanged { store.new ≡ record store.old { made = store.new.made } }
     {
         match op {
-            Instruction::LoadConst => self.load_const(alloc, code, store, arg as usize),
-            Instruction::LoadFast => self.load_fast(alloc, code, names, arg as usize),
-            Instruction::StoreFast => Ok(self.store_fast(arg as usize)),
-            Instruction::LoadGlobal => self.load_global(alloc, code, names, arg as usize),
-            Instruction::Pop => Ok(self.pop_top()),
-            Instruction::BinaryOperation => Ok(self.binary_operation(arg)),
-            Instruction::CompareOperation => Ok(self.compare_operation(arg)),
-            Instruction::CallFunctionPositional => self.call_function(alloc, arg as usize),
-            Instruction::PrintExpr => Ok(self.print_expr()),
-            Instruction::Jump => Ok(self.jump(arg)),
-            Instruction::JumpIfTrue => Ok(self.asks_to_jump(arg)),
-            Instruction::JumpIfFalse => Ok(self.asks_to_jump(arg)),
-            Instruction::SetupLoop => Ok(self.setup_loop()),
-            Instruction::PopBlock => Ok(self.leave_block()),
-            Instruction::ReturnValue => Ok(self.return_value()),
-            Instruction::ReturnConst => self.return_const(alloc, code, store, arg as usize),
+            Instruction::LoadConst => self.load_const(stack, alloc, code, store, arg as usize),
+            Instruction::LoadFast => self.load_fast(stack, alloc, code, names, arg as usize),
+            Instruction::StoreFast => Ok(self.store_fast(stack, arg as usize)),
+            Instruction::DeleteFast => self.delete_fast(stack, alloc, code, names, arg as usize),
+            Instruction::Jump => Ok(self.transfers(stack, arg)),
+            Instruction::JumpIfTrue | Instruction::JumpIfFalse => Ok(self.asks_truth(stack)),
+            Instruction::SetupLoop => Ok(self.setup_loop(stack)),
+            Instruction::SetupExcept => Ok(self.opens(
+                stack,
+                BlockType::TryExcept { handler: arg },
+            )),
+            Instruction::SetupFinally => Ok(self.opens(stack, BlockType::Finally { handler: arg })),
+            Instruction::EnterFinally => Ok(self.enters_finally(stack)),
+            Instruction::EndFinally => Ok(self.end_finally(stack)),
+            Instruction::SetupWith => Ok(self.asks_enter(stack)),
+            Instruction::WithCleanupStart => self.start_cleanup(stack, store),
+            Instruction::WithCleanupFinish => Ok(self.finish_cleanup(stack)),
+            Instruction::PopBlock => Ok(self.leave_block(stack)),
+            Instruction::PopException => Ok(self.pop_exception(stack)),
+            Instruction::Raise => Ok(self.raises(stack, arg)),
+            Instruction::Break => Ok(self.unwind(stack, UnwindReason::Break(arg))),
+            Instruction::Continue => Ok(self.unwind(stack, UnwindReason::Continue(arg))),
+            Instruction::ReturnValue => Ok(self.return_value(stack)),
+            Instruction::ReturnConst => self.return_const(stack, alloc, code, store, arg as usize),
+            Instruction::YieldValue => Ok(self.yield_value(stack)),
+            Instruction::ExtendedArg => Ok(self.extends(stack, arg)),
+            Instruction::Pop
+            | Instruction::Duplicate
+            | Instruction::Rotate2
+            | Instruction::Rotate3 => Ok(self.move_entries(stack, op, arg)),
+            Instruction::LoadGlobal
+            | Instruction::BinaryOperation
+            | Instruction::CompareOperation
+            | Instruction::TestOperation
+            | Instruction::CallFunctionPositional
+            | Instruction::PrintExpr => self.ask_once(stack, alloc, code, names, op, arg),
             _ => unreachable!(),
         }
+    }
+
+    /// Keeps the argument of a prefix for the next unit.
+    fn extends<S: ValueStack>(&mut self, stack: &S, arg: u32) -> UnitStep
+        requires { self.old.state.at + 1 < 2 ^ 32 }
+        ensures { Does (λ s. Goes (record (next s) { prefix = arg })) (over self.old (S.list stack.now) (S.room stack.now)) result (over self.new (S.list stack.now) (S.room stack.now)) }
+    {
+        self.goes_on();
+        self.keeps(OpArg(arg));
+        UnitStep::Goes
     }
 }

@@ -1,7 +1,7 @@
 //! The first locals of a frame.
 
 ghost use Rattle.std.specs.Prelude.{◌≡◌, length, IfOk};
-ghost use Rattle.py_frame.specs.RunOfRows.{filled};
+ghost use Rattle.py_rows.specs.RunOfRows.{filled};
 
 use py_check::CheckedCode;
 use py_code::{ItemList, NoMemory};

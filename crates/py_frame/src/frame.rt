@@ -1,90 +1,194 @@
-//! A frame: a running code's place, stack and locals.
+//! Frames.
 
-ghost use Rattle.std.specs.Prelude.{◌≡◌, ◌≤◌, [], length, IfOk};
+ghost use Rattle.std.specs.Prelude.{◌≡◌, ◌-◌, ◌≤◌, ◌++◌, [], length, slice_get, Some, IfOk};
+ghost use Rattle.py_objects.specs.declared.payload.Payload.TheVariants as payload;
+ghost use Rattle.py_objects.specs.Objects.{AllFit, HasPayload};
+ghost use Rattle.py_objects.specs.Growth.{GrowsPlainly};
 ghost use Rattle.py_check.specs.Depths.{deepest};
-ghost use Rattle.py_frame.specs.Rows.{with_locals};
-ghost use Rattle.py_frame.specs.Fitting.{unfilled};
-ghost use Rattle.py_frame.specs.declared.input.Expect.TheVariants as expect;
+ghost use Rattle.py_rows.specs.Below.{HearsBelow, TellsBelow};
+ghost use Rattle.py_rows.specs.declared.expect.Expect.TheVariants as expect;
+ghost use Rattle.py_frame.specs.Frames.{frame_object, handed, setting_of, unfilled};
+ghost use Rattle.py_frame.specs.Steps.{Expects, Extends, IfTold, KeepsFirst, NamesHandled, events, expected, heard, hearing, told};
+ghost use Rattle.py_rows.specs.Laws.{AllMayTell};
+ghost use Rattle.py_frame.specs.Running.{IsRunning, IsSame, SlotFits};
 
-mod changes;
-mod getters;
-
-use crate::block::Block;
 use crate::filled::Filled;
-use crate::input::Expect;
+use crate::frame_core::FrameCore;
+use crate::input::{FrameStep, Input};
 use py_check::CheckedCode;
-use py_code::{NoMemory, OpArgState};
-use py_objects::{PyObjectRef, Scope};
+use py_code::{Names, NoMemory, OpArgState};
+use py_objects::{FrameRef, ObjList, PyBaseExceptionRef, PyObjectRef, Scope, Store};
+use py_rows::Expect;
 use py_stack::ValueStack;
 use std::alloc::Global;
 use std::marker::Model;
 
-/// A running code, seen as the state of its rows with the room that is left for values and for blocks, the number of its
-/// code and its scope. It takes memory when it is made, and none later.
+/// A running code with its stack. It takes memory when it is made, and none later but for what its units ask.
 #[derive(Drop)]
 pub struct Frame<S: ValueStack> {
-    /// The unit that comes next.
-    at: u32,
-    /// The place behind the last unit that was begun, 0 where none was.
-    lasti: u32,
-    /// What the prefixes so far have built, or the label of a jump that waits for a truth value.
-    prefix: OpArgState,
+    core: FrameCore,
     stack: S,
-    /// The open blocks, the innermost last. Places for all that the code needs are there from the beginning.
-    blocks: Vec<Block>,
-    locals: Vec<Option<PyObjectRef>>,
-    wants: Expect,
-    number: usize,
-    scope: Scope,
 }
 
 impl<S: ValueStack> Model for Frame<S> {
-    ghost use Rattle.std.specs.Prelude.{◌-◌, reverse, vec_len, vec_capacity};
-    ghost use Rattle.py_frame.specs.Fitting.{Framed};
+    ghost use Rattle.py_frame.specs.Frames.{Framed, over};
 
     ghost Value = { Framed };
 
-    ghost view = { λ f. record { state = record { at = f.at; last = f.lasti; prefix = f.prefix; stack = S.list f.stack; blocks = reverse f.blocks.items; locals = f.locals.items; wants = f.wants }; room = S.room f.stack; block_room = vec_capacity f.blocks - vec_len f.blocks; code = f.number; scope = f.scope } };
+    ghost view = { λ f. over f.core (S.list f.stack) (S.room f.stack) };
 }
 
 impl<S: ValueStack + Drop> Frame<S> {
-    /// A frame of a code, which has this number among the codes of the run. It hasn't begun, and its locals are unset.
+    /// A frame of a code, which has this number among the codes of the run; the object `frame` stands for it. It hasn't
+    /// begun, and its locals are unset. No cells are made yet.
     #[tactic(auto, using(crate::proofs::Filling::filled_next))]
     pub fn new(
         alloc: Global,
+        store: &mut Store,
         code: &CheckedCode,
         number: usize,
+        frame: FrameRef,
         scope: Scope,
+        closure: ObjList,
         stack: S,
     ) -> Result<Frame<S>, NoMemory>
+        requires entry { HasPayload store.old.made (frame_object frame) (payload.Frame number) }
+        requires cells { length closure ≡ length code.now.code.code.freevars.items }
         requires empty { S.list stack ≡ [] }
         requires room { code.now.code.code.max_stackdepth ≤ S.room stack }
-        ensures frame { IfOk result (λ frame. frame ≡ unfilled code.now number scope (S.room stack) frame.block_room) }
-        ensures blocks { IfOk result (λ frame. deepest code.now.notes ≤ frame.block_room) }
+        ensures frame { IfOk result (λ made. made ≡ unfilled code.now number frame scope closure (S.room stack) made.block_room) }
+        ensures blocks { IfOk result (λ made. deepest code.now.notes ≤ made.block_room) }
+        ensures store { store.new ≡ store.old }
     {
         let mut locals = Vec::new(alloc);
         for _ in 0..code.code().code.varnames.len() {
             locals.push(None)?;
         }
-        Ok(Frame {
+        let core = FrameCore {
             at: 0,
             lasti: 0,
             prefix: OpArgState::new(),
-            stack,
             blocks: Vec::with_capacity(alloc, code.block_depth())?,
             locals,
+            slot: None,
+            phase: 0,
             wants: Expect::Start,
             number,
+            entry: frame,
             scope,
-        })
+            closure,
+        };
+        Ok(Frame { core, stack })
     }
 
-    /// Gives a frame that hasn't begun its first locals.
-    pub fn fill(&mut self, locals: Filled)
+    /// Gives a frame that hasn't begun its first locals. No cells take arguments over yet.
+    pub fn fill(&mut self, store: &mut Store, code: &CheckedCode, locals: Filled)
         requires fresh { self.old.state.wants ≡ expect.Start }
         requires all { length locals ≡ length self.old.state.locals }
-        ensures { self.new ≡ record self.old { state = with_locals locals self.old.state } }
+        ensures frame { self.new ≡ record self.old { state = record self.old.state { locals = locals } } }
+        ensures store { store.new ≡ store.old }
     {
-        self.locals = locals.into_vec();
+        self.core.locals = locals.into_vec();
+    }
+
+    /// Takes an input, by which a step goes on. A frame that hasn't begun takes the slot over, a later one has it as it left
+    /// it; one that has ended stays so.
+    pub fn hear(&mut self, slot: Option<PyBaseExceptionRef>, input: Input)
+        ensures { self.new ≡ record self.old { state = hearing slot input self.old.state } }
+    {
+        self.core.hear(slot, input);
+    }
+
+    /// Takes an input, and runs units until one tells an event. A constant that is loaded is a new object. Where memory
+    /// runs out the frame has ended.
+    pub fn step(
+        &mut self,
+        alloc: Global,
+        code: &CheckedCode,
+        names: &Names,
+        store: &mut Store,
+        slot: &mut Option<PyBaseExceptionRef>,
+        input: Input,
+    ) -> FrameStep
+        requires running { IsRunning store.old.made names.now code.now self.old }
+        requires fit { AllFit store.old.made }
+        // The slot is as the frame's last step left it, before the first step any.
+        requires slot { SlotFits store.old.made self.old.state slot.old }
+        // The input is one that the frame expects: an answer is as it was wanted. It names objects.
+        requires expected { Expects store.old.made (setting_of names.now code.now self.old) self.old.state.wants input }
+        requires named { HearsBelow (length store.old.made) (events (heard input)) }
+        // The run so far goes on, by what was heard and the one event that is told.
+        ensures extends { IfTold result (Extends store.new.made (setting_of names.now code.now self.old) (handed slot.old self.old.state) (events (heard input) ++ events (told (self.new.state.last - 1) result)) self.new.state) }
+        ensures expects { self.new.state.wants ≡ expected result }
+        ensures own { NamesHandled self.new.state result }
+        // What is asked, the instruction of its unit may ask; only YieldValue yields; a raise is one of an exception.
+        ensures may { AllMayTell store.new.made code.now.code (events (told (self.new.state.last - 1) result)) }
+        ensures told { TellsBelow (length store.new.made) (events (told (self.new.state.last - 1) result)) }
+        ensures slot { slot.new ≡ self.new.state.slot }
+        // What the slot held when the frame was entered it holds again where the frame has ended, also where memory ran out.
+        ensures given_back { KeepsFirst (handed slot.old self.old.state) self.new.state }
+        // The frame runs as before, or has ended.
+        ensures running { IsRunning store.new.made names.now code.now self.new }
+        ensures same { IsSame self.old self.new }
+        // Also where memory ran out, nothing was declared, and nothing changed.
+        ensures objects { GrowsPlainly store.old.made store.new.made }
+        ensures unchanged { store.new ≡ record store.old { made = store.new.made } }
+    {
+        let step = self
+            .core
+            .step(&mut self.stack, alloc, code, names, store, *slot, input);
+        *slot = self.core.slot();
+        step
+    }
+
+    /// Which input the frame expects.
+    pub fn expects(&self) -> Expect
+        ensures { result ≡ self.now.state.wants }
+    {
+        self.core.expects()
+    }
+
+    /// The place behind the last unit that was begun, 0 where none was.
+    pub fn lasti(&self) -> u32
+        ensures { result ≡ self.now.state.last }
+    {
+        self.core.lasti
+    }
+
+    /// The line of the last unit that was begun, at first that of the first unit.
+    pub fn current_location(&self, code: &CheckedCode) -> u32
+        requires { self.now.state.last ≤ length code.now.code.code.instructions.items }
+        ensures { slice_get code.now.code.code.locations.items (self.now.state.last - 1) ≡ Some result }
+    {
+        code.code().code.locations[self.lasti().saturating_sub(1) as usize]
+    }
+
+    /// The line that the frame is at, as `current_location` says it.
+    pub fn f_lineno(&self, code: &CheckedCode) -> u32
+        requires { self.now.state.last ≤ length code.now.code.code.instructions.items }
+        ensures { slice_get code.now.code.code.locations.items (self.now.state.last - 1) ≡ Some result }
+    {
+        self.current_location(code)
+    }
+
+    /// The number of the frame's code among the codes of the run.
+    pub fn f_code(&self) -> usize
+        ensures { result ≡ self.now.code }
+    {
+        self.core.number
+    }
+
+    /// The object that stands for the frame.
+    pub fn entry(&self) -> FrameRef
+        ensures { result ≡ self.now.entry }
+    {
+        self.core.entry
+    }
+
+    /// The dict of the frame's globals.
+    pub fn f_globals(&self) -> PyObjectRef
+        ensures { result ≡ self.now.scope.globals }
+    {
+        self.core.globals()
     }
 }

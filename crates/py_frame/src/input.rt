@@ -12,6 +12,10 @@ pub enum Input {
     Start,
     /// It goes on.
     Go,
+    /// It is resumed with a value.
+    Send(PyObjectRef),
+    /// An exception is thrown into it.
+    Throw(PyBaseExceptionRef),
     /// What it asked is answered.
     Answer(Answer),
 }
@@ -42,16 +46,6 @@ impl Answer {
     }
 }
 
-/// Which input a frame expects.
-#[derive(Clone, Copy, Debug, PartialEq, Eq)]
-pub enum Expect {
-    Start,
-    Go,
-    Answer,
-    /// None: it has ended.
-    Ended,
-}
-
 /// What a frame tells: the next event of its activation, or that memory ran out.
 #[derive(Debug, Drop)]
 pub enum FrameStep {
@@ -59,6 +53,8 @@ pub enum FrameStep {
     Ask(Request, Option<PyBaseExceptionRef>),
     /// A loop begins a round.
     Round,
+    /// It yields a value.
+    Yield(PyObjectRef),
     /// It ends by a value.
     Return(PyObjectRef),
     /// It ends by an exception.

@@ -1,24 +1,31 @@
 //! Frames: running code, one event at a time.
 #![tactic(auto)]
 
-mod block;
-mod calls;
+mod answering;
+mod blocks;
+mod cleanup;
 mod constants;
-mod data;
 mod execute;
+mod exits;
 mod filled;
 mod frame;
-mod globals;
+mod frame_core;
 mod input;
 mod jumps;
-mod laws;
 mod locals;
-mod pending;
-mod step;
+mod managers;
+mod objects;
+mod questions;
+mod raising;
+mod run;
+mod stacks;
+mod table;
+mod unit_step;
+mod unwinding;
+mod wanted;
 
-pub use block::{Block, BlockType};
 pub use filled::{Filled, positional};
 pub use frame::Frame;
-pub use input::{Answer, Expect, FrameStep, Input};
-pub use laws::runs_of_rows;
+pub use input::{Answer, FrameStep, Input};
+pub use py_rows::{Expect, Wanted};
 pub use py_stack::{OwnStack, ValueStack};

@@ -16,7 +16,7 @@ use Rattle.py_objects.specs.declared.event.Event.TheVariants as event
 use Rattle.py_objects.specs.Objects.{Obj, Name, HasPayload, declares, declared, declared_from, name_of, error_kinds, pair_numbers, AllBelow, AllFit}
 use Rattle.py_objects.specs.Growth.{GrowsPlainly}
 use Rattle.py_rows.proofs.GrowingLemmas.{slice_get_grown, payload_grown}
-use Rattle.py_frames.proofs.PlainGrowth.{plainly_grows, slice_get_split}
+use Rattle.py_frame.proofs.PlainGrowth.{plainly_grows, slice_get_split}
 use Rattle.py_body.specs.Fits.{Continues}
 use Rattle.py_body.specs.Tree.{Tree}
 use Rattle.py_grammar.specs.declared.drive.DriveAtom.{DriveAtom}

@@ -12,7 +12,7 @@ use Rattle.py_objects.specs.Attrs.{Attrs, inserted}
 use Rattle.py_objects.specs.Edits.{Kept}
 use Rattle.py_objects.specs.Originals.{IsDict}
 use Rattle.py_check.specs.declared.annotated.Annotated.{Annotated}
-use Rattle.py_frames.proofs.PlainGrowth.{made_grown, below_more, length_grown, declared_grown, plainly_grows, grows_plainly_refl, grows_plainly_by}
+use Rattle.py_frame.proofs.PlainGrowth.{made_grown, below_more, length_grown, declared_grown, plainly_grows, grows_plainly_refl, grows_plainly_by}
 use Rattle.py_vm.specs.declared.stage.Stage.{Stage}
 use Rattle.py_vm.specs.declared.stage.Stage.TheVariants as stage
 use Rattle.py_vm.specs.declared.machinery.Core.{Core}

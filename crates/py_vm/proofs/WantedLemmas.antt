@@ -5,8 +5,6 @@ use Rattle.std.proofs.lemmas.Bool.{and_parts}
 use Rattle.std.proofs.lemmas.Option.{slice_get_within}
 use Rattle.py_code.specs.declared.instruction.Instruction.{Instruction}
 use Rattle.py_code.specs.declared.instruction.Instruction.TheVariants.{LoadConst, LoadFast, StoreFast, LoadGlobal, Pop, BinaryOperation, CompareOperation, CallFunctionPositional, PrintExpr, Jump, JumpIfTrue, JumpIfFalse, SetupLoop, PopBlock, ReturnValue, ReturnConst, YieldValue, ExtendedArg}
-use Rattle.py_code.specs.declared.operator.BinaryOperator.{BinaryOperator}
-use Rattle.py_code.specs.declared.operator.ComparisonOperator.{ComparisonOperator}
 use Rattle.py_code.specs.declared.unit.CodeUnit.{CodeUnit}
 use Rattle.py_objects.specs.declared.refs.PyBaseExceptionRef.{PyBaseExceptionRef}
 use Rattle.py_objects.specs.declared.payload.Payload.{Payload}
@@ -18,7 +16,7 @@ use Rattle.py_objects.specs.declared.request.Request.TheVariants as request
 use Rattle.py_objects.specs.declared.event.Event.{Event}
 use Rattle.py_objects.specs.declared.event.GotAnswer.{GotAnswer}
 use Rattle.py_objects.specs.declared.event.GotAnswer.TheVariants as got
-use Rattle.py_objects.specs.Objects.{Obj, Name, as_object}
+use Rattle.py_objects.specs.Objects.{Obj, as_object}
 use Rattle.py_check.specs.declared.note.Kind.{Kind}
 use Rattle.py_check.specs.declared.note.Kind.TheVariants as kind
 use Rattle.py_check.specs.declared.note.Note.{Note}
@@ -26,25 +24,24 @@ use Rattle.py_check.specs.declared.note.Note.TheVariants.{Live}
 use Rattle.py_check.specs.declared.note.BlockNote.{BlockNote}
 use Rattle.py_check.specs.declared.annotated.Annotated.{Annotated}
 use Rattle.py_check.specs.Operands.{operand}
-use Rattle.py_check.specs.Rules.{IsTyped, is_asked, is_compared, has_room, levels_nest, handlers_land, keeps_op, keeps_both}
+use Rattle.py_check.specs.Rules.{IsTyped, has_room, levels_nest, handlers_land, keeps_op, keeps_both}
 use Rattle.py_check.specs.Sheet.{Sheet, sheet_of}
 use Rattle.std.specs.Prelude.{length}
 use Rattle.py_rows.specs.declared.expect.Expect.{Expect}
 use Rattle.py_rows.specs.declared.expect.Expect.TheVariants as expect
 use Rattle.py_rows.specs.declared.expect.Wanted.{Wanted}
 use Rattle.py_rows.specs.declared.expect.Wanted.TheVariants as want
-use Rattle.py_rows.specs.States.{State}
 use Rattle.py_rows.specs.Answers.{HasKind, wanted, IsValue, IsAnswer}
 use Rattle.py_rows.specs.Fitting.{FitsAt, FitsBut}
 use Rattle.py_rows.specs.Standing.{IsPlaced}
 use Rattle.py_rows.specs.Questions.{may_ask, UnitAsks, UnitYields}
 use Rattle.py_rows.specs.Laws.{AllMayTell}
-use Rattle.py_frames.specs.declared.input.FrameStep.{FrameStep}
-use Rattle.py_frames.specs.declared.input.FrameStep.TheVariants as step
-use Rattle.py_frames.specs.Frames.{Framed}
-use Rattle.py_frames.specs.Running.{IsRunning}
-use Rattle.py_frames.specs.Steps.{events, expected, told}
-use Rattle.py_vm.specs.Answers.{Reply, Has, Is, Makes, Fails, truth, is_true, Replies, Gives}
+use Rattle.py_frame.specs.declared.input.FrameStep.{FrameStep}
+use Rattle.py_frame.specs.declared.input.FrameStep.TheVariants as step
+use Rattle.py_frame.specs.Frames.{Framed}
+use Rattle.py_frame.specs.Running.{IsRunning}
+use Rattle.py_frame.specs.Steps.{events, expected, told}
+use Rattle.py_vm.specs.Answers.{Reply, Has, Is, Makes, Fails, is_true, Replies, Gives}
 use Rattle.py_vm.specs.Calls.{Signature, Says, ComesTo}
 use Rattle.py_vm.specs.Replying.{is_answered}
 use Rattle.py_vm.specs.Turns.{IsPlain}

@@ -5,8 +5,8 @@ use Rattle.py_objects.specs.Edits.{Kept}
 use Rattle.py_objects.specs.Objects.{Obj}
 use Rattle.py_objects.specs.Scopes.{scope_of}
 use Rattle.py_rows.proofs.StepLemmas.{length-filled}
-use Rattle.py_frames.specs.Frames.{Framed}
-use Rattle.py_frames.specs.Running.{IsRunning}
+use Rattle.py_frame.specs.Frames.{Framed}
+use Rattle.py_frame.specs.Running.{IsRunning}
 use Rattle.frame_tests.proofs.DriveLemmas.{frame_runs}
 use Rattle.frame_tests.proofs.drives.frame_of.Goals as goal
 

@@ -1,5 +1,5 @@
 use Rattle.frame_tests.proofs.DriveLemmas.{driven_on, expected}
-use Rattle.py_frames.specs.Frames.{setting_of}
+use Rattle.py_frame.specs.Frames.{setting_of}
 use Rattle.frame_tests.proofs.drives.turn.Goals as goal
 
 pub step-requires-clause-named : goal.step-requires-clause-named

@@ -1,5 +1,8 @@
-use Rattle.py_frame.proofs.Loading.{add_grows}
+use Rattle.py_frame.proofs.LoadingLemmas.{has_constant}
 use Rattle.py_frame.proofs.constants.add.Goals as goal
 
-pub returns-clause-objects : goal.returns-clause-objects
-returns-clause-objects c = add_grows _ _ _ _ _ c.in_ok-payload.ensures c.add.ensures.added c.add.ensures.err
+pub add_constant-requires : goal.add_constant-requires
+add_constant-requires c = (c.args.literal.now, c.in_ok-payload.ensures)
+
+pub returns-clause-constant : goal.returns-clause-constant
+returns-clause-constant c = has_constant _ c.add_constant.new.store.made c.args.literal.now c.in_ok-payload.payload c.in_ok-payload.ensures c.add_constant.ensures.has
