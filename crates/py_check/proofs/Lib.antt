@@ -1,6 +1,3 @@
-pub mod Breaks
+pub mod BreakingLemmas
 pub mod OperandLemmas
 pub mod WorkedLemmas
-pub mod TypingBreakingLemmas
-pub mod WideningLemmas
-pub mod WorkedHandlerLemmas

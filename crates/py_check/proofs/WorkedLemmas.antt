@@ -3,7 +3,8 @@ use Rattle.std.proofs.Common.{◌≡◌, ⊎_elim, ℕ, zero, suc, ◌<◌, Bool
 use Rattle.std.proofs.lemmas.Bool.{and_parts, cases_lt}
 use Rattle.std.proofs.lemmas.Bool.Decides.{nat_tests}
 use Rattle.py_check.specs.Sheet.{Sheet}
-use Rattle.py_check.specs.Rules.{keeps_whole, keeps_at}
+use Rattle.py_check.specs.Typing.{keeps_at}
+use Rattle.py_check.specs.WholeCode.{keeps_whole}
 use Rattle.py_check.specs.Breaking.{keeps_all_at}
 use Rattle.py_check.specs.Worked.{Typed, Breaks}
 

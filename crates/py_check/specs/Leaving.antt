@@ -1,4 +1,4 @@
--- Where control comes to that leaves blocks: out of loops, out of handlers, and behind the exit of a manager.
+-- Where control comes to that leaves blocks: behind their ends, out of loops, out of handlers, and behind the exit of a manager.
 use Rattle.std.specs.Prelude.{ℕ, suc, nat_lt, List, [], ◌∷◌, length, drop, slice_get, Bool, true, false, ◌&&◌, ◌==◌, Option, Some}
 use Rattle.std.specs.List.{list_all, list_any}
 use Rattle.py_check.specs.declared.note.Kind.{Kind}
@@ -10,8 +10,21 @@ use Rattle.py_check.specs.declared.note.BlockNote.TheVariants.{Loop, TryExcept, 
 use Rattle.py_check.specs.declared.note.Note.{Note}
 use Rattle.py_check.specs.declared.note.Note.TheVariants.{Live}
 use Rattle.py_check.specs.Notes.{level_of, pending_of, same_pending}
-use Rattle.py_check.specs.Rules.{bottom, goes_on, jumps, top_level}
+use Rattle.py_check.specs.Landing.{goes_on, jumps, top_level}
+use Rattle.py_code.specs.Bottom.{bottom}
 use Rattle.py_check.specs.Sheet.{Sheet}
+
+-- the blocks that end where control comes to their end
+abbrev pub is_popped : BlockNote → Bool
+is_popped (Loop level) = true
+is_popped (TryExcept level handler) = true
+is_popped (Finally level handler) = true
+is_popped _ = false
+
+-- the innermost block may end, with what lies above its level
+abbrev pub leaves_block : Sheet → ℕ → List Kind → List BlockNote → Bool
+leaves_block sheet to kinds [] = false
+leaves_block sheet to kinds (b ∷ blocks) = is_popped b && goes_on sheet to (bottom (level_of b) kinds) blocks
 
 -- the handler of a finally lets this jump wait
 abbrev pub lets_wait : Option Note → Pending → Bool

@@ -7,16 +7,16 @@ pub mod Constants
 pub mod Operands
 -- what the rules read of a code
 pub mod Sheet
--- the rules, codes that keep them, and which is broken first
-pub mod Rules
-pub mod Breaking
--- the wider rules: what instructions do to the stack, what they take, where they
--- leave blocks to, codes that keep the rules, and the first unit that doesn't
+-- what instructions do to the stack, what they take, where control may come to, and
+-- where it comes to that leaves blocks
 pub mod Effects
 pub mod Taking
+pub mod Landing
 pub mod Leaving
+-- the rules on whole codes and on units, codes that keep them, and which is broken first
+pub mod WholeCode
 pub mod Typing
-pub mod TypingBreaking
+pub mod Breaking
 -- codes worked by hand
 pub mod Worked
 pub mod WorkedHandlers

@@ -5,7 +5,7 @@ use Rattle.py_check.specs.declared.note.Kind.{Kind}
 use Rattle.py_check.specs.declared.note.Kind.TheVariants.{Any}
 use Rattle.py_check.specs.declared.note.BlockNote.{BlockNote}
 use Rattle.py_check.specs.Notes.{kind_fits}
-use Rattle.py_check.specs.Rules.{top_level}
+use Rattle.py_check.specs.Landing.{top_level}
 
 -- operands of these kinds are there, the top first, and what lies below them is as it should be
 abbrev pub takes : List Kind → List Kind → List BlockNote → (List Kind → Bool) → Bool

@@ -1,4 +1,4 @@
--- The wider rules on notes, and codes whose notes keep them. No frame goes by these yet; Rules.antt has those of today.
+-- The rules that notes keep, unit by unit, and codes whose notes keep them.
 use Rattle.std.specs.Prelude.{◌≡◌, ℕ, suc, ◌+◌, ◌<◌, nat_lt, List, [], ◌∷◌, ◌++◌, length, drop, slice_get, Bool, true, false, ◌&&◌, ◌==◌, Option, Some, None}
 use Rattle.py_code.specs.declared.unit.CodeUnit.{CodeUnit}
 use Rattle.py_code.specs.declared.instruction.Instruction.{Instruction}
@@ -6,7 +6,7 @@ use Rattle.py_code.specs.declared.instruction.Instruction.TheVariants.{LoadConst
 use Rattle.py_code.specs.declared.flags.TheConstants.CodeFlags.{IS_GENERATOR, IS_COROUTINE}
 use Rattle.py_code.specs.declared.operator.RaiseKind.{RaiseKind}
 use Rattle.py_code.specs.declared.operator.RaiseKind.TheVariants as raise
-use Rattle.py_code.specs.Numbers.{raise_kinds}
+use Rattle.py_code.specs.Operators.{raise_kinds}
 use Rattle.py_check.specs.declared.note.Kind.{Kind}
 use Rattle.py_check.specs.declared.note.Kind.TheVariants.{Any}
 use Rattle.py_check.specs.declared.note.BlockNote.{BlockNote}
@@ -17,9 +17,11 @@ use Rattle.py_check.specs.declared.note.Pending.TheVariants as pending
 use Rattle.py_check.specs.declared.annotated.Annotated.{Annotated}
 use Rattle.py_check.specs.Effects.{Effect, Moves, AsksOnce, Other, effect, has_operand}
 use Rattle.py_check.specs.Taking.{takes, takes_top, at_place, moved_kinds, may_move}
-use Rattle.py_check.specs.Leaving.{walks, ends_finally, leaves_handler, starts_cleanup, ends_cleanup}
+use Rattle.py_check.specs.Leaving.{walks, ends_finally, leaves_handler, starts_cleanup, ends_cleanup, leaves_block}
 use Rattle.py_check.specs.Operands.{prefixes, operand, is_label}
-use Rattle.py_check.specs.Rules.{has_room, levels_nest, handlers_land, goes_on, jumps, top_level, loads, leaves_block, counts_if, keeps_whole}
+use Rattle.py_check.specs.Constants.{loads}
+use Rattle.py_check.specs.Landing.{has_room, levels_nest, handlers_land, goes_on, jumps, top_level}
+use Rattle.py_check.specs.WholeCode.{counts_if, keeps_whole}
 use Rattle.py_check.specs.Sheet.{Sheet, sheet_of}
 
 -- what a raise needs: the exception on top, under its cause if it has one, or nothing where what is handled is raised again

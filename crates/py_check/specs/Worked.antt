@@ -12,7 +12,7 @@ use Rattle.py_check.specs.declared.note.Note.{Note}
 use Rattle.py_check.specs.declared.note.Note.TheVariants.{Live}
 use Rattle.py_check.specs.declared.annotated.Annotated.{Annotated}
 use Rattle.py_check.specs.Sheet.{Sheet, sheet_of}
-use Rattle.py_check.specs.Rules.{IsTyped}
+use Rattle.py_check.specs.Typing.{IsTyped}
 use Rattle.py_check.specs.Breaking.{BreaksFirst}
 
 -- each code of which the rules read this keeps them

@@ -1,4 +1,4 @@
-//! Codes that were worked by hand, and what the wider rules say of them.
+//! Codes that were worked by hand, with handlers, finallies, managers, moves and yields.
 
 ghost use Rattle.std.specs.Prelude.{◌+◌, [], ◌∷◌};
 ghost use Rattle.py_code.specs.declared.instruction.Instruction.TheVariants as op;
@@ -7,8 +7,8 @@ ghost use Rattle.py_check.specs.declared.note.Kind.TheVariants as kind;
 ghost use Rattle.py_check.specs.declared.note.Pending.TheVariants as pending;
 ghost use Rattle.py_check.specs.declared.note.BlockNote.TheVariants as block;
 ghost use Rattle.py_check.specs.declared.note.Note.TheVariants as note;
-ghost use Rattle.py_check.specs.Worked.{unit, sheet, nothing, one, two, handles};
-ghost use Rattle.py_check.specs.WorkedHandlers.{Typed, Breaks, trying, trying_units, trying_notes, jumping_out, breaking, breaking_twice, handling, finishing, copying, yielding, jumping, managing};
+ghost use Rattle.py_check.specs.Worked.{Typed, Breaks, unit, sheet, nothing, one, two, handles};
+ghost use Rattle.py_check.specs.WorkedHandlers.{trying, trying_units, trying_notes, jumping_out, breaking, breaking_twice, handling, finishing, copying, yielding, jumping, managing};
 
 /// Codes that leave blocks for a reason keep the rules, and others break them, each first at a certain unit.
 pub fn worked_handlers()

@@ -6,7 +6,6 @@ mod checked;
 mod handlers_worked;
 mod laws;
 mod note;
-mod typing_laws;
 mod worked;
 
 pub use annotated::Annotated;
@@ -14,5 +13,4 @@ pub use checked::CheckedCode;
 pub use handlers_worked::{worked_handlers, worked_values};
 pub use laws::laws_of_rules;
 pub use note::{BlockList, BlockNote, Kind, KindList, Note, NoteList, Pending, PendingSet};
-pub use typing_laws::laws_of_typing;
 pub use worked::{worked_blocks, worked_codes, worked_loops, worked_notes};

@@ -1,5 +1,5 @@
 use Rattle.std.proofs.Common.{refl}
-use Rattle.py_check.proofs.WorkedHandlerLemmas.{typed, breaks, breaks_first}
+use Rattle.py_check.proofs.WorkedLemmas.{typed, breaks, breaks_first}
 use Rattle.py_check.proofs.handlers_worked.worked_values.Goals as goal
 
 pub returns-clause-rotates : goal.returns-clause-rotates

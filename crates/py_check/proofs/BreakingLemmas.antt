@@ -1,11 +1,11 @@
--- A code keeps the wider rules, or exactly one unit is the first that breaks one.
+-- A code keeps the rules, or exactly one unit is the first that breaks one.
 use Rattle.std.proofs.Common.{◌≡◌, ◌⊎◌, ⊎_elim, inl, inr, ℕ, zero, suc, ◌<◌, Bool, true, false, ◌&&◌, refl, sym, subst, length, arith}
 use Rattle.std.proofs.lemmas.Bool.{and_parts, and_from, both_ways, cases_lt}
 use Rattle.py_check.specs.declared.annotated.Annotated.{Annotated}
 use Rattle.py_check.specs.Sheet.{Sheet, sheet_of}
-use Rattle.py_check.specs.Rules.{keeps_whole}
+use Rattle.py_check.specs.WholeCode.{keeps_whole}
 use Rattle.py_check.specs.Typing.{keeps_at, IsTyped}
-use Rattle.py_check.specs.TypingBreaking.{keeps, BreaksFirst}
+use Rattle.py_check.specs.Breaking.{keeps, BreaksFirst}
 
 -- a code that keeps the rules has a unit
 not_empty : (sheet : Sheet) → keeps_whole sheet ≡ true → 0 < length sheet.units
