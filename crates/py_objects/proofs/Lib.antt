@@ -5,3 +5,4 @@ pub mod BelowLemmas
 pub mod EditsLemmas
 pub mod OriginalsLemmas
 pub mod StoreLemmas
+pub mod OwnLemmas

@@ -1,5 +1,6 @@
--- The words in which bodies tell their events. Each takes the events that are told and, last, what may follow: K holds of
--- what comes of it and of the events behind. Where nothing is left to tell, the telling is cut there.
+-- The words in which bodies tell their events. Each takes the number of the event that was heard last (a round needs none), the
+-- events that are told and, last, what may follow: K holds of what comes of it, of the event heard last by then and of the events
+-- behind. Where nothing is left to tell, the telling is cut there.
 use Rattle.std.specs.Prelude.{ℕ, Bool, true, Option, List, [], ◌∷◌, ◌≡◌, ◌⊎◌}
 use Rattle.py_objects.specs.declared.refs.PyBaseExceptionRef.{PyBaseExceptionRef}
 use Rattle.py_objects.specs.declared.payload.Payload.{Payload}
@@ -15,28 +16,28 @@ pub data Value : Type 0 where
   Failed : PyBaseExceptionRef → Value
   Stopped : Value
 
--- what holds of a value and of the events behind it
+-- what holds of a value and of the events behind it, where this is the number of the event that was heard last
 abbrev pub AfterValue : Type 1
-AfterValue = Value → List Own → Type 0
+AfterValue = Value → ℕ → List Own → Type 0
 
 -- an object of this payload, without an event
-abbrev pub IsLiteral : List Payload → Payload → List Own → AfterValue → Type 0
-IsLiteral objects p ts K = ((ts ≡ []) × K Stopped []) ⊎ ((v : Obj) × HasPayload objects v p × K (Given v) ts)
+abbrev pub IsLiteral : List Payload → Payload → ℕ → List Own → AfterValue → Type 0
+IsLiteral objects p event ts K = ((ts ≡ []) × K Stopped event []) ⊎ ((v : Obj) × HasPayload objects v p × K (Given v) event ts)
 
 -- an answer goes on as a value or as a raise; that there is nothing more answers no request of these bodies
-abbrev pub Answers : GotAnswer → List Own → AfterValue → Type 0
-Answers (got.Value v) ts K = K (Given v) ts
-Answers (got.Raise e) ts K = K (Failed e) ts
-Answers (got.Stop v) ts K = ⊥
+abbrev pub Answers : GotAnswer → ℕ → List Own → AfterValue → Type 0
+Answers (got.Value v) event ts K = K (Given v) event ts
+Answers (got.Raise e) event ts K = K (Failed e) event ts
+Answers (got.Stop v) event ts K = ⊥
 
--- an answer, or the end of what is told
-abbrev pub Answered : List Own → AfterValue → Type 0
-Answered ts K = ((ts ≡ []) × K Stopped []) ⊎ ((w : GotAnswer) × (mid : List Own) × (ts ≡ Gets w ∷ mid) × Answers w mid K)
+-- an answer, by an event with a number of its own, or the end of what is told
+abbrev pub Answered : ℕ → List Own → AfterValue → Type 0
+Answered event ts K = ((ts ≡ []) × K Stopped event []) ⊎ ((i : ℕ) × (w : GotAnswer) × (mid : List Own) × (ts ≡ Gets i w ∷ mid) × Answers w i mid K)
 
 -- a request while h is handled, from one of these units, and its answer
-abbrev pub Asked : (ℕ → Bool) → Request → Option PyBaseExceptionRef → List Own → AfterValue → Type 0
-Asked units r h ts K =
-    ((ts ≡ []) × K Stopped []) ⊎ ((at : ℕ) × (mid : List Own) × (units at ≡ true) × (ts ≡ Asks at r h ∷ mid) × Answered mid K)
+abbrev pub Asked : (ℕ → Bool) → Request → Option PyBaseExceptionRef → ℕ → List Own → AfterValue → Type 0
+Asked units r h event ts K =
+    ((ts ≡ []) × K Stopped event []) ⊎ ((at : ℕ) × (mid : List Own) × (units at ≡ true) × (ts ≡ Asks at r h ∷ mid) × Answered event mid K)
 
 -- a round of a loop, or the end of what is told
 abbrev pub Rounded : List Own → Type 0 → (List Own → Type 0) → Type 0

@@ -7,6 +7,7 @@ mod editing;
 mod event;
 mod history;
 mod keys;
+mod laws;
 mod pair_list;
 mod payload;
 mod refs;
@@ -19,6 +20,7 @@ pub use attr_map::AttrMap;
 pub use edit::{AwaitState, Change, ChangeList, Edit, History, LinkField};
 pub use event::{DriveAnswer, Ending, Event, EventList, GotAnswer, ResumeHow};
 pub use history::objects_at;
+pub use laws::laws_of_own_events;
 pub use pair_list::PairList;
 pub use payload::{
     ClassBody, CoroBody, CoroKind, ErrorKind, ExceptionBody, Fault, FunctionBody, ManagerBody,
