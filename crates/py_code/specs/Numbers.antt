@@ -59,11 +59,7 @@ unary_number Unary.Invert = 1
 unary_number Unary.Minus = 2
 unary_number Unary.Plus = 3
 
--- each test, at its number
-abbrev pub test_operators : List TestOperator
-test_operators = Test.In ∷ Test.NotIn ∷ Test.Is ∷ Test.IsNot ∷ Test.ExceptionMatch ∷ []
-
--- its number
+-- the number of a test
 abbrev pub test_number : TestOperator → ℕ
 test_number Test.In = 0
 test_number Test.NotIn = 1
@@ -82,11 +78,7 @@ conversion_number Conversion.Str = 1
 conversion_number Conversion.Ascii = 2
 conversion_number Conversion.Repr = 3
 
--- each kind of raise, at its number
-abbrev pub raise_kinds : List RaiseKind
-raise_kinds = Raise.Reraise ∷ Raise.Raise ∷ Raise.RaiseCause ∷ []
-
--- its number
+-- the number of a kind of raise
 abbrev pub raise_number : RaiseKind → ℕ
 raise_number Raise.Reraise = 0
 raise_number Raise.Raise = 1
