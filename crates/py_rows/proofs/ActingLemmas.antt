@@ -12,7 +12,7 @@ use Rattle.py_code.specs.declared.literal.Literal.{Literal, None as NoneLiteral,
 use Rattle.py_code.specs.declared.operator.RaiseKind.{RaiseKind}
 use Rattle.py_code.specs.declared.operator.RaiseKind.TheVariants as raise
 use Rattle.py_code.specs.Literals.{literals_of}
-use Rattle.py_code.specs.Numbers.{raise_kinds}
+use Rattle.py_code.specs.Operators.{raise_kinds}
 use Rattle.py_code.specs.Units.{with_byte, is_prefix}
 use Rattle.py_objects.specs.declared.refs.PyBaseExceptionRef.{PyBaseExceptionRef}
 use Rattle.py_objects.specs.declared.payload.Payload.{Payload}
@@ -33,11 +33,13 @@ use Rattle.py_check.specs.Operands.{carried, is_label, prefixes}
 use Rattle.py_check.specs.Effects.{Effect, Moves, AsksOnce, Other, effect, has_operand}
 use Rattle.py_rows.specs.Rows.{is_there, reaches, payload_of, or_stuck, loads, asks, asks_if, takes_off, where_there, acts_by, load_fast, delete_fast, if_popped, pop_block, pop_type, pop_exception, finally_type, in_finally, goes_on as goes_on_with, end_finally, raised_by, raised_of, raised_in, asks_exit, finishes, finish_cleanup, raises, act_own, act}
 use Rattle.py_check.specs.Sheet.{Sheet, sheet_of}
-use Rattle.py_check.specs.Rules.{bottom, top_level, has_room, lands, goes_on, jumps as may_jump, handlers_land, is_popped, leaves_block}
+use Rattle.py_check.specs.Landing.{top_level, has_room, lands, goes_on, jumps as may_jump, handlers_land}
+use Rattle.py_code.specs.Bottom.{bottom}
 use Rattle.py_check.specs.Taking.{takes, takes_top, at_place, picked, moved_kinds, may_move}
-use Rattle.py_check.specs.Leaving.{is_finally_handler, is_except_handler, ends_finally, leaves_handler, starts_cleanup, ends_cleanup, walks}
+use Rattle.py_check.specs.Leaving.{is_finally_handler, is_except_handler, ends_finally, leaves_handler, starts_cleanup, ends_cleanup, walks, is_popped, leaves_block}
 use Rattle.py_check.specs.Typing.{is_generator, opens, keeps_by, keeps_own, keeps_op}
-use Rattle.py_check.specs.Rules as rules
+use Rattle.py_check.specs.Constants as constants
+use Rattle.py_check.specs.Landing as landing
 use Rattle.py_check.specs.Typing as typing
 use Rattle.py_rows.specs.declared.block.Block.{Block}
 use Rattle.py_rows.specs.declared.block.BlockType.{BlockType}
@@ -54,7 +56,8 @@ use Rattle.py_rows.specs.Answers.{HasKind, Suits}
 use Rattle.py_rows.specs.Answers as answers
 use Rattle.py_rows.specs.Asked.{name_of_local, asked}
 use Rattle.py_rows.specs.Questions.{may_ask, UnitAsks, UnitYields}
-use Rattle.py_rows.specs.Fitting.{HaveKinds, MayWait, TypeWaits, type_number, IsBlock, AreBlocks, Has, wanted_of, raise_left, left_own, left_by, left_of, FitsBut, IsSound}
+use Rattle.py_rows.specs.Fitting.{HaveKinds, MayWait, TypeWaits, type_number, IsBlock, AreBlocks, Has, wanted_of, raise_left, left_own, left_by, left_of, FitsBut}
+use Rattle.py_rows.specs.Sound.{IsSound}
 use Rattle.py_rows.specs.Laws.{RaisedThere, Always}
 use Rattle.py_rows.proofs.KindLemmas.{kinds_counted, kinds_dropped, kinds_under, kinds_joined, kinds_moved}
 use Rattle.py_rows.proofs.BlockLemmas.{waiting_admitted}
@@ -100,7 +103,7 @@ listed_asks wanted pushes is = let clash : false ≡ true = ap is_other is in cc
 
 -- the handlers outside of the innermost block
 pub outer_handlers : (sheet : Sheet) (ks : List Kind) (b : BlockNote) (bs : List BlockNote) → handlers_land sheet ks (b ∷ bs) ≡ true → handlers_land sheet (bottom (level_of b) ks) bs ≡ true
-outer_handlers sheet ks b bs hs = (and_parts (rules.handler_lands sheet b (bottom (level_of b) ks) bs) (handlers_land sheet (bottom (level_of b) ks) bs) hs).1
+outer_handlers sheet ks b bs hs = (and_parts (landing.handler_lands sheet b (bottom (level_of b) ks) bs) (handlers_land sheet (bottom (level_of b) ks) bs) hs).1
 
 -- the first of two operands
 first_taken : (kinds : List Kind) (blocks : List BlockNote) → takes (kind.Any ∷ kind.Any ∷ []) kinds blocks (λ rest. true) ≡ true → takes (kind.Any ∷ []) kinds blocks (λ rest. true) ≡ true
@@ -188,7 +191,7 @@ module _ (objects : List Payload) (names : List (List ℕ)) (globals : Obj) (clo
   by_effect op i Other f own there keeps is_op operand plain left asks led may = led may
 
   -- loads
-  loads_fit : (literal : Option Literal) (rest : Kind → Bool) (f : Obj → Step) → rules.loads literal rest ≡ true → ((k : Kind) (v : Obj) → rest k ≡ true → HasKind objects v k → Led (f v))
+  loads_fit : (literal : Option Literal) (rest : Kind → Bool) (f : Obj → Step) → constants.loads literal rest ≡ true → ((k : Kind) (v : Obj) → rest k ≡ true → HasKind objects v k → Led (f v))
       → Always objects (StepFits objects code) (loads literal f)
   loads_fit None rest f keeps fits = cc
   loads_fit (Some l) rest f keeps fits =

@@ -7,7 +7,7 @@ use Rattle.py_code.specs.declared.instruction.Instruction.{Instruction}
 use Rattle.py_code.specs.declared.instruction.Instruction.TheVariants.{LoadFast, DeleteFast, JumpIfTrue, JumpIfFalse, SetupWith, WithCleanupStart, WithCleanupFinish, Raise, YieldValue}
 use Rattle.py_code.specs.declared.operator.RaiseKind.{RaiseKind}
 use Rattle.py_code.specs.declared.operator.RaiseKind.TheVariants as raise
-use Rattle.py_code.specs.Numbers.{raise_kinds}
+use Rattle.py_code.specs.Operators.{raise_kinds}
 use Rattle.py_code.specs.Units.{with_byte, is_prefix}
 use Rattle.py_objects.specs.declared.payload.Payload.{Payload}
 use Rattle.py_objects.specs.Objects.{Obj}
@@ -20,7 +20,7 @@ use Rattle.py_check.specs.Notes.{level_of}
 use Rattle.py_check.specs.Operands.{carried, is_label}
 use Rattle.py_check.specs.Effects.{Effect, Moves, AsksOnce, Other, effect, has_operand}
 use Rattle.py_check.specs.Sheet.{sheet_of}
-use Rattle.py_check.specs.Rules.{top_level, goes_on, jumps as may_jump, handlers_land}
+use Rattle.py_check.specs.Landing.{top_level, goes_on, jumps as may_jump, handlers_land}
 use Rattle.py_check.specs.Taking.{takes, takes_top}
 use Rattle.py_check.specs.Leaving.{is_finally_handler, starts_cleanup, ends_cleanup}
 use Rattle.py_check.specs.Typing.{is_generator, opens, keeps_by, keeps_own, keeps_op}

@@ -11,23 +11,22 @@ use Rattle.py_code.specs.declared.operator.TestOperator.{TestOperator}
 use Rattle.py_code.specs.declared.operator.TestOperator.TheVariants as test
 use Rattle.py_code.specs.declared.operator.BinaryOperator.{BinaryOperator}
 use Rattle.py_code.specs.declared.operator.ComparisonOperator.{ComparisonOperator}
-use Rattle.py_check.specs.Rules.{asks_operator, asks_comparison, is_asked, is_compared}
 use Rattle.py_rows.specs.Asked.{name_of_global, asked_operator, asked_comparison, name_in, on_none, on_one, on_two, calls, tests, asked}
 use Rattle.py_code.specs.declared.names.NameId.{NameId}
-use Rattle.py_code.specs.Operators.{binary_operators, comparison_operators}
-use Rattle.py_code.specs.Numbers.{test_operators}
+use Rattle.py_code.specs.Operators.{binary_operators, comparison_operators, test_operators}
 use Rattle.py_objects.specs.declared.request.Request.{Request}
 use Rattle.py_objects.specs.Objects.{Obj, Name, AllBelow, numbers, request_numbers}
 use Rattle.py_check.specs.declared.note.Kind.{Kind}
 use Rattle.py_check.specs.declared.note.Kind.TheVariants as kind
 use Rattle.py_check.specs.declared.annotated.Annotated.{Annotated}
-use Rattle.py_check.specs.Effects.{Effect, Moves, AsksOnce, Other, effect, is_tested, has_operand}
+use Rattle.py_check.specs.Effects.{Effect, Moves, AsksOnce, Other, effect, is_tested, has_operand, asks_operator, asks_comparison, is_asked, is_compared}
 use Rattle.py_check.specs.Sheet.{Sheet, sheet_of}
 use Rattle.py_rows.specs.States.{Setting}
 use Rattle.py_rows.proofs.BelowLemmas.{joined_below, reverse_below}
 use Rattle.py_rows.specs.Answers.{wanted, Suits}
 use Rattle.py_rows.specs.Questions.{may_ask, UnitAsks}
-use Rattle.py_rows.specs.Fitting.{wanted_of, ArePlaces, AreNames}
+use Rattle.py_rows.specs.Fitting.{wanted_of}
+use Rattle.py_rows.specs.Sound.{ArePlaces, AreNames}
 
 -- a request is there that the instruction may ask, and wants what is pushed
 abbrev pub Wants : Instruction → Option Kind → Option Request → Type 0

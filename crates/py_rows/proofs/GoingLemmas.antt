@@ -13,7 +13,8 @@ use Rattle.py_check.specs.declared.annotated.Annotated.{Annotated}
 use Rattle.py_rows.specs.States.{Setting, State, Step, Goes, Tells, Stuck, Move, Plainly, Loads, Decides, Manages, Exits}
 use Rattle.py_rows.specs.Receiving.{moves}
 use Rattle.py_rows.specs.RunOfRows.{is_manager, MayLead, Steps, silent, telling}
-use Rattle.py_rows.specs.Fitting.{FitsAt, IsSound}
+use Rattle.py_rows.specs.Fitting.{FitsAt}
+use Rattle.py_rows.specs.Sound.{IsSound}
 use Rattle.py_rows.specs.Laws.{LeadsTo, AlwaysLeads, IsMoving, setting_of}
 use Rattle.py_rows.proofs.AskingLemmas.{got_there}
 use Rattle.py_rows.proofs.LandingLemmas.{Fits}

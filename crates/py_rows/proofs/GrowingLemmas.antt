@@ -159,11 +159,11 @@ step_grown objects objects' grows setting s _ _ (hearing x w hears) = hearing x 
     answer_grown w (got.Raise e) is = kind_grown objects objects' (as_object e) kind.Exc grows is
 
     hears_grown : (y : Expect) (x : Own) (w : Expect) → Hears objects setting y x w → Hears objects' setting y x w
-    hears_grown expect.Start (Resumes how.Start) w hears = hears
-    hears_grown expect.Start (Resumes (how.Throw e)) w hears = (kind_grown objects objects' (as_object e) kind.Exc grows hears.0, hears.1, hears.2)
-    hears_grown (expect.Answer wanted) (Gets g) w hears = (answer_grown wanted g hears.0, hears.1)
-    hears_grown expect.Resume (Resumes (how.Send v)) w hears = hears
-    hears_grown expect.Resume (Resumes (how.Throw e)) w hears = (kind_grown objects objects' (as_object e) kind.Exc grows hears.0, hears.1)
+    hears_grown expect.Start (Resumes k how.Start) w hears = hears
+    hears_grown expect.Start (Resumes k (how.Throw e)) w hears = (kind_grown objects objects' (as_object e) kind.Exc grows hears.0, hears.1, hears.2)
+    hears_grown (expect.Answer wanted) (Gets k g) w hears = (answer_grown wanted g hears.0, hears.1)
+    hears_grown expect.Resume (Resumes k (how.Send v)) w hears = hears
+    hears_grown expect.Resume (Resumes k (how.Throw e)) w hears = (kind_grown objects objects' (as_object e) kind.Exc grows hears.0, hears.1)
     hears_grown _ _ w hears = absurd hears
 
 -- and of a run

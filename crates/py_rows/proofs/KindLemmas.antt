@@ -9,7 +9,7 @@ use Rattle.py_objects.specs.Objects.{Obj}
 use Rattle.py_check.specs.declared.note.Kind.{Kind}
 use Rattle.py_check.specs.declared.note.Kind.TheVariants as kind
 use Rattle.py_check.specs.Notes.{kind_number, kind_size, same_kind, plain_kind, kind_fits, kinds_fit}
-use Rattle.py_check.specs.Rules.{bottom}
+use Rattle.py_code.specs.Bottom.{bottom}
 use Rattle.py_check.specs.Taking.{at_place, picked, moved_kinds}
 use Rattle.py_rows.specs.Answers.{HasKind}
 use Rattle.py_rows.specs.Fitting.{HaveKinds}

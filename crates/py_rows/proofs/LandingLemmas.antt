@@ -13,7 +13,7 @@ use Rattle.py_check.specs.declared.annotated.Annotated.{Annotated}
 use Rattle.py_check.specs.Notes.{kinds_fit, blocks_fit, note_fits}
 use Rattle.py_check.specs.Operands.{carried, is_label}
 use Rattle.py_check.specs.Sheet.{sheet_of}
-use Rattle.py_check.specs.Rules.{lands, jumps as may_jump}
+use Rattle.py_check.specs.Landing.{lands, jumps as may_jump}
 use Rattle.py_rows.specs.declared.block.Block.{Block}
 use Rattle.py_rows.specs.declared.expect.Expect.{Expect}
 use Rattle.py_rows.specs.declared.expect.Expect.TheVariants as expect

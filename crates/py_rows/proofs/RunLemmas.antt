@@ -12,7 +12,8 @@ use Rattle.py_rows.specs.States.{Setting, State}
 use Rattle.py_rows.specs.Handled.{handled_in, KeepsSlot}
 use Rattle.py_rows.specs.Standing.{IsPlaced, IsStanding}
 use Rattle.py_rows.specs.RunOfRows.{Runs, none, on, started}
-use Rattle.py_rows.specs.Fitting.{FitsAt, IsSound}
+use Rattle.py_rows.specs.Fitting.{FitsAt}
+use Rattle.py_rows.specs.Sound.{IsSound}
 use Rattle.py_rows.specs.Below.{HearsBelow, TellsBelow, HoldsBelow}
 use Rattle.py_rows.specs.Laws.{AllMayTell, setting_of}
 use Rattle.py_rows.proofs.StepLemmas.{steps_fit, steps_tell, start_fits}

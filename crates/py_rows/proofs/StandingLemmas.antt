@@ -22,11 +22,11 @@ abbrev Heard : ℕ → ℕ → State → State → Expect → Own → Expect →
 Heard n at s t x o w = IsOf at t o × (IsPlaced at x s → IsPlaced at w (waiting w s)) × AllBelow n (told_numbers o) × (AllBelow n (heard_numbers o) → ExpectBelow n w)
 
 heard : (objects : List Payload) (setting : Setting) (n at : ℕ) (s t : State) (x : Expect) (o : Own) (w : Expect) → Hears objects setting x o w → Heard n at s t x o w
-heard objects setting n at s t expect.Start (Resumes how.Start) w hears = subst (Heard n at s t expect.Start (Resumes how.Start)) (sym hears) (tt, λ placed. tt, tt, λ low. tt)
-heard objects setting n at s t expect.Start (Resumes (how.Throw e)) w hears = subst (Heard n at s t expect.Start (Resumes (how.Throw e))) (sym hears.1) (tt, λ placed. placed, tt, λ low. low)
-heard objects setting n at s t (expect.Answer wanted) (Gets g) w hears = subst (Heard n at s t (expect.Answer wanted) (Gets g)) (sym hears.1) (tt, λ placed. placed, tt, λ low. low)
-heard objects setting n at s t expect.Resume (Resumes (how.Send v)) w hears = subst (Heard n at s t expect.Resume (Resumes (how.Send v))) (sym hears) (tt, λ placed. placed, tt, λ low. low)
-heard objects setting n at s t expect.Resume (Resumes (how.Throw e)) w hears = subst (Heard n at s t expect.Resume (Resumes (how.Throw e))) (sym hears.1) (tt, λ placed. placed, tt, λ low. low)
+heard objects setting n at s t expect.Start (Resumes k how.Start) w hears = subst (Heard n at s t expect.Start (Resumes k how.Start)) (sym hears) (tt, λ placed. tt, tt, λ low. tt)
+heard objects setting n at s t expect.Start (Resumes k (how.Throw e)) w hears = subst (Heard n at s t expect.Start (Resumes k (how.Throw e))) (sym hears.1) (tt, λ placed. placed, tt, λ low. low)
+heard objects setting n at s t (expect.Answer wanted) (Gets k g) w hears = subst (Heard n at s t (expect.Answer wanted) (Gets k g)) (sym hears.1) (tt, λ placed. placed, tt, λ low. low)
+heard objects setting n at s t expect.Resume (Resumes k (how.Send v)) w hears = subst (Heard n at s t expect.Resume (Resumes k (how.Send v))) (sym hears) (tt, λ placed. placed, tt, λ low. low)
+heard objects setting n at s t expect.Resume (Resumes k (how.Throw e)) w hears = subst (Heard n at s t expect.Resume (Resumes k (how.Throw e))) (sym hears.1) (tt, λ placed. placed, tt, λ low. low)
 heard objects setting n at s t _ _ w hears = absurd hears
 
 -- where the slot was kept

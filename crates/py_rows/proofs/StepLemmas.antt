@@ -28,7 +28,8 @@ use Rattle.py_rows.specs.Answers.{IsValue}
 use Rattle.py_rows.specs.Rows.{unit_move}
 use Rattle.py_rows.specs.Receiving.{unit_answered, moves}
 use Rattle.py_rows.specs.RunOfRows.{MayLead, Hears, Steps, silent, telling, hearing, filled, started}
-use Rattle.py_rows.specs.Fitting.{Has, FitsNote, left_of, FitsBut, CanUnwind, FitsAt, IsSound}
+use Rattle.py_rows.specs.Fitting.{Has, FitsNote, left_of, FitsBut, CanUnwind, FitsAt}
+use Rattle.py_rows.specs.Sound.{IsSound}
 use Rattle.py_rows.specs.Laws.{LeadsTo, Always, AlwaysLeads, MayTell, AllMayTell, IsMoving, IsWithin, setting_of}
 use Rattle.py_rows.proofs.KindLemmas.{kinds_counted}
 use Rattle.py_rows.proofs.BlockLemmas.{blocks_counted, deepest_there}
@@ -145,19 +146,19 @@ module _ (objects : List Payload) (names : List (List ℕ)) (globals : Obj) (clo
 
   -- what a frame hears that waits
   heard_fits : (x : Expect) (o : Own) (w : Expect) → FitsAt objects code x s → Hears objects (setting_of names globals closure code) x o w → FitsAt objects code w (waiting w s)
-  heard_fits expect.Start (Resumes how.Start) w f hears = subst (λ (y : Expect). FitsAt objects code y (waiting y s)) (sym hears) (note_waiting expect.Go f.1)
-  heard_fits expect.Start (Resumes (how.Throw e)) w f hears =
+  heard_fits expect.Start (Resumes k how.Start) w f hears = subst (λ (y : Expect). FitsAt objects code y (waiting y s)) (sym hears) (note_waiting expect.Go f.1)
+  heard_fits expect.Start (Resumes k (how.Throw e)) w f hears =
       let raised : Expect = expect.Heard (got.Raise e) in
       let can : CanUnwind objects code (waiting raised s) = record { kinds = f.1.kinds; block_notes = f.1.block_notes; has = has_noted f.1 s.last raised; there = slice_get_within code.code.code.instructions.items s.at _ (unit_kept code s.at f.1.kinds f.1.block_notes sound.typed f.1.note).is } in
       subst (λ (y : Expect). FitsAt objects code y (waiting y s)) (sym hears.1) (hears.0, can)
-  heard_fits (expect.Answer wanted) (Gets (got.Value v)) w f hears =
+  heard_fits (expect.Answer wanted) (Gets k (got.Value v)) w f hears =
       subst (λ (y : Expect). FitsAt objects code y (waiting y s)) (sym hears.1) (wanted, but_waiting wanted (expect.Heard (got.Value v)) f, hears.0)
-  heard_fits (expect.Answer wanted) (Gets (got.Stop v)) w f hears = absurd hears.0
-  heard_fits (expect.Answer wanted) (Gets (got.Raise e)) w f hears =
+  heard_fits (expect.Answer wanted) (Gets k (got.Stop v)) w f hears = absurd hears.0
+  heard_fits (expect.Answer wanted) (Gets k (got.Raise e)) w f hears =
       subst (λ (y : Expect). FitsAt objects code y (waiting y s)) (sym hears.1) (hears.0, can_unwind wanted (expect.Heard (got.Raise e)) f)
-  heard_fits expect.Resume (Resumes (how.Send v)) w f hears =
+  heard_fits expect.Resume (Resumes k (how.Send v)) w f hears =
       subst (λ (y : Expect). FitsAt objects code y (waiting y s)) (sym hears) (want.Of kind.Any, but_waiting (want.Of kind.Any) (expect.Heard (got.Value v)) f, tt)
-  heard_fits expect.Resume (Resumes (how.Throw e)) w f hears =
+  heard_fits expect.Resume (Resumes k (how.Throw e)) w f hears =
       subst (λ (y : Expect). FitsAt objects code y (waiting y s)) (sym hears.1) (hears.0, can_unwind (want.Of kind.Any) (expect.Heard (got.Raise e)) f)
   heard_fits _ _ w f hears = absurd hears
 
@@ -182,11 +183,11 @@ module _ (objects : List Payload) (names : List (List ℕ)) (globals : Obj) (clo
 
   -- what is heard is told by no unit
   heard_told : (x : Expect) (o : Own) (w : Expect) → Hears objects (setting_of names globals closure code) x o w → MayTell objects code.code o
-  heard_told expect.Start (Resumes how.Start) w hears = tt
-  heard_told expect.Start (Resumes (how.Throw e)) w hears = tt
-  heard_told (expect.Answer wanted) (Gets g) w hears = tt
-  heard_told expect.Resume (Resumes (how.Send v)) w hears = tt
-  heard_told expect.Resume (Resumes (how.Throw e)) w hears = tt
+  heard_told expect.Start (Resumes k how.Start) w hears = tt
+  heard_told expect.Start (Resumes k (how.Throw e)) w hears = tt
+  heard_told (expect.Answer wanted) (Gets k g) w hears = tt
+  heard_told expect.Resume (Resumes k (how.Send v)) w hears = tt
+  heard_told expect.Resume (Resumes k (how.Throw e)) w hears = tt
   heard_told _ _ w hears = absurd hears
 
   pub steps_tell : (xs : List Own) (t : State) → FitsAt objects code s.wants s → Steps objects (setting_of names globals closure code) s xs t → AllMayTell objects code.code xs

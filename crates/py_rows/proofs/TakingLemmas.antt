@@ -13,7 +13,8 @@ use Rattle.py_check.specs.Notes.{level_of, pending_of}
 use Rattle.py_check.specs.Leaving.{is_finally_handler, ends_with, ends_cleanup, walks}
 use Rattle.py_rows.specs.Rows.{is_there, takes_off, reaches}
 use Rattle.py_check.specs.Sheet.{Sheet, sheet_of}
-use Rattle.py_check.specs.Rules.{bottom, goes_on, handler_lands, handlers_land, top_level}
+use Rattle.py_check.specs.Landing.{goes_on, handler_lands, handlers_land, top_level}
+use Rattle.py_code.specs.Bottom.{bottom}
 use Rattle.py_check.specs.Taking.{takes}
 use Rattle.py_rows.specs.States.{State, Step, with_stack}
 use Rattle.py_rows.specs.Fitting.{HaveKinds, Has}

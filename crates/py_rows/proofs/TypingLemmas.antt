@@ -13,7 +13,8 @@ use Rattle.py_check.specs.declared.annotated.Annotated.{Annotated}
 use Rattle.py_check.specs.declared.note.BlockNote.{BlockNote}
 use Rattle.py_check.specs.Operands.{carried, carried_by, is_prefix_there, is_prefixed, is_label, operand}
 use Rattle.py_check.specs.Sheet.{Sheet, sheet_of}
-use Rattle.py_check.specs.Rules.{has_room, handlers_land, is_start, counts_match}
+use Rattle.py_check.specs.Landing.{has_room, handlers_land}
+use Rattle.py_check.specs.WholeCode.{is_start, counts_match}
 use Rattle.py_check.specs.Typing.{keeps_op, keeps_both, IsTyped}
 
 -- what the rules say of a whole code

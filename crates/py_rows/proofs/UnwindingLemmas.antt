@@ -15,7 +15,8 @@ use Rattle.py_check.specs.declared.annotated.Annotated.{Annotated}
 use Rattle.py_check.specs.Notes.{level_of, kinds_fit, blocks_fit, block_fits, note_fits}
 use Rattle.py_check.specs.Operands.{is_label}
 use Rattle.py_check.specs.Sheet.{sheet_of}
-use Rattle.py_check.specs.Rules.{bottom, lands, handler_lands, handlers_land}
+use Rattle.py_check.specs.Landing.{lands, handler_lands, handlers_land}
+use Rattle.py_code.specs.Bottom.{bottom}
 use Rattle.py_check.specs.Leaving.{lets_wait, walks}
 use Rattle.py_rows.specs.declared.block.Block.{Block}
 use Rattle.py_rows.specs.declared.block.BlockType.{BlockType}

@@ -15,9 +15,9 @@ use Rattle.py_rows.specs.States.{State}
 -- the numbers that come into an activation by an event
 abbrev pub heard_numbers : Own → List ℕ
 heard_numbers Makes = []
-heard_numbers (Resumes h) = how_numbers h
+heard_numbers (Resumes k h) = how_numbers h
 heard_numbers (Asks at r own) = []
-heard_numbers (Gets w) = got_numbers w
+heard_numbers (Gets k w) = got_numbers w
 heard_numbers (Rounds at) = []
 heard_numbers (Yields at v) = []
 heard_numbers (Ends at e) = []
@@ -25,9 +25,9 @@ heard_numbers (Ends at e) = []
 -- the numbers that an activation names by an event
 abbrev pub told_numbers : Own → List ℕ
 told_numbers Makes = []
-told_numbers (Resumes h) = []
+told_numbers (Resumes k h) = []
 told_numbers (Asks at r own) = number_if own ++ request_numbers r
-told_numbers (Gets w) = []
+told_numbers (Gets k w) = []
 told_numbers (Rounds at) = []
 told_numbers (Yields at v) = v.number ∷ []
 told_numbers (Ends at e) = ending_numbers e

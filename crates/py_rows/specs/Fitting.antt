@@ -1,14 +1,12 @@
 -- How a frame fits the notes of its code.
 use Rattle.std.specs.Prelude.{ℕ, zero, suc, ◌≤◌, ◌<◌, Bool, true, Option, Some, None, List, [], ◌∷◌, ◌≡◌, slice_get, length, drop}
 use Rattle.std.specs.List.{list_any}
-use Rattle.py_code.specs.declared.code.PyCode.{PyCode}
-use Rattle.py_code.specs.declared.names.NameId.{NameId}
 use Rattle.py_code.specs.declared.unit.CodeUnit.{CodeUnit}
 use Rattle.py_code.specs.declared.instruction.Instruction.{Instruction}
 use Rattle.py_code.specs.declared.instruction.Instruction.TheVariants.{LoadFast, DeleteFast, JumpIfTrue, JumpIfFalse, SetupWith, WithCleanupStart, WithCleanupFinish, Raise, YieldValue}
 use Rattle.py_code.specs.declared.operator.RaiseKind.{RaiseKind}
 use Rattle.py_code.specs.declared.operator.RaiseKind.TheVariants as raise
-use Rattle.py_code.specs.Numbers.{raise_kinds}
+use Rattle.py_code.specs.Operators.{raise_kinds}
 use Rattle.py_code.specs.Units.{with_byte}
 use Rattle.py_objects.specs.declared.payload.Payload.{Payload}
 use Rattle.py_objects.specs.declared.event.GotAnswer.{GotAnswer}
@@ -26,8 +24,7 @@ use Rattle.py_check.specs.Notes.{level_of, handler_of, pending_of, block_number,
 use Rattle.py_check.specs.Operands.{carried}
 use Rattle.py_check.specs.Sheet.{sheet_of}
 use Rattle.py_check.specs.Effects.{Effect, Moves, AsksOnce, Other, effect}
-use Rattle.py_check.specs.Typing.{IsTyped}
-use Rattle.py_check.specs.Rules.{handlers_land}
+use Rattle.py_check.specs.Landing.{handlers_land}
 use Rattle.py_rows.specs.declared.block.Block.{Block}
 use Rattle.py_rows.specs.declared.block.BlockType.{BlockType}
 use Rattle.py_rows.specs.declared.block.BlockType.TheVariants.{Loop, TryExcept, Finally, FinallyHandler, ExceptHandler}
@@ -205,17 +202,3 @@ FitsAt objects code (expect.Answer w) s = FitsBut objects code w s
 FitsAt objects code expect.Resume s = FitsBut objects code (want.Of kind.Any) s
 FitsAt objects code (expect.Heard w) s = FitsHeard objects code w s
 FitsAt objects code expect.Ended s = (s.blocks ≡ []) × (length s.stack ≤ code.code.code.max_stackdepth)
-
--- each of these names is a place in the table
-abbrev pub ArePlaces : List (List ℕ) → List NameId → Type 0
-ArePlaces names ids = (i : ℕ) (id : NameId) → slice_get ids i ≡ Some id → id.index < length names
-
--- the names of a code's locals and globals are places in the table
-pub record AreNames (names : List (List ℕ)) (code : PyCode) : Type 0 where
-  pub locals : ArePlaces names code.code.varnames.items
-  pub globals : ArePlaces names code.code.names.items
-
--- a code that frames can run: it keeps the rules, and its names are in the table
-pub record IsSound (names : List (List ℕ)) (code : Annotated) : Type 0 where
-  pub typed : IsTyped code
-  pub named : AreNames names code.code

@@ -21,7 +21,8 @@ use Rattle.py_rows.specs.Questions.{UnitAsks, UnitYields}
 use Rattle.py_rows.specs.RunOfRows.{Steps, Runs, started}
 use Rattle.py_rows.specs.Below.{HearsBelow, TellsBelow, HoldsBelow}
 use Rattle.py_rows.specs.Standing.{IsOf, IsStanding}
-use Rattle.py_rows.specs.Fitting.{FitsAt, IsSound}
+use Rattle.py_rows.specs.Fitting.{FitsAt}
+use Rattle.py_rows.specs.Sound.{IsSound}
 
 -- what a step leads to has a property, and isn't nothing
 abbrev pub LeadsTo : (State → Type 0) → Step → Type 0
@@ -51,9 +52,9 @@ AlwaysLeads objects P m = Always objects (LeadsTo P) m
 -- ends by an exception
 abbrev pub MayTell : List Payload → PyCode → Own → Type 0
 MayTell objects code Makes = Unit {0}
-MayTell objects code (Resumes h) = Unit {0}
+MayTell objects code (Resumes k h) = Unit {0}
 MayTell objects code (Asks at r own) = UnitAsks (slice_get code.code.instructions.items at) r
-MayTell objects code (Gets w) = Unit {0}
+MayTell objects code (Gets k w) = Unit {0}
 MayTell objects code (Rounds at) = Unit {0}
 MayTell objects code (Yields at v) = UnitYields (slice_get code.code.instructions.items at)
 MayTell objects code (Ends at (ending.Return v)) = Unit {0}

@@ -18,6 +18,8 @@ pub mod RunOfRows
 pub mod Standing
 -- which objects a frame names
 pub mod Below
+-- codes that frames can run
+pub mod Sound
 -- how a frame fits the notes of its code
 pub mod Fitting
 -- what holds of every run

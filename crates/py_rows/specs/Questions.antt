@@ -7,7 +7,7 @@ use Rattle.py_objects.specs.declared.request.Request.{Request}
 use Rattle.py_objects.specs.declared.request.Request.TheVariants as request
 use Rattle.py_objects.specs.declared.request.Keywords.{Keywords}
 use Rattle.py_objects.specs.declared.request.Keywords.TheVariants as keywords
-use Rattle.py_check.specs.Rules.{is_asked, is_compared}
+use Rattle.py_check.specs.Effects.{is_asked, is_compared}
 
 -- whether there are no keyword arguments
 abbrev pub is_positional : Keywords → Bool

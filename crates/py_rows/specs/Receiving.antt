@@ -5,7 +5,7 @@ use Rattle.py_code.specs.declared.instruction.Instruction.TheVariants.{JumpIfTru
 use Rattle.py_code.specs.declared.unit.CodeUnit.{CodeUnit}
 use Rattle.py_code.specs.declared.operator.RaiseKind.{RaiseKind}
 use Rattle.py_code.specs.declared.operator.RaiseKind.TheVariants as raise
-use Rattle.py_code.specs.Numbers.{raise_kinds}
+use Rattle.py_code.specs.Operators.{raise_kinds}
 use Rattle.py_code.specs.Units.{with_byte}
 use Rattle.py_objects.specs.declared.request.Request.{Request}
 use Rattle.py_objects.specs.declared.request.Request.TheVariants as request

@@ -8,7 +8,7 @@ use Rattle.py_code.specs.declared.literal.Literal.{Literal, None as NoneLiteral,
 use Rattle.py_code.specs.declared.operator.RaiseKind.{RaiseKind}
 use Rattle.py_code.specs.declared.operator.RaiseKind.TheVariants as raise
 use Rattle.py_code.specs.Literals.{literals_of}
-use Rattle.py_code.specs.Numbers.{raise_kinds}
+use Rattle.py_code.specs.Operators.{raise_kinds}
 use Rattle.py_code.specs.Bottom.{bottom}
 use Rattle.py_code.specs.Units.{with_byte}
 use Rattle.py_objects.specs.declared.refs.PyBaseExceptionRef.{PyBaseExceptionRef}

@@ -10,7 +10,7 @@ use Rattle.py_objects.specs.declared.payload.ExceptionBody.{ExceptionBody}
 use Rattle.py_objects.specs.Objects.{Obj, HasPayload, IsTraceback, as_object, class_object}
 use Rattle.py_objects.specs.Own.{Own, Resumes, Gets}
 use Rattle.py_code.specs.declared.flags.TheConstants.CodeFlags.{IS_GENERATOR, IS_COROUTINE}
-use Rattle.py_check.specs.Rules.{counts_if}
+use Rattle.py_check.specs.WholeCode.{counts_if}
 use Rattle.py_check.specs.declared.note.Kind.TheVariants as kind
 use Rattle.py_rows.specs.declared.expect.Expect.{Expect}
 use Rattle.py_rows.specs.declared.expect.Expect.TheVariants as expect
@@ -43,11 +43,11 @@ is_thrown_into flags = (counts_if flags IS_GENERATOR == 1) || (counts_if flags I
 
 -- an input that a frame may hear, and what it expects then
 abbrev pub Hears : List Payload → Setting → Expect → Own → Expect → Type 0
-Hears objects setting expect.Start (Resumes how.Start) x = x ≡ expect.Go
-Hears objects setting expect.Start (Resumes (how.Throw e)) x = HasKind objects (as_object e) kind.Exc × (x ≡ expect.Heard (got.Raise e)) × (is_thrown_into setting.code.code.flags ≡ true)
-Hears objects setting (expect.Answer w) (Gets g) x = IsAnswer objects w g × (x ≡ expect.Heard g)
-Hears objects setting expect.Resume (Resumes (how.Send v)) x = x ≡ expect.Heard (got.Value v)
-Hears objects setting expect.Resume (Resumes (how.Throw e)) x = HasKind objects (as_object e) kind.Exc × (x ≡ expect.Heard (got.Raise e))
+Hears objects setting expect.Start (Resumes k how.Start) x = x ≡ expect.Go
+Hears objects setting expect.Start (Resumes k (how.Throw e)) x = HasKind objects (as_object e) kind.Exc × (x ≡ expect.Heard (got.Raise e)) × (is_thrown_into setting.code.code.flags ≡ true)
+Hears objects setting (expect.Answer w) (Gets k g) x = IsAnswer objects w g × (x ≡ expect.Heard g)
+Hears objects setting expect.Resume (Resumes k (how.Send v)) x = x ≡ expect.Heard (got.Value v)
+Hears objects setting expect.Resume (Resumes k (how.Throw e)) x = HasKind objects (as_object e) kind.Exc × (x ≡ expect.Heard (got.Raise e))
 Hears objects setting _ _ x = ⊥
 
 -- one step, with the events that it hears and tells: a silent one, one that tells, one that hears

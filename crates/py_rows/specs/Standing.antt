@@ -26,9 +26,9 @@ pub record IsStanding (first : Option PyBaseExceptionRef) (s : State) : Type 0 w
 -- frame's blocks, it waits for what the request wants; what it hears is of no unit
 abbrev pub IsOf : ℕ → State → Own → Type 0
 IsOf at t Makes = Unit {0}
-IsOf at t (Resumes h) = Unit {0}
+IsOf at t (Resumes k h) = Unit {0}
 IsOf at t (Asks a r own) = (a ≡ at) × (own ≡ handled_in None t.blocks) × (t.wants ≡ expect.Answer (wanted r))
-IsOf at t (Gets w) = Unit {0}
+IsOf at t (Gets k w) = Unit {0}
 IsOf at t (Rounds a) = (a ≡ at) × (t.wants ≡ expect.Go)
 IsOf at t (Yields a v) = (a ≡ at) × (t.wants ≡ expect.Resume)
 IsOf at t (Ends a e) = (a ≡ at) × (t.wants ≡ expect.Ended)
