@@ -50,19 +50,19 @@ not_ended objects setting expect.Ended y z own hears = absurd hears
 
 -- a frame that takes an input goes on
 pub taken_moves : (objects : List Payload) (setting : Setting) (x : Expect) (i : Input) → Expects objects setting x i → IsMoving (taken i x)
-taken_moves objects setting x input.Start expects = subst IsMoving (sym (not_ended objects setting x _ expect.Go (Resumes how.Start) expects)) tt
-taken_moves objects setting x input.Go expects = expects
-taken_moves objects setting x (input.Send v) expects = subst IsMoving (sym (not_ended objects setting x _ (expect.Heard (got.Value v)) (Resumes (how.Send v)) expects)) tt
-taken_moves objects setting x (input.Throw e) expects = subst IsMoving (sym (not_ended objects setting x _ (expect.Heard (got.Raise e)) (Resumes (how.Throw e)) expects)) tt
-taken_moves objects setting x (input.Answer w) expects = subst IsMoving (sym (not_ended objects setting x _ (expect.Heard (got_of w)) (Gets (got_of w)) expects)) tt
+taken_moves objects setting x input.Start expects = subst IsMoving (sym (not_ended objects setting x _ expect.Go (Resumes 0 how.Start) (expects 0))) tt
+taken_moves objects setting x input.Go expects = expects 0
+taken_moves objects setting x (input.Send v) expects = subst IsMoving (sym (not_ended objects setting x _ (expect.Heard (got.Value v)) (Resumes 0 (how.Send v)) (expects 0))) tt
+taken_moves objects setting x (input.Throw e) expects = subst IsMoving (sym (not_ended objects setting x _ (expect.Heard (got.Raise e)) (Resumes 0 (how.Throw e)) (expects 0))) tt
+taken_moves objects setting x (input.Answer w) expects = subst IsMoving (sym (not_ended objects setting x _ (expect.Heard (got_of w)) (Gets 0 (got_of w)) (expects 0))) tt
 
 -- taking it is a step of the run, or none
-heard_run : (objects : List Payload) (setting : Setting) (s : State) (i : Input) → Expects objects setting s.wants i → Runs objects setting s (events (heard i)) (waiting (taken i s.wants) s)
-heard_run objects setting s input.Start expects = on _ none (hearing_step (Resumes how.Start) (taken input.Start s.wants) expects)
-heard_run objects setting s input.Go expects = none
-heard_run objects setting s (input.Send v) expects = on _ none (hearing_step (Resumes (how.Send v)) (taken (input.Send v) s.wants) expects)
-heard_run objects setting s (input.Throw e) expects = on _ none (hearing_step (Resumes (how.Throw e)) (taken (input.Throw e) s.wants) expects)
-heard_run objects setting s (input.Answer w) expects = on _ none (hearing_step (Gets (got_of w)) (taken (input.Answer w) s.wants) expects)
+heard_run : (objects : List Payload) (setting : Setting) (s : State) (i : Input) → Expects objects setting s.wants i → (k : ℕ) → Runs objects setting s (events (heard k i)) (waiting (taken i s.wants) s)
+heard_run objects setting s input.Start expects k = on _ none (hearing_step (Resumes k how.Start) (taken input.Start s.wants) (expects k))
+heard_run objects setting s input.Go expects k = none
+heard_run objects setting s (input.Send v) expects k = on _ none (hearing_step (Resumes k (how.Send v)) (taken (input.Send v) s.wants) (expects k))
+heard_run objects setting s (input.Throw e) expects k = on _ none (hearing_step (Resumes k (how.Throw e)) (taken (input.Throw e) s.wants) (expects k))
+heard_run objects setting s (input.Answer w) expects k = on _ none (hearing_step (Gets k (got_of w)) (taken (input.Answer w) s.wants) (expects k))
 
 -- a slot that is handed in where the frame hasn't begun, or as the frame left it, is the one that it has
 pub slot_same : (slot left : Option PyBaseExceptionRef) (x : Expect) → (x ≡ expect.Start) ⊎ (slot ≡ left) → slot_taken slot x left ≡ slot
@@ -144,19 +144,20 @@ module _ (objects : List Payload) (names : List (List ℕ)) (code : Annotated) w
         block_room = running.block_room;
       }
 
-  input_runs : (f : Framed) (i : Input) → IsRunning objects names code f → Expects objects (setting_of names code f) f.state.wants i → HearsBelow (length objects) (events (heard i))
+  input_runs : (f : Framed) (i : Input) → IsRunning objects names code f → Expects objects (setting_of names code f) f.state.wants i → (k : ℕ) → HearsBelow (length objects) (events (heard k i))
       → IsRunning objects names code (record f { state = waiting (taken i f.state.wants) f.state })
-  input_runs f input.Start running expects named = event_runs f (Resumes how.Start) (taken input.Start f.state.wants) running expects named
-  input_runs f input.Go running expects named = running
-  input_runs f (input.Send v) running expects named = event_runs f (Resumes (how.Send v)) (taken (input.Send v) f.state.wants) running expects named
-  input_runs f (input.Throw e) running expects named = event_runs f (Resumes (how.Throw e)) (taken (input.Throw e) f.state.wants) running expects named
-  input_runs f (input.Answer w) running expects named = event_runs f (Gets (got_of w)) (taken (input.Answer w) f.state.wants) running expects named
+  input_runs f input.Start running expects k named = event_runs f (Resumes k how.Start) (taken input.Start f.state.wants) running (expects k) named
+  input_runs f input.Go running expects k named = running
+  input_runs f (input.Send v) running expects k named = event_runs f (Resumes k (how.Send v)) (taken (input.Send v) f.state.wants) running (expects k) named
+  input_runs f (input.Throw e) running expects k named = event_runs f (Resumes k (how.Throw e)) (taken (input.Throw e) f.state.wants) running (expects k) named
+  input_runs f (input.Answer w) running expects k named = event_runs f (Gets k (got_of w)) (taken (input.Answer w) f.state.wants) running (expects k) named
 
   -- a frame that takes an input runs
-  pub hearing_runs : (f : Framed) (slot : Option PyBaseExceptionRef) (i : Input) → IsRunning objects names code f → SlotFits objects f.state slot → Expects objects (setting_of names code f) f.state.wants i → HearsBelow (length objects) (events (heard i))
+  pub hearing_runs : (f : Framed) (slot : Option PyBaseExceptionRef) (i : Input) → IsRunning objects names code f → SlotFits objects f.state slot → Expects objects (setting_of names code f) f.state.wants i
+      → (k : ℕ) → HearsBelow (length objects) (events (heard k i))
       → IsRunning objects names code (record f { state = hearing slot i f.state })
-  hearing_runs f slot i running slots expects named =
-      subst (λ (s : State). IsRunning objects names code (record f { state = s })) (sym (handed_hears objects slot i f.state slots)) (input_runs (record f { state = handed slot f.state }) i (handed_runs f slot running slots) expects named)
+  hearing_runs f slot i running slots expects k named =
+      subst (λ (s : State). IsRunning objects names code (record f { state = s })) (sym (handed_hears objects slot i f.state slots)) (input_runs (record f { state = handed slot f.state }) i (handed_runs f slot running slots) expects k named)
 
 -- what a step that told an event leaves: what it expects, what is handled, and what it gives back
 told_expects : (n : ℕ) (t : State) (step : FrameStep) (x : Own) → told n step ≡ Some x → IsOf n t x → (t.wants ≡ expected step) × NamesHandled t step
@@ -202,19 +203,20 @@ module _ (objects objects' : List Payload) (names : List (List ℕ)) (code : Ann
   pub stepped_told : (step : FrameStep) → Expects objects (setting_of names code f) f.state.wants i → HasTold objects' names code took step h → IsSame took h → IsStepped objects' names code slot i f step h
   stepped_told step expects has same =
       let setting : Setting = setting_of names code f in
-      let hears : Runs objects setting (handed slot f.state) (events (heard i)) took.state = subst (λ (t : State). Runs objects setting (handed slot f.state) (events (heard i)) t) heard_there (heard_run objects setting (handed slot f.state) i expects) in
-      let before : Runs objects' setting (handed slot f.state) (events (heard i)) took.state = run_grown objects objects' grows setting (handed slot f.state) took.state (events (heard i)) hears in
+      let hears : (k : ℕ) → Runs objects setting (handed slot f.state) (events (heard k i)) took.state = λ k. subst (λ (t : State). Runs objects setting (handed slot f.state) (events (heard k i)) t) heard_there (heard_run objects setting (handed slot f.state) i expects k) in
+      let before : (k : ℕ) → Runs objects' setting (handed slot f.state) (events (heard k i)) took.state = λ k. run_grown objects objects' grows setting (handed slot f.state) took.state (events (heard k i)) (hears k) in
       let behind : Runs objects' setting took.state (events (told (h.state.last - 1) step)) h.state = subst (λ (o : Option Own). Runs objects' setting took.state (events o) h.state) (sym has.told) has.run in
-      let whole = run_joined objects' setting (handed slot f.state) took.state h.state (events (heard i)) (events (told (h.state.last - 1) step)) before behind in
+      let whole : (k : ℕ) → Runs objects' setting (handed slot f.state) (events (heard k i) ++ events (told (h.state.last - 1) step)) h.state =
+      λ k. run_joined objects' setting (handed slot f.state) took.state h.state (events (heard k i)) (events (told (h.state.last - 1) step)) (before k) behind in
       let known = told_expects (h.state.last - 1) h.state step has.event has.told has.of in
       record {
-        extends = if_told step _ (λ first past run. run_joined objects' setting first (handed slot f.state) h.state past (events (heard i) ++ events (told (h.state.last - 1) step)) run whole);
+        extends = λ k. if_told step _ (λ first past run. run_joined objects' setting first (handed slot f.state) h.state past (events (heard k i) ++ events (told (h.state.last - 1) step)) run (whole k));
         expects = known.0;
         own = known.1;
         may = subst (λ (o : Option Own). AllMayTell objects' code.code (events o)) (sym has.told) has.may;
         told = subst (λ (o : Option Own). TellsBelow (length objects') (events o)) (sym has.told) has.below;
         given_back =
-            let kept : (first : Option PyBaseExceptionRef) → KeepsSlot first (handed slot f.state) → KeepsSlot first h.state = λ first keeps. run_keeps objects' setting first (handed slot f.state) h.state _ keeps whole in
+            let kept : (first : Option PyBaseExceptionRef) → KeepsSlot first (handed slot f.state) → KeepsSlot first h.state = λ first keeps. run_keeps objects' setting first (handed slot f.state) h.state _ keeps (whole 0) in
             (kept, λ ended first keeps. ended_gives first (h.state.last - 1) h.state has.running.stands.placed (kept first keeps) ended);
         running = has.running;
         same = record { code = same.code; entry = same.entry; scope = same.scope; closure = same.closure; room = same.room; block_room = same.block_room };
@@ -257,7 +259,7 @@ module _ (objects objects' : List Payload) (names : List (List ℕ)) (code : Ann
 
       stepped : IsStepped objects' names code slot i f frame_step.NoMemory ended
       stepped = record {
-        extends = tt;
+        extends = λ k. tt;
         expects = refl;
         own = tt;
         may = tt;

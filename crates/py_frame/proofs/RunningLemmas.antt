@@ -23,7 +23,8 @@ use Rattle.py_rows.specs.Receiving.{moves}
 use Rattle.py_rows.specs.RunOfRows.{started, MayLead, Steps, silent, telling, Runs, none, on}
 use Rattle.py_rows.specs.Standing.{IsOf, IsStanding}
 use Rattle.py_rows.specs.Below.{HearsBelow, TellsBelow, HoldsBelow}
-use Rattle.py_rows.specs.Fitting.{FitsAt, IsSound}
+use Rattle.py_rows.specs.Fitting.{FitsAt}
+use Rattle.py_rows.specs.Sound.{IsSound}
 use Rattle.py_rows.specs.Laws.{LeadsTo, AlwaysLeads, IsMoving, IsWithin}
 use Rattle.py_rows.proofs.TypingLemmas.{unit_kept}
 use Rattle.py_rows.proofs.StepLemmas.{next_fits, start_fits, steps_fit, steps_tell, within}

@@ -12,7 +12,8 @@ use Rattle.py_objects.specs.Own.{Own}
 use Rattle.py_rows.specs.Below.{HoldsBelow, TellsBelow}
 use Rattle.py_rows.specs.RunOfRows.{Runs}
 use Rattle.py_rows.specs.Standing.{IsOf, IsStanding}
-use Rattle.py_rows.specs.Fitting.{FitsAt, IsSound}
+use Rattle.py_rows.specs.Fitting.{FitsAt}
+use Rattle.py_rows.specs.Sound.{IsSound}
 use Rattle.py_frame.specs.declared.input.Input.{Input}
 use Rattle.py_frame.specs.declared.input.FrameStep.{FrameStep}
 use Rattle.py_frame.specs.Frames.{Framed, setting_of, handed}
@@ -32,7 +33,7 @@ pub record IsRunning (objects : List Payload) (names : List (List ℕ)) (code : 
   pub room : code.code.code.max_stackdepth ≤ length f.state.stack + f.room
   pub block_room : deepest code.notes ≤ length f.state.blocks + f.block_room
 
--- the slot holds an exception, if any; behind a frame's first step it is what the last one left there
+-- what the slot holds is an object that is there; behind a frame's first step it is what the last one left there
 pub record SlotFits (objects : List Payload) (s : State) (slot : Option PyBaseExceptionRef) : Type 0 where
   pub below : AllBelow (length objects) (number_if slot)
   pub left : (s.wants ≡ expect.Start) ⊎ (slot ≡ s.slot)
@@ -64,9 +65,9 @@ pub record IsCut (objects : List Payload) (code : Annotated) (f g : Framed) : Ty
   pub below : HoldsBelow (length objects) g.state
   pub keeps : (first : Option PyBaseExceptionRef) → KeepsSlot first f.state → KeepsSlot first g.state
 
--- a frame took an input, and told an event, or memory ran out and it has ended
+-- a frame took an input, whatever number its event has, and told an event, or memory ran out and it has ended
 pub record IsStepped (objects : List Payload) (names : List (List ℕ)) (code : Annotated) (slot : Option PyBaseExceptionRef) (i : Input) (f : Framed) (step : FrameStep) (g : Framed) : Type 0 where
-  pub extends : IfTold step (Extends objects (setting_of names code f) (handed slot f.state) (events (heard i) ++ events (told (g.state.last - 1) step)) g.state)
+  pub extends : (k : ℕ) → IfTold step (Extends objects (setting_of names code f) (handed slot f.state) (events (heard k i) ++ events (told (g.state.last - 1) step)) g.state)
   pub expects : g.state.wants ≡ expected step
   pub own : NamesHandled g.state step
   pub may : AllMayTell objects code.code (events (told (g.state.last - 1) step))

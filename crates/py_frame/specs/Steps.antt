@@ -28,13 +28,13 @@ got_of (answer.Stop v) = got.Stop v
 got_of (answer.Fresh e) = got.Raise e
 got_of (answer.Passed e) = got.Raise e
 
--- the own event that an input is, where it is one
-abbrev pub heard : Input → Option Own
-heard input.Start = Some (Resumes how.Start)
-heard input.Go = None
-heard (input.Send v) = Some (Resumes (how.Send v))
-heard (input.Throw e) = Some (Resumes (how.Throw e))
-heard (input.Answer w) = Some (Gets (got_of w))
+-- the own event that an input is, where it is one, with the number that it has in the journal
+abbrev pub heard : ℕ → Input → Option Own
+heard k input.Start = Some (Resumes k how.Start)
+heard k input.Go = None
+heard k (input.Send v) = Some (Resumes k (how.Send v))
+heard k (input.Throw e) = Some (Resumes k (how.Throw e))
+heard k (input.Answer w) = Some (Gets k (got_of w))
 
 -- a frame that has ended stays so
 abbrev pub unless_ended : Expect → Expect → Expect
@@ -58,9 +58,9 @@ abbrev pub MayHear : List Payload → Setting → Expect → Option Own → Expe
 MayHear objects setting x None y = IsMoving x
 MayHear objects setting x (Some own) y = Hears objects setting x own y
 
--- an input is one that a frame expects
+-- an input is one that a frame expects, whatever number its event has
 abbrev pub Expects : List Payload → Setting → Expect → Input → Type 0
-Expects objects setting x i = MayHear objects setting x (heard i) (taken i x)
+Expects objects setting x i = (k : ℕ) → MayHear objects setting x (heard k i) (taken i x)
 
 -- what is expected behind a step
 abbrev pub expected : FrameStep → Expect

@@ -1,6 +1,6 @@
 //! Frames.
 
-ghost use Rattle.std.specs.Prelude.{◌≡◌, ◌-◌, ◌≤◌, ◌++◌, [], length, slice_get, Some, IfOk};
+ghost use Rattle.std.specs.Prelude.{ℕ, ◌≡◌, ◌-◌, ◌≤◌, ◌++◌, [], length, slice_get, Some, IfOk};
 ghost use Rattle.py_objects.specs.declared.payload.Payload.TheVariants as payload;
 ghost use Rattle.py_objects.specs.Objects.{AllFit, HasPayload};
 ghost use Rattle.py_objects.specs.Growth.{GrowsPlainly};
@@ -114,11 +114,12 @@ impl<S: ValueStack + Drop> Frame<S> {
         requires fit { AllFit store.old.made }
         // The slot is as the frame's last step left it, before the first step any.
         requires slot { SlotFits store.old.made self.old.state slot.old }
-        // The input is one that the frame expects: an answer is as it was wanted. It names objects.
+        // The input is one that the frame expects: an answer is as it was wanted. It names objects. Here and below, k is
+        // whatever number its event has in the journal.
         requires expected { Expects store.old.made (setting_of names.now code.now self.old) self.old.state.wants input }
-        requires named { HearsBelow (length store.old.made) (events (heard input)) }
+        requires named { (k : ℕ) → HearsBelow (length store.old.made) (events (heard k input)) }
         // The run so far goes on, by what was heard and the one event that is told.
-        ensures extends { IfTold result (Extends store.new.made (setting_of names.now code.now self.old) (handed slot.old self.old.state) (events (heard input) ++ events (told (self.new.state.last - 1) result)) self.new.state) }
+        ensures extends { (k : ℕ) → IfTold result (Extends store.new.made (setting_of names.now code.now self.old) (handed slot.old self.old.state) (events (heard k input) ++ events (told (self.new.state.last - 1) result)) self.new.state) }
         ensures expects { self.new.state.wants ≡ expected result }
         ensures own { NamesHandled self.new.state result }
         // What is asked, the instruction of its unit may ask; only YieldValue yields; a raise is one of an exception.

@@ -1,7 +1,7 @@
 //! Raises.
 
 ghost use Rattle.std.specs.Prelude.{◌<◌, ◌+◌, ◌^◌, slice_get};
-ghost use Rattle.py_code.specs.Numbers.{raise_kinds};
+ghost use Rattle.py_code.specs.Operators.{raise_kinds};
 ghost use Rattle.py_rows.specs.Receiving.{causes, raised};
 ghost use Rattle.py_rows.specs.Rows.{raises};
 ghost use Rattle.py_frame.specs.Frames.{over};

@@ -1,6 +1,6 @@
 //! Running units until one tells an event.
 
-ghost use Rattle.std.specs.Prelude.{◌≡◌, length, IfOk, OnErr};
+ghost use Rattle.std.specs.Prelude.{ℕ, ◌≡◌, length, IfOk, OnErr};
 ghost use Rattle.py_objects.specs.Objects.{AllFit};
 ghost use Rattle.py_objects.specs.Growth.{GrowsPlainly};
 ghost use Rattle.py_rows.specs.Below.{HearsBelow};
@@ -35,7 +35,7 @@ impl FrameCore {
         requires fit { AllFit store.old.made }
         requires slot { SlotFits store.old.made self.old.state slot }
         requires expected { Expects store.old.made (setting_of names.now code.now self.old) self.old.state.wants input }
-        requires named { HearsBelow (length store.old.made) (events (heard input)) }
+        requires named { (k : ℕ) → HearsBelow (length store.old.made) (events (heard k input)) }
         ensures stepped { IsStepped store.new.made names.now code.now slot input (over self.old (S.list stack.old) (S.room stack.old)) result (over self.new (S.list stack.new) (S.room stack.new)) }
         ensures objects { GrowsPlainly store.old.made store.new.made }
         ensures unchanged { store.new ≡ record store.old { made = store.new.made } }

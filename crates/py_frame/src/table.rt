@@ -2,7 +2,7 @@
 
 ghost use Rattle.std.specs.Prelude.{◌≡◌, ◌+◌, ◌^◌, ◌<◌, length, reverse, slice_get, Some, true, IfOk, OnOk, OnErr};
 ghost use Rattle.py_code.specs.declared.instruction.Instruction.TheVariants as instruction;
-ghost use Rattle.py_code.specs.Numbers.{test_operators};
+ghost use Rattle.py_code.specs.Operators.{test_operators};
 ghost use Rattle.py_check.specs.Effects.{effect};
 ghost use Rattle.py_rows.specs.Asked.{asked, calls, name_in, on_two, tests};
 ghost use Rattle.py_rows.specs.States.{with_stack};
