@@ -45,31 +45,31 @@ widens_anywhere scene objects grows = record { objects = grows; globals = refl; 
 
 -- a value goes over to a front
 abbrev ValueGoes : List Own → AfterValue → AfterValue → Type 0
-ValueGoes more K K' = (v : Value) (rest : List Own) → K v (rest ++ more) → K' v rest
+ValueGoes more K K' = (v : Value) (event : ℕ) (rest : List Own) → K v event (rest ++ more) → K' v event rest
 
 -- what follows goes over to a front
 abbrev Goes : List Own → After → After → Type 0
-Goes more K K' = (env : Env) (o : Outcome) (rest : List Own) → K env o (rest ++ more) → K' env o rest
+Goes more K K' = (env : Env) (o : Outcome) (event : ℕ) (rest : List Own) → K env o event (rest ++ more) → K' env o event rest
 
 -- what follows goes over to a front, and may be cut
 record Carries (more : List Own) (K K' : After) : Type 0 where
   goes : Goes more K K'
-  cut : (env : Env) → K' env Cut []
+  cut : (env : Env) (event : ℕ) → K' env Cut event []
 
 -- ---- events
 
-answers_go : (w : GotAnswer) (ts more : List Own) (K K' : AfterValue) → ValueGoes more K K' → Answers w (ts ++ more) K → Answers w ts K'
-answers_go (got.Value v) ts more K K' goes k = goes (Given v) ts k
-answers_go (got.Stop v) ts more K K' goes k = k
-answers_go (got.Raise e) ts more K K' goes k = goes (Failed e) ts k
+answers_go : (w : GotAnswer) (event : ℕ) (ts more : List Own) (K K' : AfterValue) → ValueGoes more K K' → Answers w event (ts ++ more) K → Answers w event ts K'
+answers_go (got.Value v) event ts more K K' goes k = goes (Given v) event ts k
+answers_go (got.Stop v) event ts more K K' goes k = k
+answers_go (got.Raise e) event ts more K K' goes k = goes (Failed e) event ts k
 
-answered_goes : (ts more : List Own) (K K' : AfterValue) → ValueGoes more K K' → K' Stopped [] → Answered (ts ++ more) K → Answered ts K'
-answered_goes [] more K K' goes cut told = inl (refl, cut)
-answered_goes (t ∷ ts) more K K' goes cut (inl (e, k)) = absurd (cc e)
-answered_goes (t ∷ ts) more K K' goes cut (inr (w, mid, e, k)) =
-    let same : t ≡ Gets w = cc e in
+answered_goes : (event : ℕ) (ts more : List Own) (K K' : AfterValue) → ValueGoes more K K' → K' Stopped event [] → Answered event (ts ++ more) K → Answered event ts K'
+answered_goes event [] more K K' goes cut told = inl (refl, cut)
+answered_goes event (t ∷ ts) more K K' goes cut (inl (e, k)) = absurd (cc e)
+answered_goes event (t ∷ ts) more K K' goes cut (inr (i, w, mid, e, k)) =
+    let same : t ≡ Gets i w = cc e in
     let behind : mid ≡ ts ++ more = cc e in
-    inr (w, ts, ap (λ x. x ∷ ts) same, answers_go w ts more K K' goes (subst (λ (l : List Own). Answers w l K) behind k))
+    inr (i, w, ts, ap (λ x. x ∷ ts) same, answers_go w i ts more K K' goes (subst (λ (l : List Own). Answers w i l K) behind k))
 
 rounded_goes : (ts more : List Own) (cut cut' : Type 0) (next next' : List Own → Type 0) → cut' → ((rest : List Own) → next (rest ++ more) → next' rest) → Rounded (ts ++ more) cut next → Rounded ts cut' next'
 rounded_goes [] more cut cut' next next' stops on told = inl (refl, stops)
@@ -79,10 +79,10 @@ rounded_goes (t ∷ ts) more cut cut' next next' stops on (inr (at, mid, e, k)) 
     let behind : mid ≡ ts ++ more = cc e in
     inr (at, ts, ap (λ x. x ∷ ts) same, on ts (subst next behind k))
 
-use_goes : (env : Env) (more : List Own) (K K' : After) (next next' : Obj → List Own → Type 0) → Goes more K K' → ((v : Obj) (rest : List Own) → next v (rest ++ more) → next' v rest) → ValueGoes more (Use env K next) (Use env K' next')
-use_goes env more K K' next next' goes on (Given v) rest k = on v rest k
-use_goes env more K K' next next' goes on (Failed e) rest k = goes env (Raises e) rest k
-use_goes env more K K' next next' goes on Stopped rest k = goes env Cut rest k
+use_goes : (env : Env) (more : List Own) (K K' : After) (next next' : Obj → ℕ → List Own → Type 0) → Goes more K K' → ((v : Obj) (event : ℕ) (rest : List Own) → next v event (rest ++ more) → next' v event rest) → ValueGoes more (Use env K next) (Use env K' next')
+use_goes env more K K' next next' goes on (Given v) event rest k = on v event rest k
+use_goes env more K K' next next' goes on (Failed e) event rest k = goes env (Raises e) event rest k
+use_goes env more K K' next next' goes on Stopped event rest k = goes env Cut event rest k
 
 by_truth_goes : (b : Bool) (P P' Q Q' : Type 0) → (P → P') → (Q → Q') → By_truth b P Q → By_truth b P' Q'
 by_truth_goes true P P' Q Q' f g k = f k
@@ -90,125 +90,127 @@ by_truth_goes false P P' Q Q' f g k = g k
 
 -- ---- what follows
 
-normal_goes : (more : List Own) (K K' : After) (next next' : Env → List Own → Type 0) → Carries more K K' → ((env : Env) (rest : List Own) → next env (rest ++ more) → next' env rest) → Carries more (On_normal K next) (On_normal K' next')
+normal_goes : (more : List Own) (K K' : After) (next next' : Env → ℕ → List Own → Type 0) → Carries more K K' → ((env : Env) (event : ℕ) (rest : List Own) → next env event (rest ++ more) → next' env event rest) → Carries more (On_normal K next) (On_normal K' next')
 normal_goes more K K' next next' carries on = record { goes = by; cut = carries.cut }
   where
     by : Goes more (On_normal K next) (On_normal K' next')
-    by env Normal rest k = on env rest k
-    by env Breaks rest k = carries.goes env Breaks rest k
-    by env Continues rest k = carries.goes env Continues rest k
-    by env (Returns v) rest k = carries.goes env (Returns v) rest k
-    by env (Raises e) rest k = carries.goes env (Raises e) rest k
-    by env Cut rest k = carries.goes env Cut rest k
+    by env Normal event rest k = on env event rest k
+    by env Breaks event rest k = carries.goes env Breaks event rest k
+    by env Continues event rest k = carries.goes env Continues event rest k
+    by env (Returns v) event rest k = carries.goes env (Returns v) event rest k
+    by env (Raises e) event rest k = carries.goes env (Raises e) event rest k
+    by env Cut event rest k = carries.goes env Cut event rest k
 
-turn_goes : (more : List Own) (K K' : After) (next next' : Env → List Own → Type 0) → Carries more K K' → ((env : Env) (rest : List Own) → next env (rest ++ more) → next' env rest) → Carries more (On_turn K next) (On_turn K' next')
+turn_goes : (more : List Own) (K K' : After) (next next' : Env → ℕ → List Own → Type 0) → Carries more K K' → ((env : Env) (event : ℕ) (rest : List Own) → next env event (rest ++ more) → next' env event rest) → Carries more (On_turn K next) (On_turn K' next')
 turn_goes more K K' next next' carries on = record { goes = by; cut = carries.cut }
   where
     by : Goes more (On_turn K next) (On_turn K' next')
-    by env Normal rest k = on env rest k
-    by env Breaks rest k = carries.goes env Normal rest k
-    by env Continues rest k = on env rest k
-    by env (Returns v) rest k = carries.goes env (Returns v) rest k
-    by env (Raises e) rest k = carries.goes env (Raises e) rest k
-    by env Cut rest k = carries.goes env Cut rest k
+    by env Normal event rest k = on env event rest k
+    by env Breaks event rest k = carries.goes env Normal event rest k
+    by env Continues event rest k = on env event rest k
+    by env (Returns v) event rest k = carries.goes env (Returns v) event rest k
+    by env (Raises e) event rest k = carries.goes env (Raises e) event rest k
+    by env Cut event rest k = carries.goes env Cut event rest k
 
 module _ (scene scene' : Scene) (widens : Widens scene scene') (more : List Own) where
   -- ---- loads and requests
 
-  literal_goes : (p : Payload) (ts : List Own) (K K' : AfterValue) → ValueGoes more K K' → K' Stopped [] → IsLiteral scene.objects p (ts ++ more) K → IsLiteral scene'.objects p ts K'
-  literal_goes p ts K K' goes cut (inl (e, k)) = inl (empty_front ts more e, cut)
-  literal_goes p ts K K' goes cut (inr (v, has, k)) = inr (v, payload_stays scene.objects scene'.objects v p widens.objects has, goes (Given v) ts k)
+  literal_goes : (p : Payload) (event : ℕ) (ts : List Own) (K K' : AfterValue) → ValueGoes more K K' → K' Stopped event [] → IsLiteral scene.objects p event (ts ++ more) K → IsLiteral scene'.objects p event ts K'
+  literal_goes p event ts K K' goes cut (inl (e, k)) = inl (empty_front ts more e, cut)
+  literal_goes p event ts K K' goes cut (inr (v, has, k)) = inr (v, payload_stays scene.objects scene'.objects v p widens.objects has, goes (Given v) event ts k)
 
-  requests_go : (line : ℕ) (r : Request) (h : Option PyBaseExceptionRef) (ts : List Own) (K K' : AfterValue) → ValueGoes more K K' → K' Stopped [] → Requests scene line r h (ts ++ more) K → Requests scene' line r h ts K'
-  requests_go line r h [] K K' goes cut told = inl (refl, cut)
-  requests_go line r h (t ∷ ts) K K' goes cut (inl (e, k)) = absurd (cc e)
-  requests_go line r h (t ∷ ts) K K' goes cut (inr (at, mid, is, e, k)) =
+  requests_go : (line : ℕ) (r : Request) (h : Option PyBaseExceptionRef) (event : ℕ) (ts : List Own) (K K' : AfterValue) → ValueGoes more K K' → K' Stopped event []
+      → Requests scene line r h event (ts ++ more) K → Requests scene' line r h event ts K'
+  requests_go line r h event [] K K' goes cut told = inl (refl, cut)
+  requests_go line r h event (t ∷ ts) K K' goes cut (inl (e, k)) = absurd (cc e)
+  requests_go line r h event (t ∷ ts) K K' goes cut (inr (at, mid, is, e, k)) =
       let same : t ≡ Asks at r h = cc e in
       let behind : mid ≡ ts ++ more = cc e in
-      inr (at, ts, widens.units at line is, ap (λ x. x ∷ ts) same, answered_goes ts more K K' goes cut (subst (λ (l : List Own). Answered l K) behind k))
+      inr (at, ts, widens.units at line is, ap (λ x. x ∷ ts) same, answered_goes event ts more K K' goes cut (subst (λ (l : List Own). Answered event l K) behind k))
 
-  named_goes : (line : ℕ) (found : Option (Option Obj)) (x : Name) (h : Option PyBaseExceptionRef) (ts : List Own) (K K' : AfterValue) → ValueGoes more K K' → K' Stopped []
-      → Named scene line found x h (ts ++ more) K → Named scene' line found x h ts K'
-  named_goes line None x h ts K K' goes cut k = subst (λ (g : Obj). Requests scene' line (Global g x) h ts K') widens.globals (requests_go line (Global scene.globals x) h ts K K' goes cut k)
-  named_goes line (Some None) x h ts K K' goes cut k = requests_go line (Unbound x) h ts K K' goes cut k
-  named_goes line (Some (Some v)) x h ts K K' goes cut k = goes (Given v) ts k
+  named_goes : (line : ℕ) (found : Option (Option Obj)) (x : Name) (h : Option PyBaseExceptionRef) (event : ℕ) (ts : List Own) (K K' : AfterValue) → ValueGoes more K K' → K' Stopped event []
+      → Named scene line found x h event (ts ++ more) K → Named scene' line found x h event ts K'
+  named_goes line None x h event ts K K' goes cut k = subst (λ (g : Obj). Requests scene' line (Global g x) h event ts K') widens.globals (requests_go line (Global scene.globals x) h event ts K K' goes cut k)
+  named_goes line (Some None) x h event ts K K' goes cut k = requests_go line (Unbound x) h event ts K K' goes cut k
+  named_goes line (Some (Some v)) x h event ts K K' goes cut k = goes (Given v) event ts k
 
-  loads_go : (line : ℕ) (env : Env) (h : Option PyBaseExceptionRef) (a : Atom) (ts : List Own) (K K' : AfterValue) → ValueGoes more K K' → K' Stopped []
-      → Loads scene line env h a (ts ++ more) K → Loads scene' line env h a ts K'
-  loads_go line env h atom.None ts K K' goes cut k = literal_goes payload.None ts K K' goes cut k
-  loads_go line env h (atom.Bool b) ts K K' goes cut k = literal_goes (payload.Bool b) ts K K' goes cut k
-  loads_go line env h (atom.Int n) ts K K' goes cut k = literal_goes (payload.Int n) ts K K' goes cut k
-  loads_go line env h (atom.Str s) ts K K' goes cut k = literal_goes (payload.Str s) ts K K' goes cut k
-  loads_go line env h (atom.Name x) ts K K' goes cut k = named_goes line (find_local x env) x h ts K K' goes cut k
+  loads_go : (line : ℕ) (env : Env) (h : Option PyBaseExceptionRef) (a : Atom) (event : ℕ) (ts : List Own) (K K' : AfterValue) → ValueGoes more K K' → K' Stopped event []
+      → Loads scene line env h a event (ts ++ more) K → Loads scene' line env h a event ts K'
+  loads_go line env h atom.None event ts K K' goes cut k = literal_goes payload.None event ts K K' goes cut k
+  loads_go line env h (atom.Bool b) event ts K K' goes cut k = literal_goes (payload.Bool b) event ts K K' goes cut k
+  loads_go line env h (atom.Int n) event ts K K' goes cut k = literal_goes (payload.Int n) event ts K K' goes cut k
+  loads_go line env h (atom.Str s) event ts K K' goes cut k = literal_goes (payload.Str s) event ts K K' goes cut k
+  loads_go line env h (atom.Name x) event ts K K' goes cut k = named_goes line (find_local x env) x h event ts K K' goes cut k
 
-  all_go : (line : ℕ) (env : Env) (h : Option PyBaseExceptionRef) (atoms : List Atom) (ts : List Own) (K K' : After) (next next' : List Obj → List Own → Type 0) → Carries more K K'
-      → ((vs : List Obj) (rest : List Own) → next vs (rest ++ more) → next' vs rest) → LoadsAll scene line env h atoms (ts ++ more) K next → LoadsAll scene' line env h atoms ts K' next'
-  all_go line env h [] ts K K' next next' carries on k = on [] ts k
-  all_go line env h (a ∷ atoms) ts K K' next next' carries on k =
-      loads_go line env h a ts _ _
-      (use_goes env more K K' _ _ carries.goes (λ v rest told. all_go line env h atoms rest K K' (λ vs. next (v ∷ vs)) (λ vs. next' (v ∷ vs)) carries (λ vs. on (v ∷ vs)) told)) (carries.cut env) k
+  all_go : (line : ℕ) (env : Env) (h : Option PyBaseExceptionRef) (atoms : List Atom) (event : ℕ) (ts : List Own) (K K' : After) (next next' : List Obj → ℕ → List Own → Type 0) → Carries more K K'
+      → ((vs : List Obj) (i : ℕ) (rest : List Own) → next vs i (rest ++ more) → next' vs i rest) → LoadsAll scene line env h atoms event (ts ++ more) K next → LoadsAll scene' line env h atoms event ts K' next'
+  all_go line env h [] event ts K K' next next' carries on k = on [] event ts k
+  all_go line env h (a ∷ atoms) event ts K K' next next' carries on k =
+      loads_go line env h a event ts _ _
+      (use_goes env more K K' _ _ carries.goes (λ v i rest told. all_go line env h atoms i rest K K' (λ vs. next (v ∷ vs)) (λ vs. next' (v ∷ vs)) carries (λ vs. on (v ∷ vs)) told)) (carries.cut env event) k
 
-  requests_if_go : (line : ℕ) (r : Option Request) (h : Option PyBaseExceptionRef) (ts : List Own) (K K' : AfterValue) → ValueGoes more K K' → K' Stopped []
-      → Requests_if scene line r h (ts ++ more) K → Requests_if scene' line r h ts K'
-  requests_if_go line None h ts K K' goes cut k = k
-  requests_if_go line (Some r) h ts K K' goes cut k = requests_go line r h ts K K' goes cut k
+  requests_if_go : (line : ℕ) (r : Option Request) (h : Option PyBaseExceptionRef) (event : ℕ) (ts : List Own) (K K' : AfterValue) → ValueGoes more K K' → K' Stopped event []
+      → Requests_if scene line r h event (ts ++ more) K → Requests_if scene' line r h event ts K'
+  requests_if_go line None h event ts K K' goes cut k = k
+  requests_if_go line (Some r) h event ts K K' goes cut k = requests_go line r h event ts K K' goes cut k
 
-  tests_go : (line : ℕ) (env : Env) (h : Option PyBaseExceptionRef) (v : Obj) (ts : List Own) (K K' : After) (next next' : Bool → List Own → Type 0) → Carries more K K'
-      → ((b : Bool) (rest : List Own) → next b (rest ++ more) → next' b rest) → Tests scene line env h v (ts ++ more) K next → Tests scene' line env h v ts K' next'
-  tests_go line env h v ts K K' next next' carries on k =
-      requests_go line (Truth v) h ts _ _
-      (use_goes env more K K' _ _ carries.goes (λ w rest (b, has, told). (b, payload_stays scene.objects scene'.objects w (payload.Bool b) widens.objects has, on b rest told))) (carries.cut env) k
+  tests_go : (line : ℕ) (env : Env) (h : Option PyBaseExceptionRef) (v : Obj) (event : ℕ) (ts : List Own) (K K' : After) (next next' : Bool → ℕ → List Own → Type 0) → Carries more K K'
+      → ((b : Bool) (i : ℕ) (rest : List Own) → next b i (rest ++ more) → next' b i rest) → Tests scene line env h v event (ts ++ more) K next → Tests scene' line env h v event ts K' next'
+  tests_go line env h v event ts K K' next next' carries on k =
+      requests_go line (Truth v) h event ts _ _
+      (use_goes env more K K' _ _ carries.goes (λ w i rest (b, has, told). (b, payload_stays scene.objects scene'.objects w (payload.Bool b) widens.objects has, on b i rest told))) (carries.cut env event) k
 
-  chooses_go : (line : ℕ) (env : Env) (h : Option PyBaseExceptionRef) (a : Atom) (ts : List Own) (K K' : After) (next next' : Bool → List Own → Type 0) → Carries more K K'
-      → ((b : Bool) (rest : List Own) → next b (rest ++ more) → next' b rest) → Chooses scene line env h a (ts ++ more) K next → Chooses scene' line env h a ts K' next'
-  chooses_go line env h a ts K K' next next' carries on k =
-      loads_go line env h a ts _ _ (use_goes env more K K' _ _ carries.goes (λ v rest told. tests_go line env h v rest K K' next next' carries on told)) (carries.cut env) k
+  chooses_go : (line : ℕ) (env : Env) (h : Option PyBaseExceptionRef) (a : Atom) (event : ℕ) (ts : List Own) (K K' : After) (next next' : Bool → ℕ → List Own → Type 0) → Carries more K K'
+      → ((b : Bool) (i : ℕ) (rest : List Own) → next b i (rest ++ more) → next' b i rest) → Chooses scene line env h a event (ts ++ more) K next → Chooses scene' line env h a event ts K' next'
+  chooses_go line env h a event ts K K' next next' carries on k =
+      loads_go line env h a event ts _ _ (use_goes env more K K' _ _ carries.goes (λ v i rest told. tests_go line env h v i rest K K' next next' carries on told)) (carries.cut env event) k
 
   -- ---- statements
 
   -- a body of a loop goes over to a front
   abbrev BodyGoes : Runner → Runner → Type 1
-  BodyGoes body body' = (env : Env) (ts : List Own) (K K' : After) → Carries more K K' → body env (ts ++ more) K → body' env ts K'
+  BodyGoes body body' = (env : Env) (event : ℕ) (ts : List Own) (K K' : After) → Carries more K K' → body env event (ts ++ more) K → body' env event ts K'
 
-  loops_go : (line : ℕ) (h : Option PyBaseExceptionRef) (a : Atom) (body body' : Runner) → BodyGoes body body' → (n : ℕ) (env : Env) (ts : List Own) (K K' : After) → Carries more K K'
-      → Loops scene line h a body n env (ts ++ more) K → Loops scene' line h a body' n env ts K'
-  loops_go line h a body body' runs zero env ts K K' carries k =
-      rounded_goes ts more _ _ _ _ (carries.cut env)
-      (λ mid told. chooses_go line env h a mid K K' _ _ carries (λ b rest chosen. by_truth_goes b _ _ _ _ (λ never. never) (carries.goes env Normal rest) chosen) told) k
-  loops_go line h a body body' runs (suc n) env ts K K' carries k =
-      rounded_goes ts more _ _ _ _ (carries.cut env)
-      (λ mid told. chooses_go line env h a mid K K' _ _ carries
-      (λ b rest chosen. by_truth_goes b _ _ _ _
-      (runs env rest _ _ (turn_goes more K K' _ _ carries (λ env1 left again. loops_go line h a body body' runs n env1 left K K' carries again)))
-      (carries.goes env Normal rest) chosen) told) k
+  loops_go : (line : ℕ) (h : Option PyBaseExceptionRef) (a : Atom) (body body' : Runner) → BodyGoes body body' → (n : ℕ) (env : Env) (event : ℕ) (ts : List Own) (K K' : After) → Carries more K K'
+      → Loops scene line h a body n env event (ts ++ more) K → Loops scene' line h a body' n env event ts K'
+  loops_go line h a body body' runs zero env event ts K K' carries k =
+      rounded_goes ts more _ _ _ _ (carries.cut env event)
+      (λ mid told. chooses_go line env h a event mid K K' _ _ carries (λ b i rest chosen. by_truth_goes b _ _ _ _ (λ never. never) (carries.goes env Normal i rest) chosen) told) k
+  loops_go line h a body body' runs (suc n) env event ts K K' carries k =
+      rounded_goes ts more _ _ _ _ (carries.cut env event)
+      (λ mid told. chooses_go line env h a event mid K K' _ _ carries
+      (λ b i rest chosen. by_truth_goes b _ _ _ _
+      (runs env i rest _ _ (turn_goes more K K' _ _ carries (λ env1 j left again. loops_go line h a body body' runs n env1 j left K K' carries again)))
+      (carries.goes env Normal i rest) chosen) told) k
 
   mutual
-    runs_go : (f : Form) (line : ℕ) (env : Env) (h : Option PyBaseExceptionRef) (ts : List Own) (K K' : After) → Carries more K K' → Runs scene line f env h (ts ++ more) K → Runs scene' line f env h ts K'
-    runs_go (assign x a) line env h ts K K' carries k =
-        loads_go line env h a ts _ _ (use_goes env more K K' _ _ carries.goes (λ v rest done. carries.goes (set_local x (Some v) env) Normal rest done)) (carries.cut env) k
-    runs_go (operate x op atoms) line env h ts K K' carries k =
-        all_go line env h atoms ts K K' _ _ carries
-        (λ vs rest told. requests_if_go line (request_of op vs) h rest _ _ (use_goes env more K K' _ _ carries.goes (λ v left done. carries.goes (bind x v env) Normal left done)) (carries.cut env) told) k
-    runs_go (show a) line env h ts K K' carries k =
-        loads_go line env h a ts _ _
+    runs_go : (f : Form) (line : ℕ) (env : Env) (h : Option PyBaseExceptionRef) (event : ℕ) (ts : List Own) (K K' : After) → Carries more K K' → Runs scene line f env h event (ts ++ more) K → Runs scene' line f env h event ts K'
+    runs_go (assign x a) line env h event ts K K' carries k =
+        loads_go line env h a event ts _ _ (use_goes env more K K' _ _ carries.goes (λ v i rest done. carries.goes (set_local x (Some v) env) Normal i rest done)) (carries.cut env event) k
+    runs_go (operate x op atoms) line env h event ts K K' carries k =
+        all_go line env h atoms event ts K K' _ _ carries
+        (λ vs i rest told. requests_if_go line (request_of op vs) h i rest _ _ (use_goes env more K K' _ _ carries.goes (λ v j left done. carries.goes (bind x v env) Normal j left done)) (carries.cut env i) told) k
+    runs_go (show a) line env h event ts K K' carries k =
+        loads_go line env h a event ts _ _
         (use_goes env more K K' _ _ carries.goes
-        (λ v rest told. requests_go line (Show v) h rest _ _ (use_goes env more K K' _ _ carries.goes (λ u left done. carries.goes env Normal left done)) (carries.cut env) told)) (carries.cut env) k
-    runs_go (give a) line env h ts K K' carries k =
-        loads_go line env h a ts _ _ (use_goes env more K K' _ _ carries.goes (λ v rest done. carries.goes env (Returns v) rest done)) (carries.cut env) k
-    runs_go pass line env h ts K K' carries k = carries.goes env Normal ts k
-    runs_go (branch a s) line env h ts K K' carries k =
-        chooses_go line env h a ts K K' _ _ carries (λ b rest chosen. by_truth_goes b _ _ _ _ (suite_goes s env h rest K K' carries) (carries.goes env Normal rest) chosen) k
-    runs_go (choice a s t) line env h ts K K' carries k =
-        chooses_go line env h a ts K K' _ _ carries (λ b rest chosen. by_truth_goes b _ _ _ _ (suite_goes s env h rest K K' carries) (suite_goes t env h rest K K' carries) chosen) k
-    runs_go (loop a s) line env h ts K K' carries (n, k) = (n, loops_go line h a (λ env1 mid. RunsSuite scene s env1 h mid) (λ env1 mid. RunsSuite scene' s env1 h mid) (λ env1 mid K1 K1'. suite_goes s env1 h mid K1 K1') n env ts K K' carries k)
+        (λ v i rest told. requests_go line (Show v) h i rest _ _ (use_goes env more K K' _ _ carries.goes (λ u j left done. carries.goes env Normal j left done)) (carries.cut env i) told)) (carries.cut env event) k
+    runs_go (give a) line env h event ts K K' carries k =
+        loads_go line env h a event ts _ _ (use_goes env more K K' _ _ carries.goes (λ v i rest done. carries.goes env (Returns v) i rest done)) (carries.cut env event) k
+    runs_go pass line env h event ts K K' carries k = carries.goes env Normal event ts k
+    runs_go (branch a s) line env h event ts K K' carries k =
+        chooses_go line env h a event ts K K' _ _ carries (λ b i rest chosen. by_truth_goes b _ _ _ _ (suite_goes s env h i rest K K' carries) (carries.goes env Normal i rest) chosen) k
+    runs_go (choice a s t) line env h event ts K K' carries k =
+        chooses_go line env h a event ts K K' _ _ carries (λ b i rest chosen. by_truth_goes b _ _ _ _ (suite_goes s env h i rest K K' carries) (suite_goes t env h i rest K K' carries) chosen) k
+    runs_go (loop a s) line env h event ts K K' carries (n, k) =
+        (n, loops_go line h a (λ env1 i mid. RunsSuite scene s env1 h i mid) (λ env1 i mid. RunsSuite scene' s env1 h i mid) (λ env1 i mid K1 K1'. suite_goes s env1 h i mid K1 K1') n env event ts K K' carries k)
 
     -- the law for statements, where what follows may be cut anywhere
-    suite_goes : (s : Suite) (env : Env) (h : Option PyBaseExceptionRef) (ts : List Own) (K K' : After) → Carries more K K' → RunsSuite scene s env h (ts ++ more) K → RunsSuite scene' s env h ts K'
-    suite_goes nothing env h ts K K' carries (inl (e, k)) = inl (empty_front ts more e, carries.cut env)
-    suite_goes nothing env h ts K K' carries (inr k) = inr (carries.goes env Normal ts k)
-    suite_goes (first n f rest) env h ts K K' carries (inl (e, k)) = inl (empty_front ts more e, carries.cut env)
-    suite_goes (first n f rest) env h ts K K' carries (inr k) =
-        inr (runs_go f n env h ts _ _ (normal_goes more K K' _ _ carries (λ env1 mid told. suite_goes rest env1 h mid K K' carries told)) k)
+    suite_goes : (s : Suite) (env : Env) (h : Option PyBaseExceptionRef) (event : ℕ) (ts : List Own) (K K' : After) → Carries more K K' → RunsSuite scene s env h event (ts ++ more) K → RunsSuite scene' s env h event ts K'
+    suite_goes nothing env h event ts K K' carries (inl (e, k)) = inl (empty_front ts more e, carries.cut env event)
+    suite_goes nothing env h event ts K K' carries (inr k) = inr (carries.goes env Normal event ts k)
+    suite_goes (first n f rest) env h event ts K K' carries (inl (e, k)) = inl (empty_front ts more e, carries.cut env event)
+    suite_goes (first n f rest) env h event ts K K' carries (inr k) =
+        inr (runs_go f n env h event ts _ _ (normal_goes more K K' _ _ carries (λ env1 i mid told. suite_goes rest env1 h i mid K K' carries told)) k)
 
   -- ---- traces
 
@@ -221,20 +223,20 @@ module _ (scene scene' : Scene) (widens : Widens scene scene') (more : List Own)
       inr (at, ap (λ y. y ∷ rest) same ∙ ap (λ l. Ends at e ∷ l) (empty_front rest more none))
 
   ends_go : Goes more (EndsBy scene) (EndsBy scene')
-  ends_go env Normal rest (inl e) = inl (empty_front rest more e)
-  ends_go env Normal rest (inr (v, has, k)) = inr (v, payload_stays scene.objects scene'.objects v payload.None widens.objects has, ended_goes _ rest k)
-  ends_go env Breaks rest k = k
-  ends_go env Continues rest k = k
-  ends_go env (Returns v) rest k = ended_goes _ rest k
-  ends_go env (Raises e) rest k = ended_goes _ rest k
-  ends_go env Cut rest k = empty_front rest more k
+  ends_go env Normal event rest (inl e) = inl (empty_front rest more e)
+  ends_go env Normal event rest (inr (v, has, k)) = inr (v, payload_stays scene.objects scene'.objects v payload.None widens.objects has, ended_goes _ rest k)
+  ends_go env Breaks event rest k = k
+  ends_go env Continues event rest k = k
+  ends_go env (Returns v) event rest k = ended_goes _ rest k
+  ends_go env (Raises e) event rest k = ended_goes _ rest k
+  ends_go env Cut event rest k = empty_front rest more k
 
   begun_goes : (t : Tree) (args : List Obj) (ts : List Own) → IsBegun scene t args (ts ++ more) → IsBegun scene' t args ts
   begun_goes t args [] k = tt
   begun_goes t args (Makes ∷ ts) k = k
-  begun_goes t args (Resumes h ∷ ts) (entered, k) = (entered, suite_goes t.suite _ None ts _ _ (record { goes = ends_go; cut = λ env. refl }) k)
+  begun_goes t args (Resumes event h ∷ ts) (entered, k) = (entered, suite_goes t.suite _ None event ts _ _ (record { goes = ends_go; cut = λ env i. refl }) k)
   begun_goes t args (Asks at r own ∷ ts) k = k
-  begun_goes t args (Gets w ∷ ts) k = k
+  begun_goes t args (Gets event w ∷ ts) k = k
   begun_goes t args (Rounds at ∷ ts) k = k
   begun_goes t args (Yields at v ∷ ts) k = k
   begun_goes t args (Ends at e ∷ ts) k = k

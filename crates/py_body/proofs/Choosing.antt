@@ -28,25 +28,25 @@ module _ (ex : Execution) (K : After) (closes : Closes K) (depth : ℕ) (now : N
   env = env_of ex.vars now.locals
 
   -- either truth value goes where the jump says
-  module _ (next : Bool → List Own → Type 0) (inside label n : ℕ) (forward : inside ≤ label) (stops : (b : Bool) → next b [])
-      (is_true : (last m : ℕ) (us : List Own) → m < n → From ex m inside last [] depth now us → next true us)
-      (is_false : (last m : ℕ) (us : List Own) → m < n → From ex m label last [] depth now us → next false us) where
-    decided : (b : Bool) (k p m : ℕ) (us : List Own) → suc k ≡ inside → m < n → Behind ex m (jumps_if (not b) label (running k (suc k) p [] depth now)) us → next b us
-    decided true k p m us is_next less step = is_true (suc k) m us less (subst (λ (at : ℕ). From ex m at (suc k) [] depth now us) is_next step)
-    decided false k p m us is_next less step = is_false (suc k) m us less (ahead_run ex k (suc k) p label depth [] now m us (omega (arith, is_next, forward)) step)
+  module _ (next : Bool → ℕ → List Own → Type 0) (inside label n : ℕ) (forward : inside ≤ label) (stops : (b : Bool) (i : ℕ) → next b i [])
+      (is_true : (last m i : ℕ) (us : List Own) → m < n → From ex m inside last [] depth now us → next true i us)
+      (is_false : (last m i : ℕ) (us : List Own) → m < n → From ex m label last [] depth now us → next false i us) where
+    decided : (b : Bool) (k p m i : ℕ) (us : List Own) → suc k ≡ inside → m < n → Behind ex m (jumps_if (not b) label (running k (suc k) p [] depth now)) us → next b i us
+    decided true k p m i us is_next less step = is_true (suc k) m i us less (subst (λ (at : ℕ). From ex m at (suc k) [] depth now us) is_next step)
+    decided false k p m i us is_next less step = is_false (suc k) m i us less (ahead_run ex k (suc k) p label depth [] now m us (omega (arith, is_next, forward)) step)
 
-    tests_run : (line : ℕ) (v : Obj) (asks last m : ℕ) (us : List Own) → m < n → Stands (parts_of ex) line asks JumpIfFalse label inside → From ex m asks last (v ∷ []) depth now us → Tests (scene_of ex) line env None v us K next
-    tests_run line v asks last m us less stands run =
-        asked_run ex K closes depth now _ line asks last inside JumpIfFalse label (Truth v) (v ∷ []) [] m us stands (λ k p. refl) run
-        (λ w (b, has). (b, has, stops b))
-        (λ w k p j rest is_next fewer value (done, (b, has, is), step).
-        (b, has, decided b k p j rest is_next (omega (arith, fewer, less)) (subst (λ (s : Step). Behind ex j s rest) (sym is) step)))
+    tests_run : (line : ℕ) (v : Obj) (asks last m event : ℕ) (us : List Own) → m < n → Stands (parts_of ex) line asks JumpIfFalse label inside → From ex m asks last (v ∷ []) depth now us → Tests (scene_of ex) line env None v event us K next
+    tests_run line v asks last m event us less stands run =
+        asked_run ex K closes depth now _ line asks last inside JumpIfFalse label (Truth v) (v ∷ []) [] m event us stands (λ k p. refl) run
+        (λ w i (b, has). (b, has, stops b i))
+        (λ w k p j i rest is_next fewer value (done, (b, has, is), step).
+        (b, has, decided b k p j i rest is_next (omega (arith, fewer, less)) (subst (λ (s : Step). Behind ex j s rest) (sym is) step)))
 
     -- an atom is loaded and tested
-    pub chooses_run : (line : ℕ) (a : Atom) (at last asks : ℕ) (ts : List Own) → length now.locals ≡ length ex.vars → LaidAtom (parts_of ex) line a at asks → Stands (parts_of ex) line asks JumpIfFalse label inside
-        → From ex n at last [] depth now ts → Chooses (scene_of ex) line env None a ts K next
-    chooses_run line a at last asks ts same laid stands run =
-        atom_run ex K closes depth now (λ v mid. Tests (scene_of ex) line env None v mid K next) line at last asks [] n ts run
-        (λ v. inl (refl, closes.cut env))
-        (λ v m us less more. tests_run line v asks asks m us less stands more)
+    pub chooses_run : (line : ℕ) (a : Atom) (at last asks event : ℕ) (ts : List Own) → length now.locals ≡ length ex.vars → LaidAtom (parts_of ex) line a at asks → Stands (parts_of ex) line asks JumpIfFalse label inside
+        → From ex n at last [] depth now ts → Chooses (scene_of ex) line env None a event ts K next
+    chooses_run line a at last asks event ts same laid stands run =
+        atom_run ex K closes depth now (λ v i mid. Tests (scene_of ex) line env None v i mid K next) line at last asks [] n event ts run
+        (λ v i. inl (refl, closes.cut env i))
+        (λ v m i us less more. tests_run line v asks asks m i us less stands more)
         same a laid

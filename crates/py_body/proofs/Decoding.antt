@@ -32,7 +32,7 @@ slice_get-drop [] (suc at) u us left = absurd (cc)
 slice_get-drop (x ∷ xs) zero u us left = (let same : x ≡ u = cc in ap Some same, let same : xs ≡ us = cc in same)
 slice_get-drop (x ∷ xs) (suc at) u us left = slice_get-drop xs at u us left
 
-Some-injective : {A : Type 0} (a b : A) → Some a ≡ Some b → a ≡ b
+pub Some-injective : {A : Type 0} (a b : A) → Some a ≡ Some b → a ≡ b
 Some-injective a b same = cc
 
 pub prefix_is : (op : Instruction) → is_prefix op ≡ true → op ≡ ExtendedArg
@@ -100,9 +100,9 @@ module _ (ex : Execution) where
   pub step_left : (n : ℕ) (step : Step) (ts : List Own) → Left n (Plainly step) ts → Behind n step ts
   step_left n step ts (done, is, left) = subst (λ (s : Step). Behind n s ts) (sym is) left
 
-  -- each run of at most n steps from a place, in so many loops, tells this
-  abbrev pub TellsFrom : ℕ → ℕ → ℕ → (Env → List Own → Type 0) → Type 0
-  TellsFrom at depth n tells = (now : Now) (last m : ℕ) (ts : List Own) → m ≤ n → length now.locals ≡ length ex.vars → From m at last [] depth now ts → tells (env_of ex.vars now.locals) ts
+  -- each run of at most n steps from a place, in so many loops, tells this, whichever event was heard last
+  abbrev pub TellsFrom : ℕ → ℕ → ℕ → (Env → ℕ → List Own → Type 0) → Type 0
+  TellsFrom at depth n tells = (now : Now) (last m event : ℕ) (ts : List Own) → m ≤ n → length now.locals ≡ length ex.vars → From m at last [] depth now ts → tells (env_of ex.vars now.locals) event ts
 
   -- a frame that runs hears nothing
   unit_left : (n : ℕ) (s : State) (ts : List Own) → Told (suc n) (record s { wants = expect.Go }) ts → Left n (advance ex.setting (record s { wants = expect.Go })) ts

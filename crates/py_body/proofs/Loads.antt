@@ -63,42 +63,42 @@ module _ (ex : Execution) where
       (λ k q. moves i k q ∙ ap (λ (o : Option Literal). load_move o (f k q (suc k))) is_constant ∙ ap (λ (o : Option Payload). or_stuck o (f k q (suc k))) is_payload) run cut
       (λ k q m is_next less has_op of_line (done, (v, has, is), step). go v k q m less has (subst (λ (s : Step). Behind ex m s ts) (sym is) step))
 
-  module _ (K : After) (closes : Closes K) (depth : ℕ) (now : Now) (next : Obj → List Own → Type 0) (line at last to : ℕ) (stack : List Obj) (n : ℕ) (ts : List Own)
+  module _ (K : After) (closes : Closes K) (depth : ℕ) (now : Now) (next : Obj → ℕ → List Own → Type 0) (line at last to : ℕ) (stack : List Obj) (n event : ℕ) (ts : List Own)
       (run : From ex n at last stack depth now ts)
-      (stops : (v : Obj) → next v [])
-      (later : (v : Obj) (m : ℕ) (us : List Own) → m < n → From ex m to to (v ∷ stack) depth now us → next v us) where
+      (stops : (v : Obj) (i : ℕ) → next v i [])
+      (later : (v : Obj) (m i : ℕ) (us : List Own) → m < n → From ex m to to (v ∷ stack) depth now us → next v i us) where
     abbrev env : Env
     env = env_of ex.vars now.locals
 
-    literal_run : (literal : Literal) (p : Payload) → payload_of literal ≡ Some p → StandsConst (parts_of ex) line at LoadConst literal to → IsLiteral ex.objects p ts (Use env K next)
+    literal_run : (literal : Literal) (p : Payload) → payload_of literal ≡ Some p → StandsConst (parts_of ex) line at LoadConst literal to → IsLiteral ex.objects p event ts (Use env K next)
     literal_run literal p is_payload stands =
         const_run line LoadConst literal p (λ k q b v. Goes (running b b 0 (v ∷ stack) depth now)) at last to stack depth now n ts is_payload (λ i k q. refl) stands run
-        (λ none. inl (none, closes.cut env))
-        (λ v k q m less has more. inr (v, has, later v m ts less more))
+        (λ none. inl (none, closes.cut env event))
+        (λ v k q m less has more. inr (v, has, later v m event ts less more))
 
     -- a local that is set is pushed, and one that isn't is asked for, which no value answers
     local_run : (x : Name) (v : Option Obj) → slice_get now.locals (place ex.vars x) ≡ Some v → name_of_local ex.setting (place ex.vars x) ≡ Some x → Stands (parts_of ex) line at LoadFast (place ex.vars x) to
-        → Named (scene_of ex) line (Some v) x None ts (Use env K next)
+        → Named (scene_of ex) line (Some v) x None event ts (Use env K next)
     local_run x (Some v) here named stands =
         steps_run ex (λ k p b. Goes (running b b 0 (v ∷ stack) depth now)) line at last to LoadFast (place ex.vars x) stack depth now n ts stands
         (λ k p. ap (λ (o : Option (Option Obj)). Plainly (load_fast (name_of_local ex.setting (place ex.vars x)) o (running k (suc k) p stack depth now))) here) run
-        (λ none. subst (λ (us : List Own). next v us) (sym none) (stops v))
-        (λ k p m is_next less more. later v m ts less more)
+        (λ none. subst (λ (us : List Own). next v event us) (sym none) (stops v event))
+        (λ k p m is_next less more. later v m event ts less more)
     local_run x None here named stands =
-        asked_run ex K closes depth now next line at last to LoadFast (place ex.vars x) (Unbound x) stack stack n ts stands
+        asked_run ex K closes depth now next line at last to LoadFast (place ex.vars x) (Unbound x) stack stack n event ts stands
         (λ k p. ap (λ (o : Option (Option Obj)). Plainly (load_fast (name_of_local ex.setting (place ex.vars x)) o (running k (suc k) p stack depth now))) here
         ∙ ap (λ (o : Option Name). Plainly (load_fast o (Some None) (running k (suc k) p stack depth now))) named) run
-        (λ w never. absurd never)
-        (λ w k p m us is_next less never left. absurd never)
+        (λ w i never. absurd never)
+        (λ w k p m i us is_next less never left. absurd never)
 
-    global_run : (x : Name) (i : ℕ) → name_of_global ex.setting i ≡ Some x → Stands (parts_of ex) line at LoadGlobal i to → Named (scene_of ex) line None x None ts (Use env K next)
+    global_run : (x : Name) (i : ℕ) → name_of_global ex.setting i ≡ Some x → Stands (parts_of ex) line at LoadGlobal i to → Named (scene_of ex) line None x None event ts (Use env K next)
     global_run x i named stands =
-        asked_once_run ex K closes depth now next line at last to LoadGlobal i (Global ex.setting.globals x) stack stack n ts stands
+        asked_once_run ex K closes depth now next line at last to LoadGlobal i (Global ex.setting.globals x) stack stack n event ts stands
         (λ k p. ap (λ (o : Option Name). Plainly (asks_if (on_none (option_map (λ y. Global ex.setting.globals y) o) []) (running k (suc k) p stack depth now))) named) run
         (λ v. v ∷ stack) (λ k p v. refl) stops later
 
     module _ (same : length now.locals ≡ length ex.vars) where
-      name_run : (x : Name) (b : Bool) → list_any (bytes_eq x) ex.vars ≡ b → LaidName b (parts_of ex) line x at to → Named (scene_of ex) line (find_local x env) x None ts (Use env K next)
+      name_run : (x : Name) (b : Bool) → list_any (bytes_eq x) ex.vars ≡ b → LaidName b (parts_of ex) line x at to → Named (scene_of ex) line (find_local x env) x None event ts (Use env K next)
       name_run x true is laid =
           let (v, found, here) = find_local-bound ex.vars now.locals x same is in
           rw found (local_run x v here (named_at ex.setting.names _ ex.vars (place ex.vars x) x ex.locals_named (slice_get-place ex.vars x is)) laid)
@@ -106,7 +106,7 @@ module _ (ex : Execution) where
           rw (find_local-free ex.vars now.locals x is) (global_run x i (named_at ex.setting.names _ ex.globals i x ex.globals_named here) stands)
 
       -- the load of an atom pushes a value that the atom may have, or ends by a raise
-      pub atom_run : (a : Atom) → LaidAtom (parts_of ex) line a at to → Loads (scene_of ex) line env None a ts (Use env K next)
+      pub atom_run : (a : Atom) → LaidAtom (parts_of ex) line a at to → Loads (scene_of ex) line env None a event ts (Use env K next)
       atom_run atom.None laid = literal_run NoneLiteral payload.None refl laid
       atom_run (atom.Bool b) laid = literal_run (BoolLiteral b) (payload.Bool b) refl laid
       atom_run (atom.Int i) laid = literal_run (IntLiteral i) (payload.Int i) refl laid

@@ -62,27 +62,28 @@ module _ (ex : Execution) (line : ℕ) (K : After) (closes : Closes K) (depth : 
   -- ---- loads
 
   -- the loads of atoms push their values in order, or one of them ends the run
-  pub atoms_run : length now.locals ≡ length ex.vars → (atoms : List Atom) (next : List Obj → List Own → Type 0) (at last to n : ℕ) (stack : List Obj) (ts : List Own) → LaidAtoms (parts_of ex) line atoms at to → From ex n at last stack depth now ts
-      → ((vs : List Obj) → length vs ≡ length atoms → next vs [])
-      → ((vs : List Obj) (l m : ℕ) (us : List Own) → length vs ≡ length atoms → m ≤ n → From ex m to l (reverse vs ++ stack) depth now us → next vs us)
-      → LoadsAll (scene_of ex) line env None atoms ts K next
-  atoms_run same [] next at last to n stack ts is_at run stops later = later [] last n ts refl (le_refl n) (subst (λ (p : ℕ). From ex n p last stack depth now ts) (sym is_at) run)
-  atoms_run same (a ∷ atoms) next at last to n stack ts (mid, one, rest) run stops later =
-      atom_run ex K closes depth now _ line at last mid stack n ts run
-      (λ v. cut_loads (scene_of ex) line atoms None env K (λ vs. next (v ∷ vs)) closes (λ vs long. stops (v ∷ vs) (ap suc long)))
-      (λ v m us less more.
-      atoms_run same atoms (λ vs. next (v ∷ vs)) mid mid to m (v ∷ stack) us rest more (λ vs long. stops (v ∷ vs) (ap suc long))
-      (λ vs l j left long few done. later (v ∷ vs) l j left (ap suc long) (omega (arith, few, less)) (subst (λ (st : List Obj). From ex j to l st depth now left) (reverse-onto v vs stack) done)))
+  pub atoms_run : length now.locals ≡ length ex.vars → (atoms : List Atom) (next : List Obj → ℕ → List Own → Type 0) (at last to n : ℕ) (stack : List Obj) (event : ℕ) (ts : List Own) → LaidAtoms (parts_of ex) line atoms at to → From ex n at last stack depth now ts
+      → ((vs : List Obj) (i : ℕ) → length vs ≡ length atoms → next vs i [])
+      → ((vs : List Obj) (l m i : ℕ) (us : List Own) → length vs ≡ length atoms → m ≤ n → From ex m to l (reverse vs ++ stack) depth now us → next vs i us)
+      → LoadsAll (scene_of ex) line env None atoms event ts K next
+  atoms_run same [] next at last to n stack event ts is_at run stops later = later [] last n event ts refl (le_refl n) (subst (λ (p : ℕ). From ex n p last stack depth now ts) (sym is_at) run)
+  atoms_run same (a ∷ atoms) next at last to n stack event ts (mid, one, rest) run stops later =
+      atom_run ex K closes depth now _ line at last mid stack n event ts run
+      (λ v i. cut_loads (scene_of ex) line atoms None env i K (λ vs. next (v ∷ vs)) closes (λ vs long. stops (v ∷ vs) i (ap suc long)))
+      (λ v m i us less more.
+      atoms_run same atoms (λ vs. next (v ∷ vs)) mid mid to m (v ∷ stack) i us rest more (λ vs j long. stops (v ∷ vs) j (ap suc long))
+      (λ vs l j h left long few done. later (v ∷ vs) l j h left (ap suc long) (omega (arith, few, less)) (subst (λ (st : List Obj). From ex j to l st depth now left) (reverse-onto v vs stack) done)))
       same a one
 
   -- ---- units
 
-  module _ (next : Obj → List Own → Type 0) (at last to n : ℕ) (ts : List Own) (stops : (u : Obj) → next u []) (later : (u : Obj) (m : ℕ) (us : List Own) → m < n → From ex m to to (u ∷ []) depth now us → next u us) where
+  module _ (next : Obj → ℕ → List Own → Type 0) (at last to n event : ℕ) (ts : List Own) (stops : (u : Obj) (i : ℕ) → next u i [])
+      (later : (u : Obj) (m i : ℕ) (us : List Own) → m < n → From ex m to to (u ∷ []) depth now us → next u i us) where
     -- a call asks for what comes of the callee and its arguments
-    call_run : (vs : List Obj) → LaidCall (parts_of ex) line at (length vs) to → From ex n at last (reverse vs ++ []) depth now ts → Requests_if (scene_of ex) line (of_call vs) None ts (Use env K next)
+    call_run : (vs : List Obj) → LaidCall (parts_of ex) line at (length vs) to → From ex n at last (reverse vs ++ []) depth now ts → Requests_if (scene_of ex) line (of_call vs) None event ts (Use env K next)
     call_run [] stands run = absurd stands
     call_run (f ∷ vs) stands run =
-        asked_once_run ex K closes depth now next line at last to CallFunctionPositional (length vs) (Call f vs keywords.None) (reverse (f ∷ vs) ++ []) [] n ts stands
+        asked_once_run ex K closes depth now next line at last to CallFunctionPositional (length vs) (Call f vs keywords.None) (reverse (f ∷ vs) ++ []) [] n event ts stands
         (λ k p.
         ap (λ (count : ℕ). Plainly (asks_once count (λ ws. calls (reverse ws)) (running k (suc k) p (reverse (f ∷ vs) ++ []) depth now))) (length-replicate (suc (length vs)) kind.Any)
         ∙ λ j. Plainly (where_there (reaches-reverse (f ∷ vs) j) (asks_if (calls (take-reverse (f ∷ vs) j)) (running k (suc k) p (drop-reverse (f ∷ vs) j) depth now))))
@@ -92,14 +93,14 @@ module _ (ex : Execution) (line : ℕ) (K : After) (closes : Closes K) (depth : 
     two_run : (op : Instruction) (arg : ℕ) (r : Obj → Obj → Request) (vs : List Obj) → length vs ≡ 2
         → ((v w : Obj) (k p : ℕ) → act ex.setting op arg (running k (suc k) p (w ∷ v ∷ []) depth now) ≡ Plainly (asks (r v w) (running k (suc k) p [] depth now)))
         → ((k p : ℕ) (u : Obj) → answered op arg u (running k (suc k) p [] depth now) ≡ Plainly (Goes (running (suc k) (suc k) 0 (u ∷ []) depth now)))
-        → Stands (parts_of ex) line at op arg to → From ex n at last (reverse vs ++ []) depth now ts → Requests_if (scene_of ex) line (of_two r vs) None ts (Use env K next)
+        → Stands (parts_of ex) line at op arg to → From ex n at last (reverse vs ++ []) depth now ts → Requests_if (scene_of ex) line (of_two r vs) None event ts (Use env K next)
     two_run op arg r vs two makes gives stands =
-        two_values (λ ws. From ex n at last (reverse ws ++ []) depth now ts → Requests_if (scene_of ex) line (of_two r ws) None ts (Use env K next)) vs two
-        (λ v w run. asked_once_run ex K closes depth now next line at last to op arg (r v w) (w ∷ v ∷ []) [] n ts stands (makes v w) run (λ u. u ∷ []) gives stops later)
+        two_values (λ ws. From ex n at last (reverse ws ++ []) depth now ts → Requests_if (scene_of ex) line (of_two r ws) None event ts (Use env K next)) vs two
+        (λ v w run. asked_once_run ex K closes depth now next line at last to op arg (r v w) (w ∷ v ∷ []) [] n event ts stands (makes v w) run (λ u. u ∷ []) gives stops later)
 
     -- an operator asks for what comes of the values on the stack
     pub operator_run : (op : Operator) (vs : List Obj) → takes_count op (length vs) ≡ true → LaidOperator (parts_of ex) line at op (length vs) to → From ex n at last (reverse vs ++ []) depth now ts
-        → Requests_if (scene_of ex) line (request_of op vs) None ts (Use env K next)
+        → Requests_if (scene_of ex) line (request_of op vs) None event ts (Use env K next)
     operator_run operator.Add vs takes stands = two_run BinaryOperation (binary_number binary.Add) (Binary binary.Add) vs (is_two (length vs) takes) (λ v w k p. refl) (λ k p u. refl) stands
     operator_run operator.Sub vs takes stands = two_run BinaryOperation (binary_number binary.Subtract) (Binary binary.Subtract) vs (is_two (length vs) takes) (λ v w k p. refl) (λ k p u. refl) stands
     operator_run operator.Lt vs takes stands = two_run CompareOperation (comparison_number comparison.Less) (Compare comparison.Less) vs (is_two (length vs) takes) (λ v w k p. refl) (λ k p u. refl) stands

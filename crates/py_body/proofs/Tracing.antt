@@ -31,9 +31,9 @@ use Rattle.py_body.proofs.Loads.{const_run}
 use Rattle.py_body.proofs.Running.{suite_run}
 
 -- a frame that hasn't begun starts, where no exception is thrown into it
-entered : (objects : List Payload) (setting : Setting) (x : Own) (y : Expect) → is_thrown_into setting.code.code.flags ≡ false → Hears objects setting expect.Start x y → (x ≡ Resumes how.Start) × (y ≡ expect.Go)
-entered objects setting (Resumes how.Start) y flags is = (refl, is)
-entered objects setting (Resumes (how.Throw e)) y flags (exception, is, thrown) = absurd (cc)
+entered : (objects : List Payload) (setting : Setting) (x : Own) (y : Expect) → is_thrown_into setting.code.code.flags ≡ false → Hears objects setting expect.Start x y → (event : ℕ) × (x ≡ Resumes event how.Start) × (y ≡ expect.Go)
+entered objects setting (Resumes event how.Start) y flags is = (event, refl, is)
+entered objects setting (Resumes event (how.Throw e)) y flags (exception, is, thrown) = absurd (cc)
 entered objects setting _ y flags never = absurd never
 
 module _ (setting : Setting) (t : Tree) (globals : List Name) (compilable : IsCompilable t) (laid : IsLaid globals setting.code t) (plain : IsPlain setting.code t)
@@ -43,28 +43,28 @@ module _ (setting : Setting) (t : Tree) (globals : List Name) (compilable : IsCo
 
   -- the return of None at the end
   none_run : (at to n : ℕ) → StandsConst (parts_of ex) t.line at ReturnConst NoneLiteral to → TellsFrom ex at 0 n (λ env. EndsBy (scene_of ex) env Normal)
-  none_run at to n stands now last m ts most same run =
+  none_run at to n stands now last m event ts most same run =
       const_run ex t.line ReturnConst NoneLiteral payload.None (λ k p b v. unwinds (reason_of (ending.Return v)) (running k (suc k) p [] 0 now)) at last to [] 0 now m ts refl (λ i k p. refl) stands run
       (λ none. inl none)
       (λ v k p j less has step. inr (v, has, frame_ends ex (ending.Return v) k (suc k) p 0 [] now j ts step))
 
   -- where the frame has started
-  suite_told : (slot : Option PyBaseExceptionRef) (args : List Obj) (n : ℕ) (ts : List Own) → Told ex n (waiting expect.Go (started setting.code slot args)) ts → RunsSuite (scene_of ex) t.suite (start_env t args) None ts (EndsBy (scene_of ex))
-  suite_told slot args n ts run =
+  suite_told : (slot : Option PyBaseExceptionRef) (args : List Obj) (n event : ℕ) (ts : List Own) → Told ex n (waiting expect.Go (started setting.code slot args)) ts → RunsSuite (scene_of ex) t.suite (start_env t args) None event ts (EndsBy (scene_of ex))
+  suite_told slot args n event ts run =
       let now : Now = record { locals = filled (length setting.code.code.varnames.items) args; slot = slot } in
       let long : length now.locals ≡ length (locals_of t) = length-filled (length setting.code.code.varnames.items) args ∙ laid.locals in
       let env : env_of (locals_of t) now.locals ≡ start_env t args = ap (λ (k : ℕ). env_of (locals_of t) (filled k args)) laid.locals ∙ sym (begun-env_of (locals_of t) args) in
       let (ends, suite, stands) = laid.laid in
-      let told = suite_run ex t.suite 0 ends suite compilable.takes (EndsBy (scene_of ex)) 0 n (closes_ends (scene_of ex)) (none_run ends _ n stands) now 0 n ts (le_refl n) long run in
-      subst (λ (e : Env). RunsSuite (scene_of ex) t.suite e None ts (EndsBy (scene_of ex))) env told
+      let told = suite_run ex t.suite 0 ends suite compilable.takes (EndsBy (scene_of ex)) 0 n (closes_ends (scene_of ex)) (none_run ends _ n stands) now 0 n event ts (le_refl n) long run in
+      subst (λ (e : Env). RunsSuite (scene_of ex) t.suite e None event ts (EndsBy (scene_of ex))) env told
 
   -- a run of the code has told a beginning of what the body tells
   begun_run : (slot : Option PyBaseExceptionRef) (args : List Obj) (n : ℕ) (ts : List Own) → Told ex n (started setting.code slot args) ts → IsBegun (scene_of ex) t args ts
   begun_run slot args zero ts none = subst (IsBegun (scene_of ex) t args) (sym none) tt
   begun_run slot args (suc n) ts (inl stuck) = absurd (step_left ex n Stuck ts stuck)
   begun_run slot args (suc n) ts (inr (x, w, mid, hears, is, run)) =
-      let (starts, goes) = entered objects setting x w (ap is_thrown_into plain.flags) hears in
-      let told = suite_told slot args n mid (subst (λ (y : Expect). Told ex n (waiting y (started setting.code slot args)) mid) goes run) in
+      let (event, starts, goes) = entered objects setting x w (ap is_thrown_into plain.flags) hears in
+      let told = suite_told slot args n event mid (subst (λ (y : Expect). Told ex n (waiting y (started setting.code slot args)) mid) goes run) in
       subst (IsBegun (scene_of ex) t args) (sym (is ∙ ap (λ (y : Own). y ∷ mid) starts)) (tt, told)
 
   -- each run of the rows, whole or cut, is a trace in which each unit asks for a statement of its line

@@ -1,20 +1,20 @@
--- Laid code with the notes of its depths keeps the typing rules.
+-- Laid code with the notes of its depths keeps the typing rules, and uses the instructions of bodies only.
 use Rattle.std.proofs.Common.{◌≡◌, ◌<◌, ◌≤◌, ⊎_elim, ℕ, zero, suc, List, [], ◌∷◌, ◌++◌, true, Some, arith, refl, sym, ap, ◌∙◌, subst, length, length-append}
 use Rattle.std.specs.Prelude.{slice_get}
 use Rattle.std.proofs.lemmas.Bool.{and_from, lt-ltb, le-leb, eq-eqb, cases_lt}
+use Rattle.std.proofs.lemmas.Option.{slice_get_within}
 use Rattle.py_code.proofs.NamesLemmas.{slice_get-append_before, slice_get-append_last}
 use Rattle.py_code.specs.declared.unit.CodeUnit.{CodeUnit}
 use Rattle.py_code.specs.declared.flags.TheConstants.CodeFlags.{HAS_VARARGS, HAS_VARKEYWORDS}
 use Rattle.py_check.specs.declared.annotated.Annotated.{Annotated}
 use Rattle.py_check.specs.declared.note.Note.{Note}
 use Rattle.py_check.specs.Sheet.{Sheet, sheet_of}
-use Rattle.py_check.specs.Rules.{is_start, counts_match, counts_if, parameters, parameters_fit, cells_fit, keeps_whole, IsTyped as IsTypedToday}
+use Rattle.py_check.specs.WholeCode.{is_start, counts_match, counts_if, parameters, parameters_fit, cells_fit, keeps_whole}
 use Rattle.py_check.specs.Typing.{IsTyped}
-use Rattle.py_check.proofs.WideningLemmas.{kept_by_all}
 use Rattle.py_body.specs.Tree.{Name, Tree}
 use Rattle.py_body.specs.Binding.{locals_of}
 use Rattle.py_body.specs.Compilable.{IsCompilable}
-use Rattle.py_body.specs.Code.{Parts, parts_with, IsLaid, IsPlain}
+use Rattle.py_body.specs.Code.{Parts, parts_with, IsLaid, IsPlain, UsesBodyInstructions}
 use Rattle.py_body.specs.Emitting.{IsEmitted}
 use Rattle.py_body.specs.Depths.{any_note, depth_at, notes_of}
 use Rattle.py_body.proofs.Placed.{Continues-bound_by, suite_bound}
@@ -101,9 +101,8 @@ module _ (code : Annotated) (t : Tree) (names : List Name) (compilable : IsCompi
       and_from _ _ (and_from _ _ (and_from _ _ (and_from _ _ (and_from _ _ counts (ap is_start (note_is 0 is_there))) parameters_within) (ap (cells_fit (sheet_of code)) plain.cells.1))
       (le-leb _ _ (omega (arith, plain.max_stackdepth, most-least units (length units) 256 (λ k low. (kept k (omega arith) low).1))))) emitted.matched.2
 
-  -- by the rules of what is answered so far, too
-  pub typed_today : IsTypedToday code
-  typed_today = record { whole = whole; each = λ at low. (kept at (omega arith) low).0 }
-
   pub typed_code : IsTyped code
-  typed_code = kept_by_all code typed_today
+  typed_code = record { whole = whole; each = λ at low. (kept at (omega arith) low).0 }
+
+  pub uses_code : UsesBodyInstructions code.code
+  uses_code = λ at u here. (kept at (omega arith) (slice_get_within units at u here)).2 u here

@@ -15,12 +15,15 @@ use Rattle.py_check.specs.declared.note.BlockNote.TheVariants.{Loop}
 use Rattle.py_check.specs.Notes.{kind_fits, kinds_fit, blocks_fit, note_fits, same_kind, plain_kind}
 use Rattle.py_check.specs.Operands.{is_prefix_there, is_prefixed, prefixes, carried, carried_by, operand}
 use Rattle.py_check.specs.Sheet.{Sheet}
-use Rattle.py_check.specs.Rules.{has_room, levels_nest, lands, goes_on, jumps, bottom, handlers_land, top_level, takes_one, takes_two, takes_many, keeps_op, keeps_both, keeps_at}
+use Rattle.py_check.specs.Landing.{has_room, levels_nest, lands, goes_on, jumps, handlers_land, top_level}
+use Rattle.py_check.specs.Taking.{takes}
+use Rattle.py_check.specs.Typing.{keeps_op, keeps_both, keeps_at}
+use Rattle.py_code.specs.Bottom.{bottom}
 use Rattle.py_body.specs.declared.notes.Depth.{Depth}
-use Rattle.py_body.specs.Code.{Parts, Stands}
+use Rattle.py_body.specs.Code.{Parts, Stands, is_body_instruction}
 use Rattle.py_body.specs.Emitting.{AreSpelled}
 use Rattle.py_body.specs.Depths.{any_note, depth_behind, depth_left, depth_at}
-use Rattle.py_body.proofs.Decoding.{slice_get-drop, prefix_is, decoded_is}
+use Rattle.py_body.proofs.Decoding.{Some-injective, slice_get-drop, prefix_is, decoded_is}
 
 -- ---- notes
 
@@ -62,19 +65,15 @@ handlers_land-loops : (sheet : Sheet) (n : ℕ) (kinds : List Kind) → handlers
 handlers_land-loops sheet zero kinds = refl
 handlers_land-loops sheet (suc n) kinds = and_from _ _ refl (handlers_land-loops sheet n (bottom 0 kinds))
 
-top_level-loops : (n : ℕ) → top_level (replicate n (Loop 0)) ≡ 0
+pub top_level-loops : (n : ℕ) → top_level (replicate n (Loop 0)) ≡ 0
 top_level-loops zero = refl
 top_level-loops (suc n) = refl
 
--- what loops leave of the stack may be taken
-pub takes_one-loops : (n : ℕ) (k : Kind) (kinds : List Kind) (rest : List Kind → Bool) → rest kinds ≡ true → takes_one (k ∷ kinds) (replicate n (Loop 0)) rest ≡ true
-takes_one-loops n k kinds rest holds = and_from _ _ (le-leb _ _ (omega (arith, top_level-loops n))) holds
-
-pub takes_two-loops : (n : ℕ) (k l : Kind) (kinds : List Kind) (rest : List Kind → Bool) → rest kinds ≡ true → takes_two (k ∷ l ∷ kinds) (replicate n (Loop 0)) rest ≡ true
-takes_two-loops n k l kinds rest holds = and_from _ _ (le-leb _ _ (omega (arith, top_level-loops n))) holds
-
-pub takes_many-loops : (n loops : ℕ) (kinds : List Kind) (rest : List Kind → Bool) → n ≤ length kinds → rest (drop n kinds) ≡ true → takes_many n kinds (replicate loops (Loop 0)) rest ≡ true
-takes_many-loops n loops kinds rest there holds = and_from _ _ (and_from _ _ (le-leb _ _ there) (le-leb _ _ (omega (arith, top_level-loops loops)))) holds
+-- entries that are there may be taken, whatever they are
+pub takes-any : (n loops : ℕ) (kinds : List Kind) (rest : List Kind → Bool) → n ≤ length kinds → rest (drop n kinds) ≡ true → takes (replicate n Any) kinds (replicate loops (Loop 0)) rest ≡ true
+takes-any zero loops kinds rest there holds = and_from _ _ (le-leb _ _ (omega (arith, top_level-loops loops))) holds
+takes-any (suc n) loops [] rest there holds = absurd (omega (arith, there))
+takes-any (suc n) loops (k ∷ kinds) rest there holds = and_from _ _ (kind_fits-Any k) (takes-any n loops kinds rest (omega (arith, there)) holds)
 
 -- ---- places
 
@@ -101,9 +100,13 @@ module _ (sheet : Sheet) (parts : Parts) (noted : IsNoted sheet parts) where
   abbrev units : List CodeUnit
   units = parts.units
 
-  -- a unit keeps the rules, and at most 256 values lie in front of it
+  -- the unit at a place is of an instruction that bodies are compiled to
+  abbrev pub IsUsed : ℕ → Type 0
+  IsUsed k = (u : CodeUnit) → slice_get units k ≡ Some u → is_body_instruction u.op ≡ true
+
+  -- it is, keeps the rules, and at most 256 values lie in front of it
   abbrev Keeps_at : ℕ → Type 0
-  Keeps_at k = (keeps_at sheet k ≡ true) × ((depth_at units k).values ≤ 256)
+  Keeps_at k = (keeps_at sheet k ≡ true) × ((depth_at units k).values ≤ 256) × IsUsed k
 
   -- so do the units from one place up to another
   abbrev pub Kept : ℕ → ℕ → Type 0
@@ -118,17 +121,20 @@ module _ (sheet : Sheet) (parts : Parts) (noted : IsNoted sheet parts) where
     pub plain : is_prefixed units at ≡ false
 
   -- a unit that keeps the rules with its note
-  kept_at : (at : ℕ) (d : Depth) (u : CodeUnit) → at < length units → slice_get units at ≡ Some u → depth_at units at ≡ d → d.values ≤ 256
+  kept_at : (at : ℕ) (d : Depth) (u : CodeUnit) → at < length units → slice_get units at ≡ Some u → depth_at units at ≡ d → d.values ≤ 256 → is_body_instruction u.op ≡ true
       → keeps_op sheet at u.op (operand units at u) (kinds_at d) (blocks_at d) ≡ true → Keeps_at at
-  kept_at at d u low here is few keeps =
+  kept_at at d u low here is few used keeps =
       let same : (depth_at units at).values ≡ d.values = ap (λ (e : Depth). e.values) is in
       let note : slice_get sheet.notes at ≡ Some (any_note d) = noted.notes at low ∙ ap (λ (e : Depth). Some (any_note e)) is in
       let unit : slice_get sheet.units at ≡ Some u = ap (λ (us : List CodeUnit). slice_get us at) noted.units ∙ here in
       let room : has_room sheet (kinds_at d) ≡ true = le-leb _ _ (omega (arith, length-replicate d.values Any, noted.depth at low, same)) in
       let nest : levels_nest (length (kinds_at d)) (blocks_at d) ≡ true = levels_nest-loops d.loops _ in
       let op : keeps_op sheet at u.op (operand sheet.units at u) (kinds_at d) (blocks_at d) ≡ true =
-      ap (λ (us : List CodeUnit). keeps_op sheet at u.op (operand us at u) (kinds_at d) (blocks_at d)) noted.units ∙ keeps in
-      ((λ k. keeps_both sheet at (unit k) (note k)) ∙ and_from _ _ (and_from _ _ (and_from _ _ room nest) (handlers_land-loops sheet d.loops (kinds_at d))) op, omega (arith, same, few))
+      ap (λ (us : List CodeUnit). keeps_op sheet at u.op (operand us at u) (kinds_at d) (blocks_at d)) noted.units ∙ keeps in (
+        (λ k. keeps_both sheet at (unit k) (note k)) ∙ and_from _ _ (and_from _ _ (and_from _ _ room nest) (handlers_land-loops sheet d.loops (kinds_at d))) op,
+        omega (arith, same, few),
+        λ other there. ap (λ (v : CodeUnit). is_body_instruction v.op) (Some-injective other u (sym there ∙ here)) ∙ used,
+      )
 
   -- control comes to a unit in front of which as much lies
   lands_at : (to : ℕ) (kinds : List Kind) (d : Depth) → to < length units → depth_at units to ≡ d → length kinds ≡ d.values → lands sheet to kinds (blocks_at d) ≡ true
@@ -234,10 +240,10 @@ module _ (sheet : Sheet) (parts : Parts) (noted : IsNoted sheet parts) where
 
   -- an instruction keeps the rules with its prefixes
   decoded_kept : (left : List CodeUnit) (at state arg next : ℕ) (d : Depth) (op : Instruction) → drop at units ≡ left → carried units at ≡ state → depth_at units at ≡ d → d.values ≤ 256
-      → decoded_from state at left ≡ Some (record { op = op; arg = record { 0 = arg }; next = next }) → Asks op arg next d → Kept at next
-  decoded_kept [] at state arg next d op here built is few spelled asks = absurd (cc)
-  decoded_kept (u ∷ us) at state arg next d op here built is few spelled asks =
-      by (is_prefix u.op) refl spelled (λ built_more deeper s. decoded_kept us (suc at) (with_byte state u.arg) arg next d op first.1 built_more deeper few s asks)
+      → decoded_from state at left ≡ Some (record { op = op; arg = record { 0 = arg }; next = next }) → is_body_instruction op ≡ true → Asks op arg next d → Kept at next
+  decoded_kept [] at state arg next d op here built is few spelled used asks = absurd (cc)
+  decoded_kept (u ∷ us) at state arg next d op here built is few spelled used asks =
+      by (is_prefix u.op) refl spelled (λ built_more deeper s. decoded_kept us (suc at) (with_byte state u.arg) arg next d op first.1 built_more deeper few s used asks)
     where
       first : (slice_get units at ≡ Some u) × (drop (suc at) units ≡ us)
       first = slice_get-drop units at u us here
@@ -263,16 +269,16 @@ module _ (sheet : Sheet) (parts : Parts) (noted : IsNoted sheet parts) where
           ∙ prefix_keeps at (operand units at u) d u first.0 is_op is (omega (arith, bounds.0, bounds.1)) in
           let more = later (carried_suc at state u first.0 built ∙ ap (λ (c : Bool). cond c (with_byte state u.arg) 0) prefixed)
           (depth_suc at d u first.0 is ∙ ap (λ (o : Instruction). depth_behind o (operand units at u) d) is_op) rest in
-          Kept-joined at (suc at) next (one_kept at (kept_at at d u low first.0 is few keeps)) more
+          Kept-joined at (suc at) next (one_kept at (kept_at at d u low first.0 is few (ap is_body_instruction is_op) keeps)) more
       by false plain s later =
           let (is_op, is_arg, is_next) = decoded_is _ _ s in
           let keeps : keeps_op sheet at u.op (operand units at u) (kinds_at d) (blocks_at d) ≡ true =
           (λ k. keeps_op sheet at (is_op k) ((built_here ∙ is_arg) k) (kinds_at d) (blocks_at d)) ∙ asks at is_next in
-          subst (Kept at) (sym (add-one at) ∙ is_next) (one_kept at (kept_at at d u low first.0 is few keeps))
+          subst (Kept at) (sym (add-one at) ∙ is_next) (one_kept at (kept_at at d u low first.0 is few (ap is_body_instruction is_op ∙ used) keeps))
 
-  pub stands_kept : (line at arg next : ℕ) (d : Depth) (op : Instruction) → Stands parts line at op arg next → Enters at d → d.values ≤ 256 → Asks op arg next d → Kept at next
-  stands_kept line at arg next d op stands enters few asks =
-      decoded_kept (drop at units) at 0 arg next d op refl (carried_plain units at enters.plain) enters.depth_is few stands.0 asks
+  pub stands_kept : (line at arg next : ℕ) (d : Depth) (op : Instruction) → Stands parts line at op arg next → Enters at d → d.values ≤ 256 → is_body_instruction op ≡ true → Asks op arg next d → Kept at next
+  stands_kept line at arg next d op stands enters few used asks =
+      decoded_kept (drop at units) at 0 arg next d op refl (carried_plain units at enters.plain) enters.depth_is few stands.0 used asks
 
   -- control goes on behind a unit
   pub goes_behind : (k next : ℕ) (kinds : List Kind) (d : Depth) → k + 1 ≡ next → next < length units → Enters next d → length kinds ≡ d.values → goes_on sheet (k + 1) kinds (blocks_at d) ≡ true

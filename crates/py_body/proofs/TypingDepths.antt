@@ -47,7 +47,7 @@ module _ (sheet : Sheet) (parts : Parts) (noted : IsNoted sheet parts) where
   atom_ends (atom.Str s) line at next values loops (i, stands, is) enters = step line at i next values loops LoadConst stands enters
   atom_ends (atom.Name x) line at next values loops laid enters = name_ends (list_any (bytes_eq x) parts.vars) x line at next values loops laid enters
 
-  pub call_ends : (count line at next loops : ℕ) → LaidCall parts line at count next → Enters_at at count loops → Ends at next (deep 1 loops)
+  call_ends : (count line at next loops : ℕ) → LaidCall parts line at count next → Enters_at at count loops → Ends at next (deep 1 loops)
   call_ends zero line at next loops laid enters = absurd laid
   call_ends (suc k) line at next loops laid enters =
       let left : suc k - k ≡ 1 = omega arith in

@@ -3,7 +3,7 @@ use Rattle.std.proofs.Common.{◌≡◌, ◌<◌, ◌≤◌, ◌+◌, ℕ, zero,
 use Rattle.std.specs.Prelude.{Option, slice_get, nat_lt, bytes_eq}
 use Rattle.std.specs.List.{list_any}
 use Rattle.std.proofs.Math.ListN.{length-replicate}
-use Rattle.std.proofs.lemmas.Bool.{and_from, lt-ltb}
+use Rattle.std.proofs.lemmas.Bool.{and_from, lt-ltb, le-leb}
 use Rattle.std.proofs.lemmas.List.{length-drop}
 use Rattle.std.proofs.lemmas.Option.{slice_get_within}
 use Rattle.py_code.specs.declared.instruction.Instruction.{Instruction}
@@ -12,9 +12,13 @@ use Rattle.py_code.specs.declared.literal.Literal.{Literal, None as NoneLiteral,
 use Rattle.py_code.specs.declared.unit.CodeUnit.{CodeUnit}
 use Rattle.py_check.specs.declared.note.Kind.{Kind}
 use Rattle.py_check.specs.declared.note.Kind.TheVariants.{Any}
-use Rattle.py_check.specs.Constants.{is_loaded, kind_of}
+use Rattle.py_check.specs.declared.note.BlockNote.{BlockNote}
+use Rattle.py_check.specs.Constants.{is_loaded, kind_of, loads}
 use Rattle.py_check.specs.Sheet.{Sheet}
-use Rattle.py_check.specs.Rules.{goes_on, jumps, loads, takes_one, takes_two, keeps_op}
+use Rattle.py_check.specs.Landing.{goes_on, jumps, top_level}
+use Rattle.py_check.specs.Effects.{Effect, gives, effect, has_operand}
+use Rattle.py_check.specs.Taking.{takes_top, may_move}
+use Rattle.py_check.specs.Typing.{keeps_own, keeps_by}
 use Rattle.py_body.specs.declared.atom.Atom.{Atom}
 use Rattle.py_body.specs.declared.atom.Atom.TheVariants as atom
 use Rattle.py_body.specs.declared.atom.Operator.{Operator}
@@ -22,12 +26,12 @@ use Rattle.py_body.specs.declared.atom.Operator.TheVariants as operator
 use Rattle.py_body.specs.Tree.{Name, Form, assign, operate, show, give, pass, branch, choice, loop, Suite, nothing, first}
 use Rattle.py_body.specs.Binding.{takes_count}
 use Rattle.py_body.specs.Compilable.{FormTakes, SuiteTakes}
-use Rattle.py_body.specs.Code.{Parts, place, Stands, StandsConst, LaidName, LaidAtom, LaidAtoms, LaidTarget, LaidCall, LaidOperator, LaidForm, LaidSuite, LaidBody}
+use Rattle.py_body.specs.Code.{Parts, is_body_instruction, place, Stands, StandsConst, LaidName, LaidAtom, LaidAtoms, LaidTarget, LaidOperator, LaidForm, LaidSuite, LaidBody}
 use Rattle.py_body.specs.Depths.{depth_behind}
 use Rattle.py_body.proofs.Placed.{placed_any, TargetPlaced, FormPlaced, SuitePlaced}
 use Rattle.py_body.proofs.Takes.{is_two, takes_few}
-use Rattle.py_body.proofs.Typing.{deep, kinds_at, blocks_at, takes_one-loops, takes_two-loops, takes_many-loops, IsNoted, Kept, Kept-joined, Enters, jumps_to, stands_bounds, stands_kept, Asks, goes_behind}
-use Rattle.py_body.proofs.TypingDepths.{Enters_at, step, atom_ends, atoms_end, call_ends, operator_ends, target_ends, popped_ends, form_ends, suite_ends}
+use Rattle.py_body.proofs.Typing.{deep, kinds_at, blocks_at, top_level-loops, takes-any, IsNoted, Kept, Kept-joined, Enters, jumps_to, stands_bounds, stands_kept, Asks, goes_behind}
+use Rattle.py_body.proofs.TypingDepths.{Enters_at, step, atom_ends, atoms_end, operator_ends, target_ends, popped_ends, form_ends, suite_ends}
 
 module _ (sheet : Sheet) (parts : Parts) (noted : IsNoted sheet parts) where
   abbrev units : List CodeUnit
@@ -46,10 +50,10 @@ module _ (sheet : Sheet) (parts : Parts) (noted : IsNoted sheet parts) where
   -- ---- one instruction, by what it leaves
 
   -- what lies behind is known to what the instruction asks
-  op_kept : (line at arg next values loops : ℕ) (op : Instruction) → Stands parts line at op arg next → In at values loops → values ≤ 256
+  op_kept : (line at arg next values loops : ℕ) (op : Instruction) → is_body_instruction op ≡ true → Stands parts line at op arg next → In at values loops → values ≤ 256
       → (Enters sheet parts noted next (depth_behind op arg (deep values loops)) → Asks sheet parts noted op arg next (deep values loops)) → Keeps at next
-  op_kept line at arg next values loops op stands enters few asks =
-      stands_kept sheet parts noted line at arg next (deep values loops) op stands enters few (asks (step sheet parts noted line at arg next values loops op stands enters).enters)
+  op_kept line at arg next values loops op used stands enters few asks =
+      stands_kept sheet parts noted line at arg next (deep values loops) op stands enters few used (asks (step sheet parts noted line at arg next values loops op stands enters).enters)
 
   -- control goes on behind it
   on : (k next values loops : ℕ) (kinds : List Kind) → k + 1 ≡ next → next < length units → In next values loops → length kinds ≡ values → goes_on sheet (k + 1) kinds (blocks_at (deep values loops)) ≡ true
@@ -66,7 +70,7 @@ module _ (sheet : Sheet) (parts : Parts) (noted : IsNoted sheet parts) where
   const_kept : (line at next values loops : ℕ) (literal : Literal) → is_loaded literal ≡ true → StandsConst parts line at LoadConst literal next → In at values loops → values ≤ 256 → next < length units → Keeps at next
   const_kept line at next values loops literal loaded (i, stands, is) enters few low =
       let constant : slice_get sheet.constants i ≡ Some literal = ap (λ (l : List Literal). slice_get l i) noted.constants ∙ is in
-      op_kept line at i next values loops LoadConst stands enters few
+      op_kept line at i next values loops LoadConst refl stands enters few
       (λ behind k is_next. ap (λ (o : Option Literal). loads o (λ kind. goes_on sheet (k + 1) (kind ∷ kinds_at (deep values loops)) (blocks_at (deep values loops)))) constant
       ∙ and_from _ _ loaded (on_loaded k next values loops (kind_of literal) is_next low behind))
 
@@ -75,12 +79,13 @@ module _ (sheet : Sheet) (parts : Parts) (noted : IsNoted sheet parts) where
 
   name_kept : (local : Bool) (x : Name) (line at next values loops : ℕ) → list_any (bytes_eq x) parts.vars ≡ local → LaidName local parts line x at next → In at values loops → values ≤ 256 → next < length units → Keeps at next
   name_kept true x line at next values loops known stands enters few low =
-      op_kept line at (place parts.vars x) next values loops LoadFast stands enters few
+      op_kept line at (place parts.vars x) next values loops LoadFast refl stands enters few
       (λ behind k is_next. and_from _ _ (has_local (place parts.vars x) (placed_any parts.vars x known)) (on_loaded k next values loops Any is_next low behind))
   name_kept false x line at next values loops known (i, stands, is) enters few low =
       let below : nat_lt i sheet.names ≡ true = lt-ltb _ _ (omega (arith, slice_get_within parts.names i x is, noted.names)) in
-      op_kept line at i next values loops LoadGlobal stands enters few
-      (λ behind k is_next. and_from _ _ below (on_loaded k next values loops Any is_next low behind))
+      op_kept line at i next values loops LoadGlobal refl stands enters few
+      (λ behind k is_next. and_from _ _ below (takes-any 0 loops (kinds_at (deep values loops)) (λ rest. goes_on sheet (k + 1) (Any ∷ rest) (blocks_at (deep values loops)))
+      (omega arith) (on_loaded k next values loops Any is_next low behind)))
 
   atom_kept : (a : Atom) (line at next values loops : ℕ) → LaidAtom parts line a at next → In at values loops → values ≤ 256 → next < length units → Keeps at next
   atom_kept atom.None line at next values loops laid enters few low = const_kept line at next values loops NoneLiteral refl laid enters few low
@@ -100,63 +105,61 @@ module _ (sheet : Sheet) (parts : Parts) (noted : IsNoted sheet parts) where
 
   -- ---- what is done with values
 
-  -- two values are one
-  two_kept : (line at arg next loops : ℕ) (op : Instruction) → Stands parts line at op arg next → In at 2 loops → next < length units → In next 1 loops
-      → ((k : ℕ) → takes_two (Any ∷ Any ∷ []) (blocks_at (deep 2 loops)) (λ rest. goes_on sheet (k + 1) (Any ∷ rest) (blocks_at (deep 2 loops))) ≡ true → keeps_op sheet k op arg (Any ∷ Any ∷ []) (blocks_at (deep 2 loops)) ≡ true) → Keeps at next
-  two_kept line at arg next loops op stands enters low behind keeps =
-      op_kept line at arg next 2 loops op stands enters (omega arith)
-      (λ more k is_next. keeps k (takes_two-loops loops Any Any [] (λ rest. goes_on sheet (k + 1) (Any ∷ rest) (blocks_at (deep 2 loops))) (on k next 1 loops (Any ∷ []) is_next low behind refl)))
+  -- so many values are taken, and the answer is pushed
+  answer_kept : (line at arg next count loops : ℕ) (op : Instruction) → is_body_instruction op ≡ true → effect op arg ≡ gives count → has_operand sheet op arg ≡ true → count ≤ 256
+      → Stands parts line at op arg next → In at count loops → next < length units → In next 1 loops → Keeps at next
+  answer_kept line at arg next count loops op used is there few stands enters low behind =
+      let kinds : List Kind = kinds_at (deep count loops) in
+      let blocks : List BlockNote = blocks_at (deep count loops) in
+      let many : length kinds ≡ count = length-replicate count Any in
+      let left : length (Any ∷ drop count kinds) ≡ 1 = omega (arith, many, length-drop count kinds) in
+      op_kept line at arg next count loops op used stands enters few
+      (λ more k is_next. ap (λ (e : Effect). keeps_by sheet k e (has_operand sheet op arg) (keeps_own sheet k op arg kinds blocks) kinds blocks) is
+      ∙ and_from _ _ there (takes-any count loops kinds (λ rest. goes_on sheet (k + 1) (Any ∷ rest) blocks) (omega (arith, many)) (on k next 1 loops (Any ∷ drop count kinds) is_next low behind left)))
 
-  -- a callee and its arguments are one
-  call_kept : (count line at next loops : ℕ) → count ≤ 256 → LaidCall parts line at count next → In at count loops → next < length units → Keeps at next
-  call_kept zero line at next loops few laid enters low = absurd laid
-  call_kept (suc k) line at next loops few laid enters low =
-      let kinds : List Kind = kinds_at (deep (suc k) loops) in
-      let many : length kinds ≡ suc k = length-replicate (suc k) Any in
-      let left : length (Any ∷ drop (suc k) kinds) ≡ 1 = omega (arith, many, length-drop (suc k) kinds) in
-      let behind = call_ends sheet parts noted (suc k) line at next loops laid enters in
-      op_kept line at k next (suc k) loops CallFunctionPositional laid enters few
-      (λ more j is_next. takes_many-loops (suc k) loops kinds (λ rest. goes_on sheet (j + 1) (Any ∷ rest) (blocks_at (deep (suc k) loops))) (omega (arith, many)) (on j next 1 loops (Any ∷ drop (suc k) kinds) is_next low behind.enters left))
-
-  operator_kept : (op : Operator) (count : ℕ) → takes_count op count ≡ true → (line at next loops : ℕ) → LaidOperator parts line at op count next → In at count loops → next < length units → Keeps at next
-  operator_kept operator.Add count takes line at next loops stands enters low =
-      two_kept line at _ next loops BinaryOperation stands (subst (λ (n : ℕ). In at n loops) (is_two count takes) enters) low (operator_ends sheet parts noted operator.Add count takes line at next loops stands enters).enters (λ k two. and_from _ _ refl two)
-  operator_kept operator.Sub count takes line at next loops stands enters low =
-      two_kept line at _ next loops BinaryOperation stands (subst (λ (n : ℕ). In at n loops) (is_two count takes) enters) low (operator_ends sheet parts noted operator.Sub count takes line at next loops stands enters).enters (λ k two. and_from _ _ refl two)
-  operator_kept operator.Lt count takes line at next loops stands enters low =
-      two_kept line at _ next loops CompareOperation stands (subst (λ (n : ℕ). In at n loops) (is_two count takes) enters) low (operator_ends sheet parts noted operator.Lt count takes line at next loops stands enters).enters (λ k two. and_from _ _ refl two)
-  operator_kept operator.Eq count takes line at next loops stands enters low =
-      two_kept line at _ next loops CompareOperation stands (subst (λ (n : ℕ). In at n loops) (is_two count takes) enters) low (operator_ends sheet parts noted operator.Eq count takes line at next loops stands enters).enters (λ k two. and_from _ _ refl two)
-  operator_kept operator.Call count takes line at next loops laid enters low = call_kept count line at next loops (takes_few operator.Call count takes) laid enters low
+  operator_kept : (op : Operator) (count : ℕ) → takes_count op count ≡ true → (line at next loops : ℕ) → LaidOperator parts line at op count next → In at count loops → next < length units → In next 1 loops → Keeps at next
+  operator_kept operator.Add count takes line at next loops stands enters low behind =
+      answer_kept line at _ next 2 loops BinaryOperation refl refl refl (omega arith) stands (subst (λ (n : ℕ). In at n loops) (is_two count takes) enters) low behind
+  operator_kept operator.Sub count takes line at next loops stands enters low behind =
+      answer_kept line at _ next 2 loops BinaryOperation refl refl refl (omega arith) stands (subst (λ (n : ℕ). In at n loops) (is_two count takes) enters) low behind
+  operator_kept operator.Lt count takes line at next loops stands enters low behind =
+      answer_kept line at _ next 2 loops CompareOperation refl refl refl (omega arith) stands (subst (λ (n : ℕ). In at n loops) (is_two count takes) enters) low behind
+  operator_kept operator.Eq count takes line at next loops stands enters low behind =
+      answer_kept line at _ next 2 loops CompareOperation refl refl refl (omega arith) stands (subst (λ (n : ℕ). In at n loops) (is_two count takes) enters) low behind
+  operator_kept operator.Call zero takes line at next loops laid enters low behind = absurd laid
+  operator_kept operator.Call (suc k) takes line at next loops stands enters low behind =
+      answer_kept line at k next (suc k) loops CallFunctionPositional refl refl refl (takes_few operator.Call (suc k) takes) stands enters low behind
 
   -- one value is taken, and control goes on
-  taken : (k next loops : ℕ) → k + 1 ≡ next → next < length units → In next 0 loops → takes_one (Any ∷ []) (blocks_at (deep 1 loops)) (λ rest. goes_on sheet (k + 1) rest (blocks_at (deep 1 loops))) ≡ true
-  taken k next loops is_next low enters = takes_one-loops loops Any [] (λ rest. goes_on sheet (k + 1) rest (blocks_at (deep 1 loops))) (on k next 0 loops [] is_next low enters refl)
+  taken : (k next loops : ℕ) → k + 1 ≡ next → next < length units → In next 0 loops → takes_top (Any ∷ []) (blocks_at (deep 1 loops)) (λ rest. goes_on sheet (k + 1) rest (blocks_at (deep 1 loops))) ≡ true
+  taken k next loops is_next low enters = takes-any 1 loops (Any ∷ []) (λ rest. goes_on sheet (k + 1) rest (blocks_at (deep 1 loops))) (omega arith) (on k next 0 loops [] is_next low enters refl)
 
   target_kept : (target : Option Name) (line at next loops : ℕ) → LaidTarget parts line at target next → TargetPlaced parts.vars target → In at 1 loops → next < length units → Keeps at next
-  target_kept None line at next loops stands placed enters low = op_kept line at 0 next 1 loops Pop stands enters (omega arith) (λ behind k is_next. taken k next loops is_next low behind)
+  target_kept None line at next loops stands placed enters low =
+      let free : may_move 1 [] 1 (top_level (blocks_at (deep 1 loops))) ≡ true = and_from _ _ (and_from _ _ refl (le-leb _ _ (omega (arith, top_level-loops loops)))) refl in
+      op_kept line at 0 next 1 loops Pop refl stands enters (omega arith) (λ behind k is_next. and_from _ _ free (on k next 0 loops [] is_next low behind refl))
   target_kept (Some x) line at next loops stands placed enters low =
-      op_kept line at (place parts.vars x) next 1 loops StoreFast stands enters (omega arith) (λ behind k is_next. and_from _ _ (has_local (place parts.vars x) placed) (taken k next loops is_next low behind))
+      op_kept line at (place parts.vars x) next 1 loops StoreFast refl stands enters (omega arith) (λ behind k is_next. and_from _ _ (has_local (place parts.vars x) placed) (taken k next loops is_next low behind))
 
   -- an atom is tested: control goes on, or to a label
   test_kept : (line at to next loops : ℕ) → Stands parts line at JumpIfFalse to next → In at 1 loops → to < length units → In to 0 loops → next < length units → Keeps at next
   test_kept line at to next loops stands enters low_to enters_to low =
-      op_kept line at to next 1 loops JumpIfFalse stands enters (omega arith)
-      (λ behind k is_next. takes_one-loops loops Any [] (λ rest. jumps sheet to rest (blocks_at (deep 1 loops)) && goes_on sheet (k + 1) rest (blocks_at (deep 1 loops)))
+      op_kept line at to next 1 loops JumpIfFalse refl stands enters (omega arith)
+      (λ behind k is_next. takes-any 1 loops (Any ∷ []) (λ rest. jumps sheet to rest (blocks_at (deep 1 loops)) && goes_on sheet (k + 1) rest (blocks_at (deep 1 loops))) (omega arith)
       (and_from _ _ (jumps_to sheet parts noted to [] (deep 0 loops) low_to enters_to refl) (on k next 0 loops [] is_next low behind refl)))
 
   jump_kept : (line at to next loops : ℕ) → Stands parts line at Jump to next → In at 0 loops → to < length units → In to 0 loops → Keeps at next
   jump_kept line at to next loops stands enters low_to enters_to =
-      op_kept line at to next 0 loops Jump stands enters (omega arith) (λ behind k is_next. jumps_to sheet parts noted to [] (deep 0 loops) low_to enters_to refl)
+      op_kept line at to next 0 loops Jump refl stands enters (omega arith) (λ behind k is_next. jumps_to sheet parts noted to [] (deep 0 loops) low_to enters_to refl)
 
   setup_kept : (line at next loops : ℕ) → Stands parts line at SetupLoop 0 next → In at 0 loops → next < length units → Keeps at next
   setup_kept line at next loops stands enters low =
-      op_kept line at 0 next 0 loops SetupLoop stands enters (omega arith) (λ behind k is_next. on k next 0 (suc loops) [] is_next low behind refl)
+      op_kept line at 0 next 0 loops SetupLoop refl stands enters (omega arith) (λ behind k is_next. on k next 0 (suc loops) [] is_next low behind refl)
 
   popped_kept : (line at next loops : ℕ) → Stands parts line at PopBlock 0 next → In at 0 (suc loops) → next < length units → Keeps at next
   popped_kept line at next loops stands enters low =
       let behind = popped_ends sheet parts noted line at next loops stands enters in
-      op_kept line at 0 next 0 (suc loops) PopBlock stands enters (omega arith) (λ more k is_next. and_from _ _ refl (on k next 0 loops [] is_next low behind.enters refl))
+      op_kept line at 0 next 0 (suc loops) PopBlock refl stands enters (omega arith) (λ more k is_next. and_from _ _ refl (on k next 0 loops [] is_next low behind.enters refl))
 
   -- ---- statements
 
@@ -169,7 +172,7 @@ module _ (sheet : Sheet) (parts : Parts) (noted : IsNoted sheet parts) where
       let low_stores : stores < length units = omega (arith, stored.bounds, low) in
       let low_asks : asks < length units = omega (arith, asked.bounds, low_stores) in
       then_kept at asks next (atoms_kept atoms line at asks 0 (length atoms) loops (omega arith) (takes_few op (length atoms) takes) loads_all enters low_asks)
-      (then_kept asks stores next (operator_kept op (length atoms) takes line asks stores loops ask load.enters low_stores) (target_kept x line stores next loops store placed asked.enters low))
+      (then_kept asks stores next (operator_kept op (length atoms) takes line asks stores loops ask load.enters low_stores asked.enters) (target_kept x line stores next loops store placed asked.enters low))
 
   -- the load of an atom, and what is done with it
   loaded_kept : (a : Atom) (line at mid next loops : ℕ) → LaidAtom parts line a at mid → In at 0 loops → mid < length units → (In mid 1 loops → Keeps mid next) → Keeps at next
@@ -186,10 +189,10 @@ module _ (sheet : Sheet) (parts : Parts) (noted : IsNoted sheet parts) where
     form_kept (operate x op atoms) line at next loops laid takes placed enters low = operate_kept x op atoms line at next loops laid takes placed enters low
     form_kept (show a) line at next loops (asks, laid, stands) takes placed enters low =
         loaded_kept a line at asks next loops laid enters (ahead line asks 0 next PrintExpr stands)
-        (λ loaded. op_kept line asks 0 next 1 loops PrintExpr stands loaded (omega arith) (λ behind k is_next. taken k next loops is_next low behind))
+        (λ loaded. op_kept line asks 0 next 1 loops PrintExpr refl stands loaded (omega arith) (λ behind k is_next. taken k next loops is_next low behind))
     form_kept (give a) line at next loops (ends, laid, stands) takes placed enters low =
         loaded_kept a line at ends next loops laid enters (ahead line ends 0 next ReturnValue stands)
-        (λ loaded. op_kept line ends 0 next 1 loops ReturnValue stands loaded (omega arith) (λ behind k is_next. takes_one-loops loops Any [] (λ rest. true) refl))
+        (λ loaded. op_kept line ends 0 next 1 loops ReturnValue refl stands loaded (omega arith) (λ behind k is_next. takes-any 1 loops (Any ∷ []) (λ rest. true) (omega arith) refl))
     form_kept pass line at next loops is_at takes placed enters low = λ k above below. absurd (omega (arith, above, below, is_at))
     form_kept (branch a s) line at next loops (asks, inside, laid, test, suite) takes placed enters low =
         loaded_kept a line at asks next loops laid enters (ahead line asks next inside JumpIfFalse test) (λ loaded.
@@ -242,4 +245,4 @@ module _ (sheet : Sheet) (parts : Parts) (noted : IsNoted sheet parts) where
       let behind = suite_ends sheet parts noted s 0 ends 0 suite takes start in
       let constant : slice_get sheet.constants i ≡ Some NoneLiteral = ap (λ (l : List Literal). slice_get l i) noted.constants ∙ is in
       then_kept 0 ends end (suite_kept s 0 ends 0 suite takes placed start (ahead header ends i end ReturnConst stands))
-      (op_kept header ends i end 0 0 ReturnConst stands behind.enters (omega arith) (λ more k is_next. ap (λ (o : Option Literal). loads o (λ kind. true)) constant))
+      (op_kept header ends i end 0 0 ReturnConst refl stands behind.enters (omega arith) (λ more k is_next. ap (λ (o : Option Literal). loads o (λ kind. true)) constant))

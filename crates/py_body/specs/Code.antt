@@ -3,7 +3,7 @@ use Rattle.std.specs.Prelude.{ℕ, zero, suc, ◌<◌, ◌≤◌, ◌^◌, Bool,
 use Rattle.std.specs.List.{list_any}
 use Rattle.py_code.specs.declared.unit.CodeUnit.{CodeUnit}
 use Rattle.py_code.specs.declared.instruction.Instruction.{Instruction}
-use Rattle.py_code.specs.declared.instruction.Instruction.TheVariants.{LoadConst, LoadFast, StoreFast, LoadGlobal, Pop, BinaryOperation, CompareOperation, PrintExpr, Jump, JumpIfFalse, SetupLoop, PopBlock, ReturnValue, ReturnConst, CallFunctionPositional}
+use Rattle.py_code.specs.declared.instruction.Instruction.TheVariants.{LoadConst, LoadFast, StoreFast, LoadGlobal, Pop, BinaryOperation, CompareOperation, PrintExpr, Jump, JumpIfFalse, SetupLoop, PopBlock, ReturnValue, ReturnConst, CallFunctionPositional, ExtendedArg}
 use Rattle.py_code.specs.declared.literal.Literal.{Literal, None as NoneLiteral, Bool as BoolLiteral, Int as IntLiteral, Str as StrLiteral}
 use Rattle.py_code.specs.declared.operator.BinaryOperator.TheVariants as binary
 use Rattle.py_code.specs.declared.operator.ComparisonOperator.TheVariants as comparison
@@ -144,3 +144,27 @@ pub record IsPlain (code : PyCode) (t : Tree) : Type 0 where
   pub posonlyarg_count : code.code.posonlyarg_count ≡ 0
   pub kwonlyarg_count : code.code.kwonlyarg_count ≡ 0
   pub cells : (code.code.cellvars.items ≡ []) × (code.code.cell2arg.items ≡ []) × (code.code.freevars.items ≡ [])
+
+-- the instructions that bodies are compiled to
+abbrev pub is_body_instruction : Instruction → Bool
+is_body_instruction LoadConst = true
+is_body_instruction LoadFast = true
+is_body_instruction StoreFast = true
+is_body_instruction LoadGlobal = true
+is_body_instruction Pop = true
+is_body_instruction BinaryOperation = true
+is_body_instruction CompareOperation = true
+is_body_instruction CallFunctionPositional = true
+is_body_instruction PrintExpr = true
+is_body_instruction Jump = true
+is_body_instruction JumpIfFalse = true
+is_body_instruction SetupLoop = true
+is_body_instruction PopBlock = true
+is_body_instruction ReturnValue = true
+is_body_instruction ReturnConst = true
+is_body_instruction ExtendedArg = true
+is_body_instruction _ = false
+
+-- each unit of a code is of such an instruction
+abbrev pub UsesBodyInstructions : PyCode → Type 0
+UsesBodyInstructions code = (at : ℕ) (u : CodeUnit) → slice_get code.code.instructions.items at ≡ Some u → is_body_instruction u.op ≡ true

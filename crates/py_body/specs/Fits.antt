@@ -8,7 +8,7 @@ use Rattle.py_objects.specs.Own.{Own, Makes}
 use Rattle.py_check.specs.declared.annotated.Annotated.{Annotated}
 use Rattle.py_rows.specs.States.{State}
 use Rattle.py_rows.specs.RunOfRows.{Runs, started}
-use Rattle.py_rows.specs.Fitting.{IsSound}
+use Rattle.py_rows.specs.Sound.{IsSound}
 use Rattle.py_rows.specs.Signature.{params_of}
 use Rattle.py_body.specs.Tree.{Tree}
 use Rattle.py_body.specs.Scene.{Scene}

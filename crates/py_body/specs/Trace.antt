@@ -17,13 +17,13 @@ abbrev pub Ended : Ending → List Own → Type 0
 Ended e ts = (ts ≡ []) ⊎ ((at : ℕ) × (ts ≡ Ends at e ∷ []))
 
 -- how an outcome of a body ends its trace: a body that comes to its end returns None
-abbrev pub EndsBy : Scene → Env → Outcome → List Own → Type 0
-EndsBy scene env Normal ts = (ts ≡ []) ⊎ ((v : Obj) × HasPayload scene.objects v payload.None × Ended (ending.Return v) ts)
-EndsBy scene env Breaks ts = ⊥
-EndsBy scene env Continues ts = ⊥
-EndsBy scene env (Returns v) ts = Ended (ending.Return v) ts
-EndsBy scene env (Raises e) ts = Ended (ending.Raise e) ts
-EndsBy scene env Cut ts = ts ≡ []
+abbrev pub EndsBy : Scene → Env → Outcome → ℕ → List Own → Type 0
+EndsBy scene env Normal k ts = (ts ≡ []) ⊎ ((v : Obj) × HasPayload scene.objects v payload.None × Ended (ending.Return v) ts)
+EndsBy scene env Breaks k ts = ⊥
+EndsBy scene env Continues k ts = ⊥
+EndsBy scene env (Returns v) k ts = Ended (ending.Return v) ts
+EndsBy scene env (Raises e) k ts = Ended (ending.Raise e) ts
+EndsBy scene env Cut k ts = ts ≡ []
 
 -- how a function is entered: it starts
 abbrev pub Entered : ResumeHow → Type 0
@@ -35,9 +35,9 @@ Entered (how.Throw e) = ⊥
 abbrev pub IsBegun : Scene → Tree → List Obj → List Own → Type 0
 IsBegun scene t args [] = Unit {0}
 IsBegun scene t args (Makes ∷ ts) = ⊥
-IsBegun scene t args (Resumes h ∷ ts) = Entered h × RunsSuite scene t.suite (start_env t args) None ts (EndsBy scene)
+IsBegun scene t args (Resumes k h ∷ ts) = Entered h × RunsSuite scene t.suite (start_env t args) None k ts (EndsBy scene)
 IsBegun scene t args (Asks at r own ∷ ts) = ⊥
-IsBegun scene t args (Gets w ∷ ts) = ⊥
+IsBegun scene t args (Gets k w ∷ ts) = ⊥
 IsBegun scene t args (Rounds at ∷ ts) = ⊥
 IsBegun scene t args (Yields at v ∷ ts) = ⊥
 IsBegun scene t args (Ends at e ∷ ts) = ⊥

@@ -1,10 +1,10 @@
 //! The compiler: the code of a body.
 
 ghost use Rattle.std.specs.Prelude.{◌≡◌, ◌<◌, ◌≤◌, ◌^◌, suc, length, List, IfOk};
-ghost use Rattle.py_check.specs.Rules.{IsTyped};
+ghost use Rattle.py_check.specs.Typing.{IsTyped};
 ghost use Rattle.py_body.specs.Tree.{Name, tree_of};
 ghost use Rattle.py_body.specs.Compilable.{IsCompilable};
-ghost use Rattle.py_body.specs.Code.{IsLaid, IsPlain};
+ghost use Rattle.py_body.specs.Code.{IsLaid, IsPlain, UsesBodyInstructions};
 ghost use Rattle.py_body.specs.Emitting.{parts_of, IsEmitted};
 ghost use Rattle.py_body.specs.Fits.{Fits, Continues};
 ghost use Rattle.py_body.specs.Naming.{IsNamed};
@@ -27,6 +27,7 @@ pub fn compile_body(alloc: Global, names: &mut Names, body: &Body) -> Result<Ann
     ensures laid { IfOk result (λ code. (globals : List Name) × IsLaid globals code.code (tree_of body.now) × IsNamed names.new globals code.code (tree_of body.now)) }
     ensures plain { IfOk result (λ code. IsPlain code.code (tree_of body.now)) }
     ensures typed { IfOk result IsTyped }
+    ensures uses { IfOk result (λ code. UsesBodyInstructions code.code) }
     ensures grows { Continues names.old names.new }
 {
     let emitter = emit_body(alloc, body)?;

@@ -9,7 +9,7 @@ use Rattle.py_body.specs.Naming.{NamesAll}
 use Rattle.py_body.proofs.Placed.{Continues-trans}
 use Rattle.py_body.proofs.Fitting.{emitted_code, fits_emitted, laid_code}
 use Rattle.py_body.proofs.NamingLemmas.{Continues-names, length-NamesAll, named_code}
-use Rattle.py_body.proofs.TypedCode.{typed_today}
+use Rattle.py_body.proofs.TypedCode.{typed_code, uses_code}
 use Rattle.py_body.proofs.compile.compile_body.Goals as goal
 
 pub returns-clause-laid : goal.returns-clause-laid
@@ -44,7 +44,17 @@ returns-clause-typed c =
     let object = c.new-code.ensures in
     let units : c.as_slice.result.now ≡ c.new-code.result.code.instructions.items = c.as_slice.ensures.value ∙ sym (ap (λ (o : CodeObject). o.instructions.items) object) in
     let laid = returns-clause-laid c in
-    typed_today (record { code = c.new-code.result; notes = c.in_ok-noted.noted.notes }) (tree_of c.args.body.now) laid.0 c.requires
+    typed_code (record { code = c.new-code.result; notes = c.in_ok-noted.noted.notes }) (tree_of c.args.body.now) laid.0 c.requires
+    (emitted_code (parts_of c.in_ok-emitter.emitter) c.new-code.result _ (tree_of c.args.body.now) object c.in_ok-emitter.ensures refl refl refl)
+    laid.1 (search rules) (c.in_ok-noted.ensures.notes ∙ ap (λ (us : List CodeUnit). notes_of us (length us)) units)
+
+pub returns-clause-uses : goal.returns-clause-uses
+unfolding returns-clause-laid
+returns-clause-uses c =
+    let object = c.new-code.ensures in
+    let units : c.as_slice.result.now ≡ c.new-code.result.code.instructions.items = c.as_slice.ensures.value ∙ sym (ap (λ (o : CodeObject). o.instructions.items) object) in
+    let laid = returns-clause-laid c in
+    uses_code (record { code = c.new-code.result; notes = c.in_ok-noted.noted.notes }) (tree_of c.args.body.now) laid.0 c.requires
     (emitted_code (parts_of c.in_ok-emitter.emitter) c.new-code.result _ (tree_of c.args.body.now) object c.in_ok-emitter.ensures refl refl refl)
     laid.1 (search rules) (c.in_ok-noted.ensures.notes ∙ ap (λ (us : List CodeUnit). notes_of us (length us)) units)
 
