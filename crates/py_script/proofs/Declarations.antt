@@ -8,7 +8,7 @@ use Rattle.py_check.specs.declared.annotated.Annotated.{Annotated}
 use Rattle.py_objects.specs.declared.payload.Payload.{Payload}
 use Rattle.py_objects.specs.declared.payload.Payload.TheVariants as payload
 use Rattle.py_objects.specs.Objects.{Obj, Name, numbers, AllBelow}
-use Rattle.py_rows.specs.Fitting.{AreNames, IsSound}
+use Rattle.py_rows.specs.Sound.{AreNames, IsSound}
 use Rattle.py_rows.proofs.GrowingLemmas.{slice_get_grown}
 use Rattle.py_body.specs.Tree.{Tree}
 use Rattle.py_body.specs.Fits.{Fits, Continues}

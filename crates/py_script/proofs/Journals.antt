@@ -24,7 +24,7 @@ use Rattle.py_objects.specs.declared.event.Ending.TheVariants as ending
 use Rattle.py_objects.specs.declared.event.Event.{Event}
 use Rattle.py_objects.specs.declared.event.Event.TheVariants as event
 use Rattle.py_objects.specs.Objects.{Obj, Name, HasPayload, declares, declared, declared_from, name_of, error_kinds, payload_numbers, event_numbers, AllBelow, IsMade, AllFit, AreNamed, is_among, IsNew}
-use Rattle.py_objects.specs.Own.{Own, Makes, Resumes, Asks, Gets, Ends, own_events, told_by}
+use Rattle.py_objects.specs.Own.{Own, Makes, Resumes, Asks, Gets, Ends, own_events, own_from, told_by}
 use Rattle.py_objects.specs.Telling.{AfterValue, Answered, Answers, Asked}
 use Rattle.py_body.specs.Tree.{Tree}
 use Rattle.py_body.specs.Scene.{Scene, anywhere}
@@ -134,19 +134,20 @@ pub begun : (scene : Scene) (t : Tree) (vs : List Obj) (ts : List Own) → IsTra
 begun scene t vs ts h = subst (IsBegun scene t vs) (sym (behind Makes ts _ h.1.1)) h.1.2
 
 -- an answer that was got goes on
-pub gotten : (K : AfterValue) (w : GotAnswer) (ts : List Own) → Answered (Gets w ∷ ts) K → Answers w ts K
-gotten K w ts (inl none) = absurd (cc none.0)
-gotten K w ts (inr some) =
-    let same : w ≡ some.0 = cc some.2 in
-    let rest : ts ≡ some.1 = cc some.2 in
-    subst (λ (xs : List Own). Answers w xs K) (sym rest) (subst (λ (w : GotAnswer). Answers w some.1 K) (sym same) some.3)
+pub gotten : (K : AfterValue) (k i : ℕ) (w : GotAnswer) (ts : List Own) → Answered k (Gets i w ∷ ts) K → Answers w i ts K
+gotten K k i w ts (inl none) = absurd (cc none.0)
+gotten K k i w ts (inr (j, u, mid, is, h)) =
+    let number : i ≡ j = cc is in
+    let same : w ≡ u = cc is in
+    let rest : ts ≡ mid = cc is in
+    subst (λ (xs : List Own). Answers w i xs K) (sym rest) (subst (λ (n : ℕ). Answers w n mid K) (sym number) (subst (λ (w : GotAnswer). Answers w j mid K) (sym same) h))
 
 -- what is asked and answered goes on as its answer
-pub asked_so : (units : ℕ → Bool) (r q : Request) (at : ℕ) (w : GotAnswer) (ts : List Own) (K : AfterValue) → Asked units r None (Asks at q None ∷ Gets w ∷ ts) K → Answers w ts K
-asked_so units r q at w ts K (inl cut) = absurd (cc cut.0)
-asked_so units r q at w ts K (inr more) =
-    let rest : Gets w ∷ ts ≡ more.1 = cc more.3 in
-    gotten K w ts (subst (λ (xs : List Own). Answered xs K) (sym rest) more.4)
+pub asked_so : (units : ℕ → Bool) (r q : Request) (at k i : ℕ) (w : GotAnswer) (ts : List Own) (K : AfterValue) → Asked units r None k (Asks at q None ∷ Gets i w ∷ ts) K → Answers w i ts K
+asked_so units r q at k i w ts K (inl cut) = absurd (cc cut.0)
+asked_so units r q at k i w ts K (inr more) =
+    let rest : Gets i w ∷ ts ≡ more.1 = cc more.3 in
+    gotten K k i w ts (subst (λ (xs : List Own). Answered k xs K) (sym rest) more.4)
 
 -- no more drives are begun than the script has
 pub few_asked : (store : List Payload) (events : List Event) (ds : List Drive) (qs : List Posed) → AreAsked store events ds qs → length qs ≤ length ds
@@ -345,9 +346,11 @@ module _ (t : Tree) where
       asking_comes qs greatest (pos 1) (error_objects 2 more) (raised 1 (exception 15) rest) few binds
       (sum_comes (plan_with qs) greatest (pos 1) (error_objects 2 more) asking (state_after start asking) 1 (got.Raise (exception 15)) refl refl refl (is_raised 15 more asking new refl), ((refl, refl), ((refl, refl, (_, got.Raise (exception 15), refl, refl, (_, _, refl, refl))), k)))
 
-  -- what the activation of a drive that raises tells
-  abbrev pub RaiseIsTraced : List Payload → PyBaseExceptionRef → Type 0
-  RaiseIsTraced more e = IsTrace (anywhere (overflow_with more) (object 9)) t (object 10 ∷ object 11 ∷ []) (Makes ∷ Resumes Start ∷ Asks 2 (Binary binary.Add (object 10) (object 11)) None ∷ Gets (got.Raise e) ∷ Ends 2 (ending.Raise e) ∷ [])
+  -- what the activation of a drive that raises tells, which is entered and answered by the events with these numbers
+  abbrev pub RaiseIsTraced : List Payload → ℕ → ℕ → PyBaseExceptionRef → Type 0
+  RaiseIsTraced more i j e =
+      IsTrace (anywhere (overflow_with more) (object 9)) t (object 10 ∷ object 11 ∷ [])
+      (Makes ∷ Resumes i Start ∷ Asks 2 (Binary binary.Add (object 10) (object 11)) None ∷ Gets j (got.Raise e) ∷ Ends 2 (ending.Raise e) ∷ [])
 
   -- its entry names what it should
   pub made_error : (more : List Payload) → IsMade (overflow_with more) (error_entry 2)
@@ -365,12 +368,12 @@ module _ (t : Tree) where
   overflow_fits : AllFit (overflow_with [])
   overflow_fits = all_fit (overflow_with []) refl (tt, (tt, (tt, (tt, (tt, (tt, (tt, (tt, (tt, (tt, (tt, (tt, (tt, (tt, (tt, (made_error [], tt))))))))))))))))
 
-  overflow_tells : RaiseIsTraced [] (exception 15) → EachTells (Traces (t ∷ []) (object 9) (overflow_with [])) (overflow_by (exception 15))
-  unfolding own_events told_by
+  overflow_tells : RaiseIsTraced [] 2 4 (exception 15) → EachTells (Traces (t ∷ []) (object 9) (overflow_with [])) (overflow_by (exception 15))
+  unfolding own_from told_by
   overflow_tells h = one_tells (Traces (t ∷ []) (object 9) (overflow_with [])) (object 7) (object 10 ∷ object 11 ∷ []) (overflow_by (exception 15)) refl (_, refl, (t, refl, h))
 
   -- the run of one drive that overflows
-  pub overflow_is_run : IsDeclared (overflow_with []) → Binds (overflow_with []) → RaiseIsTraced [] (exception 15) → IsRunOf (t ∷ []) (record overflowing { function = t.name } ∷ []) (overflow_with []) (overflow_by (exception 15))
+  pub overflow_is_run : IsDeclared (overflow_with []) → Binds (overflow_with []) → RaiseIsTraced [] 2 4 (exception 15) → IsRunOf (t ∷ []) (record overflowing { function = t.name } ∷ []) (overflow_with []) (overflow_by (exception 15))
   overflow_is_run d binds h =
       record {
         asked = call ∷ [];

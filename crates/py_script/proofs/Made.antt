@@ -7,7 +7,7 @@ use Rattle.py_objects.specs.declared.payload.Payload.{Payload}
 use Rattle.py_objects.specs.declared.event.Event.{Event}
 use Rattle.py_objects.specs.declared.event.Event.TheVariants as event
 use Rattle.py_objects.specs.Objects.{Obj}
-use Rattle.py_objects.specs.Own.{Own, Makes, own_if, told_by, own_events}
+use Rattle.py_objects.specs.Own.{Own, Makes, own_if, told_by, own_from, own_events}
 use Rattle.py_vm.specs.Run.{Plan, Activation, State, start, after, state_after, Comes}
 
 -- some event was told
@@ -20,41 +20,42 @@ told_behind : (xs ts : List Own) → HasTold ts → HasTold (xs ++ ts)
 told_behind [] ts told = told
 told_behind (x ∷ xs) ts told = record { front = x; behind = xs ++ ts; is = refl }
 
-abbrev MadeTell : State → List Event → Type 0
-MadeTell s es = (i : ℕ) → length s.made ≤ i → i < length (state_after s es).made → HasTold (own_events (suc i) es)
+-- each activation that these events make has told, where the first of them has this number
+abbrev MadeTell : State → ℕ → List Event → Type 0
+MadeTell s k es = (i : ℕ) → length s.made ≤ i → i < length (state_after s es).made → HasTold (own_from (suc i) k es)
 
 -- so has each activation behind an event that makes none
-still_tell : (s : State) (e : Event) (es : List Event) → (after s e).made ≡ s.made → MadeTell (after s e) es → MadeTell s (e ∷ es)
-unfolding own_events
-still_tell s e es same tell i low high = told_behind (told_by (suc i) e) (own_events (suc i) es) (tell i (subst (λ (l : List Activation). length l ≤ i) (sym same) low) high)
+still_tell : (s : State) (k : ℕ) (e : Event) (es : List Event) → (after s e).made ≡ s.made → MadeTell (after s e) (suc k) es → MadeTell s k (e ∷ es)
+unfolding own_from
+still_tell s k e es same tell i low high = told_behind (told_by (suc i) k e) (own_from (suc i) (suc k) es) (tell i (subst (λ (l : List Activation). length l ≤ i) (sym same) low) high)
 
 -- an event that makes an activation is its own
-make_tells : (s : State) (a : ℕ) (f : Obj) (vs : List Obj) (es : List Event) → a ≡ suc (length s.made) → MadeTell (after s (event.Make a f vs)) es → MadeTell s (event.Make a f vs ∷ es)
-unfolding own_events told_by
-make_tells s a f vs es numbered tell i low high = go (eqb (suc i) a) refl
+make_tells : (s : State) (k a : ℕ) (f : Obj) (vs : List Obj) (es : List Event) → a ≡ suc (length s.made) → MadeTell (after s (event.Make a f vs)) (suc k) es → MadeTell s k (event.Make a f vs ∷ es)
+unfolding own_from told_by
+make_tells s k a f vs es numbered tell i low high = go (eqb (suc i) a) refl
   where
-    go : (b : Bool) → eqb (suc i) a ≡ b → HasTold (own_events (suc i) (event.Make a f vs ∷ es))
-    go true mine = record { front = Makes; behind = own_events (suc i) es; is = ap (λ c. own_if c (Makes ∷ []) ++ own_events (suc i) es) mine }
+    go : (b : Bool) → eqb (suc i) a ≡ b → HasTold (own_from (suc i) k (event.Make a f vs ∷ es))
+    go true mine = record { front = Makes; behind = own_from (suc i) (suc k) es; is = ap (λ c. own_if c (Makes ∷ []) ++ own_from (suc i) (suc k) es) mine }
     go false other =
         let apart : i ≡ length s.made → ⊥ = λ e. absurd (let hit : eqb (suc i) a ≡ true = eq-eqb (suc i) a (ap suc e ∙ sym numbered) in let clash : true ≡ false = sym hit ∙ other in cc clash) in
         let grown : length (after s (event.Make a f vs)).made ≡ length s.made + 1 = length-append s.made (record { function = f; args = vs } ∷ []) in
-        told_behind (told_by (suc i) (event.Make a f vs)) (own_events (suc i) es) (tell i (above grown apart) high)
+        told_behind (told_by (suc i) k (event.Make a f vs)) (own_from (suc i) (suc k) es) (tell i (above grown apart) high)
       where
         above : length (after s (event.Make a f vs)).made ≡ length s.made + 1 → (i ≡ length s.made → ⊥) → length (after s (event.Make a f vs)).made ≤ i
         above grown apart = elim (eqb_tells i (length s.made)) [ inl y ↦ absurd (apart y.1) | inr n ↦ let ne : i ≡ length s.made → ⊥ = n.1 in omega (arith, grown, low, ne) ]
 
-pub made_tell : (plan : Plan) (objects : List Payload) (before : List Event) (s : State) (es : List Event) → Comes plan objects before s es → MadeTell s es
-made_tell plan objects before s [] comes = λ i low high. absurd (omega (arith, low, high))
-made_tell plan objects before s (event.Drive d ∷ es) comes = still_tell s (event.Drive d) es refl (made_tell plan objects _ (after s (event.Drive d)) es comes.1)
-made_tell plan objects before s (event.Result d w ∷ es) comes = still_tell s (event.Result d w) es refl (made_tell plan objects _ (after s (event.Result d w)) es comes.1)
-made_tell plan objects before s (event.Make a f vs ∷ es) comes = make_tells s a f vs es comes.0.1 (made_tell plan objects _ (after s (event.Make a f vs)) es comes.1)
-made_tell plan objects before s (event.Resume a h ∷ es) comes = still_tell s (event.Resume a h) es refl (made_tell plan objects _ (after s (event.Resume a h)) es comes.1)
-made_tell plan objects before s (event.Ask a r own at ∷ es) comes = still_tell s (event.Ask a r own at) es refl (made_tell plan objects _ (after s (event.Ask a r own at)) es comes.1)
-made_tell plan objects before s (event.Got a w ∷ es) comes = still_tell s (event.Got a w) es refl (made_tell plan objects _ (after s (event.Got a w)) es comes.1)
-made_tell plan objects before s (event.Round a at ∷ es) comes = still_tell s (event.Round a at) es refl (made_tell plan objects _ (after s (event.Round a at)) es comes.1)
-made_tell plan objects before s (event.Yield a v at ∷ es) comes = still_tell s (event.Yield a v at) es refl (made_tell plan objects _ (after s (event.Yield a v at)) es comes.1)
-made_tell plan objects before s (event.End a e at ∷ es) comes = still_tell s (event.End a e at) es refl (made_tell plan objects _ (after s (event.End a e at)) es comes.1)
+pub made_tell : (plan : Plan) (objects : List Payload) (before : List Event) (s : State) (k : ℕ) (es : List Event) → Comes plan objects before s es → MadeTell s k es
+made_tell plan objects before s k [] comes = λ i low high. absurd (omega (arith, low, high))
+made_tell plan objects before s k (event.Drive d ∷ es) comes = still_tell s k (event.Drive d) es refl (made_tell plan objects _ (after s (event.Drive d)) (suc k) es comes.1)
+made_tell plan objects before s k (event.Result d w ∷ es) comes = still_tell s k (event.Result d w) es refl (made_tell plan objects _ (after s (event.Result d w)) (suc k) es comes.1)
+made_tell plan objects before s k (event.Make a f vs ∷ es) comes = make_tells s k a f vs es comes.0.1 (made_tell plan objects _ (after s (event.Make a f vs)) (suc k) es comes.1)
+made_tell plan objects before s k (event.Resume a h ∷ es) comes = still_tell s k (event.Resume a h) es refl (made_tell plan objects _ (after s (event.Resume a h)) (suc k) es comes.1)
+made_tell plan objects before s k (event.Ask a r own at ∷ es) comes = still_tell s k (event.Ask a r own at) es refl (made_tell plan objects _ (after s (event.Ask a r own at)) (suc k) es comes.1)
+made_tell plan objects before s k (event.Got a w ∷ es) comes = still_tell s k (event.Got a w) es refl (made_tell plan objects _ (after s (event.Got a w)) (suc k) es comes.1)
+made_tell plan objects before s k (event.Round a at ∷ es) comes = still_tell s k (event.Round a at) es refl (made_tell plan objects _ (after s (event.Round a at)) (suc k) es comes.1)
+made_tell plan objects before s k (event.Yield a v at ∷ es) comes = still_tell s k (event.Yield a v at) es refl (made_tell plan objects _ (after s (event.Yield a v at)) (suc k) es comes.1)
+made_tell plan objects before s k (event.End a e at ∷ es) comes = still_tell s k (event.End a e at) es refl (made_tell plan objects _ (after s (event.End a e at)) (suc k) es comes.1)
 
 -- each activation of a whole list of events has told
 pub activation_tells : (plan : Plan) (objects : List Payload) (es : List Event) (i : ℕ) (a : Activation) → Comes plan objects [] start es → slice_get (state_after start es).made i ≡ Some a → HasTold (own_events (suc i) es)
-activation_tells plan objects es i a comes made = made_tell plan objects [] start es comes i (omega arith) (slice_get_within (state_after start es).made i a made)
+activation_tells plan objects es i a comes made = made_tell plan objects [] start 0 es comes i (omega arith) (slice_get_within (state_after start es).made i a made)

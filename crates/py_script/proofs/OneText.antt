@@ -23,7 +23,7 @@ use Rattle.py_objects.specs.declared.event.DriveAnswer.TheVariants as answer
 use Rattle.py_objects.specs.declared.event.Event.{Event}
 use Rattle.py_objects.specs.declared.event.Event.TheVariants as event
 use Rattle.py_objects.specs.Objects.{Obj, Name, HasPayload, class_object, declared, name_of, error_kinds}
-use Rattle.py_objects.specs.Own.{Own, Asks, Gets, Ends, whose, own_of, own_events, told_by}
+use Rattle.py_objects.specs.Own.{Own, Asks, Gets, Ends, whose, own_of, own_from, told_by}
 use Rattle.py_objects.specs.Telling.{Given, Failed, AfterValue, Asked, Answered, Answers}
 use Rattle.py_body.specs.Tree.{Tree}
 use Rattle.py_body.specs.Scene.{anywhere}
@@ -69,32 +69,32 @@ EndedBy (got.Value v) ts = Ended (ending.Return v) ts
 EndedBy (got.Stop v) ts = ⊥
 EndedBy (got.Raise e) ts = Ended (ending.Raise e) ts
 
-asks_of : (e : Event) (at : ℕ) (r : Request) (own : Option PyBaseExceptionRef) → own_of e ≡ Asks at r own ∷ [] → e ≡ event.Ask (whose e) r own at
-asks_of (event.Drive d) at r own h = cc
-asks_of (event.Result d w) at r own h = cc
-asks_of (event.Make a f vs) at r own h = cc
-asks_of (event.Resume a x) at r own h = cc
-asks_of (event.Ask a r' own' at') at r own h = cc
-asks_of (event.Got a w) at r own h = cc
-asks_of (event.Round a at') at r own h = cc
-asks_of (event.Yield a v at') at r own h = cc
-asks_of (event.End a x at') at r own h = cc
+asks_of : (k : ℕ) (e : Event) (at : ℕ) (r : Request) (own : Option PyBaseExceptionRef) → own_of k e ≡ Asks at r own ∷ [] → e ≡ event.Ask (whose e) r own at
+asks_of k (event.Drive d) at r own h = cc
+asks_of k (event.Result d w) at r own h = cc
+asks_of k (event.Make a f vs) at r own h = cc
+asks_of k (event.Resume a x) at r own h = cc
+asks_of k (event.Ask a r' own' at') at r own h = cc
+asks_of k (event.Got a w) at r own h = cc
+asks_of k (event.Round a at') at r own h = cc
+asks_of k (event.Yield a v at') at r own h = cc
+asks_of k (event.End a x at') at r own h = cc
 
-ends_of : (e : Event) (at : ℕ) (x : Ending) → own_of e ≡ Ends at x ∷ [] → e ≡ event.End (whose e) x at
-ends_of (event.Drive d) at x h = cc
-ends_of (event.Result d w) at x h = cc
-ends_of (event.Make a f vs) at x h = cc
-ends_of (event.Resume a y) at x h = cc
-ends_of (event.Ask a r own at') at x h = cc
-ends_of (event.Got a w) at x h = cc
-ends_of (event.Round a at') at x h = cc
-ends_of (event.Yield a v at') at x h = cc
-ends_of (event.End a y at') at x h = cc
+ends_of : (k : ℕ) (e : Event) (at : ℕ) (x : Ending) → own_of k e ≡ Ends at x ∷ [] → e ≡ event.End (whose e) x at
+ends_of k (event.Drive d) at x h = cc
+ends_of k (event.Result d w) at x h = cc
+ends_of k (event.Make a f vs) at x h = cc
+ends_of k (event.Resume a y) at x h = cc
+ends_of k (event.Ask a r own at') at x h = cc
+ends_of k (event.Got a w) at x h = cc
+ends_of k (event.Round a at') at x h = cc
+ends_of k (event.Yield a v at') at x h = cc
+ends_of k (event.End a y at') at x h = cc
 
 -- an event of the first activation stands in front of its own events
-told : (e : Event) (o : Own) (es : List Event) → 1 ≡ whose e → own_of e ≡ o ∷ [] → own_events 1 (e ∷ es) ≡ o ∷ own_events 1 es
-unfolding own_events told_by
-told e o es w h = rw (sym w, h) refl
+told : (k : ℕ) (e : Event) (o : Own) (es : List Event) → 1 ≡ whose e → own_of k e ≡ o ∷ [] → own_from 1 k (e ∷ es) ≡ o ∷ own_from 1 (suc k) es
+unfolding own_from told_by
+told k e o es w h = rw (sym w, h) refl
 
 -- made activations stay
 kept : (s : State) (es : List Event) (a : Activation) → slice_get s.made 0 ≡ Some a → slice_get (state_after s es).made 0 ≡ Some a
@@ -172,18 +172,18 @@ module _ (store : List Payload) (globals : Obj) (journal : List Event) (qs : Lis
   made_next before s (event.End a x at) f p h = absurd (cc h.0)
 
   -- the innermost activation tells something
-  going_next : (before : List Event) (s : State) (e : Event) → s.phase ≡ Going → MayCome plan store before s e → IsTop (whose e) s.stack × ((o : Own) × (own_of e ≡ o ∷ []))
-  going_next before s (event.Drive d) p h = absurd (cc h.0)
-  going_next before s (event.Result d w) p h = absurd (subst (λ (x : Phase). In before s x h.2.0 h.2.1) p h.2.4)
-  going_next before s (event.Make a f vs) p h = absurd (cc h.0)
-  going_next before s (event.Resume a how.Start) p h = absurd (cc h.1)
-  going_next before s (event.Resume a (how.Send v)) p h = absurd h
-  going_next before s (event.Resume a (how.Throw x)) p h = absurd h
-  going_next before s (event.Ask a r own at) p h = (h.1, (_, refl))
-  going_next before s (event.Got a w) p h = absurd (subst (λ (x : Phase). In before s x h.1.0 w) p h.1.2)
-  going_next before s (event.Round a at) p h = (h.1, (_, refl))
-  going_next before s (event.Yield a v at) p h = (h.1, (_, refl))
-  going_next before s (event.End a x at) p h = (h.1, (_, refl))
+  going_next : (before : List Event) (s : State) (k : ℕ) (e : Event) → s.phase ≡ Going → MayCome plan store before s e → IsTop (whose e) s.stack × ((o : Own) × (own_of k e ≡ o ∷ []))
+  going_next before s k (event.Drive d) p h = absurd (cc h.0)
+  going_next before s k (event.Result d w) p h = absurd (subst (λ (x : Phase). In before s x h.2.0 h.2.1) p h.2.4)
+  going_next before s k (event.Make a f vs) p h = absurd (cc h.0)
+  going_next before s k (event.Resume a how.Start) p h = absurd (cc h.1)
+  going_next before s k (event.Resume a (how.Send v)) p h = absurd h
+  going_next before s k (event.Resume a (how.Throw x)) p h = absurd h
+  going_next before s k (event.Ask a r own at) p h = (h.1, (_, refl))
+  going_next before s k (event.Got a w) p h = absurd (subst (λ (x : Phase). In before s x h.1.0 w) p h.1.2)
+  going_next before s k (event.Round a at) p h = (h.1, (_, refl))
+  going_next before s k (event.Yield a v at) p h = (h.1, (_, refl))
+  going_next before s k (event.End a x at) p h = (h.1, (_, refl))
 
   -- an activation's question for a sum is open
   got_next : (before : List Event) (s : State) (e : Event) (top : Act) (a b : Obj) → s.phase ≡ Asking → s.stack ≡ top ∷ [] → top.asks ≡ Some (Binary binary.Add a b) → MayCome plan store before s e
@@ -222,7 +222,8 @@ module _ (store : List Payload) (globals : Obj) (journal : List Event) (qs : Lis
   abbrev act : Option Request → Act
   act r = record { number = 1; asks = r; own = None }
 
-  -- these events may follow, and one drive is done then
+  -- these events may follow, and one drive is done then; in the lemmas on what stands behind an event, its own ones have the numbers
+  -- that they have in the journal: the drive 0, and so on
   abbrev Follows : List Event → State → List Event → Type 0
   Follows before s es = Comes plan store before s es × ((state_after s es).done ≡ 1)
 
@@ -239,66 +240,66 @@ module _ (store : List Payload) (globals : Obj) (journal : List Event) (qs : Lis
       subst (λ (y : Event). plain_text store (y ∷ es) ≡ result_text store 1 (answer_of x)) (sym is)
       (subst (λ (ys : List Event). plain_text store (event.Result 1 (answer_of x) ∷ ys) ≡ result_text store 1 (answer_of x)) (sym none) (append-nil (result_text store 1 (answer_of x))))
 
-  end_behind : (x : Ending) (made : List Activation) (before es : List Event) → length qs ≤ 1 → Ended x (own_events 1 es) → Follows before (at 0 Going (act None ∷ []) made) es → plain_text store es ≡ result_text store 1 (answer_of x)
+  end_behind : (x : Ending) (made : List Activation) (before es : List Event) → length qs ≤ 1 → Ended x (own_from 1 5 es) → Follows before (at 0 Going (act None ∷ []) made) es → plain_text store es ≡ result_text store 1 (answer_of x)
   end_behind x made before [] few t h = absurd (cc h.1)
   end_behind x made before (e ∷ es) few t h =
-      let c = going_next before (at 0 Going (act None ∷ []) made) e refl h.0.0 in
-      let own = told e c.1.0 es c.0 c.1.1 in
+      let c = going_next before (at 0 Going (act None ∷ []) made) 5 e refl h.0.0 in
+      let own = told 5 e c.1.0 es c.0 c.1.1 in
       ⊎_elim (λ none. absurd cc)
       (λ some.
-      let which : own_of e ≡ Ends some.0 x ∷ [] = cc in
-      let is : e ≡ event.End 1 x some.0 = ends_of e some.0 x which ∙ ap (λ (k : ℕ). event.End k x some.0) (sym c.0) in
+      let which : own_of 5 e ≡ Ends some.0 x ∷ [] = cc in
+      let is : e ≡ event.End 1 x some.0 = ends_of 5 e some.0 x which ∙ ap (λ (k : ℕ). event.End k x some.0) (sym c.0) in
       subst (λ (y : Event). Follows before (at 0 Going (act None ∷ []) made) (y ∷ es) → plain_text store (y ∷ es) ≡ result_text store 1 (answer_of x)) (sym is)
       (λ k. result_behind x made _ es few (k.0.1, k.1)) h)
       t
 
   -- what the body gets ends it
   abbrev EndsIt : AfterValue → Type 0
-  EndsIt K = ((v : Obj) (ts : List Own) → K (Given v) ts → Ended (ending.Return v) ts) × ((e : PyBaseExceptionRef) (ts : List Own) → K (Failed e) ts → Ended (ending.Raise e) ts)
+  EndsIt K = ((v : Obj) (i : ℕ) (ts : List Own) → K (Given v) i ts → Ended (ending.Return v) ts) × ((e : PyBaseExceptionRef) (i : ℕ) (ts : List Own) → K (Failed e) i ts → Ended (ending.Raise e) ts)
 
-  ends_it : (K : AfterValue) → EndsIt K → (w : GotAnswer) (ts : List Own) → Answers w ts K → EndedBy w ts
-  ends_it K k (got.Value v) ts h = k.0 v ts h
-  ends_it K k (got.Stop v) ts h = h
-  ends_it K k (got.Raise e) ts h = k.1 e ts h
+  ends_it : (K : AfterValue) → EndsIt K → (w : GotAnswer) (i : ℕ) (ts : List Own) → Answers w i ts K → EndedBy w ts
+  ends_it K k (got.Value v) i ts h = k.0 v i ts h
+  ends_it K k (got.Stop v) i ts h = h
+  ends_it K k (got.Raise e) i ts h = k.1 e i ts h
 
-  got_it : (K : AfterValue) → EndsIt K → (w : GotAnswer) (ts : List Own) → Answered (Gets w ∷ ts) K → EndedBy w ts
-  got_it K k w ts h = ends_it K k w ts (gotten K w ts h)
+  got_it : (K : AfterValue) → EndsIt K → (w : GotAnswer) (ts : List Own) → Answered 2 (Gets 4 w ∷ ts) K → EndedBy w ts
+  got_it K k w ts h = ends_it K k w 4 ts (gotten K 2 4 w ts h)
 
   -- the operands of the sum
   abbrev AreNumbers : Obj → Obj → Type 0
   AreNumbers a b = HasPayload store a (payload.Int m) × HasPayload store b (payload.Int n)
 
-  answer_behind : (a b : Obj) (K : AfterValue) (made : List Activation) (before es : List Event) → AreNumbers a b → length qs ≤ 1 → EndsIt K → Answered (own_events 1 es) K → Follows before (at 0 Asking (act (Some (Binary binary.Add a b)) ∷ []) made) es → plain_text store es ≡ line
-  unfolding own_events told_by
+  answer_behind : (a b : Obj) (K : AfterValue) (made : List Activation) (before es : List Event) → AreNumbers a b → length qs ≤ 1 → EndsIt K → Answered 2 (own_from 1 4 es) K → Follows before (at 0 Asking (act (Some (Binary binary.Add a b)) ∷ []) made) es → plain_text store es ≡ line
+  unfolding own_from told_by
   answer_behind a b K made before [] ab few k t h = absurd (cc h.1)
   answer_behind a b K made before (e ∷ es) ab few k t h =
       let c = got_next before (at 0 Asking (act (Some (Binary binary.Add a b)) ∷ []) made) e (act (Some (Binary binary.Add a b))) a b refl refl refl h.0.0 in
       let sum = given before c.0 (gives_sum plan store before (at 0 Asking (act (Some (Binary binary.Add a b)) ∷ []) made) a b m n c.0 ab.0 ab.1 c.3) in
       let is : e ≡ event.Got 1 c.0 = c.1 ∙ ap (λ (k : ℕ). event.Got k c.0) (sym c.2) in
-      subst (λ (x : Event). Answered (own_events 1 (x ∷ es)) K → Follows before (at 0 Asking (act (Some (Binary binary.Add a b)) ∷ []) made) (x ∷ es) → plain_text store (x ∷ es) ≡ line) (sym is)
-      (λ u l. end_behind sum.0 made _ es few (sum.1 (own_events 1 es) (got_it K k c.0 (own_events 1 es) u)) (l.0.1, l.1) ∙ sum.2) t h
+      subst (λ (x : Event). Answered 2 (own_from 1 4 (x ∷ es)) K → Follows before (at 0 Asking (act (Some (Binary binary.Add a b)) ∷ []) made) (x ∷ es) → plain_text store (x ∷ es) ≡ line) (sym is)
+      (λ u l. end_behind sum.0 made _ es few (sum.1 (own_from 1 5 es) (got_it K k c.0 (own_from 1 5 es) u)) (l.0.1, l.1) ∙ sum.2) t h
 
-  question_behind : (units : ℕ → Bool) (a b : Obj) (K : AfterValue) (made : List Activation) (before es : List Event) → AreNumbers a b → length qs ≤ 1 → EndsIt K → Asked units (Binary binary.Add a b) None (own_events 1 es) K → Follows before (at 0 Going (act None ∷ []) made) es → plain_text store es ≡ line
+  question_behind : (units : ℕ → Bool) (a b : Obj) (K : AfterValue) (made : List Activation) (before es : List Event) → AreNumbers a b → length qs ≤ 1 → EndsIt K → Asked units (Binary binary.Add a b) None 2 (own_from 1 3 es) K → Follows before (at 0 Going (act None ∷ []) made) es → plain_text store es ≡ line
   question_behind units a b K made before [] ab few k t h = absurd (cc h.1)
   question_behind units a b K made before (e ∷ es) ab few k t h =
-      let c = going_next before (at 0 Going (act None ∷ []) made) e refl h.0.0 in
-      let own = told e c.1.0 es c.0 c.1.1 in
+      let c = going_next before (at 0 Going (act None ∷ []) made) 3 e refl h.0.0 in
+      let own = told 3 e c.1.0 es c.0 c.1.1 in
       ⊎_elim (λ none. let empty = none.0 in absurd cc)
       (λ some.
-      let which : own_of e ≡ Asks some.0 (Binary binary.Add a b) None ∷ [] = cc in
-      let rest : some.1 ≡ own_events 1 es = cc in
-      let is : e ≡ event.Ask 1 (Binary binary.Add a b) None some.0 = asks_of e some.0 (Binary binary.Add a b) None which ∙ ap (λ (k : ℕ). event.Ask k (Binary binary.Add a b) None some.0) (sym c.0) in
+      let which : own_of 3 e ≡ Asks some.0 (Binary binary.Add a b) None ∷ [] = cc in
+      let rest : some.1 ≡ own_from 1 4 es = cc in
+      let is : e ≡ event.Ask 1 (Binary binary.Add a b) None some.0 = asks_of 3 e some.0 (Binary binary.Add a b) None which ∙ ap (λ (k : ℕ). event.Ask k (Binary binary.Add a b) None some.0) (sym c.0) in
       subst (λ (x : Event). Follows before (at 0 Going (act None ∷ []) made) (x ∷ es) → plain_text store (x ∷ es) ≡ line) (sym is)
-      (λ l. answer_behind a b K made _ es ab few k (subst (λ (xs : List Own). Answered xs K) rest some.4) (l.0.1, l.1)) h)
+      (λ l. answer_behind a b K made _ es ab few k (subst (λ (xs : List Own). Answered 2 xs K) rest some.4) (l.0.1, l.1)) h)
       t
 
-  entry_behind : (f a b : Obj) (before es : List Event) → AreNumbers a b → length qs ≤ 1 → IsBegun (anywhere store globals) function (a ∷ b ∷ []) (own_events 1 es) → Follows before (at 0 (Made f) [] (record { function = f; args = a ∷ b ∷ [] } ∷ [])) es → plain_text store es ≡ line
-  unfolding own_events told_by
+  entry_behind : (f a b : Obj) (before es : List Event) → AreNumbers a b → length qs ≤ 1 → IsBegun (anywhere store globals) function (a ∷ b ∷ []) (own_from 1 2 es) → Follows before (at 0 (Made f) [] (record { function = f; args = a ∷ b ∷ [] } ∷ [])) es → plain_text store es ≡ line
+  unfolding own_from told_by
   entry_behind f a b before [] ab few t h = absurd (cc h.1)
   entry_behind f a b before (e ∷ es) ab few t h =
-      subst (λ (x : Event). IsBegun (anywhere store globals) function (a ∷ b ∷ []) (own_events 1 (x ∷ es)) → Follows before (at 0 (Made f) [] (record { function = f; args = a ∷ b ∷ [] } ∷ [])) (x ∷ es) → plain_text store (x ∷ es) ≡ line)
+      subst (λ (x : Event). IsBegun (anywhere store globals) function (a ∷ b ∷ []) (own_from 1 2 (x ∷ es)) → Follows before (at 0 (Made f) [] (record { function = f; args = a ∷ b ∷ [] } ∷ [])) (x ∷ es) → plain_text store (x ∷ es) ≡ line)
       (sym (made_next before (at 0 (Made f) [] (record { function = f; args = a ∷ b ∷ [] } ∷ [])) e f refl h.0.0))
-      (λ u l. question_behind _ a b _ _ _ es ab few (λ v ts x. ⊎_elim (λ cut. inl cut.0) (λ more. more) x, λ e ts x. x) (⊎_elim (λ cut. inl (cut.0, refl)) (λ more. more) u.1) (l.0.1, l.1)) t h
+      (λ u l. question_behind _ a b _ _ _ es ab few (λ v i ts x. ⊎_elim (λ cut. inl cut.0) (λ more. more) x, λ e i ts x. x) (⊎_elim (λ cut. inl (cut.0, refl)) (λ more. more) u.1) (l.0.1, l.1)) t h
 
   -- the first question is the script's
   first_asked : (xs : List Posed) (f : Obj) (vs : List Obj) → AreAsked store journal (call_of m n ∷ []) xs → open_in (slice_get xs 0) [] ≡ Some (Calling f vs keywords.None) → AsksThis store journal (call_of m n) (Call f vs)
@@ -325,34 +326,34 @@ module _ (store : List Payload) (globals : Obj) (journal : List Event) (qs : Lis
   enters_only [] r reply k o h at_zero e c = absurd cc
   enters_only (x ∷ xs) r reply k o h at_zero e c = not_refused x.drive r reply k o at_zero h.0.0 (some_is _ _ e) c
 
-  -- what the first activation that is made tells
-  abbrev Tells : State → List Event → Type 0
-  Tells s es = (a : Activation) → slice_get (state_after s es).made 0 ≡ Some a → Traces trees globals store a.function a.args (own_events 1 es)
+  -- what the first activation that is made tells among these events, the first of which has this number
+  abbrev Tells : State → ℕ → List Event → Type 0
+  Tells s i es = (a : Activation) → slice_get (state_after s es).made 0 ≡ Some a → Traces trees globals store a.function a.args (own_from 1 i es)
 
-  making : (f : Obj) (vs : List Obj) (before es : List Event) → AreObjects trees store → length qs ≤ 1 → AsksThis store journal (call_of m n) (Call f vs) → Tells (at 0 Asking [] []) (event.Make 1 f vs ∷ es) → Follows before (at 0 Asking [] []) (event.Make 1 f vs ∷ es) → plain_text store (event.Make 1 f vs ∷ es) ≡ line
-  unfolding own_events told_by
+  making : (f : Obj) (vs : List Obj) (before es : List Event) → AreObjects trees store → length qs ≤ 1 → AsksThis store journal (call_of m n) (Call f vs) → Tells (at 0 Asking [] []) 1 (event.Make 1 f vs ∷ es) → Follows before (at 0 Asking [] []) (event.Make 1 f vs ∷ es) → plain_text store (event.Make 1 f vs ∷ es) ≡ line
+  unfolding own_from told_by
   making f [] before es o few q t h = absurd q.1
   making f (a ∷ []) before es o few q t h = absurd q.1.1
   making f (a ∷ b ∷ c ∷ vs) before es o few q t h = absurd q.1.1.1
   making f (a ∷ b ∷ []) before es o few q t h =
       let made : Activation = record { function = f; args = a ∷ b ∷ [] } in
       let trace = traced_by function globals store f (a ∷ b ∷ []) _ (entry_of function store f o q.0) (t made (kept (at 0 (Made f) [] (made ∷ [])) es made refl)) in
-      entry_behind f a b _ es (q.1.0, q.1.1.0) few (begun (anywhere store globals) function (a ∷ b ∷ []) (own_events 1 es) trace) (h.0.1, h.1)
+      entry_behind f a b _ es (q.1.0, q.1.1.0) few (begun (anywhere store globals) function (a ∷ b ∷ []) (own_from 1 2 es) trace) (h.0.1, h.1)
 
-  making_behind : (before es : List Event) → AreObjects trees store → AreAsked store journal (call_of m n ∷ []) qs → Tells (at 0 Asking [] []) es → Follows before (at 0 Asking [] []) es → plain_text store es ≡ line
+  making_behind : (before es : List Event) → AreObjects trees store → AreAsked store journal (call_of m n ∷ []) qs → Tells (at 0 Asking [] []) 1 es → Follows before (at 0 Asking [] []) es → plain_text store es ≡ line
   making_behind before [] o asked t h = absurd (cc h.1)
   making_behind before (e ∷ es) o asked t h =
       let none = none_entered qs asked in
       let c = asked_next before (at 0 Asking [] []) e refl refl (λ r reply q x. enters_only qs r reply _ o asked (omega arith) q x) h.0.0 in
-      subst (λ (x : Event). Tells (at 0 Asking [] []) (x ∷ es) → Follows before (at 0 Asking [] []) (x ∷ es) → plain_text store (x ∷ es) ≡ line) (sym c.2)
+      subst (λ (x : Event). Tells (at 0 Asking [] []) 1 (x ∷ es) → Follows before (at 0 Asking [] []) (x ∷ es) → plain_text store (x ∷ es) ≡ line) (sym c.2)
       (λ u l. making c.0 c.1 before es o (few_asked store journal (call_of m n ∷ []) qs asked) (first_asked qs c.0 c.1 asked c.3) u l) t h
 
-  all_behind : (es : List Event) → AreObjects trees store → AreAsked store journal (call_of m n ∷ []) qs → Tells start es → Follows [] start es → plain_text store es ≡ line
-  unfolding own_events told_by
+  all_behind : (es : List Event) → AreObjects trees store → AreAsked store journal (call_of m n ∷ []) qs → Tells start 0 es → Follows [] start es → plain_text store es ≡ line
+  unfolding own_from told_by
   all_behind [] o asked t h = absurd (cc h.1)
   all_behind (e ∷ es) o asked t h =
       let c = idle_next [] start e refl h.0.0 in
-      subst (λ (x : Event). Tells start (x ∷ es) → Follows [] start (x ∷ es) → plain_text store (x ∷ es) ≡ line) (sym c.0)
+      subst (λ (x : Event). Tells start 0 (x ∷ es) → Follows [] start (x ∷ es) → plain_text store (x ∷ es) ≡ line) (sym c.0)
       (λ u l. making_behind (event.Drive 1 ∷ []) es o asked u (l.0.1, l.1)) t h
 
 -- a line of the only drive

@@ -19,7 +19,7 @@ use Rattle.py_objects.specs.declared.event.DriveAnswer.TheVariants as answer
 use Rattle.py_objects.specs.declared.event.Event.{Event}
 use Rattle.py_objects.specs.declared.event.Event.TheVariants as event
 use Rattle.py_objects.specs.Objects.{Obj, Name, HasPayload, declares, declared, name_of, error_kinds, event_numbers, is_among, IsMade, AllFit}
-use Rattle.py_objects.specs.Own.{own_events, told_by}
+use Rattle.py_objects.specs.Own.{Makes, Resumes, Ends, own_events, own_from, told_by}
 use Rattle.py_body.specs.Tree.{Tree}
 use Rattle.py_body.specs.Scene.{anywhere}
 use Rattle.py_body.specs.Trace.{IsTrace}
@@ -263,7 +263,7 @@ comes = (
 )
 
 caller_traced : IsTrace (anywhere objects (object 11)) caller [] (own_events 1 events)
-unfolding own_events told_by
+unfolding own_from told_by
 caller_traced = (
   refl,
   (
@@ -272,24 +272,23 @@ caller_traced = (
     (
       tt,
       inr
-          (inr (0, _, refl, refl, inr (got.Value (object 7), _, refl, inr (object 13, refl, inr (object 14, refl, inr (3, _, refl, refl, inr (got.Value (object 13), _, refl, inr (inr (6, refl))))))))),
+          (inr (0, _, refl, refl, inr (4, got.Value (object 7), _, refl, inr (object 13, refl, inr (object 14, refl, inr (3, _, refl, refl, inr (9, got.Value (object 13), _, refl, inr (inr (6, refl))))))))),
     ),
   ),
 )
 
--- an activation of the callee returns its first argument
-callee_traced : (n : ℕ) (w : Obj) → own_events n events ≡ own_events 2 events → IsTrace (anywhere objects (object 11)) callee (object 13 ∷ w ∷ []) (own_events n events)
-unfolding own_events told_by
-callee_traced n w e = subst (IsTrace (anywhere objects (object 11)) callee (object 13 ∷ w ∷ [])) (sym e) (refl, (_, refl, (tt, inr (inr (1, refl)))))
+-- an activation of the callee, which is entered by the event k, returns its first argument
+callee_traced : (k : ℕ) (w : Obj) → IsTrace (anywhere objects (object 11)) callee (object 13 ∷ w ∷ []) (Makes ∷ Resumes k Start ∷ Ends 1 (ending.Return (object 13)) ∷ [])
+callee_traced k w = (refl, (_, refl, (tt, inr (inr (1, refl)))))
 
 abbrev Tells : ℕ → Activation → Type 0
 Tells i a = Traces trees (object 11) objects a.function a.args (own_events (suc i) events)
 
 tells : EachTells (Traces trees (object 11) objects) events
-unfolding own_events told_by
+unfolding own_from told_by
 tells zero a e = subst (Tells 0) (some_is _ a e) (_, refl, (caller, refl, caller_traced))
-tells (suc zero) a e = subst (Tells 1) (some_is _ a e) (_, refl, (callee, refl, callee_traced 2 (object 14) refl))
-tells (suc (suc zero)) a e = subst (Tells 2) (some_is _ a e) (_, refl, (callee, refl, callee_traced 3 (object 16) refl))
+tells (suc zero) a e = subst (Tells 1) (some_is _ a e) (_, refl, (callee, refl, callee_traced 7 (object 14)))
+tells (suc (suc zero)) a e = subst (Tells 2) (some_is _ a e) (_, refl, (callee, refl, callee_traced 14 (object 16)))
 tells (suc (suc (suc i))) a e = absurd cc
 
 pub is_run : IsRunOf trees drives objects events

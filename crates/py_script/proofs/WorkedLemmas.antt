@@ -13,7 +13,7 @@ use Rattle.py_objects.specs.declared.event.DriveAnswer.TheVariants as answer
 use Rattle.py_objects.specs.declared.event.Event.{Event}
 use Rattle.py_objects.specs.declared.event.Event.TheVariants as event
 use Rattle.py_objects.specs.Objects.{Obj, AllFit, IsNew}
-use Rattle.py_objects.specs.Own.{Own, Asks, own_events, told_by}
+use Rattle.py_objects.specs.Own.{Own, Asks, own_events, own_from, told_by}
 use Rattle.py_body.specs.Scene.{anywhere}
 use Rattle.py_body.specs.Trace.{IsTrace}
 use Rattle.py_grammar.specs.Grammar.{Declares, Drives}
@@ -46,8 +46,8 @@ front_comes rest k =
     (sum_comes function plan (pos 33) (pos 12) (payload.Int (pos 45) ∷ []) asking (state_after start asking) 1 (got.Value (object 13)) refl refl refl refl, ((refl, refl), k))
 
 sum_traced : IsTrace (anywhere objects (object 9)) function (object 10 ∷ object 11 ∷ []) (own_events 1 events)
-unfolding own_events told_by
-sum_traced = (refl, (_, refl, (tt, inr (inr (2, _, refl, refl, inr (got.Value (object 13), _, refl, inr (inr (5, refl))))))))
+unfolding own_from told_by
+sum_traced = (refl, (_, refl, (tt, inr (inr (2, _, refl, refl, inr (4, got.Value (object 13), _, refl, inr (inr (5, refl))))))))
 
 sum_tells : EachTells (Traces trees (object 9) objects) events
 sum_tells = one_tells (Traces trees (object 9) objects) (object 7) (object 10 ∷ object 11 ∷ []) events refl (_, refl, (function, refl, sum_traced))
@@ -64,7 +64,7 @@ is_run =
     }
 
 front_tells : EachTells (Traces trees (object 9) objects) unfinished
-unfolding own_events told_by
+unfolding own_from told_by
 front_tells = one_tells (Traces trees (object 9) objects) (object 7) (object 10 ∷ object 11 ∷ []) unfinished refl (_, refl, (function, refl, sum_traced))
 
 pub front_is_run : IsRunOf trees drives objects unfinished
@@ -79,7 +79,7 @@ front_is_run =
     }
 
 pub no_round : IsRunOf trees drives objects with_round → ⊥
-unfolding own_events told_by
+unfolding own_from told_by
 no_round r =
     let b = begun (anywhere objects r.globals) function (object 10 ∷ object 11 ∷ []) _ (traced function objects drives with_round refl refl r) in
     ⊎_elim (λ a. cc a.0) (λ a. ⊎_elim (λ a. cc a.0) (λ a. cc a.3) a) b.1
@@ -92,7 +92,7 @@ left_operand : (a b c d : Obj) → Binary binary.Add a b ≡ Binary binary.Add c
 left_operand a b c d e = let same : a ≡ c = cc in ap (λ (v : Obj). v.number) same
 
 pub no_swapped_operands : IsRunOf trees drives objects swapped → ⊥
-unfolding own_events told_by
+unfolding own_from told_by
 no_swapped_operands r =
     let b = begun (anywhere objects r.globals) function (object 10 ∷ object 11 ∷ []) _ (traced function objects drives swapped refl refl r) in
     ⊎_elim (λ a. cc a.0) (λ a. ⊎_elim (λ a. cc a.0) (λ a. let e = left_operand _ _ _ _ (first_request _ _ _ _ _ _ _ _ a.3) in cc) a) b.1
@@ -109,11 +109,11 @@ no_other_name r = let entry = r.are_objects.functions 0 function refl in let e =
 pub no_manager : IsRunOf trees drives objects_with_manager events → ⊥
 no_manager r = r.are_objects.no_managers (object 14) _ refl
 
-raise_traced : (more : List Payload) (e : PyBaseExceptionRef) → RaiseIsTraced function more e
-raise_traced more e = (refl, (_, refl, (tt, inr (inr (2, _, refl, refl, inr (got.Raise e, _, refl, inr (2, refl)))))))
+raise_traced : (more : List Payload) (i j : ℕ) (e : PyBaseExceptionRef) → RaiseIsTraced function more i j e
+raise_traced more i j e = (refl, (_, refl, (tt, inr (inr (2, _, refl, refl, inr (j, got.Raise e, _, refl, inr (2, refl)))))))
 
 pub overflow_is_run : IsRunOf trees (overflowing ∷ []) overflow_objects (overflow_by (exception 15))
-overflow_is_run = overflow_run function refl (_, refl, (_, refl, refl)) (raise_traced [] (exception 15))
+overflow_is_run = overflow_run function refl (_, refl, (_, refl, refl)) (raise_traced [] 2 4 (exception 15))
 
 -- the objects of two drives that raise, and their run
 abbrev both_objects : List Payload
@@ -126,9 +126,9 @@ both_fit : AllFit both_objects
 both_fit = all_fit both_objects refl (tt, (tt, (tt, (tt, (tt, (tt, (tt, (tt, (tt, (tt, (tt, (tt, (tt, (tt, (tt, (made_error function (error_entry 2 ∷ []), (made_error function (error_entry 2 ∷ []), tt)))))))))))))))))
 
 both_tell : EachTells (Traces trees (object 9) both_objects) both_raise
-unfolding own_events told_by
-both_tell zero a e = subst (λ (a : Activation). Traces trees (object 9) both_objects a.function a.args (own_events 1 both_raise)) (some_is _ a e) (_, refl, (function, refl, raise_traced (error_entry 2 ∷ []) (exception 15)))
-both_tell (suc zero) a e = subst (λ (a : Activation). Traces trees (object 9) both_objects a.function a.args (own_events 2 both_raise)) (some_is _ a e) (_, refl, (function, refl, raise_traced (error_entry 2 ∷ []) (exception 16)))
+unfolding own_from told_by
+both_tell zero a e = subst (λ (a : Activation). Traces trees (object 9) both_objects a.function a.args (own_events 1 both_raise)) (some_is _ a e) (_, refl, (function, refl, raise_traced (error_entry 2 ∷ []) 2 4 (exception 15)))
+both_tell (suc zero) a e = subst (λ (a : Activation). Traces trees (object 9) both_objects a.function a.args (own_events 2 both_raise)) (some_is _ a e) (_, refl, (function, refl, raise_traced (error_entry 2 ∷ []) 9 11 (exception 16)))
 both_tell (suc (suc i)) a e = absurd cc
 
 -- the questions of the two drives

@@ -10,7 +10,7 @@ use Rattle.py_objects.specs.declared.event.Ending.TheVariants as ending
 use Rattle.py_objects.specs.declared.event.DriveAnswer.TheVariants as answer
 use Rattle.py_objects.specs.declared.event.Event.{Event}
 use Rattle.py_objects.specs.Objects.{Obj, Name, HasPayload, name_of, event_numbers, is_among, IsMade, AllFit}
-use Rattle.py_objects.specs.Own.{Own, Makes, Resumes, Asks, Gets, Rounds, Ends, own_events, told_by}
+use Rattle.py_objects.specs.Own.{Own, Makes, Resumes, Asks, Gets, Rounds, Ends, own_events, own_from, told_by}
 use Rattle.py_body.specs.declared.atom.Atom.TheVariants as atom
 use Rattle.py_body.specs.Tree.{show, nothing, first, Tree}
 use Rattle.py_body.specs.Scene.{Scene, anywhere}
@@ -56,9 +56,9 @@ comes = (
 )
 
 loop_traced : IsTrace (anywhere objects (object 9)) function [] (own_events 1 events)
-unfolding own_events told_by
+unfolding own_from told_by
 loop_traced =
-    (refl, (_, refl, (tt, inr (1, inr (0, _, refl, inr (object 11, refl, inr (2, _, refl, refl, inr (got.Value (object 12), _, refl, (true, refl, inr (inr (3, _, refl, inl (refl, refl))))))))))))
+    (refl, (_, refl, (tt, inr (1, inr (0, _, refl, inr (object 11, refl, inr (2, _, refl, refl, inr (5, got.Value (object 12), _, refl, (true, refl, inr (inr (3, _, refl, inl (refl, refl))))))))))))
 
 pub is_run : IsRunOf trees drives objects events
 is_run =
@@ -77,60 +77,63 @@ scene_of g = anywhere objects g
 
 -- what follows the loop
 abbrev Behind : Obj → After
-Behind g = On_normal (EndsBy (scene_of g)) (λ env ts. RunsSuite (scene_of g) nothing env None ts (EndsBy (scene_of g)))
+Behind g = On_normal (EndsBy (scene_of g)) (λ env k ts. RunsSuite (scene_of g) nothing env None k ts (EndsBy (scene_of g)))
 
--- the loop, whose body is begun at most n times
-abbrev Going : Obj → ℕ → List Own → Type 0
-Going g n ts = Loops (scene_of g) 2 None (atom.Bool true) (λ env mid. RunsSuite (scene_of g) nothing env None mid) n [] ts (Behind g)
+-- the loop, whose body is begun at most n times, behind the event k
+abbrev Going : Obj → ℕ → ℕ → List Own → Type 0
+Going g n k ts = Loops (scene_of g) 2 None (atom.Bool true) (λ env i mid. RunsSuite (scene_of g) nothing env None i mid) n [] k ts (Behind g)
 
 -- what follows a test of the loop's
-abbrev Tested : Obj → ℕ → Bool → List Own → Type 0
-Tested g zero b ts = By_truth b ⊥ (Behind g [] Normal ts)
-Tested g (suc n) b ts = By_truth b (RunsSuite (scene_of g) nothing [] None ts (On_turn (Behind g) (λ env rest. Loops (scene_of g) 2 None (atom.Bool true) (λ env1 mid. RunsSuite (scene_of g) nothing env1 None mid) n env rest (Behind g)))) (Behind g [] Normal ts)
+abbrev Tested : Obj → ℕ → Bool → ℕ → List Own → Type 0
+Tested g zero b k ts = By_truth b ⊥ (Behind g [] Normal k ts)
+Tested g (suc n) b k ts =
+    By_truth b
+    (RunsSuite (scene_of g) nothing [] None k ts (On_turn (Behind g) (λ env j rest. Loops (scene_of g) 2 None (atom.Bool true) (λ env1 i mid. RunsSuite (scene_of g) nothing env1 None i mid) n env j rest (Behind g))))
+    (Behind g [] Normal k ts)
 
-abbrev Tests : Obj → ℕ → List Own → Type 0
-Tests g n ts = Chooses (scene_of g) 2 [] None (atom.Bool true) ts (Behind g) (Tested g n)
+abbrev Tests : Obj → ℕ → ℕ → List Own → Type 0
+Tests g n k ts = Chooses (scene_of g) 2 [] None (atom.Bool true) k ts (Behind g) (Tested g n)
 
 -- the loop goes on by a round, which tests
-goes_round : (g : Obj) (n : ℕ) (x : Own) (ts : List Own) → Going g n (x ∷ ts) → (at : ℕ) × (x ≡ Rounds at) × Tests g n ts
-goes_round g zero x ts (inl cut) = absurd (cc cut.0)
-goes_round g zero x ts (inr (at, mid, is, tests)) = let rest : mid ≡ ts = cc is in (at, cc is, subst (λ (l : List Own). Tests g zero l) rest tests)
-goes_round g (suc n) x ts (inl cut) = absurd (cc cut.0)
-goes_round g (suc n) x ts (inr (at, mid, is, tests)) = let rest : mid ≡ ts = cc is in (at, cc is, subst (λ (l : List Own). Tests g (suc n) l) rest tests)
+goes_round : (g : Obj) (n k : ℕ) (x : Own) (ts : List Own) → Going g n k (x ∷ ts) → (at : ℕ) × (x ≡ Rounds at) × Tests g n k ts
+goes_round g zero k x ts (inl cut) = absurd (cc cut.0)
+goes_round g zero k x ts (inr (at, mid, is, tests)) = let rest : mid ≡ ts = cc is in (at, cc is, subst (λ (l : List Own). Tests g zero k l) rest tests)
+goes_round g (suc n) k x ts (inl cut) = absurd (cc cut.0)
+goes_round g (suc n) k x ts (inr (at, mid, is, tests)) = let rest : mid ≡ ts = cc is in (at, cc is, subst (λ (l : List Own). Tests g (suc n) k l) rest tests)
 
 -- a test asks for the truth of an object
-asks_truth : (g : Obj) (n : ℕ) (x : Own) (ts : List Own) → Tests g n (x ∷ ts) → (at : ℕ) × (v : Obj) × (x ≡ Asks at (Truth v) None)
-asks_truth g n x ts h =
+asks_truth : (g : Obj) (n k : ℕ) (x : Own) (ts : List Own) → Tests g n k (x ∷ ts) → (at : ℕ) × (v : Obj) × (x ≡ Asks at (Truth v) None)
+asks_truth g n k x ts h =
     ⊎_elim (λ cut. absurd (cc cut.0)) (λ loads. ⊎_elim (λ cut. absurd (cc cut.0)) (λ asks. (asks.0, loads.0, cc asks.3)) loads.2) h
 
 -- and goes on by the truth value that it gets
-by_truth : (g : Obj) (n at : ℕ) (q w : Obj) (ts : List Own) → Tests g n (Asks at (Truth q) None ∷ Gets (got.Value w) ∷ ts) → (b : Bool) × HasPayload objects w (payload.Bool b) × Tested g n b ts
-by_truth g n at q w ts h =
-    ⊎_elim (λ cut. absurd (cc cut.0)) (λ loads. asked_so _ (Truth loads.0) (Truth q) at (got.Value w) ts _ loads.2) h
+by_truth : (g : Obj) (n k i at : ℕ) (q w : Obj) (ts : List Own) → Tests g n k (Asks at (Truth q) None ∷ Gets i (got.Value w) ∷ ts) → (b : Bool) × HasPayload objects w (payload.Bool b) × Tested g n b i ts
+by_truth g n k i at q w ts h =
+    ⊎_elim (λ cut. absurd (cc cut.0)) (λ loads. asked_so _ (Truth loads.0) (Truth q) at k i (got.Value w) ts _ loads.2) h
 
 -- where that is true the next round follows
-next_round : (g : Obj) (n : ℕ) (x : Own) (ts : List Own) → Tested g n true (x ∷ ts) → (at : ℕ) × (x ≡ Rounds at)
-next_round g zero x ts h = absurd h
-next_round g (suc n) x ts h =
-    ⊎_elim (λ cut. absurd (cc cut.0)) (λ again. let r = goes_round g n x ts again in (r.0, r.1)) h
+next_round : (g : Obj) (n k : ℕ) (x : Own) (ts : List Own) → Tested g n true k (x ∷ ts) → (at : ℕ) × (x ≡ Rounds at)
+next_round g zero k x ts h = absurd h
+next_round g (suc n) k x ts h =
+    ⊎_elim (λ cut. absurd (cc cut.0)) (λ again. let r = goes_round g n k x ts again in (r.0, r.1)) h
 
 -- what the activation of a run tells behind its entry, where the loop is begun
-begins_loop : (g : Obj) (x : Own) (ts : List Own) → IsTrace (scene_of g) function [] (Makes ∷ Resumes Start ∷ x ∷ ts) → (n : ℕ) × Going g n (x ∷ ts)
-begins_loop g x ts h = let b = begun (scene_of g) function [] _ h in ⊎_elim (λ cut. absurd (cc cut.0)) (λ going. going) b.1
+begins_loop : (g : Obj) (k : ℕ) (x : Own) (ts : List Own) → IsTrace (scene_of g) function [] (Makes ∷ Resumes k Start ∷ x ∷ ts) → (n : ℕ) × Going g n k (x ∷ ts)
+begins_loop g k x ts h = let b = begun (scene_of g) function [] _ h in ⊎_elim (λ cut. absurd (cc cut.0)) (λ going. going) b.1
 
 pub no_round_untold : IsRunOf trees drives objects without_round → ⊥
-unfolding own_events told_by
+unfolding own_from told_by
 no_round_untold r =
-    let going = begins_loop r.globals _ _ (traced_with function [] objects drives without_round refl refl r) in
-    let next = goes_round r.globals going.0 _ _ going.1 in
+    let going = begins_loop r.globals 2 _ _ (traced_with function [] objects drives without_round refl refl r) in
+    let next = goes_round r.globals going.0 2 _ _ going.1 in
     cc next.1
 
 pub no_round_untested : IsRunOf trees drives objects untested → ⊥
-unfolding own_events told_by
+unfolding own_from told_by
 no_round_untested r =
-    let going = begins_loop r.globals _ _ (traced_with function [] objects drives untested refl refl r) in
-    let next = goes_round r.globals going.0 _ _ going.1 in
-    let asks = asks_truth r.globals going.0 _ _ next.2 in
+    let going = begins_loop r.globals 2 _ _ (traced_with function [] objects drives untested refl refl r) in
+    let next = goes_round r.globals going.0 2 _ _ going.1 in
+    let asks = asks_truth r.globals going.0 2 _ _ next.2 in
     cc asks.2
 
 -- the second object is True alone
@@ -139,13 +142,13 @@ is_true true h = refl
 is_true false h = absurd (cc h)
 
 pub no_end_where_it_is_true : IsRunOf trees drives objects left_early → ⊥
-unfolding own_events told_by
+unfolding own_from told_by
 no_end_where_it_is_true r =
-    let going = begins_loop r.globals _ _ (traced_with function [] objects drives left_early refl refl r) in
-    let next = goes_round r.globals going.0 _ _ going.1 in
-    let tested = by_truth r.globals going.0 2 (object 11) (object 12) _ next.2 in
-    let told = subst (λ (b : Bool). Tested r.globals going.0 b (Ends 4 (ending.Return (object 0)) ∷ [])) (is_true tested.0 tested.1) tested.2 in
-    let again = next_round r.globals going.0 _ _ told in
+    let going = begins_loop r.globals 2 _ _ (traced_with function [] objects drives left_early refl refl r) in
+    let next = goes_round r.globals going.0 2 _ _ going.1 in
+    let tested = by_truth r.globals going.0 2 5 2 (object 11) (object 12) _ next.2 in
+    let told = subst (λ (b : Bool). Tested r.globals going.0 b 5 (Ends 4 (ending.Return (object 0)) ∷ [])) (is_true tested.0 tested.1) tested.2 in
+    let again = next_round r.globals going.0 5 _ _ told in
     cc again.1
 
 -- ---- the unknown name
@@ -209,8 +212,8 @@ unknown_comes = (
 )
 
 unknown_traced : IsTrace (anywhere unknown_objects (object 9)) unknown_function [] (own_events 1 unknown_events)
-unfolding own_events told_by
-unknown_traced = (refl, (_, refl, (tt, inr (inr (0, _, refl, refl, inr (got.Raise (exception 13), _, refl, inr (0, refl)))))))
+unfolding own_from told_by
+unknown_traced = (refl, (_, refl, (tt, inr (inr (0, _, refl, refl, inr (4, got.Raise (exception 13), _, refl, inr (0, refl)))))))
 
 pub unknown_is_run : IsRunOf unknown_trees drives unknown_objects unknown_events
 unknown_is_run =
@@ -232,7 +235,7 @@ asked_object : (at at' : ℕ) (v w : Obj) (x : Name) (ts us : List Own) → Asks
 asked_object at at' v w x ts us e = let request : Global v x ≡ Global w x = cc e in cc request
 
 pub no_name_asked_of_none : IsRunOf unknown_trees drives unknown_objects (asked_in (object 0) []) → ⊥
-unfolding own_events told_by
+unfolding own_from told_by
 no_name_asked_of_none r =
     let b = begun (anywhere unknown_objects r.globals) unknown_function [] _ (traced_with unknown_function [] unknown_objects drives (asked_in (object 0) []) refl refl r) in
     ⊎_elim (λ cut. cc cut.0) (λ loads. ⊎_elim (λ cut. cc cut.0) (λ asks.

@@ -16,7 +16,7 @@ use Rattle.py_objects.specs.declared.event.DriveAnswer.TheVariants as answer
 use Rattle.py_objects.specs.declared.event.Event.{Event}
 use Rattle.py_objects.specs.declared.event.Event.TheVariants as event
 use Rattle.py_objects.specs.Objects.{Obj, HasPayload, event_numbers, AllBelow, AllFit, AreNamed}
-use Rattle.py_objects.specs.Own.{Own, Makes, Resumes, Asks, Gets, Ends, own_events, told_by}
+use Rattle.py_objects.specs.Own.{Own, Makes, Resumes, Asks, Gets, Ends, own_events, own_from, told_by}
 use Rattle.py_objects.specs.Telling.{AfterValue, Answers}
 use Rattle.py_body.specs.declared.atom.Atom.TheVariants as atom
 use Rattle.py_body.specs.Tree.{show, nothing, first}
@@ -61,8 +61,8 @@ comes a r n m =
     )
 
 shown_traced : (a r : Obj) → IsNone r → IsTrace (anywhere objects (object 9)) function (object 10 ∷ object 11 ∷ []) (own_events 1 (events_by (object 13) a r))
-unfolding own_events told_by
-shown_traced a r m = (refl, (_, refl, (tt, inr (inr (2, _, refl, refl, inr (got.Value (object 13), _, refl, inr (inr (5, _, refl, refl, inr (got.Value a, _, refl, inr (inr (r, m, inr (6, refl))))))))))))
+unfolding own_from told_by
+shown_traced a r m = (refl, (_, refl, (tt, inr (inr (2, _, refl, refl, inr (4, got.Value (object 13), _, refl, inr (inr (5, _, refl, refl, inr (6, got.Value a, _, refl, inr (inr (r, m, inr (6, refl))))))))))))
 
 named : (a r : Obj) → IsNone a → IsNone r → AreNamed objects (events_by (object 13) a r)
 named a r n m =
@@ -99,54 +99,54 @@ text = simp (decimal_45, decimal_1)
 abbrev locals : Obj → Env
 locals v = set_local (codes "x") (Some v) (start_env function (object 10 ∷ object 11 ∷ []))
 
--- what follows the sum, and what follows what is shown
-abbrev Shows : Scene → Env → List Own → Type 0
-Shows scene env ts = RunsSuite scene (first 3 (show (atom.Name (codes "x"))) nothing) env None ts (EndsBy scene)
+-- what follows the sum, and what follows what is shown, behind the event k
+abbrev Shows : Scene → Env → ℕ → List Own → Type 0
+Shows scene env k ts = RunsSuite scene (first 3 (show (atom.Name (codes "x"))) nothing) env None k ts (EndsBy scene)
 
-abbrev Finishes : Scene → Env → List Own → Type 0
-Finishes scene env ts = RunsSuite scene nothing env None ts (EndsBy scene)
+abbrev Finishes : Scene → Env → ℕ → List Own → Type 0
+Finishes scene env k ts = RunsSuite scene nothing env None k ts (EndsBy scene)
 
 -- what follows the answer to the sum
 abbrev AfterSum : Scene → AfterValue
 AfterSum scene = Use (start_env function (object 10 ∷ object 11 ∷ [])) (On_normal (EndsBy scene) (Shows scene)) (λ v. On_normal (EndsBy scene) (Shows scene) (locals v) Normal)
 
-behind_sum : (scene : Scene) (w : GotAnswer) (ts : List Own) → IsTrace scene function (object 10 ∷ object 11 ∷ []) (Makes ∷ Resumes Start ∷ Asks 2 (Binary binary.Add (object 10) (object 11)) None ∷ Gets w ∷ ts) → Answers w ts (AfterSum scene)
+behind_sum : (scene : Scene) (w : GotAnswer) (ts : List Own) → IsTrace scene function (object 10 ∷ object 11 ∷ []) (Makes ∷ Resumes 2 Start ∷ Asks 2 (Binary binary.Add (object 10) (object 11)) None ∷ Gets 4 w ∷ ts) → Answers w 4 ts (AfterSum scene)
 behind_sum scene w ts h =
     let b = begun scene function (object 10 ∷ object 11 ∷ []) _ h in
-    ⊎_elim (λ cut. cc cut.0) (λ more. asked_so _ (Binary binary.Add (object 10) (object 11)) (Binary binary.Add (object 10) (object 11)) 2 w ts (AfterSum scene) more) b.1
+    ⊎_elim (λ cut. cc cut.0) (λ more. asked_so _ (Binary binary.Add (object 10) (object 11)) (Binary binary.Add (object 10) (object 11)) 2 2 4 w ts (AfterSum scene) more) b.1
 
 -- the sum is shown first
-first_shown : (scene : Scene) (v : Obj) (o : Own) (ts : List Own) → Shows scene (locals v) (o ∷ ts) → (at : ℕ) × (o ≡ Asks at (Show v) None)
-first_shown scene v o ts h = ⊎_elim (λ cut. cc cut.0) (λ more. ⊎_elim (λ cut. cc cut.0) (λ asks. (asks.0, cc asks.3)) more) h
+first_shown : (scene : Scene) (v : Obj) (k : ℕ) (o : Own) (ts : List Own) → Shows scene (locals v) k (o ∷ ts) → (at : ℕ) × (o ≡ Asks at (Show v) None)
+first_shown scene v k o ts h = ⊎_elim (λ cut. cc cut.0) (λ more. ⊎_elim (λ cut. cc cut.0) (λ asks. (asks.0, cc asks.3)) more) h
 
-behind_show : (scene : Scene) (v q u : Obj) (ts : List Own) → Shows scene (locals v) (Asks 5 (Show q) None ∷ Gets (got.Value u) ∷ ts) → Finishes scene (locals v) ts
-behind_show scene v q u ts h =
-    ⊎_elim (λ cut. cc cut.0) (λ more. asked_so _ (Show v) (Show q) 5 (got.Value u) ts _ more) h
+behind_show : (scene : Scene) (v q u : Obj) (k i : ℕ) (ts : List Own) → Shows scene (locals v) k (Asks 5 (Show q) None ∷ Gets i (got.Value u) ∷ ts) → Finishes scene (locals v) i ts
+behind_show scene v q u k i ts h =
+    ⊎_elim (λ cut. cc cut.0) (λ more. asked_so _ (Show v) (Show q) 5 k i (got.Value u) ts _ more) h
 
 -- at its end the body returns None
-last_told : (g v : Obj) (o : Own) (ts : List Own) → Finishes (anywhere objects g) (locals v) (o ∷ ts) → (at : ℕ) × (r : Obj) × IsNone r × (o ≡ Ends at (ending.Return r))
-last_told g v o ts h = ⊎_elim (λ cut. cc cut.0) (λ more. ⊎_elim (λ cut. cc cut) (λ end. ⊎_elim (λ cut. cc cut) (λ told. (told.0, end.0, end.1, cc told.1)) end.2) more) h
+last_told : (g v : Obj) (k : ℕ) (o : Own) (ts : List Own) → Finishes (anywhere objects g) (locals v) k (o ∷ ts) → (at : ℕ) × (r : Obj) × IsNone r × (o ≡ Ends at (ending.Return r))
+last_told g v k o ts h = ⊎_elim (λ cut. cc cut.0) (λ more. ⊎_elim (λ cut. cc cut) (λ end. ⊎_elim (λ cut. cc cut) (λ told. (told.0, end.0, end.1, cc told.1)) end.2) more) h
 
 shown_number : (at at' : ℕ) (v w : Obj) (own own' : Option PyBaseExceptionRef) → Asks at (Show v) own ≡ Asks at' (Show w) own' → v.number ≡ w.number
 shown_number at at' v w own own' e = let same : v ≡ w = cc in ap (λ (v : Obj). v.number) same
 
 pub no_show_dropped : IsRunOf trees drives objects without_show → ⊥
-unfolding own_events told_by
+unfolding own_from told_by
 no_show_dropped r =
-    let e = first_shown (anywhere objects r.globals) (object 13) _ _ (behind_sum (anywhere objects r.globals) (got.Value (object 13)) _ (traced function objects drives without_show refl refl r)) in
+    let e = first_shown (anywhere objects r.globals) (object 13) 4 _ _ (behind_sum (anywhere objects r.globals) (got.Value (object 13)) _ (traced function objects drives without_show refl refl r)) in
     cc e.1
 
 pub no_other_value : IsRunOf trees drives objects (events_by (object 10) (object 0) (object 14)) → ⊥
-unfolding own_events told_by
+unfolding own_from told_by
 no_other_value r =
-    let e = first_shown (anywhere objects r.globals) (object 13) _ _ (behind_sum (anywhere objects r.globals) (got.Value (object 13)) _ (traced function objects drives (events_by (object 10) (object 0) (object 14)) refl refl r)) in
+    let e = first_shown (anywhere objects r.globals) (object 13) 4 _ _ (behind_sum (anywhere objects r.globals) (got.Value (object 13)) _ (traced function objects drives (events_by (object 10) (object 0) (object 14)) refl refl r)) in
     let n = shown_number 5 e.0 (object 10) (object 13) None None e.1 in
     cc
 
 pub no_show_twice : IsRunOf trees drives objects shown_twice → ⊥
-unfolding own_events told_by
+unfolding own_from told_by
 no_show_twice r =
-    let e = last_told r.globals (object 13) _ _ (behind_show (anywhere objects r.globals) (object 13) (object 13) (object 0) _ (behind_sum (anywhere objects r.globals) (got.Value (object 13)) _ (traced function objects drives shown_twice refl refl r))) in
+    let e = last_told r.globals (object 13) 6 _ _ (behind_show (anywhere objects r.globals) (object 13) (object 13) (object 0) 4 6 _ (behind_sum (anywhere objects r.globals) (got.Value (object 13)) _ (traced function objects drives shown_twice refl refl r))) in
     cc e.3
 
 -- what is shown is answered by None
@@ -164,14 +164,14 @@ returned_one : (at at' : ℕ) (v w : Obj) → Ends at (ending.Return v) ≡ Ends
 returned_one at at' v w e = cc
 
 pub no_other_end : IsRunOf trees drives objects (events_by (object 13) (object 0) (object 13)) → ⊥
-unfolding own_events told_by
+unfolding own_from told_by
 no_other_end r =
-    let e = last_told r.globals (object 13) _ _ (behind_show (anywhere objects r.globals) (object 13) (object 13) (object 0) _ (behind_sum (anywhere objects r.globals) (got.Value (object 13)) _ (traced function objects drives (events_by (object 13) (object 0) (object 13)) refl refl r))) in
+    let e = last_told r.globals (object 13) 6 _ _ (behind_show (anywhere objects r.globals) (object 13) (object 13) (object 0) 4 6 _ (behind_sum (anywhere objects r.globals) (got.Value (object 13)) _ (traced function objects drives (events_by (object 13) (object 0) (object 13)) refl refl r))) in
     let none = subst IsNone (sym (returned_one 6 e.0 (object 13) e.1 e.3)) e.2 in
     cc
 
-raise_traced : RaiseIsTraced function [] (exception 15)
-raise_traced = (refl, (_, refl, (tt, inr (inr (2, _, refl, refl, inr (got.Raise (exception 15), _, refl, inr (2, refl)))))))
+raise_traced : RaiseIsTraced function [] 2 4 (exception 15)
+raise_traced = (refl, (_, refl, (tt, inr (inr (2, _, refl, refl, inr (4, got.Raise (exception 15), _, refl, inr (2, refl)))))))
 
 pub raise_ends : IsRunOf trees (overflowing ∷ []) overflow_objects (overflow_by (exception 15))
 raise_ends = overflow_run function refl (_, refl, (_, refl, refl)) raise_traced
@@ -184,6 +184,6 @@ raise_text =
     (gives_sum (plan_of trees raise_ends.asked) overflow_objects asking (state_after start asking) (object 10) (object 11) greatest (pos 1) (got.Raise (exception 15)) refl refl raise_ends.run.comes.1.1.1.1.0.1)
 
 pub no_show_behind_a_raise : IsRunOf trees (overflowing ∷ []) overflow_objects shown_behind_raise → ⊥
-unfolding own_events told_by
+unfolding own_from told_by
 no_show_behind_a_raise r =
     ⊎_elim (λ cut. cc cut) (λ end. cc end.1) (behind_sum (anywhere overflow_objects r.globals) (got.Raise (exception 15)) _ (traced function overflow_objects (overflowing ∷ []) shown_behind_raise refl refl r))

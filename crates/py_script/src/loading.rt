@@ -3,10 +3,10 @@
 ghost use Rattle.std.specs.Prelude.{false, ◌≡◌, ◌≤◌, ◌<◌, ◌+◌, ◌++◌, ◌∷◌, [], IfOk, OnOk, map, length, All};
 ghost use Rattle.py_objects.specs.declared.payload.Payload.TheVariants.{Dict as DictPayload};
 ghost use Rattle.py_objects.specs.Objects.{HasPayload, declared, pair_numbers, AllBelow};
-ghost use Rattle.py_check.specs.Rules.{IsTyped};
 ghost use Rattle.py_body.specs.Compilable.{IsCompilable};
 ghost use Rattle.py_body.specs.Fits.{Fits, Continues};
-ghost use Rattle.py_rows.specs.Fitting.{AreNames};
+ghost use Rattle.py_rows.specs.Sound.{AreNames};
+ghost use Rattle.py_vm.specs.Codes.{CodeIsAnswered};
 ghost use Rattle.py_grammar.specs.Script.{declared_tree, trees_of};
 ghost use Rattle.py_script.specs.Loaded.{AreChecked, function_entries};
 ghost use Rattle.py_script.specs.Steps.{AllCompilable, IsRunnable};
@@ -29,7 +29,7 @@ fn compile_one(
 ) -> Result<CheckedCode, NoMemory>
     requires { IsCompilable (declared_tree declaration.now) }
     ensures fits { IfOk result (λ code. Fits names.new code (declared_tree declaration.now)) }
-    ensures typed { IfOk result (λ code. IsTyped code) }
+    ensures answered { IfOk result (λ code. CodeIsAnswered code.code) }
     ensures grows { Continues names.old names.new }
 {
     let code = match declaration {
@@ -46,7 +46,7 @@ fn compile_all(
 ) -> Result<Vec<CheckedCode>, NoMemory>
     requires { AllCompilable (map declared_tree declarations.now) }
     ensures checked { IfOk result (λ codes. AreChecked (map declared_tree declarations.now) (record { names = names.new; codes = codes.items })) }
-    ensures typed { IfOk result (λ codes. All (λ code. IsTyped code) codes.items) }
+    ensures answered { IfOk result (λ codes. All (λ code. CodeIsAnswered code.code) codes.items) }
 {
     let mut codes = Vec::new(alloc);
     for declaration in declarations {
@@ -59,7 +59,7 @@ fn compile_all(
 /// Puts the codes behind those of the machine.
 fn add_codes(vm: &mut VirtualMachine, codes: Vec<CheckedCode>) -> Result<(), NoMemory>
     requires named { All (λ code. AreNames vm.old.checked.names code.code) codes.items }
-    requires typed { All (λ code. IsTyped code) codes.items }
+    requires answered { All (λ code. CodeIsAnswered code.code) codes.items }
     ensures { OnOk result (vm.new ≡ record vm.old { checked = record vm.old.checked { codes = vm.old.checked.codes ++ codes.items } }) }
 {
     for code in codes {

@@ -1,8 +1,8 @@
 use Rattle.std.proofs.Common.{◌++◌, ◌∷◌, [], ℕ, List, ap, sym, subst, ◌∙◌, append-nil, append_assoc}
 use Rattle.std.specs.Prelude.{All}
 use Rattle.py_check.specs.declared.annotated.Annotated.{Annotated}
-use Rattle.py_check.specs.Rules.{IsTyped}
-use Rattle.py_rows.specs.Fitting.{AreNames}
+use Rattle.py_rows.specs.Sound.{AreNames}
+use Rattle.py_vm.specs.Codes.{CodeIsAnswered}
 use Rattle.py_vm.specs.Machine.{Machine}
 use Rattle.py_script.proofs.Declarations.{first_of_all, others_of_all}
 use Rattle.py_script.proofs.loading.add_codes.Goals as goal
@@ -11,34 +11,34 @@ use Rattle.py_script.proofs.loading.add_codes.Goals as goal
 Named : List (List ℕ) → List Annotated → Type 0
 Named names codes = All (λ (code : Annotated). AreNames names code.code) codes
 
--- all codes keep the rules of what is answered
-Typed : List Annotated → Type 0
-Typed codes = All (λ (code : Annotated). IsTyped code) codes
+-- all that the codes may ask is answered
+Answered : List Annotated → Type 0
+Answered codes = All (λ (code : Annotated). CodeIsAnswered code.code) codes
 
 abbrev with_codes : Machine → List Annotated → Machine
 with_codes m codes = record m { checked = record m.checked { codes = codes } }
 
 pub loop-code-init : goal.loop-code-init
-unfolding Named Typed
+unfolding Named Answered
 loop-code-init c =
     let vm : Machine = c.args.vm.now in
     record {
       is = ap (with_codes vm) (sym (append-nil vm.checked.codes));
       named = subst (Named vm.checked.names) (sym c.into_iter-code-iterator.ensures.into_iter_gives.0) c.requires.named;
-      typed = subst Typed (sym c.into_iter-code-iterator.ensures.into_iter_gives.0) c.requires.typed;
+      answered = subst Answered (sym c.into_iter-code-iterator.ensures.into_iter_gives.0) c.requires.answered;
     }
 
 pub add_code-requires : goal.add_code-requires
-unfolding Named Typed
+unfolding Named Answered
 add_code-requires c =
     let left = subst (Named c.args.vm.now.checked.names) c.in-Some.ensures.steps.0 c.loop-code.invariant.named in
     record {
       named = subst (λ (m : Machine). AreNames m.checked.names c.in-Some.code.code) (sym c.loop-code.invariant.is) (first_of_all (λ (code : Annotated). AreNames c.args.vm.now.checked.names code.code) c.in-Some.code c.next.new.self.rest.items left);
-      typed = first_of_all (λ (code : Annotated). IsTyped code) c.in-Some.code c.next.new.self.rest.items (subst Typed c.in-Some.ensures.steps.0 c.loop-code.invariant.typed);
+      answered = first_of_all (λ (code : Annotated). CodeIsAnswered code.code) c.in-Some.code c.next.new.self.rest.items (subst Answered c.in-Some.ensures.steps.0 c.loop-code.invariant.answered);
     }
 
 pub loop-code-preserved : goal.loop-code-preserved
-unfolding Named Typed
+unfolding Named Answered
 loop-code-preserved c =
     let vm : Machine = c.args.vm.now in
     let so_far = c.loop-code.invariant in
@@ -47,5 +47,5 @@ loop-code-preserved c =
       is = c.in-Ok.ensures.1.1 ∙ (ap (λ (m : Machine). with_codes m (m.checked.codes ++ c.in-Some.code ∷ [])) so_far.is
           ∙ ap (with_codes vm) (append_assoc vm.checked.codes c.loop-code.yielded (c.in-Some.code ∷ [])));
       named = others_of_all (λ (code : Annotated). AreNames vm.checked.names code.code) c.in-Some.code c.next.new.self.rest.items left;
-      typed = others_of_all (λ (code : Annotated). IsTyped code) c.in-Some.code c.next.new.self.rest.items (subst Typed c.in-Some.ensures.steps.0 so_far.typed);
+      answered = others_of_all (λ (code : Annotated). CodeIsAnswered code.code) c.in-Some.code c.next.new.self.rest.items (subst Answered c.in-Some.ensures.steps.0 so_far.answered);
     }

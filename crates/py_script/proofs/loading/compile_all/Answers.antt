@@ -1,10 +1,10 @@
 use Rattle.std.proofs.Common.{◌+◌, ◌++◌, ◌∷◌, [], ℕ, List, map, take, sym, subst, arith}
 use Rattle.std.specs.Prelude.{All}
 use Rattle.std.proofs.lemmas.List.Elements.{All-push}
-use Rattle.py_check.specs.Rules.{IsTyped}
 use Rattle.py_check.specs.declared.annotated.Annotated.{Annotated}
 use Rattle.py_body.specs.Tree.{Tree}
 use Rattle.py_grammar.specs.Script.{declared_tree}
+use Rattle.py_vm.specs.Codes.{CodeIsAnswered}
 use Rattle.py_script.specs.Loaded.{AreChecked}
 use Rattle.py_script.proofs.Declarations.{entry_read, front_more, front_whole, none_checked, checked_more}
 use Rattle.py_script.proofs.loading.compile_all.Goals as goal
@@ -16,7 +16,7 @@ compile_one-requires c = c.requires c.loop-declaration.declaration-index (declar
 pub loop-declaration-init : goal.loop-declaration-init
 loop-declaration-init c = record {
   checked = rw c.new-codes.ensures.items (none_checked _);
-  typed = rw c.new-codes.ensures.items (λ i x low. absurd (omega (arith, low)));
+  answered = rw c.new-codes.ensures.items (λ i x low. absurd (omega (arith, low)));
 }
 
 pub loop-declaration-preserved : goal.loop-declaration-preserved
@@ -32,7 +32,7 @@ loop-declaration-preserved c =
     record {
       checked = subst (λ (cs : List Annotated). AreChecked (map declared_tree (take (i + 1) ds)) (record { names = names; codes = cs })) (sym c.in_ok-push.ensures.items)
           (subst (λ (ts : List Tree). AreChecked ts (record { names = names; codes = codes ++ code ∷ [] })) (sym (front_more declared_tree ds i c.declaration-item.result c.loop-declaration-test.true c.declaration-item.is)) more);
-      typed = subst (All (λ (a : Annotated). IsTyped a)) (sym c.in_ok-push.ensures.items) (All-push (λ (a : Annotated). IsTyped a) codes code c.loop-declaration.invariant.typed c.in_ok-code.ensures.typed);
+      answered = subst (All (λ (a : Annotated). CodeIsAnswered a.code)) (sym c.in_ok-push.ensures.items) (All-push (λ (a : Annotated). CodeIsAnswered a.code) codes code c.loop-declaration.invariant.answered c.in_ok-code.ensures.answered);
     }
 
 pub returns-clause-checked : goal.returns-clause-checked

@@ -1,7 +1,7 @@
 use Rattle.std.proofs.Common.{◌≡◌, ◌++◌, map, sym, subst}
 use Rattle.std.specs.Prelude.{All}
 use Rattle.py_check.specs.declared.annotated.Annotated.{Annotated}
-use Rattle.py_rows.specs.Fitting.{AreNames}
+use Rattle.py_rows.specs.Sound.{AreNames}
 use Rattle.py_grammar.specs.Script.{declared_tree}
 use Rattle.py_vm.specs.Codes.{Checked}
 use Rattle.py_script.specs.Loaded.{AreChecked, function_entries}
@@ -14,7 +14,7 @@ pub add_codes-requires : goal.add_codes-requires
 add_codes-requires c =
     let all : Checked = record { names = c.compile_all.new.names; codes = c.in_ok-codes.codes.items } in
     let checked : AreChecked (map declared_tree c.as_slice.result.now) all = c.in_ok-codes.ensures.checked in
-    record { typed = c.in_ok-codes.ensures.typed; named = subst (λ (m : Machine). All (λ (code : Annotated). AreNames m.checked.names code.code) c.in_ok-codes.codes.items) (sym c.in_ok-vm.ensures) (codes_named (map declared_tree c.as_slice.result.now) all checked) }
+    record { answered = c.in_ok-codes.ensures.answered; named = subst (λ (m : Machine). All (λ (code : Annotated). AreNames m.checked.names code.code) c.in_ok-codes.codes.items) (sym c.in_ok-vm.ensures) (codes_named (map declared_tree c.as_slice.result.now) all checked) }
 
 pub returns : goal.returns
 returns c =
