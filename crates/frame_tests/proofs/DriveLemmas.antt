@@ -16,7 +16,7 @@ use Rattle.py_check.specs.Typing.{IsTyped}
 use Rattle.py_rows.specs.declared.expect.Expect.{Expect}
 use Rattle.py_rows.specs.declared.expect.Expect.TheVariants as expect
 use Rattle.py_rows.specs.Below.{HearsBelow}
-use Rattle.py_rows.specs.Fitting.{ArePlaces, IsSound}
+use Rattle.py_rows.specs.Sound.{ArePlaces, IsSound}
 use Rattle.py_rows.specs.RunOfRows.{filled, is_thrown_into}
 use Rattle.py_rows.specs.States.{Setting}
 use Rattle.py_frame.specs.declared.input.Input.{Input}
@@ -68,10 +68,10 @@ frame_runs names code made now entry scope closure args room locals is blocks ar
 
 -- what is expected among the first objects is among more
 pub expected : (objects : List Payload) (setting : Setting) (x y : Expect) (i : Input) → IsExpected x i → x ≡ y → Grows first_objects objects → is_thrown_into setting.code.code.flags ≡ true
-    → Expects objects setting y i × HearsBelow (length objects) (events (heard i))
+    → Expects objects setting y i × ((k : ℕ) → HearsBelow (length objects) (events (heard k i)))
 expected objects setting x y i fits same (more, is) flags =
-    subst (λ (z : Expect). Expects objects setting z i × HearsBelow (length objects) (events (heard i))) same
-    (subst (λ (os : List Payload). Expects os setting x i × HearsBelow (length os) (events (heard i))) (sym is) (fits more setting flags))
+    subst (λ (z : Expect). Expects objects setting z i × ((k : ℕ) → HearsBelow (length objects) (events (heard k i)))) same
+    (subst (λ (os : List Payload). Expects os setting x i × ((k : ℕ) → HearsBelow (length os) (events (heard k i)))) (sym is) (fits more setting flags))
 
 -- a frame that made a step is still driven
 pub driven_on : (old new : List Payload) (names : List (List ℕ)) (code : Annotated) (before slot : Option PyBaseExceptionRef) (f g : Framed) → IsDriven old names code before f → GrowsPlainly old new

@@ -21,18 +21,18 @@ there_6 more = omega arith
 
 -- an exception is thrown in
 pub thrown_first : IsExpected expect.Start (input.Throw (record { number = 5 }))
-thrown_first more setting flags = (((exception_body, refl), refl, flags), ((there_5 more, tt), tt))
+thrown_first more setting flags = (λ k. ((exception_body, refl), refl, flags), λ k. ((there_5 more, tt), tt))
 
 pub thrown_later : IsExpected expect.Resume (input.Throw (record { number = 5 }))
-thrown_later more setting flags = (((exception_body, refl), refl), ((there_5 more, tt), tt))
+thrown_later more setting flags = (λ k. ((exception_body, refl), refl), λ k. ((there_5 more, tt), tt))
 
 -- the raise of an exception answers
 pub fails : (w : Wanted) → IsExpected (expect.Answer w) (input.Answer (answer.Fresh (record { number = 6 })))
-fails w more setting flags = (((exception_body, refl), refl), ((there_6 more, tt), tt))
+fails w more setting flags = (λ k. ((exception_body, refl), refl), λ k. ((there_6 more, tt), tt))
 
 -- an exception answers
 pub caught : IsExpected (expect.Answer (want.Of kind.Exc)) (input.Answer (answer.Value (object_at 5)))
-caught more setting flags = (((exception_body, refl), refl), ((there_5 more, tt), tt))
+caught more setting flags = (λ k. ((exception_body, refl), refl), λ k. ((there_5 more, tt), tt))
 
 pub caught_by : (w : Wanted) (k : Kind) (i : Input) → w ≡ want.Of k → k ≡ kind.Exc → i ≡ input.Answer (answer.Value (object_at 5)) → IsExpected (expect.Answer w) i
 caught_by w k i of exc is = rw (of, exc, is) caught

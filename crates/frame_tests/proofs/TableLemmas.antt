@@ -2,10 +2,9 @@
 use Rattle.std.proofs.Common.{◌≡◌, List, true, length}
 use Rattle.std.proofs.lemmas.Bool.{and_parts}
 use Rattle.py_check.specs.declared.annotated.Annotated.{Annotated}
-use Rattle.py_check.specs.Rules.{keeps_whole}
+use Rattle.py_check.specs.WholeCode.{keeps_whole}
 use Rattle.py_check.specs.Typing.{IsTyped, keeps_at}
-use Rattle.py_check.proofs.WorkedLemmas.{all_below}
-use Rattle.py_check.proofs.WorkedHandlerLemmas.{typed}
+use Rattle.py_check.proofs.WorkedLemmas.{all_below, typed}
 use Rattle.frame_tests.specs.Codes.{IsCodeOf, keeps_rules, sheet}
 use Rattle.frame_tests.specs.declared.tables.Row.{Row}
 

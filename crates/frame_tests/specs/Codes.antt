@@ -8,7 +8,7 @@ use Rattle.py_check.specs.declared.note.Note.{Note}
 use Rattle.py_check.specs.declared.note.Note.TheVariants.{Live}
 use Rattle.py_check.specs.declared.note.Pending.{Pending}
 use Rattle.py_check.specs.declared.annotated.Annotated.{Annotated}
-use Rattle.py_check.specs.Rules.{keeps_whole}
+use Rattle.py_check.specs.WholeCode.{keeps_whole}
 use Rattle.py_check.specs.Sheet.{Sheet, sheet_of}
 use Rattle.py_check.specs.Typing.{keeps_at}
 use Rattle.py_check.proofs.WorkedLemmas.{all_below}

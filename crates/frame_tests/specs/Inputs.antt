@@ -1,5 +1,5 @@
 -- What frames are told.
-use Rattle.std.specs.Prelude.{◌≡◌, ◌++◌, List, length, true}
+use Rattle.std.specs.Prelude.{ℕ, ◌≡◌, ◌++◌, List, length, true}
 use Rattle.py_objects.specs.declared.payload.Payload.{Payload}
 use Rattle.py_rows.specs.declared.expect.Expect.{Expect}
 use Rattle.py_rows.specs.Below.{HearsBelow}
@@ -13,4 +13,4 @@ use Rattle.frame_tests.specs.FirstObjects.{first_objects}
 abbrev pub IsExpected : Expect → Input → Type 0
 IsExpected x i =
     (more : List Payload) (setting : Setting) → is_thrown_into setting.code.code.flags ≡ true
-    → Expects (first_objects ++ more) setting x i × HearsBelow (length (first_objects ++ more)) (events (heard i))
+    → Expects (first_objects ++ more) setting x i × ((k : ℕ) → HearsBelow (length (first_objects ++ more)) (events (heard k i)))

@@ -11,9 +11,11 @@ use py_check::{
     PendingSet,
 };
 use py_code::{
-    CodeFlags, CodeObject, CodeUnit, ItemList, Literal, LiteralList, NameId, NoMemory, PyCode,
+    CodeFlags, CodeObject, CodeUnit, Instruction, ItemList, Literal, LiteralList, NameId, NoMemory,
+    PyCode,
 };
 use std::alloc::Global;
+use std::test::Fail;
 
 /// The jumps that may wait where at most one may.
 fn waiting(alloc: Global, jump: Option<Pending>) -> Result<PendingSet, NoMemory>
@@ -127,4 +129,38 @@ pub fn checked(alloc: Global, rows: &[Row]) -> Result<CheckedCode, NoMemory>
     ensures typed { IfOk result (λ code. IsTyped code) }
 {
     Ok(CheckedCode::of(annotated(alloc, rows)?))
+}
+
+/// The sum of the two parameters.
+const SUM: [Row; 4] = [
+    Row(Instruction::LoadFast, 0, &[], &[]),
+    Row(Instruction::LoadFast, 1, &[Kind::Any], &[]),
+    Row(
+        Instruction::BinaryOperation,
+        6,
+        &[Kind::Any, Kind::Any],
+        &[],
+    ),
+    Row(Instruction::ReturnValue, 0, &[Kind::Any], &[]),
+];
+
+/// How many entries and blocks a note has.
+fn sizes(note: &Note) -> Option<(usize, usize)> {
+    match note {
+        Note::Dead => None,
+        Note::Live { kinds, blocks } => Some((kinds.len(), blocks.len())),
+    }
+}
+
+#[test]
+fn a_checked_code_is_what_was_handed_in(rt: HostRuntime) -> Result<(), Fail> {
+    let code = checked(rt.alloc(), &SUM)?;
+    assert_eq!(rt; (code.code().co_argcount(), code.block_depth()), (2, 0));
+    for (at, row) in SUM.iter().enumerate() {
+        let note = code.note(at).and_then(|note| sizes(note));
+        assert_eq!(rt; note, Some((row.2.len(), 0)), "at {at}");
+    }
+    assert!(rt; code.note(4).is_none());
+    assert_eq!(rt; code.into_code().co_argcount(), 2);
+    Ok(())
 }

@@ -2,7 +2,7 @@
 
 ghost use Rattle.std.specs.Prelude.{◌≡◌, ◌<◌, ℕ, List, [], ◌∷◌, IfOk, length, true};
 ghost use Rattle.py_rows.specs.declared.expect.Expect.TheVariants as expect;
-ghost use Rattle.py_rows.specs.Fitting.{IsSound};
+ghost use Rattle.py_rows.specs.Sound.{IsSound};
 ghost use Rattle.py_rows.specs.RunOfRows.{is_thrown_into};
 ghost use Rattle.py_frame.specs.Running.{IsRunning};
 ghost use Rattle.frame_tests.specs.Codes.{keeps_rules};

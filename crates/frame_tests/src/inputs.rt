@@ -13,7 +13,7 @@ use crate::objects::object;
 use crate::tables::Said;
 use py_check::Kind;
 use py_frame::{Answer, Expect, Input, Wanted};
-use py_objects::PyBaseExceptionRef;
+use py_objects::{GotAnswer, PyBaseExceptionRef};
 
 /// The exception with a number.
 pub const fn exception(number: u64) -> PyBaseExceptionRef
@@ -84,4 +84,10 @@ pub fn input(expects: Expect, said: Said) -> Option<Input>
         },
         Expect::Heard(_) | Expect::Ended => None,
     }
+}
+
+#[test]
+fn an_answer_is_named_by_what_it_is(rt: HostRuntime) {
+    let value = object(7);
+    assert!(rt; Answer::Value(value).got() == GotAnswer::Value(value));
 }

@@ -2,6 +2,9 @@ use Rattle.frame_tests.proofs.DriveLemmas.{driven_on, expected}
 use Rattle.py_frame.specs.Frames.{setting_of}
 use Rattle.frame_tests.proofs.drives.turn.Goals as goal
 
+pub step-requires-clause-expected : goal.step-requires-clause-expected
+step-requires-clause-expected c = (expected _ (setting_of c.args.names.now c.args.code.now c.args.frame.now) _ _ _ c.in_ok-input.ensures c.expects.ensures c.requires.driven.grown c.requires.generator).0
+
 pub step-requires-clause-named : goal.step-requires-clause-named
 step-requires-clause-named c = (expected _ (setting_of c.args.names.now c.args.code.now c.args.frame.now) _ _ _ c.in_ok-input.ensures c.expects.ensures c.requires.driven.grown c.requires.generator).1
 

@@ -1,5 +1,5 @@
 use Rattle.std.proofs.Common.{arith}
-use Rattle.base_tests.proofs.objects.store_of_exception.Goals as goal
+use Rattle.crate_tests.proofs.objects.store_of_exception.Goals as goal
 
 pub add-requires-3 : goal.add-requires-3
 add-requires-3 g c = (omega arith, (omega arith, rw c.new-attrs.ensures tt))

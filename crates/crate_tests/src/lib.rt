@@ -1,0 +1,17 @@
+//! Tests of public calls that neither a script nor a table of units shows, apart from the crates, which would be proved once more with them.
+#![tactic(auto)]
+
+#[cfg(test)]
+mod bodies;
+#[cfg(test)]
+mod codes;
+#[cfg(test)]
+mod grammar;
+#[cfg(test)]
+mod machine;
+#[cfg(test)]
+mod objects;
+#[cfg(test)]
+mod outside;
+#[cfg(test)]
+mod scripts;
