@@ -1,6 +1,8 @@
 //! A machine that a host holds, with one function.
 
-ghost use Rattle.std.specs.Prelude.{◌<◌, length, IfOk, OnOk};
+ghost use Rattle.std.specs.Prelude.{◌≡◌, ◌<◌, false, length, IfOk, OnOk};
+ghost use Rattle.py_rows.specs.Sound.{AreNames};
+ghost use Rattle.py_vm.specs.Codes.{CodeIsAnswered};
 ghost use Rattle.py_body.specs.Compilable.{IsCompilable};
 ghost use Rattle.py_body.specs.Tree.{tree_of};
 ghost use Rattle.worked_host.specs.Host.{IsReady};
@@ -8,7 +10,7 @@ ghost use Rattle.worked_host.specs.Host.{IsReady};
 use crate::fault::HostFault;
 use py_body::{Body, compile_body};
 use py_check::CheckedCode;
-use py_code::{Names, text_of_str, utf8_of};
+use py_code::{Names, PyText, text_of_str, utf8_of};
 use py_objects::{DriveAnswer, FunctionBody, ObjList, Payload, PyObjectRef};
 use py_vm::{Drive, Journal, VirtualMachine};
 use std::alloc::Global;
@@ -21,6 +23,36 @@ pub(crate) struct Host {
     pub(crate) function: PyObjectRef,
 }
 
+/// The code of a body, whose names go into the table: the machine answers all that it may ask.
+fn checked_code(alloc: Global, names: &mut Names, body: &Body) -> Result<CheckedCode, HostFault>
+    requires { IsCompilable (tree_of body.now) }
+    ensures named { IfOk result (λ code. AreNames names.new code.code) }
+    ensures answered { IfOk result (λ code. CodeIsAnswered code.code) }
+{
+    let code = compile_body(alloc, names, body)?;
+    Ok(CheckedCode::of(code))
+}
+
+/// Adds a function of a code to a machine, and binds it to its name.
+fn add_function(
+    alloc: Global,
+    vm: &mut VirtualMachine,
+    code: CheckedCode,
+    name: &PyText,
+) -> Result<PyObjectRef, HostFault>
+    requires named { AreNames vm.old.checked.names code.code }
+    requires answered { CodeIsAnswered code.code }
+    ensures works { OnOk result (vm.new.failed ≡ false) }
+    ensures there { IfOk result (λ function. function.number < length vm.new.objects) }
+{
+    let code = vm.add_code(code)?;
+    let bound = utf8_of(alloc, name)?;
+    let name = name.copy(alloc)?;
+    let function = vm.add_object(Payload::Function(FunctionBody { name, code }))?;
+    vm.set_global(vm.globals(), bound.as_str(), function)?;
+    Ok(function)
+}
+
 impl Host {
     /// A machine that holds the function of a body.
     pub(crate) fn load(alloc: Global, body: &Body) -> Result<Host, HostFault>
@@ -28,13 +60,9 @@ impl Host {
         ensures { IfOk result IsReady }
     {
         let mut names = Names::new(alloc);
-        let code = compile_body(alloc, &mut names, body)?;
+        let code = checked_code(alloc, &mut names, body)?;
         let mut vm = VirtualMachine::new(alloc, names)?;
-        let code = vm.add_code(CheckedCode::of(code))?;
-        let name = body.name.copy(alloc)?;
-        let function = vm.add_object(Payload::Function(FunctionBody { name, code }))?;
-        let bound = utf8_of(alloc, &body.name)?;
-        vm.set_global(vm.globals(), bound.as_str(), function)?;
+        let function = add_function(alloc, &mut vm, code, &body.name)?;
         Ok(Host {
             alloc,
             vm,
