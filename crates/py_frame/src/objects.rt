@@ -4,9 +4,9 @@ ghost use Rattle.std.specs.Prelude.{◌≡◌, Bool, true, false, Some, IfOk};
 ghost use Rattle.py_code.specs.declared.literal.Literal.{Literal as LiteralOf};
 ghost use Rattle.py_objects.specs.declared.payload.Payload.{Payload as PayloadOf};
 ghost use Rattle.py_objects.specs.declared.payload.Payload.TheVariants as payload;
-ghost use Rattle.py_objects.specs.Objects.{HasPayload, IsTraceback, as_object};
+ghost use Rattle.py_objects.specs.Objects.{HasPayload, IsTraceback, as_exception, as_object};
 ghost use Rattle.py_objects.specs.Growth.{GrowsPlainly};
-ghost use Rattle.py_rows.specs.Rows.{as_exception, payload_of};
+ghost use Rattle.py_rows.specs.Rows.{payload_of};
 ghost use Rattle.py_rows.specs.RunOfRows.{is_manager};
 
 use py_code::NoMemory;

@@ -1,5 +1,5 @@
 -- A store as its callers see it, over what it keeps.
-use Rattle.std.proofs.Common.{◌≡◌, ℕ, suc, ◌+◌, ◌<◌, ◌≤◌, Bool, true, false, cond, Some, None, List, [], ◌∷◌, ◌++◌, length, set, slice_get, get_or, refl, ap, sym, ◌∙◌, subst, Vec}
+use Rattle.std.proofs.Common.{◌≡◌, ℕ, suc, ◌+◌, ◌<◌, ◌≤◌, Bool, true, false, cond, Option, Some, None, List, [], ◌∷◌, ◌++◌, length, set, slice_get, get_or, refl, ap, sym, ◌∙◌, subst, Vec}
 use Rattle.std.specs.Vec.{with_items}
 use Rattle.std.proofs.lemmas.List.{length-set, with_items_is}
 use Rattle.std.proofs.lemmas.Option.{slice_get_read, slice_get_within}
@@ -11,25 +11,19 @@ use Rattle.py_objects.specs.declared.edit.Change.{Change}
 use Rattle.py_objects.specs.declared.store.Original.{Original}
 use Rattle.py_objects.specs.Objects.{Obj, HasPayload, AllBelow, payload_numbers}
 use Rattle.py_objects.specs.Edits.{Kept, objects_of, store_at, changed_by, with_edit, edit_numbers, EditFits, IsEdited}
-use Rattle.py_objects.specs.Originals.{may_change, original_of, restored, AreMarked, AreWithin, IsKept, FitsEntry}
+use Rattle.py_objects.specs.Originals.{may_change, original_of, with_copy, restored, AreMarked, AreWithin, IsKept, FitsEntry}
 use Rattle.py_objects.proofs.Slots.{there}
 use Rattle.py_objects.proofs.EditsLemmas.{length-with_edit}
 use Rattle.py_objects.proofs.OriginalsLemmas.{noted, filter-marked, length-restored, restored-noted, restored-with_edit, IsKept-add, IsKept-change}
 
--- a copy is kept of a payload that may change
-pub may_change-Some : (p q : Payload) → original_of p ≡ Some q → (may_change p ≡ true) × (q ≡ p)
-may_change-Some p q is = by (may_change p) is
+-- the originals behind the copy of a payload that comes, which is one only where it may change
+pub noted-copy : (os : List Original) (now : List Payload) (p : Payload) (os2 os3 : List Original) (n : ℕ) (copy : Option Payload)
+    → os3 ≡ with_copy os2 n copy → os2 ≡ os → n ≡ length now → copy ≡ original_of p → os3 ≡ noted os now p (may_change p)
+noted-copy os now p os2 os3 n copy put same last is = put ∙ cc (same, last, is) ∙ by (may_change p)
   where
-    by : (b : Bool) → cond b (Some p) None ≡ Some q → (b ≡ true) × (q ≡ p)
-    by true some = (refl, cc)
-    by false some = absurd (cc)
-
-pub may_change-None : (p : Payload) → original_of p ≡ None → may_change p ≡ false
-may_change-None p is = by (may_change p) is
-  where
-    by : (b : Bool) → cond b (Some p) None ≡ None → b ≡ false
-    by true none = absurd (cc)
-    by false none = refl
+    by : (b : Bool) → with_copy os (length now) (cond b (Some p) None) ≡ noted os now p b
+    by true = refl
+    by false = refl
 
 -- one object is made again what it was made as, and those of the other originals are still to be
 module _ {Z : Type 0} (v : Vec Payload Z) (os rest : List Original) (o : Original) (first : os ≡ o ∷ rest) (within : AreWithin os v.items)

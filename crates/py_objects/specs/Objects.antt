@@ -34,6 +34,10 @@ HasPayload objects v p = slice_get objects v.number ≡ Some p
 abbrev pub as_object : PyBaseExceptionRef → Obj
 as_object e = record { number = e.number }
 
+-- an object as an exception
+abbrev pub as_exception : Obj → PyBaseExceptionRef
+as_exception v = record { number = v.number }
+
 -- a class as an object
 abbrev pub class_object : PyTypeRef → Obj
 class_object c = record { number = c.number }

@@ -1,6 +1,6 @@
 -- How a store keeps what its objects were made as: it has the objects as they are, and those that may change also as they
 -- were made.
-use Rattle.std.specs.Prelude.{ℕ, ◌<◌, ◌≤◌, Option, Some, None, List, [], ◌∷◌, Bool, true, false, ◌||◌, eqb, ◌≡◌, slice_get, slice_set, length, if◌then◌else◌}
+use Rattle.std.specs.Prelude.{ℕ, ◌<◌, ◌≤◌, Option, Some, None, List, [], ◌∷◌, ◌++◌, Bool, true, false, ◌||◌, eqb, ◌≡◌, slice_get, slice_set, length, if◌then◌else◌}
 use Rattle.py_objects.specs.declared.payload.Payload.{Payload}
 use Rattle.py_objects.specs.declared.payload.Payload.TheVariants as payload
 use Rattle.py_objects.specs.declared.edit.Change.{Change}
@@ -29,6 +29,11 @@ may_change (payload.Traceback t) = true
 -- a payload, where it may change
 abbrev pub original_of : Payload → Option Payload
 original_of p = if may_change p then Some p else None
+
+-- the originals and behind them that of the object with this number, where there is one
+abbrev pub with_copy : List Original → ℕ → Option Payload → List Original
+with_copy os n None = os
+with_copy os n (Some p) = os ++ record { number = n; payload = p } ∷ []
 
 -- the objects as they were made
 abbrev pub restored : List Original → List Payload → List Payload

@@ -1,8 +1,9 @@
 //! The store: the objects of a run, as they were made and as they are.
 
-ghost use Rattle.std.specs.Prelude.{◌≡◌, ◌<◌, ◌≤◌, ◌+◌, ℕ, [], ◌∷◌, ◌++◌, length, slice_get, slice_set, Some, IfOk, OnOk, OnErr};
+ghost use Rattle.std.specs.Prelude.{◌≡◌, ◌<◌, ◌≤◌, ◌+◌, ℕ, [], ◌∷◌, ◌++◌, length, slice_get, slice_set, Some, IfOk, OnOk, OnErr, vec_len, vec_capacity};
 ghost use Rattle.py_objects.specs.Objects.{HasPayload, AllBelow, payload_numbers};
 ghost use Rattle.py_objects.specs.Edits.{objects_of, store_at, edit_numbers, EditFits, IsInPlace, IsAsBefore, IsEdited};
+ghost use Rattle.py_objects.specs.Originals.{original_of, with_copy};
 ghost use Rattle.py_objects.specs.declared.payload.Payload.{Payload as PayloadOf};
 ghost use Rattle.py_objects.specs.declared.payload.Payload.TheVariants.{None as NonePayload};
 
@@ -98,12 +99,14 @@ impl Store {
         ensures err { OnErr result (self.new ≡ self.old) }
     {
         let number = self.payloads.len();
-        let original = payload.original(self.alloc)?;
-        self.originals.reserve(1)?;
-        self.payloads.push(payload)?;
-        if let Some(payload) = original {
-            self.originals.push_reserved(Original { number, payload });
-        }
+        let copy = copy_with_room(
+            &payload,
+            &mut self.payloads,
+            &mut self.originals,
+            self.alloc,
+        )?;
+        self.payloads.push_reserved(payload);
+        keep(&mut self.originals, number, copy);
         Ok(PyObjectRef {
             number: number as u64,
         })
@@ -189,6 +192,34 @@ impl Store {
             objects: PayloadList::of(payloads),
             changes: ChangeList::of(changes),
         }
+    }
+}
+
+/// Takes memory for one more object, and copies its payload where that may change.
+fn copy_with_room(
+    payload: &Payload,
+    payloads: &mut Vec<Payload>,
+    originals: &mut Vec<Original>,
+    alloc: Global,
+) -> Result<Option<Payload>, NoMemory>
+    ensures payloads { payloads.new.items ≡ payloads.old.items }
+    ensures originals { originals.new.items ≡ originals.old.items }
+    ensures payloads_room { OnOk result (vec_len payloads.new < vec_capacity payloads.new) }
+    ensures originals_room { OnOk result (vec_len originals.new < vec_capacity originals.new) }
+    ensures copy { IfOk result (λ copy. copy ≡ original_of payload.now) }
+{
+    payloads.reserve(1)?;
+    originals.reserve(1)?;
+    payload.original(alloc)
+}
+
+/// Puts the copy of an object's payload behind the others, where there is one.
+fn keep(originals: &mut Vec<Original>, number: usize, copy: Option<Payload>)
+    requires { vec_len originals.old < vec_capacity originals.old }
+    ensures { originals.new.items ≡ with_copy originals.old.items number copy }
+{
+    if let Some(payload) = copy {
+        originals.push_reserved(Original { number, payload });
     }
 }
 

@@ -11,7 +11,7 @@ use Rattle.py_objects.specs.declared.request.Request.{Request}
 use Rattle.py_objects.specs.declared.request.Request.TheVariants as request
 use Rattle.py_objects.specs.declared.event.GotAnswer.{GotAnswer}
 use Rattle.py_objects.specs.declared.event.GotAnswer.TheVariants as got
-use Rattle.py_objects.specs.Objects.{Obj}
+use Rattle.py_objects.specs.Objects.{Obj, as_exception}
 use Rattle.py_check.specs.Effects.{Effect, Moves, AsksOnce, Other, effect}
 use Rattle.py_check.specs.Taking.{at_place}
 use Rattle.py_rows.specs.declared.block.BlockType.TheVariants.{Finally}
@@ -21,7 +21,7 @@ use Rattle.py_rows.specs.declared.expect.Expect.TheVariants as expect
 use Rattle.py_rows.specs.States.{Setting, State, Step, Goes, Stuck, Move, Plainly, Decides, Manages, next, waiting, with_stack, pushed, opened, jumps}
 use Rattle.py_rows.specs.Unwinding.{unwinds}
 use Rattle.py_rows.specs.Answers.{wanted}
-use Rattle.py_rows.specs.Rows.{asks, takes_off, as_exception, advance}
+use Rattle.py_rows.specs.Rows.{asks, takes_off, advance}
 
 -- a jump that is made, or control goes on behind it
 abbrev pub jumps_if : Bool → ℕ → State → Step

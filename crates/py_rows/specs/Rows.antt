@@ -192,10 +192,6 @@ finishes (Some (reason.Continue to)) v s = unwinds (reason.Continue to) s
 abbrev pub finish_cleanup : State → Step
 finish_cleanup s = takes_off s.stack (λ v above. takes_off above (λ exit rest. in_finally s.blocks (λ level r kept outer. where_there (length above == level) (finishes r v (record s { stack = rest; blocks = outer; slot = kept })))))
 
--- an object as an exception
-abbrev pub as_exception : Obj → PyBaseExceptionRef
-as_exception v = record { number = v.number }
-
 -- an exception is asked for: the one that is handled, what the top value makes, or first what its cause makes
 abbrev pub raises : Option RaiseKind → State → Step
 raises None s = Stuck
