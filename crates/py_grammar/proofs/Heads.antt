@@ -1,26 +1,9 @@
--- Headers of functions, by the table of names, and the name of the body that is open.
+-- The name of the body that is open.
 use Rattle.std.proofs.Common.{◌≡◌, ℕ, List, [], ◌∷◌, Bool, Option, true, false, None, Some, ap, sym, ◌∙◌}
-use Rattle.py_body.specs.Tree.{Name, Tree, pass, nothing}
+use Rattle.py_body.specs.Tree.{pass, nothing}
 use Rattle.py_grammar.specs.declared.line.Line.{Line}
 use Rattle.py_grammar.specs.declared.line.Line.TheVariants as line
-use Rattle.py_grammar.specs.declared.line.Line.TheVariants.{Def}
-use Rattle.py_grammar.specs.Drive.{Drive}
-use Rattle.py_grammar.specs.Reader.{Head, Block, Open, inside, state, only_if, opened, grown, else_of, turned_to, turned, goes_on, outside}
-use Rattle.py_grammar.specs.Tables.{names_of, may_head}
-use Rattle.py_grammar.proofs.Tables.{may_head-names}
-
--- a header that may not stand here
-pub head_refused : (ts : List Tree) (ds : List Drive) (names : List Name) (n : ℕ) (l : Line) (f : Name) (ps : List Name) → names ≡ names_of ts → l ≡ Def f ps → may_head names f ps ≡ false
-    → None ≡ outside ts ds n l
-head_refused ts ds names n l f ps is line may =
-    sym (ap (outside ts ds n) line ∙ ap (λ b. only_if b (state ts ds (Some (opened n f ps)))) (sym (may_head-names ts names f ps is) ∙ may))
-
--- and one that may
-pub head_taken : (ts : List Tree) (ds : List Drive) (names : List Name) (n : ℕ) (l : Line) (f : Name) (ps : List Name) (o : Open) → names ≡ names_of ts → l ≡ Def f ps → may_head names f ps ≡ true
-    → o ≡ opened n f ps → Some (state ts ds (Some o)) ≡ outside ts ds n l
-head_taken ts ds names n l f ps o is line may begun =
-    ap (λ p. Some (state ts ds (Some p))) begun
-    ∙ sym (ap (outside ts ds n) line ∙ ap (λ b. only_if b (state ts ds (Some (opened n f ps)))) (sym (may_head-names ts names f ps is) ∙ may))
+use Rattle.py_grammar.specs.Reader.{Head, Block, Open, inside, only_if, grown, else_of, turned_to, turned, goes_on}
 
 allowed : (b : Bool) (o o2 : Open) → Some o2 ≡ only_if b o → o2 ≡ o
 allowed true o o2 e = cc e

@@ -14,9 +14,9 @@ declares-names x [] = refl
 declares-names x (t ∷ ts) = ap (λ b. bytes_eq x t.name || b) (declares-names x ts)
 
 -- the rule on headers, by the table and with the count first
-pub may_head-names : (ts : List Tree) (names : List Name) (f : Name) (ps : List Name) → names ≡ names_of ts
+pub may_head_names : (ts : List Tree) (names : List Name) (f : Name) (ps : List Name) → names ≡ names_of ts
     → may_head names f ps ≡ may_declare ts f ps
-may_head-names ts names f ps is =
+may_head_names ts names f ps is =
     ap (λ b. nat_le (length ps) 255 && not b && not (is_builtin_class f) && all_differ ps) (ap (is_among f) is ∙ sym (declares-names f ts))
     ∙ turn (nat_le (length ps) 255) (not (declares f ts)) (not (is_builtin_class f)) (all_differ ps)
   where

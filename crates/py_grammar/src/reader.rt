@@ -1,17 +1,21 @@
 //! A reader of lines: what was read so far, and whether one more line may stand behind it.
 
-ghost use Rattle.std.specs.Prelude.{◌≡◌, IfOk, Some, None, [], option_map};
-ghost use Rattle.py_grammar.specs.Script.{trees_of, drives_of};
-ghost use Rattle.py_grammar.specs.Reader.{accept, start, in_body, outside, closed, closes, walk};
+ghost use Rattle.std.specs.Prelude.{◌≡◌, ◌++◌, ◌∷◌, IfOk, Some, None, [], option_map, true};
+ghost use Rattle.py_grammar.specs.Script.{trees_of, drives_of, drive_of};
+ghost use Rattle.py_body.specs.Tree.{tree_of};
+ghost use Rattle.py_grammar.specs.declared.line.Line.TheVariants.{Def as DefLine, Call as CallLine};
+ghost use Rattle.py_grammar.specs.Reader.{accept, start, state, in_body, goes_on, still_inside, opened, outside, closed, closes, walk};
 ghost use Rattle.py_grammar.specs.Reading.{open_of, state_of, IsAnswerOf};
-ghost use Rattle.py_grammar.specs.Tables.{taken_names};
+ghost use Rattle.py_grammar.specs.Tables.{names_of, taken_names, may_head};
 
+use crate::drive::DriveAtomList;
 use crate::fault::ParseFault;
 use crate::line::Line;
 use crate::open_body::{Closed, OpenBody};
 use crate::rules::{may_declare, may_drive};
 use crate::script::{DeclList, Declaration, DriveLine, DriveList, Script};
-use py_code::{NameSet, NoMemory};
+use py_body::{Body, ParamList};
+use py_code::{NameSet, NoMemory, PyText};
 use std::alloc::Global;
 use std::marker::Model;
 
@@ -55,6 +59,20 @@ impl Reader {
         }
     }
 
+    /// The reader behind a function whose lines ended.
+    fn declare(whole: Script, names: NameSet, body: Body) -> Result<Reader, NoMemory>
+        requires { names ≡ names_of (trees_of whole ++ tree_of body ∷ []) }
+        ensures { IfOk result (λ next. state_of next ≡ state (trees_of whole ++ tree_of body ∷ []) (drives_of whole) None) }
+    {
+        let mut whole = whole;
+        whole.declarations.push(Declaration::Function(body))?;
+        Ok(Reader {
+            whole,
+            inside: None,
+            names,
+        })
+    }
+
     /// An `end` where this body is open.
     fn end(whole: Script, names: NameSet, body: OpenBody) -> Result<Reader, NoMemory>
         requires { names ≡ taken_names (trees_of whole) (Some body) }
@@ -66,20 +84,12 @@ impl Reader {
                 inside: Some(body),
                 names,
             }),
-            Closed::Function(body) => {
-                let mut whole = whole;
-                whole.declarations.push(Declaration::Function(body))?;
-                Ok(Reader {
-                    whole,
-                    inside: None,
-                    names,
-                })
-            }
+            Closed::Function(body) => Reader::declare(whole, names, body),
         }
     }
 
-    /// A line where this body is open.
-    fn push_inside(
+    /// A line other than an `end` where this body is open.
+    fn go_on(
         alloc: Global,
         whole: Script,
         names: NameSet,
@@ -88,11 +98,8 @@ impl Reader {
         line: Line,
     ) -> Result<Option<Reader>, NoMemory>
         requires { names ≡ taken_names (trees_of whole) (Some body) }
-        ensures { IfOk result (λ next. option_map state_of next ≡ in_body (trees_of whole) (drives_of whole) (open_of body) number line) }
+        ensures { IfOk result (λ next. option_map state_of next ≡ still_inside (trees_of whole) (drives_of whole) (goes_on (open_of body) number line)) }
     {
-        if line.is_end() {
-            return Ok(Some(Reader::end(whole, names, body)?));
-        }
         match body.push_line(alloc, number, line)? {
             Some(body) => Ok(Some(Reader {
                 whole,
@@ -103,53 +110,123 @@ impl Reader {
         }
     }
 
-    /// A line where no body is open.
-    fn push_outside(
+    /// A line where this body is open.
+    fn push_inside(
+        line: Line,
+        alloc: Global,
+        whole: Script,
+        names: NameSet,
+        body: OpenBody,
+        number: u32,
+    ) -> Result<Option<Reader>, NoMemory>
+        requires { names ≡ taken_names (trees_of whole) (Some body) }
+        ensures { IfOk result (λ next. option_map state_of next ≡ in_body (trees_of whole) (drives_of whole) (open_of body) number line) }
+    {
+        if line.is_end() {
+            Reader::end(whole, names, body).map(Some)
+        } else {
+            Reader::go_on(alloc, whole, names, body, number, line)
+        }
+    }
+
+    /// The reader with the body of a function that may be declared open.
+    fn begin(
         alloc: Global,
         whole: Script,
         names: NameSet,
         number: u32,
+        name: PyText,
+        params: ParamList,
+    ) -> Result<Reader, NoMemory>
+        requires table { names ≡ names_of (trees_of whole) }
+        requires allowed { may_head names name params ≡ true }
+        ensures { IfOk result (λ next. state_of next ≡ state (trees_of whole) (drives_of whole) (Some (opened number name params))) }
+    {
+        let mut names = names;
+        names.insert(&name)?;
+        Ok(Reader {
+            whole,
+            inside: Some(OpenBody::new(alloc, number, name, params)),
+            names,
+        })
+    }
+
+    /// The header of a function where no body is open.
+    #[tactic(auto, using(crate::proofs::Tables::may_head_names))]
+    fn open(
+        alloc: Global,
+        whole: Script,
+        names: NameSet,
+        number: u32,
+        name: PyText,
+        params: ParamList,
+    ) -> Result<Option<Reader>, NoMemory>
+        requires { names ≡ taken_names (trees_of whole) None }
+        ensures { IfOk result (λ next. option_map state_of next ≡ outside (trees_of whole) (drives_of whole) number (DefLine name params)) }
+    {
+        if may_declare(&names, &name, &params) {
+            Reader::begin(alloc, whole, names, number, name, params).map(Some)
+        } else {
+            Ok(None)
+        }
+    }
+
+    /// The reader behind one more drive.
+    fn add_drive(whole: Script, names: NameSet, drive: DriveLine) -> Result<Reader, NoMemory>
+        requires { names ≡ names_of (trees_of whole) }
+        ensures { IfOk result (λ next. state_of next ≡ state (trees_of whole) (drives_of whole ++ drive_of drive ∷ []) None) }
+    {
+        let mut whole = whole;
+        whole.drives.push(drive)?;
+        Ok(Reader {
+            whole,
+            inside: None,
+            names,
+        })
+    }
+
+    /// A drive where no body is open.
+    fn drive(
+        whole: Script,
+        names: NameSet,
+        number: u32,
+        function: PyText,
+        args: DriveAtomList,
+    ) -> Result<Option<Reader>, NoMemory>
+        requires { names ≡ taken_names (trees_of whole) None }
+        ensures { IfOk result (λ next. option_map state_of next ≡ outside (trees_of whole) (drives_of whole) number (CallLine function args)) }
+    {
+        if may_drive(&names, &whole, &function, &args) {
+            Reader::add_drive(whole, names, DriveLine::Call(function, args)).map(Some)
+        } else {
+            Ok(None)
+        }
+    }
+
+    /// A line where no body is open.
+    fn push_outside(
         line: Line,
+        alloc: Global,
+        whole: Script,
+        names: NameSet,
+        number: u32,
     ) -> Result<Option<Reader>, NoMemory>
         requires { names ≡ taken_names (trees_of whole) None }
         ensures { IfOk result (λ next. option_map state_of next ≡ outside (trees_of whole) (drives_of whole) number line) }
     {
         match line {
-            Line::Def(name, params) => {
-                if !may_declare(&names, &name, &params) {
-                    return Ok(None);
-                }
-                let mut names = names;
-                names.insert(&name)?;
-                let body = OpenBody::new(alloc, number, name, params);
-                Ok(Some(Reader {
-                    whole,
-                    inside: Some(body),
-                    names,
-                }))
-            }
-            Line::Call(function, args) => {
-                if !may_drive(&names, &whole, &function, &args) {
-                    return Ok(None);
-                }
-                let mut whole = whole;
-                whole.drives.push(DriveLine::Call(function, args))?;
-                Ok(Some(Reader {
-                    whole,
-                    inside: None,
-                    names,
-                }))
-            }
-            Line::End => Ok(None),
-            Line::Assign(_, _) => Ok(None),
-            Line::Operate(_, _, _) => Ok(None),
-            Line::Do(_, _) => Ok(None),
-            Line::Show(_) => Ok(None),
-            Line::Return(_) => Ok(None),
-            Line::Pass => Ok(None),
-            Line::If(_) => Ok(None),
-            Line::Else => Ok(None),
-            Line::While(_) => Ok(None),
+            Line::Def(name, params) => Reader::open(alloc, whole, names, number, name, params),
+            Line::Call(function, args) => Reader::drive(whole, names, number, function, args),
+            Line::End
+            | Line::Assign(..)
+            | Line::Operate(..)
+            | Line::Do(..)
+            | Line::Show(_)
+            | Line::Return(_)
+            | Line::Pass
+            | Line::If(_)
+            | Line::Else
+            | Line::While(_) => Ok(None),
         }
     }
 
@@ -168,8 +245,8 @@ impl Reader {
             names,
         } = self;
         match inside {
-            Some(body) => Reader::push_inside(alloc, whole, names, body, number, line),
-            None => Reader::push_outside(alloc, whole, names, number, line),
+            Some(body) => Reader::push_inside(line, alloc, whole, names, body, number),
+            None => Reader::push_outside(line, alloc, whole, names, number),
         }
     }
 

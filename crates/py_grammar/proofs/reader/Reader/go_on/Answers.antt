@@ -4,7 +4,7 @@ use Rattle.py_grammar.specs.Script.{trees_of}
 use Rattle.py_grammar.specs.Reading.{open_of}
 use Rattle.py_grammar.specs.Tables.{names_of}
 use Rattle.py_grammar.proofs.Heads.{goes_on-name}
-use Rattle.py_grammar.proofs.reader.Reader.push_inside.Goals as goal
+use Rattle.py_grammar.proofs.reader.Reader.go_on.Goals as goal
 
 pub invariant_of-result : goal.invariant_of-result
 invariant_of-result c =
