@@ -7,6 +7,7 @@ use Rattle.py_body.specs.Tree.{Tree}
 use Rattle.py_body.specs.Fits.{Fits}
 use Rattle.py_vm.specs.Classes.{first_objects}
 use Rattle.py_vm.specs.Codes.{Checked}
+use Rattle.py_vm.specs.Machine.{Machine}
 
 -- the entries of functions, the first of which has the code of this number
 abbrev pub function_entries : ℕ → List Tree → List Payload
@@ -21,3 +22,10 @@ script_objects ts = first_objects ++ function_entries 0 ts
 pub record AreChecked (ts : List Tree) (cs : Checked) : Type 0 where
   pub count : length cs.codes ≡ length ts
   pub fit : (i : ℕ) (t : Tree) → slice_get ts i ≡ Some t → (c : Annotated) × (slice_get cs.codes i ≡ Some c) × Fits cs.names c t
+
+-- with more codes, and with more objects
+abbrev pub with_codes : Machine → List Annotated → Machine
+with_codes m codes = record m { checked = record m.checked { codes = m.checked.codes ++ codes } }
+
+abbrev pub with_objects : Machine → List Payload → Machine
+with_objects m objects = record m { objects = m.objects ++ objects }

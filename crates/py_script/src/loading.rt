@@ -1,16 +1,15 @@
 //! The declarations of a script in a machine: their codes, their functions, and the dict of their names.
 
 ghost use Rattle.std.specs.Prelude.{false, ◌≡◌, ◌≤◌, ◌<◌, ◌+◌, ◌++◌, ◌∷◌, [], IfOk, OnOk, map, length, All};
-ghost use Rattle.py_objects.specs.declared.payload.Payload.TheVariants.{Dict as DictPayload};
 ghost use Rattle.py_objects.specs.Objects.{HasPayload, declared, pair_numbers, AllBelow};
 ghost use Rattle.py_body.specs.Compilable.{IsCompilable};
 ghost use Rattle.py_body.specs.Fits.{Fits, Continues};
 ghost use Rattle.py_rows.specs.Sound.{AreNames};
 ghost use Rattle.py_vm.specs.Codes.{CodeIsAnswered};
 ghost use Rattle.py_grammar.specs.Script.{declared_tree, trees_of};
-ghost use Rattle.py_script.specs.Loaded.{AreChecked, function_entries};
+ghost use Rattle.py_script.specs.Loaded.{AreChecked, function_entries, with_codes, with_objects};
 ghost use Rattle.py_script.specs.Steps.{AllCompilable, IsRunnable};
-ghost use Rattle.py_script.specs.Session.{AreBindings, AreDeclared, HasFunctions, IsLoaded, IsValue, OnlyGrew};
+ghost use Rattle.py_script.specs.Session.{AreBindings, AreDeclared, BindsAll, HasFunctions, IsLoaded, IsValue, OnlyGrew, TakesGlobals};
 
 use crate::session::Session;
 use py_body::compile_body;
@@ -146,8 +145,7 @@ fn bind_names(
 fn take_globals(vm: &mut VirtualMachine, pairs: PairList) -> Result<(), NoMemory>
     requires nothing { vm.old.events ≡ [] }
     requires below { AllBelow (length vm.old.objects) (pair_numbers pairs) }
-    ensures is { OnOk result (HasPayload vm.new.objects vm.new.globals (DictPayload pairs)) }
-    ensures taken { OnOk result (vm.new ≡ record vm.old { objects = vm.old.objects ++ DictPayload pairs ∷ []; globals = vm.new.globals }) }
+    ensures { OnOk result (TakesGlobals vm.old vm.new pairs) }
 {
     let Ok(globals) = vm.add_object(Payload::Dict(pairs)) else {
         return Err(NoMemory);
@@ -158,19 +156,50 @@ fn take_globals(vm: &mut VirtualMachine, pairs: PairList) -> Result<(), NoMemory
     }
 }
 
+/// Puts the codes of the declarations into a machine, and a function of each.
+fn add_declarations(
+    alloc: Global,
+    vm: &mut VirtualMachine,
+    declarations: &[Declaration],
+    codes: Vec<CheckedCode>,
+) -> Result<(), NoMemory>
+    requires named { All (λ code. AreNames vm.old.checked.names code.code) codes.items }
+    requires answered { All (λ code. CodeIsAnswered code.code) codes.items }
+    requires coded { length declarations.now ≤ length codes.items }
+    ensures { OnOk result (vm.new ≡ with_objects (with_codes vm.old codes.items) (function_entries 0 (map declared_tree declarations.now))) }
+{
+    add_codes(vm, codes)?;
+    add_functions(alloc, vm, declarations)
+}
+
 /// A machine with the codes and the functions of the declarations.
 fn load_functions(alloc: Global, script: &Script) -> Result<VirtualMachine, NoMemory>
     requires { IsRunnable script.now }
     ensures { IfOk result (λ vm. HasFunctions (trees_of script.now) vm) }
 {
+    let declarations = script.declarations.as_slice();
     let mut names = Names::new(alloc);
-    let codes = compile_all(alloc, &mut names, script.declarations.as_slice())?;
+    let codes = compile_all(alloc, &mut names, declarations)?;
     let mut vm = VirtualMachine::new(alloc, names)?;
-    add_codes(&mut vm, codes)?;
-    add_functions(alloc, &mut vm, script.declarations.as_slice())?;
+    add_declarations(alloc, &mut vm, declarations, codes)?;
     // It holds what every machine does.
     let _objects = vm.store();
     Ok(vm)
+}
+
+/// Has a machine use a dict of the declarations' names as its globals.
+fn bind_declarations(
+    alloc: Global,
+    vm: &mut VirtualMachine,
+    declarations: &[Declaration],
+) -> Result<(), NoMemory>
+    requires works { vm.old.failed ≡ false }
+    requires nothing { vm.old.events ≡ [] }
+    requires declared { AreDeclared vm.old.objects (map declared_tree declarations.now) }
+    ensures { OnOk result (BindsAll (map declared_tree declarations.now) vm.old vm.new) }
+{
+    let pairs = bind_names(alloc, vm, declarations)?;
+    take_globals(vm, pairs)
 }
 
 /// A machine that holds the declarations of the script, with the dict of their names as its globals.
@@ -179,8 +208,7 @@ pub(crate) fn load_script(alloc: Global, script: &Script) -> Result<Session, NoM
     ensures { IfOk result (λ session. IsLoaded (trees_of script.now) session) }
 {
     let mut vm = load_functions(alloc, script)?;
-    let pairs = bind_names(alloc, &mut vm, script.declarations.as_slice())?;
-    take_globals(&mut vm, pairs)?;
+    bind_declarations(alloc, &mut vm, script.declarations.as_slice())?;
     Ok(Session {
         alloc,
         vm,
