@@ -8,6 +8,7 @@ ghost use Rattle.py_body.specs.Tree.{tree_of};
 ghost use Rattle.worked_host.specs.Host.{IsReady};
 
 use crate::fault::HostFault;
+use crate::function::count_down;
 use py_body::{Body, compile_body};
 use py_check::CheckedCode;
 use py_code::{Names, PyText, text_of_str, utf8_of};
@@ -54,8 +55,16 @@ fn add_function(
 }
 
 impl Host {
+    /// A machine that holds the function that counts down.
+    pub(crate) fn of_count_down(alloc: Global) -> Result<Host, HostFault>
+        ensures { IfOk result IsReady }
+    {
+        let body = count_down(alloc)?;
+        Host::load(alloc, &body)
+    }
+
     /// A machine that holds the function of a body.
-    pub(crate) fn load(alloc: Global, body: &Body) -> Result<Host, HostFault>
+    fn load(alloc: Global, body: &Body) -> Result<Host, HostFault>
         requires { IsCompilable (tree_of body.now) }
         ensures { IfOk result IsReady }
     {

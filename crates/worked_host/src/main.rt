@@ -10,7 +10,6 @@ mod host;
 mod print;
 
 use crate::fault::HostFault;
-use crate::function::count_down;
 use crate::host::Host;
 use crate::print::{print_journal, said_of};
 use std::process::ExitCode;
@@ -41,11 +40,17 @@ fn call_text(rt: &HostRuntime, host: &mut Host, text: &str) -> Result<(), HostFa
     Ok(())
 }
 
+/// Calls the function with a number and with a text.
+fn call_twice(rt: &HostRuntime, host: &mut Host) -> Result<(), HostFault>
+    requires { IsReady host.old }
+{
+    call_number(rt, host, 2)?;
+    call_text(rt, host, "two")
+}
+
 fn run(rt: &HostRuntime) -> Result<(), HostFault> {
-    let alloc = rt.alloc();
-    let mut host = Host::load(alloc, &count_down(alloc)?)?;
-    call_number(rt, &mut host, 2)?;
-    call_text(rt, &mut host, "two")?;
+    let mut host = Host::of_count_down(rt.alloc())?;
+    call_twice(rt, &mut host)?;
     print_journal(rt, &host.finish())
 }
 
