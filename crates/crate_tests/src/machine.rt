@@ -2,9 +2,9 @@
 
 ghost use Rattle.std.specs.Prelude.{◌≡◌, ◌≤◌, [], false, length, IfOk, OnOk};
 
-use py_code::{Names, NoMemory, text_of};
+use py_code::{Names, NoMemory, PyText, text_of};
 use py_objects::{DriveAnswer, ObjList, PairList, Payload, PyObjectRef};
-use py_vm::{Drive, PyResult, VirtualMachine, VmFault};
+use py_vm::{Drive, PyGlobalState, PyResult, VirtualMachine, VmFault};
 use std::alloc::Global;
 use std::test::Fail;
 
@@ -79,14 +79,6 @@ fn use_new_globals(alloc: Global, vm: &mut VirtualMachine) -> PyResult<u64>
     Ok(vm.globals().number)
 }
 
-/// How many codes and changes a machine's journal has, once a number was put into the dict of the globals.
-fn journal_with_a_number(vm: VirtualMachine) -> PyResult<(usize, usize)> {
-    let mut vm = vm;
-    set_number(&mut vm, "x", 1)?;
-    let journal = vm.journal();
-    Ok((journal.codes.len(), journal.changes.len()))
-}
-
 /// Enters a place so many times.
 fn enter_all(vm: &mut VirtualMachine, levels: u16) -> PyResult<()>
     ensures { OnOk result (levels ≤ vm.new.entered) }
@@ -104,9 +96,21 @@ fn set_number(vm: &mut VirtualMachine, name: &str, number: i128) -> PyResult<()>
     vm.set_global(globals, name, value)
 }
 
+/// What a new machine is seen as, what it declares under a name, and its state.
+fn new_machine_seen(
+    alloc: Global,
+    name: &PyText,
+) -> Result<(Seen, Option<PyObjectRef>, PyGlobalState), NoMemory> {
+    let vm = machine(alloc)?;
+    Ok((seen_of(&vm), vm.declared(name), *vm.state()))
+}
+
 #[test]
-fn a_machine_begins_with_seven_objects(rt: HostRuntime) -> Result<(), Fail> {
-    let mut vm = machine(rt.alloc())?;
+fn a_machine_begins_with_seven_objects_and_declares_its_classes(
+    rt: HostRuntime,
+) -> Result<(), Fail> {
+    let name = text_of(rt.alloc(), b"TypeError")?;
+    let (seen, declared, state) = new_machine_seen(rt.alloc(), &name)?;
     let begun = Seen {
         names: 1,
         objects: 7,
@@ -114,60 +118,66 @@ fn a_machine_begins_with_seven_objects(rt: HostRuntime) -> Result<(), Fail> {
         depth: 0,
         has_frames: false,
     };
-    assert_eq!(rt; seen_of(&vm), begun);
-    let state = vm.state();
+    assert_eq!(rt; seen, begun);
+    assert_eq!(rt; declared, Some(PyObjectRef { number: 4 }));
     assert_eq!(rt; (state.finalizing, state.int_max_str_digits), (false, 4300));
-    assert_eq!(rt; use_new_globals(rt.alloc(), &mut vm).ok(), Some(7));
     Ok(())
 }
 
-#[test]
-fn a_class_is_declared_by_its_name(rt: HostRuntime) -> Result<(), Fail> {
-    let name = text_of(rt.alloc(), b"TypeError")?;
-    let vm = machine(rt.alloc())?;
-    assert_eq!(rt; vm.declared(&name), Some(PyObjectRef { number: 4 }));
-    Ok(())
-}
-
-#[test]
-fn the_host_enters_1000_levels(rt: HostRuntime) -> Result<(), Fail> {
-    let mut vm = machine(rt.alloc())?;
-    assert!(rt; enter_all(&mut vm, 1000).is_ok());
-    assert!(rt; matches!(vm.enter("in a test"), Err(VmFault::Exception(_))));
-    assert_eq!(rt; vm.current_recursion_depth(), 1000);
-    Ok(())
-}
-
-#[test]
-fn a_level_that_is_left_is_entered_again(rt: HostRuntime) -> Result<(), Fail> {
-    let mut vm = machine(rt.alloc())?;
-    enter_all(&mut vm, 1000)?;
-    vm.leave();
-    assert_eq!(rt; vm.current_recursion_depth(), 999);
-    assert!(rt; vm.enter("in a test").is_ok());
-    Ok(())
-}
-
-#[test]
-fn turns_run_out(rt: HostRuntime) -> Result<(), Fail> {
-    let mut vm = machine(rt.alloc())?;
-    let outcomes = [
-        call_none(rt.alloc(), &mut vm, 2),
-        call_none(rt.alloc(), &mut vm, 1),
-        call_none(rt.alloc(), &mut vm, 2),
-    ];
-    assert_eq!(rt;
-        outcomes,
-        [Outcome::Raises, Outcome::OutOfTurns, Outcome::Failed]
-    );
-    let seen = seen_of(&vm);
-    assert_eq!(rt; (seen.events, seen.has_frames), (3, false));
-    Ok(())
+/// The number of a new dict that a machine uses as its globals, whether a number was put into it, and how many codes and changes its
+/// journal has then.
+fn set_and_listed(alloc: Global) -> Result<(Option<u64>, bool, usize, usize), NoMemory> {
+    let mut vm = machine(alloc)?;
+    let globals = use_new_globals(alloc, &mut vm).ok();
+    let is_set = set_number(&mut vm, "x", 1).is_ok();
+    let journal = vm.journal();
+    Ok((globals, is_set, journal.codes.len(), journal.changes.len()))
 }
 
 #[test]
 fn globals_are_set_behind_the_events_so_far(rt: HostRuntime) -> Result<(), Fail> {
-    let vm = machine(rt.alloc())?;
-    assert_eq!(rt; journal_with_a_number(vm).ok(), Some((0, 1)));
+    assert_eq!(rt; set_and_listed(rt.alloc())?, (Some(7), true, 0, 1));
+    Ok(())
+}
+
+/// Whether a host may enter 1000 levels, then again one that it has left, and whether one more raises, with how deep it is at the
+/// end.
+fn levels_entered(alloc: Global) -> Result<([bool; 3], usize), NoMemory> {
+    let mut vm = machine(alloc)?;
+    let all = match enter_all(&mut vm, 1000) {
+        Ok(()) => {
+            vm.leave();
+            true
+        }
+        Err(_) => false,
+    };
+    let again = vm.enter("in a test").is_ok();
+    let raises = matches!(vm.enter("in a test"), Err(VmFault::Exception(_)));
+    Ok(([all, again, raises], vm.current_recursion_depth()))
+}
+
+#[test]
+fn the_host_enters_1000_levels_and_again_one_that_it_left(rt: HostRuntime) -> Result<(), Fail> {
+    assert_eq!(rt; levels_entered(rt.alloc())?, ([true, true, true], 1000));
+    Ok(())
+}
+
+/// What calls of None come to in two turns, in one, and in two, and what the machine is seen as then.
+fn calls_of_none(alloc: Global) -> Result<([Outcome; 3], Seen), NoMemory> {
+    let mut vm = machine(alloc)?;
+    let outcomes = [
+        call_none(alloc, &mut vm, 2),
+        call_none(alloc, &mut vm, 1),
+        call_none(alloc, &mut vm, 2),
+    ];
+    Ok((outcomes, seen_of(&vm)))
+}
+
+#[test]
+fn turns_run_out(rt: HostRuntime) -> Result<(), Fail> {
+    let (outcomes, seen) = calls_of_none(rt.alloc())?;
+    let want = [Outcome::Raises, Outcome::OutOfTurns, Outcome::Failed];
+    assert_eq!(rt; outcomes, want);
+    assert_eq!(rt; (seen.events, seen.has_frames), (3, false));
     Ok(())
 }

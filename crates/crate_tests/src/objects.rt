@@ -4,7 +4,7 @@ ghost use Rattle.std.specs.Prelude.{◌≡◌, IfOk};
 ghost use Rattle.py_objects.specs.Objects.{AllBelow};
 ghost use Rattle.py_objects.specs.Edits.{edit_numbers, FitsException, IsInPlace};
 
-use py_code::{NoMemory, text_of};
+use py_code::{NoMemory, PyText, text_of};
 use py_objects::{
     AttrMap, Change, ClassBody, Edit, ExceptionBody, History, LinkField, ObjList, PairList,
     Payload, PyObjectRef, PyTypeRef, Scope, Store,
@@ -142,48 +142,113 @@ fn store_of_exception(rt: &impl Abort, alloc: Global) -> Result<Store, NoMemory>
     Ok(store)
 }
 
-#[test]
-fn an_exception_is_kept_as_it_was_made(rt: HostRuntime) -> Result<(), Fail> {
-    let alloc = rt.alloc();
-    let value = text_of(alloc, b"value")?;
-    let mut store = store_of_exception(&rt, alloc)?;
+/// Makes five edits of the exception 3, marked with two events.
+fn edit_five_times(rt: &impl Abort, store: &mut Store, name: PyText) -> Result<(), NoMemory>
+    requires { store.old.mark ≡ 0 }
+{
     store.reserve_changes(5)?;
-    change_exception(&rt, &mut store, Edit::Flag(true));
+    change_exception(rt, store, Edit::Flag(true));
     store.mark(2);
     let cause = Edit::Link(LinkField::Cause, Some(object(0)));
-    change_exception(&rt, &mut store, cause);
-    change_exception(&rt, &mut store, Edit::Args(object(1)));
+    change_exception(rt, store, cause);
+    change_exception(rt, store, Edit::Args(object(1)));
     store.mark(5);
-    let set = Edit::Attr(value.copy(alloc)?, Some(object(2)));
-    edit_exception(&rt, &mut store, set)?;
+    edit_exception(rt, store, Edit::Attr(name, Some(object(2))))?;
     let context = Edit::Link(LinkField::Context, Some(object(3)));
-    change_exception(&rt, &mut store, context);
-    assert!(rt; 3 < store.len());
-    let Payload::Exception(now) = store.get(object(3)) else {
-        panic!(rt; "not an exception")
-    };
-    assert_eq!(rt;
-        (now.cause, now.context, now.traceback),
-        (Some(object(0)), Some(object(3)), None)
-    );
-    assert_eq!(rt; (now.args, now.suppress), (object(1), true));
-    assert_eq!(rt; now.attrs.get(&value), Some(object(2)));
-    let History { objects, changes } = store.into_history();
-    let Some(Payload::Exception(made)) = objects.get(3) else {
-        panic!(rt; "not an exception")
-    };
-    assert_eq!(rt;
-        (made.cause, made.context, made.args),
-        (None, None, object(2))
-    );
-    assert_eq!(rt; (made.suppress, made.attrs.len()), (false, 0));
-    let marks = [0, 2, 2, 5, 5];
-    assert_eq!(rt; changes.len(), marks.len());
-    for (change, mark) in changes.as_slice().iter().zip(marks) {
-        assert_eq!(rt; (change.object, change.after), (object(3), mark));
+    change_exception(rt, store, context);
+    Ok(())
+}
+
+/// A store whose exception was edited, also its attribute of this name.
+fn edited_store(rt: &impl Abort, alloc: Global, name: &PyText) -> Result<Store, NoMemory> {
+    let name = name.copy(alloc)?;
+    let mut store = store_of_exception(rt, alloc)?;
+    edit_five_times(rt, &mut store, name)?;
+    Ok(store)
+}
+
+/// What is seen of an exception, with its attribute of one name.
+#[derive(Clone, Copy, Debug, PartialEq, Eq)]
+struct Seen {
+    args: PyObjectRef,
+    cause: Option<PyObjectRef>,
+    context: Option<PyObjectRef>,
+    suppress: bool,
+    has_traceback: bool,
+    attr: Option<PyObjectRef>,
+    attrs: usize,
+}
+
+fn seen_of(payload: &Payload, name: &PyText) -> Option<Seen> {
+    match payload {
+        Payload::Exception(body) => Some(Seen {
+            args: body.args,
+            cause: body.cause,
+            context: body.context,
+            suppress: body.suppress,
+            has_traceback: body.traceback.is_some(),
+            attr: body.attrs.get(name),
+            attrs: body.attrs.len(),
+        }),
+        _ => None,
     }
-    assert!(rt;
-        matches!(changes.get(2), Some(Change { edit: Edit::Args(v), .. }) if *v == object(1))
-    );
+}
+
+/// What an exception is and was made as, and its changes: the object and the mark of each of the first six, and whether the third
+/// one sets the arguments to object 1.
+#[derive(Clone, Copy, Debug, PartialEq, Eq)]
+struct Kept {
+    now: Option<Seen>,
+    made: Option<Seen>,
+    changes: [Option<(PyObjectRef, u64)>; 6],
+    third_sets_args: bool,
+}
+
+/// What is kept of the exception of a store.
+fn kept_of(rt: &impl Abort, store: Store, name: &PyText) -> Kept {
+    assert!(rt; 3 < store.len());
+    let now = seen_of(store.get(object(3)), name);
+    let History { objects, changes } = store.into_history();
+    let change_at = |at: usize| changes.get(at).map(|change| (change.object, change.after));
+    Kept {
+        now,
+        made: objects.get(3).and_then(|payload| seen_of(payload, name)),
+        changes: [0, 1, 2, 3, 4, 5].map(change_at),
+        third_sets_args: matches!(
+            changes.get(2),
+            Some(Change { edit: Edit::Args(args), .. }) if *args == object(1)
+        ),
+    }
+}
+
+#[test]
+fn an_exception_is_kept_as_it_was_made(rt: HostRuntime) -> Result<(), Fail> {
+    let name = text_of(rt.alloc(), b"value")?;
+    let store = edited_store(&rt, rt.alloc(), &name)?;
+    let kept = kept_of(&rt, store, &name);
+    let edited = Seen {
+        args: object(1),
+        cause: Some(object(0)),
+        context: Some(object(3)),
+        suppress: true,
+        has_traceback: false,
+        attr: Some(object(2)),
+        attrs: 1,
+    };
+    assert_eq!(rt; kept.now, Some(edited));
+    let first = Seen {
+        args: object(2),
+        cause: None,
+        context: None,
+        suppress: false,
+        has_traceback: false,
+        attr: None,
+        attrs: 0,
+    };
+    assert_eq!(rt; kept.made, Some(first));
+    let after = |mark: u64| Some((object(3), mark));
+    let want = [after(0), after(2), after(2), after(5), after(5), None];
+    assert_eq!(rt; kept.changes, want);
+    assert!(rt; kept.third_sets_args);
     Ok(())
 }
