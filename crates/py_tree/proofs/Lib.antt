@@ -1,0 +1,4 @@
+mod Trees
+pub mod Carry
+mod WorkedLemmas
+mod WorkedHandlerLemmas

@@ -1,0 +1,16 @@
+-- bodies as plain trees, and those of the program as such
+pub mod Tree
+pub mod Views
+-- the names of a body, and its locals
+pub mod Binding
+-- what a tree may tell
+pub mod Scene
+pub mod Outcome
+pub mod Trace
+-- what holds of every trace
+pub mod Laws
+-- small trees, worked by hand
+pub mod Worked
+pub mod WorkedHandlers
+-- how suites are put together
+pub mod Suites

@@ -1,0 +1,30 @@
+-- How suites and clauses are put together.
+use Rattle.std.specs.Prelude.{ℕ, List, [], ◌∷◌}
+use Rattle.py_tree.specs.declared.stmt.Stmt.{Stmt}
+use Rattle.py_tree.specs.declared.stmt.Clause.{Clause, Clause'}
+use Rattle.py_tree.specs.Tree.{Form, Suite, nothing, first, Clauses, no_more, clause}
+use Rattle.py_tree.specs.Views.{form_of, suite_of}
+
+-- the suite of statements in order
+abbrev pub list_suite : List Stmt → Suite
+list_suite [] = nothing
+list_suite (s ∷ ss) = first s.line (form_of s.form) (list_suite ss)
+
+-- one suite behind another
+abbrev pub joined : Suite → Suite → Suite
+joined nothing t = t
+joined (first n f more) t = first n f (joined more t)
+
+-- a statement behind others
+abbrev pub add : Suite → ℕ → Form → Suite
+add s n f = joined s (first n f nothing)
+
+-- clauses in order
+abbrev pub list_clauses : List Clause → Clauses
+list_clauses [] = no_more
+list_clauses (Clause' line class target suite ∷ cs) = clause line class target (suite_of suite) (list_clauses cs)
+
+-- a clause behind others
+abbrev pub add_clause : Clauses → Clause → Clauses
+add_clause no_more (Clause' line class target suite) = clause line class target (suite_of suite) no_more
+add_clause (clause n x t s more) c = clause n x t s (add_clause more c)

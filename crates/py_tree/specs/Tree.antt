@@ -1,0 +1,44 @@
+-- Bodies as the definitions see them: plain trees, apart from the program's lists.
+use Rattle.std.specs.Prelude.{ℕ, Option, List}
+use Rattle.py_tree.specs.declared.expr.Atom.{Atom}
+use Rattle.py_tree.specs.declared.expr.Expr.{Expr}
+use Rattle.py_tree.specs.declared.expr.Operation.{Operation}
+
+-- a name is the list of its characters
+abbrev pub Name : Type 0
+Name = List ℕ
+
+mutual
+  -- a statement
+  pub data Form : Type 0 where
+    Assign : Name → Expr → Form  -- x = e
+    Do : Operation → Form  -- do (op a ..)
+    Show : Atom → Form  -- show a
+    Return : Atom → Form  -- return a
+    Raise : Atom → Form  -- raise a
+    Reraise : Form  -- reraise
+    Break : Form  -- break
+    Continue : Form  -- continue
+    Pass : Form  -- pass
+    If : Atom → Suite → Form  -- if a
+    IfElse : Atom → Suite → Suite → Form  -- if a, with an else
+    While : Atom → Suite → Form  -- while a
+    TryExcept : Suite → Clauses → Form  -- try, with clauses
+    TryFinally : Suite → Suite → Form  -- try, with a finally
+
+  -- statements in order, each with its line
+  pub data Suite : Type 0 where
+    nothing : Suite
+    first : ℕ → Form → Suite → Suite
+
+  -- clauses in order, each with its line, its class, the name that it binds and its suite
+  pub data Clauses : Type 0 where
+    no_more : Clauses
+    clause : ℕ → Name → Option Name → Suite → Clauses → Clauses
+
+-- a function
+pub record Tree : Type 0 where
+  pub name : Name
+  pub params : List Name
+  pub suite : Suite
+  pub line : ℕ

@@ -1,0 +1,14 @@
+//! Functions as trees: their bodies as the program holds them, and what a tree may tell, without a word on code.
+#![tactic(auto)]
+
+mod body;
+mod expr;
+mod laws;
+mod stmt;
+mod worked;
+
+pub use body::{Body, ParamList};
+pub use expr::{Atom, AtomList, Expr, Operation};
+pub use laws::laws_of_traces;
+pub use stmt::{Clause, ClauseList, Stmt, StmtForm, StmtList};
+pub use worked::{worked_handlers, worked_trees};

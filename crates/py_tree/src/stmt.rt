@@ -1,0 +1,137 @@
+//! Statements, each with the line that it stands in.
+
+ghost use Rattle.std.specs.Prelude.{◌≡◌, OnOk, OnErr};
+ghost use Rattle.py_tree.specs.Tree.{no_more, nothing};
+ghost use Rattle.py_tree.specs.Views.{clauses_of, form_of, suite_of};
+ghost use Rattle.py_tree.specs.Suites.{add, add_clause, list_clauses, list_suite};
+
+use crate::expr::{Atom, Expr, Operation};
+use py_code::{NoMemory, PyText};
+use std::alloc::Global;
+
+/// A statement with its line, from 1.
+#[derive(Debug, Drop)]
+#[cycle(tree)]
+pub struct Stmt {
+    pub line: u32,
+    pub form: StmtForm,
+}
+
+/// What a statement says, a variant a line of the grammar.
+#[derive(Debug, Drop)]
+#[cycle(tree)]
+pub enum StmtForm {
+    /// `x = e`: a value is bound to a name.
+    Assign(PyText, Expr),
+    /// `do (op a ..)`: the operator's value is dropped.
+    Do(Operation),
+    /// `show a`.
+    Show(Atom),
+    /// `return a`.
+    Return(Atom),
+    /// `raise a`.
+    Raise(Atom),
+    /// `reraise`: the exception that is handled is raised again.
+    Reraise,
+    /// `break`: the innermost loop ends.
+    Break,
+    /// `continue`: the innermost loop goes on with its test.
+    Continue,
+    /// `pass`, which does nothing.
+    Pass,
+    /// `if a`, its suite, `end`.
+    If(Atom, StmtList),
+    /// `if a`, its suite, `else`, the other suite, `end`.
+    IfElse(Atom, StmtList, StmtList),
+    /// `while a`, its suite, `end`.
+    While(Atom, StmtList),
+    /// `try`, its suite, the clauses, `end`.
+    TryExcept(StmtList, ClauseList),
+    /// `try`, its suite, `finally`, the other suite, `end`.
+    TryFinally(StmtList, StmtList),
+}
+
+/// `except C` or `except C as x`, and its suite: what a `try` does with an exception of the class.
+#[derive(Debug, Drop)]
+#[cycle(tree)]
+pub struct Clause {
+    pub line: u32,
+    pub class: PyText,
+    /// The name that the exception is bound to inside of the clause.
+    pub target: Option<PyText>,
+    pub suite: StmtList,
+}
+
+/// Statements in order.
+#[derive(Debug, Drop)]
+#[cycle(tree)]
+pub struct StmtList {
+    items: Vec<Stmt>,
+}
+
+/// Clauses in order.
+#[derive(Debug, Drop)]
+#[cycle(tree)]
+pub struct ClauseList {
+    items: Vec<Clause>,
+}
+
+impl StmtList {
+    /// No statements, which takes no memory.
+    #[tactic(auto, using(crate::proofs::Trees::suite_roll))]
+    pub fn new(alloc: Global) -> StmtList
+        ensures { suite_of result ≡ nothing }
+    {
+        StmtList {
+            items: Vec::new(alloc),
+        }
+    }
+
+    /// The statements.
+    #[tactic(auto, using(crate::proofs::Trees::suite_out))]
+    pub fn as_slice(&self) -> &[Stmt]
+        ensures { suite_of self.now ≡ list_suite result.now }
+    {
+        self.items.as_slice()
+    }
+
+    /// Puts a statement behind the others.
+    #[tactic(auto, using(crate::proofs::Trees::suite_roll, crate::proofs::Trees::suite_out, crate::proofs::Trees::list_suite_append))]
+    pub fn push(&mut self, stmt: Stmt) -> Result<(), NoMemory>
+        ensures added { OnOk result (suite_of self.new ≡ add (suite_of self.old) stmt.line (form_of stmt.form)) }
+        ensures err { OnErr result (suite_of self.new ≡ suite_of self.old) }
+    {
+        self.items.push(stmt)?;
+        Ok(())
+    }
+}
+
+impl ClauseList {
+    /// No clauses, which takes no memory.
+    #[tactic(auto, using(crate::proofs::Trees::clauses_roll))]
+    pub fn new(alloc: Global) -> ClauseList
+        ensures { clauses_of result ≡ no_more }
+    {
+        ClauseList {
+            items: Vec::new(alloc),
+        }
+    }
+
+    /// The clauses.
+    #[tactic(auto, using(crate::proofs::Trees::clauses_out))]
+    pub fn as_slice(&self) -> &[Clause]
+        ensures { clauses_of self.now ≡ list_clauses result.now }
+    {
+        self.items.as_slice()
+    }
+
+    /// Puts a clause behind the others.
+    #[tactic(auto, using(crate::proofs::Trees::clauses_roll, crate::proofs::Trees::clauses_out, crate::proofs::Trees::list_clauses_append))]
+    pub fn push(&mut self, clause: Clause) -> Result<(), NoMemory>
+        ensures added { OnOk result (clauses_of self.new ≡ add_clause (clauses_of self.old) clause) }
+        ensures err { OnErr result (clauses_of self.new ≡ clauses_of self.old) }
+    {
+        self.items.push(clause)?;
+        Ok(())
+    }
+}

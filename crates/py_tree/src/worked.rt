@@ -1,0 +1,25 @@
+//! Small trees, worked by hand.
+
+ghost use Rattle.py_tree.specs.Worked.{HandledIsTrace, LeftIsTrace, NoExceptionLetOut, NoExceptionStays, NoFinallyBrokenOutOf, NoFinallySkipped, ReturnedIsTrace, ShownIsTrace};
+ghost use Rattle.py_tree.specs.WorkedHandlers.{FinallyHandles, NameIsForgotten, NoClauseRaises, NoFinallyForgets, RaisedAgain};
+
+/// States what small trees may not tell, and what they may in place of it, and does nothing.
+pub fn worked_trees()
+    ensures no_finally_skipped { NoFinallySkipped }
+    ensures shown { ShownIsTrace }
+    ensures no_finally_broken_out_of { NoFinallyBrokenOutOf }
+    ensures left { LeftIsTrace }
+    ensures no_exception_let_out { NoExceptionLetOut }
+    ensures returned { ReturnedIsTrace }
+    ensures no_exception_stays { NoExceptionStays }
+    ensures handled { HandledIsTrace }
+{}
+
+/// States which exception is handled in small trees with handlers, and from which line what is asked, and does nothing.
+pub fn worked_handlers()
+    ensures handles { FinallyHandles }
+    ensures no_finally_forgets { NoFinallyForgets }
+    ensures raised_again { RaisedAgain }
+    ensures no_clause_raises { NoClauseRaises }
+    ensures forgotten { NameIsForgotten }
+{}
