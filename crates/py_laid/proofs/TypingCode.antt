@@ -1,0 +1,89 @@
+-- Laid code that is plain keeps the typing rules with its notes: those on the whole code, and those on each unit.
+use Rattle.std.proofs.Common.{◌≡◌, ◌≤◌, ℕ, List, true, refl, ap, length, arith}
+use Rattle.std.specs.Prelude.{Option}
+use Rattle.std.proofs.lemmas.Bool.{and_from, lt-ltb, le-leb, eq-eqb}
+use Rattle.py_code.specs.declared.flags.TheConstants.CodeFlags.{HAS_VARARGS, HAS_VARKEYWORDS}
+use Rattle.py_code.specs.declared.instruction.Instruction.TheVariants as op
+use Rattle.py_code.specs.declared.literal.Literal.{Literal, None as NoneLiteral}
+use Rattle.py_check.specs.declared.annotated.Annotated.{Annotated}
+use Rattle.py_check.specs.Constants.{loads}
+use Rattle.py_check.specs.Sheet.{Sheet, sheet_of}
+use Rattle.py_check.specs.WholeCode.{is_start, counts_match, counts_if, parameters, parameters_fit, cells_fit, keeps_whole}
+use Rattle.py_check.specs.Typing.{IsTyped}
+use Rattle.py_tree.specs.Tree.{Name, Suite, Tree}
+use Rattle.py_tree.specs.Binding.{locals_of}
+use Rattle.py_laid.specs.Code.{entry, StandsConst, LaidBody, IsLaid, IsPlain}
+use Rattle.py_laid.specs.Laws.{LaidCodeIsTyped}
+use Rattle.py_laid.proofs.TypingUnits.{Noted, parts_of, Free, In, Keeps, keeps_then, stands_in, stands_kept}
+use Rattle.py_laid.proofs.TypingBlocks.{Fine}
+use Rattle.py_laid.proofs.TypingForms.{suite_typed}
+use Rattle.py_laid.proofs.BindingLemmas.{bound_by-longer}
+
+-- ---- bodies
+
+module _ (code : Noted) where
+  -- statements may stand at the entry
+  fine_entry : Fine code entry
+  fine_entry = record { safe = record { nest = refl; land = tt; same = refl }; walk = tt }
+
+  -- the return of None, behind which nothing stands
+  return_keeps : (header at next : ℕ) → StandsConst (parts_of code) entry header at op.ReturnConst NoneLiteral next → Free code at → In code entry at × Keeps code at next
+  return_keeps header at next (i, stands, here) free = (
+    stands_in code entry header at i next op.ReturnConst stands free,
+    stands_kept code entry header at i next op.ReturnConst stands free fine_entry.safe (λ k is_next. ap (λ (o : Option Literal). loads o (λ kind. true)) here),
+  )
+
+  -- the first unit is entered without values and blocks, and each keeps the rules
+  body_keeps : (header : ℕ) (s : Suite) (end : ℕ) → LaidBody (parts_of code) header s end → In code entry 0 × Keeps code 0 end
+  body_keeps header s end (ends, laid, ret) =
+      let typed = suite_typed code s entry 0 ends laid refl in
+      let (there, kept) = return_keeps header ends end ret typed.free in
+      (typed.enters there, keeps_then code 0 ends end (typed.kept fine_entry there) kept)
+
+-- ---- codes
+
+module _ (globals : List Name) (code : Annotated) (t : Tree) (laid : IsLaid globals code t) (plain : IsPlain code t) where
+  abbrev noted : Noted
+  noted = record {
+    sheet = sheet_of code;
+    locations = code.code.code.locations.items;
+    names = globals;
+    vars = locals_of t;
+    names_are = laid.globals;
+    vars_are = laid.locals;
+    room = plain.room;
+    spelled = plain.spelled;
+  }
+
+  body : In noted entry 0 × Keeps noted 0 (length code.code.code.instructions.items)
+  body = body_keeps noted t.line t.suite (length code.code.code.instructions.items) laid.laid
+
+  counts : counts_match (sheet_of code) ≡ true
+  counts = and_from _ _ (and_from _ _ (and_from _ _ (lt-ltb _ _ body.0.low) (lt-ltb _ _ laid.short)) (eq-eqb _ _ laid.located)) (eq-eqb _ _ laid.noted)
+
+  parameters_are : parameters (sheet_of code) ≡ length t.params
+  parameters_are = omega (
+    arith,
+    laid.arity,
+    plain.kwonlyarg_count,
+    ap (λ (flags : ℕ). counts_if flags HAS_VARARGS) plain.flags,
+    ap (λ (flags : ℕ). counts_if flags HAS_VARKEYWORDS) plain.flags,
+  )
+
+  parameters_within : parameters_fit (sheet_of code) ≡ true
+  parameters_within =
+      let sheet : Sheet = sheet_of code in
+      let positional : sheet.posonlyarg_count ≤ sheet.arg_count = omega (arith, plain.posonlyarg_count) in
+      let within : parameters sheet ≤ sheet.varnames = omega (arith, parameters_are, laid.locals, bound_by-longer t.suite t.params) in
+      and_from _ _ (le-leb _ _ positional) (le-leb _ _ within)
+
+  whole : keeps_whole (sheet_of code) ≡ true
+  whole =
+      and_from _ _ (and_from _ _ (and_from _ _ (and_from _ _ (and_from _ _ counts (ap is_start body.0.note)) parameters_within) (ap (cells_fit (sheet_of code)) plain.cells.1))
+      (le-leb _ _ plain.max_stackdepth)) plain.no_code
+
+  typed_code : IsTyped code
+  typed_code = record { whole = whole; each = λ at low. body.1 at (omega arith) low }
+
+pub laid_code_is_typed : LaidCodeIsTyped
+laid_code_is_typed globals code t laid plain = typed_code globals code t laid plain

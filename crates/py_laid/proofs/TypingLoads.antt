@@ -1,0 +1,229 @@
+-- Code that keeps the typing rules where control may come to what follows it:
+-- one instruction, code behind code, expressions, what is done with values, and jumps.
+use Rattle.std.proofs.Common.{◌≡◌, ◌<◌, ◌≤◌, ◌+◌, ◌-◌, ℕ, zero, suc, List, [], ◌∷◌, Bool, true, false, ◌&&◌, Some, None, refl, sym, ap, ◌∙◌, subst, length, drop, replicate, arith}
+use Rattle.std.specs.Prelude.{Option, nat_lt, bytes_eq}
+use Rattle.std.specs.List.{list_any}
+use Rattle.std.proofs.lemmas.Bool.{and_from, lt-ltb, le-leb}
+use Rattle.std.proofs.lemmas.List.{length-drop, length-replicate}
+use Rattle.std.proofs.lemmas.Option.{slice_get_within}
+use Rattle.py_code.specs.declared.instruction.Instruction.{Instruction}
+use Rattle.py_code.specs.declared.instruction.Instruction.TheVariants as op
+use Rattle.py_code.specs.declared.literal.Literal.{Literal, None as NoneLiteral, Bool as BoolLiteral, Int as IntLiteral, Str as StrLiteral}
+use Rattle.py_check.specs.declared.note.Kind.{Kind}
+use Rattle.py_check.specs.declared.note.Kind.TheVariants.{Any}
+use Rattle.py_check.specs.Constants.{is_loaded, kind_of, loads}
+use Rattle.py_check.specs.Landing.{goes_on, jumps, top_level}
+use Rattle.py_check.specs.Effects.{Effect, gives, effect, has_operand}
+use Rattle.py_check.specs.Taking.{takes_top, may_move}
+use Rattle.py_check.specs.Typing.{keeps_own, keeps_by}
+use Rattle.py_tree.specs.declared.expr.Atom.{Atom}
+use Rattle.py_tree.specs.declared.expr.Atom.TheVariants as atom
+use Rattle.py_tree.specs.declared.expr.Expr.{Expr}
+use Rattle.py_tree.specs.declared.expr.Expr.TheVariants as expr
+use Rattle.py_tree.specs.declared.expr.Operation.{Operation}
+use Rattle.py_tree.specs.declared.expr.Operation.TheVariants as operation
+use Rattle.py_tree.specs.Tree.{Name}
+use Rattle.py_laid.specs.Code.{Scope, on, over, place, Stands, StandsConst, LaidName, LaidAtom, LaidAtoms, LaidTwo, LaidOperation, LaidExpr, LaidTarget}
+use Rattle.py_laid.proofs.NoteLemmas.{kinds_of, length-kinds_of, takes-Any, top_level-low}
+use Rattle.py_laid.proofs.TypingUnits.{Noted, parts_of, Free, In, Safe, safe_on, Keeps, keeps_none, keeps_then, goes, jumps_to, Asks, stands_free, stands_in, stands_kept}
+
+-- so many values on top
+abbrev raised : ℕ → Scope → Scope
+raised n scope = record scope { depth = n + scope.depth }
+
+over-raised : (n : ℕ) (scope : Scope) → over n scope ≡ raised n scope
+over-raised zero scope = let same : scope.depth ≡ 0 + scope.depth = omega arith in ap (λ (depth : ℕ). record scope { depth = depth }) same
+over-raised (suc n) scope = let same : n + suc scope.depth ≡ suc n + scope.depth = omega arith in over-raised n (on scope) ∙ ap (λ (depth : ℕ). record scope { depth = depth }) same
+
+module _ (code : Noted) where
+  -- code from one place to another: no prefix stands in front of what follows, control comes to it where it may come to what
+  -- follows, and then its units keep the rules, if this holds
+  pub record Typed (good : Type 0) (from to : Scope) (at next : ℕ) : Type 0 where
+    pub free : Free code next
+    pub enters : In code to next → In code from at
+    pub kept : good → In code to next → Keeps code at next
+
+  -- code behind code
+  pub joined : (good : Type 0) (from mid_scope to : Scope) (at mid next : ℕ) → Typed good from mid_scope at mid → Typed good mid_scope to mid next → Typed good from to at next
+  joined good from mid_scope to at mid next front rest = record {
+    free = rest.free;
+    enters = λ there. front.enters (rest.enters there);
+    kept = λ holds there. keeps_then code at mid next (front.kept holds (rest.enters there)) (rest.kept holds there);
+  }
+
+  -- code keeps the rules where more holds than it needs
+  pub typed_by : (good better : Type 0) (from to : Scope) (at next : ℕ) → (better → good) → Typed good from to at next → Typed better from to at next
+  typed_by good better from to at next gives_good typed = record { free = typed.free; enters = typed.enters; kept = λ holds there. typed.kept (gives_good holds) there }
+
+  -- no code
+  pub nothing_typed : (good : Type 0) (scope : Scope) (at next : ℕ) → next ≡ at → Free code at → Typed good scope scope at next
+  nothing_typed good scope at next is_at free = record {
+    free = subst (Free code) (sym is_at) free;
+    enters = λ there. subst (In code scope) is_at there;
+    kept = λ holds there. keeps_none code at next (omega (arith, is_at));
+  }
+
+  -- one instruction
+  pub unit_typed : (good : Type 0) (from to : Scope) (line at arg next : ℕ) (i : Instruction) → Stands (parts_of code) from line at i arg next → Free code at → (safe : good → Safe code from)
+      → ((holds : good) → In code to next → Asks code from (safe holds) i arg next) → Typed good from to at next
+  unit_typed good from to line at arg next i stands free safe asks = record {
+    free = stands_free code from line at arg next i stands;
+    enters = λ there. stands_in code from line at arg next i stands free;
+    kept = λ holds there. stands_kept code from line at arg next i stands free (safe holds) (asks holds there);
+  }
+
+  -- control goes on with as many values, whatever they are
+  pub goes_as : (scope : Scope) → Safe code scope → (kinds : List Kind) (k next : ℕ) → k + 1 ≡ next → In code scope next → length kinds ≡ scope.depth
+      → goes_on code.sheet (k + 1) kinds scope.blocks ≡ true
+  goes_as scope safe kinds k next is_next there long = goes code scope kinds scope.blocks k next is_next there long safe.same
+
+  -- control goes on behind a load
+  loaded_on : (scope : Scope) → Safe code scope → (kind : Kind) (k next : ℕ) → k + 1 ≡ next → In code (on scope) next → goes_on code.sheet (k + 1) (kind ∷ kinds_of scope) scope.blocks ≡ true
+  loaded_on scope safe kind k next is_next there = goes_as (on scope) (safe_on code scope safe) (kind ∷ kinds_of scope) k next is_next there (ap suc (length-kinds_of scope))
+
+  -- a value may be taken
+  pub takes_one : (scope : Scope) → Safe code scope → (rest : List Kind → Bool) → rest (kinds_of scope) ≡ true → takes_top (Any ∷ kinds_of scope) scope.blocks rest ≡ true
+  takes_one scope safe rest holds =
+      takes-Any 1 (Any ∷ kinds_of scope) scope.blocks rest (omega (arith, length-kinds_of scope, top_level-low scope.depth scope.blocks safe.nest)) holds
+
+  -- a local's place is among them
+  pub has_local : (i : ℕ) → i < length code.vars → nat_lt i code.sheet.varnames ≡ true
+  has_local i below = lt-ltb _ _ (omega (arith, below, code.vars_are))
+
+  -- ---- operands that are taken, and the answer
+
+  -- a scope stays safe with so many values
+  raised_safe : (n : ℕ) (scope : Scope) → Safe code scope → Safe code (over n scope)
+  raised_safe zero scope safe = safe
+  raised_safe (suc n) scope safe = raised_safe n (on scope) (safe_on code scope safe)
+
+  -- so many values are taken, and the answer is pushed
+  pub answer_typed : (scope : Scope) (n line at arg next : ℕ) (i : Instruction) → effect i arg ≡ gives n → has_operand code.sheet i arg ≡ true
+      → Stands (parts_of code) (over n scope) line at i arg next → Free code at → Typed (Safe code scope) (over n scope) (on scope) at next
+  answer_typed scope n line at arg next i is there stands free =
+      subst (λ (from : Scope). Typed (Safe code scope) from (on scope) at next) (sym (over-raised n scope))
+      (unit_typed (Safe code scope) (raised n scope) (on scope) line at arg next i (subst (λ (from : Scope). Stands (parts_of code) from line at i arg next) (over-raised n scope) stands) free
+      (λ safe. subst (Safe code) (over-raised n scope) (raised_safe n scope safe))
+      (λ safe enters k is_next. ap (λ (e : Effect). keeps_by code.sheet k e (has_operand code.sheet i arg) (keeps_own code.sheet k i arg kinds scope.blocks) kinds scope.blocks) is
+      ∙ and_from _ _ there (takes-Any n kinds scope.blocks (λ rest. goes_on code.sheet (k + 1) (Any ∷ rest) scope.blocks) (omega (arith, many, top_level-low scope.depth scope.blocks safe.nest))
+      (goes_as (on scope) (safe_on code scope safe) (Any ∷ drop n kinds) k next is_next enters (omega (arith, many, length-drop n kinds))))))
+    where
+      kinds : List Kind
+      kinds = replicate (n + scope.depth) Any
+
+      many : length kinds ≡ n + scope.depth
+      many = length-replicate (n + scope.depth) Any
+
+  -- ---- loads
+
+  -- a constant, a name and an atom
+  const_typed : (scope : Scope) (line at next : ℕ) (literal : Literal) → is_loaded literal ≡ true → StandsConst (parts_of code) scope line at op.LoadConst literal next → Free code at
+      → Typed (Safe code scope) scope (on scope) at next
+  const_typed scope line at next literal loaded (i, stands, here) free =
+      unit_typed (Safe code scope) scope (on scope) line at i next op.LoadConst stands free (λ safe. safe)
+      (λ safe there k is_next. ap (λ (o : Option Literal). loads o (λ kind. goes_on code.sheet (k + 1) (kind ∷ kinds_of scope) scope.blocks)) here
+      ∙ and_from _ _ loaded (loaded_on scope safe (kind_of literal) k next is_next there))
+
+  pub none_typed : (scope : Scope) (line at next : ℕ) → StandsConst (parts_of code) scope line at op.LoadConst NoneLiteral next → Free code at → Typed (Safe code scope) scope (on scope) at next
+  none_typed scope line at next stands free = const_typed scope line at next NoneLiteral refl stands free
+
+  name_typed : (local : Bool) (scope : Scope) (line : ℕ) (x : Name) (at next : ℕ) → LaidName (parts_of code) local scope line x at next → Free code at
+      → Typed (Safe code scope) scope (on scope) at next
+  name_typed true scope line x at next (stands, below) free =
+      unit_typed (Safe code scope) scope (on scope) line at (place code.vars x) next op.LoadFast stands free (λ safe. safe)
+      (λ safe there k is_next. and_from _ _ (has_local (place code.vars x) below) (loaded_on scope safe Any k next is_next there))
+  name_typed false scope line x at next (i, stands, here) free =
+      let below : nat_lt i code.sheet.names ≡ true = lt-ltb _ _ (omega (arith, slice_get_within code.names i x here, code.names_are)) in
+      answer_typed scope 0 line at i next op.LoadGlobal refl below stands free
+
+  pub atom_typed : (scope : Scope) (line : ℕ) (a : Atom) (at next : ℕ) → LaidAtom (parts_of code) scope line a at next → Free code at → Typed (Safe code scope) scope (on scope) at next
+  atom_typed scope line atom.None at next laid free = const_typed scope line at next NoneLiteral refl laid free
+  atom_typed scope line (atom.Bool b) at next laid free = const_typed scope line at next (BoolLiteral b) refl laid free
+  atom_typed scope line (atom.Int n) at next laid free = const_typed scope line at next (IntLiteral n) refl laid free
+  atom_typed scope line (atom.Str s) at next laid free = const_typed scope line at next (StrLiteral s) refl laid free
+  atom_typed scope line (atom.Name x) at next laid free = name_typed (list_any (bytes_eq x) code.vars) scope line x at next laid free
+
+  -- the same on top of another value
+  atom_typed_on : (scope : Scope) (line : ℕ) (a : Atom) (at next : ℕ) → LaidAtom (parts_of code) (on scope) line a at next → Free code at → Typed (Safe code scope) (on scope) (on (on scope)) at next
+  atom_typed_on scope line a at next laid free =
+      typed_by (Safe code (on scope)) (Safe code scope) (on scope) (on (on scope)) at next (safe_on code scope) (atom_typed (on scope) line a at next laid free)
+
+  -- atoms in order
+  atoms_typed : (atoms : List Atom) (scope : Scope) (line at next : ℕ) → LaidAtoms (parts_of code) scope line atoms at next → Free code at
+      → Typed (Safe code scope) scope (over (length atoms) scope) at next
+  atoms_typed [] scope line at next is_at free = nothing_typed (Safe code scope) scope at next is_at free
+  atoms_typed (a ∷ atoms) scope line at next (mid, one, rest) free =
+      let front = atom_typed scope line a at mid one free in
+      joined (Safe code scope) scope (on scope) (over (length atoms) (on scope)) at mid next front
+      (typed_by (Safe code (on scope)) (Safe code scope) (on scope) (over (length atoms) (on scope)) mid next (safe_on code scope) (atoms_typed atoms (on scope) line mid next rest front.free))
+
+  -- ---- operations
+
+  -- two atoms, and the unit that takes them
+  two_typed : (scope : Scope) (line : ℕ) (a b : Atom) (i : Instruction) (arg at next : ℕ) → effect i arg ≡ gives 2 → has_operand code.sheet i arg ≡ true
+      → LaidTwo (parts_of code) scope line a b i arg at next → Free code at → Typed (Safe code scope) scope (on scope) at next
+  two_typed scope line a b i arg at next is there (mid, asks, one, other, stands) free =
+      let front = atom_typed scope line a at mid one free in
+      let second = atom_typed_on scope line b mid asks other front.free in
+      joined (Safe code scope) scope (on scope) (on scope) at mid next front
+      (joined (Safe code scope) (on scope) (on (on scope)) (on scope) mid asks next second (answer_typed scope 2 line asks arg next i is there stands second.free))
+
+  pub operation_typed : (scope : Scope) (line : ℕ) (o : Operation) (at next : ℕ) → LaidOperation (parts_of code) scope line o at next → Free code at → Typed (Safe code scope) scope (on scope) at next
+  operation_typed scope line (operation.Add a b) at next laid free = two_typed scope line a b op.BinaryOperation _ at next refl refl laid free
+  operation_typed scope line (operation.Sub a b) at next laid free = two_typed scope line a b op.BinaryOperation _ at next refl refl laid free
+  operation_typed scope line (operation.Lt a b) at next laid free = two_typed scope line a b op.CompareOperation _ at next refl refl laid free
+  operation_typed scope line (operation.Eq a b) at next laid free = two_typed scope line a b op.CompareOperation _ at next refl refl laid free
+  operation_typed scope line (operation.Call f atoms) at next (mid, asks, callee, loads_all, stands) free =
+      let front = atom_typed scope line f at mid callee free in
+      let behind : Scope = over (length atoms) (on scope) in
+      let args = typed_by (Safe code (on scope)) (Safe code scope) (on scope) behind mid asks (safe_on code scope) (atoms_typed atoms (on scope) line mid asks loads_all front.free) in
+      joined (Safe code scope) scope (on scope) (on scope) at mid next front
+      (joined (Safe code scope) (on scope) behind (on scope) mid asks next args
+      (answer_typed scope (suc (length atoms)) line asks (length atoms) next op.CallFunctionPositional refl refl stands args.free))
+
+  pub expr_typed : (scope : Scope) (line : ℕ) (e : Expr) (at next : ℕ) → LaidExpr (parts_of code) scope line e at next → Free code at → Typed (Safe code scope) scope (on scope) at next
+  expr_typed scope line (expr.Atom a) at next laid free = atom_typed scope line a at next laid free
+  expr_typed scope line (expr.Operation o) at next laid free = operation_typed scope line o at next laid free
+
+  -- ---- what is done with a value
+
+  -- a value goes to a local, or is dropped
+  pub target_typed : (scope : Scope) (line : ℕ) (x : Option Name) (at next : ℕ) → LaidTarget (parts_of code) scope line x at next → Free code at → Typed (Safe code scope) (on scope) scope at next
+  target_typed scope line None at next stands free =
+      unit_typed (Safe code scope) (on scope) scope line at 0 next op.Pop stands free (safe_on code scope)
+      (λ safe there k is_next.
+      let long : length (kinds_of scope) ≡ scope.depth = length-kinds_of scope in
+      let low : top_level scope.blocks ≤ scope.depth = top_level-low scope.depth scope.blocks safe.nest in
+      let moves : may_move 1 [] (suc (length (kinds_of scope))) (top_level scope.blocks) ≡ true =
+      and_from _ _ (and_from _ _ (le-leb 1 (suc (length (kinds_of scope))) (omega arith)) (le-leb (top_level scope.blocks) (suc (length (kinds_of scope)) - 1) (omega (arith, long, low)))) refl in
+      and_from _ _ moves (goes_as scope safe (kinds_of scope) k next is_next there long))
+  target_typed scope line (Some x) at next (stands, below) free =
+      unit_typed (Safe code scope) (on scope) scope line at (place code.vars x) next op.StoreFast stands free (safe_on code scope)
+      (λ safe there k is_next. and_from _ _ (has_local (place code.vars x) below)
+      (takes_one scope safe (λ rest. goes_on code.sheet (k + 1) rest scope.blocks) (goes_as scope safe (kinds_of scope) k next is_next there (length-kinds_of scope))))
+
+  -- a value is shown
+  pub shows_typed : (scope : Scope) (line at next : ℕ) → Stands (parts_of code) (on scope) line at op.PrintExpr 0 next → Free code at → Typed (Safe code scope) (on scope) scope at next
+  shows_typed scope line at next stands free =
+      unit_typed (Safe code scope) (on scope) scope line at 0 next op.PrintExpr stands free (safe_on code scope)
+      (λ safe there k is_next. and_from _ _ refl
+      (takes_one scope safe (λ rest. goes_on code.sheet (k + 1) rest scope.blocks) (goes_as scope safe (kinds_of scope) k next is_next there (length-kinds_of scope))))
+
+  -- ---- jumps
+
+  -- a jump where a value is false
+  pub test_typed : (scope : Scope) (line at label next : ℕ) → Stands (parts_of code) (on scope) line at op.JumpIfFalse label next → Free code at
+      → Typed (Safe code scope × In code scope label) (on scope) scope at next
+  test_typed scope line at label next stands free =
+      unit_typed (Safe code scope × In code scope label) (on scope) scope line at label next op.JumpIfFalse stands free (λ holds. safe_on code scope holds.0)
+      (λ (safe, enters) there k is_next.
+      let long : length (kinds_of scope) ≡ scope.depth = length-kinds_of scope in
+      takes_one scope safe (λ rest. jumps code.sheet label rest scope.blocks && goes_on code.sheet (k + 1) rest scope.blocks)
+      (and_from _ _ (jumps_to code scope (kinds_of scope) scope.blocks label enters long safe.same) (goes_as scope safe (kinds_of scope) k next is_next there long)))
+
+  -- a jump, whatever the scope behind it
+  pub jump_typed : (scope behind : Scope) (line at label next : ℕ) → Stands (parts_of code) scope line at op.Jump label next → Free code at
+      → Typed (Safe code scope × In code scope label) scope behind at next
+  jump_typed scope behind line at label next stands free =
+      unit_typed (Safe code scope × In code scope label) scope behind line at label next op.Jump stands free (λ holds. holds.0)
+      (λ (safe, enters) there k is_next. jumps_to code scope (kinds_of scope) scope.blocks label enters (length-kinds_of scope) safe.same)

@@ -1,0 +1,42 @@
+-- Code that does what a body does.
+use Rattle.std.specs.Prelude.{ℕ, Bool, false, Option, Some, None, List, ◌∷◌, ◌++◌, ◌≡◌, length, slice_get, eqb}
+use Rattle.py_code.specs.declared.code.PyCode.{PyCode}
+use Rattle.py_objects.specs.declared.refs.PyBaseExceptionRef.{PyBaseExceptionRef}
+use Rattle.py_objects.specs.declared.payload.Payload.{Payload}
+use Rattle.py_objects.specs.Objects.{Obj}
+use Rattle.py_objects.specs.Own.{Own, Makes}
+use Rattle.py_check.specs.declared.annotated.Annotated.{Annotated}
+use Rattle.py_rows.specs.States.{State}
+use Rattle.py_rows.specs.RunOfRows.{Runs, started}
+use Rattle.py_rows.specs.Sound.{IsSound}
+use Rattle.py_rows.specs.Signature.{params_of}
+use Rattle.py_tree.specs.Tree.{Tree}
+use Rattle.py_tree.specs.Scene.{Scene}
+use Rattle.py_tree.specs.Trace.{IsTrace}
+
+-- one list goes on as another
+abbrev pub Continues : {A : Type 0} → List A → List A → Type 0
+Continues {A} front whole = (more : List A) × (whole ≡ front ++ more)
+
+-- whether this line is the one that is there
+abbrev pub is_line : ℕ → Option ℕ → Bool
+is_line line None = false
+is_line line (Some other) = eqb line other
+
+-- each unit asks for a statement of the line that the code has for it
+abbrev pub located : PyCode → List Payload → Obj → Scene
+located code objects globals = record { objects = objects; globals = globals; is_of = λ at line. is_line line (slice_get code.code.locations.items at) }
+
+-- the code has the body's parameters, keeps the typing rules with its notes, its names are in the table, and each run of its
+-- rows, whole or cut, from any arguments, with any closure, whatever the slot holds at first and whatever answers of the wanted kinds come, is a
+-- trace of the body behind the making of its activation, in which each unit that asks has its statement's line; all this where
+-- the table may have grown since
+pub record Fits (names : List (List ℕ)) (code : Annotated) (t : Tree) : Type 0 where
+  pub arity : code.code.code.arg_count ≡ length t.params
+  pub params : params_of names code.code ≡ t.params
+  pub sound : IsSound names code
+  pub traces : (table : List (List ℕ)) (globals : Obj) (closure : List Obj) (objects : List Payload)
+      (slot : Option PyBaseExceptionRef) (args : List Obj) (ts : List Own) (s : State)
+      → Continues names table → length args ≡ length t.params
+      → Runs objects (record { code = code.code; names = table; globals = globals; closure = closure }) (started code.code slot args) ts s
+      → IsTrace (located code.code objects globals) t args (Makes ∷ ts)

@@ -1,0 +1,34 @@
+-- What holds of laid code.
+use Rattle.std.specs.Prelude.{ℕ, false, Option, List, ◌∷◌, ◌≡◌, length}
+use Rattle.py_objects.specs.declared.refs.PyBaseExceptionRef.{PyBaseExceptionRef}
+use Rattle.py_objects.specs.declared.payload.Payload.{Payload}
+use Rattle.py_objects.specs.Objects.{Obj}
+use Rattle.py_objects.specs.Own.{Own, Makes}
+use Rattle.py_check.specs.declared.annotated.Annotated.{Annotated}
+use Rattle.py_check.specs.Typing.{IsTyped}
+use Rattle.py_rows.specs.States.{State}
+use Rattle.py_rows.specs.RunOfRows.{is_thrown_into, Runs, started}
+use Rattle.py_tree.specs.Tree.{Name, Tree}
+use Rattle.py_tree.specs.Binding.{locals_of}
+use Rattle.py_tree.specs.Trace.{IsTrace}
+use Rattle.py_laid.specs.Code.{IsLaid, IsPlain}
+use Rattle.py_laid.specs.Fits.{Fits, located}
+use Rattle.py_laid.specs.Naming.{NamesAll, IsNamed}
+
+-- each run of laid code, into whose frames no exception is thrown, whole or cut, from any arguments, as many as there are parameters, with any closure, whatever the
+-- slot holds at first and whatever answers of the wanted kinds come, is a trace of its tree behind the making of its activation, in which each unit asks
+-- for a statement of its line
+abbrev pub RunsAreTraces : Type 0
+RunsAreTraces = (globals : List Name) (code : Annotated) (t : Tree) (table : List (List ℕ)) (dict : Obj) (closure : List Obj) (objects : List Payload)
+    (slot : Option PyBaseExceptionRef) (args : List Obj) (ts : List Own) (s : State)
+    → IsLaid globals code t → NamesAll table code.code.code.names.items globals → NamesAll table code.code.code.varnames.items (locals_of t)
+    → is_thrown_into code.code.code.flags ≡ false → length args ≡ length t.params
+    → Runs objects (record { code = code.code; names = table; globals = dict; closure = closure }) (started code.code slot args) ts s → IsTrace (located code.code objects dict) t args (Makes ∷ ts)
+
+-- laid code that is plain keeps the typing rules with its notes
+abbrev pub LaidCodeIsTyped : Type 0
+LaidCodeIsTyped = (globals : List Name) (code : Annotated) (t : Tree) → IsLaid globals code t → IsPlain code t → IsTyped code
+
+-- and fits its tree, where its names are in the table
+abbrev pub LaidCodeFits : Type 0
+LaidCodeFits = (table : List (List ℕ)) (globals : List Name) (code : Annotated) (t : Tree) → IsLaid globals code t → IsPlain code t → IsNamed table globals code.code t → Fits table code t

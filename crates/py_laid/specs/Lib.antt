@@ -1,0 +1,8 @@
+-- code that does what a body does
+pub mod Fits
+-- where the code of each form stands, with its notes
+pub mod Code
+-- the names of a code
+pub mod Naming
+-- what holds of laid code
+pub mod Laws
