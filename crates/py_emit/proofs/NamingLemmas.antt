@@ -1,0 +1,77 @@
+-- Names in a table that grows.
+use Rattle.std.proofs.Common.{◌≡◌, ◌<◌, ◌+◌, ℕ, suc, List, [], ◌∷◌, ◌++◌, Bool, true, false, cond, Some, refl, sym, ap, ◌∙◌, subst, length, take, get_or, arith, length-append, append-nil}
+use Rattle.std.specs.Prelude.{slice_get, bytes_eq, codes, encode_utf8_all}
+use Rattle.std.specs.List.{list_any}
+use Rattle.std.proofs.lemmas.List.{take_more}
+use Rattle.std.proofs.lemmas.Option.{slice_get_within}
+use Rattle.py_code.specs.declared.code.CodeObject.{CodeObject}
+use Rattle.py_code.specs.declared.code.PyCode.{PyCode}
+use Rattle.py_code.specs.declared.names.NameId.{NameId}
+use Rattle.py_code.specs.Names.{interned}
+use Rattle.py_tree.specs.Tree.{Name, Tree}
+use Rattle.py_tree.specs.Binding.{locals_of}
+use Rattle.py_laid.specs.Fits.{Continues}
+use Rattle.py_laid.specs.Naming.{IsNameOf, IsNameFor, NamesAll, IsNamed}
+use Rattle.py_emit.proofs.ListLemmas.{Continues-trans, slice_get-front}
+
+pub Continues-interned : (table : List (List ℕ)) (text : List ℕ) → Continues table (interned table text)
+Continues-interned table text = by (list_any (bytes_eq text) table)
+  where
+    by : (b : Bool) → Continues table (cond b table (table ++ text ∷ []))
+    by true = ([], sym (append-nil table))
+    by false = (text ∷ [], refl)
+
+-- a table that had a text interned, and then went on
+pub Continues-names : (old path_known name_known vars_known : List (List ℕ)) (text : List ℕ) → path_known ≡ interned old text → Continues path_known name_known
+    → Continues name_known vars_known → Continues old vars_known
+Continues-names old path_known name_known vars_known text is grown grown_more =
+    Continues-trans old path_known vars_known (subst (Continues old) (sym is) (Continues-interned old text)) (Continues-trans path_known name_known vars_known grown grown_more)
+
+-- a text that stands in the table has a name
+pub is_name_of : (table : List (List ℕ)) (id : NameId) (text : List ℕ) → slice_get table id.index ≡ Some text → IsNameOf table id text
+is_name_of table id text here = (slice_get_within table id.index text here, here)
+
+-- a name stays one as the table grows
+pub IsNameOf-grown : (old new : List (List ℕ)) (id : NameId) (text : List ℕ) → Continues old new → IsNameOf old id text → IsNameOf new id text
+IsNameOf-grown old new id text (more, is) (low, here) = (omega (arith, low, ap length is, length-append old more), rw is (slice_get-front old more id.index low ∙ here))
+
+pub NamesAll-grown : (old new : List (List ℕ)) (ids : List NameId) (xs : List Name) → Continues old new → NamesAll old ids xs → NamesAll new ids xs
+NamesAll-grown old new [] [] grows named = tt
+NamesAll-grown old new [] (x ∷ xs) grows named = absurd named
+NamesAll-grown old new (id ∷ ids) [] grows named = absurd named
+NamesAll-grown old new (id ∷ ids) (x ∷ xs) grows ((one, spells), rest) = ((IsNameOf-grown old new id (encode_utf8_all x) grows one, spells), NamesAll-grown old new ids xs grows rest)
+
+NamesAll-last : (table : List (List ℕ)) (ids : List NameId) (xs : List Name) (id : NameId) (x : Name) → NamesAll table ids xs → IsNameFor table id x → NamesAll table (ids ++ id ∷ []) (xs ++ x ∷ [])
+NamesAll-last table [] [] id x named one = (one, tt)
+NamesAll-last table [] (y ∷ ys) id x named one = absurd named
+NamesAll-last table (i ∷ ids) [] id x named one = absurd named
+NamesAll-last table (i ∷ ids) (y ∷ ys) id x (first, rest) one = (first, NamesAll-last table ids ys id x rest one)
+
+pub names_more : (old new : List (List ℕ)) (ids : List NameId) (texts : List Name) (i : ℕ) (id : NameId) (x : Name) → i < length texts → x ≡ get_or texts i x → Continues old new
+    → NamesAll old ids (take i texts) → IsNameFor new id x → NamesAll new (ids ++ id ∷ []) (take (i + 1) texts)
+names_more old new ids texts i id x low is grows named one =
+    let more : take (i + 1) texts ≡ take i texts ++ x ∷ [] = take_more texts i x low ∙ ap (λ (y : Name). take i texts ++ y ∷ []) (sym is) in
+    rw more (NamesAll-last new ids (take i texts) id x (NamesAll-grown old new ids (take i texts) grows named) one)
+
+pub length-NamesAll : (table : List (List ℕ)) (ids : List NameId) (xs : List Name) → NamesAll table ids xs → length ids ≡ length xs
+length-NamesAll table [] [] named = refl
+length-NamesAll table [] (x ∷ xs) named = absurd named
+length-NamesAll table (id ∷ ids) [] named = absurd named
+length-NamesAll table (id ∷ ids) (x ∷ xs) (one, rest) = ap suc (length-NamesAll table ids xs rest)
+
+-- the names that a code was given while the table grew
+pub named_code : (path_known name_known vars_known all_known : List (List ℕ)) (globals : List Name) (code : PyCode) (object : CodeObject) (t : Tree) → code.code ≡ object
+    → slice_get path_known object.source_path.index ≡ Some (codes "<script>") → Continues path_known name_known
+    → IsNameOf name_known object.obj_name (encode_utf8_all t.name) → Continues name_known vars_known
+    → NamesAll vars_known object.varnames.items (locals_of t) → Continues vars_known all_known
+    → NamesAll all_known object.names.items globals → IsNamed all_known globals code t
+named_code path_known name_known vars_known all_known globals code object t same path grown name grown_more vars grown_last names = record {
+  source_path = subst (λ (o : CodeObject). IsNameOf all_known o.source_path (codes "<script>")) (sym same)
+      (later object.source_path _ (IsNameOf-grown path_known name_known object.source_path _ grown (is_name_of path_known object.source_path _ path)));
+  obj_name = subst (λ (o : CodeObject). IsNameOf all_known o.obj_name (encode_utf8_all t.name)) (sym same) (later object.obj_name _ name);
+  names = subst (λ (o : CodeObject). NamesAll all_known o.names.items globals) (sym same) names;
+  varnames = subst (λ (o : CodeObject). NamesAll all_known o.varnames.items (locals_of t)) (sym same) (NamesAll-grown vars_known all_known object.varnames.items (locals_of t) grown_last vars);
+}
+  where
+    later : (id : NameId) (text : List ℕ) → IsNameOf name_known id text → IsNameOf all_known id text
+    later id text known = IsNameOf-grown vars_known all_known id text grown_last (IsNameOf-grown name_known vars_known id text grown_more known)

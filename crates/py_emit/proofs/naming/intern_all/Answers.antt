@@ -1,0 +1,12 @@
+use Rattle.py_emit.proofs.ListLemmas.{Continues-trans}
+use Rattle.py_emit.proofs.NamingLemmas.{names_more}
+use Rattle.py_emit.proofs.naming.intern_all.Goals as goal
+
+pub loop-text-preserved : goal.loop-text-preserved
+loop-text-preserved c =
+    record {
+      named = rw c.in_ok-push.ensures.items
+          (names_more c.loop-text.names c.intern_text.new.names c.loop-text.ids.items c.args.texts.now c.loop-text.text-index c.in_ok-id.id c.text-item.result
+          c.loop-text-test.true c.text-item.is c.in_ok-id.ensures.grows c.loop-text.invariant.named c.in_ok-id.ensures.named);
+      grows = Continues-trans c.args.names.now c.loop-text.names c.intern_text.new.names c.loop-text.invariant.grows c.in_ok-id.ensures.grows;
+    }

@@ -1,0 +1,15 @@
+//! The compiler: the code of a body with its notes, put unit behind unit, since each label is known before its jump is.
+#![tactic(auto)]
+
+mod blocks;
+mod compile;
+mod emitter;
+mod expressions;
+mod locals;
+mod naming;
+mod protected;
+mod scope;
+mod sizes;
+mod statements;
+
+pub use compile::{AnnotatedList, compile_body};

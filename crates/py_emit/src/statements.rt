@@ -1,0 +1,143 @@
+//! The code of statements.
+
+ghost use Rattle.std.specs.Prelude.{◌≡◌, ◌+◌, ◌≤◌, true, OnOk};
+ghost use Rattle.py_code.specs.declared.instruction.Instruction.TheVariants as op;
+ghost use Rattle.py_code.specs.Numbers.{raise_number};
+ghost use Rattle.py_laid.specs.Code.{over};
+ghost use Rattle.py_tree.specs.Tree.{Assign, Break, Continue, Do, Raise, Reraise, Return, Show};
+ghost use Rattle.py_emit.specs.Compilable.{ExprFits, OperationFits};
+ghost use Rattle.py_emit.specs.Emitting.{draft_of, is_inside, scope_of, EmitsForm, EmitsPlain};
+
+use crate::emitter::Emitter;
+use crate::scope::Scope;
+use py_code::{Instruction, NoMemory, PyText, RaiseKind};
+use py_tree::{Atom, Expr, Operation};
+
+impl Emitter {
+    /// Adds `x = e`.
+    pub fn compile_assign(
+        &mut self,
+        name: &PyText,
+        expr: &Expr,
+        scope: &Scope,
+        line: u32,
+    ) -> Result<(), NoMemory>
+        requires fits { ExprFits expr.now }
+        requires low { (self.old.labels ≤ 3) × (self.old.others ≤ 3) }
+        requires depth { scope.now.depth ≤ 1000 }
+        ensures code { OnOk result (EmitsForm self.old.labels (draft_of self.old) (draft_of self.new) (scope_of scope.now) line (Assign name.now expr.now)) }
+        ensures widths { (self.new.labels ≡ self.old.labels) × (self.new.others ≡ self.old.others) }
+    {
+        self.compile_expr(expr, scope, line)?;
+        self.put_local(Instruction::StoreFast, name, scope, 1, line)?;
+        Ok(())
+    }
+
+    /// Adds `do (op a ..)`.
+    pub fn compile_do(
+        &mut self,
+        operation: &Operation,
+        scope: &Scope,
+        line: u32,
+    ) -> Result<(), NoMemory>
+        requires fits { OperationFits operation.now }
+        requires low { (self.old.labels ≤ 3) × (self.old.others ≤ 3) }
+        requires depth { scope.now.depth ≤ 1000 }
+        ensures code { OnOk result (EmitsForm self.old.labels (draft_of self.old) (draft_of self.new) (scope_of scope.now) line (Do operation.now)) }
+        ensures widths { (self.new.labels ≡ self.old.labels) × (self.new.others ≡ self.old.others) }
+    {
+        self.compile_operation(operation, scope, line)?;
+        self.put_plain(Instruction::Pop, 0, scope, 1, line)?;
+        Ok(())
+    }
+
+    /// Adds `show a`.
+    pub fn compile_show(&mut self, atom: &Atom, scope: &Scope, line: u32) -> Result<(), NoMemory>
+        requires low { (self.old.labels ≤ 3) × (self.old.others ≤ 3) }
+        requires depth { scope.now.depth ≤ 1000 }
+        ensures code { OnOk result (EmitsForm self.old.labels (draft_of self.old) (draft_of self.new) (scope_of scope.now) line (Show atom.now)) }
+        ensures widths { (self.new.labels ≡ self.old.labels) × (self.new.others ≡ self.old.others) }
+    {
+        self.compile_atom(atom, scope, 0, line)?;
+        self.put_plain(Instruction::PrintExpr, 0, scope, 1, line)?;
+        Ok(())
+    }
+
+    /// Adds `return a`.
+    pub fn compile_return(&mut self, atom: &Atom, scope: &Scope, line: u32) -> Result<(), NoMemory>
+        requires low { (self.old.labels ≤ 3) × (self.old.others ≤ 3) }
+        requires depth { scope.now.depth ≤ 1000 }
+        ensures code { OnOk result (EmitsForm self.old.labels (draft_of self.old) (draft_of self.new) (scope_of scope.now) line (Return atom.now)) }
+        ensures widths { (self.new.labels ≡ self.old.labels) × (self.new.others ≡ self.old.others) }
+    {
+        self.compile_atom(atom, scope, 0, line)?;
+        self.put_plain(Instruction::ReturnValue, 0, scope, 1, line)?;
+        Ok(())
+    }
+
+    /// Adds `raise a`.
+    pub fn compile_raise(&mut self, atom: &Atom, scope: &Scope, line: u32) -> Result<(), NoMemory>
+        requires low { (self.old.labels ≤ 3) × (self.old.others ≤ 3) }
+        requires depth { scope.now.depth ≤ 1000 }
+        ensures code { OnOk result (EmitsForm self.old.labels (draft_of self.old) (draft_of self.new) (scope_of scope.now) line (Raise atom.now)) }
+        ensures widths { (self.new.labels ≡ self.old.labels) × (self.new.others ≡ self.old.others) }
+    {
+        self.compile_atom(atom, scope, 0, line)?;
+        self.put_raise(RaiseKind::Raise, scope, 1, line)?;
+        Ok(())
+    }
+
+    /// Adds `reraise`.
+    pub fn compile_reraise(&mut self, scope: &Scope, line: u32) -> Result<(), NoMemory>
+        requires low { (self.old.labels ≤ 3) × (self.old.others ≤ 3) }
+        requires depth { scope.now.depth ≤ 1000 }
+        ensures code { OnOk result (EmitsForm self.old.labels (draft_of self.old) (draft_of self.new) (scope_of scope.now) line Reraise) }
+        ensures widths { (self.new.labels ≡ self.old.labels) × (self.new.others ≡ self.old.others) }
+    {
+        self.put_raise(RaiseKind::Reraise, scope, 0, line)?;
+        Ok(())
+    }
+
+    /// Adds what raises an exception that lies on the stack, or the one that is handled.
+    pub fn put_raise(
+        &mut self,
+        kind: RaiseKind,
+        scope: &Scope,
+        above: u32,
+        line: u32,
+    ) -> Result<(), NoMemory>
+        requires depth { scope.now.depth + above ≤ 65535 }
+        ensures code { OnOk result (EmitsPlain (draft_of self.old) (draft_of self.new) (over above (scope_of scope.now)) line op.Raise (raise_number kind)) }
+        ensures widths { (self.new.labels ≡ self.old.labels) × (self.new.others ≡ self.old.others) }
+    {
+        self.put_plain(Instruction::Raise, kind.into(), scope, above, line)
+    }
+
+    /// Adds `break`, which stands inside of a loop.
+    pub fn compile_break(&mut self, scope: &Scope, line: u32) -> Result<(), NoMemory>
+        requires inside { is_inside (scope_of scope.now).around ≡ true }
+        requires low { (self.old.labels ≤ 3) × (self.old.others ≤ 3) }
+        requires depth { scope.now.depth ≤ 1000 }
+        ensures code { OnOk result (EmitsForm self.old.labels (draft_of self.old) (draft_of self.new) (scope_of scope.now) line Break) }
+        ensures widths { (self.new.labels ≡ self.old.labels) × (self.new.others ≡ self.old.others) }
+    {
+        match scope.around {
+            Some(labels) => self.put_jump(Instruction::Break, labels.stop, scope, 0, line),
+            None => unreachable!(),
+        }
+    }
+
+    /// Adds `continue`, which stands inside of a loop.
+    pub fn compile_continue(&mut self, scope: &Scope, line: u32) -> Result<(), NoMemory>
+        requires inside { is_inside (scope_of scope.now).around ≡ true }
+        requires low { (self.old.labels ≤ 3) × (self.old.others ≤ 3) }
+        requires depth { scope.now.depth ≤ 1000 }
+        ensures code { OnOk result (EmitsForm self.old.labels (draft_of self.old) (draft_of self.new) (scope_of scope.now) line Continue) }
+        ensures widths { (self.new.labels ≡ self.old.labels) × (self.new.others ≡ self.old.others) }
+    {
+        match scope.around {
+            Some(labels) => self.put_jump(Instruction::Continue, labels.again, scope, 0, line),
+            None => unreachable!(),
+        }
+    }
+}
