@@ -1,0 +1,91 @@
+-- Of which class a line is, by the tokens that it prints.
+use Rattle.std.proofs.Common.{◌≡◌, ◌≢◌, List, ◌∷◌, Some, None, refl, sym, ap, ◌∙◌}
+use Rattle.std.specs.Prelude.{Option}
+use Rattle.py_lines.specs.declared.drive.DriveLine.{DriveLine}
+use Rattle.py_lines.specs.declared.drive.DriveLine.TheVariants as drive_line
+use Rattle.py_lines.specs.declared.head.Head.{Head}
+use Rattle.py_lines.specs.declared.head.Head.TheVariants as head
+use Rattle.py_lines.specs.declared.head.Turn.{Turn}
+use Rattle.py_lines.specs.declared.head.Turn.TheVariants as turn
+use Rattle.py_lines.specs.declared.header.Header.{Header}
+use Rattle.py_lines.specs.declared.header.Header.TheVariants as header
+use Rattle.py_lines.specs.declared.keyword.Keyword.{Keyword}
+use Rattle.py_lines.specs.declared.keyword.Keyword.TheVariants as keyword
+use Rattle.py_lines.specs.declared.line.Line.{Line}
+use Rattle.py_lines.specs.declared.line.Line.TheVariants as line
+use Rattle.py_lines.specs.declared.plain.Plain.{Plain}
+use Rattle.py_lines.specs.declared.plain.Plain.TheVariants as plain
+use Rattle.py_lines.specs.Meaning.{Meaning, Equals, Key, Word}
+use Rattle.py_lines.specs.Printing.{plain_tokens, head_tokens, turn_tokens, header_tokens, drive_tokens, line_tokens}
+
+-- the classes of lines
+pub data Class : Type 0 where
+  Ends Plains Opens Turns Headers Drives : Class
+
+-- the class of a line that a keyword begins: a plain statement's, unless it is listed
+abbrev pub keyword_class : Keyword → Class
+keyword_class keyword.End = Ends
+keyword_class keyword.If = Opens
+keyword_class keyword.While = Opens
+keyword_class keyword.Else = Turns
+keyword_class keyword.Def = Headers
+keyword_class k = Plains
+
+-- the class of a line that another word begins, by what stands behind it
+abbrev pub word_class : List Meaning → Class
+word_class (Equals ∷ ts) = Plains
+word_class ts = Drives
+
+-- the class that the first tokens tell
+abbrev pub tokens_class : List Meaning → Option Class
+tokens_class (Key k ∷ ts) = Some (keyword_class k)
+tokens_class (Word w ∷ ts) = Some (word_class ts)
+tokens_class ts = None
+
+abbrev pub line_class : Line → Class
+line_class line.End = Ends
+line_class (line.Plain p) = Plains
+line_class (line.Opens h) = Opens
+line_class (line.Turns t) = Turns
+line_class (line.Header h) = Headers
+line_class (line.Drive d) = Drives
+
+plain_class : (p : Plain) → tokens_class (plain_tokens p) ≡ Some Plains
+plain_class plain.Pass = refl
+plain_class p = refl
+
+head_class : (h : Head) → tokens_class (head_tokens h) ≡ Some Opens
+head_class (head.If a) = refl
+head_class h = refl
+
+turn_class : (t : Turn) → tokens_class (turn_tokens t) ≡ Some Turns
+turn_class turn.Else = refl
+
+header_class : (h : Header) → tokens_class (header_tokens h) ≡ Some Headers
+header_class (header.Def f ps) = refl
+
+drive_class : (d : DriveLine) → tokens_class (drive_tokens d) ≡ Some Drives
+drive_class (drive_line.Call f args) = refl
+
+pub class_shown : (l : Line) → tokens_class (line_tokens l) ≡ Some (line_class l)
+class_shown line.End = refl
+class_shown (line.Plain p) = plain_class p
+class_shown (line.Opens h) = head_class h
+class_shown (line.Turns t) = turn_class t
+class_shown (line.Header h) = header_class h
+class_shown (line.Drive d) = drive_class d
+
+pub same_class : (l m : Line) → line_tokens l ≡ line_tokens m → line_class l ≡ line_class m
+same_class l m e = let h : Some (line_class l) ≡ Some (line_class m) = sym (class_shown l) ∙ ap tokens_class e ∙ class_shown m in cc h
+
+-- tokens that tell no class are no line's
+pub no_class : (ts : List Meaning) → tokens_class ts ≡ None → (l : Line) → ts ≢ line_tokens l
+no_class ts none l e = let h : None ≡ Some (line_class l) = sym none ∙ ap tokens_class e ∙ class_shown l in cc h
+
+-- tokens that are no plain statement's, though they begin as one
+pub no_plain : (ts : List Meaning) → tokens_class ts ≡ Some Plains → ((p : Plain) → ts ≢ plain_tokens p) → (l : Line) → ts ≢ line_tokens l
+no_plain ts class none l e = go l (sym class ∙ ap tokens_class e ∙ class_shown l) e
+  where
+    go : (l : Line) → Some Plains ≡ Some (line_class l) → ts ≢ line_tokens l
+    go (line.Plain p) c h = none p h
+    go l c h = cc

@@ -1,0 +1,59 @@
+-- What is not found among tokens, from what is not found among those behind the first.
+use Rattle.std.proofs.Common.{◌≡◌, ◌≢◌, ℕ, List, [], ◌∷◌, None, true, false, map, refl, subst}
+use Rattle.std.specs.Prelude.{Option, codes}
+use Rattle.py_tree.specs.Tree.{Name}
+use Rattle.py_tree.specs.declared.expr.Atom.{Atom}
+use Rattle.py_tree.specs.declared.expr.Atom.TheVariants as atom
+use Rattle.py_lines.specs.declared.drive.DriveAtom.{DriveAtom}
+use Rattle.py_lines.specs.declared.drive.DriveAtom.TheVariants as drive
+use Rattle.py_lines.specs.declared.drive.DriveLine.{DriveLine}
+use Rattle.py_lines.specs.declared.drive.DriveLine.TheVariants as drive_line
+use Rattle.py_lines.specs.declared.head.Head.{Head}
+use Rattle.py_lines.specs.declared.head.Turn.{Turn}
+use Rattle.py_lines.specs.declared.header.Header.{Header}
+use Rattle.py_lines.specs.declared.header.Header.TheVariants as header
+use Rattle.py_lines.specs.declared.keyword.Keyword.TheVariants as keyword
+use Rattle.py_lines.specs.declared.line.Line.{Line}
+use Rattle.py_lines.specs.declared.line.Line.TheVariants as line
+use Rattle.py_lines.specs.declared.meaning.Sense.{Sense}
+use Rattle.py_lines.specs.declared.meaning.Sense.TheVariants as sense
+use Rattle.py_lines.specs.declared.plain.Plain.{Plain}
+use Rattle.py_lines.specs.Finding.{Prints}
+use Rattle.py_lines.specs.Meaning.{Meaning, Key, Word, Drive, meaning_of}
+use Rattle.py_lines.specs.Printing.{atom_token, drive_token, plain_tokens, head_tokens, turn_tokens, header_tokens, drive_tokens, line_tokens}
+
+-- where nothing was found, no finding prints these
+pub none_prints : {X T : Type 0} (printing : X → T) (ts : T) (r : Option X) → r ≡ None → Prints printing ts r → (x : X) → ts ≢ printing x
+none_prints printing ts r is found = subst (Prints printing ts) is found
+
+-- a `def` has a name and names behind it
+pub no_def : (ts : List Meaning) (r : Option (Name × List Name)) → r ≡ None → Prints (λ p. Word p.0 ∷ map Word p.1) ts r → (h : Header) → Key keyword.Def ∷ ts ≢ header_tokens h
+no_def ts r is found (header.Def f ps) e = none_prints (λ p. Word p.0 ∷ map Word p.1) ts r is found (f, ps) (cc)
+
+-- the drive `call` has a name and arguments behind it
+pub no_call : (ts : List Meaning) (r : Option (Name × List DriveAtom)) → r ≡ None → Prints (λ p. Word p.0 ∷ map drive_token p.1) ts r → (d : DriveLine) → Word (codes "call") ∷ ts ≢ drive_tokens d
+no_call ts r is found (drive_line.Call f args) e = none_prints (λ p. Word p.0 ∷ map drive_token p.1) ts r is found (f, args) (cc)
+
+-- an argument of a drive is an atom, or the number of a drive
+pub no_argument : (m : Meaning) → ((a : Atom) → m ≢ atom_token a) → ((n : ℕ) → m ≢ Drive n) → (x : DriveAtom) → m ≢ drive_token x
+no_argument m none other drive.None e = none atom.None e
+no_argument m none other (drive.Bool true) e = none (atom.Bool true) e
+no_argument m none other (drive.Bool false) e = none (atom.Bool false) e
+no_argument m none other (drive.Int n) e = none (atom.Int n) e
+no_argument m none other (drive.Str s) e = none (atom.Str s) e
+no_argument m none other (drive.Name x) e = none (atom.Name x) e
+no_argument m none other (drive.Drive n) e = other n e
+
+pub no_drive : (s : Sense) → ((n : ℕ) → s ≢ sense.Drive n) → (n : ℕ) → meaning_of s ≢ Drive n
+no_drive (sense.Drive k) other n e = absurd (other k refl)
+no_drive s other n e = cc
+
+-- a line is of one of the classes
+pub no_line : (ts : List Meaning) → ((p : Plain) → ts ≢ plain_tokens p) → ((h : Head) → ts ≢ head_tokens h) → ((t : Turn) → ts ≢ turn_tokens t) → ((h : Header) → ts ≢ header_tokens h)
+    → ((d : DriveLine) → ts ≢ drive_tokens d) → (ts ≢ Key keyword.End ∷ []) → (l : Line) → ts ≢ line_tokens l
+no_line ts plain head turn header drive end line.End = end
+no_line ts plain head turn header drive end (line.Plain p) = plain p
+no_line ts plain head turn header drive end (line.Opens h) = head h
+no_line ts plain head turn header drive end (line.Turns t) = turn t
+no_line ts plain head turn header drive end (line.Header h) = header h
+no_line ts plain head turn header drive end (line.Drive d) = drive d

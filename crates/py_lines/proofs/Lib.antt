@@ -1,0 +1,14 @@
+-- how a line is cut into tokens, and what words spell
+mod Lexing
+mod Numbers
+mod Texts
+mod Comments
+-- what readers find, and what they don't
+mod Finds
+mod Eachs
+mod Operations
+-- lines by their tokens
+mod Classes
+mod OneToOne
+mod Readings
+mod WorkedLemmas

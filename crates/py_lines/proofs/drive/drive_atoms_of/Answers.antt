@@ -1,0 +1,10 @@
+use Rattle.py_lines.specs.Meaning.{meaning_of}
+use Rattle.py_lines.specs.Printing.{drive_token}
+use Rattle.py_lines.proofs.Eachs.{none_at, push_at}
+use Rattle.py_lines.proofs.drive.drive_atoms_of.Goals as goal
+
+pub returns-in-None : goal.returns-in-None
+returns-in-None c = none_at meaning_of drive_token _ _ _ _ c.loop-token-test.true c.in-None.is c.in_ok-atom.ensures
+
+pub loop-token-preserved : goal.loop-token-preserved
+loop-token-preserved c = push_at meaning_of drive_token _ _ _ _ _ _ _ c.loop-token-test.true c.loop-token.invariant c.in-Some.is c.in_ok-atom.ensures c.in_ok-push-in-Some.ensures.added

@@ -1,0 +1,15 @@
+-- what a line says
+pub mod Reading
+pub mod Printing
+pub mod Meaning
+pub mod Keywords
+pub mod Words
+pub mod Tokens
+pub mod Comments
+-- what holds of every line
+pub mod Laws
+-- small lines, worked by hand
+pub mod Worked
+-- what the functions inside the crate promise each other
+pub mod Pieces
+pub mod Finding

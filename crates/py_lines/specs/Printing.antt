@@ -1,0 +1,88 @@
+-- The tokens that a line prints.
+use Rattle.std.specs.Prelude.{List, [], ◌∷◌, ◌++◌, true, false, codes, map}
+use Rattle.py_tree.specs.declared.expr.Atom.{Atom}
+use Rattle.py_tree.specs.declared.expr.Atom.TheVariants as atom
+use Rattle.py_tree.specs.declared.expr.Expr.{Expr}
+use Rattle.py_tree.specs.declared.expr.Expr.TheVariants as expr
+use Rattle.py_tree.specs.declared.expr.Operation.{Operation}
+use Rattle.py_tree.specs.declared.expr.Operation.TheVariants as operation
+use Rattle.py_lines.specs.declared.drive.DriveAtom.{DriveAtom}
+use Rattle.py_lines.specs.declared.drive.DriveAtom.TheVariants as drive
+use Rattle.py_lines.specs.declared.drive.DriveLine.{DriveLine}
+use Rattle.py_lines.specs.declared.drive.DriveLine.TheVariants as drive_line
+use Rattle.py_lines.specs.declared.head.Head.{Head}
+use Rattle.py_lines.specs.declared.head.Head.TheVariants as head
+use Rattle.py_lines.specs.declared.head.Turn.{Turn}
+use Rattle.py_lines.specs.declared.head.Turn.TheVariants as turn
+use Rattle.py_lines.specs.declared.header.Header.{Header}
+use Rattle.py_lines.specs.declared.header.Header.TheVariants as header
+use Rattle.py_lines.specs.declared.keyword.Keyword.TheVariants as keyword
+use Rattle.py_lines.specs.declared.line.Line.{Line}
+use Rattle.py_lines.specs.declared.line.Line.TheVariants as line
+use Rattle.py_lines.specs.declared.plain.Plain.{Plain}
+use Rattle.py_lines.specs.declared.plain.Plain.TheVariants as plain
+use Rattle.py_lines.specs.Meaning.{Meaning, Open, Close, Equals, Key, Word, Number, Text, Drive}
+
+-- an atom is one token
+abbrev pub atom_token : Atom → Meaning
+atom_token atom.None = Key keyword.None
+atom_token (atom.Bool true) = Key keyword.True
+atom_token (atom.Bool false) = Key keyword.False
+atom_token (atom.Int n) = Number n
+atom_token (atom.Str s) = Text s
+atom_token (atom.Name x) = Word x
+
+-- so is an argument of a drive
+abbrev pub drive_token : DriveAtom → Meaning
+drive_token drive.None = Key keyword.None
+drive_token (drive.Bool true) = Key keyword.True
+drive_token (drive.Bool false) = Key keyword.False
+drive_token (drive.Int n) = Number n
+drive_token (drive.Str s) = Text s
+drive_token (drive.Name x) = Word x
+drive_token (drive.Drive n) = Drive n
+
+abbrev pub operation_tokens : Operation → List Meaning
+operation_tokens (operation.Add a b) = Word (codes "add") ∷ atom_token a ∷ atom_token b ∷ []
+operation_tokens (operation.Sub a b) = Word (codes "sub") ∷ atom_token a ∷ atom_token b ∷ []
+operation_tokens (operation.Lt a b) = Word (codes "lt") ∷ atom_token a ∷ atom_token b ∷ []
+operation_tokens (operation.Eq a b) = Word (codes "eq") ∷ atom_token a ∷ atom_token b ∷ []
+operation_tokens (operation.Call f args) = Word (codes "call") ∷ atom_token f ∷ map atom_token args
+
+abbrev pub in_parentheses : List Meaning → List Meaning
+in_parentheses ts = Open ∷ (ts ++ Close ∷ [])
+
+abbrev pub expr_tokens : Expr → List Meaning
+expr_tokens (expr.Atom a) = atom_token a ∷ []
+expr_tokens (expr.Operation o) = in_parentheses (operation_tokens o)
+
+abbrev pub plain_tokens : Plain → List Meaning
+plain_tokens (plain.Assign x e) = Word x ∷ Equals ∷ expr_tokens e
+plain_tokens (plain.Do o) = Key keyword.Do ∷ in_parentheses (operation_tokens o)
+plain_tokens (plain.Show a) = Key keyword.Show ∷ atom_token a ∷ []
+plain_tokens (plain.Return a) = Key keyword.Return ∷ atom_token a ∷ []
+plain_tokens plain.Break = Key keyword.Break ∷ []
+plain_tokens plain.Continue = Key keyword.Continue ∷ []
+plain_tokens plain.Pass = Key keyword.Pass ∷ []
+
+abbrev pub head_tokens : Head → List Meaning
+head_tokens (head.If a) = Key keyword.If ∷ atom_token a ∷ []
+head_tokens (head.While a) = Key keyword.While ∷ atom_token a ∷ []
+
+abbrev pub turn_tokens : Turn → List Meaning
+turn_tokens turn.Else = Key keyword.Else ∷ []
+
+abbrev pub header_tokens : Header → List Meaning
+header_tokens (header.Def f ps) = Key keyword.Def ∷ Word f ∷ map Word ps
+
+abbrev pub drive_tokens : DriveLine → List Meaning
+drive_tokens (drive_line.Call f args) = Word (codes "call") ∷ Word f ∷ map drive_token args
+
+-- the tokens of a line
+abbrev pub line_tokens : Line → List Meaning
+line_tokens line.End = Key keyword.End ∷ []
+line_tokens (line.Plain p) = plain_tokens p
+line_tokens (line.Opens h) = head_tokens h
+line_tokens (line.Turns t) = turn_tokens t
+line_tokens (line.Header h) = header_tokens h
+line_tokens (line.Drive d) = drive_tokens d

@@ -1,0 +1,40 @@
+-- Small lines, worked by hand.
+use Rattle.std.specs.Prelude.{[], ◌∷◌, true, codes, pos, neg_ℤ}
+use Rattle.py_tree.specs.declared.expr.Atom.TheVariants as atom
+use Rattle.py_tree.specs.declared.expr.Expr.TheVariants as expr
+use Rattle.py_tree.specs.declared.expr.Operation.TheVariants as operation
+use Rattle.py_lines.specs.declared.drive.DriveAtom.TheVariants as drive
+use Rattle.py_lines.specs.declared.drive.DriveLine.TheVariants as drive_line
+use Rattle.py_lines.specs.declared.header.Header.TheVariants as header
+use Rattle.py_lines.specs.declared.line.Line.TheVariants as line
+use Rattle.py_lines.specs.declared.line.LineRead.TheVariants.{Blank, Said, Malformed}
+use Rattle.py_lines.specs.declared.plain.Plain.TheVariants as plain
+use Rattle.py_lines.specs.Reading.{IsReadAs}
+
+-- in front of `=` an operator's word is a name; a number keeps its sign, and may begin with zeros
+abbrev pub CallIsAName : Type 0
+CallIsAName = IsReadAs (codes "  call=(sub 007 -2) ") (Said (line.Plain (plain.Assign (codes "call") (expr.Operation (operation.Sub (atom.Int (pos 7)) (atom.Int (neg_ℤ (pos 2))))))))
+
+-- else `call` begins a drive
+abbrev pub CallIsADrive : Type 0
+CallIsADrive = IsReadAs (codes "call f True 'a b' $12") (Said (line.Drive (drive_line.Call (codes "f") (drive.Bool true ∷ drive.Str (codes "a b") ∷ drive.Drive 12 ∷ []))))
+
+-- a function may have the name of an operator, and parameters
+abbrev pub AddIsAName : Type 0
+AddIsAName = IsReadAs (codes "def add x y") (Said (line.Header (header.Def (codes "add") (codes "x" ∷ codes "y" ∷ []))))
+
+-- a keyword is no name
+abbrev pub KeywordIsNoName : Type 0
+KeywordIsNoName = IsReadAs (codes "gen = 1") Malformed
+
+-- nothing may stand behind the end of a line
+abbrev pub NothingBehind : Type 0
+NothingBehind = IsReadAs (codes "show x y") Malformed
+
+-- a number of more than 128 bits is none
+abbrev pub NoLargeNumber : Type 0
+NoLargeNumber = IsReadAs (codes "return 170141183460469231731687303715884105728") Malformed
+
+-- blanks alone say nothing
+abbrev pub NothingIsBlank : Type 0
+NothingIsBlank = IsReadAs (codes "  ") Blank

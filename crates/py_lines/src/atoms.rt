@@ -1,0 +1,148 @@
+//! Names and atoms, by what the tokens mean that print them.
+
+ghost use Rattle.std.specs.Prelude.{◌≡◌, ◌≢◌, ◌∷◌, List, [], IfOk, MatchOption, map};
+ghost use Rattle.py_tree.specs.Tree.{Name};
+ghost use Rattle.py_lines.specs.Finding.{Prints};
+ghost use Rattle.py_lines.specs.Meaning.{Key, Word, meaning_of};
+ghost use Rattle.py_lines.specs.Printing.{atom_token};
+
+use crate::keyword::Keyword;
+use crate::meaning::Sense;
+use py_code::{NoMemory, PyText, text_of};
+use py_tree::{Atom, AtomList, ParamList};
+use std::alloc::Global;
+
+/// The constant that a keyword is.
+fn constant_of(keyword: Keyword) -> Option<Atom>
+    ensures { Prints atom_token (Key keyword) result }
+{
+    match keyword {
+        Keyword::None => Some(Atom::None),
+        Keyword::True => Some(Atom::Bool(true)),
+        Keyword::False => Some(Atom::Bool(false)),
+        _ => None,
+    }
+}
+
+/// The atom that a token is.
+pub fn atom_of(alloc: Global, token: &Sense<'_>) -> Result<Option<Atom>, NoMemory>
+    ensures { IfOk result (Prints atom_token (meaning_of token.now)) }
+{
+    match token {
+        Sense::Key(keyword) => Ok(constant_of(*keyword)),
+        Sense::Word(name) => Ok(Some(Atom::Name(text_of(alloc, name)?))),
+        Sense::Number(number) => Ok(Some(Atom::Int(*number))),
+        Sense::Text(text) => Ok(Some(Atom::Str(text_of(alloc, text)?))),
+        _ => Ok(None),
+    }
+}
+
+/// The name that a token is.
+pub fn name_of(alloc: Global, token: &Sense<'_>) -> Result<Option<PyText>, NoMemory>
+    ensures { IfOk result (Prints Word (meaning_of token.now)) }
+{
+    let Sense::Word(name) = token else {
+        return Ok(None);
+    };
+    Ok(Some(text_of(alloc, name)?))
+}
+
+/// A finding of no tokens, where there are none.
+pub fn alone<T: Drop>(found: T, tokens: &[Sense<'_>]) -> Option<T>
+    ensures { MatchOption result (map meaning_of tokens.now ≢ []) (λ same. (same ≡ found) × (map meaning_of tokens.now ≡ [])) }
+{
+    if tokens.is_empty() { Some(found) } else { None }
+}
+
+/// The atom that is the only token.
+pub fn lone_atom(alloc: Global, tokens: &[Sense<'_>]) -> Result<Option<Atom>, NoMemory>
+    ensures { IfOk result (Prints (λ a. atom_token a ∷ []) (map meaning_of tokens.now)) }
+{
+    match tokens {
+        [] => Ok(None),
+        [atom] => atom_of(alloc, atom),
+        [_, _, ..] => Ok(None),
+    }
+}
+
+/// The atoms that all the tokens are.
+pub fn atoms_of(alloc: Global, tokens: &[Sense<'_>]) -> Result<Option<AtomList>, NoMemory>
+    ensures { IfOk result (Prints (map atom_token) (map meaning_of tokens.now)) }
+{
+    let mut atoms = AtomList::new(alloc);
+    for token in tokens {
+        match atom_of(alloc, token)? {
+            Some(atom) => atoms.push(atom)?,
+            None => return Ok(None),
+        }
+    }
+    Ok(Some(atoms))
+}
+
+/// The names that all the tokens are.
+pub fn names_of(alloc: Global, tokens: &[Sense<'_>]) -> Result<Option<ParamList>, NoMemory>
+    ensures { IfOk result (Prints (map Word) (map meaning_of tokens.now)) }
+{
+    let mut names = ParamList::new(alloc);
+    for token in tokens {
+        match name_of(alloc, token)? {
+            Some(name) => names.push(name)?,
+            None => return Ok(None),
+        }
+    }
+    Ok(Some(names))
+}
+
+/// The two atoms that are the only tokens.
+pub fn two_atoms(alloc: Global, tokens: &[Sense<'_>]) -> Result<Option<(Atom, Atom)>, NoMemory>
+    ensures { IfOk result (Prints (λ p. atom_token p.0 ∷ atom_token p.1 ∷ []) (map meaning_of tokens.now)) }
+{
+    let Some((left, rest)) = tokens.split_first() else {
+        return Ok(None);
+    };
+    let Some(left) = atom_of(alloc, left)? else {
+        return Ok(None);
+    };
+    let Some(right) = lone_atom(alloc, rest)? else {
+        return Ok(None);
+    };
+    Ok(Some((left, right)))
+}
+
+/// An atom, and the atoms behind it.
+pub fn atom_and_atoms(
+    alloc: Global,
+    tokens: &[Sense<'_>],
+) -> Result<Option<(Atom, AtomList)>, NoMemory>
+    ensures { IfOk result (Prints (λ p. atom_token p.0 ∷ map atom_token p.1) (map meaning_of tokens.now)) }
+{
+    let Some((first, rest)) = tokens.split_first() else {
+        return Ok(None);
+    };
+    let Some(first) = atom_of(alloc, first)? else {
+        return Ok(None);
+    };
+    let Some(atoms) = atoms_of(alloc, rest)? else {
+        return Ok(None);
+    };
+    Ok(Some((first, atoms)))
+}
+
+/// A name, and the names behind it.
+pub fn name_and_names(
+    alloc: Global,
+    tokens: &[Sense<'_>],
+) -> Result<Option<(PyText, ParamList)>, NoMemory>
+    ensures { IfOk result (Prints (λ p. Word p.0 ∷ map Word p.1) (map meaning_of tokens.now)) }
+{
+    let Some((first, rest)) = tokens.split_first() else {
+        return Ok(None);
+    };
+    let Some(first) = name_of(alloc, first)? else {
+        return Ok(None);
+    };
+    let Some(names) = names_of(alloc, rest)? else {
+        return Ok(None);
+    };
+    Ok(Some((first, names)))
+}

@@ -1,0 +1,44 @@
+//! Lines that open a declaration.
+
+ghost use Rattle.std.specs.Prelude.{◌∷◌, IfOk, map};
+ghost use Rattle.py_lines.specs.declared.keyword.Keyword.TheVariants as keyword;
+ghost use Rattle.py_lines.specs.Finding.{Prints};
+ghost use Rattle.py_lines.specs.Meaning.{Key, meaning_of};
+ghost use Rattle.py_lines.specs.Printing.{header_tokens};
+
+use crate::atoms::name_and_names;
+use crate::keyword::Keyword;
+use crate::meaning::Sense;
+use py_code::{NoMemory, PyText};
+use py_tree::ParamList;
+use std::alloc::Global;
+
+/// The header of a declaration.
+#[derive(Debug, Drop)]
+pub enum Header {
+    /// `def f p ..`.
+    Def(PyText, ParamList),
+}
+
+/// The header that tokens are.
+pub fn read_header(alloc: Global, tokens: &[Sense<'_>]) -> Result<Option<Header>, NoMemory>
+    ensures { IfOk result (Prints header_tokens (map meaning_of tokens.now)) }
+{
+    let Some((first, rest)) = tokens.split_first() else {
+        return Ok(None);
+    };
+    match first {
+        Sense::Key(Keyword::Def) => def_of(alloc, rest),
+        _ => Ok(None),
+    }
+}
+
+/// The `def` of a name and its parameters.
+fn def_of(alloc: Global, tokens: &[Sense<'_>]) -> Result<Option<Header>, NoMemory>
+    ensures { IfOk result (Prints header_tokens (Key keyword.Def ∷ map meaning_of tokens.now)) }
+{
+    let Some((name, params)) = name_and_names(alloc, tokens)? else {
+        return Ok(None);
+    };
+    Ok(Some(Header::Def(name, params)))
+}

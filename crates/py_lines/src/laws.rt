@@ -1,0 +1,10 @@
+//! What follows from how lines print their tokens.
+
+ghost use Rattle.py_lines.specs.Laws.{PrintsOneLine, ReadsKeywords, ReadsOneWay};
+
+/// States laws, and does nothing: each keyword is read, no two lines print the same tokens, and so a line of bytes reads in one way.
+pub fn laws_of_lines()
+    ensures keywords { ReadsKeywords }
+    ensures one_line { PrintsOneLine }
+    ensures one_way { ReadsOneWay }
+{}

@@ -1,0 +1,14 @@
+//! Small lines, worked by hand.
+
+ghost use Rattle.py_lines.specs.Worked.{AddIsAName, CallIsADrive, CallIsAName, KeywordIsNoName, NoLargeNumber, NothingBehind, NothingIsBlank};
+
+/// States how small lines read, and does nothing.
+pub fn worked_lines()
+    ensures call_is_a_name { CallIsAName }
+    ensures call_is_a_drive { CallIsADrive }
+    ensures add_is_a_name { AddIsAName }
+    ensures keyword_is_no_name { KeywordIsNoName }
+    ensures nothing_behind { NothingBehind }
+    ensures no_large_number { NoLargeNumber }
+    ensures nothing_is_blank { NothingIsBlank }
+{}
