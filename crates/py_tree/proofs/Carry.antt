@@ -175,16 +175,25 @@ module _ (scene scene' : Scene) (widens : Widens scene scene') (more : List Own)
   evaluates_goes line env h (expr.Atom a) event ts K K' goes cut k = loads_go line env h a event ts K K' goes (cut event) k
   evaluates_goes line env h (expr.Operation o) event ts K K' goes cut k = operates_goes line env h o event ts K K' goes cut k
 
+  -- a statement's atom, and what is asked for it: a value is taken, and what comes in its place is the statement's end
+  taken_goes : (line : ℕ) (env : Env) (h : Handled) (a : Atom) (event : ℕ) (ts : List Own) (K K' : After) (next next' : Obj → ℕ → List Own → Type 0) → Carries more K K'
+      → ((v : Obj) (i : ℕ) (rest : List Own) → next v i (rest ++ more) → next' v i rest) → Loads scene line env h a event (ts ++ more) (Use env K next) → Loads scene' line env h a event ts (Use env K' next')
+  taken_goes line env h a event ts K K' next next' carries on k = loads_go line env h a event ts _ _ (use_goes env more K K' _ _ carries.goes on) (carries.cut env event) k
+
+  asked_goes : (line : ℕ) (env : Env) (h : Handled) (r : Request) (event : ℕ) (ts : List Own) (K K' : After) (next next' : Obj → ℕ → List Own → Type 0) → Carries more K K'
+      → ((v : Obj) (i : ℕ) (rest : List Own) → next v i (rest ++ more) → next' v i rest) → Requests scene line r h event (ts ++ more) (Use env K next) → Requests scene' line r h event ts (Use env K' next')
+  asked_goes line env h r event ts K K' next next' carries on k = requests_go line r h event ts _ _ (use_goes env more K K' _ _ carries.goes on) (carries.cut env event) k
+
   tests_go : (line : ℕ) (env : Env) (h : Handled) (v : Obj) (event : ℕ) (ts : List Own) (K K' : After) (next next' : Bool → ℕ → List Own → Type 0) → Carries more K K'
       → ((b : Bool) (i : ℕ) (rest : List Own) → next b i (rest ++ more) → next' b i rest) → Tests scene line env h v event (ts ++ more) K next → Tests scene' line env h v event ts K' next'
   tests_go line env h v event ts K K' next next' carries on k =
-      requests_go line (request.Truth v) h event ts _ _
-      (use_goes env more K K' _ _ carries.goes (λ w i rest (b, has, told). (b, payload_stays scene.objects scene'.objects w (payload.Bool b) widens.objects has, on b i rest told))) (carries.cut env event) k
+      asked_goes line env h (request.Truth v) event ts K K' _ _ carries
+      (λ w i rest (b, has, told). (b, payload_stays scene.objects scene'.objects w (payload.Bool b) widens.objects has, on b i rest told)) k
 
   chooses_go : (line : ℕ) (env : Env) (h : Handled) (a : Atom) (event : ℕ) (ts : List Own) (K K' : After) (next next' : Bool → ℕ → List Own → Type 0) → Carries more K K'
       → ((b : Bool) (i : ℕ) (rest : List Own) → next b i (rest ++ more) → next' b i rest) → Chooses scene line env h a event (ts ++ more) K next → Chooses scene' line env h a event ts K' next'
   chooses_go line env h a event ts K K' next next' carries on k =
-      loads_go line env h a event ts _ _ (use_goes env more K K' _ _ carries.goes (λ v i rest told. tests_go line env h v i rest K K' next next' carries on told)) (carries.cut env event) k
+      taken_goes line env h a event ts K K' _ _ carries (λ v i rest told. tests_go line env h v i rest K K' next next' carries on told) k
 
   -- ---- statements
 
@@ -241,7 +250,7 @@ module _ (scene scene' : Scene) (widens : Widens scene scene') (more : List Own)
 
   reraises_go : (line : ℕ) → RunnerGoes (Reraises scene line) (Reraises scene' line)
   reraises_go line env h event ts K K' carries k =
-      requests_go line request.Handled h event ts _ _ (use_goes env more K K' _ _ carries.goes (λ v i rest done. carries.goes env (Raises (as_exception v)) i rest done)) (carries.cut env event) k
+      asked_goes line env h request.Handled event ts K K' _ _ carries (λ v i rest done. carries.goes env (Raises (as_exception v)) i rest done) k
 
   mutual
     runs_go : (f : Form) (line : ℕ) → RunnerGoes (Runs scene line f) (Runs scene' line f)
@@ -250,16 +259,12 @@ module _ (scene scene' : Scene) (widens : Widens scene scene') (more : List Own)
     runs_go (Do o) line env h event ts K K' carries k =
         operates_goes line env h o event ts _ _ (use_goes env more K K' _ _ carries.goes (λ v i rest done. carries.goes env Normal i rest done)) (carries.cut env) k
     runs_go (Show a) line env h event ts K K' carries k =
-        loads_go line env h a event ts _ _
-        (use_goes env more K K' _ _ carries.goes
-        (λ v i rest told. requests_go line (request.Show v) h i rest _ _ (use_goes env more K K' _ _ carries.goes (λ u j left done. carries.goes env Normal j left done)) (carries.cut env i) told)) (carries.cut env event) k
-    runs_go (Return a) line env h event ts K K' carries k =
-        loads_go line env h a event ts _ _ (use_goes env more K K' _ _ carries.goes (λ v i rest done. carries.goes env (Returns v) i rest done)) (carries.cut env event) k
+        taken_goes line env h a event ts K K' _ _ carries
+        (λ v i rest told. asked_goes line env h (request.Show v) i rest K K' _ _ carries (λ u j left done. carries.goes env Normal j left done) told) k
+    runs_go (Return a) line env h event ts K K' carries k = taken_goes line env h a event ts K K' _ _ carries (λ v i rest done. carries.goes env (Returns v) i rest done) k
     runs_go (Raise a) line env h event ts K K' carries k =
-        loads_go line env h a event ts _ _
-        (use_goes env more K K' _ _ carries.goes
-        (λ v i rest told. requests_go line (request.Raisable v) h i rest _ _
-        (use_goes env more K K' _ _ carries.goes (λ w j left done. carries.goes env (Raises (as_exception w)) j left done)) (carries.cut env i) told)) (carries.cut env event) k
+        taken_goes line env h a event ts K K' _ _ carries
+        (λ v i rest told. asked_goes line env h (request.Raisable v) i rest K K' _ _ carries (λ w j left done. carries.goes env (Raises (as_exception w)) j left done) told) k
     runs_go Reraise line env h event ts K K' carries k = reraises_go line env h event ts K K' carries k
     runs_go Break line env h event ts K K' carries k = carries.goes env Breaks event ts k
     runs_go Continue line env h event ts K K' carries k = carries.goes env Continues event ts k
@@ -287,14 +292,12 @@ module _ (scene scene' : Scene) (widens : Widens scene scene') (more : List Own)
     tries_go : (cs : Clauses) (line : ℕ) (e : PyBaseExceptionRef) → RunnerGoes (Tries scene line cs e) (Tries scene' line cs e)
     tries_go no_more line e env h event ts K K' carries k = reraises_go line env h event ts K K' carries k
     tries_go (clause n c x s rest) line e env h event ts K K' carries k =
-        loads_go n env h (atom.Name c) event ts _ _
-        (use_goes env more K K' _ _ carries.goes
-        (λ v i mid told. requests_go n (request.Match (as_object e) v) h i mid _ _
-        (use_goes env more K K' _ _ carries.goes
+        taken_goes n env h (atom.Name c) event ts K K' _ _ carries
+        (λ v i mid told. asked_goes n env h (request.Match (as_object e) v) i mid K K' _ _ carries
         (λ w j mid2 tested. tests_go n env h w j mid2 K K' _ _ carries
         (λ b l mid3 chosen. by_truth_goes b _ _ _ _
         (handles_go x (RunsSuite scene s) (RunsSuite scene' s) (λ env1 h1 m mid4 K1 K1' carries1 told1. suite_goes s env1 h1 m mid4 K1 K1' carries1 told1) (bind x (as_object e) env) h l mid3 K K' carries)
-        (tries_go rest line e env h l mid3 K K' carries) chosen) tested)) (carries.cut env i) told)) (carries.cut env event) k
+        (tries_go rest line e env h l mid3 K K' carries) chosen) tested) told) k
 
   -- ---- traces
 

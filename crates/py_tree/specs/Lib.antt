@@ -14,3 +14,7 @@ pub mod Worked
 pub mod WorkedHandlers
 -- how suites are put together
 pub mod Suites
+-- which bodies can be compiled
+pub mod Compilable
+-- bodies that guard nothing
+pub mod Unguarded
