@@ -48,18 +48,32 @@ fn block(alloc: Global, around: Open) -> Result<BlockNote, NoMemory>
 fn blocks(alloc: Global, opens: &[Open]) -> Result<BlockList, NoMemory>
     ensures { IfOk result (λ made. made ≡ map block_of opens.now) }
 {
-    let mut made = BlockList::new(alloc);
-    for open in opens {
-        made.push(block(alloc, *open)?)?;
+    match opens {
+        [] => Ok(BlockList::new()),
+        [open, more @ ..] => {
+            let around = blocks(alloc, more)?;
+            let block = block(alloc, *open)?;
+            around.with(alloc, block)
+        }
+    }
+}
+
+/// Kinds of entries.
+fn kinds(alloc: Global, entries: &[Kind]) -> Result<KindList, NoMemory>
+    ensures { IfOk result (λ made. made ≡ entries.now) }
+{
+    let mut made = KindList::new(alloc);
+    for kind in entries {
+        made.push(*kind)?;
     }
     Ok(made)
 }
 
 /// A note.
-fn note(alloc: Global, kinds: &[Kind], opens: &[Open]) -> Result<Note, NoMemory>
-    ensures { IfOk result (λ made. made ≡ note.Live kinds.now (map block_of opens.now)) }
+fn note(alloc: Global, entries: &[Kind], opens: &[Open]) -> Result<Note, NoMemory>
+    ensures { IfOk result (λ made. made ≡ note.Live entries.now (map block_of opens.now)) }
 {
-    let kinds = KindList::of(kinds.to_vec(alloc)?);
+    let kinds = kinds(alloc, entries)?;
     let blocks = blocks(alloc, opens)?;
     Ok(Note::Live { kinds, blocks })
 }

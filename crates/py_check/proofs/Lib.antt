@@ -1,3 +1,4 @@
 pub mod BreakingLemmas
 pub mod OperandLemmas
+mod RunLemmas
 pub mod WorkedLemmas

@@ -1,3 +1,7 @@
+-- lists of kinds and of blocks as they lie in memory
+pub mod Runs
+pub mod Blocks
+pub mod FewerBlocks
 -- what fits a note, and how many blocks notes have
 pub mod Notes
 pub mod Depths
