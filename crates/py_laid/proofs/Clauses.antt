@@ -147,7 +147,8 @@ module _ (ex : Execution) {around : Around} (c : Context ex around) (e : PyBaseE
         (omega (arith, binds_it, order, pops_it, jumps_off)) (omega (arith, high, behind, binds_it, order, pops_it, jumps_off))
         (chosen_pauses env)
         (λ l2 d i2 vs down more4. suite_from now l2 d i2 vs (omega (arith, down, least, fewer, less, most)) same more4)
-        (λ l2 d i2 vs down more4. others (omega (arith, low, duplicates, names_class, matches_it, chooses, binds_it, order, pops_it, jumps_off)) now l2 d i2 vs (omega (arith, down, least, fewer, less, most)) same more4)
+        (λ l2 d i2 vs down more4.
+        others (omega (arith, low, duplicates, names_class, matches_it, chooses, binds_it, order, pops_it, jumps_off)) now l2 d i2 vs (omega (arith, down, least, fewer, less, most)) same more4)
         decide w decides q l rest (le_refl q) (omega (arith, low, duplicates, names_class, matches_it)) more3)) (atom.Name class) load)
 
 module _ (ex : Execution) where

@@ -39,6 +39,8 @@ mod TypingBlocks
 mod TypingForms
 mod TypingCode
 -- ---- code that fits its tree
-mod BindingLemmas
-mod NamingLemmas
+pub mod BindingLemmas
+pub mod NamingLemmas
 pub mod Fitting
+-- ---- which instructions there are
+pub mod Uses

@@ -12,7 +12,7 @@ use Rattle.py_laid.specs.Fits.{Continues}
 use Rattle.py_laid.specs.Naming.{IsNameOf, NamesAll, IsNamed}
 use Rattle.py_laid.proofs.BindingLemmas.{Continues-bound_by}
 
-slice_get-front : {A : Type 0} (xs ys : List A) (i : ℕ) → i < length xs → slice_get (xs ++ ys) i ≡ slice_get xs i
+pub slice_get-front : {A : Type 0} (xs ys : List A) (i : ℕ) → i < length xs → slice_get (xs ++ ys) i ≡ slice_get xs i
 slice_get-front [] ys i low = absurd (omega (arith, low))
 slice_get-front (x ∷ xs) ys zero low = refl
 slice_get-front (x ∷ xs) ys (suc i) low = slice_get-front xs ys i (omega (arith, low))

@@ -13,7 +13,8 @@ use Rattle.py_tree.specs.declared.expr.Expr.TheVariants as expr
 use Rattle.py_tree.specs.declared.expr.Operation.{Operation}
 use Rattle.py_tree.specs.declared.expr.Operation.TheVariants as operation
 use Rattle.py_tree.specs.Tree.{Name, Form, Assign, Do, Show, Return, Raise, Reraise, Break, Continue, Pass, If, IfElse, While, TryExcept, TryFinally, Suite, nothing, first, Clauses, no_more, clause}
-use Rattle.py_laid.specs.Code.{Parts, Around, Scope, on, in_loop, in_try, in_clauses, in_finally, before_finally, Stands, LaidName, LaidAtom, LaidAtoms, LaidTwo, LaidOperation, LaidExpr, LaidTarget, LaidBreak, LaidContinue, LaidForget, LaidFinally, LaidHandler, LaidForm, LaidSuite, LaidClauses}
+use Rattle.py_laid.specs.Code.{Parts, Around, Scope, on, in_loop, in_try, in_clauses, in_finally, before_finally, Stands, LaidName, LaidAtom, LaidAtoms, LaidTwo, LaidOperation}
+use Rattle.py_laid.specs.Code.{LaidExpr, LaidTarget, LaidBreak, LaidContinue, LaidForget, LaidFinally, LaidHandler, LaidForm, LaidSuite, LaidClauses}
 use Rattle.py_laid.proofs.UnitLemmas.{decoded_is}
 
 -- a unit lies in front of the place behind it
@@ -107,7 +108,7 @@ module _ (parts : Parts) where
     form_bound scope (Assign x e) line at next (stores, loads, stands) = omega (arith, expr_bound scope line e at stores loads, target_bound scope line (Some x) stores next stands)
     form_bound scope (Do o) line at next (drops, loads, stands) = omega (arith, operation_bound scope line o at drops loads, target_bound scope line None drops next stands)
     form_bound scope (Show a) line at next (asks, loads, stands) = omega (arith, atom_bound scope line a at asks loads, stands_bound stands)
-    form_bound scope (Return a) line at next (ends, loads, stands) = omega (arith, atom_bound scope line a at ends loads, stands_bound stands)
+    form_bound scope (Return a) line at next (asks, loads, stands) = omega (arith, atom_bound scope line a at asks loads, stands_bound stands)
     form_bound scope (Raise a) line at next (asks, loads, stands) = omega (arith, atom_bound scope line a at asks loads, stands_bound stands)
     form_bound scope Reraise line at next laid = let low = stands_bound laid in omega (arith, low)
     form_bound scope Break line at next laid = let low = break_bound scope scope.around line at next laid in omega (arith, low)

@@ -2,8 +2,9 @@
 -- jumps out of loops, suites behind a test, and statements in order.
 use Rattle.std.proofs.Common.{◌<◌, ◌≤◌, ℕ, List, [], ◌∷◌, refl, sym, subst, arith, inl, inr}
 use Rattle.std.specs.Prelude.{Some, None}
+use Rattle.py_code.specs.declared.instruction.Instruction.{Instruction}
 use Rattle.py_objects.specs.declared.request.Request.TheVariants.{Raisable, Show as Shows}
-use Rattle.py_objects.specs.Objects.{as_exception}
+use Rattle.py_objects.specs.Objects.{Obj, as_exception}
 use Rattle.py_objects.specs.Own.{Own}
 use Rattle.py_rows.specs.declared.block.UnwindReason.{UnwindReason}
 use Rattle.py_rows.specs.declared.block.UnwindReason.TheVariants as reason
@@ -14,11 +15,11 @@ use Rattle.py_tree.specs.declared.expr.Expr.{Expr}
 use Rattle.py_tree.specs.declared.expr.Operation.{Operation}
 use Rattle.py_tree.specs.Tree.{Name, Form, Assign, Do, Show, Return, Raise, Reraise, Break, Continue, Pass, If, IfElse, Suite, nothing, first}
 use Rattle.py_tree.specs.Binding.{Env, set_local}
-use Rattle.py_tree.specs.Outcome.{Outcome, Normal, Breaks, Continues, Returns, Raises, Cut, Use, Requests, By_truth, On_normal, Runs, RunsSuite}
-use Rattle.py_laid.specs.Code.{Around, Scope, LaidBreak, LaidContinue, LaidForm, LaidSuite}
+use Rattle.py_tree.specs.Outcome.{Outcome, Normal, Breaks, Continues, Returns, Raises, Cut, Runner, Use, Loads, Requests, By_truth, On_normal, Runs, RunsSuite}
+use Rattle.py_laid.specs.Code.{Around, Scope, on, Stands, LaidTaken, LaidBreak, LaidContinue, LaidForm, LaidSuite}
 use Rattle.py_laid.proofs.Env.{env_of}
-use Rattle.py_laid.proofs.Decoding.{begun, Execution, From, parts_of, scene_of, step_left}
-use Rattle.py_laid.proofs.Places.{stands_bound, atom_bound, operation_bound, expr_bound, target_bound, suite_bound}
+use Rattle.py_laid.proofs.Decoding.{begun, Execution, From, TellsFrom, parts_of, scene_of, step_left}
+use Rattle.py_laid.proofs.Places.{stands_bound, atom_bound, target_bound, suite_bound}
 use Rattle.py_laid.proofs.Lands.{Context, RunsFrom, May, outcome_of, use_passes}
 use Rattle.py_laid.proofs.Asking.{asked_run, asked_once_run}
 use Rattle.py_laid.proofs.Loads.{atom_run, chooses_run}
@@ -28,7 +29,6 @@ use Rattle.py_laid.proofs.Units.{chosen_cut, suite_pauses, target_run, jump_run,
 module _ (ex : Execution) (scope : Scope) where
   pub assign_run : (line at to : ℕ) (x : Name) (e : Expr) → LaidForm (parts_of ex) scope line (Assign x e) at to → RunsFrom ex scope.around at to (Runs (scene_of ex) line (Assign x e))
   assign_run line at to x e (stores, loads, binds) c low high later now last m event ts most same run =
-      let before : at < stores = expr_bound (parts_of ex) scope line e at stores loads in
       let after : stores < to = target_bound (parts_of ex) scope line (Some x) stores to binds in
       let env : Env = env_of ex.vars now.locals in
       expr_run ex c now same line (Use env c.K (λ v. c.K (set_local x (Some v) env) Normal)) (use_passes ex c env _) scope at last stores m event ts most low (omega (arith, high, after)) run
@@ -39,7 +39,6 @@ module _ (ex : Execution) (scope : Scope) where
 
   pub do_run : (line at to : ℕ) (o : Operation) → LaidForm (parts_of ex) scope line (Do o) at to → RunsFrom ex scope.around at to (Runs (scene_of ex) line (Do o))
   do_run line at to o (drops, loads, pops) c low high later now last m event ts most same run =
-      let before : at < drops = operation_bound (parts_of ex) scope line o at drops loads in
       let after : drops < to = target_bound (parts_of ex) scope line None drops to pops in
       let env : Env = env_of ex.vars now.locals in
       operation_run ex c now same line (Use env c.K (λ v. c.K env Normal)) (use_passes ex c env _) scope at last drops m event ts most low (omega (arith, high, after)) run
@@ -48,46 +47,43 @@ module _ (ex : Execution) (scope : Scope) where
       target_run ex scope line drops to None pops v c.base c.blocks now c.limit (λ env1. c.K env1 Normal) (λ env1 l. c.lands.pauses env1 Normal l tt) later drops j i us
       (omega (arith, less, most)) same more) o loads
 
-  pub show_run : (line at to : ℕ) (a : Atom) → LaidForm (parts_of ex) scope line (Show a) at to → RunsFrom ex scope.around at to (Runs (scene_of ex) line (Show a))
-  show_run line at to a (asks, loads, stands) c low high later now last m event ts most same run =
+  -- an atom, then the unit that takes it: V says what that tells, and may be cut at its front
+  taken_run : (line at to : ℕ) (a : Atom) {op : Instruction} {arg : ℕ} (V : Obj → Runner) → LaidTaken (parts_of ex) scope line a op arg at to
+      → ((c : Context ex scope.around) (env : Env) (v : Obj) (event : ℕ) → V v env (handled_in None c.blocks) event [] c.K)
+      → ((asks : ℕ) (v : Obj) → Stands (parts_of ex) (on scope) line asks op arg to → (c : Context ex scope.around) → c.low ≤ asks → to ≤ c.high
+      → TellsFrom ex to c.base c.blocks c.limit (λ env. c.K env Normal)
+      → TellsFrom ex asks (v ∷ c.base) c.blocks c.limit (λ env event ts. V v env (handled_in None c.blocks) event ts c.K))
+      → RunsFrom ex scope.around at to (λ env h event ts K. Loads (scene_of ex) line env h a event ts (Use env K (λ v i mid. V v env h i mid K)))
+  taken_run line at to a V (asks, loads, stands) stops unit c low high later now last m event ts most same run =
       let before : at < asks = atom_bound (parts_of ex) scope line a at asks loads in
       let after : asks < to = stands_bound (parts_of ex) stands in
       let env : Env = env_of ex.vars now.locals in
-      atom_run ex c now same (Use env c.K (λ v i mid. Requests (scene_of ex) line (Shows v) (handled_in None c.blocks) i mid (Use env c.K (λ u. c.K env Normal))))
-      (use_passes ex c env _) scope line at asks [] last m event ts most low (omega (arith, high, after)) run
-      (λ v i. inl (refl, c.lands.pauses env Cut i tt))
-      (λ v j i us less more.
-      asked_once_run ex c now same (Use env c.K (λ u. c.K env Normal)) (use_passes ex c env _) stands (Shows v) (v ∷ c.base) [] asks j i us
-      (omega (arith, less, most)) (omega (arith, low, before)) high (λ k p. refl) more
-      (λ u. c.base) (λ k p u. refl)
-      (λ u l. c.lands.pauses env Normal l tt)
-      (λ u h l rest fewer done. later now to h l rest (omega (arith, fewer, less, most)) same done)) a loads
+      atom_run ex c now same (Use env c.K (λ v i mid. V v env (handled_in None c.blocks) i mid c.K)) (use_passes ex c env _) scope line at asks [] last m event ts most low (omega (arith, high, after)) run
+      (stops c env) (λ v j i us less more. unit asks v stands c (omega (arith, low, before)) high later now asks j i us (omega (arith, less, most)) same more) a loads
+
+  pub show_run : (line at to : ℕ) (a : Atom) → LaidForm (parts_of ex) scope line (Show a) at to → RunsFrom ex scope.around at to (Runs (scene_of ex) line (Show a))
+  show_run line at to a laid =
+      taken_run line at to a (λ v env h event ts K. Requests (scene_of ex) line (Shows v) h event ts (Use env K (λ u. K env Normal))) laid (λ c env v event. inl (refl, c.lands.pauses env Cut event tt))
+      (λ asks v stands c low high later now last m event ts most same run.
+      asked_once_run ex c now same _ (use_passes ex c (env_of ex.vars now.locals) _) stands (Shows v) (v ∷ c.base) [] last m event ts most low high (λ k p. refl) run (λ u. c.base) (λ k p u. refl)
+      (λ u i. c.lands.pauses _ Normal i tt) (λ u j i us less done. later now to j i us (omega (arith, less, most)) same done))
 
   pub return_run : (line at to : ℕ) (a : Atom) → LaidForm (parts_of ex) scope line (Return a) at to → RunsFrom ex scope.around at to (Runs (scene_of ex) line (Return a))
-  return_run line at to a (ends, loads, stands) c low high later now last m event ts most same run =
-      let before : at < ends = atom_bound (parts_of ex) scope line a at ends loads in
-      let after : ends < to = stands_bound (parts_of ex) stands in
-      let env : Env = env_of ex.vars now.locals in
-      atom_run ex c now same (Use env c.K (λ v. c.K env (Returns v))) (use_passes ex c env _) scope line at ends [] last m event ts most low (omega (arith, high, after)) run
-      (λ v i. c.lands.pauses env (Returns v) i tt)
-      (λ v j i us less more.
-      leaves_run ex c now now stands (reason.Returning v) (v ∷ c.base) c.blocks ends j i us tt (omega (arith, less, most)) (omega (arith, low, before)) high same (λ k p. refl) more) a loads
+  return_run line at to a laid =
+      taken_run line at to a (λ v env h event ts K. K env (Returns v) event ts) laid (λ c env v event. c.lands.pauses env (Returns v) event tt)
+      (λ asks v stands c low high later now last m event ts most same run.
+      leaves_run ex c now now stands (reason.Returning v) (v ∷ c.base) c.blocks last m event ts tt most low high same (λ k p. refl) run)
 
   pub raise_run : (line at to : ℕ) (a : Atom) → LaidForm (parts_of ex) scope line (Raise a) at to → RunsFrom ex scope.around at to (Runs (scene_of ex) line (Raise a))
-  raise_run line at to a (asks, loads, stands) c low high later now last m event ts most same run =
-      let before : at < asks = atom_bound (parts_of ex) scope line a at asks loads in
-      let after : asks < to = stands_bound (parts_of ex) stands in
-      let env : Env = env_of ex.vars now.locals in
-      atom_run ex c now same (Use env c.K (λ v i mid. Requests (scene_of ex) line (Raisable v) (handled_in None c.blocks) i mid (Use env c.K (λ w. c.K env (Raises (as_exception w))))))
-      (use_passes ex c env _) scope line at asks [] last m event ts most low (omega (arith, high, after)) run
-      (λ v i. inl (refl, c.lands.pauses env Cut i tt))
-      (λ v j i us less more.
-      asked_run ex c now same (Use env c.K (λ w. c.K env (Raises (as_exception w)))) (use_passes ex c env _) stands (Raisable v) (v ∷ c.base) [] asks j i us
-      (omega (arith, less, most)) (omega (arith, low, before)) high (λ k p. refl) more
-      (λ w l value. c.lands.pauses env (Raises (as_exception w)) l tt)
-      (λ w k p h l rest from is_next fewer value left.
-      raised_run ex c now same [] w k p h l rest (omega (arith, low, before, from)) (omega (arith, high, is_next)) (omega (arith, fewer, less, most))
-      (step_left ex h (unwinds (reason.Raising (as_exception w)) (begun k p c.base c.blocks now)) rest left))) a loads
+  raise_run line at to a laid =
+      taken_run line at to a (λ v env h event ts K. Requests (scene_of ex) line (Raisable v) h event ts (Use env K (λ w. K env (Raises (as_exception w))))) laid
+      (λ c env v event. inl (refl, c.lands.pauses env Cut event tt))
+      (λ asks v stands c low high later now last m event ts most same run.
+      asked_run ex c now same _ (use_passes ex c (env_of ex.vars now.locals) _) stands (Raisable v) (v ∷ c.base) [] last m event ts most low high (λ k p. refl) run
+      (λ w i value. c.lands.pauses _ (Raises (as_exception w)) i tt)
+      (λ w k p j i us from is_next less value left.
+      raised_run ex c now same [] w k p j i us (omega (arith, low, from)) (omega (arith, high, is_next)) (omega (arith, less, most))
+      (step_left ex j (unwinds (reason.Raising (as_exception w)) (begun k p c.base c.blocks now)) us left)))
 
   pub reraise_run : (line at to : ℕ) → LaidForm (parts_of ex) scope line Reraise at to → RunsFrom ex scope.around at to (Runs (scene_of ex) line Reraise)
   reraise_run line at to stands c low high later now last m event ts most same run = reraises_run ex c now same stands [] last m event ts most low high run

@@ -3,18 +3,20 @@
 use Rattle.std.proofs.Common.{◌≡◌, ◌≤◌, ◌-◌, ℕ, suc, [], ◌∷◌, true, Some, None, refl, ap, length, arith}
 use Rattle.std.specs.Prelude.{Option}
 use Rattle.std.proofs.lemmas.Bool.{and_from, lt-ltb, le-leb}
+use Rattle.py_code.specs.declared.instruction.Instruction.{Instruction}
 use Rattle.py_code.specs.declared.instruction.Instruction.TheVariants as op
 use Rattle.py_check.specs.declared.note.Kind.TheVariants.{Any}
 use Rattle.py_check.specs.declared.note.BlockNote.TheVariants as block
 use Rattle.py_check.specs.Landing.{top_level}
 use Rattle.py_check.specs.Taking.{may_move}
+use Rattle.py_tree.specs.declared.expr.Atom.{Atom}
 use Rattle.py_tree.specs.declared.expr.Atom.TheVariants as atom
 use Rattle.py_tree.specs.Tree.{Name, Form, Assign, Do, Show, Return, Raise, Reraise, Break, Continue, Pass, If, IfElse, While, TryExcept, TryFinally, Suite, nothing, first, Clauses, no_more, clause}
-use Rattle.py_laid.specs.Code.{Scope, on, in_loop, in_try, in_clauses, before_finally, in_finally, place, Stands, LaidForget, LaidFinally, LaidHandler, LaidForm, LaidSuite, LaidClauses}
+use Rattle.py_laid.specs.Code.{Scope, on, in_loop, in_try, in_clauses, before_finally, in_finally, place, Stands, LaidTaken, LaidForget, LaidFinally, LaidHandler, LaidForm, LaidSuite, LaidClauses}
 use Rattle.py_laid.proofs.NoteLemmas.{kinds_of, length-kinds_of, top_level-low}
-use Rattle.py_laid.proofs.TypingUnits.{Noted, parts_of, Free, Safe, safe_on, keeps_then}
-use Rattle.py_laid.proofs.TypingLoads.{Typed, joined, typed_by, nothing_typed, unit_typed, goes_as, takes_one, has_local, answer_typed}
-use Rattle.py_laid.proofs.TypingLoads.{none_typed, atom_typed, operation_typed, expr_typed, target_typed, shows_typed, test_typed, jump_typed}
+use Rattle.py_laid.proofs.TypingUnits.{Noted, parts_of, Free, In, Safe, safe_on, Asks, keeps_then}
+use Rattle.py_laid.proofs.TypingLoads.{Typed, joined, typed_by, nothing_typed, unit_typed, goes_as, takes_one, taken_on, has_local, answer_typed}
+use Rattle.py_laid.proofs.TypingLoads.{none_typed, atom_typed, operation_typed, expr_typed, target_typed, test_typed, jump_typed}
 use Rattle.py_laid.proofs.TypingBlocks.{Fine, fine_finally, fine_clauses, fine_try, fine_guarded, fine_loop}
 use Rattle.py_laid.proofs.TypingBlocks.{loop_opens, block_opens, finally_begins, block_closes, finally_ends, break_typed, continue_typed}
 
@@ -86,6 +88,14 @@ module _ (code : Noted) where
   handler_typed (Some x) scope line suite at next inner laid free =
       finally_typed scope line suite (λ within handler ends. LaidForget (parts_of code) within line x handler ends) at next inner (forget_typed line x) laid free
 
+  -- an atom, and the unit that takes it
+  taken_typed : (scope : Scope) (line : ℕ) (a : Atom) (i : Instruction) (arg at next : ℕ) → ((safe : Safe code scope) → In code scope next → Asks code (on scope) (safe_on code scope safe) i arg next)
+      → LaidTaken (parts_of code) scope line a i arg at next → Free code at → Typed code (Fine code scope) scope scope at next
+  taken_typed scope line a i arg at next takes (asks, laid, stands) free =
+      let front = atom_typed code scope line a at asks laid free in
+      fine_typed scope scope scope at next
+      (joined code (Safe code scope) scope (on scope) scope at asks next front (unit_typed code (Safe code scope) (on scope) scope line asks arg next i stands front.free (safe_on code scope) takes))
+
   -- ---- statements
 
   mutual
@@ -97,21 +107,9 @@ module _ (code : Noted) where
     form_typed (Do o) scope line at next (drops, laid, pop) free =
         let front = operation_typed code scope line o at drops laid free in
         fine_typed scope scope scope at next (joined code (Safe code scope) scope (on scope) scope at drops next front (target_typed code scope line None drops next pop front.free))
-    form_typed (Show a) scope line at next (asks, laid, stands) free =
-        let front = atom_typed code scope line a at asks laid free in
-        fine_typed scope scope scope at next (joined code (Safe code scope) scope (on scope) scope at asks next front (shows_typed code scope line asks next stands front.free))
-    form_typed (Return a) scope line at next (ends, laid, stands) free =
-        let front = atom_typed code scope line a at ends laid free in
-        fine_typed scope scope scope at next
-        (joined code (Safe code scope) scope (on scope) scope at ends next front
-        (unit_typed code (Safe code scope) (on scope) scope line ends 0 next op.ReturnValue stands front.free (safe_on code scope)
-        (λ safe there k is_next. takes_one code scope safe (λ rest. true) refl)))
-    form_typed (Raise a) scope line at next (asks, laid, stands) free =
-        let front = atom_typed code scope line a at asks laid free in
-        fine_typed scope scope scope at next
-        (joined code (Safe code scope) scope (on scope) scope at asks next front
-        (unit_typed code (Safe code scope) (on scope) scope line asks _ next op.Raise stands front.free (safe_on code scope)
-        (λ safe there k is_next. takes_one code scope safe (λ rest. true) refl)))
+    form_typed (Show a) scope line at next laid free = taken_typed scope line a op.PrintExpr 0 at next (λ safe there k is_next. and_from _ _ refl (taken_on code scope safe k next is_next there)) laid free
+    form_typed (Return a) scope line at next laid free = taken_typed scope line a op.ReturnValue 0 at next (λ safe there k is_next. takes_one code scope safe (λ rest. true) refl) laid free
+    form_typed (Raise a) scope line at next laid free = taken_typed scope line a op.Raise _ at next (λ safe there k is_next. takes_one code scope safe (λ rest. true) refl) laid free
     form_typed Reraise scope line at next stands free = unit_typed code (Fine code scope) scope scope line at _ next op.Raise stands free (λ fine. fine.safe) (λ fine there k is_next. refl)
     form_typed Break scope line at next laid free = break_typed code scope.around scope refl line at next laid free
     form_typed Continue scope line at next laid free = continue_typed code scope.around scope refl line at next laid free

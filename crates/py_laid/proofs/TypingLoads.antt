@@ -86,6 +86,12 @@ module _ (code : Noted) where
   takes_one scope safe rest holds =
       takes-Any 1 (Any ∷ kinds_of scope) scope.blocks rest (omega (arith, length-kinds_of scope, top_level-low scope.depth scope.blocks safe.nest)) holds
 
+  -- control goes on without the value on top, which is taken
+  pub taken_on : (scope : Scope) → Safe code scope → (k next : ℕ) → k + 1 ≡ next → In code scope next
+      → takes_top (Any ∷ kinds_of scope) scope.blocks (λ rest. goes_on code.sheet (k + 1) rest scope.blocks) ≡ true
+  taken_on scope safe k next is_next there =
+      takes_one scope safe (λ rest. goes_on code.sheet (k + 1) rest scope.blocks) (goes_as scope safe (kinds_of scope) k next is_next there (length-kinds_of scope))
+
   -- a local's place is among them
   pub has_local : (i : ℕ) → i < length code.vars → nat_lt i code.sheet.varnames ≡ true
   has_local i below = lt-ltb _ _ (omega (arith, below, code.vars_are))
@@ -187,27 +193,21 @@ module _ (code : Noted) where
 
   -- ---- what is done with a value
 
-  -- a value goes to a local, or is dropped
-  pub target_typed : (scope : Scope) (line : ℕ) (x : Option Name) (at next : ℕ) → LaidTarget (parts_of code) scope line x at next → Free code at → Typed (Safe code scope) (on scope) scope at next
-  target_typed scope line None at next stands free =
-      unit_typed (Safe code scope) (on scope) scope line at 0 next op.Pop stands free (safe_on code scope)
-      (λ safe there k is_next.
+  -- the value on top is dropped
+  pub pop_typed : (scope : Scope) (next : ℕ) (safe : Safe code scope) → In code scope next → Asks code (on scope) (safe_on code scope safe) op.Pop 0 next
+  pop_typed scope next safe there k is_next =
       let long : length (kinds_of scope) ≡ scope.depth = length-kinds_of scope in
       let low : top_level scope.blocks ≤ scope.depth = top_level-low scope.depth scope.blocks safe.nest in
       let moves : may_move 1 [] (suc (length (kinds_of scope))) (top_level scope.blocks) ≡ true =
       and_from _ _ (and_from _ _ (le-leb 1 (suc (length (kinds_of scope))) (omega arith)) (le-leb (top_level scope.blocks) (suc (length (kinds_of scope)) - 1) (omega (arith, long, low)))) refl in
-      and_from _ _ moves (goes_as scope safe (kinds_of scope) k next is_next there long))
+      and_from _ _ moves (goes_as scope safe (kinds_of scope) k next is_next there long)
+
+  -- a value goes to a local, or is dropped
+  pub target_typed : (scope : Scope) (line : ℕ) (x : Option Name) (at next : ℕ) → LaidTarget (parts_of code) scope line x at next → Free code at → Typed (Safe code scope) (on scope) scope at next
+  target_typed scope line None at next stands free = unit_typed (Safe code scope) (on scope) scope line at 0 next op.Pop stands free (safe_on code scope) (pop_typed scope next)
   target_typed scope line (Some x) at next (stands, below) free =
       unit_typed (Safe code scope) (on scope) scope line at (place code.vars x) next op.StoreFast stands free (safe_on code scope)
-      (λ safe there k is_next. and_from _ _ (has_local (place code.vars x) below)
-      (takes_one scope safe (λ rest. goes_on code.sheet (k + 1) rest scope.blocks) (goes_as scope safe (kinds_of scope) k next is_next there (length-kinds_of scope))))
-
-  -- a value is shown
-  pub shows_typed : (scope : Scope) (line at next : ℕ) → Stands (parts_of code) (on scope) line at op.PrintExpr 0 next → Free code at → Typed (Safe code scope) (on scope) scope at next
-  shows_typed scope line at next stands free =
-      unit_typed (Safe code scope) (on scope) scope line at 0 next op.PrintExpr stands free (safe_on code scope)
-      (λ safe there k is_next. and_from _ _ refl
-      (takes_one scope safe (λ rest. goes_on code.sheet (k + 1) rest scope.blocks) (goes_as scope safe (kinds_of scope) k next is_next there (length-kinds_of scope))))
+      (λ safe there k is_next. and_from _ _ (has_local (place code.vars x) below) (taken_on scope safe k next is_next there))
 
   -- ---- jumps
 

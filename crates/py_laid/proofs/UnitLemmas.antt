@@ -16,7 +16,7 @@ slice_get-drop [] (suc at) u us left = absurd (cc)
 slice_get-drop (x ∷ xs) zero u us left = (let same : x ≡ u = cc in ap Some same, let same : xs ≡ us = cc in same)
 slice_get-drop (x ∷ xs) (suc at) u us left = slice_get-drop xs at u us left
 
-Some-injective : {A : Type 0} (a b : A) → Some a ≡ Some b → a ≡ b
+pub Some-injective : {A : Type 0} (a b : A) → Some a ≡ Some b → a ≡ b
 Some-injective a b same = cc
 
 pub prefix_is : (op : Instruction) → is_prefix op ≡ true → op ≡ ExtendedArg

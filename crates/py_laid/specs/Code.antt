@@ -29,7 +29,8 @@ use Rattle.py_tree.specs.declared.expr.Expr.{Expr}
 use Rattle.py_tree.specs.declared.expr.Expr.TheVariants as expr
 use Rattle.py_tree.specs.declared.expr.Operation.{Operation}
 use Rattle.py_tree.specs.declared.expr.Operation.TheVariants as operation
-use Rattle.py_tree.specs.Tree.{Name, Form, Assign, Do, Show, Return, Raise, Reraise, Break, Continue, Pass, If, IfElse, While, TryExcept, TryFinally, Suite, nothing, first, Clauses, no_more, clause, Tree}
+use Rattle.py_tree.specs.Tree.{Name, Form, Assign, Do, Show, Return, Raise, Reraise, Break, Continue, Pass, If, IfElse, While, TryExcept, TryFinally, Suite, nothing, first}
+use Rattle.py_tree.specs.Tree.{Clauses, no_more, clause, Tree}
 use Rattle.py_tree.specs.Binding.{locals_of}
 
 -- the parts of a code that its units refer to, with the line and the note of each unit
@@ -152,6 +153,10 @@ module _ (parts : Parts) where
   LaidAtoms scope line [] at next = next ≡ at
   LaidAtoms scope line (a ∷ atoms) at next = (mid : ℕ) × LaidAtom scope line a at mid × LaidAtoms (on scope) line atoms mid next
 
+  -- an atom, and the unit that takes it
+  abbrev pub LaidTaken : Scope → ℕ → Atom → Instruction → ℕ → ℕ → ℕ → Type 0
+  LaidTaken scope line a i arg at next = (asks : ℕ) × LaidAtom scope line a at asks × Stands (on scope) line asks i arg next
+
   -- two atoms, and the unit that takes them
   abbrev pub LaidTwo : Scope → ℕ → Atom → Atom → Instruction → ℕ → ℕ → ℕ → Type 0
   LaidTwo scope line a b i arg at next =
@@ -211,9 +216,9 @@ module _ (parts : Parts) where
     pub LaidForm : Scope → ℕ → Form → ℕ → ℕ → Type 0
     LaidForm scope line (Assign x e) at next = (stores : ℕ) × LaidExpr scope line e at stores × LaidTarget scope line (Some x) stores next
     LaidForm scope line (Do o) at next = (drops : ℕ) × LaidOperation scope line o at drops × LaidTarget scope line None drops next
-    LaidForm scope line (Show a) at next = (asks : ℕ) × LaidAtom scope line a at asks × Stands (on scope) line asks op.PrintExpr 0 next
-    LaidForm scope line (Return a) at next = (ends : ℕ) × LaidAtom scope line a at ends × Stands (on scope) line ends op.ReturnValue 0 next
-    LaidForm scope line (Raise a) at next = (asks : ℕ) × LaidAtom scope line a at asks × Stands (on scope) line asks op.Raise (raise_number kind.Raise) next
+    LaidForm scope line (Show a) at next = LaidTaken scope line a op.PrintExpr 0 at next
+    LaidForm scope line (Return a) at next = LaidTaken scope line a op.ReturnValue 0 at next
+    LaidForm scope line (Raise a) at next = LaidTaken scope line a op.Raise (raise_number kind.Raise) at next
     LaidForm scope line Reraise at next = Stands scope line at op.Raise (raise_number kind.Reraise) next
     LaidForm scope line Break at next = LaidBreak scope scope.around line at next
     LaidForm scope line Continue at next = LaidContinue scope scope.around line at next

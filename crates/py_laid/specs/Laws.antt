@@ -11,13 +11,15 @@ use Rattle.py_rows.specs.RunOfRows.{is_thrown_into, Runs, started}
 use Rattle.py_tree.specs.Tree.{Name, Tree}
 use Rattle.py_tree.specs.Binding.{locals_of}
 use Rattle.py_tree.specs.Trace.{IsTrace}
+use Rattle.py_tree.specs.Unguarded.{IsUnguarded}
 use Rattle.py_laid.specs.Code.{IsLaid, IsPlain}
 use Rattle.py_laid.specs.Fits.{Fits, located}
+use Rattle.py_laid.specs.Instructions.{UsesUnguarded}
 use Rattle.py_laid.specs.Naming.{NamesAll, IsNamed}
 
--- each run of laid code, into whose frames no exception is thrown, whole or cut, from any arguments, as many as there are parameters, with any closure, whatever the
--- slot holds at first and whatever answers of the wanted kinds come, is a trace of its tree behind the making of its activation, in which each unit asks
--- for a statement of its line
+-- each run of laid code, into whose frames no exception is thrown, whole or cut, from any arguments, as many as there are
+-- parameters, with any closure, whatever the slot holds at first and whatever answers of the wanted kinds come, is a trace of its
+-- tree behind the making of its activation, in which each unit asks for a statement of its line
 abbrev pub RunsAreTraces : Type 0
 RunsAreTraces = (globals : List Name) (code : Annotated) (t : Tree) (table : List (List ℕ)) (dict : Obj) (closure : List Obj) (objects : List Payload)
     (slot : Option PyBaseExceptionRef) (args : List Obj) (ts : List Own) (s : State)
@@ -32,3 +34,7 @@ LaidCodeIsTyped = (globals : List Name) (code : Annotated) (t : Tree) → IsLaid
 -- and fits its tree, where its names are in the table
 abbrev pub LaidCodeFits : Type 0
 LaidCodeFits = (table : List (List ℕ)) (globals : List Name) (code : Annotated) (t : Tree) → IsLaid globals code t → IsPlain code t → IsNamed table globals code.code t → Fits table code t
+
+-- the code of a body that guards nothing has none of the instructions that do
+abbrev pub UnguardedCodeIsPlain : Type 0
+UnguardedCodeIsPlain = (globals : List Name) (code : Annotated) (t : Tree) → IsLaid globals code t → IsUnguarded t.suite → UsesUnguarded code.code

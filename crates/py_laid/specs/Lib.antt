@@ -2,6 +2,8 @@
 pub mod Fits
 -- where the code of each form stands, with its notes
 pub mod Code
+-- which instructions the code of a body has that guards nothing
+pub mod Instructions
 -- the names of a code
 pub mod Naming
 -- what holds of laid code

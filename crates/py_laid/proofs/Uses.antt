@@ -1,0 +1,161 @@
+-- The code of bodies that guard nothing has units of certain instructions only: prefixes with the instruction behind them,
+-- then expressions, statements and suites.
+use Rattle.std.proofs.Common.{◌≡◌, ◌<◌, ◌≤◌, ◌+◌, ⊎_elim, ℕ, suc, List, [], ◌∷◌, Bool, true, false, cond, Some, None, refl, sym, ap, ◌∙◌, subst, length, drop, arith, add-one}
+use Rattle.std.specs.Prelude.{Option, slice_get, bytes_eq}
+use Rattle.std.specs.List.{list_any}
+use Rattle.std.proofs.lemmas.Bool.{cases_lt}
+use Rattle.std.proofs.lemmas.Option.{slice_get_within}
+use Rattle.py_code.specs.declared.instruction.Instruction.{Instruction}
+use Rattle.py_code.specs.declared.unit.CodeUnit.{CodeUnit}
+use Rattle.py_code.specs.Units.{decoded_from, is_prefix, with_byte}
+use Rattle.py_tree.specs.declared.expr.Atom.{Atom}
+use Rattle.py_tree.specs.declared.expr.Atom.TheVariants as atom
+use Rattle.py_tree.specs.declared.expr.Expr.{Expr}
+use Rattle.py_tree.specs.declared.expr.Expr.TheVariants as expr
+use Rattle.py_tree.specs.declared.expr.Operation.{Operation}
+use Rattle.py_tree.specs.declared.expr.Operation.TheVariants as operation
+use Rattle.py_tree.specs.Tree.{Name, Form, Assign, Do, Show, Return, Raise, Reraise, Break, Continue, Pass, If, IfElse, While, TryExcept, TryFinally, Suite, nothing, first}
+use Rattle.py_tree.specs.Binding.{locals_of}
+use Rattle.py_tree.specs.Unguarded.{FormIsUnguarded, IsUnguarded}
+use Rattle.py_laid.specs.Code.{Parts, Around, Scope, on, in_loop, Stands, LaidName, LaidAtom, LaidAtoms, LaidTaken, LaidTwo, LaidOperation, LaidExpr, LaidTarget}
+use Rattle.py_laid.specs.Code.{LaidBreak, LaidContinue, LaidForm, LaidSuite, LaidBody, parts_with}
+use Rattle.py_laid.specs.Instructions.{is_unguarded}
+use Rattle.py_laid.specs.Laws.{UnguardedCodeIsPlain}
+use Rattle.py_laid.proofs.UnitLemmas.{slice_get-drop, Some-injective, prefix_is, decoded_is, decoded_as}
+
+module _ (parts : Parts) where
+  -- each unit from one place up to another is of such an instruction
+  abbrev Uses : ℕ → ℕ → Type 0
+  Uses at next = (k : ℕ) → at ≤ k → k < next → (u : CodeUnit) → slice_get parts.units k ≡ Some u → is_unguarded u.op ≡ true
+
+  -- no unit, one unit, and units behind units
+  uses_none : (at next : ℕ) → next ≡ at → Uses at next
+  uses_none at next is_at k low high u here = absurd (omega (arith, is_at, low, high))
+
+  uses_one : (at : ℕ) (u : CodeUnit) → slice_get parts.units at ≡ Some u → is_unguarded u.op ≡ true → Uses at (suc at)
+  uses_one at u here used k low high v there =
+      let same : at ≡ k = omega (arith, low, high) in
+      let is : u ≡ v = Some-injective u v (sym here ∙ ap (slice_get parts.units) same ∙ there) in
+      subst (λ (w : CodeUnit). is_unguarded w.op ≡ true) is used
+
+  uses_then : (at mid next : ℕ) → Uses at mid → Uses mid next → Uses at next
+  uses_then at mid next front rest k low high = ⊎_elim (λ less. front k low less) (λ more. rest k more high) (cases_lt k mid)
+
+  -- ---- what stands at a place
+
+  -- an instruction with its prefixes
+  decoded_uses : (left : List CodeUnit) (at state arg next : ℕ) (op : Instruction) → drop at parts.units ≡ left → decoded_from state at left ≡ decoded_as op arg next
+      → is_unguarded op ≡ true → Uses at next
+  decoded_uses [] at state arg next op here d used = absurd (cc)
+  decoded_uses (u ∷ us) at state arg next op here d used =
+      by (is_prefix u.op) refl d (λ more. decoded_uses us (suc at) (with_byte state u.arg) arg next op first_unit.1 more used)
+    where
+      first_unit : (slice_get parts.units at ≡ Some u) × (drop (suc at) parts.units ≡ us)
+      first_unit = slice_get-drop parts.units at u us here
+
+      by : (b : Bool) → is_prefix u.op ≡ b
+          → cond b (decoded_from (with_byte state u.arg) (at + 1) us) (decoded_as u.op (with_byte state u.arg) (at + 1)) ≡ decoded_as op arg next
+          → (decoded_from (with_byte state u.arg) (suc at) us ≡ decoded_as op arg next → Uses (suc at) next) → Uses at next
+      by true prefixed d later =
+          let place : at + 1 ≡ suc at = add-one at in
+          uses_then at (suc at) next (uses_one at u first_unit.0 (ap is_unguarded (prefix_is u.op prefixed))) (later (rw place at d))
+      by false plain d later =
+          let (is_op, is_arg, is_next) = decoded_is _ _ d in
+          subst (Uses at) (sym (add-one at) ∙ is_next) (uses_one at u first_unit.0 (ap is_unguarded is_op ∙ used))
+
+  stands_uses : (scope : Scope) (line at arg next : ℕ) (op : Instruction) → Stands parts scope line at op arg next → is_unguarded op ≡ true → Uses at next
+  stands_uses scope line at arg next op stands used = decoded_uses (drop at parts.units) at 0 arg next op refl stands.decoded used
+
+  -- ---- expressions
+
+  name_uses : (local : Bool) (scope : Scope) (line : ℕ) (x : Name) (at next : ℕ) → LaidName parts local scope line x at next → Uses at next
+  name_uses true scope line x at next (stands, below) = stands_uses scope line at _ next _ stands refl
+  name_uses false scope line x at next (i, stands, here) = stands_uses scope line at i next _ stands refl
+
+  atom_uses : (scope : Scope) (line : ℕ) (a : Atom) (at next : ℕ) → LaidAtom parts scope line a at next → Uses at next
+  atom_uses scope line atom.None at next (i, stands, here) = stands_uses scope line at i next _ stands refl
+  atom_uses scope line (atom.Bool b) at next (i, stands, here) = stands_uses scope line at i next _ stands refl
+  atom_uses scope line (atom.Int n) at next (i, stands, here) = stands_uses scope line at i next _ stands refl
+  atom_uses scope line (atom.Str s) at next (i, stands, here) = stands_uses scope line at i next _ stands refl
+  atom_uses scope line (atom.Name x) at next laid = name_uses (list_any (bytes_eq x) parts.vars) scope line x at next laid
+
+  atoms_uses : (scope : Scope) (line : ℕ) (atoms : List Atom) (at next : ℕ) → LaidAtoms parts scope line atoms at next → Uses at next
+  atoms_uses scope line [] at next is_at = uses_none at next is_at
+  atoms_uses scope line (a ∷ atoms) at next (mid, one, rest) = uses_then at mid next (atom_uses scope line a at mid one) (atoms_uses (on scope) line atoms mid next rest)
+
+  two_uses : (scope : Scope) (line : ℕ) (a b : Atom) (op : Instruction) (arg at next : ℕ) → is_unguarded op ≡ true → LaidTwo parts scope line a b op arg at next → Uses at next
+  two_uses scope line a b op arg at next used (mid, asks, one, other, stands) =
+      uses_then at mid next (atom_uses scope line a at mid one)
+      (uses_then mid asks next (atom_uses (on scope) line b mid asks other) (stands_uses _ line asks arg next op stands used))
+
+  operation_uses : (scope : Scope) (line : ℕ) (o : Operation) (at next : ℕ) → LaidOperation parts scope line o at next → Uses at next
+  operation_uses scope line (operation.Add a b) at next laid = two_uses scope line a b _ _ at next refl laid
+  operation_uses scope line (operation.Sub a b) at next laid = two_uses scope line a b _ _ at next refl laid
+  operation_uses scope line (operation.Lt a b) at next laid = two_uses scope line a b _ _ at next refl laid
+  operation_uses scope line (operation.Eq a b) at next laid = two_uses scope line a b _ _ at next refl laid
+  operation_uses scope line (operation.Call f atoms) at next (mid, asks, callee, args, stands) =
+      uses_then at mid next (atom_uses scope line f at mid callee)
+      (uses_then mid asks next (atoms_uses (on scope) line atoms mid asks args) (stands_uses _ line asks _ next _ stands refl))
+
+  expr_uses : (scope : Scope) (line : ℕ) (e : Expr) (at next : ℕ) → LaidExpr parts scope line e at next → Uses at next
+  expr_uses scope line (expr.Atom a) at next laid = atom_uses scope line a at next laid
+  expr_uses scope line (expr.Operation o) at next laid = operation_uses scope line o at next laid
+
+  -- ---- statements
+
+  target_uses : (scope : Scope) (line : ℕ) (x : Option Name) (at next : ℕ) → LaidTarget parts scope line x at next → Uses at next
+  target_uses scope line None at next stands = stands_uses _ line at 0 next _ stands refl
+  target_uses scope line (Some x) at next (stands, below) = stands_uses _ line at _ next _ stands refl
+
+  break_uses : (around : Around) (scope : Scope) (line at next : ℕ) → LaidBreak parts scope around line at next → Uses at next
+  break_uses None scope line at next laid = absurd laid
+  break_uses (Some l) scope line at next stands = stands_uses scope line at l.stop next _ stands refl
+
+  continue_uses : (around : Around) (scope : Scope) (line at next : ℕ) → LaidContinue parts scope around line at next → Uses at next
+  continue_uses None scope line at next laid = absurd laid
+  continue_uses (Some l) scope line at next stands = stands_uses scope line at l.again next _ stands refl
+
+  -- an atom, and the unit that takes it
+  taken_uses : (scope : Scope) (line : ℕ) (a : Atom) (op : Instruction) (arg at next : ℕ) → is_unguarded op ≡ true → LaidTaken parts scope line a op arg at next → Uses at next
+  taken_uses scope line a op arg at next used (asks, laid, stands) = uses_then at asks next (atom_uses scope line a at asks laid) (stands_uses (on scope) line asks arg next op stands used)
+
+  mutual
+    form_uses : (f : Form) (scope : Scope) (line at next : ℕ) → FormIsUnguarded f → LaidForm parts scope line f at next → Uses at next
+    form_uses (Assign x e) scope line at next plain (stores, laid, store) =
+        uses_then at stores next (expr_uses scope line e at stores laid) (target_uses scope line (Some x) stores next store)
+    form_uses (Do o) scope line at next plain (drops, laid, pop) = uses_then at drops next (operation_uses scope line o at drops laid) (target_uses scope line None drops next pop)
+    form_uses (Show a) scope line at next plain laid = taken_uses scope line a _ 0 at next refl laid
+    form_uses (Return a) scope line at next plain laid = taken_uses scope line a _ 0 at next refl laid
+    form_uses (Raise a) scope line at next plain laid = absurd plain
+    form_uses Reraise scope line at next plain laid = absurd plain
+    form_uses Break scope line at next plain laid = break_uses scope.around scope line at next laid
+    form_uses Continue scope line at next plain laid = continue_uses scope.around scope line at next laid
+    form_uses Pass scope line at next plain is_at = uses_none at next is_at
+    form_uses (If a s) scope line at next plain (asks, begins, laid, test, suite) =
+        uses_then at begins next (taken_uses scope line a _ next at begins refl (asks, laid, test)) (suite_uses s scope begins next plain suite)
+    form_uses (IfElse a s t) scope line at next (plain, plain_too) (asks, begins, leaves, other, laid, test, suite, leave, second) =
+        uses_then at begins next (taken_uses scope line a _ other at begins refl (asks, laid, test))
+        (uses_then begins leaves next (suite_uses s scope begins leaves plain suite)
+        (uses_then leaves other next (stands_uses scope line leaves next other _ leave refl) (suite_uses t scope other next plain_too second)))
+    form_uses (While a s) scope line at next plain (tests, asks, begins, repeats, ends, sets, laid, test, suite, repeat, pops) =
+        let within : Scope = in_loop (record { stop = next; again = tests }) scope in
+        uses_then at tests next (stands_uses scope line at 0 tests _ sets refl)
+        (uses_then tests begins next (taken_uses within line a _ ends tests begins refl (asks, laid, test))
+        (uses_then begins repeats next (suite_uses s within begins repeats plain suite)
+        (uses_then repeats ends next (stands_uses within line repeats tests ends _ repeat refl) (stands_uses within line ends 0 next _ pops refl))))
+    form_uses (TryExcept s cs) scope line at next plain laid = absurd plain
+    form_uses (TryFinally s t) scope line at next plain laid = absurd plain
+
+    suite_uses : (s : Suite) (scope : Scope) (at next : ℕ) → IsUnguarded s → LaidSuite parts scope s at next → Uses at next
+    suite_uses nothing scope at next plain is_at = uses_none at next is_at
+    suite_uses (first n f more) scope at next (plain, plain_too) (mid, laid, rest) =
+        uses_then at mid next (form_uses f scope n at mid plain laid) (suite_uses more scope mid next plain_too rest)
+
+  -- the statements of a body, and the return of None
+  body_uses : (header : ℕ) (s : Suite) (end : ℕ) → IsUnguarded s → LaidBody parts header s end → Uses 0 end
+  body_uses header s end plain (ends, laid, (i, stands, here)) = uses_then 0 ends end (suite_uses s _ 0 ends plain laid) (stands_uses _ header ends i end _ stands refl)
+
+pub unguarded_code_is_plain : UnguardedCodeIsPlain
+unguarded_code_is_plain globals code t laid plain at u here =
+    let units = code.code.code.instructions.items in
+    body_uses (parts_with globals (locals_of t) code) t.line t.suite (length units) plain laid.laid at (omega arith) (slice_get_within units at u here) u here
