@@ -1,310 +1,199 @@
 -- What is emitted piece by piece.
-use Rattle.std.proofs.Common.{◌≡◌, ◌<◌, ◌≤◌, ◌+◌, ◌-◌, ◌%◌, ◌^◌, ℕ, zero, suc, List, [], ◌∷◌, ◌++◌, false, Some, refl, sym, ap, ◌∙◌, subst, length, take, drop, replicate, arith, length-append, append_assoc, append-nil}
+use Rattle.std.proofs.Common.{◌≡◌, ◌<◌, ◌≤◌, ◌+◌, ◌%◌, ◌^◌, ℕ, suc, List, ◌++◌, true, false, not, Some, refl, sym, ap, ◌∙◌, length, drop, replicate, max, arith, length-append, append_assoc, ⊎_elim}
 use Rattle.std.specs.Prelude.{slice_get}
+use Rattle.std.specs.List.{list_all}
 use Rattle.std.proofs.Math.ListN.{length-replicate}
 use Rattle.std.proofs.Math.Nat.{mod-eq_of_lt}
-use Rattle.py_code.specs.declared.unit.CodeUnit.{CodeUnit}
 use Rattle.py_code.specs.declared.instruction.Instruction.{Instruction}
 use Rattle.py_code.specs.declared.literal.Literal.{Literal}
 use Rattle.py_code.specs.Units.{decoded_from, is_prefix}
-use Rattle.py_body.specs.Tree.{Name}
-use Rattle.py_body.specs.Fits.{Continues}
-use Rattle.py_body.specs.Code.{Parts, Stands}
-use Rattle.py_body.specs.Emitting.{AreSpelled, HaveNoCode, IsMatched, located, put, Spells, Puts, label_units, with_label, relabelled, StandsIn, Emits, EmitsUnit}
-use Rattle.py_body.proofs.Placed.{Continues-refl, Continues-trans}
+use Rattle.py_check.specs.declared.note.Kind.{Kind}
+use Rattle.py_check.specs.declared.note.Kind.TheVariants.{Any}
+use Rattle.py_check.specs.declared.note.BlockNote.{BlockNote}
+use Rattle.py_check.specs.declared.note.Note.{Note}
+use Rattle.py_check.specs.declared.note.Note.TheVariants.{Dead, Live}
+use Rattle.py_check.specs.Constants.{has_code}
+use Rattle.py_tree.specs.Tree.{Name}
+use Rattle.py_laid.specs.Fits.{Continues}
+use Rattle.py_laid.specs.Code.{Parts, Scope, Stands, note_of}
+use Rattle.py_laid.proofs.BindingLemmas.{Continues-refl, Continues-trans}
+use Rattle.py_body.specs.declared.sizes.Weights.{Weights}
+use Rattle.py_body.specs.Sizes.{counted, weights}
+use Rattle.py_body.specs.Emitting.{Draft, weights_of, end_of, put, spelled, IsMatched, HasRoom, Extends, Emits}
+use Rattle.py_body.proofs.ListLemmas.{drop-front, either_of, equal_ones, longer}
+use Rattle.py_body.proofs.Spelled.{length-spelled, spelled_whatever}
 use Rattle.py_body.proofs.Spelling.{spelled_more}
-use Rattle.py_body.proofs.Labels.{drop-append, label_spells, length-label_units, relabelled-units, relabelled_spelled}
 
--- ---- entries
+-- ---- parts that go on
 
-slice_get-replicate : {A : Type 0} (xs ys : List A) (n k : ℕ) (x : A) → length xs ≤ k → k < length xs + n → slice_get (xs ++ (replicate n x ++ ys)) k ≡ Some x
-slice_get-replicate [] ys zero k x low high = absurd (omega arith)
-slice_get-replicate [] ys (suc n) zero x low high = refl
-slice_get-replicate [] ys (suc n) (suc k) x low high = slice_get-replicate [] ys n k x (omega arith) (omega arith)
-slice_get-replicate (z ∷ zs) ys n zero x low high = absurd (omega arith)
-slice_get-replicate (z ∷ zs) ys n (suc k) x low high = slice_get-replicate zs ys n k x (omega arith) (omega arith)
-
-slice_get-last : {A : Type 0} (xs ys : List A) (x : A) → slice_get ((xs ++ x ∷ []) ++ ys) (length xs) ≡ Some x
-slice_get-last [] ys x = refl
-slice_get-last (z ∷ zs) ys x = slice_get-last zs ys x
-
-pub slice_get-continues : {A : Type 0} (xs ys : List A) (x : A) → Continues (xs ++ x ∷ []) ys → slice_get ys (length xs) ≡ Some x
-slice_get-continues xs ys x (more, is) = rw is (slice_get-last xs more x)
-
-replicate-last : {A : Type 0} (n : ℕ) (x : A) → replicate n x ++ x ∷ [] ≡ replicate (suc n) x
-replicate-last zero x = refl
-replicate-last {A} (suc n) x = ap (λ (l : List A). x ∷ l) (replicate-last n x)
-
--- one more unit is of the line
-pub line_more : (xs : List ℕ) (start i line : ℕ) → start ≤ i → (xs ++ replicate (i - start) line) ++ line ∷ [] ≡ xs ++ replicate ((i + 1) - start) line
-line_more xs start i line low =
-    let count : suc (i - start) ≡ (i + 1) - start = omega arith in
-    append_assoc xs (replicate (i - start) line) (line ∷ []) ∙ ap (λ (l : List ℕ). xs ++ l) (replicate-last (i - start) line ∙ ap (λ (n : ℕ). replicate n line) count)
-
--- ---- what stands in a list
-
-StandsIn-front : {A : Type 0} (at : ℕ) (xs ys whole : List A) → StandsIn at (xs ++ ys) whole → StandsIn at xs whole
-StandsIn-front {A} at xs ys whole stands = record {
-  front = stands.front;
-  behind = ys ++ stands.behind;
-  is = stands.is ∙ ap (λ (l : List A). stands.front ++ l) (append_assoc xs ys stands.behind);
-  long = stands.long;
-}
-
-StandsIn-behind : {A : Type 0} (at mid : ℕ) (xs ys whole : List A) → at + length xs ≡ mid → StandsIn at (xs ++ ys) whole → StandsIn mid ys whole
-StandsIn-behind {A} at mid xs ys whole there stands = record {
-  front = stands.front ++ xs;
-  behind = stands.behind;
-  is = stands.is ∙ ap (λ (l : List A). stands.front ++ l) (append_assoc xs ys stands.behind) ∙ sym (append_assoc stands.front xs (ys ++ stands.behind));
-  long = omega (arith, length-append stands.front xs, stands.long, there);
-}
-
--- ---- units of a line
-
--- what is located behind units that were put there
-pub put_located : (old mid new : Parts) (added : List CodeUnit) (line : ℕ) → length old.locations ≡ length old.units → mid.units ≡ old.units ++ added → mid.locations ≡ old.locations
-    → mid.constants ≡ old.constants → mid.names ≡ old.names → mid.vars ≡ old.vars → new ≡ located line mid → new ≡ put added line old
-put_located old mid new added line matched units locations constants names vars is =
-    let count : length mid.units - length mid.locations ≡ length added = omega (arith, matched, ap length units, ap length locations, length-append old.units added) in
-    is ∙ λ k. record {
-      units = units k;
-      locations = locations k ++ replicate (count k) line;
-      constants = constants k;
-      names = names k;
-      vars = vars k;
-    }
-
-pub unit_put : (old mid new : Parts) (op : Instruction) (arg line : ℕ) → length old.locations ≡ length old.units → Spells old.units mid.units op arg → mid.locations ≡ old.locations
-    → mid.constants ≡ old.constants → mid.names ≡ old.names → mid.vars ≡ old.vars → new ≡ located line mid → Puts old new op arg line
-unit_put old mid new op arg line matched spells locations constants names vars is = record {
-  spells = record { added = spells.added; grown = ap (λ (p : Parts). p.units) is ∙ spells.grown; few = spells.few; decoded = spells.decoded };
-  is = put_located old mid new spells.added line matched spells.grown locations constants names vars is;
-}
-
--- parts with more constants and names
-pub record Grows (old mid : Parts) : Type 0 where
-  pub units : mid.units ≡ old.units
-  pub locations : mid.locations ≡ old.locations
-  pub vars : mid.vars ≡ old.vars
-  pub constants : Continues old.constants mid.constants
-  pub few_constants : length mid.constants ≤ length old.constants + 4
-  pub names : Continues old.names mid.names
-  pub few_names : length mid.names ≤ length old.names + 4
-  pub no_code : HaveNoCode mid.constants
-
-pub Grows-refl : (old : Parts) → IsMatched old → Grows old old
-Grows-refl old matched = record {
-  units = refl;
-  locations = refl;
+pub extends_refl : (p : Parts) → Extends p p
+extends_refl p = record {
+  units = Continues-refl p.units;
+  locations = Continues-refl p.locations;
+  notes = Continues-refl p.notes;
+  constants = Continues-refl p.constants;
+  names = Continues-refl p.names;
   vars = refl;
-  constants = Continues-refl old.constants;
-  few_constants = omega arith;
-  names = Continues-refl old.names;
-  few_names = omega arith;
-  no_code = matched.2;
 }
 
--- what stands where units were put behind parts that had grown
-abbrev pub StandsBehind : Parts → ℕ → Instruction → ℕ → Parts → ℕ → ℕ → Type 0
-StandsBehind mid line op arg whole at next = Stands whole line at op arg next × Continues mid.constants whole.constants × Continues mid.names whole.names
+pub extends_trans : {a b c : Parts} → Extends a b → Extends b c → Extends a c
+extends_trans {a} {b} {c} f g = record {
+  units = Continues-trans a.units b.units c.units f.units g.units;
+  locations = Continues-trans a.locations b.locations c.locations f.locations g.locations;
+  notes = Continues-trans a.notes b.notes c.notes f.notes g.notes;
+  constants = Continues-trans a.constants b.constants c.constants f.constants g.constants;
+  names = Continues-trans a.names b.names c.names f.names g.names;
+  vars = g.vars ∙ f.vars;
+}
 
-pub put_emitted : (old mid new : Parts) (added : List CodeUnit) (op : Instruction) (arg line : ℕ) → IsMatched old → length added ≤ 4
-    → ((at : ℕ) (behind : List CodeUnit) → decoded_from 0 at (added ++ behind) ≡ Some (record { op = op; arg = record { 0 = arg }; next = at + length added }))
-    → Grows old mid → new ≡ put added line mid → Emits old new 4 (StandsBehind mid line op arg)
-put_emitted old mid new added op arg line matched few decoded grows is =
-    let lines : List ℕ = replicate (length added) line in
-    let units : new.units ≡ old.units ++ added = ap (λ (p : Parts). p.units) is ∙ ap (λ (l : List CodeUnit). l ++ added) grows.units in
-    let locations : new.locations ≡ old.locations ++ lines = ap (λ (p : Parts). p.locations) is ∙ ap (λ (l : List ℕ). l ++ lines) grows.locations in
-    let constants : new.constants ≡ mid.constants = ap (λ (p : Parts). p.constants) is in
-    let names : new.names ≡ mid.names = ap (λ (p : Parts). p.names) is in
-    let long : length new.units ≡ length old.units + length added = ap length units ∙ length-append old.units added in
+-- there is room for less
+pub room_before : {a b : Draft} → Extends a.parts b.parts → b.labels ≡ a.labels → b.others ≡ a.others → HasRoom b → HasRoom a
+room_before {a} {b} grows labels others room =
+    let jump : 256 ^ suc b.labels ≡ 256 ^ suc a.labels = ap (λ (n : ℕ). 256 ^ suc n) labels in
+    let index : 256 ^ suc b.others ≡ 256 ^ suc a.others = ap (λ (n : ℕ). 256 ^ suc n) others in
     record {
-      added = added;
-      lines = lines;
-      units = units;
-      locations = locations;
-      long = length-replicate (length added) line;
-      constants = subst (Continues old.constants) (sym constants) grows.constants;
-      names = subst (Continues old.names) (sym names) grows.names;
-      vars = ap (λ (p : Parts). p.vars) is ∙ grows.vars;
-      matched = (
-        omega (arith, ap length locations, length-append old.locations lines, length-replicate (length added) line, long, matched.0),
-        subst AreSpelled (sym units) (spelled_more old.units added op arg matched.1 few decoded),
-        subst HaveNoCode (sym constants) grows.no_code,
-      );
-      few_units = few;
-      few_constants = omega (arith, ap length constants, grows.few_constants);
-      few_names = omega (arith, ap length names, grows.few_names);
-      laid = λ whole holds.
-          let at : List CodeUnit = holds.units.front in
-          let here : List ℕ = holds.locations.front in
-          let left : drop (length old.units) whole.units ≡ added ++ holds.units.behind =
-          ap (λ (n : ℕ). drop n whole.units) (sym holds.units.long) ∙ ap (drop (length at)) holds.units.is ∙ drop-append at (added ++ holds.units.behind) in (
-            (
-              ap (decoded_from 0 (length old.units)) left ∙ decoded (length old.units) holds.units.behind
-                  ∙ ap (λ (n : ℕ). Some (record { op = op; arg = record { 0 = arg }; next = n })) (sym long),
-              λ k low high. rw holds.locations.is
-                  (slice_get-replicate here holds.locations.behind (length added) k line (omega (arith, holds.locations.long, low)) (omega (arith, holds.locations.long, long, high))),
-            ),
-            subst (λ (l : List Literal). Continues l whole.constants) constants holds.constants,
-            subst (λ (l : List Name). Continues l whole.names) names holds.names,
-          );
+      low = omega (arith, room.low, labels);
+      units = omega (arith, room.units, jump, longer a.parts.units b.parts.units grows.units);
+      constants = omega (arith, room.constants, index, longer a.parts.constants b.parts.constants grows.constants);
+      names = omega (arith, room.names, index, longer a.parts.names b.parts.names grows.names);
+      vars = omega (arith, room.vars, index, ap (λ (names : List Name). length names) grows.vars);
     }
+
+-- ---- one instruction
+
+-- how many values a note speaks of
+abbrev count_of : Note → ℕ
+count_of Dead = 0
+count_of (Live kinds blocks) = length kinds
+
+-- the draft with these constants and names
+abbrev pub grown : List Literal → List Name → Draft → Draft
+grown constants names d = record d { parts = record d.parts { constants = constants; names = names } }
+
+-- no constant is a code or holds one
+abbrev pub HaveNoCode : List Literal → Type 0
+HaveNoCode literals = list_all (λ literal. not (has_code literal)) literals ≡ true
+
+-- what holds of an instruction that was put behind such constants and names
+abbrev pub StandsBehind : List Literal → List Name → Draft → ℕ → Instruction → ℕ → Scope → ℕ → Parts → ℕ → ℕ → Type 0
+StandsBehind constants names d width op arg scope line whole at next =
+    Continues constants whole.constants × Continues names whole.names × (whole.vars ≡ d.parts.vars) × (arg < 256 ^ suc width → Stands whole scope line at op arg next)
+
+-- an instruction with so many prefixes, behind the same units with more constants and names
+pub put_emits : (d : Draft) (constants : List Literal) (names : List Name) (size : Weights → ℕ) (width : ℕ) (op : Instruction) (arg : ℕ) (scope : Scope) (line : ℕ)
+    → width ≤ 3 → is_prefix op ≡ false → scope.depth ≤ 65535 → suc width ≡ size (weights_of d)
+    → Continues d.parts.constants constants → length constants ≤ length d.parts.constants + size counted → (HaveNoCode d.parts.constants → HaveNoCode constants)
+    → Continues d.parts.names names → length names ≤ length d.parts.names + size counted
+    → Emits d (put width op arg scope line (grown constants names d)) size (StandsBehind constants names d width op arg scope line)
+put_emits d constants names size width op arg scope line low plain shallow sized more_constants few_constants no_code more_names few_names = record {
+  grows = record {
+    units = (spelled width op arg, refl);
+    locations = (replicate (suc width) line, refl);
+    notes = (replicate (suc width) (note_of scope), refl);
+    constants = more_constants;
+    names = more_names;
+    vars = refl;
+  };
+  long = omega (arith, long, sized);
+  few_constants = few_constants;
+  few_names = few_names;
+  labels = refl;
+  others = refl;
+  matched = matched;
+  laid = λ old room whole extends. (extends.constants, extends.names, extends.vars, laid old whole extends);
+}
+  where
+    new : Draft
+    new = put width op arg scope line (grown constants names d)
+
+    long : end_of (put width op arg scope line (grown constants names d)) ≡ end_of d + suc width
+    long = omega (arith, length-append d.parts.units (spelled width op arg), length-spelled width op arg)
+
+    deep : (kinds : List Kind) (blocks : List BlockNote) → note_of scope ≡ Live kinds blocks → length kinds ≤ max d.deepest scope.depth
+    deep kinds blocks is = let count : length (replicate scope.depth Any) ≡ length kinds = ap count_of is in omega (arith, count, length-replicate scope.depth Any)
+
+    matched : IsMatched d → IsMatched (put width op arg scope line (grown constants names d))
+    matched old = record {
+      located = omega (arith, length-append d.parts.locations (replicate (suc width) line), length-replicate (suc width) line, long, old.located);
+      noted = omega (arith, length-append d.parts.notes (replicate (suc width) (note_of scope)), length-replicate (suc width) (note_of scope), long, old.noted);
+      spelled = spelled_more d.parts.units (spelled width op arg) op (arg % 256 ^ suc width) old.spelled (omega (arith, length-spelled width op arg, low))
+          (λ at behind. spelled_whatever width op arg at behind low plain ∙ ap (λ (n : ℕ). Some (record { op = op; arg = record { 0 = arg % 256 ^ suc width }; next = at + n }))
+          (sym (length-spelled width op arg)));
+      no_code = no_code old.no_code;
+      room = λ at kinds blocks here. ⊎_elim (λ before. let few = old.room at kinds blocks before in omega (arith, few)) (deep kinds blocks)
+          (either_of d.parts.notes (suc width) (note_of scope) (Live kinds blocks) at here);
+      low = omega (arith, old.low, shallow);
+    }
+
+    laid : IsMatched d → (whole : Parts) → Extends (put width op arg scope line (grown constants names d)).parts whole → arg < 256 ^ suc width
+        → Stands whole scope line (end_of d) op arg (end_of (put width op arg scope line (grown constants names d)))
+    laid old whole extends fits =
+        let (more, is) = extends.units in
+        let (lines, are) = extends.locations in
+        let (notes, so) = extends.notes in
+        let left : drop (end_of d) whole.units ≡ spelled width op arg ++ more =
+        ap (drop (end_of d)) (is ∙ append_assoc d.parts.units (spelled width op arg) more) ∙ drop-front d.parts.units (spelled width op arg ++ more) in
+        let same : arg % 256 ^ suc width ≡ arg = mod-eq_of_lt fits in
+        record {
+          decoded = ap (decoded_from 0 (end_of d)) left ∙ spelled_whatever width op arg (end_of d) more low plain
+              ∙ (λ k. Some (record { op = op; arg = record { 0 = same k }; next = sym long k }));
+          lined = λ k low high. ap (λ (l : List ℕ). slice_get l k) are ∙ equal_ones d.parts.locations (suc width) line lines k (omega (arith, low, old.located))
+              (omega (arith, high, long, old.located));
+          noted = λ k low high. ap (λ (l : List Note). slice_get l k) so ∙ equal_ones d.parts.notes (suc width) (note_of scope) notes k (omega (arith, low, old.noted))
+              (omega (arith, high, long, old.noted));
+        }
 
 -- ---- one piece behind another
 
--- one piece up to a place and then the other
-abbrev pub Then : ℕ → (P Q : Parts → ℕ → ℕ → Type 0) → Parts → ℕ → ℕ → Type 0
-Then k P Q whole at next = (k ≤ next) × P whole at k × Q whole k next
+-- one piece of so many units, and the other of so many
+abbrev pub Then : ℕ → ℕ → (A B : Parts → ℕ → ℕ → Type 0) → Parts → ℕ → ℕ → Type 0
+Then m n A B whole at next = (mid : ℕ) × (mid ≡ at + m) × (next ≡ mid + n) × A whole at mid × B whole mid next
 
-pub joined : (old mid new : Parts) (m n : ℕ) (P Q : Parts → ℕ → ℕ → Type 0) → Emits old mid m P → Emits mid new n Q → Emits old new (m + n) (Then (length mid.units) P Q)
-joined old mid new m n P Q one two =
-    let place : length old.units + length one.added ≡ length mid.units = sym (ap length one.units ∙ length-append old.units one.added) in
-    let line_place : length old.units + length one.lines ≡ length mid.units = omega (arith, place, one.long) in
-    record {
-      added = one.added ++ two.added;
-      lines = one.lines ++ two.lines;
-      units = two.units ∙ ap (λ (l : List CodeUnit). l ++ two.added) one.units ∙ append_assoc old.units one.added two.added;
-      locations = two.locations ∙ ap (λ (l : List ℕ). l ++ two.lines) one.locations ∙ append_assoc old.locations one.lines two.lines;
-      long = omega (arith, length-append one.added two.added, length-append one.lines two.lines, one.long, two.long);
-      constants = Continues-trans old.constants mid.constants new.constants one.constants two.constants;
-      names = Continues-trans old.names mid.names new.names one.names two.names;
-      vars = two.vars ∙ one.vars;
-      matched = two.matched;
-      few_units = omega (arith, length-append one.added two.added, one.few_units, two.few_units);
-      few_constants = omega (arith, one.few_constants, two.few_constants);
-      few_names = omega (arith, one.few_names, two.few_names);
-      laid = λ whole holds. (
-        omega (arith, ap length two.units, length-append mid.units two.added),
-        one.laid whole (record {
-          units = StandsIn-front (length old.units) one.added two.added whole.units holds.units;
-          locations = StandsIn-front (length old.units) one.lines two.lines whole.locations holds.locations;
-          constants = Continues-trans mid.constants new.constants whole.constants two.constants holds.constants;
-          names = Continues-trans mid.names new.names whole.names two.names holds.names;
-          vars = holds.vars ∙ two.vars;
-        }),
-        two.laid whole (record {
-          units = StandsIn-behind (length old.units) (length mid.units) one.added two.added whole.units place holds.units;
-          locations = StandsIn-behind (length old.units) (length mid.units) one.lines two.lines whole.locations line_place holds.locations;
-          constants = holds.constants;
-          names = holds.names;
-          vars = holds.vars;
-        }),
-      );
-    }
+-- both together
+pub emits_then : {a b c : Draft} {m n : Weights → ℕ} {A B : Parts → ℕ → ℕ → Type 0} → Emits a b m A → Emits b c n B → Emits a c (λ w. m w + n w) (Then (m (weights_of a)) (n (weights_of a)) A B)
+emits_then {a} {b} {c} {m} {n} {A} {B} one two = record {
+  grows = extends_trans one.grows two.grows;
+  long = omega (arith, one.long, second);
+  few_constants = omega (arith, one.few_constants, two.few_constants);
+  few_names = omega (arith, one.few_names, two.few_names);
+  labels = two.labels ∙ one.labels;
+  others = two.others ∙ one.others;
+  matched = λ old. two.matched (one.matched old);
+  laid = λ old room whole extends. (
+    end_of b,
+    one.long,
+    second,
+    one.laid old (room_before two.grows two.labels two.others room) whole (extends_trans two.grows extends),
+    two.laid (one.matched old) room whole extends,
+  );
+}
+  where
+    second : end_of c ≡ end_of b + n (weights_of a)
+    second = two.long ∙ (λ k. end_of b + n (weights (one.labels k) (one.others k)))
 
 -- the same said in other words
-pub reworded : (old new : Parts) (m n : ℕ) (P Q : Parts → ℕ → ℕ → Type 0) → m ≤ n → Emits old new m P → ((whole : Parts) → whole.vars ≡ old.vars → P whole (length old.units) (length new.units) → Q whole (length old.units) (length new.units)) → Emits old new n Q
-reworded old new m n P Q most emits f = record {
-  added = emits.added;
-  lines = emits.lines;
-  units = emits.units;
-  locations = emits.locations;
-  long = emits.long;
-  constants = emits.constants;
-  names = emits.names;
-  vars = emits.vars;
+pub emits_as : {a b : Draft} {m n : Weights → ℕ} {A B : Parts → ℕ → ℕ → Type 0} → Emits a b m A → ((w : Weights) → m w ≡ n w)
+    → (HasRoom b → (whole : Parts) → whole.vars ≡ a.parts.vars → A whole (end_of a) (end_of b) → B whole (end_of a) (end_of b)) → Emits a b n B
+emits_as {a} {b} {m} {n} {A} {B} emits same by = record {
+  grows = emits.grows;
+  long = omega (arith, emits.long, same (weights_of a));
+  few_constants = omega (arith, emits.few_constants, same counted);
+  few_names = omega (arith, emits.few_names, same counted);
+  labels = emits.labels;
+  others = emits.others;
   matched = emits.matched;
-  few_units = omega (arith, emits.few_units, most);
-  few_constants = omega (arith, emits.few_constants, most);
-  few_names = omega (arith, emits.few_names, most);
-  laid = λ whole holds. f whole (holds.vars ∙ emits.vars) (emits.laid whole holds);
+  laid = λ old room whole extends. by room whole (extends.vars ∙ emits.grows.vars) (emits.laid old room whole extends);
 }
 
 -- nothing is emitted
-pub none_emitted : (old : Parts) (n : ℕ) (P : Parts → ℕ → ℕ → Type 0) → IsMatched old → ((whole : Parts) → P whole (length old.units) (length old.units)) → Emits old old n P
-none_emitted old n P matched f = record {
-  added = [];
-  lines = [];
-  units = sym (append-nil old.units);
-  locations = sym (append-nil old.locations);
-  long = refl;
-  constants = Continues-refl old.constants;
-  names = Continues-refl old.names;
-  vars = refl;
-  matched = matched;
-  few_units = omega arith;
+pub emits_none : {d : Draft} {A : Parts → ℕ → ℕ → Type 0} → ((whole : Parts) → A whole (end_of d) (end_of d)) → Emits d d (λ w. 0) A
+emits_none {d} {A} by = record {
+  grows = extends_refl d.parts;
+  long = omega arith;
   few_constants = omega arith;
   few_names = omega arith;
-  laid = λ whole holds. f whole;
+  labels = refl;
+  others = refl;
+  matched = λ old. old;
+  laid = λ old room whole extends. by whole;
 }
-
-pub unit_emitted : (old new : Parts) (op : Instruction) (arg line : ℕ) → IsMatched old → Puts old new op arg line → EmitsUnit old new op arg line
-unit_emitted old new op arg line matched puts =
-    reworded old new 4 4 (StandsBehind old line op arg) _ (omega arith)
-    (put_emitted old old new puts.spells.added op arg line matched puts.spells.few puts.spells.decoded (Grows-refl old matched) puts.is)
-    (λ whole same (stands, constants, names). stands)
-
--- ---- jumps
-
--- a jump whose label is in place
-abbrev pub StandsJump : ℕ → Instruction → ℕ → ℕ → Parts → ℕ → ℕ → Type 0
-StandsJump width op label line whole at next = label < 256 ^ suc width → Stands whole line at op label next
-
-pub jump_emitted : (old new : Parts) (width : ℕ) (op : Instruction) (label line : ℕ) → width ≤ 3 → is_prefix op ≡ false → IsMatched old → new ≡ put (label_units width op label) line old
-    → Emits old new 4 (StandsJump width op label line)
-jump_emitted old new width op label line low plain matched is =
-    reworded old new 4 4 (StandsBehind old line op (label % 256 ^ suc width)) _ (omega arith)
-    (put_emitted old old new (label_units width op label) op (label % 256 ^ suc width) line matched (omega (arith, length-label_units width op label, low))
-    (λ at behind. label_spells width op label at behind low plain) (Grows-refl old matched) is)
-    (λ whole same (stands, constants, names) fits. subst (λ (arg : ℕ). Stands whole line (length old.units) op arg (length new.units)) (mod-eq_of_lt fits) stands)
-
-pub length-put : (old : Parts) (width : ℕ) (op : Instruction) (label line : ℕ) → length (put (label_units width op label) line old).units ≡ length old.units + suc width
-length-put old width op label line = omega (arith, length-append old.units (label_units width op label), length-label_units width op label)
-
--- what stands behind a jump stands there too once its label is set
-jump_moved : (old mid new : Parts) (m width : ℕ) (op : Instruction) (first label line : ℕ) (Q : Parts → ℕ → ℕ → Type 0) → Emits (put (label_units width op first) line old) mid m Q
-    → new ≡ relabelled width (length old.units) label mid → Emits (put (label_units width op label) line old) new m Q
-jump_moved old mid new m width op first label line Q emits is =
-    let same : length (label_units width op first) ≡ length (label_units width op label) = length-label_units width op first ∙ sym (length-label_units width op label) in
-    let was : mid.units ≡ old.units ++ (label_units width op first ++ emits.added) = emits.units ∙ append_assoc old.units (label_units width op first) emits.added in
-    let now : new.units ≡ old.units ++ (label_units width op label ++ emits.added) =
-    ap (λ (p : Parts). p.units) is ∙ ap (λ (us : List CodeUnit). take (length old.units) us ++ with_label width label (drop (length old.units) us)) was
-    ∙ relabelled-units old.units emits.added width op first label in
-    let locations : new.locations ≡ mid.locations = ap (λ (p : Parts). p.locations) is in
-    let constants : new.constants ≡ mid.constants = ap (λ (p : Parts). p.constants) is in
-    let names : new.names ≡ mid.names = ap (λ (p : Parts). p.names) is in
-    let vars : new.vars ≡ mid.vars = ap (λ (p : Parts). p.vars) is in
-    let place : length (old.units ++ label_units width op first) ≡ length (old.units ++ label_units width op label) =
-    omega (arith, same, length-append old.units (label_units width op first), length-append old.units (label_units width op label)) in
-    let end : length mid.units ≡ length new.units = ap length was ∙ sum (label_units width op first) ∙ omega (arith, same) ∙ sym (ap length now ∙ sum (label_units width op label)) in
-    record {
-      added = emits.added;
-      lines = emits.lines;
-      units = now ∙ sym (append_assoc old.units (label_units width op label) emits.added);
-      locations = locations ∙ emits.locations ∙ ap (λ (n : ℕ). (old.locations ++ replicate n line) ++ emits.lines) same;
-      long = emits.long;
-      constants = subst (Continues old.constants) (sym constants) emits.constants;
-      names = subst (Continues old.names) (sym names) emits.names;
-      vars = vars ∙ emits.vars;
-      matched = (
-        ap length locations ∙ emits.matched.0 ∙ end,
-        subst AreSpelled (sym now) (relabelled_spelled old.units emits.added width op first label (subst AreSpelled was emits.matched.1)),
-        subst HaveNoCode (sym constants) emits.matched.2,
-      );
-      few_units = emits.few_units;
-      few_constants = omega (arith, ap length constants, emits.few_constants);
-      few_names = omega (arith, ap length names, emits.few_names);
-      laid = λ whole holds.
-          subst (λ (n : ℕ). Q whole n (length new.units)) place
-          (subst (Q whole (length (old.units ++ label_units width op first))) end
-          (emits.laid whole (record {
-            units = subst (λ (n : ℕ). StandsIn n emits.added whole.units) (sym place) holds.units;
-            locations = subst (λ (n : ℕ). StandsIn n emits.lines whole.locations) (sym place) holds.locations;
-            constants = subst (λ (l : List Literal). Continues l whole.constants) constants holds.constants;
-            names = subst (λ (l : List Name). Continues l whole.names) names holds.names;
-            vars = holds.vars ∙ vars;
-          })));
-    }
-  where
-    sum : (jump : List CodeUnit) → length (old.units ++ (jump ++ emits.added)) ≡ length old.units + (length jump + length emits.added)
-    sum jump = omega (arith, length-append old.units (jump ++ emits.added), length-append jump emits.added)
-
--- a jump, then something, and then the jump's label
-pub jump_joined : (old mid new : Parts) (m width : ℕ) (op : Instruction) (first label line : ℕ) (Q : Parts → ℕ → ℕ → Type 0) → width ≤ 3 → is_prefix op ≡ false → IsMatched old
-    → Emits (put (label_units width op first) line old) mid m Q → new ≡ relabelled width (length old.units) label mid
-    → Emits old new (4 + m) (Then (length old.units + suc width) (StandsJump width op label line) Q)
-jump_joined old mid new m width op first label line Q low plain matched emits is =
-    let jump : Parts = put (label_units width op label) line old in
-    subst (λ (k : ℕ). Emits old new (4 + m) (Then k (StandsJump width op label line) Q)) (length-put old width op label line)
-    (joined old jump new 4 m (StandsJump width op label line) Q (jump_emitted old jump width op label line low plain matched refl) (jump_moved old mid new m width op first label line Q emits is))

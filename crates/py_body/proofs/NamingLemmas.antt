@@ -1,39 +1,19 @@
 -- Names in a table that grows.
-use Rattle.std.proofs.Common.{◌≡◌, ◌<◌, ◌+◌, ℕ, zero, suc, List, [], ◌∷◌, ◌++◌, Bool, true, false, cond, Some, refl, sym, ap, ◌∙◌, subst, length, map, take, get_or, arith, length-append, append-nil}
-use Rattle.std.specs.Prelude.{Option, option_map, chars, slice_get, bytes_eq, codes, encode_utf8, encode_utf8_all}
-use Rattle.std.specs.Char.{IsScalar}
+use Rattle.std.proofs.Common.{◌≡◌, ◌<◌, ◌+◌, ℕ, suc, List, [], ◌∷◌, ◌++◌, Bool, true, false, cond, Some, refl, sym, ap, ◌∙◌, subst, length, take, get_or, append-nil}
+use Rattle.std.specs.Prelude.{slice_get, bytes_eq, codes, encode_utf8_all}
 use Rattle.std.specs.List.{list_any}
-use Rattle.std.proofs.Math.Utf8.{scalars}
-use Rattle.std.proofs.lemmas.Bool.{and_from, and_parts}
 use Rattle.std.proofs.lemmas.List.{take_more}
 use Rattle.std.proofs.lemmas.Option.{slice_get_within}
-use Rattle.std.proofs.lemmas.Str.{encodes-append}
 use Rattle.py_code.specs.declared.code.CodeObject.{CodeObject}
 use Rattle.py_code.specs.declared.code.PyCode.{PyCode}
 use Rattle.py_code.specs.declared.names.NameId.{NameId}
 use Rattle.py_code.specs.Names.{interned}
-use Rattle.py_rows.specs.Asked.{name_in}
-use Rattle.py_rows.specs.Signature.{characters, params_of}
-use Rattle.py_body.specs.Tree.{Name, Tree}
-use Rattle.py_body.specs.Binding.{locals_of}
-use Rattle.py_body.specs.Naming.{IsNameOf, IsNameFor, NamesAll, IsNamed}
-use Rattle.py_body.specs.Fits.{Continues}
-use Rattle.py_body.proofs.Labels.{take-append}
-use Rattle.py_body.proofs.Placed.{Continues-bound_by, Continues-trans}
-use Rattle.py_body.proofs.Spelling.{slice_get-front}
-
--- one more character
-pub encode_more : (text : List ℕ) (i c : ℕ) → i < length text → c ≡ get_or text i c → encode_utf8_all (take (i + 1) text) ≡ encode_utf8_all (take i text) ++ encode_utf8 c
-encode_more text i c low is =
-    ap encode_utf8_all (take_more text i c low ∙ ap (λ (d : ℕ). take i text ++ d ∷ []) (sym is))
-    ∙ encodes-append (take i text) (c ∷ []) ∙ ap (λ (bs : List ℕ). encode_utf8_all (take i text) ++ bs) (append-nil (encode_utf8 c))
-
-scalars-last : (xs : List ℕ) (c : ℕ) → scalars xs ≡ true → IsScalar c → scalars (xs ++ c ∷ []) ≡ true
-scalars-last [] c all one = and_from _ _ one refl
-scalars-last (x ∷ xs) c all one = and_from _ _ (and_parts _ _ all).0 (scalars-last xs c (and_parts _ _ all).1 one)
-
-pub scalars_more : (text : List ℕ) (i c : ℕ) → i < length text → c ≡ get_or text i c → scalars (take i text) ≡ true → IsScalar c → scalars (take (i + 1) text) ≡ true
-scalars_more text i c low is all one = rw (take_more text i c low, ← is) (scalars-last (take i text) c all one)
+use Rattle.py_tree.specs.Tree.{Name, Tree}
+use Rattle.py_tree.specs.Binding.{locals_of}
+use Rattle.py_laid.specs.Fits.{Continues}
+use Rattle.py_laid.specs.Naming.{IsNameOf, IsNameFor, NamesAll, IsNamed}
+use Rattle.py_laid.proofs.BindingLemmas.{Continues-trans}
+use Rattle.py_laid.proofs.NamingLemmas.{IsNameOf-grown, NamesAll-grown}
 
 pub Continues-interned : (table : List (List ℕ)) (text : List ℕ) → Continues table (interned table text)
 Continues-interned table text = by (list_any (bytes_eq text) table)
@@ -43,22 +23,14 @@ Continues-interned table text = by (list_any (bytes_eq text) table)
     by false = (text ∷ [], refl)
 
 -- a table that had a text interned, and then went on
-pub Continues-names : (old path_known name_known vars_known : List (List ℕ)) (text : List ℕ) → path_known ≡ interned old text → Continues path_known name_known → Continues name_known vars_known → Continues old vars_known
+pub Continues-names : (old path_known name_known vars_known : List (List ℕ)) (text : List ℕ) → path_known ≡ interned old text → Continues path_known name_known
+    → Continues name_known vars_known → Continues old vars_known
 Continues-names old path_known name_known vars_known text is grown grown_more =
     Continues-trans old path_known vars_known (subst (Continues old) (sym is) (Continues-interned old text)) (Continues-trans path_known name_known vars_known grown grown_more)
 
+-- a text that stands in the table has a name
 pub is_name_of : (table : List (List ℕ)) (id : NameId) (text : List ℕ) → slice_get table id.index ≡ Some text → IsNameOf table id text
 is_name_of table id text here = (slice_get_within table id.index text here, here)
-
--- a name stays one as the table grows
-pub IsNameOf-grown : (old new : List (List ℕ)) (id : NameId) (text : List ℕ) → Continues old new → IsNameOf old id text → IsNameOf new id text
-IsNameOf-grown old new id text (more, is) (low, here) = (omega (arith, low, ap length is, length-append old more), rw is (slice_get-front old more id.index low ∙ here))
-
-pub NamesAll-grown : (old new : List (List ℕ)) (ids : List NameId) (xs : List Name) → Continues old new → NamesAll old ids xs → NamesAll new ids xs
-NamesAll-grown old new [] [] grows named = tt
-NamesAll-grown old new [] (x ∷ xs) grows named = absurd named
-NamesAll-grown old new (id ∷ ids) [] grows named = absurd named
-NamesAll-grown old new (id ∷ ids) (x ∷ xs) grows ((one, spells), rest) = ((IsNameOf-grown old new id (encode_utf8_all x) grows one, spells), NamesAll-grown old new ids xs grows rest)
 
 NamesAll-last : (table : List (List ℕ)) (ids : List NameId) (xs : List Name) (id : NameId) (x : Name) → NamesAll table ids xs → IsNameFor table id x → NamesAll table (ids ++ id ∷ []) (xs ++ x ∷ [])
 NamesAll-last table [] [] id x named one = (one, tt)
@@ -71,13 +43,6 @@ pub names_more : (old new : List (List ℕ)) (ids : List NameId) (texts : List N
 names_more old new ids texts i id x low is grows named one =
     let more : take (i + 1) texts ≡ take i texts ++ x ∷ [] = take_more texts i x low ∙ ap (λ (y : Name). take i texts ++ y ∷ []) (sym is) in
     rw more (NamesAll-last new ids (take i texts) id x (NamesAll-grown old new ids (take i texts) grows named) one)
-
--- each is a place in the table
-pub NamesAll-below : (table : List (List ℕ)) (ids : List NameId) (xs : List Name) (i : ℕ) (id : NameId) → NamesAll table ids xs → slice_get ids i ≡ Some id → id.index < length table
-NamesAll-below table [] xs i id named here = absurd (cc)
-NamesAll-below table (a ∷ ids) [] i id named here = absurd named
-NamesAll-below table (a ∷ ids) (x ∷ xs) zero id ((one, spells), rest) here = let same : a ≡ id = cc in subst (λ (n : NameId). n.index < length table) same one.0
-NamesAll-below table (a ∷ ids) (x ∷ xs) (suc i) id (one, rest) here = NamesAll-below table ids xs i id rest here
 
 pub length-NamesAll : (table : List (List ℕ)) (ids : List NameId) (xs : List Name) → NamesAll table ids xs → length ids ≡ length xs
 length-NamesAll table [] [] named = refl
@@ -101,38 +66,3 @@ named_code path_known name_known vars_known all_known globals code object t same
   where
     later : (id : NameId) (text : List ℕ) → IsNameOf name_known id text → IsNameOf all_known id text
     later id text known = IsNameOf-grown vars_known all_known id text grown_last (IsNameOf-grown name_known vars_known id text grown_more known)
-
--- ---- parameters
-
-named_params : (table : List (List ℕ)) (ids : List NameId) (xs : List Name) (n : ℕ) → NamesAll table ids xs → map (λ id. characters (name_in table (Some id))) (take n ids) ≡ take n xs
-named_params table [] [] zero named = refl
-named_params table [] [] (suc n) named = refl
-named_params table [] (x ∷ xs) n named = absurd named
-named_params table (id ∷ ids) [] n named = absurd named
-named_params table (id ∷ ids) (x ∷ xs) zero named = refl
-named_params table (id ∷ ids) (x ∷ xs) (suc n) (((low, is), spells), rest) =
-    let one : characters (name_in table (Some id)) ≡ x = ap (λ (o : Option (List ℕ)). characters (option_map chars o)) is ∙ spells in
-    let others = named_params table ids xs n rest in
-    λ k. one k ∷ others k
-
--- the names of the first places stay, where the table goes on
-pub params_stay : (table more : List (List ℕ)) (n : ℕ) (ids : List NameId) → ((i : ℕ) (id : NameId) → slice_get ids i ≡ Some id → id.index < length table)
-    → map (λ id. characters (name_in (table ++ more) (Some id))) (take n ids) ≡ map (λ id. characters (name_in table (Some id))) (take n ids)
-params_stay table more zero ids there = refl
-params_stay table more (suc n) [] there = refl
-params_stay table more (suc n) (id ∷ ids) there =
-    let one : characters (name_in (table ++ more) (Some id)) ≡ characters (name_in table (Some id)) = ap (λ (o : Option (List ℕ)). characters (option_map chars o)) (slice_get-front table more id.index (there zero id refl)) in
-    let others = params_stay table more n ids (λ i k here. there (suc i) k here) in
-    λ k. one k ∷ others k
-
--- the first locals of a body are its parameters
-params_first : (t : Tree) → take (length t.params) (locals_of t) ≡ t.params
-params_first t =
-    let (more, is) = Continues-bound_by t.suite t.params in
-    ap (take (length t.params)) is ∙ take-append t.params more
-
--- the parameters of a code that is named for a body
-pub params_named : (table : List (List ℕ)) (globals : List Name) (code : PyCode) (t : Tree) → code.code.arg_count ≡ length t.params → IsNamed table globals code t → params_of table code ≡ t.params
-params_named table globals code t arity named =
-    ap (λ (n : ℕ). map (λ id. characters (name_in table (Some id))) (take n code.code.varnames.items)) arity
-    ∙ named_params table code.code.varnames.items (locals_of t) (length t.params) named.varnames ∙ params_first t

@@ -4,8 +4,8 @@ use Rattle.std.specs.Prelude.{bytes_eq, AllPairs}
 use Rattle.std.specs.List.{list_any}
 use Rattle.std.proofs.lemmas.List.{take_more}
 use Rattle.std.proofs.lemmas.Slice.Eq.{bytes_eq-Decides}
-use Rattle.py_body.specs.Tree.{Name}
-use Rattle.py_body.specs.Binding.{bound}
+use Rattle.py_tree.specs.Tree.{Name}
+use Rattle.py_tree.specs.Binding.{bound}
 
 any_at : (xs : List Name) (x : Name) → list_any (bytes_eq x) xs ≡ true → (k : ℕ) × (k < length xs) × (get_or xs k x ≡ x)
 any_at [] x some = absurd (cc)

@@ -1,92 +1,119 @@
--- Laid code takes the places from one on up to another.
-use Rattle.std.proofs.Common.{◌≡◌, ◌+◌, ◌<◌, ◌≤◌, ℕ, zero, suc, List, [], ◌∷◌, Bool, true, false, cond, Some, drop, length, arith}
-use Rattle.std.specs.Prelude.{Option, None}
-use Rattle.py_code.specs.declared.code.Decoded.{Decoded}
-use Rattle.py_code.specs.declared.instruction.Instruction.{Instruction}
-use Rattle.py_code.specs.declared.unit.CodeUnit.{CodeUnit}
-use Rattle.py_code.specs.Units.{decoded_from, is_prefix, with_byte}
-use Rattle.py_body.specs.declared.atom.Atom.{Atom}
-use Rattle.py_body.specs.declared.atom.Atom.TheVariants as atom
-use Rattle.py_body.specs.declared.atom.Operator.{Operator}
-use Rattle.py_body.specs.declared.atom.Operator.TheVariants as operator
-use Rattle.py_body.specs.Tree.{Name, Form, assign, operate, show, give, pass, branch, choice, loop, Suite, nothing, first}
-use Rattle.py_body.specs.Code.{Parts, Stands, LaidName, LaidAtom, LaidAtoms, LaidTarget, LaidCall, LaidOperator, LaidForm, LaidSuite}
-use Rattle.py_body.proofs.Decoding.{decoded_is}
+-- Places of names, and the names that a body binds.
+use Rattle.std.proofs.Common.{◌≡◌, ◌<◌, ◌≤◌, ◌+◌, ℕ, suc, List, [], ◌∷◌, ◌++◌, Bool, true, false, cond, not, ◌||◌, Some, None, refl, sym, ap, ◌∙◌, length, length-append, arith}
+use Rattle.std.specs.Prelude.{Option, bytes_eq, position, unwrap_or, nat_lt, slice_get}
+use Rattle.std.specs.List.{list_any, position_or_len}
+use Rattle.std.proofs.lemmas.Bool.{ltb-false}
+use Rattle.std.proofs.lemmas.Slice.Eq.{bytes_eq-Decides}
+use Rattle.py_code.specs.Names.{place_of}
+use Rattle.py_tree.specs.Tree.{Name}
+use Rattle.py_tree.specs.Binding.{bound}
+use Rattle.py_laid.specs.Fits.{Continues}
+use Rattle.py_laid.specs.Code.{place}
+use Rattle.py_body.specs.Emitting.{IsPlaced}
 
--- a unit lies in front of the place behind it
-decoded_bound : (units : List CodeUnit) (prefix at : ℕ) (d : Decoded) → decoded_from prefix at units ≡ Some d → at < d.next
-decoded_bound [] prefix at d is = absurd (cc)
-decoded_bound (u ∷ us) prefix at d is = by (is_prefix u.op) is (decoded_bound us (with_byte prefix u.arg) (at + 1) d)
+-- ---- places
+
+place-append : (names more : List Name) (x : Name) → IsPlaced names x → IsPlaced (names ++ more) x
+place-append [] more x below = absurd (omega arith)
+place-append (y ∷ ys) more x below = by (bytes_eq x y) (place-append ys more x) below
   where
-    by : (b : Bool) → cond b (decoded_from (with_byte prefix u.arg) (at + 1) us) (Some (record { op = u.op; arg = record { 0 = with_byte prefix u.arg }; next = at + 1 })) ≡ Some d
-        → (decoded_from (with_byte prefix u.arg) (at + 1) us ≡ Some d → at + 1 < d.next) → at < d.next
-    by true is later = omega (arith, later is)
-    by false is later = omega (arith, (decoded_is _ _ is).2)
+    by : (b : Bool) → (IsPlaced ys x → IsPlaced (ys ++ more) x) → cond b 0 (suc (place ys x)) < suc (length ys) → cond b 0 (suc (place (ys ++ more) x)) < suc (length (ys ++ more))
+    by true later low = omega arith
+    by false later low = omega (arith, later (omega (arith, low)))
 
-module _ (parts : Parts) where
-  pub stands_bound : (line at : ℕ) (op : Instruction) (arg next : ℕ) → Stands parts line at op arg next → at < next
-  stands_bound line at op arg next stands = decoded_bound (drop at parts.units) 0 at _ stands.0
+-- a name that has a place has one where the names go on
+pub placed_on : (names vars : List Name) (x : Name) → Continues names vars → IsPlaced names x → IsPlaced vars x
+placed_on names vars x (more, is) below = rw is (place-append names more x below)
 
-  name_bound : (b : Bool) (line : ℕ) (x : Name) (at next : ℕ) → LaidName b parts line x at next → at < next
-  name_bound true line x at next laid = stands_bound line at _ _ next laid
-  name_bound false line x at next laid = stands_bound line at _ _ next laid.1
+-- a name that is one of these has a place
+pub placed_any : (names : List Name) (x : Name) → list_any (bytes_eq x) names ≡ true → IsPlaced names x
+placed_any [] x some = absurd (cc)
+placed_any (y ∷ ys) x some = by (bytes_eq x y) (placed_any ys x) some
+  where
+    by : (b : Bool) → (list_any (bytes_eq x) ys ≡ true → IsPlaced ys x) → (b || list_any (bytes_eq x) ys) ≡ true → cond b 0 (suc (place ys x)) < suc (length ys)
+    by true later is = omega arith
+    by false later is = omega (arith, later is)
 
-  pub atom_bound : (line : ℕ) (a : Atom) (at next : ℕ) → LaidAtom parts line a at next → at < next
-  atom_bound line atom.None at next laid = stands_bound line at _ _ next laid.1
-  atom_bound line (atom.Bool b) at next laid = stands_bound line at _ _ next laid.1
-  atom_bound line (atom.Int n) at next laid = stands_bound line at _ _ next laid.1
-  atom_bound line (atom.Str s) at next laid = stands_bound line at _ _ next laid.1
-  atom_bound line (atom.Name x) at next laid = name_bound _ line x at next laid
+placed_last : (names : List Name) (x : Name) → IsPlaced (names ++ x ∷ []) x
+placed_last [] x = rw ((bytes_eq-Decides x x).1 refl) (omega arith)
+placed_last (y ∷ ys) x = by (bytes_eq x y) (placed_last ys x)
+  where
+    by : (b : Bool) → IsPlaced (ys ++ x ∷ []) x → cond b 0 (suc (place (ys ++ x ∷ []) x)) < suc (length (ys ++ x ∷ []))
+    by true later = omega arith
+    by false later = omega (arith, later)
 
-  atoms_bound : (line : ℕ) (atoms : List Atom) (at next : ℕ) → LaidAtoms parts line atoms at next → at ≤ next
-  atoms_bound line [] at next laid = omega (arith, laid)
-  atoms_bound line (a ∷ atoms) at next (mid, one, rest) = omega (arith, atom_bound line a at mid one, atoms_bound line atoms mid next rest)
+-- a name that is bound has a place
+pub placed_bound : (names : List Name) (x : Name) → IsPlaced (bound names x) x
+placed_bound names x = by (list_any (bytes_eq x) names) refl
+  where
+    by : (b : Bool) → list_any (bytes_eq x) names ≡ b → IsPlaced (cond b names (names ++ x ∷ [])) x
+    by true some = placed_any names x some
+    by false none = placed_last names x
 
-  target_bound : (line at : ℕ) (x : Option Name) (next : ℕ) → LaidTarget parts line at x next → at < next
-  target_bound line at None next laid = stands_bound line at _ _ next laid
-  target_bound line at (Some x) next laid = stands_bound line at _ _ next laid
+-- a name that has a place is there
+pub any-place : (names : List Name) (x : Name) → place names x < length names → list_any (bytes_eq x) names ≡ true
+any-place [] x below = absurd (omega arith)
+any-place (y ∷ ys) x below = by (bytes_eq x y) (any-place ys x) below
+  where
+    by : (b : Bool) → (place ys x < length ys → list_any (bytes_eq x) ys ≡ true) → cond b 0 (suc (place ys x)) < suc (length ys) → (b || list_any (bytes_eq x) ys) ≡ true
+    by true later low = refl
+    by false later low = later (omega (arith, low))
 
-  call_bound : (line at count next : ℕ) → LaidCall parts line at count next → at < next
-  call_bound line at zero next laid = absurd laid
-  call_bound line at (suc k) next laid = stands_bound line at _ _ next laid
+-- and one that has none is not
+pub none-place : (names : List Name) (x : Name) → length names ≤ place names x → list_any (bytes_eq x) names ≡ false
+none-place names x above = by (list_any (bytes_eq x) names) (placed_any names x)
+  where
+    by : (b : Bool) → (b ≡ true → place names x < length names) → b ≡ false
+    by true below = absurd (omega (arith, above, below refl))
+    by false below = refl
 
-  operator_bound : (line at : ℕ) (op : Operator) (count next : ℕ) → LaidOperator parts line at op count next → at < next
-  operator_bound line at operator.Add count next laid = stands_bound line at _ _ next laid
-  operator_bound line at operator.Sub count next laid = stands_bound line at _ _ next laid
-  operator_bound line at operator.Lt count next laid = stands_bound line at _ _ next laid
-  operator_bound line at operator.Eq count next laid = stands_bound line at _ _ next laid
-  operator_bound line at operator.Call count next laid = call_bound line at count next laid
+-- the name at its place
+pub slice_get-place : (names : List Name) (x : Name) → place names x < length names → slice_get names (place names x) ≡ Some x
+slice_get-place [] x below = absurd (omega arith)
+slice_get-place (y ∷ ys) x below = by (bytes_eq x y) refl (slice_get-place ys x) below
+  where
+    by : (b : Bool) → bytes_eq x y ≡ b → (place ys x < length ys → slice_get ys (place ys x) ≡ Some x) → cond b 0 (suc (place ys x)) < suc (length ys)
+        → slice_get (y ∷ ys) (cond b 0 (suc (place ys x))) ≡ Some x
+    by true is later low = ap Some (sym ((bytes_eq-Decides x y).0 is))
+    by false is later low = later (omega (arith, low))
 
-  mutual
-    form_bound : (f : Form) (line at next : ℕ) → LaidForm parts line f at next → at ≤ next
-    form_bound (assign x a) line at next (stores, loads, stands) = omega (arith, atom_bound line a at stores loads, target_bound line stores (Some x) next stands)
-    form_bound (operate x op atoms) line at next (asks, stores, loads, stands, target) =
-        omega (arith, atoms_bound line atoms at asks loads, operator_bound line asks op (length atoms) stores stands, target_bound line stores x next target)
-    form_bound (show a) line at next (asks, loads, stands) = omega (arith, atom_bound line a at asks loads, stands_bound line asks _ _ next stands)
-    form_bound (give a) line at next (ends, loads, stands) = omega (arith, atom_bound line a at ends loads, stands_bound line ends _ _ next stands)
-    form_bound pass line at next same = omega (arith, same)
-    form_bound (branch a s) line at next (asks, inside, loads, jumps, suite) =
-        omega (arith, atom_bound line a at asks loads, stands_bound line asks _ _ inside jumps, suite_bound s inside next suite)
-    form_bound (choice a s t) line at next (asks, inside, leaves, other, loads, jumps, suite, leave, rest) =
-        omega (
-          arith,
-          atom_bound line a at asks loads,
-          stands_bound line asks _ _ inside jumps,
-          suite_bound s inside leaves suite,
-          stands_bound line leaves _ _ other leave,
-          suite_bound t other next rest,
-        )
-    form_bound (loop a s) line at next (tests, asks, inside, repeats, ends, sets, loads, jumps, suite, repeat, pops) =
-        omega (
-          arith,
-          stands_bound line at _ _ tests sets,
-          atom_bound line a tests asks loads,
-          stands_bound line asks _ _ inside jumps,
-          suite_bound s inside repeats suite,
-          stands_bound line repeats _ _ ends repeat,
-          stands_bound line ends _ _ next pops,
-        )
+-- as the program looks a place up
+place-or_len : (vars : List Name) (x : Name) → position_or_len (bytes_eq x) vars ≡ place vars x
+place-or_len [] x = refl
+place-or_len (y ∷ ys) x = by (bytes_eq x y) (place-or_len ys x)
+  where
+    by : (b : Bool) → position_or_len (bytes_eq x) ys ≡ place ys x → cond (not b) (1 + position_or_len (bytes_eq x) ys) 0 ≡ cond b 0 (suc (place ys x))
+    by true later = refl
+    by false later = omega (arith, later)
 
-    pub suite_bound : (s : Suite) (at next : ℕ) → LaidSuite parts s at next → at ≤ next
-    suite_bound nothing at next same = omega (arith, same)
-    suite_bound (first n f more) at next (mid, one, rest) = omega (arith, form_bound f n at mid one, suite_bound more mid next rest)
+pub place-within : (vars : List Name) (x : Name) → place vars x ≤ length vars
+place-within [] x = omega arith
+place-within (y ∷ ys) x = by (bytes_eq x y) (place-within ys x)
+  where
+    by : (b : Bool) → place ys x ≤ length ys → cond b 0 (suc (place ys x)) ≤ suc (length ys)
+    by true later = omega arith
+    by false later = omega (arith, later)
+
+-- the place, as the program looks it up
+pub place_position : (vars : List Name) (x : Name) → unwrap_or (position (bytes_eq x) vars) (length vars) ≡ place vars x
+place_position vars x = rw (place-or_len vars x) (by (nat_lt (place vars x) (length vars)) refl)
+  where
+    by : (b : Bool) → nat_lt (place vars x) (length vars) ≡ b → unwrap_or (cond b (Some (place vars x)) None) (length vars) ≡ place vars x
+    by true low = refl
+    by false high = omega (arith, ltb-false _ _ high, place-within vars x)
+
+-- and where it finds it
+pub place_found : (names : List Name) (x : Name) (at : ℕ) → place_of names x ≡ Some at → at ≡ place names x
+place_found names x at found = let P : Option ℕ → ℕ = λ o. unwrap_or o (length names) in sym (sym (place_position names x) ∙ ap P found)
+
+-- and where it doesn't
+pub place_absent : (names : List Name) (x : Name) → place_of names x ≡ None → length names ≤ place names x
+place_absent names x none = let P : Option ℕ → ℕ = λ o. unwrap_or o (length names) in let same : place names x ≡ length names = sym (place_position names x) ∙ ap P none in omega (arith, same)
+
+-- at most one name more is bound
+pub length-bound : (names : List Name) (x : Name) → length (bound names x) ≤ length names + 1
+length-bound names x = by (list_any (bytes_eq x) names)
+  where
+    by : (b : Bool) → length (cond b names (names ++ x ∷ [])) ≤ length names + 1
+    by true = omega arith
+    by false = omega (arith, length-append names (x ∷ []))

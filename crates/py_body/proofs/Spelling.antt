@@ -1,32 +1,19 @@
 -- Units that are spelled stay so behind one more instruction.
-use Rattle.std.proofs.Common.{◌≡◌, ◌<◌, ◌≤◌, ◌+◌, ◌-◌, ⊎_elim, ℕ, zero, suc, List, [], ◌∷◌, ◌++◌, Bool, true, false, not, cond, Some, refl, sym, ap, ◌∙◌, length, arith, length-append, append-nil}
+use Rattle.std.proofs.Common.{◌≡◌, ◌<◌, ◌≤◌, ◌+◌, ◌-◌, ⊎_elim, ℕ, zero, suc, List, [], ◌∷◌, ◌++◌, Bool, true, false, cond, Some, refl, sym, ap, ◌∙◌, length, arith, length-append, append-nil}
 use Rattle.std.specs.Prelude.{Option, None, slice_get}
-use Rattle.std.proofs.lemmas.Bool.{and_from, cases_lt}
-use Rattle.std.proofs.lemmas.List.Folds.{list_all-append}
+use Rattle.std.proofs.lemmas.Bool.{cases_lt}
 use Rattle.py_code.specs.declared.instruction.Instruction.{Instruction}
-use Rattle.py_code.specs.declared.literal.Literal.{Literal}
 use Rattle.py_code.specs.declared.unit.CodeUnit.{CodeUnit}
 use Rattle.py_code.specs.declared.code.Decoded.{Decoded}
 use Rattle.py_code.specs.Units.{decoded_from, is_prefix, with_byte}
-use Rattle.py_check.specs.Constants.{has_code}
 use Rattle.py_check.specs.Operands.{is_prefix_there, prefixes}
-use Rattle.py_body.specs.Emitting.{AreSpelled, HaveNoCode}
-
--- ---- an entry in front of others and behind others
-
-pub slice_get-front : {A : Type 0} (xs ys : List A) (i : ℕ) → i < length xs → slice_get (xs ++ ys) i ≡ slice_get xs i
-slice_get-front [] ys i low = absurd (omega (arith, low))
-slice_get-front (x ∷ xs) ys zero low = refl
-slice_get-front (x ∷ xs) ys (suc i) low = slice_get-front xs ys i (omega (arith, low))
-
-pub slice_get-behind : {A : Type 0} (xs ys : List A) (i : ℕ) → slice_get (xs ++ ys) (length xs + i) ≡ slice_get ys i
-slice_get-behind {A} [] ys i = let same : 0 + i ≡ i = omega arith in ap (λ (k : ℕ). slice_get ys k) same
-slice_get-behind {A} (x ∷ xs) ys i =
-    let same : suc (length xs) + i ≡ suc (length xs + i) = omega arith in
-    ap (λ (k : ℕ). slice_get (x ∷ (xs ++ ys)) k) same ∙ slice_get-behind xs ys i
+use Rattle.py_laid.proofs.NamingLemmas.{slice_get-front}
+use Rattle.py_body.specs.Emitting.{AreSpelled}
+use Rattle.py_body.proofs.ListLemmas.{slice_get-behind}
 
 -- ---- prefixes
 
+-- units behind a place change nothing in front of it
 prefixes-front : (old more : List CodeUnit) (at : ℕ) → at ≤ length old → prefixes (old ++ more) at ≡ prefixes old at
 prefixes-front old more zero low = refl
 prefixes-front old more (suc at) low =
@@ -42,6 +29,7 @@ prefixes-suc units at = by (is_prefix_there (slice_get units at))
     by true = omega arith
     by false = omega arith
 
+-- so many more units are so many more prefixes at most
 prefixes-add : (units : List CodeUnit) (at n : ℕ) → prefixes units (at + n) ≤ prefixes units at + n
 prefixes-add units at zero = let same : at + 0 ≡ at = omega arith in omega (arith, ap (prefixes units) same)
 prefixes-add units at (suc n) =
@@ -81,6 +69,7 @@ last_unit (u ∷ us) state at arg op is = by (is_prefix u.op) refl is (λ d. las
         record { at = suc last.at; behind = ap suc last.behind; unit = last.unit; here = last.here; plain = last.plain }
     by false plain d later = let same : at + 1 ≡ at + suc (length us) = ap next_of d in record { at = 0; behind = omega (arith, same); unit = u; here = refl; plain = plain }
 
+-- one more instruction that is decoded as a whole
 pub spelled_more : (old added : List CodeUnit) (op : Instruction) (arg : ℕ) → AreSpelled old → length added ≤ 4
     → ((at : ℕ) (behind : List CodeUnit) → decoded_from 0 at (added ++ behind) ≡ Some (record { op = op; arg = record { 0 = arg }; next = at + length added })) → AreSpelled (old ++ added)
 spelled_more old added op arg spelled few decoded = record {
@@ -110,9 +99,3 @@ spelled_more old added op arg spelled few decoded = record {
         omega (arith, more, few, long, last.behind, here, less, ap (prefixes (old ++ added)) same, prefixes-add (old ++ added) (length old) (at - length old)))
         (λ above. let same : at ≡ length (old ++ added) = omega (arith, above, low) in omega (arith, ap (prefixes (old ++ added)) same, ends))
         (cases_lt at (length (old ++ added)))
-
--- ---- constants
-
-pub no_code_more : (literals : List Literal) (literal : Literal) → HaveNoCode literals → has_code literal ≡ false → HaveNoCode (literals ++ literal ∷ [])
-no_code_more literals literal none plain =
-    list_all-append (λ l. not (has_code l)) literals (literal ∷ []) ∙ and_from _ _ none (rw plain refl)

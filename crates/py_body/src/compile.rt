@@ -1,37 +1,65 @@
 //! The compiler: the code of a body.
 
-ghost use Rattle.std.specs.Prelude.{◌≡◌, ◌<◌, ◌≤◌, ◌^◌, suc, length, List, IfOk};
-ghost use Rattle.py_check.specs.Typing.{IsTyped};
-ghost use Rattle.py_body.specs.Tree.{Name, tree_of};
-ghost use Rattle.py_body.specs.Compilable.{IsCompilable};
-ghost use Rattle.py_body.specs.Code.{IsLaid, IsPlain, UsesBodyInstructions};
-ghost use Rattle.py_body.specs.Emitting.{parts_of, IsEmitted};
-ghost use Rattle.py_body.specs.Fits.{Fits, Continues};
-ghost use Rattle.py_body.specs.Naming.{IsNamed};
+ghost use Rattle.std.specs.Prelude.{◌≡◌, ◌+◌, ◌<◌, ◌≤◌, ◌^◌, suc, false, length, List, IfOk, OnOk};
+ghost use Rattle.py_tree.specs.Tree.{Name};
+ghost use Rattle.py_tree.specs.Compilable.{IsCompilable, SuiteFits, statements};
+ghost use Rattle.py_tree.specs.Unguarded.{IsUnguarded};
+ghost use Rattle.py_tree.specs.Views.{suite_of, tree_of};
+ghost use Rattle.py_laid.specs.Code.{IsLaid, IsPlain};
+ghost use Rattle.py_laid.specs.Fits.{Fits, Continues};
+ghost use Rattle.py_laid.specs.Instructions.{UsesUnguarded};
+ghost use Rattle.py_laid.specs.Naming.{IsNamed};
+ghost use Rattle.py_body.specs.Sizes.{counted, size_body, weights};
+ghost use Rattle.py_body.specs.Codes.{Each};
+ghost use Rattle.py_body.specs.Emitting.{draft_of, EmitsBody, IsEmitted};
 
-use crate::body::Body;
-use crate::emit::Emitter;
+use crate::emitter::Emitter;
 use crate::locals::locals_of;
 use crate::naming::{intern_all, intern_text};
-use crate::notes::notes_of;
+use crate::scope::entry;
+use crate::sizes::{Weights, size_of_suite};
 use py_check::Annotated;
-use py_code::{CodeFlags, CodeObject, Instruction, Literal, Names, NoMemory, PyCode};
+use py_code::{
+    CodeFlags, CodeObject, Instruction, ItemList, Literal, NameSet, Names, NoMemory, PyCode,
+};
+use py_tree::{Body, StmtList};
 use std::alloc::Global;
 
-/// The code of a body with its notes; its names go into the table. Its locals are known by their places, every other name
-/// is a global, and each literal that it names is a constant of its own. Its labels have as many prefixes as the least
-/// number that is enough for all. It fails only where memory runs out; the table may then have some of the names.
-pub fn compile_body(alloc: Global, names: &mut Names, body: &Body) -> Result<Annotated, NoMemory>
+/// Codes in order, each with its notes.
+pub type AnnotatedList = ItemList<Annotated>;
+
+/// The codes of a body, with their notes: those of the bodies inside of it, of which there are none so far, then its own. They are to be
+/// numbered from `first` on. Its names go into the table. Its locals are known by their places, every other name is a global, and each
+/// literal that it names is a constant of its own. It fails only where memory runs out; the table may then have some of the names.
+pub fn compile_body(
+    alloc: Global,
+    names: &mut Names,
+    body: &Body,
+    first: usize,
+) -> Result<AnnotatedList, NoMemory>
     requires { IsCompilable (tree_of body.now) }
-    ensures fits { IfOk result (λ code. Fits names.new code (tree_of body.now)) }
-    ensures laid { IfOk result (λ code. (globals : List Name) × IsLaid globals code.code (tree_of body.now) × IsNamed names.new globals code.code (tree_of body.now)) }
-    ensures plain { IfOk result (λ code. IsPlain code.code (tree_of body.now)) }
-    ensures typed { IfOk result IsTyped }
-    ensures uses { IfOk result (λ code. UsesBodyInstructions code.code) }
+    ensures one { IfOk result (λ codes. length codes ≡ 1) }
+    ensures fits { IfOk result (λ codes. Each (λ code. Fits names.new code (tree_of body.now)) codes) }
+    ensures laid { IfOk result (λ codes. Each (λ code. (globals : List Name) × IsLaid globals code (tree_of body.now) × IsNamed names.new globals code.code (tree_of body.now)) codes) }
+    ensures plain { IfOk result (λ codes. Each (λ code. IsPlain code (tree_of body.now)) codes) }
+    ensures uses { IfOk result (λ codes. IsUnguarded (suite_of body.now.suite) → Each (λ code. UsesUnguarded code.code) codes) }
+    ensures grows { Continues names.old names.new }
+{
+    let _first = first;
+    let code = compile_code(alloc, names, body)?;
+    let mut codes = AnnotatedList::new(alloc);
+    codes.push(code)?;
+    Ok(codes)
+}
+
+/// The code of a body itself.
+fn compile_code(alloc: Global, names: &mut Names, body: &Body) -> Result<Annotated, NoMemory>
+    requires { IsCompilable (tree_of body.now) }
+    ensures laid { IfOk result (λ code. (globals : List Name) × IsLaid globals code (tree_of body.now) × IsNamed names.new globals code.code (tree_of body.now)) }
+    ensures plain { IfOk result (λ code. IsPlain code (tree_of body.now)) }
     ensures grows { Continues names.old names.new }
 {
     let emitter = emit_body(alloc, body)?;
-    let noted = notes_of(alloc, emitter.units.as_slice())?;
     let locals = emitter.locals.into_texts()?;
     let globals = emitter.globals.into_texts()?;
     let source_path = names.intern("<script>")?;
@@ -47,7 +75,7 @@ pub fn compile_body(alloc: Global, names: &mut Names, body: &Body) -> Result<Ann
         kwonlyarg_count: 0,
         source_path,
         first_line_number: Some(body.line),
-        max_stackdepth: noted.most_values,
+        max_stackdepth: emitter.deepest,
         obj_name,
         cell2arg: Vec::new(alloc),
         constants: emitter.constants,
@@ -58,35 +86,106 @@ pub fn compile_body(alloc: Global, names: &mut Names, body: &Body) -> Result<Ann
     });
     Ok(Annotated {
         code,
-        notes: noted.notes,
+        notes: emitter.notes,
     })
 }
 
 /// The units of a body with all that they refer to.
 fn emit_body(alloc: Global, body: &Body) -> Result<Emitter, NoMemory>
     requires { IsCompilable (tree_of body.now) }
-    ensures { IfOk result (λ emitter. IsEmitted (parts_of emitter) (tree_of body.now)) }
-{
-    for width in 0..3 {
-        let emitter = emit_with(alloc, body, width)?;
-        if emitter.labels_fit() {
-            return Ok(emitter);
-        }
-    }
-    emit_with(alloc, body, 3)
-}
-
-/// The same where each label has so many prefixes, whether or not they are enough.
-fn emit_with(alloc: Global, body: &Body, width: u32) -> Result<Emitter, NoMemory>
-    requires compilable { IsCompilable (tree_of body.now) }
-    requires width { width ≤ 3 }
-    ensures emitted { IfOk result (λ emitter. length emitter.units.items ≤ 256 ^ suc width → IsEmitted (parts_of emitter) (tree_of body.now)) }
-    ensures short { IfOk result (λ emitter. length emitter.units.items < 2 ^ 32) }
-    ensures width { IfOk result (λ emitter. emitter.width ≡ width) }
+    ensures { IfOk result (λ emitter. IsEmitted (draft_of emitter) (tree_of body.now)) }
 {
     let locals = locals_of(alloc, body)?;
-    let mut emitter = Emitter::new(alloc, locals, width);
-    emitter.compile_suite(&body.suite)?;
-    emitter.emit_with_const(Instruction::ReturnConst, Literal::None, body.line)?;
+    let others = others_for(&locals, &body.suite);
+    let labels = labels_for(others, &body.suite);
+    let mut emitter = Emitter::new(alloc, locals, labels, others);
+    emit_all(&mut emitter, body)?;
     Ok(emitter)
+}
+
+/// Emits the statements of a body, and behind them the return of None.
+fn emit_all(emitter: &mut Emitter, body: &Body) -> Result<(), NoMemory>
+    requires compilable { IsCompilable (tree_of body.now) }
+    requires low { (emitter.old.labels ≤ 3) × (emitter.old.others ≤ 3) }
+    ensures { OnOk result (EmitsBody (draft_of emitter.old) (draft_of emitter.new) (tree_of body.now)) }
+{
+    let scope = entry();
+    emitter.compile_suite(&body.suite, &scope)?;
+    emitter.put_const(
+        Instruction::ReturnConst,
+        Literal::None,
+        &scope,
+        0,
+        body.line,
+    )?;
+    Ok(())
+}
+
+/// How many prefixes the places of constants, names and locals need: no more of them are used than instructions that have one.
+fn others_for(locals: &NameSet, suite: &StmtList) -> u32
+    requires few { statements (suite_of suite.now) ≤ 1048576 }
+    requires fits { SuiteFits false (suite_of suite.now) }
+    requires locals { length locals.now ≤ 2097152 }
+    ensures low { result ≤ 3 }
+    ensures used { size_body counted (suite_of suite.now) ≤ 256 ^ suc result }
+    ensures locals { length locals.now ≤ 256 ^ suc result }
+{
+    let counted = Weights {
+        jump: 0,
+        index: 1,
+        plain: 0,
+    };
+    let used = size_of_suite(counted, suite) + 1;
+    let most = used.max(locals.len() as u32);
+    width_for(most)
+}
+
+/// How many prefixes a number needs that is not greater than this, or less than it.
+fn width_for(most: u32) -> u32
+    ensures low { result ≤ 3 }
+    ensures room { most ≤ 256 ^ suc result }
+{
+    if most <= 256 {
+        return 0;
+    }
+    if most <= 65536 {
+        return 1;
+    }
+    if most <= 16777216 {
+        return 2;
+    }
+    3
+}
+
+/// How many prefixes the labels need, the least number that is enough for each place up to the end.
+fn labels_for(others: u32, suite: &StmtList) -> u32
+    requires few { statements (suite_of suite.now) ≤ 1048576 }
+    requires fits { SuiteFits false (suite_of suite.now) }
+    requires others { others ≤ 3 }
+    ensures low { result ≤ 3 }
+    ensures room { size_body (weights result others) (suite_of suite.now) < 256 ^ suc result }
+{
+    for labels in 0..3 {
+        let size = size_with(labels, others, suite);
+        if width_for(size + 1) <= labels {
+            return labels;
+        }
+    }
+    3
+}
+
+/// The size of a body where labels and other operands have so many prefixes.
+fn size_with(labels: u32, others: u32, suite: &StmtList) -> u32
+    requires few { statements (suite_of suite.now) ≤ 1048576 }
+    requires fits { SuiteFits false (suite_of suite.now) }
+    requires low { (labels ≤ 3) × (others ≤ 3) }
+    ensures size { result ≡ size_body (weights labels others) (suite_of suite.now) }
+    ensures most { result ≤ 1082130436 }
+{
+    let weights = Weights {
+        jump: labels + 1,
+        index: others + 1,
+        plain: 1,
+    };
+    size_of_suite(weights, suite) + weights.index
 }

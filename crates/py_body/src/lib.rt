@@ -1,18 +1,18 @@
-//! Bodies of functions: their statement trees, what a tree may do, and the compiler to code that does it.
+//! The compiler: the code of a body with its notes, put unit behind unit, since each label is known before its jump is.
 #![tactic(auto)]
 
-mod atom;
-mod body;
+mod blocks;
 mod compile;
-mod emit;
+mod emitter;
+mod expressions;
 mod locals;
 mod naming;
-mod notes;
-mod operations;
+mod protected;
+mod scope;
+mod sizes;
 mod statements;
-mod stmt;
 
-pub use atom::{Atom, AtomList, Operator};
-pub use body::{Body, ParamList};
-pub use compile::compile_body;
-pub use stmt::{Stmt, StmtForm, StmtList};
+pub use compile::{AnnotatedList, compile_body};
+pub use py_tree::{
+    Atom, AtomList, Body, Clause, ClauseList, Expr, Operation, ParamList, Stmt, StmtForm, StmtList,
+};

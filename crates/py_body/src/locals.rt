@@ -1,12 +1,11 @@
 //! The locals of a body: its parameters, and the names that its statements bind.
 
-ghost use Rattle.std.specs.Prelude.{◌≡◌, ◌≢◌, IfOk, AllPairs};
-ghost use Rattle.py_body.specs.Tree.{form_of, suite_of, tree_of};
-ghost use Rattle.py_body.specs.Binding.{bound, bound_by, bound_in, locals_of};
+ghost use Rattle.std.specs.Prelude.{◌≡◌, ◌≢◌, [], IfOk, OnOk, AllPairs};
+ghost use Rattle.py_tree.specs.Binding.{bound, bound_by, bound_if, bound_in, bound_under, locals_of};
+ghost use Rattle.py_tree.specs.Views.{clauses_of, form_of, suite_of, tree_of};
 
-use crate::body::Body;
-use crate::stmt::{StmtForm, StmtList};
 use py_code::{NameSet, NoMemory, PyText};
+use py_tree::{Body, ClauseList, StmtForm, StmtList};
 use std::alloc::Global;
 
 /// The locals of a body in the order of their places: its parameters, then the other names that it binds.
@@ -14,57 +13,94 @@ pub fn locals_of(alloc: Global, body: &Body) -> Result<NameSet, NoMemory>
     requires { AllPairs (λ x y. x ≢ y) body.now.params }
     ensures { IfOk result (λ locals. locals ≡ locals_of (tree_of body.now)) }
 {
-    let params = of_params(alloc, body.params.as_slice())?;
-    bound_by(params, &body.suite)
-}
-
-/// The names of parameters.
-fn of_params(alloc: Global, params: &[PyText]) -> Result<NameSet, NoMemory>
-    requires { AllPairs (λ x y. x ≢ y) params.now }
-    ensures { IfOk result (λ names. names ≡ params.now) }
-{
     let mut names = NameSet::new(alloc);
+    bind_params(&mut names, body.params.as_slice())?;
+    bind_suite(&mut names, &body.suite)?;
+    Ok(names)
+}
+
+/// Puts the names of parameters behind no others.
+fn bind_params(names: &mut NameSet, params: &[PyText]) -> Result<(), NoMemory>
+    requires none { names.old ≡ [] }
+    requires differ { AllPairs (λ x y. x ≢ y) params.now }
+    ensures { OnOk result (names.new ≡ params.now) }
+{
     for param in params {
-        names = with(names, param)?;
+        bind(names, param)?;
     }
-    Ok(names)
+    Ok(())
 }
 
-/// These names, with one behind them unless it is one of them.
-fn with(names: NameSet, name: &PyText) -> Result<NameSet, NoMemory>
-    ensures { IfOk result (λ set. set ≡ bound names name.now) }
+/// Puts a name behind the others, unless it is one of them.
+fn bind(names: &mut NameSet, name: &PyText) -> Result<(), NoMemory>
+    ensures { OnOk result (names.new ≡ bound names.old name.now) }
 {
-    let mut names = names;
     names.insert(name)?;
-    Ok(names)
+    Ok(())
 }
 
-/// These names, then the others that a suite binds.
-#[cycle(bound)]
-fn bound_by(names: NameSet, suite: &StmtList) -> Result<NameSet, NoMemory>
-    ensures { IfOk result (λ bound. bound ≡ bound_by names (suite_of suite.now)) }
+/// Puts the names that a suite binds behind the others.
+#[cycle(bind)]
+fn bind_suite(names: &mut NameSet, suite: &StmtList) -> Result<(), NoMemory>
+    ensures { OnOk result (names.new ≡ bound_by names.old (suite_of suite.now)) }
 {
-    let mut bound = names;
     for stmt in suite.as_slice() {
-        bound = bound_in(bound, &stmt.form)?;
+        bind_form(names, &stmt.form)?;
     }
-    Ok(bound)
+    Ok(())
 }
 
-/// These names, then the others that a statement binds.
-#[cycle(bound)]
-fn bound_in(names: NameSet, form: &StmtForm) -> Result<NameSet, NoMemory>
-    ensures { IfOk result (λ bound. bound ≡ bound_in names (form_of form.now)) }
+/// Puts the names that a statement binds behind the others.
+#[cycle(bind)]
+fn bind_form(names: &mut NameSet, form: &StmtForm) -> Result<(), NoMemory>
+    ensures { OnOk result (names.new ≡ bound_in names.old (form_of form.now)) }
 {
     match form {
-        StmtForm::Assign(name, _atom) => with(names, name),
-        StmtForm::Operate(name, _operator, _atoms) => with(names, name),
-        StmtForm::Do(_operator, _atoms) => Ok(names),
-        StmtForm::Show(_atom) => Ok(names),
-        StmtForm::Return(_atom) => Ok(names),
-        StmtForm::Pass => Ok(names),
-        StmtForm::If(_atom, suite) => bound_by(names, suite),
-        StmtForm::IfElse(_atom, suite, other) => bound_by(bound_by(names, suite)?, other),
-        StmtForm::While(_atom, suite) => bound_by(names, suite),
+        StmtForm::Assign(name, _expr) => bind(names, name),
+        StmtForm::Do(_operation) => Ok(()),
+        StmtForm::Show(_atom) => Ok(()),
+        StmtForm::Return(_atom) => Ok(()),
+        StmtForm::Raise(_atom) => Ok(()),
+        StmtForm::Reraise => Ok(()),
+        StmtForm::Break => Ok(()),
+        StmtForm::Continue => Ok(()),
+        StmtForm::Pass => Ok(()),
+        StmtForm::If(_atom, suite) => bind_suite(names, suite),
+        StmtForm::IfElse(_atom, suite, other) => bind_both(names, suite, other),
+        StmtForm::While(_atom, suite) => bind_suite(names, suite),
+        StmtForm::TryExcept(suite, clauses) => bind_tried(names, suite, clauses),
+        StmtForm::TryFinally(suite, last) => bind_both(names, suite, last),
+    }
+}
+
+/// Puts the names that two suites bind behind the others.
+#[cycle(bind)]
+fn bind_both(names: &mut NameSet, suite: &StmtList, other: &StmtList) -> Result<(), NoMemory>
+    ensures { OnOk result (names.new ≡ bound_by (bound_by names.old (suite_of suite.now)) (suite_of other.now)) }
+{
+    bind_suite(names, suite)?;
+    bind_suite(names, other)
+}
+
+/// Puts the names that a suite and clauses bind behind the others.
+#[cycle(bind)]
+fn bind_tried(names: &mut NameSet, suite: &StmtList, clauses: &ClauseList) -> Result<(), NoMemory>
+    ensures { OnOk result (names.new ≡ bound_under (bound_by names.old (suite_of suite.now)) (clauses_of clauses.now)) }
+{
+    bind_suite(names, suite)?;
+    for clause in clauses.as_slice() {
+        bind_target(names, &clause.target)?;
+        bind_suite(names, &clause.suite)?;
+    }
+    Ok(())
+}
+
+/// Puts a name that there may be behind the others, unless it is one of them.
+fn bind_target(names: &mut NameSet, target: &Option<PyText>) -> Result<(), NoMemory>
+    ensures { OnOk result (names.new ≡ bound_if names.old target.now) }
+{
+    match target {
+        None => Ok(()),
+        Some(name) => bind(names, name),
     }
 }

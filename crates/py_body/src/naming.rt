@@ -1,8 +1,8 @@
 //! The names of a code: texts in the table of names.
 
 ghost use Rattle.std.specs.Prelude.{IfOk};
-ghost use Rattle.py_body.specs.Naming.{IsNameFor, NamesAll};
-ghost use Rattle.py_body.specs.Fits.{Continues};
+ghost use Rattle.py_laid.specs.Fits.{Continues};
+ghost use Rattle.py_laid.specs.Naming.{IsNameFor, NamesAll};
 
 use py_code::{NameId, Names, NoMemory, PyText, utf8_of};
 use std::alloc::Global;

@@ -1,188 +1,129 @@
-//! The code of each form of statement.
+//! The code of statements.
 
-ghost use Rattle.std.specs.Prelude.{◌≡◌, ◌*◌, ◌≤◌, length, true, false, Some, None, IfOk, OnOk};
-ghost use Rattle.py_body.specs.Tree.{assign, branch, choice, form_of, give, loop, operate, show, suite_of};
-ghost use Rattle.py_body.specs.Binding.{takes_count};
-ghost use Rattle.py_body.specs.Compilable.{FormTakes, SuiteTakes, statements, statements_in};
-ghost use Rattle.py_body.specs.Emitting.{parts_of, most_units, HasRoom, EmitsForm, EmitsSuite, EmitsTest};
+ghost use Rattle.std.specs.Prelude.{◌≡◌, ◌+◌, ◌≤◌, ◌<◌, false, true, OnOk};
+ghost use Rattle.py_code.specs.declared.instruction.Instruction.TheVariants as op;
+ghost use Rattle.py_code.specs.Numbers.{raise_number};
+ghost use Rattle.py_code.specs.Units.{is_prefix};
+ghost use Rattle.py_laid.specs.Code.{over};
+ghost use Rattle.py_tree.specs.Tree.{Assign, Break, Continue, Do, Reraise};
+ghost use Rattle.py_tree.specs.Compilable.{ExprFits, OperationFits};
+ghost use Rattle.py_body.specs.Emitting.{draft_of, is_inside, scope_of, EmitsForm, EmitsPlain, EmitsTaken};
 
-use crate::atom::{Atom, AtomList, Operator};
-use crate::emit::Emitter;
-use crate::stmt::{StmtForm, StmtList};
-use py_code::{Instruction, NoMemory, PyText};
+use crate::emitter::Emitter;
+use crate::scope::Scope;
+use py_code::{Instruction, NoMemory, PyText, RaiseKind};
+use py_tree::{Atom, Expr, Operation};
 
 impl Emitter {
-    /// Adds the code of statements in order.
-    #[cycle(compile)]
-    pub fn compile_suite(&mut self, suite: &StmtList) -> Result<(), NoMemory>
-        requires room { HasRoom (parts_of self.old) (most_units * statements (suite_of suite.now)) }
-        requires takes { SuiteTakes (suite_of suite.now) }
-        requires width { self.old.width ≤ 3 }
-        ensures code { OnOk result (EmitsSuite self.old.width (parts_of self.old) (parts_of self.new) (suite_of suite.now)) }
-        ensures width { self.new.width ≡ self.old.width }
-    {
-        for stmt in suite.as_slice() {
-            self.compile_statement(&stmt.form, stmt.line)?;
-        }
-        Ok(())
-    }
-
-    /// Adds the code of a statement of a line.
-    #[cycle(compile)]
-    fn compile_statement(&mut self, form: &StmtForm, line: u32) -> Result<(), NoMemory>
-        requires room { HasRoom (parts_of self.old) (most_units * statements_in (form_of form.now)) }
-        requires takes { FormTakes (form_of form.now) }
-        requires width { self.old.width ≤ 3 }
-        ensures code { OnOk result (EmitsForm self.old.width (parts_of self.old) (parts_of self.new) (form_of form.now) line) }
-        ensures width { self.new.width ≡ self.old.width }
-    {
-        match form {
-            StmtForm::Assign(name, atom) => self.compile_assign(name, atom, line),
-            StmtForm::Operate(name, operator, atoms) => {
-                self.compile_operate(name, *operator, atoms, line)
-            }
-            StmtForm::Do(operator, atoms) => self.compile_do(*operator, atoms, line),
-            StmtForm::Show(atom) => self.compile_show(atom, line),
-            StmtForm::Return(atom) => self.compile_return(atom, line),
-            StmtForm::Pass => Ok(()),
-            StmtForm::If(atom, suite) => self.compile_branch(atom, suite, line),
-            StmtForm::IfElse(atom, suite, other) => self.compile_choice(atom, suite, other, line),
-            StmtForm::While(atom, suite) => self.compile_loop(atom, suite, line),
-        }
-    }
-
-    /// Adds a suite that is jumped over where an atom is false.
-    #[cycle(compile)]
-    fn compile_branch(&mut self, atom: &Atom, suite: &StmtList, line: u32) -> Result<(), NoMemory>
-        requires room { HasRoom (parts_of self.old) (most_units * statements_in (branch atom.now (suite_of suite.now))) }
-        requires takes { SuiteTakes (suite_of suite.now) }
-        requires width { self.old.width ≤ 3 }
-        ensures code { OnOk result (EmitsForm self.old.width (parts_of self.old) (parts_of self.new) (branch atom.now (suite_of suite.now)) line) }
-        ensures width { self.new.width ≡ self.old.width }
-    {
-        let skip = self.compile_test(atom, line)?;
-        self.compile_suite(suite)?;
-        let behind = self.place();
-        self.set_label(skip, behind);
-        Ok(())
-    }
-
-    /// Adds two suites, the second of which is jumped to where an atom is false, and jumped over behind the first.
-    #[cycle(compile)]
-    fn compile_choice(
-        &mut self,
-        atom: &Atom,
-        suite: &StmtList,
-        other: &StmtList,
-        line: u32,
-    ) -> Result<(), NoMemory>
-        requires room { HasRoom (parts_of self.old) (most_units * statements_in (choice atom.now (suite_of suite.now) (suite_of other.now))) }
-        requires takes { SuiteTakes (suite_of suite.now) × SuiteTakes (suite_of other.now) }
-        requires width { self.old.width ≤ 3 }
-        ensures code { OnOk result (EmitsForm self.old.width (parts_of self.old) (parts_of self.new) (choice atom.now (suite_of suite.now) (suite_of other.now)) line) }
-        ensures width { self.new.width ≡ self.old.width }
-    {
-        let skip = self.compile_test(atom, line)?;
-        self.compile_suite(suite)?;
-        let leave = self.emit_jump(Instruction::Jump, 0, line)?;
-        let second = self.place();
-        self.compile_suite(other)?;
-        let behind = self.place();
-        self.set_label(leave, behind);
-        self.set_label(skip, second);
-        Ok(())
-    }
-
-    /// Adds a suite that runs as long as an atom is true.
-    #[cycle(compile)]
-    fn compile_loop(&mut self, atom: &Atom, suite: &StmtList, line: u32) -> Result<(), NoMemory>
-        requires room { HasRoom (parts_of self.old) (most_units * statements_in (loop atom.now (suite_of suite.now))) }
-        requires takes { SuiteTakes (suite_of suite.now) }
-        requires width { self.old.width ≤ 3 }
-        ensures code { OnOk result (EmitsForm self.old.width (parts_of self.old) (parts_of self.new) (loop atom.now (suite_of suite.now)) line) }
-        ensures width { self.new.width ≡ self.old.width }
-    {
-        self.emit(Instruction::SetupLoop, 0, line)?;
-        let test = self.place();
-        let leave = self.compile_test(atom, line)?;
-        self.compile_suite(suite)?;
-        self.emit_jump(Instruction::Jump, test, line)?;
-        let end = self.place();
-        self.set_label(leave, end);
-        self.emit(Instruction::PopBlock, 0, line)
-    }
-
-    /// Adds a jump where an atom is false, whose label is still open. Gives its place.
-    fn compile_test(&mut self, atom: &Atom, line: u32) -> Result<u32, NoMemory>
-        requires room { HasRoom (parts_of self.old) 8 }
-        requires width { self.old.width ≤ 3 }
-        ensures test { IfOk result (λ at. EmitsTest self.old.width (parts_of self.old) (parts_of self.new) atom.now line at) }
-        ensures width { self.new.width ≡ self.old.width }
-    {
-        self.compile_atom(atom, line)?;
-        self.emit_jump(Instruction::JumpIfFalse, 0, line)
-    }
-
-    /// Adds `x = a`.
-    fn compile_assign(&mut self, name: &PyText, atom: &Atom, line: u32) -> Result<(), NoMemory>
-        requires { HasRoom (parts_of self.old) most_units }
-        ensures code { OnOk result (EmitsForm self.old.width (parts_of self.old) (parts_of self.new) (assign name.now atom.now) line) }
-        ensures width { self.new.width ≡ self.old.width }
-    {
-        self.compile_atom(atom, line)?;
-        self.emit_store(name, line)
-    }
-
-    /// Adds `x = (op a ..)`.
-    fn compile_operate(
+    /// Adds `x = e`.
+    pub fn compile_assign(
         &mut self,
         name: &PyText,
-        operator: Operator,
-        atoms: &AtomList,
+        expr: &Expr,
+        scope: &Scope,
         line: u32,
     ) -> Result<(), NoMemory>
-        requires room { HasRoom (parts_of self.old) most_units }
-        requires takes { takes_count operator (length atoms.now) ≡ true }
-        ensures code { OnOk result (EmitsForm self.old.width (parts_of self.old) (parts_of self.new) (operate (Some name.now) operator atoms.now) line) }
-        ensures width { self.new.width ≡ self.old.width }
+        requires fits { ExprFits expr.now }
+        requires low { (self.old.labels ≤ 3) × (self.old.others ≤ 3) }
+        requires depth { scope.now.depth ≤ 1000 }
+        ensures code { OnOk result (EmitsForm self.old.labels (draft_of self.old) (draft_of self.new) (scope_of scope.now) line (Assign name.now expr.now)) }
+        ensures widths { (self.new.labels ≡ self.old.labels) × (self.new.others ≡ self.old.others) }
     {
-        self.compile_operation(operator, atoms, line)?;
-        self.emit_store(name, line)
+        self.compile_expr(expr, scope, line)?;
+        self.put_local(Instruction::StoreFast, name, scope, 1, line)?;
+        Ok(())
     }
 
     /// Adds `do (op a ..)`.
-    fn compile_do(
+    pub fn compile_do(
         &mut self,
-        operator: Operator,
-        atoms: &AtomList,
+        operation: &Operation,
+        scope: &Scope,
         line: u32,
     ) -> Result<(), NoMemory>
-        requires room { HasRoom (parts_of self.old) most_units }
-        requires takes { takes_count operator (length atoms.now) ≡ true }
-        ensures code { OnOk result (EmitsForm self.old.width (parts_of self.old) (parts_of self.new) (operate None operator atoms.now) line) }
-        ensures width { self.new.width ≡ self.old.width }
+        requires fits { OperationFits operation.now }
+        requires low { (self.old.labels ≤ 3) × (self.old.others ≤ 3) }
+        requires depth { scope.now.depth ≤ 1000 }
+        ensures code { OnOk result (EmitsForm self.old.labels (draft_of self.old) (draft_of self.new) (scope_of scope.now) line (Do operation.now)) }
+        ensures widths { (self.new.labels ≡ self.old.labels) × (self.new.others ≡ self.old.others) }
     {
-        self.compile_operation(operator, atoms, line)?;
-        self.emit(Instruction::Pop, 0, line)
+        self.compile_operation(operation, scope, line)?;
+        self.put_plain(Instruction::Pop, 0, scope, 1, line)?;
+        Ok(())
     }
 
-    /// Adds `show a`.
-    fn compile_show(&mut self, atom: &Atom, line: u32) -> Result<(), NoMemory>
-        requires { HasRoom (parts_of self.old) most_units }
-        ensures code { OnOk result (EmitsForm self.old.width (parts_of self.old) (parts_of self.new) (show atom.now) line) }
-        ensures width { self.new.width ≡ self.old.width }
+    /// Adds an atom, and the instruction that takes it.
+    pub fn compile_taken(
+        &mut self,
+        atom: &Atom,
+        op: Instruction,
+        arg: u32,
+        scope: &Scope,
+        line: u32,
+    ) -> Result<(), NoMemory>
+        requires plain { is_prefix op ≡ false }
+        requires small { arg < 256 }
+        requires low { self.old.others ≤ 3 }
+        requires depth { scope.now.depth ≤ 1000 }
+        ensures code { OnOk result (EmitsTaken (draft_of self.old) (draft_of self.new) (scope_of scope.now) line atom.now op arg) }
+        ensures widths { (self.new.labels ≡ self.old.labels) × (self.new.others ≡ self.old.others) }
     {
-        self.compile_atom(atom, line)?;
-        self.emit(Instruction::PrintExpr, 0, line)
+        self.compile_atom(atom, scope, 0, line)?;
+        self.put_plain(op, arg, scope, 1, line)?;
+        Ok(())
     }
 
-    /// Adds `return a`.
-    fn compile_return(&mut self, atom: &Atom, line: u32) -> Result<(), NoMemory>
-        requires { HasRoom (parts_of self.old) most_units }
-        ensures code { OnOk result (EmitsForm self.old.width (parts_of self.old) (parts_of self.new) (give atom.now) line) }
-        ensures width { self.new.width ≡ self.old.width }
+    /// Adds `reraise`.
+    pub fn compile_reraise(&mut self, scope: &Scope, line: u32) -> Result<(), NoMemory>
+        requires low { (self.old.labels ≤ 3) × (self.old.others ≤ 3) }
+        requires depth { scope.now.depth ≤ 1000 }
+        ensures code { OnOk result (EmitsForm self.old.labels (draft_of self.old) (draft_of self.new) (scope_of scope.now) line Reraise) }
+        ensures widths { (self.new.labels ≡ self.old.labels) × (self.new.others ≡ self.old.others) }
     {
-        self.compile_atom(atom, line)?;
-        self.emit(Instruction::ReturnValue, 0, line)
+        self.put_raise(RaiseKind::Reraise, scope, 0, line)?;
+        Ok(())
+    }
+
+    /// Adds what raises an exception that lies on the stack, or the one that is handled.
+    pub fn put_raise(
+        &mut self,
+        kind: RaiseKind,
+        scope: &Scope,
+        above: u32,
+        line: u32,
+    ) -> Result<(), NoMemory>
+        requires depth { scope.now.depth + above ≤ 65535 }
+        ensures code { OnOk result (EmitsPlain (draft_of self.old) (draft_of self.new) (over above (scope_of scope.now)) line op.Raise (raise_number kind)) }
+        ensures widths { (self.new.labels ≡ self.old.labels) × (self.new.others ≡ self.old.others) }
+    {
+        self.put_plain(Instruction::Raise, kind.into(), scope, above, line)
+    }
+
+    /// Adds `break`, which stands inside of a loop.
+    pub fn compile_break(&mut self, scope: &Scope, line: u32) -> Result<(), NoMemory>
+        requires inside { is_inside (scope_of scope.now).around ≡ true }
+        requires low { (self.old.labels ≤ 3) × (self.old.others ≤ 3) }
+        requires depth { scope.now.depth ≤ 1000 }
+        ensures code { OnOk result (EmitsForm self.old.labels (draft_of self.old) (draft_of self.new) (scope_of scope.now) line Break) }
+        ensures widths { (self.new.labels ≡ self.old.labels) × (self.new.others ≡ self.old.others) }
+    {
+        match scope.around {
+            Some(labels) => self.put_jump(Instruction::Break, labels.stop, scope, 0, line),
+            None => unreachable!(),
+        }
+    }
+
+    /// Adds `continue`, which stands inside of a loop.
+    pub fn compile_continue(&mut self, scope: &Scope, line: u32) -> Result<(), NoMemory>
+        requires inside { is_inside (scope_of scope.now).around ≡ true }
+        requires low { (self.old.labels ≤ 3) × (self.old.others ≤ 3) }
+        requires depth { scope.now.depth ≤ 1000 }
+        ensures code { OnOk result (EmitsForm self.old.labels (draft_of self.old) (draft_of self.new) (scope_of scope.now) line Continue) }
+        ensures widths { (self.new.labels ≡ self.old.labels) × (self.new.others ≡ self.old.others) }
+    {
+        match scope.around {
+            Some(labels) => self.put_jump(Instruction::Continue, labels.again, scope, 0, line),
+            None => unreachable!(),
+        }
     }
 }

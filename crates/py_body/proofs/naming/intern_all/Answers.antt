@@ -1,4 +1,4 @@
-use Rattle.py_body.proofs.Placed.{Continues-trans}
+use Rattle.py_laid.proofs.BindingLemmas.{Continues-trans}
 use Rattle.py_body.proofs.NamingLemmas.{names_more}
 use Rattle.py_body.proofs.naming.intern_all.Goals as goal
 

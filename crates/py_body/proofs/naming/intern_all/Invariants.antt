@@ -1,6 +1,6 @@
 use Rattle.std.proofs.Common.{take}
-use Rattle.py_body.specs.Naming.{NamesAll}
-use Rattle.py_body.specs.Fits.{Continues}
+use Rattle.py_laid.specs.Naming.{NamesAll}
+use Rattle.py_laid.specs.Fits.{Continues}
 use Rattle.py_body.proofs.naming.intern_all.Given as goal
 
 abbrev pub invariant-loop-text : goal.invariant-loop-text

@@ -1,0 +1,225 @@
+use Rattle.std.proofs.Common.{◌≡◌, ◌+◌, ◌*◌, ◌<◌, ◌≤◌, ◌%◌, ◌^◌, ℕ, Bool, refl, sym, ap, ◌∙◌, subst, take, arith, rules}
+use Rattle.py_code.specs.declared.instruction.Instruction.TheVariants as op
+use Rattle.py_tree.specs.declared.stmt.Clause.{out-Clause}
+use Rattle.py_tree.specs.Tree.{Raise, Return, Show, If, IfElse, Suite, Clauses, TryExcept}
+use Rattle.py_tree.specs.Views.{clauses_of, form_of, suite_of}
+use Rattle.py_tree.specs.Suites.{list_clauses, list_suite}
+use Rattle.py_laid.specs.Code.{Scope, LaidTaken}
+use Rattle.py_tree.specs.Compilable.{ClausesFit, FormFits, SuiteFits, statements, statements_in, statements_under}
+use Rattle.py_body.specs.Sizes.{size_clauses, size_form, size_suite, size_tried}
+use Rattle.py_body.specs.Emitting.{draft_of, scope_of, is_inside, end_of, labels_of, EmitsClauses, EmitsSuite}
+use Rattle.py_body.proofs.Trees.{fits_at, statements_at, suite_more}
+use Rattle.py_body.proofs.SizeLemmas.{clauses_most, suite_most}
+use Rattle.py_body.proofs.StatementLemmas.{form_taken}
+use Rattle.py_body.proofs.BlockLemmas.{if_else_emits, if_emits, pass_emits, suite_add, suite_none, while_emits}
+use Rattle.py_body.proofs.ClauseTrees.{clause_fits_at, clause_statements_at, clauses_behind}
+use Rattle.py_body.proofs.ProtectedLemmas.{clause_emits, clauses_add, clauses_none, forgetting_emits, opening_emits, tried_emits, try_except_emits, try_finally_emits}
+use Rattle.py_body.proofs.emitter.Emitter.+compile.Goals as goal
+
+-- ---- suites
+
+pub compile_suite-loop-stmt-init : goal.compile_suite-loop-stmt-init
+compile_suite-loop-stmt-init t c = record { code = suite_none c.args.self.now.labels (draft_of c.args.self.now) (scope_of c.args.scope.now); labels = refl; others = refl }
+
+pub compile_suite-compile_form-requires : goal.compile_suite-compile_form-requires
+compile_suite-compile_form-requires t c =
+    let items = c.as_slice-stmt-items.result.now in
+    let i : ℕ = c.loop-stmt.stmt-index in
+    let one = statements_at items i c.stmt-item.result c.loop-stmt-test.true c.stmt-item.is in
+    let all : statements (suite_of c.args.suite.now) ≡ statements (list_suite items) = ap statements c.as_slice-stmt-items.ensures in
+    let smaller : 5 * statements_in (form_of c.stmt-item.result.form) < 5 * statements (suite_of c.args.suite.now) + 1 = omega (arith, one, all) in
+    let few : statements_in (form_of c.stmt-item.result.form) ≤ 1048576 = omega (arith, one, all, c.requires.few) in
+    let inner : Bool = is_inside (scope_of c.args.scope.now).around in
+    let fits : FormFits inner (form_of c.stmt-item.result.form) =
+    fits_at inner items i c.stmt-item.result c.loop-stmt-test.true c.stmt-item.is (subst (SuiteFits inner) c.as_slice-stmt-items.ensures c.requires.fits) in
+    let labels : c.loop-stmt.self.labels ≤ 3 = subst (λ (w : ℕ). w ≤ 3) (sym c.loop-stmt.invariant.labels) c.requires.low.0 in
+    let others : c.loop-stmt.self.others ≤ 3 = subst (λ (w : ℕ). w ≤ 3) (sym c.loop-stmt.invariant.others) c.requires.low.1 in
+    search rules
+
+pub compile_suite-loop-stmt-preserved : goal.compile_suite-loop-stmt-preserved
+compile_suite-loop-stmt-preserved t c =
+    let items = c.as_slice-stmt-items.result.now in
+    let i : ℕ = c.loop-stmt.stmt-index in
+    let scope : Scope = scope_of c.args.scope.now in
+    record {
+      code = subst (EmitsSuite c.args.self.now.labels (draft_of c.args.self.now) (draft_of c.compile_form.new.self) scope)
+          (sym (suite_more items i c.stmt-item.result c.loop-stmt-test.true c.stmt-item.is))
+          (suite_add scope (list_suite (take i items)) c.stmt-item.result.line (form_of c.stmt-item.result.form) c.loop-stmt.invariant.code c.in_ok-compile_form.ensures.code);
+      labels = c.in_ok-compile_form.ensures.widths.0 ∙ c.loop-stmt.invariant.labels;
+      others = c.in_ok-compile_form.ensures.widths.1 ∙ c.loop-stmt.invariant.others;
+    }
+
+pub compile_form-returns-in-Show-clause-code : goal.compile_form-returns-in-Show-clause-code
+compile_form-returns-in-Show-clause-code t c = rw c.in-Show.is (form_taken _ _ _ _ _ _ (Show c.in-Show.atom) _ _ _ (λ w. refl) (λ whole at next laid. laid) c.compile_taken.ensures.code)
+
+pub compile_form-returns-in-Return-clause-code : goal.compile_form-returns-in-Return-clause-code
+compile_form-returns-in-Return-clause-code t c = rw c.in-Return.is (form_taken _ _ _ _ _ _ (Return c.in-Return.atom) _ _ _ (λ w. refl) (λ whole at next laid. laid) c.compile_taken-in-Return.ensures.code)
+
+pub compile_form-returns-in-Raise-clause-code : goal.compile_form-returns-in-Raise-clause-code
+compile_form-returns-in-Raise-clause-code t c = rw c.in-Raise.is (form_taken _ _ _ c.args.self.now.labels (scope_of c.args.scope.now) c.args.line (Raise c.in-Raise.atom)
+    _ _ _ (λ w. refl) (λ whole at next laid. subst (λ (n : ℕ). LaidTaken whole (scope_of c.args.scope.now) c.args.line c.in-Raise.atom op.Raise n at next) c.into.ensures.0 laid) c.compile_taken-in-Raise.ensures.code)
+
+pub compile_form-returns-in-Pass-clause-code : goal.compile_form-returns-in-Pass-clause-code
+compile_form-returns-in-Pass-clause-code t c = rw c.in-Pass.is (pass_emits c.args.self.now.labels (draft_of c.args.self.now) (scope_of c.args.scope.now) c.args.line)
+
+-- ---- branches
+
+pub compile_if-size_of_suite-size-requires : goal.compile_if-size_of_suite-size-requires
+compile_if-size_of_suite-size-requires t c =
+    suite_most c.weights-weights.result c.args.self.now.labels c.args.self.now.others (is_inside (scope_of c.args.scope.now).around) (suite_of c.args.suite.now) c.weights-weights.ensures
+    c.requires.low.0 c.requires.low.1
+    c.requires.fits (omega (arith, c.requires.few))
+
+pub compile_if-returns-clause-code : goal.compile_if-returns-clause-code
+compile_if-returns-clause-code t c =
+    let old = draft_of c.args.self.now in
+    let suite : Suite = suite_of c.args.suite.now in
+    let sizes : c.size_of_suite-size.result ≡ size_suite c.weights-weights.result suite = c.size_of_suite-size.ensures.size in
+    if_emits (scope_of c.args.scope.now) c.args.line c.args.atom.now suite c.label-behind.result
+    (c.label-behind.ensures ∙ (λ k. (end_of old + (c.weights-weights.result.index + c.weights-weights.result.jump + sizes k)) % 2 ^ 32)
+    ∙ (λ k. (end_of old + size_form (c.weights-weights.ensures k) (If c.args.atom.now suite)) % 2 ^ 32))
+    c.in_ok-compile_atom.ensures.code c.in_ok-put_jump.ensures.code c.in_ok-compile_suite.ensures.code
+
+pub compile_if_else-size_of_suite-size-requires : goal.compile_if_else-size_of_suite-size-requires
+compile_if_else-size_of_suite-size-requires t c =
+    suite_most c.weights-weights.result c.args.self.now.labels c.args.self.now.others (is_inside (scope_of c.args.scope.now).around) (suite_of c.args.suite.now) c.weights-weights.ensures
+    c.requires.low.0 c.requires.low.1
+    c.requires.fits (omega (arith, c.requires.few))
+
+pub compile_if_else-size_of_suite-size_other-requires : goal.compile_if_else-size_of_suite-size_other-requires
+compile_if_else-size_of_suite-size_other-requires t c =
+    suite_most c.weights-weights.result c.args.self.now.labels c.args.self.now.others (is_inside (scope_of c.args.scope.now).around) (suite_of c.args.other.now) c.weights-weights.ensures
+    c.requires.low.0 c.requires.low.1
+    c.requires.fits_other (omega (arith, c.requires.few))
+
+pub compile_if_else-returns-clause-code : goal.compile_if_else-returns-clause-code
+compile_if_else-returns-clause-code t c =
+    let old = draft_of c.args.self.now in
+    let suite : Suite = suite_of c.args.suite.now in
+    let other : Suite = suite_of c.args.other.now in
+    let w = c.weights-weights.result in
+    let sizes : c.size_of_suite-size.result ≡ size_suite w suite = c.size_of_suite-size.ensures.size in
+    let others : c.size_of_suite-size_other.result ≡ size_suite w other = c.size_of_suite-size_other.ensures.size in
+    if_else_emits (scope_of c.args.scope.now) c.args.line c.args.atom.now suite other c.label-second.result c.label-behind.result
+    (c.label-second.ensures ∙ (λ k. (end_of old + (w.index + w.jump + sizes k + w.jump)) % 2 ^ 32)
+    ∙ (λ k. (end_of old + ((c.weights-weights.ensures k).index + (c.weights-weights.ensures k).jump + size_suite (c.weights-weights.ensures k) suite + (c.weights-weights.ensures k).jump)) % 2 ^ 32))
+    (c.label-behind.ensures ∙ (λ k. (end_of old + (w.index + w.jump + sizes k + w.jump + others k)) % 2 ^ 32)
+    ∙ (λ k. (end_of old + size_form (c.weights-weights.ensures k) (IfElse c.args.atom.now suite other)) % 2 ^ 32))
+    c.in_ok-compile_atom.ensures.code c.in_ok-put_jump.ensures.code c.in_ok-compile_suite.ensures.code c.in_ok-put_jump-2.ensures.code c.in_ok-compile_suite-2.ensures.code
+
+-- ---- loops
+
+pub compile_while-size_of_suite-size-requires : goal.compile_while-size_of_suite-size-requires
+compile_while-size_of_suite-size-requires t c =
+    suite_most c.weights-weights.result c.args.self.now.labels c.args.self.now.others _ (suite_of c.args.suite.now) c.weights-weights.ensures c.requires.low.0 c.requires.low.1 c.requires.fits
+    (omega (arith, c.requires.few))
+
+pub compile_rounds-returns-clause-code : goal.compile_rounds-returns-clause-code
+compile_rounds-returns-clause-code t c =
+    while_emits (scope_of c.args.scope.now) (scope_of c.args.inner.now) c.args.line c.args.atom.now (suite_of c.args.suite.now) (labels_of c.args.labels) c.args.end c.requires.inner
+    c.requires.again c.requires.stop
+    c.requires.end c.in_ok-put_plain.ensures.code c.in_ok-compile_atom.ensures.code c.in_ok-put_jump.ensures.code c.in_ok-compile_suite.ensures.code c.in_ok-put_jump-2.ensures.code
+    c.in_ok-put_plain-2.ensures.code
+
+-- ---- tries with a finally
+
+pub compile_opening-returns-clause-code : goal.compile_opening-returns-clause-code
+compile_opening-returns-clause-code t c =
+    opening_emits (scope_of c.args.scope.now) (scope_of c.in_ok-before.before) c.args.line (suite_of c.args.suite.now) c.args.handler c.in_ok-before.ensures c.in_ok-put_jump.ensures.code
+    c.in_ok-compile_suite.ensures.code
+    c.in_ok-put_plain.ensures.code c.in_ok-put_plain-2.ensures.code
+
+pub compile_try_finally-returns-clause-code : goal.compile_try_finally-returns-clause-code
+compile_try_finally-returns-clause-code t c =
+    try_finally_emits (scope_of c.args.scope.now) (scope_of c.in_ok-within.within) c.args.line (suite_of c.args.suite.now) (suite_of c.args.last.now) c.handler_label-handler.result
+    c.in_ok-within.ensures
+    c.handler_label-handler.ensures c.in_ok-compile_opening.ensures.code c.in_ok-compile_suite.ensures.code c.in_ok-put_plain.ensures.code
+
+pub compile_forgetting-returns-clause-code : goal.compile_forgetting-returns-clause-code
+compile_forgetting-returns-clause-code t c =
+    forgetting_emits (scope_of c.args.scope.now) (scope_of c.in_ok-within.within) c.args.line c.args.name.now (suite_of c.args.suite.now) c.handler_label-handler.result c.in_ok-within.ensures
+    c.handler_label-handler.ensures c.in_ok-compile_opening.ensures.code c.in_ok-put_forget.ensures.code c.in_ok-put_plain.ensures.code
+
+-- ---- tries with clauses
+
+pub compile_tried-returns-clause-code : goal.compile_tried-returns-clause-code
+compile_tried-returns-clause-code t c =
+    tried_emits (scope_of c.args.scope.now) (scope_of c.in_ok-inner.inner) c.args.line (suite_of c.args.suite.now) c.args.handler c.args.end c.in_ok-inner.ensures c.in_ok-put_jump.ensures.code
+    c.in_ok-compile_suite.ensures.code c.in_ok-put_plain.ensures.code c.in_ok-put_jump-2.ensures.code
+
+pub compile_try_except-size_of_suite-size-requires : goal.compile_try_except-size_of_suite-size-requires
+compile_try_except-size_of_suite-size-requires t c =
+    suite_most c.weights-weights.result c.args.self.now.labels c.args.self.now.others (is_inside (scope_of c.args.scope.now).around) (suite_of c.args.suite.now) c.weights-weights.ensures
+    c.requires.low.0 c.requires.low.1
+    c.requires.fits (omega (arith, c.requires.few))
+
+pub compile_try_except-size_of_clauses-size_clauses-requires : goal.compile_try_except-size_of_clauses-size_clauses-requires
+compile_try_except-size_of_clauses-size_clauses-requires t c =
+    clauses_most c.weights-weights.result c.args.self.now.labels c.args.self.now.others (is_inside (scope_of c.args.scope.now).around) (clauses_of c.args.clauses.now)
+    c.weights-weights.ensures c.requires.low.0
+    c.requires.low.1 c.requires.fits_clauses (omega (arith, c.requires.few))
+
+pub compile_try_except-returns-clause-code : goal.compile_try_except-returns-clause-code
+compile_try_except-returns-clause-code t c =
+    let old = draft_of c.args.self.now in
+    let suite : Suite = suite_of c.args.suite.now in
+    let clauses : Clauses = clauses_of c.args.clauses.now in
+    let w = c.weights-weights.result in
+    let sizes : c.size_of_suite-size.result ≡ size_suite w suite = c.size_of_suite-size.ensures.size in
+    let others : c.size_of_clauses-size_clauses.result ≡ size_clauses w clauses = c.size_of_clauses-size_clauses.ensures.size in
+    try_except_emits (scope_of c.args.scope.now) (scope_of c.in_ok-within.within) c.args.line suite clauses c.label-handler.result c.label-end.result c.in_ok-within.ensures
+    (c.label-handler.ensures ∙ (λ k. (end_of old + (w.jump + sizes k + w.plain + w.jump)) % 2 ^ 32) ∙ (λ k. (end_of old + size_tried (c.weights-weights.ensures k) suite) % 2 ^ 32))
+    (c.label-end.ensures ∙ (λ k. (end_of old + (w.jump + sizes k + w.plain + w.jump + others k + w.plain)) % 2 ^ 32)
+    ∙ (λ k. (end_of old + size_form (c.weights-weights.ensures k) (TryExcept suite clauses)) % 2 ^ 32))
+    c.in_ok-compile_tried.ensures.code c.in_ok-compile_clauses.ensures.code c.in_ok-put_raise.ensures.code
+
+pub compile_clauses-loop-clause-init : goal.compile_clauses-loop-clause-init
+compile_clauses-loop-clause-init t c = record { code = clauses_none c.args.self.now.labels (draft_of c.args.self.now) (scope_of c.args.scope.now) c.args.end; labels = refl; others = refl }
+
+pub compile_clauses-clause_label-other-requires-clause-few : goal.compile_clauses-clause_label-other-requires-clause-few
+compile_clauses-clause_label-other-requires-clause-few t c =
+    let items = c.as_slice-clause-items.result.now in
+    let one = clause_statements_at items c.loop-clause.clause-index c.clause-item.result c.loop-clause-test.true c.clause-item.is in
+    let all : statements_under (clauses_of c.args.clauses.now) ≡ statements_under (list_clauses items) = ap statements_under c.as_slice-clause-items.ensures in
+    omega (arith, one, all, c.requires.few)
+
+pub compile_clauses-clause_label-other-requires-clause-fits : goal.compile_clauses-clause_label-other-requires-clause-fits
+compile_clauses-clause_label-other-requires-clause-fits t c =
+    let inner : Bool = is_inside (scope_of c.args.scope.now).around in (
+      inner,
+      clause_fits_at inner c.as_slice-clause-items.result.now c.loop-clause.clause-index c.clause-item.result c.loop-clause-test.true c.clause-item.is
+          (subst (ClausesFit inner) c.as_slice-clause-items.ensures c.requires.fits),
+    )
+
+pub compile_clauses-compile_handler-requires : goal.compile_clauses-compile_handler-requires
+compile_clauses-compile_handler-requires t c =
+    let items = c.as_slice-clause-items.result.now in
+    let suite : Suite = suite_of (out-Clause c.clause-item.result).suite in
+    let one = clause_statements_at items c.loop-clause.clause-index c.clause-item.result c.loop-clause-test.true c.clause-item.is in
+    let all : statements_under (clauses_of c.args.clauses.now) ≡ statements_under (list_clauses items) = ap statements_under c.as_slice-clause-items.ensures in
+    let smaller : 5 * statements suite + 4 < 5 * statements_under (clauses_of c.args.clauses.now) + 2 = omega (arith, one, all) in
+    let few : statements suite ≤ 1048574 = omega (arith, one, all, c.requires.few) in
+    let inner : Bool = is_inside (scope_of c.args.scope.now).around in
+    let fits_outside : SuiteFits inner suite =
+    clause_fits_at inner items c.loop-clause.clause-index c.clause-item.result c.loop-clause-test.true c.clause-item.is (subst (ClausesFit inner) c.as_slice-clause-items.ensures c.requires.fits) in
+    let fits : SuiteFits (is_inside (scope_of c.args.within.now).around) suite = subst (λ (i : Scope). SuiteFits (is_inside i.around) suite) (sym c.requires.within) fits_outside in
+    let depth : c.args.within.now.depth ≤ 1000 = subst (λ (i : Scope). i.depth ≤ 1000) (sym c.requires.within) c.requires.depth in
+    let labels : c.put_match.new.self.labels ≤ 3 = subst (λ (w : ℕ). w ≤ 3) (sym (c.in_ok-put_match.ensures.widths.0 ∙ c.loop-clause.invariant.labels)) c.requires.low.0 in
+    let others : c.put_match.new.self.others ≤ 3 = subst (λ (w : ℕ). w ≤ 3) (sym (c.in_ok-put_match.ensures.widths.1 ∙ c.loop-clause.invariant.others)) c.requires.low.1 in
+    search rules
+
+pub compile_clauses-loop-clause-preserved : goal.compile_clauses-loop-clause-preserved
+compile_clauses-loop-clause-preserved t c =
+    let items = c.as_slice-clause-items.result.now in
+    let i : ℕ = c.loop-clause.clause-index in
+    let scope : Scope = scope_of c.args.scope.now in
+    let one = out-Clause c.clause-item.result in
+    record {
+      code = subst (EmitsClauses c.args.self.now.labels (draft_of c.args.self.now) (draft_of c.put_jump.new.self) scope c.args.end)
+          (sym (clauses_behind items i c.clause-item.result c.loop-clause-test.true c.clause-item.is))
+          (clauses_add scope c.args.end (list_clauses (take i items)) one.line one.class one.target (suite_of one.suite) c.loop-clause.invariant.code
+          (clause_emits scope (scope_of c.args.within.now) one.line one.class one.target (suite_of one.suite) c.clause_label-other.result c.args.end c.requires.within c.clause_label-other.ensures
+          c.in_ok-put_match.ensures.code c.in_ok-compile_handler.ensures.code c.in_ok-put_plain.ensures.code c.in_ok-put_jump.ensures.code));
+      labels = c.in_ok-put_jump.ensures.widths.0 ∙ c.in_ok-put_plain.ensures.widths.0 ∙ c.in_ok-compile_handler.ensures.widths.0 ∙ c.in_ok-put_match.ensures.widths.0 ∙ c.loop-clause.invariant.labels;
+      others = c.in_ok-put_jump.ensures.widths.1 ∙ c.in_ok-put_plain.ensures.widths.1 ∙ c.in_ok-compile_handler.ensures.widths.1 ∙ c.in_ok-put_match.ensures.widths.1 ∙ c.loop-clause.invariant.others;
+    }

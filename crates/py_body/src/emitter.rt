@@ -1,0 +1,283 @@
+//! The emitter: units with their lines and notes, and the constants and names that they refer to.
+
+ghost use Rattle.std.specs.Prelude.{◌≡◌, ◌+◌, ◌*◌, ◌%◌, ◌<◌, ◌≤◌, ◌^◌, ◌∷◌, ◌++◌, [], false, length, suc, max, replicate, IfOk, OnOk};
+ghost use Rattle.py_code.specs.declared.instruction.Instruction.TheVariants.{ExtendedArg};
+ghost use Rattle.py_code.specs.Units.{is_prefix};
+ghost use Rattle.py_check.specs.Constants.{has_code};
+ghost use Rattle.py_laid.specs.Code.{note_of, over};
+ghost use Rattle.py_tree.specs.declared.expr.Atom.TheVariants as Atom;
+ghost use Rattle.py_body.specs.Emitting.{blank, byte_of, draft_of, put, scope_of, spelled, weights_of, EmitsAtom, EmitsConst, EmitsJump, EmitsLocal, EmitsPlain};
+
+use crate::scope::{Scope, note_of};
+use crate::sizes::Weights;
+use py_check::NoteList;
+use py_code::{CodeUnit, Instruction, Literal, LiteralList, NameSet, NoMemory, PyText};
+use std::alloc::Global;
+
+/// What the code of a body is put together from.
+#[derive(Drop)]
+pub struct Emitter {
+    pub alloc: Global,
+    pub units: Vec<CodeUnit>,
+    /// The line of each unit.
+    pub locations: Vec<u32>,
+    /// The note of each unit.
+    pub notes: NoteList,
+    pub constants: LiteralList,
+    /// The names of the globals.
+    pub globals: NameSet,
+    pub locals: NameSet,
+    /// How many prefixes each label has, at most 3.
+    pub labels: u32,
+    /// How many prefixes each place of a constant, a name or a local has, at most 3.
+    pub others: u32,
+    /// The most values that a note speaks of.
+    pub deepest: u32,
+}
+
+impl Emitter {
+    /// Nothing is emitted yet.
+    pub fn new(alloc: Global, locals: NameSet, labels: u32, others: u32) -> Emitter
+        ensures parts { draft_of result ≡ blank locals labels others }
+    {
+        Emitter {
+            alloc,
+            units: Vec::new(alloc),
+            locations: Vec::new(alloc),
+            notes: NoteList::new(alloc),
+            constants: LiteralList::new(alloc),
+            globals: NameSet::new(alloc),
+            locals,
+            labels,
+            others,
+            deepest: 0,
+        }
+    }
+
+    /// How many units its instructions take.
+    pub fn weights(&self) -> Weights
+        requires { (self.now.labels ≤ 3) × (self.now.others ≤ 3) }
+        ensures { result ≡ weights_of (draft_of self.now) }
+    {
+        Weights {
+            jump: self.labels + 1,
+            index: self.others + 1,
+            plain: 1,
+        }
+    }
+
+    /// The label of the place that lies so many units behind what there is. It is cut to its 32 bits; no code is so long.
+    pub fn label(&self, size: u32) -> u32
+        ensures { result ≡ (length self.now.units.items + size) % 2 ^ 32 }
+    {
+        ((self.units.len() as u64 % (1 << 32) + u64::from(size)) % (1 << 32)) as u32
+    }
+
+    /// Adds an instruction whose operand fits a byte.
+    pub fn put_plain(
+        &mut self,
+        op: Instruction,
+        arg: u32,
+        scope: &Scope,
+        above: u32,
+        line: u32,
+    ) -> Result<(), NoMemory>
+        requires plain { is_prefix op ≡ false }
+        requires small { arg < 256 }
+        requires depth { scope.now.depth + above ≤ 65535 }
+        ensures code { OnOk result (EmitsPlain (draft_of self.old) (draft_of self.new) (over above (scope_of scope.now)) line op arg) }
+        ensures widths { (self.new.labels ≡ self.old.labels) × (self.new.others ≡ self.old.others) }
+    {
+        self.put(0, op, arg, scope, above, line)
+    }
+
+    /// Adds an instruction whose operand is a label.
+    pub fn put_jump(
+        &mut self,
+        op: Instruction,
+        label: u32,
+        scope: &Scope,
+        above: u32,
+        line: u32,
+    ) -> Result<(), NoMemory>
+        requires plain { is_prefix op ≡ false }
+        requires low { self.old.labels ≤ 3 }
+        requires depth { scope.now.depth + above ≤ 65535 }
+        ensures code { OnOk result (EmitsJump self.old.labels (draft_of self.old) (draft_of self.new) (over above (scope_of scope.now)) line op label) }
+        ensures widths { (self.new.labels ≡ self.old.labels) × (self.new.others ≡ self.old.others) }
+    {
+        self.put(self.labels, op, label, scope, above, line)
+    }
+
+    /// Adds an instruction whose operand is a new constant.
+    pub fn put_const(
+        &mut self,
+        op: Instruction,
+        literal: Literal,
+        scope: &Scope,
+        above: u32,
+        line: u32,
+    ) -> Result<(), NoMemory>
+        requires plain { is_prefix op ≡ false }
+        requires no_code { has_code literal ≡ false }
+        requires low { self.old.others ≤ 3 }
+        requires depth { scope.now.depth + above ≤ 65535 }
+        ensures code { OnOk result (EmitsConst (draft_of self.old) (draft_of self.new) (over above (scope_of scope.now)) line op literal) }
+        ensures widths { (self.new.labels ≡ self.old.labels) × (self.new.others ≡ self.old.others) }
+    {
+        let place = index_of(self.constants.len());
+        self.constants.push(literal)?;
+        self.put(self.others, op, place, scope, above, line)
+    }
+
+    /// Adds the load of a name, as a local or as a global.
+    pub fn put_load(
+        &mut self,
+        name: &PyText,
+        scope: &Scope,
+        above: u32,
+        line: u32,
+    ) -> Result<(), NoMemory>
+        requires low { self.old.others ≤ 3 }
+        requires depth { scope.now.depth + above ≤ 65535 }
+        ensures code { OnOk result (EmitsAtom (draft_of self.old) (draft_of self.new) (over above (scope_of scope.now)) line (Atom.Name name.now)) }
+        ensures widths { (self.new.labels ≡ self.old.labels) × (self.new.others ≡ self.old.others) }
+    {
+        if let Some(place) = self.locals.place(name) {
+            let local = index_of(place);
+            return self.put(
+                self.others,
+                Instruction::LoadFast,
+                local,
+                scope,
+                above,
+                line,
+            );
+        }
+        let place = self.globals.insert(name)?;
+        let global = index_of(place);
+        self.put(
+            self.others,
+            Instruction::LoadGlobal,
+            global,
+            scope,
+            above,
+            line,
+        )
+    }
+
+    /// Adds an instruction whose operand is a local.
+    pub fn put_local(
+        &mut self,
+        op: Instruction,
+        name: &PyText,
+        scope: &Scope,
+        above: u32,
+        line: u32,
+    ) -> Result<(), NoMemory>
+        requires plain { is_prefix op ≡ false }
+        requires low { self.old.others ≤ 3 }
+        requires depth { scope.now.depth + above ≤ 65535 }
+        ensures code { OnOk result (EmitsLocal (draft_of self.old) (draft_of self.new) (over above (scope_of scope.now)) line op name.now) }
+        ensures widths { (self.new.labels ≡ self.old.labels) × (self.new.others ≡ self.old.others) }
+    {
+        let place = self.locals.place(name).unwrap_or(self.locals.len());
+        let local = index_of(place);
+        self.put(self.others, op, local, scope, above, line)
+    }
+
+    /// Adds an instruction of a line with so many prefixes, in a scope with so many values more.
+    fn put(
+        &mut self,
+        width: u32,
+        op: Instruction,
+        arg: u32,
+        scope: &Scope,
+        above: u32,
+        line: u32,
+    ) -> Result<(), NoMemory>
+        requires width { width ≤ 3 }
+        requires depth { scope.now.depth + above ≤ 65535 }
+        ensures put { OnOk result (draft_of self.new ≡ put width op arg (over above (scope_of scope.now)) line (draft_of self.old)) }
+        ensures widths { (self.new.labels ≡ self.old.labels) × (self.new.others ≡ self.old.others) }
+    {
+        put_units(&mut self.units, width, op, arg)?;
+        put_line(&mut self.locations, width + 1, line)?;
+        put_note(self.alloc, &mut self.notes, width + 1, scope, above)?;
+        self.deepest = self.deepest.max(scope.depth + above);
+        Ok(())
+    }
+}
+
+/// The operand that a place is. It is cut to its 32 bits; no list is so long.
+fn index_of(place: usize) -> u32
+    ensures { result ≡ place % 2 ^ 32 }
+{
+    (place % (1 << 32)) as u32
+}
+
+/// Adds an instruction behind so many prefixes of its operand.
+fn put_units(
+    units: &mut Vec<CodeUnit>,
+    width: u32,
+    op: Instruction,
+    arg: u32,
+) -> Result<(), NoMemory>
+    requires { width ≤ 3 }
+    ensures { OnOk result (units.new.items ≡ units.old.items ++ spelled width op arg) }
+{
+    let byte = byte_of(width, arg);
+    if width == 0 {
+        units.push(CodeUnit { op, arg: byte })?;
+        return Ok(());
+    }
+    put_prefix(units, byte)?;
+    put_units(units, width - 1, op, arg)
+}
+
+/// Adds a prefix.
+fn put_prefix(units: &mut Vec<CodeUnit>, byte: u8) -> Result<(), NoMemory>
+    ensures { OnOk result (units.new.items ≡ units.old.items ++ record { op = ExtendedArg; arg = byte } ∷ []) }
+{
+    units.push(CodeUnit {
+        op: Instruction::ExtendedArg,
+        arg: byte,
+    })?;
+    Ok(())
+}
+
+/// The byte of an operand that has so many bytes behind it.
+fn byte_of(width: u32, arg: u32) -> u8
+    requires { width ≤ 3 }
+    ensures { result ≡ byte_of width arg }
+{
+    (arg / 256_u32.pow(width) % 256) as u8
+}
+
+/// Adds the line of so many units.
+fn put_line(locations: &mut Vec<u32>, count: u32, line: u32) -> Result<(), NoMemory>
+    ensures { OnOk result (locations.new.items ≡ locations.old.items ++ replicate count line) }
+{
+    for _unit in 0..count {
+        locations.push(line)?;
+    }
+    Ok(())
+}
+
+/// Adds the note of so many units.
+fn put_note(
+    alloc: Global,
+    notes: &mut NoteList,
+    count: u32,
+    scope: &Scope,
+    above: u32,
+) -> Result<(), NoMemory>
+    requires { scope.now.depth + above ≤ 65535 }
+    ensures { OnOk result (notes.new ≡ notes.old ++ replicate count (note_of (over above (scope_of scope.now)))) }
+{
+    for _unit in 0..count {
+        let note = note_of(alloc, scope, above)?;
+        notes.push(note)?;
+    }
+    Ok(())
+}

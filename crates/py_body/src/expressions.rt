@@ -1,0 +1,185 @@
+//! The code of expressions.
+
+ghost use Rattle.std.specs.Prelude.{◌≡◌, ◌+◌, ◌≤◌, ◌<◌, length, false, suc, OnOk};
+ghost use Rattle.py_code.specs.Units.{is_prefix};
+ghost use Rattle.py_check.specs.Constants.{has_code};
+ghost use Rattle.py_code.specs.declared.instruction.Instruction.TheVariants.{LoadConst};
+ghost use Rattle.py_tree.specs.declared.expr.Operation.TheVariants as operation;
+ghost use Rattle.py_laid.specs.Code.{over};
+ghost use Rattle.py_tree.specs.Compilable.{ExprFits, OperationFits};
+ghost use Rattle.py_body.specs.Emitting.{draft_of, scope_of, EmitsAtom, EmitsAtoms, EmitsConst, EmitsExpr, EmitsOperation, EmitsTwo};
+
+use crate::emitter::Emitter;
+use crate::scope::Scope;
+use py_code::{BinaryOperator, ComparisonOperator, Instruction, Literal, NoMemory};
+use py_tree::{Atom, AtomList, Expr, Operation};
+
+impl Emitter {
+    /// Adds the load of an atom.
+    pub fn compile_atom(
+        &mut self,
+        atom: &Atom,
+        scope: &Scope,
+        above: u32,
+        line: u32,
+    ) -> Result<(), NoMemory>
+        requires low { self.old.others ≤ 3 }
+        requires depth { scope.now.depth + above ≤ 65535 }
+        ensures code { OnOk result (EmitsAtom (draft_of self.old) (draft_of self.new) (over above (scope_of scope.now)) line atom.now) }
+        ensures widths { (self.new.labels ≡ self.old.labels) × (self.new.others ≡ self.old.others) }
+    {
+        match atom {
+            Atom::None => self.load_literal(Literal::None, scope, above, line),
+            Atom::Bool(truth) => self.load_literal(Literal::Bool(*truth), scope, above, line),
+            Atom::Int(number) => self.load_literal(Literal::Int(*number), scope, above, line),
+            Atom::Str(text) => {
+                let text = text.copy(self.alloc)?;
+                self.load_literal(Literal::Str(text), scope, above, line)
+            }
+            Atom::Name(name) => self.put_load(name, scope, above, line),
+        }
+    }
+
+    /// Adds the load of a constant.
+    fn load_literal(
+        &mut self,
+        literal: Literal,
+        scope: &Scope,
+        above: u32,
+        line: u32,
+    ) -> Result<(), NoMemory>
+        requires no_code { has_code literal ≡ false }
+        requires low { self.old.others ≤ 3 }
+        requires depth { scope.now.depth + above ≤ 65535 }
+        ensures code { OnOk result (EmitsConst (draft_of self.old) (draft_of self.new) (over above (scope_of scope.now)) line LoadConst literal) }
+        ensures widths { (self.new.labels ≡ self.old.labels) × (self.new.others ≡ self.old.others) }
+    {
+        self.put_const(Instruction::LoadConst, literal, scope, above, line)
+    }
+
+    /// Adds the loads of atoms in order, behind one value.
+    fn compile_atoms(&mut self, atoms: &AtomList, scope: &Scope, line: u32) -> Result<(), NoMemory>
+        requires few { length atoms.now ≤ 255 }
+        requires low { self.old.others ≤ 3 }
+        requires depth { scope.now.depth ≤ 1000 }
+        ensures code { OnOk result (EmitsAtoms (draft_of self.old) (draft_of self.new) (over 1 (scope_of scope.now)) line atoms.now) }
+        ensures widths { (self.new.labels ≡ self.old.labels) × (self.new.others ≡ self.old.others) }
+    {
+        let mut above = 1;
+        for atom in atoms.as_slice() {
+            self.compile_atom(atom, scope, above, line)?;
+            above += 1;
+        }
+        Ok(())
+    }
+
+    /// Adds two atoms, and the instruction that takes them.
+    fn compile_two(
+        &mut self,
+        left: &Atom,
+        right: &Atom,
+        op: Instruction,
+        arg: u32,
+        scope: &Scope,
+        line: u32,
+    ) -> Result<(), NoMemory>
+        requires plain { is_prefix op ≡ false }
+        requires small { arg < 256 }
+        requires low { self.old.others ≤ 3 }
+        requires depth { scope.now.depth ≤ 1000 }
+        ensures code { OnOk result (EmitsTwo (draft_of self.old) (draft_of self.new) (scope_of scope.now) line left.now right.now op arg) }
+        ensures widths { (self.new.labels ≡ self.old.labels) × (self.new.others ≡ self.old.others) }
+    {
+        self.compile_atom(left, scope, 0, line)?;
+        self.compile_atom(right, scope, 1, line)?;
+        self.put_plain(op, arg, scope, 2, line)?;
+        Ok(())
+    }
+
+    /// Adds the call of a callee with arguments.
+    fn compile_call(
+        &mut self,
+        callee: &Atom,
+        atoms: &AtomList,
+        scope: &Scope,
+        line: u32,
+    ) -> Result<(), NoMemory>
+        requires few { length atoms.now ≤ 255 }
+        requires low { self.old.others ≤ 3 }
+        requires depth { scope.now.depth ≤ 1000 }
+        ensures code { OnOk result (EmitsOperation (draft_of self.old) (draft_of self.new) (scope_of scope.now) line (operation.Call callee.now atoms.now)) }
+        ensures widths { (self.new.labels ≡ self.old.labels) × (self.new.others ≡ self.old.others) }
+    {
+        self.compile_atom(callee, scope, 0, line)?;
+        self.compile_atoms(atoms, scope, line)?;
+        let count = atoms.len() as u32;
+        self.put_plain(
+            Instruction::CallFunctionPositional,
+            count,
+            scope,
+            count + 1,
+            line,
+        )?;
+        Ok(())
+    }
+
+    /// Adds an operator with its operands.
+    pub fn compile_operation(
+        &mut self,
+        operation: &Operation,
+        scope: &Scope,
+        line: u32,
+    ) -> Result<(), NoMemory>
+        requires fits { OperationFits operation.now }
+        requires low { self.old.others ≤ 3 }
+        requires depth { scope.now.depth ≤ 1000 }
+        ensures code { OnOk result (EmitsOperation (draft_of self.old) (draft_of self.new) (scope_of scope.now) line operation.now) }
+        ensures widths { (self.new.labels ≡ self.old.labels) × (self.new.others ≡ self.old.others) }
+    {
+        let binary = Instruction::BinaryOperation;
+        let comparison = Instruction::CompareOperation;
+        match operation {
+            Operation::Add(a, b) => {
+                self.compile_two(a, b, binary, BinaryOperator::Add.into(), scope, line)
+            }
+            Operation::Sub(a, b) => {
+                self.compile_two(a, b, binary, BinaryOperator::Subtract.into(), scope, line)
+            }
+            Operation::Lt(a, b) => {
+                self.compile_two(
+                    a,
+                    b,
+                    comparison,
+                    ComparisonOperator::Less.into(),
+                    scope,
+                    line,
+                )
+            }
+            Operation::Eq(a, b) => {
+                self.compile_two(
+                    a,
+                    b,
+                    comparison,
+                    ComparisonOperator::Equal.into(),
+                    scope,
+                    line,
+                )
+            }
+            Operation::Call(callee, atoms) => self.compile_call(callee, atoms, scope, line),
+        }
+    }
+
+    /// Adds an expression.
+    pub fn compile_expr(&mut self, expr: &Expr, scope: &Scope, line: u32) -> Result<(), NoMemory>
+        requires fits { ExprFits expr.now }
+        requires low { self.old.others ≤ 3 }
+        requires depth { scope.now.depth ≤ 1000 }
+        ensures code { OnOk result (EmitsExpr (draft_of self.old) (draft_of self.new) (scope_of scope.now) line expr.now) }
+        ensures widths { (self.new.labels ≡ self.old.labels) × (self.new.others ≡ self.old.others) }
+    {
+        match expr {
+            Expr::Atom(atom) => self.compile_atom(atom, scope, 0, line),
+            Expr::Operation(operation) => self.compile_operation(operation, scope, line),
+        }
+    }
+}

@@ -1,0 +1,273 @@
+//! The code of tries: with a finally, and with clauses.
+
+ghost use Rattle.std.specs.Prelude.{◌≡◌, ◌+◌, ◌%◌, ◌≤◌, ◌^◌, Bool, Some, OnOk};
+ghost use Rattle.py_laid.specs.Code.{in_clauses};
+ghost use Rattle.py_tree.specs.Tree.{TryExcept, TryFinally};
+ghost use Rattle.py_tree.specs.Views.{clauses_of, suite_of};
+ghost use Rattle.py_tree.specs.Compilable.{ClausesFit, SuiteFits, statements, statements_under};
+ghost use Rattle.py_body.specs.Sizes.{size_clause, size_opening, size_suite};
+ghost use Rattle.py_body.specs.Emitting.{draft_of, end_of, is_inside, scope_of, weights_of, EmitsClauses, EmitsForget, EmitsForm, EmitsHandler, EmitsMatch, EmitsOpening, EmitsTarget, EmitsTried};
+
+use crate::emitter::Emitter;
+use crate::scope::{Scope, before_finally, in_clauses, in_finally, in_try};
+use crate::sizes::{size_of_clause, size_of_clauses, size_of_suite};
+use py_code::{Instruction, Literal, NoMemory, PyText, RaiseKind, TestOperator};
+use py_tree::{ClauseList, StmtList};
+
+impl Emitter {
+    /// Adds a try with a finally.
+    #[cycle(compile)]
+    pub fn compile_try_finally(
+        &mut self,
+        suite: &StmtList,
+        last: &StmtList,
+        scope: &Scope,
+        line: u32,
+    ) -> Result<(), NoMemory>
+        requires few { statements (suite_of suite.now) + statements (suite_of last.now) ≤ 1048575 }
+        requires fits { SuiteFits (is_inside (scope_of scope.now).around) (suite_of suite.now) }
+        requires fits_last { SuiteFits (is_inside (scope_of scope.now).around) (suite_of last.now) }
+        requires low { (self.old.labels ≤ 3) × (self.old.others ≤ 3) }
+        requires depth { scope.now.depth ≤ 1000 }
+        ensures code { OnOk result (EmitsForm self.old.labels (draft_of self.old) (draft_of self.new) (scope_of scope.now) line (TryFinally (suite_of suite.now) (suite_of last.now))) }
+        ensures widths { (self.new.labels ≡ self.old.labels) × (self.new.others ≡ self.old.others) }
+    {
+        let handler = self.handler_label(suite);
+        self.compile_opening(suite, scope, handler, line)?;
+        let within = in_finally(self.alloc, scope)?;
+        self.compile_suite(last, &within)?;
+        self.put_plain(Instruction::EndFinally, 0, &within, 0, line)?;
+        Ok(())
+    }
+
+    /// The label of the finally of a try with this suite, which begins here.
+    fn handler_label(&self, suite: &StmtList) -> u32
+        requires few { statements (suite_of suite.now) ≤ 1048575 }
+        requires fits { (in_loop : Bool) × SuiteFits in_loop (suite_of suite.now) }
+        requires low { (self.now.labels ≤ 3) × (self.now.others ≤ 3) }
+        ensures { result ≡ (end_of (draft_of self.now) + size_opening (weights_of (draft_of self.now)) (size_suite (weights_of (draft_of self.now)) (suite_of suite.now))) % 2 ^ 32 }
+    {
+        let weights = self.weights();
+        let size = size_of_suite(weights, suite);
+        self.label(weights.jump + size + weights.plain + weights.plain)
+    }
+
+    /// Adds a try with a finally, up to the finally, whose label is given.
+    #[cycle(compile)]
+    fn compile_opening(
+        &mut self,
+        suite: &StmtList,
+        scope: &Scope,
+        handler: u32,
+        line: u32,
+    ) -> Result<(), NoMemory>
+        requires few { statements (suite_of suite.now) ≤ 1048575 }
+        requires fits { SuiteFits (is_inside (scope_of scope.now).around) (suite_of suite.now) }
+        requires low { (self.old.labels ≤ 3) × (self.old.others ≤ 3) }
+        requires depth { scope.now.depth ≤ 1000 }
+        ensures code { OnOk result (EmitsOpening self.old.labels (draft_of self.old) (draft_of self.new) (scope_of scope.now) line (suite_of suite.now) handler) }
+        ensures widths { (self.new.labels ≡ self.old.labels) × (self.new.others ≡ self.old.others) }
+    {
+        self.put_jump(Instruction::SetupFinally, handler, scope, 0, line)?;
+        let before = before_finally(self.alloc, scope, handler)?;
+        self.compile_suite(suite, &before)?;
+        self.put_plain(Instruction::PopBlock, 0, &before, 0, line)?;
+        self.put_plain(Instruction::EnterFinally, 0, scope, 0, line)?;
+        Ok(())
+    }
+
+    /// Adds what unsets a local, whether it was set or not.
+    fn put_forget(&mut self, name: &PyText, scope: &Scope, line: u32) -> Result<(), NoMemory>
+        requires low { (self.old.labels ≤ 3) × (self.old.others ≤ 3) }
+        requires depth { scope.now.depth ≤ 1000 }
+        ensures code { OnOk result (EmitsForget (draft_of self.old) (draft_of self.new) (scope_of scope.now) line name.now) }
+        ensures widths { (self.new.labels ≡ self.old.labels) × (self.new.others ≡ self.old.others) }
+    {
+        self.put_const(Instruction::LoadConst, Literal::None, scope, 0, line)?;
+        self.put_local(Instruction::StoreFast, name, scope, 1, line)?;
+        self.put_local(Instruction::DeleteFast, name, scope, 0, line)?;
+        Ok(())
+    }
+
+    /// Adds a try with clauses.
+    #[cycle(compile)]
+    pub fn compile_try_except(
+        &mut self,
+        suite: &StmtList,
+        clauses: &ClauseList,
+        scope: &Scope,
+        line: u32,
+    ) -> Result<(), NoMemory>
+        requires few { statements (suite_of suite.now) + statements_under (clauses_of clauses.now) ≤ 1048575 }
+        requires fits { SuiteFits (is_inside (scope_of scope.now).around) (suite_of suite.now) }
+        requires fits_clauses { ClausesFit (is_inside (scope_of scope.now).around) (clauses_of clauses.now) }
+        requires low { (self.old.labels ≤ 3) × (self.old.others ≤ 3) }
+        requires depth { scope.now.depth ≤ 1000 }
+        ensures code { OnOk result (EmitsForm self.old.labels (draft_of self.old) (draft_of self.new) (scope_of scope.now) line (TryExcept (suite_of suite.now) (clauses_of clauses.now))) }
+        ensures widths { (self.new.labels ≡ self.old.labels) × (self.new.others ≡ self.old.others) }
+    {
+        let weights = self.weights();
+        let size = size_of_suite(weights, suite);
+        let size_clauses = size_of_clauses(weights, clauses);
+        let before = weights.jump + size + weights.plain + weights.jump;
+        let handler = self.label(before);
+        let end = self.label(before + size_clauses + weights.plain);
+        self.compile_tried(suite, scope, handler, end, line)?;
+        let within = in_clauses(self.alloc, scope)?;
+        self.compile_clauses(clauses, scope, &within, end)?;
+        self.put_raise(RaiseKind::Reraise, &within, 1, line)?;
+        Ok(())
+    }
+
+    /// Adds the body of a try with clauses, which are jumped over from its end.
+    #[cycle(compile)]
+    fn compile_tried(
+        &mut self,
+        suite: &StmtList,
+        scope: &Scope,
+        handler: u32,
+        end: u32,
+        line: u32,
+    ) -> Result<(), NoMemory>
+        requires few { statements (suite_of suite.now) ≤ 1048575 }
+        requires fits { SuiteFits (is_inside (scope_of scope.now).around) (suite_of suite.now) }
+        requires low { (self.old.labels ≤ 3) × (self.old.others ≤ 3) }
+        requires depth { scope.now.depth ≤ 1000 }
+        ensures code { OnOk result (EmitsTried self.old.labels (draft_of self.old) (draft_of self.new) (scope_of scope.now) line (suite_of suite.now) handler end) }
+        ensures widths { (self.new.labels ≡ self.old.labels) × (self.new.others ≡ self.old.others) }
+    {
+        self.put_jump(Instruction::SetupExcept, handler, scope, 0, line)?;
+        let inner = in_try(self.alloc, scope, handler)?;
+        self.compile_suite(suite, &inner)?;
+        self.put_plain(Instruction::PopBlock, 0, &inner, 0, line)?;
+        self.put_jump(Instruction::Jump, end, scope, 0, line)?;
+        Ok(())
+    }
+
+    /// Adds clauses, whose suites are left for a label.
+    #[cycle(compile)]
+    fn compile_clauses(
+        &mut self,
+        clauses: &ClauseList,
+        scope: &Scope,
+        within: &Scope,
+        end: u32,
+    ) -> Result<(), NoMemory>
+        requires few { statements_under (clauses_of clauses.now) ≤ 1048575 }
+        requires fits { ClausesFit (is_inside (scope_of scope.now).around) (clauses_of clauses.now) }
+        requires within { scope_of within.now ≡ in_clauses (scope_of scope.now) }
+        requires low { (self.old.labels ≤ 3) × (self.old.others ≤ 3) }
+        requires depth { scope.now.depth ≤ 1000 }
+        ensures code { OnOk result (EmitsClauses self.old.labels (draft_of self.old) (draft_of self.new) (scope_of scope.now) end (clauses_of clauses.now)) }
+        ensures widths { (self.new.labels ≡ self.old.labels) × (self.new.others ≡ self.old.others) }
+    {
+        for clause in clauses.as_slice() {
+            let line = clause.line;
+            let other = self.clause_label(&clause.target, &clause.suite);
+            self.put_match(&clause.class, &clause.target, within, other, line)?;
+            self.compile_handler(&clause.target, &clause.suite, within, line)?;
+            self.put_plain(Instruction::PopException, 0, within, 0, line)?;
+            self.put_jump(Instruction::Jump, end, scope, 0, line)?;
+        }
+        Ok(())
+    }
+
+    /// The label behind a clause with this target and suite, which begins here.
+    fn clause_label(&self, target: &Option<PyText>, suite: &StmtList) -> u32
+        requires few { statements (suite_of suite.now) ≤ 1048574 }
+        requires fits { (in_loop : Bool) × SuiteFits in_loop (suite_of suite.now) }
+        requires low { (self.now.labels ≤ 3) × (self.now.others ≤ 3) }
+        ensures { result ≡ (end_of (draft_of self.now) + size_clause (weights_of (draft_of self.now)) target.now (size_suite (weights_of (draft_of self.now)) (suite_of suite.now))) % 2 ^ 32 }
+    {
+        let weights = self.weights();
+        let body = size_of_suite(weights, suite);
+        self.label(size_of_clause(weights, target, body))
+    }
+
+    /// Adds the test whether a clause matches, from which another label is jumped to where it doesn't, and what binds its name.
+    fn put_match(
+        &mut self,
+        class: &PyText,
+        target: &Option<PyText>,
+        within: &Scope,
+        other: u32,
+        line: u32,
+    ) -> Result<(), NoMemory>
+        requires low { (self.old.labels ≤ 3) × (self.old.others ≤ 3) }
+        requires depth { within.now.depth ≤ 1000 }
+        ensures code { OnOk result (EmitsMatch self.old.labels (draft_of self.old) (draft_of self.new) (scope_of within.now) line class.now target.now other) }
+        ensures widths { (self.new.labels ≡ self.old.labels) × (self.new.others ≡ self.old.others) }
+    {
+        let test = TestOperator::ExceptionMatch;
+        self.put_plain(Instruction::Duplicate, 0, within, 1, line)?;
+        self.put_load(class, within, 2, line)?;
+        self.put_plain(Instruction::TestOperation, test.into(), within, 3, line)?;
+        self.put_jump(Instruction::JumpIfFalse, other, within, 2, line)?;
+        self.put_target(target, within, line)?;
+        Ok(())
+    }
+
+    /// Adds what binds a value to a name, or drops it.
+    fn put_target(
+        &mut self,
+        target: &Option<PyText>,
+        scope: &Scope,
+        line: u32,
+    ) -> Result<(), NoMemory>
+        requires low { (self.old.labels ≤ 3) × (self.old.others ≤ 3) }
+        requires depth { scope.now.depth ≤ 1000 }
+        ensures code { OnOk result (EmitsTarget (draft_of self.old) (draft_of self.new) (scope_of scope.now) line target.now) }
+        ensures widths { (self.new.labels ≡ self.old.labels) × (self.new.others ≡ self.old.others) }
+    {
+        match target {
+            None => self.put_plain(Instruction::Pop, 0, scope, 1, line),
+            Some(name) => self.put_local(Instruction::StoreFast, name, scope, 1, line),
+        }
+    }
+
+    /// Adds the suite of a clause, behind which a name that the clause binds is forgotten.
+    #[cycle(compile)]
+    fn compile_handler(
+        &mut self,
+        target: &Option<PyText>,
+        suite: &StmtList,
+        scope: &Scope,
+        line: u32,
+    ) -> Result<(), NoMemory>
+        requires few { statements (suite_of suite.now) ≤ 1048574 }
+        requires fits { SuiteFits (is_inside (scope_of scope.now).around) (suite_of suite.now) }
+        requires low { (self.old.labels ≤ 3) × (self.old.others ≤ 3) }
+        requires depth { scope.now.depth ≤ 1000 }
+        ensures code { OnOk result (EmitsHandler self.old.labels (draft_of self.old) (draft_of self.new) (scope_of scope.now) line target.now (suite_of suite.now)) }
+        ensures widths { (self.new.labels ≡ self.old.labels) × (self.new.others ≡ self.old.others) }
+    {
+        match target {
+            None => self.compile_suite(suite, scope),
+            Some(name) => self.compile_forgetting(name, suite, scope, line),
+        }
+    }
+
+    /// Adds the suite of a clause that binds a name.
+    #[cycle(compile)]
+    fn compile_forgetting(
+        &mut self,
+        name: &PyText,
+        suite: &StmtList,
+        scope: &Scope,
+        line: u32,
+    ) -> Result<(), NoMemory>
+        requires few { statements (suite_of suite.now) ≤ 1048574 }
+        requires fits { SuiteFits (is_inside (scope_of scope.now).around) (suite_of suite.now) }
+        requires low { (self.old.labels ≤ 3) × (self.old.others ≤ 3) }
+        requires depth { scope.now.depth ≤ 1000 }
+        ensures code { OnOk result (EmitsHandler self.old.labels (draft_of self.old) (draft_of self.new) (scope_of scope.now) line (Some name.now) (suite_of suite.now)) }
+        ensures widths { (self.new.labels ≡ self.old.labels) × (self.new.others ≡ self.old.others) }
+    {
+        let handler = self.handler_label(suite);
+        self.compile_opening(suite, scope, handler, line)?;
+        let within = in_finally(self.alloc, scope)?;
+        self.put_forget(name, &within, line)?;
+        self.put_plain(Instruction::EndFinally, 0, &within, 0, line)?;
+        Ok(())
+    }
+}

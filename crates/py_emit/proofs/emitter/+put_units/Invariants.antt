@@ -1,4 +1,0 @@
-use Rattle.py_emit.proofs.emitter.+put_units.Given as goal
-
-abbrev pub decreases-put_units : goal.decreases-put_units
-decreases-put_units l = l.width

@@ -1,6 +1,0 @@
-use Rattle.py_emit.specs.Emitting.{scope_of}
-use Rattle.py_emit.proofs.StatementLemmas.{reraise_emits}
-use Rattle.py_emit.proofs.emitter.Emitter.compile_reraise.Goals as goal
-
-pub returns-clause-code : goal.returns-clause-code
-returns-clause-code c = reraise_emits c.args.self.now.labels (scope_of c.args.scope.now) c.args.line c.in_ok-put_raise.ensures.code

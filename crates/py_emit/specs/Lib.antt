@@ -1,8 +1,0 @@
--- which bodies can be compiled
-pub mod Compilable
--- how many units the code of each form takes
-pub mod Sizes
--- what the functions of the compiler promise each other
-pub mod Emitting
--- what holds of each of the codes of a body
-pub mod Codes
