@@ -5,10 +5,12 @@ mod Texts
 mod Comments
 -- what readers find, and what they don't
 mod Finds
+mod Finders
 mod Eachs
 mod Operations
 -- lines by their tokens
 mod Classes
 mod OneToOne
-mod Readings
+mod Totals
+pub mod Readings
 mod WorkedLemmas

@@ -44,11 +44,15 @@ atom_back (atom.Bool true) = refl
 atom_back (atom.Bool false) = refl
 atom_back a = refl
 
+-- a token that is read back as no atom
+pub no_atom : (t : Meaning) → token_atom t ≡ None → (a : Atom) → t ≢ atom_token a
+no_atom t none a e = let h : None ≡ Some a = sym none ∙ ap token_atom e ∙ atom_back a in cc h
+
 same_atom : (a b : Atom) → atom_token a ≡ atom_token b → a ≡ b
 same_atom a b e = let h : Some a ≡ Some b = sym (atom_back a) ∙ ap token_atom e ∙ atom_back b in cc h
 
 -- the argument of a drive that prints a token
-abbrev token_drive : Meaning → Option DriveAtom
+abbrev pub token_drive : Meaning → Option DriveAtom
 token_drive (Key keyword.None) = Some drive.None
 token_drive (Key keyword.True) = Some (drive.Bool true)
 token_drive (Key keyword.False) = Some (drive.Bool false)
@@ -62,6 +66,9 @@ drive_back : (a : DriveAtom) → token_drive (drive_token a) ≡ Some a
 drive_back (drive.Bool true) = refl
 drive_back (drive.Bool false) = refl
 drive_back a = refl
+
+pub no_drive_atom : (t : Meaning) → token_drive t ≡ None → (a : DriveAtom) → t ≢ drive_token a
+no_drive_atom t none a e = let h : None ≡ Some a = sym none ∙ ap token_drive e ∙ drive_back a in cc h
 
 same_drive_atom : (a b : DriveAtom) → drive_token a ≡ drive_token b → a ≡ b
 same_drive_atom a b e = let h : Some a ≡ Some b = sym (drive_back a) ∙ ap token_drive e ∙ drive_back b in cc h

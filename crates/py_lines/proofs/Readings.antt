@@ -13,7 +13,9 @@ use Rattle.py_lines.specs.Reading.{meanings, are_none, says_nothing, IsReadAs}
 use Rattle.py_lines.specs.Tokens.{Lexeme, is_blank, cut_from, Between, Inside, tokens_of}
 use Rattle.py_lines.specs.Words.{number_of, passing}
 use Rattle.py_lines.proofs.Classes.{no_class, tokens_class}
+use Rattle.py_lines.proofs.Finders.{Finds, Found, Missing}
 use Rattle.py_lines.proofs.OneToOne.{same_line}
+use Rattle.py_lines.proofs.Totals.{find_line}
 
 -- what begins with # is no number
 no_digits : (p : Bool) (n : ℕ) → passing in_range (option_map pos (if p && false then Some n else None)) ≡ None
@@ -76,3 +78,12 @@ one_way bytes (Said l) Malformed h k = absurd (k.1 l h)
 one_way bytes Malformed Blank h k = let e : true ≡ false = sym k ∙ h.0 in cc e
 one_way bytes Malformed (Said m) h k = absurd (h.1 m k)
 one_way bytes Malformed Malformed h k = refl
+
+-- all bytes read in some way
+pub some_way : (bytes : List ℕ) → (r : LineRead) × IsReadAs bytes r
+some_way bytes = go (says_nothing bytes) refl (find_line (meanings bytes))
+  where
+    go : (p : Bool) → says_nothing bytes ≡ p → Finds line_tokens (meanings bytes) → (r : LineRead) × IsReadAs bytes r
+    go true nothing found = (Blank, nothing)
+    go false something (Found l e) = (Said l, e)
+    go false something (Missing none) = (Malformed, (something, none))

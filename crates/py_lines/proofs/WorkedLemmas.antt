@@ -1,15 +1,14 @@
 -- How small lines read, by computing their tokens.
-use Rattle.std.proofs.Common.{◌≡◌, ◌≢◌, [], ◌∷◌, Some, None, refl, ap, ◌∙◌}
+use Rattle.std.proofs.Common.{◌≢◌, [], ◌∷◌, refl}
 use Rattle.std.specs.Prelude.{codes, pos}
-use Rattle.py_tree.specs.declared.expr.Atom.{Atom}
 use Rattle.py_lines.specs.declared.keyword.Keyword.TheVariants as keyword
 use Rattle.py_lines.specs.declared.plain.Plain.{Plain}
 use Rattle.py_lines.specs.declared.plain.Plain.TheVariants as plain
 use Rattle.py_lines.specs.Meaning.{Equals, Key, Word, Number, Unknown}
-use Rattle.py_lines.specs.Printing.{atom_token, plain_tokens}
+use Rattle.py_lines.specs.Printing.{plain_tokens}
 use Rattle.py_lines.specs.Worked.{AddIsAName, CallIsADrive, CallIsAName, KeywordIsNoName, NoLargeNumber, NothingBehind, NothingIsBlank}
 use Rattle.py_lines.proofs.Classes.{no_plain}
-use Rattle.py_lines.proofs.OneToOne.{atom_back, token_atom}
+use Rattle.py_lines.proofs.OneToOne.{no_atom}
 
 pub call_is_a_name : CallIsAName
 call_is_a_name = refl
@@ -40,9 +39,6 @@ nothing_behind = (refl, no_plain _ refl plains)
 pub no_large_number : NoLargeNumber
 no_large_number = (refl, no_plain _ refl plains)
   where
-    no_atom : (a : Atom) → Unknown ≢ atom_token a
-    no_atom a e = let h : None ≡ Some a = ap token_atom e ∙ atom_back a in cc h
-
     plains : (p : Plain) → Key keyword.Return ∷ Unknown ∷ [] ≢ plain_tokens p
-    plains (plain.Return a) e = no_atom a (cc)
+    plains (plain.Return a) e = no_atom Unknown refl a (cc)
     plains p e = cc

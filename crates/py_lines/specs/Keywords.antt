@@ -1,6 +1,6 @@
 -- The words of the language, which are no names.
-use Rattle.std.specs.Prelude.{ℕ, List, [], ◌∷◌, Bool, Option, bytes_eq, codes, map}
-use Rattle.std.specs.List.{find, list_any}
+use Rattle.std.specs.Prelude.{ℕ, List, [], ◌∷◌, Option, bytes_eq, codes}
+use Rattle.std.specs.List.{find}
 use Rattle.py_lines.specs.declared.keyword.Keyword.{Keyword}
 use Rattle.py_lines.specs.declared.keyword.Keyword.TheVariants as keyword
 
@@ -52,13 +52,6 @@ all_keywords =
     ∷ keyword.Break ∷ keyword.Continue ∷ keyword.Return ∷ keyword.Raise ∷ keyword.Reraise ∷ keyword.Pass
     ∷ keyword.Show ∷ keyword.Do ∷ keyword.Del ∷ keyword.Unpack ∷ keyword.Global ∷ keyword.Nonlocal ∷ keyword.Import
     ∷ keyword.Await ∷ keyword.From ∷ keyword.In ∷ keyword.Type ∷ []
-
--- the words that are no names
-abbrev pub reserved_words : List (List ℕ)
-reserved_words = map keyword_text all_keywords
-
-abbrev pub is_reserved : List ℕ → Bool
-is_reserved w = list_any (bytes_eq w) reserved_words
 
 -- the keyword that a word is
 abbrev pub keyword_of : List ℕ → Option Keyword

@@ -18,3 +18,7 @@ PrintsOneLine = (l m : Line) → line_tokens l ≡ line_tokens m → l ≡ m
 -- no bytes read in two ways
 abbrev pub ReadsOneWay : Type 0
 ReadsOneWay = (bytes : List ℕ) (r s : LineRead) → IsReadAs bytes r → IsReadAs bytes s → r ≡ s
+
+-- all bytes read in one
+abbrev pub ReadsSomeWay : Type 0
+ReadsSomeWay = (bytes : List ℕ) → (r : LineRead) × IsReadAs bytes r

@@ -23,4 +23,5 @@ pub use keyword::Keyword;
 pub use laws::laws_of_lines;
 pub use line::{Line, LineRead, read_line};
 pub use plain::Plain;
+pub use word::short_number;
 pub use worked::worked_lines;

@@ -1,0 +1,166 @@
+-- What line prints some tokens, or that none does, from the same of its parts.
+use Rattle.std.proofs.Common.{◌≡◌, ◌≢◌, ℕ, List, [], ◌∷◌, ◌++◌, Bool, Some, true, false, refl, sym, ap, ◌∙◌, bytes_eq}
+use Rattle.std.specs.Prelude.{codes}
+use Rattle.std.proofs.lemmas.List.{append_cancel_right}
+use Rattle.std.proofs.lemmas.Slice.Eq.{bytes_eq-Decides}
+use Rattle.py_tree.specs.declared.expr.Atom.{Atom}
+use Rattle.py_tree.specs.declared.expr.Atom.TheVariants as atom
+use Rattle.py_tree.specs.declared.expr.Expr.TheVariants as expr
+use Rattle.py_tree.specs.declared.expr.Operation.TheVariants as operation
+use Rattle.py_lines.specs.declared.drive.DriveAtom.TheVariants as drive
+use Rattle.py_lines.specs.declared.drive.DriveLine.TheVariants as drive_line
+use Rattle.py_lines.specs.declared.head.Head.TheVariants as head
+use Rattle.py_lines.specs.declared.head.Turn.TheVariants as turn
+use Rattle.py_lines.specs.declared.header.Header.TheVariants as header
+use Rattle.py_lines.specs.declared.keyword.Keyword.{Keyword}
+use Rattle.py_lines.specs.declared.keyword.Keyword.TheVariants as keyword
+use Rattle.py_lines.specs.declared.line.Line.TheVariants as line
+use Rattle.py_lines.specs.declared.plain.Plain.TheVariants as plain
+use Rattle.py_lines.specs.Keywords.{keyword_of, keyword_text}
+use Rattle.py_lines.specs.Meaning.{Meaning, Open, Close, Equals, Key, Word, Number, Text, Drive}
+use Rattle.py_lines.specs.Printing.{atom_token, drive_token, operation_tokens, in_parentheses, expr_tokens, plain_tokens, head_tokens, turn_tokens, header_tokens, drive_tokens, line_tokens}
+use Rattle.py_lines.proofs.Finders.{Finds, Found, Missing, or_else, find_within, find_behind, find_nothing, find_both, find_lone, find_all}
+use Rattle.py_lines.proofs.Finds.{no_line}
+use Rattle.py_lines.proofs.OneToOne.{no_atom, no_drive_atom}
+
+-- one token: a name, an atom, or an argument of a drive
+find_name : (t : Meaning) → Finds Word t
+find_name (Word x) = Found x refl
+find_name t = Missing λ x e. cc
+
+find_atom : (t : Meaning) → Finds atom_token t
+find_atom (Key keyword.None) = Found atom.None refl
+find_atom (Key keyword.True) = Found (atom.Bool true) refl
+find_atom (Key keyword.False) = Found (atom.Bool false) refl
+find_atom (Number n) = Found (atom.Int n) refl
+find_atom (Text s) = Found (atom.Str s) refl
+find_atom (Word x) = Found (atom.Name x) refl
+find_atom t = Missing (no_atom t refl)
+
+find_argument : (t : Meaning) → Finds drive_token t
+find_argument (Key keyword.None) = Found drive.None refl
+find_argument (Key keyword.True) = Found (drive.Bool true) refl
+find_argument (Key keyword.False) = Found (drive.Bool false) refl
+find_argument (Number n) = Found (drive.Int n) refl
+find_argument (Text s) = Found (drive.Str s) refl
+find_argument (Word x) = Found (drive.Name x) refl
+find_argument (Drive n) = Found (drive.Drive n) refl
+find_argument t = Missing (no_drive_atom t refl)
+
+-- the tokens behind a word
+same_word : (v w : List ℕ) → Dec (v ≡ w)
+same_word v w = go (bytes_eq v w) refl
+  where
+    go : (p : Bool) → bytes_eq v w ≡ p → Dec (v ≡ w)
+    go true e = yes ((bytes_eq-Decides v w).0 e)
+    go false e = no λ same. let h : false ≡ true = sym e ∙ (bytes_eq-Decides v w).1 same in cc h
+
+behind_word : (w : List ℕ) (ts : List Meaning) → Finds (λ us. Word w ∷ us) ts
+behind_word w (Word v ∷ ts) = elim (same_word v w) [ yes e ↦ Found ts (ap (λ x. Word x ∷ ts) e) | no other ↦ Missing λ us e. other (cc) ]
+behind_word w ts = Missing λ us e. cc
+
+-- each keyword is the one that its text is read as
+pub read_back : (k : Keyword) → keyword_of (keyword_text k) ≡ Some k
+read_back keyword.None = refl
+read_back k = refl
+
+same_keyword : (j k : Keyword) → keyword_text j ≡ keyword_text k → j ≡ k
+same_keyword j k e = let h : Some j ≡ Some k = sym (read_back j) ∙ ap keyword_of e ∙ read_back k in cc h
+
+-- the tokens behind a keyword
+behind_key : (k : Keyword) (ts : List Meaning) → Finds (λ us. Key k ∷ us) ts
+behind_key k (Key j ∷ ts) =
+    elim (same_word (keyword_text j) (keyword_text k)) [
+      | yes e ↦ Found ts (ap (λ i. Key i ∷ ts) (same_keyword j k e))
+      | no other ↦ Missing λ us e. other (ap keyword_text (cc))
+    ]
+behind_key k ts = Missing λ us e. cc
+
+-- the tokens in front of a parenthesis that closes
+before_close : (ts : List Meaning) → Finds (λ us. us ++ Close ∷ []) ts
+before_close [] = Missing (elim [ [] ↦ λ e. cc | u ∷ us ↦ λ e. cc ])
+before_close (t ∷ ts) = or_else (before_close ts) (λ us e. Found (t ∷ us) (ap (λ vs. t ∷ vs) e)) (last t ts)
+  where
+    last : (t : Meaning) (ts : List Meaning) → ((us : List Meaning) → ts ≢ us ++ Close ∷ []) → Finds (λ us. us ++ Close ∷ []) (t ∷ ts)
+    last Close [] none = Found [] refl
+    last t ts none = Missing (elim [ [] ↦ λ e. cc | u ∷ us ↦ λ e. none us (cc) ])
+
+find_two : (ts : List Meaning) → Finds (λ (z : Atom × Atom). atom_token z.0 ∷ atom_token z.1 ∷ []) ts
+find_two = find_both find_atom (find_lone find_atom)
+
+find_operation : (ts : List Meaning) → Finds operation_tokens ts
+find_operation ts =
+    or_else (find_behind (behind_word (codes "add") ts) find_two) (λ z. Found (operation.Add z.0 z.1)) λ no_add.
+    or_else (find_behind (behind_word (codes "sub") ts) find_two) (λ z. Found (operation.Sub z.0 z.1)) λ no_sub.
+    or_else (find_behind (behind_word (codes "lt") ts) find_two) (λ z. Found (operation.Lt z.0 z.1)) λ no_lt.
+    or_else (find_behind (behind_word (codes "eq") ts) find_two) (λ z. Found (operation.Eq z.0 z.1)) λ no_eq.
+    or_else (find_behind (behind_word (codes "call") ts) (find_both find_atom (find_all find_atom))) (λ z. Found (operation.Call z.0 z.1)) λ no_call.
+    Missing (elim [
+      | operation.Add a b ↦ no_add (a, b)
+      | operation.Sub a b ↦ no_sub (a, b)
+      | operation.Lt a b ↦ no_lt (a, b)
+      | operation.Eq a b ↦ no_eq (a, b)
+      | operation.Call f args ↦ no_call (f, args)
+    ])
+
+find_parenthesized : (ts : List Meaning) → Finds (λ o. in_parentheses (operation_tokens o)) ts
+find_parenthesized (Open ∷ ts) = find_behind (Found ts refl) (λ us. find_within (λ a b. append_cancel_right a b (Close ∷ [])) (before_close us) find_operation)
+find_parenthesized ts = Missing λ o e. cc
+
+find_expr : (ts : List Meaning) → Finds expr_tokens ts
+find_expr ts =
+    or_else (find_lone find_atom ts) (λ a. Found (expr.Atom a)) λ no_lone.
+    or_else (find_parenthesized ts) (λ o. Found (expr.Operation o)) λ no_operation.
+    Missing (elim [ expr.Atom a ↦ no_lone a | expr.Operation o ↦ no_operation o ])
+
+find_assigned : (ts : List Meaning) → Finds (λ e. Equals ∷ expr_tokens e) ts
+find_assigned (Equals ∷ ts) = find_behind (Found ts refl) find_expr
+find_assigned ts = Missing λ x e. cc
+
+find_plain : (ts : List Meaning) → Finds plain_tokens ts
+find_plain ts =
+    or_else (find_both find_name find_assigned ts) (λ z. Found (plain.Assign z.0 z.1)) λ no_assign.
+    or_else (find_behind (behind_key keyword.Do ts) find_parenthesized) (λ o. Found (plain.Do o)) λ no_do.
+    or_else (find_behind (behind_key keyword.Show ts) (find_lone find_atom)) (λ a. Found (plain.Show a)) λ no_show.
+    or_else (find_behind (behind_key keyword.Return ts) (find_lone find_atom)) (λ a. Found (plain.Return a)) λ no_return.
+    or_else (find_behind (behind_key keyword.Break ts) find_nothing) (λ x. Found plain.Break) λ no_break.
+    or_else (find_behind (behind_key keyword.Continue ts) find_nothing) (λ x. Found plain.Continue) λ no_continue.
+    or_else (find_behind (behind_key keyword.Pass ts) find_nothing) (λ x. Found plain.Pass) λ no_pass.
+    Missing (elim [
+      | plain.Assign x e ↦ no_assign (x, e)
+      | plain.Do o ↦ no_do o
+      | plain.Show a ↦ no_show a
+      | plain.Return a ↦ no_return a
+      | plain.Break ↦ no_break tt
+      | plain.Continue ↦ no_continue tt
+      | plain.Pass ↦ no_pass tt
+    ])
+
+find_head : (ts : List Meaning) → Finds head_tokens ts
+find_head ts =
+    or_else (find_behind (behind_key keyword.If ts) (find_lone find_atom)) (λ a. Found (head.If a)) λ no_if.
+    or_else (find_behind (behind_key keyword.While ts) (find_lone find_atom)) (λ a. Found (head.While a)) λ no_while.
+    Missing (elim [ head.If a ↦ no_if a | head.While a ↦ no_while a ])
+
+find_turn : (ts : List Meaning) → Finds turn_tokens ts
+find_turn ts = or_else (find_behind (behind_key keyword.Else ts) find_nothing) (λ x. Found turn.Else) λ no_else. Missing (elim [ turn.Else ↦ no_else tt ])
+
+find_header : (ts : List Meaning) → Finds header_tokens ts
+find_header ts =
+    or_else (find_behind (behind_key keyword.Def ts) (find_both find_name (find_all find_name))) (λ z. Found (header.Def z.0 z.1)) λ no_def.
+    Missing (elim [ header.Def f ps ↦ no_def (f, ps) ])
+
+find_drive : (ts : List Meaning) → Finds drive_tokens ts
+find_drive ts =
+    or_else (find_behind (behind_word (codes "call") ts) (find_both find_name (find_all find_argument))) (λ z. Found (drive_line.Call z.0 z.1)) λ no_call.
+    Missing (elim [ drive_line.Call f args ↦ no_call (f, args) ])
+
+pub find_line : (ts : List Meaning) → Finds line_tokens ts
+find_line ts =
+    or_else (find_plain ts) (λ p. Found (line.Plain p)) λ no_plain.
+    or_else (find_head ts) (λ h. Found (line.Opens h)) λ no_head.
+    or_else (find_turn ts) (λ t. Found (line.Turns t)) λ no_turn.
+    or_else (find_header ts) (λ h. Found (line.Header h)) λ no_header.
+    or_else (find_drive ts) (λ d. Found (line.Drive d)) λ no_drive.
+    or_else (find_behind (behind_key keyword.End ts) find_nothing) (λ x. Found line.End) λ no_end.
+    Missing (no_line ts no_plain no_head no_turn no_header no_drive (no_end tt))
