@@ -33,7 +33,8 @@ cut_first b (c ∷ cs) = go (b == 10) refl (c == 10) refl (cut_first c cs)
     size : (x : ℕ) (xs : List ℕ) → (x == 10) ≡ false → prefix_len is_within (x ∷ xs) ≡ suc (prefix_len is_within xs)
     size x xs k = rw k (one-add _)
 
-    go : (p : Bool) → (b == 10) ≡ p → (q : Bool) → (c == 10) ≡ q → lines (c ∷ cs) ≡ cut (take (prefix_len is_within (c ∷ cs)) (c ∷ cs)) (drop (prefix_len is_within (c ∷ cs)) (c ∷ cs))
+    go : (p : Bool) → (b == 10) ≡ p → (q : Bool) → (c == 10) ≡ q
+        → lines (c ∷ cs) ≡ cut (take (prefix_len is_within (c ∷ cs)) (c ∷ cs)) (drop (prefix_len is_within (c ∷ cs)) (c ∷ cs))
         → lines (b ∷ c ∷ cs) ≡ cut (take (prefix_len is_within (b ∷ c ∷ cs)) (b ∷ c ∷ cs)) (drop (prefix_len is_within (b ∷ c ∷ cs)) (b ∷ c ∷ cs))
     go true h q k ih = rw h refl
     go false h true k ih = rw (h, k) (in_first_end b cs (b == 13) refl)
@@ -65,13 +66,15 @@ chopped_none [] e = refl
 chopped_none (b ∷ bs) e = absurd (omega (arith, e))
 
 -- the cut, for the front and the rest that the program has split off
-pub cut_line : (bytes line more : List ℕ) (n : ℕ) → n ≡ prefix_len is_within bytes → line ≡ take n bytes → more ≡ drop n bytes → (length bytes ≡ 0 → ⊥) → lines bytes ≡ cut line more
+pub cut_line : (bytes line more : List ℕ) (n : ℕ) → n ≡ prefix_len is_within bytes → line ≡ take n bytes → more ≡ drop n bytes → (length bytes ≡ 0 → ⊥)
+    → lines bytes ≡ cut line more
 cut_line [] line more n e f g h = absurd (h refl)
 cut_line (b ∷ bs) line more n e f g h =
     cut_first b bs ∙ ap (λ k. cut (take k (b ∷ bs)) (drop k (b ∷ bs))) (sym e) ∙ ap (λ l. cut l (drop n (b ∷ bs))) (sym f) ∙ ap (cut line) (sym g)
 
 -- the last line, which no LF ends
-pub cut_end : (bytes line more : List ℕ) (n : ℕ) → n ≡ prefix_len is_within bytes → line ≡ take n bytes → more ≡ drop n bytes → (length bytes ≡ 0 → ⊥) → length more ≡ 0
+pub cut_end : (bytes line more : List ℕ) (n : ℕ) → n ≡ prefix_len is_within bytes → line ≡ take n bytes → more ≡ drop n bytes → (length bytes ≡ 0 → ⊥)
+    → length more ≡ 0
     → (lines bytes ≡ line ∷ lines more) × (length more < length bytes)
 cut_end bytes line [] n e f g h k = (cut_line bytes line [] n e f g h, size bytes h)
   where
@@ -81,7 +84,8 @@ cut_end bytes line [] n e f g h k = (cut_line bytes line [] n e f g h, size byte
 cut_end bytes line (b ∷ bs) n e f g h k = absurd (omega (arith, k))
 
 -- a line that an LF ends
-pub cut_lf : (bytes line more rest chop : List ℕ) (x n : ℕ) → n ≡ prefix_len is_within bytes → line ≡ take n bytes → more ≡ drop n bytes → (length bytes ≡ 0 → ⊥) → more ≡ x ∷ rest → chop ≡ without_cr line
+pub cut_lf : (bytes line more rest chop : List ℕ) (x n : ℕ) → n ≡ prefix_len is_within bytes → line ≡ take n bytes → more ≡ drop n bytes
+    → (length bytes ≡ 0 → ⊥) → more ≡ x ∷ rest → chop ≡ without_cr line
     → (lines bytes ≡ chop ∷ lines rest) × (length rest < length bytes)
 cut_lf bytes line more rest chop x n e f g h k m = (
   cut_line bytes line more n e f g h ∙ ap (cut line) k ∙ ap (λ l. l ∷ lines rest) (sym m),

@@ -1,19 +1,18 @@
--- how bytes are cut into lines, tokens and words
-pub mod Cuts
-pub mod Lexing
-pub mod Numbers
-pub mod Texts
-pub mod Comments
-pub mod Eachs
+-- how bytes are cut into lines
+mod Cuts
 -- what tables of names have
-pub mod Tables
+mod Tables
 -- the program's reader by the definitions'
-pub mod Stacks
-pub mod Heads
+mod Stacks
+mod OpenNames
 -- the reader against the grammar
-pub mod Whole
-pub mod Sound
-pub mod Begun
-pub mod Verdicts
+mod LineReads
+mod Whole
+mod Sound
+mod Begun
 -- what every script keeps
-pub mod Keeps
+mod Short
+mod Keeps
+-- which verdict lines come to
+mod Walks
+mod Verdicts

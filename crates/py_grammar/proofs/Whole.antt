@@ -1,11 +1,18 @@
 -- The reader takes the rows of every script.
-use Rattle.std.proofs.Common.{◌≡◌, ℕ, suc, length, List, [], ◌∷◌, ◌++◌, Option, Some, None, refl, sym, ap, ◌∙◌, append_assoc, append-nil, length-append, subst, arith, true}
-use Rattle.py_body.specs.Tree.{Name, Form, assign, operate, show, give, pass, branch, choice, loop, Suite, nothing, first, Tree}
-use Rattle.py_body.specs.Suites.{joined, add}
-use Rattle.py_grammar.specs.Drive.{Drive}
-use Rattle.py_grammar.specs.Rules.{may_drive}
-use Rattle.py_grammar.specs.Grammar.{Row, Item, Declares, Drives, suite_rows, form_rows, end_row, else_row, items_rows, trees_in, drives_in, WellForm, WellSuite, WellItems}
-use Rattle.py_grammar.specs.Reader.{Head, in_if, in_else, in_while, Block, State, state, accept}
+use Rattle.std.proofs.Common.{◌≡◌, ℕ, suc, length, List, [], ◌∷◌, ◌++◌, Option, Some, None, true, refl, sym, ap, ◌∙◌, append_assoc, append-nil, length-append, subst, arith, map}
+use Rattle.std.proofs.lemmas.List.{map-append}
+use Rattle.py_tree.specs.Tree.{Name, Form, Assign, Do, Show, Return, Break, Continue, Pass, If, IfElse, While, Suite, nothing, first, Tree}
+use Rattle.py_tree.specs.Suites.{joined, add}
+use Rattle.py_lines.specs.declared.drive.DriveLine.{DriveLine}
+use Rattle.py_lines.specs.declared.head.Head.{Head}
+use Rattle.py_lines.specs.declared.head.Head.TheVariants as head
+use Rattle.py_lines.specs.declared.plain.Plain.{Plain}
+use Rattle.py_lines.specs.declared.plain.Plain.TheVariants as plain
+use Rattle.py_grammar.specs.declared.script.Kind.{Kind}
+use Rattle.py_grammar.specs.declared.script.Kind.TheVariants as kind
+use Rattle.py_grammar.specs.Rules.{may_drive, may_hold, may_open}
+use Rattle.py_grammar.specs.Grammar.{Row, Item, Declares, Drives, declared_as, plain_rows, head_row, suite_rows, form_rows, end_row, else_row, items_rows, trees_in, drives_in, WellForm, WellSuite, WellItems}
+use Rattle.py_grammar.specs.Reader.{Began, in_if, in_else, in_while, began, Block, State, state, inside_of, plain_form, accept}
 
 abbrev pub and_then : Option State → (State → Option State) → Option State
 and_then None f = None
@@ -21,7 +28,8 @@ pub run-append : (st : State) (rows more : List Row) → run st (rows ++ more) �
 run-append st [] more = refl
 run-append st (r ∷ rows) more = go (accept st r.number r.line) (λ s. run-append s rows more)
   where
-    go : (o : Option State) → ((s : State) → run s (rows ++ more) ≡ and_then (run s rows) (λ q. run q more)) → and_then o (λ s. run s (rows ++ more)) ≡ and_then (and_then o (λ s. run s rows)) (λ q. run q more)
+    go : (o : Option State) → ((s : State) → run s (rows ++ more) ≡ and_then (run s rows) (λ q. run q more))
+        → and_then o (λ s. run s (rows ++ more)) ≡ and_then (and_then o (λ s. run s rows)) (λ q. run q more)
     go None f = refl
     go (Some s) f = f s
 
@@ -33,50 +41,75 @@ pub joined-nothing : (a : Suite) → joined a nothing ≡ a
 joined-nothing nothing = refl
 joined-nothing (first n s more) = ap (first n s) (joined-nothing more)
 
-module _ (ts : List Tree) (ds : List Drive) (line : ℕ) (name : Name) (params : List Name) where
-  -- this function is open, with these blocks and these statements in the innermost
-  abbrev within : List Block → Suite → State
-  within bs done = state ts ds (Some (record { line = line; name = name; params = params; blocks = bs; done = done }))
+module _ (ts : List Tree) (ds : List DriveLine) (line : ℕ) (k : Kind) (name : Name) (params : List Name) where
+  -- this body is open, with these blocks and these statements in the innermost
+  abbrev body_at : List Block → Suite → State
+  body_at bs done = state ts ds (Some (record { line = line; kind = k; name = name; params = params; blocks = bs; done = done }))
 
-  abbrev block : Suite → ℕ → Head → Block
-  block before n h = record { before = before; line = n; head = h }
+  abbrev block : Suite → ℕ → Began → Block
+  block before n g = record { before = before; line = n; began = g }
+
+  plain_read : (p : Plain) (n : ℕ) (bs : List Block) (done : Suite) (rest : List Row) → may_hold (inside_of k bs) p ≡ true
+      → run (body_at bs done) (plain_rows n p ++ rest) ≡ run (body_at bs (add done n (plain_form p))) rest
+  plain_read p n bs done rest w = rw w refl
+
+  head_read : (h : Head) (n : ℕ) (bs : List Block) (done : Suite) (rest : List Row) → may_open (inside_of k bs) h ≡ true
+      → run (body_at bs done) (head_row n h ∷ rest) ≡ run (body_at (block done n (began h) ∷ bs) nothing) rest
+  head_read h n bs done rest w = rw w refl
+
+  -- a suite of a block, where it is read whatever follows
+  suite_then : (b : Block) (bs : List Block) (s : Suite) (more rest : List Row)
+      → ((rows : List Row) → run (body_at (b ∷ bs) nothing) (suite_rows s ++ rows) ≡ run (body_at (b ∷ bs) s) rows)
+      → run (body_at (b ∷ bs) nothing) ((suite_rows s ++ more) ++ rest) ≡ run (body_at (b ∷ bs) s) (more ++ rest)
+  suite_then b bs s more rest reads = ap (run (body_at (b ∷ bs) nothing)) (append_assoc (suite_rows s) more rest) ∙ reads (more ++ rest)
 
   mutual
-    form_read : (f : Form) (n : ℕ) (bs : List Block) (done : Suite) (rest : List Row) → WellForm (suc (length bs)) f → run (within bs done) (form_rows n f ++ rest) ≡ run (within bs (add done n f)) rest
-    form_read (assign x a) n bs done rest w = rw w refl
-    form_read (operate None op atoms) n bs done rest w = rw w refl
-    form_read (operate (Some x) op atoms) n bs done rest w = rw w refl
-    form_read (show a) n bs done rest w = rw w refl
-    form_read (give a) n bs done rest w = rw w refl
-    form_read pass n bs done rest w = refl
-    form_read (branch a s) n bs done rest w =
+    form_read : (f : Form) (n : ℕ) (bs : List Block) (done : Suite) (rest : List Row) → WellForm (inside_of k bs) f
+        → run (body_at bs done) (form_rows n f ++ rest) ≡ run (body_at bs (add done n f)) rest
+    form_read (Assign x e) n bs done rest w = plain_read (plain.Assign x e) n bs done rest w
+    form_read (Do o) n bs done rest w = plain_read (plain.Do o) n bs done rest w
+    form_read (Show a) n bs done rest w = plain_read (plain.Show a) n bs done rest w
+    form_read (Return a) n bs done rest w = plain_read (plain.Return a) n bs done rest w
+    form_read Break n bs done rest w = plain_read plain.Break n bs done rest w
+    form_read Continue n bs done rest w = plain_read plain.Continue n bs done rest w
+    form_read Pass n bs done rest w = plain_read plain.Pass n bs done rest w
+    form_read (If a s) n bs done rest w =
         let b : Block = block done n (in_if a) in
-        rw w.0 (ap (run (within (b ∷ bs) nothing)) (append_assoc (suite_rows s) (end_row ∷ []) rest) ∙ suite_read s (b ∷ bs) nothing (end_row ∷ rest) w.1)
-    form_read (choice a s t) n bs done rest w =
+        head_read (head.If a) n bs done ((suite_rows s ++ end_row ∷ []) ++ rest) w.0 ∙ suite_then b bs s (end_row ∷ []) rest (λ rows. suite_read s (b ∷ bs) nothing rows w.1)
+    form_read (IfElse a s t) n bs done rest w =
         let b : Block = block done n (in_if a) in
         let c : Block = block done n (in_else a s) in
-        rw w.0 (ap (run (within (b ∷ bs) nothing)) (append_assoc (suite_rows s) (else_row ∷ (suite_rows t ++ end_row ∷ [])) rest)
-        ∙ suite_read s (b ∷ bs) nothing (else_row ∷ ((suite_rows t ++ end_row ∷ []) ++ rest)) w.1.0
-        ∙ ap (run (within (c ∷ bs) nothing)) (append_assoc (suite_rows t) (end_row ∷ []) rest) ∙ suite_read t (c ∷ bs) nothing (end_row ∷ rest) w.1.1)
-    form_read (loop a s) n bs done rest w =
+        let behind : List Row = else_row ∷ (suite_rows t ++ end_row ∷ []) in
+        head_read (head.If a) n bs done ((suite_rows s ++ behind) ++ rest) w.0 ∙ suite_then b bs s behind rest (λ rows. suite_read s (b ∷ bs) nothing rows w.1.0)
+        ∙ suite_then c bs t (end_row ∷ []) rest (λ rows. suite_read t (c ∷ bs) nothing rows w.1.1)
+    form_read (While a s) n bs done rest w =
         let b : Block = block done n (in_while a) in
-        rw w.0 (ap (run (within (b ∷ bs) nothing)) (append_assoc (suite_rows s) (end_row ∷ []) rest) ∙ suite_read s (b ∷ bs) nothing (end_row ∷ rest) w.1)
+        head_read (head.While a) n bs done ((suite_rows s ++ end_row ∷ []) ++ rest) w.0 ∙ suite_then b bs s (end_row ∷ []) rest (λ rows. suite_read s (b ∷ bs) nothing rows w.1)
+    form_read f n bs done rest w = absurd w
 
-    pub suite_read : (s : Suite) (bs : List Block) (done : Suite) (rest : List Row) → WellSuite (suc (length bs)) s → run (within bs done) (suite_rows s ++ rest) ≡ run (within bs (joined done s)) rest
-    suite_read nothing bs done rest w = ap (λ c. run (within bs c) rest) (sym (joined-nothing done))
+    pub suite_read : (s : Suite) (bs : List Block) (done : Suite) (rest : List Row) → WellSuite (inside_of k bs) s
+        → run (body_at bs done) (suite_rows s ++ rest) ≡ run (body_at bs (joined done s)) rest
+    suite_read nothing bs done rest w = ap (λ c. run (body_at bs c) rest) (sym (joined-nothing done))
     suite_read (first n f more) bs done rest w =
-        ap (run (within bs done)) (append_assoc (form_rows n f) (suite_rows more) rest)
+        ap (run (body_at bs done)) (append_assoc (form_rows n f) (suite_rows more) rest)
         ∙ form_read f n bs done (suite_rows more ++ rest) w.0 ∙ suite_read more bs (add done n f) rest w.1
-        ∙ ap (λ c. run (within bs c) rest) (joined_assoc done (first n f nothing) more)
+        ∙ ap (λ c. run (body_at bs c) rest) (joined_assoc done (first n f nothing) more)
+
+-- the rules behind one more declaration
+pub well_behind_one : (ts : List Tree) (t : Tree) (made : ℕ) (is : List Item) → WellItems (map declared_as ts ++ declared_as t ∷ []) made is
+    → WellItems (map declared_as (ts ++ t ∷ [])) made is
+well_behind_one ts t made is w = subst (λ ds. WellItems ds made is) (sym (map-append declared_as ts (t ∷ []))) w
 
 -- every script is read
-pub items_read : (is : List Item) (ts : List Tree) (ds : List Drive) (made : ℕ) → length ds ≡ made → WellItems ts made is → run (state ts ds None) (items_rows is) ≡ Some (state (ts ++ trees_in is) (ds ++ drives_in is) None)
+pub items_read : (is : List Item) (ts : List Tree) (ds : List DriveLine) (made : ℕ) → length ds ≡ made → WellItems (map declared_as ts) made is
+    → run (state ts ds None) (items_rows is) ≡ Some (state (ts ++ trees_in is) (ds ++ drives_in is) None)
 items_read [] ts ds made e w = rw (append-nil ts, append-nil ds) refl
 items_read (Declares t ∷ is) ts ds made e w =
-    rw w.0 (ap (run (within ts ds t.line t.name t.params [] nothing)) (append_assoc (suite_rows t.suite) (end_row ∷ []) (items_rows is))
-    ∙ suite_read ts ds t.line t.name t.params t.suite [] nothing (end_row ∷ items_rows is) w.1.0
-    ∙ items_read is (ts ++ t ∷ []) ds made e w.1.1
+    rw w.0 (ap (run (body_at ts ds t.line kind.Function t.name t.params [] nothing)) (append_assoc (suite_rows t.suite) (end_row ∷ []) (items_rows is))
+    ∙ suite_read ts ds t.line kind.Function t.name t.params t.suite [] nothing (end_row ∷ items_rows is) w.1.0
+    ∙ items_read is (ts ++ t ∷ []) ds made e (well_behind_one ts t made is w.1.1)
     ∙ ap (λ x. Some (state x (ds ++ drives_in is) None)) (append_assoc ts (t ∷ []) (trees_in is)))
 items_read (Drives d ∷ is) ts ds made e w =
-    let may : may_drive ts (length ds) d.function d.args ≡ true = subst (λ n. may_drive ts n d.function d.args ≡ true) (sym e) w.0 in
-    rw may (items_read is ts (ds ++ d ∷ []) (suc made) (omega (arith, e, length-append ds (d ∷ []))) w.1 ∙ ap (λ x. Some (state (ts ++ trees_in is) x None)) (append_assoc ds (d ∷ []) (drives_in is)))
+    let may : may_drive (map declared_as ts) (length ds) d ≡ true = subst (λ n. may_drive (map declared_as ts) n d ≡ true) (sym e) w.0 in
+    let one : length (ds ++ d ∷ []) ≡ suc made = omega (arith, e, length-append ds (d ∷ [])) in
+    rw may (items_read is ts (ds ++ d ∷ []) (suc made) one w.1 ∙ ap (λ x. Some (state (ts ++ trees_in is) x None)) (append_assoc ds (d ∷ []) (drives_in is)))

@@ -1,17 +1,29 @@
 -- Scripts as trees, the rows that a tree prints, and the rules that it keeps.
-use Rattle.std.specs.Prelude.{◌≡◌, ℕ, suc, Option, Some, None, List, [], ◌∷◌, ◌++◌, true, ◌&&◌}
-use Rattle.py_body.specs.declared.atom.Atom.{Atom}
-use Rattle.py_body.specs.declared.atom.Operator.{Operator}
-use Rattle.py_body.specs.Tree.{Name, Form, assign, operate, show, give, pass, branch, choice, loop, Suite, nothing, first, Tree}
-use Rattle.py_grammar.specs.declared.line.Line.{Line}
-use Rattle.py_grammar.specs.declared.line.Line.TheVariants.{End, Assign, Operate, Do, Show, Return, Pass, If, Else, While, Def, Call}
-use Rattle.py_grammar.specs.Drive.{Drive}
-use Rattle.py_grammar.specs.Rules.{may_declare, may_drive, may_operate, is_usable, is_bindable, is_bindable_if, has_room}
+use Rattle.std.specs.Prelude.{◌≡◌, ℕ, suc, List, [], ◌∷◌, ◌++◌, true}
+use Rattle.py_tree.specs.Tree.{Form, Assign, Do, Show, Return, Raise, Reraise, Break, Continue, Pass, If, IfElse, While, TryExcept, TryFinally, Suite, nothing, first, Tree}
+use Rattle.py_lines.specs.declared.drive.DriveLine.{DriveLine}
+use Rattle.py_lines.specs.declared.head.Head.{Head}
+use Rattle.py_lines.specs.declared.head.Head.TheVariants as head
+use Rattle.py_lines.specs.declared.head.Turn.TheVariants as turn
+use Rattle.py_lines.specs.declared.header.Header.TheVariants as header
+use Rattle.py_lines.specs.declared.line.Line.{Line}
+use Rattle.py_lines.specs.declared.line.Line.TheVariants as line
+use Rattle.py_lines.specs.declared.plain.Plain.{Plain}
+use Rattle.py_lines.specs.declared.plain.Plain.TheVariants as plain
+use Rattle.py_grammar.specs.declared.rules.Inside.{Inside}
+use Rattle.py_grammar.specs.declared.script.Kind.TheVariants as kind
+use Rattle.py_grammar.specs.Rules.{Declared, may_declare, may_drive, body_of, within, may_hold, may_open}
 
 -- one thing that a script says outside of bodies
 pub data Item : Type 0 where
   Declares : Tree → Item
-  Drives : Drive → Item
+  Drives : DriveLine → Item
+
+-- a declaration as later lines see it
+abbrev pub declared_as : Tree → Declared
+declared_as t = record { name = t.name; kind = kind.Function }
+
+-- ---- the rows that a tree prints
 
 -- a line that isn't blank; its number is 0 where no tree keeps it
 pub record Row : Type 0 where
@@ -20,52 +32,54 @@ pub record Row : Type 0 where
 
 -- the number that trees keep of a line
 abbrev pub kept_number : ℕ → Line → ℕ
-kept_number n End = 0
-kept_number n (Assign x a) = n
-kept_number n (Operate x op atoms) = n
-kept_number n (Do op atoms) = n
-kept_number n (Show a) = n
-kept_number n (Return a) = n
-kept_number n Pass = n
-kept_number n (If a) = n
-kept_number n Else = 0
-kept_number n (While a) = n
-kept_number n (Def f ps) = n
-kept_number n (Call f args) = 0
+kept_number n line.End = 0
+kept_number n (line.Plain p) = n
+kept_number n (line.Opens h) = n
+kept_number n (line.Turns turn.Else) = 0
+kept_number n (line.Header h) = n
+kept_number n (line.Drive d) = 0
 
 abbrev pub row : ℕ → Line → Row
 row n l = record { number = kept_number n l; line = l }
 
 abbrev pub end_row : Row
-end_row = record { number = 0; line = End }
+end_row = row 0 line.End
 
 abbrev pub else_row : Row
-else_row = record { number = 0; line = Else }
+else_row = row 0 (line.Turns turn.Else)
 
--- the line of an operator
-abbrev pub operator_line : Option Name → Operator → List Atom → Line
-operator_line None op atoms = Do op atoms
-operator_line (Some x) op atoms = Operate x op atoms
+-- the row of a plain statement, and the one that opens a block
+abbrev pub plain_rows : ℕ → Plain → List Row
+plain_rows n p = row n (line.Plain p) ∷ []
+
+abbrev pub head_row : ℕ → Head → Row
+head_row n h = row n (line.Opens h)
 
 abbrev mutual
-  -- the rows of a statement
+  -- the rows of a statement; some forms have no line yet
   pub form_rows : ℕ → Form → List Row
-  form_rows n (assign x a) = record { number = n; line = Assign x a } ∷ []
-  form_rows n (operate x op atoms) = record { number = n; line = operator_line x op atoms } ∷ []
-  form_rows n (show a) = record { number = n; line = Show a } ∷ []
-  form_rows n (give a) = record { number = n; line = Return a } ∷ []
-  form_rows n pass = record { number = n; line = Pass } ∷ []
-  form_rows n (branch a s) = record { number = n; line = If a } ∷ (suite_rows s ++ end_row ∷ [])
-  form_rows n (choice a s t) = record { number = n; line = If a } ∷ (suite_rows s ++ else_row ∷ (suite_rows t ++ end_row ∷ []))
-  form_rows n (loop a s) = record { number = n; line = While a } ∷ (suite_rows s ++ end_row ∷ [])
+  form_rows n (Assign x e) = plain_rows n (plain.Assign x e)
+  form_rows n (Do o) = plain_rows n (plain.Do o)
+  form_rows n (Show a) = plain_rows n (plain.Show a)
+  form_rows n (Return a) = plain_rows n (plain.Return a)
+  form_rows n (Raise a) = []
+  form_rows n Reraise = []
+  form_rows n Break = plain_rows n plain.Break
+  form_rows n Continue = plain_rows n plain.Continue
+  form_rows n Pass = plain_rows n plain.Pass
+  form_rows n (If a s) = head_row n (head.If a) ∷ (suite_rows s ++ end_row ∷ [])
+  form_rows n (IfElse a s t) = head_row n (head.If a) ∷ (suite_rows s ++ else_row ∷ (suite_rows t ++ end_row ∷ []))
+  form_rows n (While a s) = head_row n (head.While a) ∷ (suite_rows s ++ end_row ∷ [])
+  form_rows n (TryExcept s cs) = []
+  form_rows n (TryFinally s t) = []
 
   pub suite_rows : Suite → List Row
   suite_rows nothing = []
   suite_rows (first n f more) = form_rows n f ++ suite_rows more
 
 abbrev pub item_rows : Item → List Row
-item_rows (Declares t) = record { number = t.line; line = Def t.name t.params } ∷ (suite_rows t.suite ++ end_row ∷ [])
-item_rows (Drives d) = record { number = 0; line = Call d.function d.args } ∷ []
+item_rows (Declares t) = row t.line (line.Header (header.Def t.name t.params)) ∷ (suite_rows t.suite ++ end_row ∷ [])
+item_rows (Drives d) = row 0 (line.Drive d) ∷ []
 
 -- the rows of a whole script
 abbrev pub items_rows : List Item → List Row
@@ -77,30 +91,38 @@ trees_in [] = []
 trees_in (Declares t ∷ is) = t ∷ trees_in is
 trees_in (Drives d ∷ is) = trees_in is
 
-abbrev pub drives_in : List Item → List Drive
+abbrev pub drives_in : List Item → List DriveLine
 drives_in [] = []
 drives_in (Declares t ∷ is) = drives_in is
 drives_in (Drives d ∷ is) = d ∷ drives_in is
 
+-- ---- the rules that it keeps
+
 abbrev mutual
-  -- a statement keeps the rules, where so many blocks are open around it
-  pub WellForm : ℕ → Form → Type 0
-  WellForm blocks (assign x a) = (is_bindable x && is_usable a) ≡ true
-  WellForm blocks (operate x op atoms) = (is_bindable_if x && may_operate op atoms) ≡ true
-  WellForm blocks (show a) = is_usable a ≡ true
-  WellForm blocks (give a) = is_usable a ≡ true
-  WellForm blocks pass = Unit {0}
-  WellForm blocks (branch a s) = ((has_room blocks && is_usable a) ≡ true) × WellSuite (suc blocks) s
-  WellForm blocks (choice a s t) = ((has_room blocks && is_usable a) ≡ true) × (WellSuite (suc blocks) s × WellSuite (suc blocks) t)
-  WellForm blocks (loop a s) = ((has_room blocks && is_usable a) ≡ true) × WellSuite (suc blocks) s
+  -- a statement keeps the rules where it stands; a form without a line stands nowhere
+  pub WellForm : Inside → Form → Type 0
+  WellForm i (Assign x e) = may_hold i (plain.Assign x e) ≡ true
+  WellForm i (Do o) = may_hold i (plain.Do o) ≡ true
+  WellForm i (Show a) = may_hold i (plain.Show a) ≡ true
+  WellForm i (Return a) = may_hold i (plain.Return a) ≡ true
+  WellForm i (Raise a) = ⊥
+  WellForm i Reraise = ⊥
+  WellForm i Break = may_hold i plain.Break ≡ true
+  WellForm i Continue = may_hold i plain.Continue ≡ true
+  WellForm i Pass = may_hold i plain.Pass ≡ true
+  WellForm i (If a s) = (may_open i (head.If a) ≡ true) × WellSuite (within i (head.If a)) s
+  WellForm i (IfElse a s t) = (may_open i (head.If a) ≡ true) × (WellSuite (within i (head.If a)) s × WellSuite (within i (head.If a)) t)
+  WellForm i (While a s) = (may_open i (head.While a) ≡ true) × WellSuite (within i (head.While a)) s
+  WellForm i (TryExcept s cs) = ⊥
+  WellForm i (TryFinally s t) = ⊥
 
   -- so do statements in order
-  pub WellSuite : ℕ → Suite → Type 0
-  WellSuite blocks nothing = Unit {0}
-  WellSuite blocks (first n f more) = WellForm blocks f × WellSuite blocks more
+  pub WellSuite : Inside → Suite → Type 0
+  WellSuite i nothing = Unit {0}
+  WellSuite i (first n f more) = WellForm i f × WellSuite i more
 
 -- so do the items that follow these declarations and so many drives
-abbrev pub WellItems : List Tree → ℕ → List Item → Type 0
-WellItems ts made [] = Unit {0}
-WellItems ts made (Declares t ∷ is) = (may_declare ts t.name t.params ≡ true) × (WellSuite 1 t.suite × WellItems (ts ++ t ∷ []) made is)
-WellItems ts made (Drives d ∷ is) = (may_drive ts made d.function d.args ≡ true) × WellItems ts (suc made) is
+abbrev pub WellItems : List Declared → ℕ → List Item → Type 0
+WellItems ds made [] = Unit {0}
+WellItems ds made (Declares t ∷ is) = (may_declare ds t.name t.params ≡ true) × (WellSuite (body_of kind.Function) t.suite × WellItems (ds ++ declared_as t ∷ []) made is)
+WellItems ds made (Drives d ∷ is) = (may_drive ds made d ≡ true) × WellItems ds (suc made) is

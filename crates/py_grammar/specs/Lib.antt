@@ -2,16 +2,11 @@
 pub mod Script
 pub mod Grammar
 pub mod Rules
-pub mod Drive
-pub mod Says
-pub mod Words
-pub mod Tokens
 pub mod Lines
 -- what every script keeps, for the layers above
 pub mod WellFormed
 -- what the functions inside the crate promise each other
 pub mod Pieces
-pub mod Forms
 pub mod Reader
 pub mod Tables
 pub mod Reading

@@ -1,13 +1,5 @@
--- The pieces of texts and lines, as the functions that cut them promise each other.
-use Rattle.std.specs.Prelude.{ℕ, suc, List, [], ◌∷◌, Bool, not, ◌||◌, if◌then◌else◌, ◌==◌}
-use Rattle.std.specs.List.{prefix_len}
-use Rattle.py_grammar.specs.declared.token.Token.{Token}
-use Rattle.py_grammar.specs.declared.token.Token.TheVariants as token
-use Rattle.py_grammar.specs.Tokens.{Lexeme, Open, Close, Equals, Word, is_blank, is_mark, is_quote}
-
--- a byte that stands in a word
-abbrev pub is_plain : ℕ → Bool
-is_plain b = not (is_blank b || is_mark b)
+-- The pieces of a text, as the functions that cut it into lines promise each other.
+use Rattle.std.specs.Prelude.{ℕ, List, [], ◌∷◌, Bool, not, if◌then◌else◌, ◌==◌}
 
 -- whether a byte stands before the LF of its line
 abbrev pub is_within : ℕ → Bool
@@ -18,19 +10,3 @@ abbrev pub without_cr : List ℕ → List ℕ
 without_cr [] = []
 without_cr (b ∷ []) = if b == 13 then [] else b ∷ []
 without_cr (b ∷ c ∷ bs) = b ∷ without_cr (c ∷ bs)
-
--- a token of the program apart from where it stands
-abbrev pub lexeme_of : Token → Lexeme
-lexeme_of token.Open = Open
-lexeme_of token.Close = Close
-lexeme_of token.Equals = Equals
-lexeme_of (token.Word w) = Word w.now
-
--- how long the rest of a quoted text is, with what is joined to its closing quote
-abbrev pub quoted_len : List ℕ → ℕ
-quoted_len [] = 0
-quoted_len (b ∷ bs) = suc (if is_quote b then prefix_len is_plain bs else quoted_len bs)
-
--- how long a word is behind its first byte
-abbrev pub word_size : ℕ → List ℕ → ℕ
-word_size b bs = if is_quote b then quoted_len bs else prefix_len is_plain bs

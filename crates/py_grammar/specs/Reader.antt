@@ -1,107 +1,124 @@
 -- A reader of lines, by what it has read.
-use Rattle.std.specs.Prelude.{ℕ, suc, List, [], ◌∷◌, ◌++◌, length, Option, Some, None, Bool, true, false, if◌then◌else◌, ◌&&◌}
-use Rattle.py_body.specs.declared.atom.Atom.{Atom}
-use Rattle.py_body.specs.Tree.{Name, Form, assign, operate, show, give, pass, branch, choice, loop, Suite, nothing, Tree}
-use Rattle.py_body.specs.Suites.{add}
-use Rattle.py_grammar.specs.declared.line.Line.{Line}
-use Rattle.py_grammar.specs.declared.line.Line.TheVariants as line
-use Rattle.py_grammar.specs.declared.line.LineRead.{LineRead}
-use Rattle.py_grammar.specs.declared.line.LineRead.TheVariants.{Blank, Said, Malformed}
-use Rattle.py_grammar.specs.Drive.{Drive}
-use Rattle.py_grammar.specs.Rules.{may_declare, may_drive, may_operate, is_usable, is_bindable, has_room}
-use Rattle.py_grammar.specs.Says.{says}
+use Rattle.std.specs.Prelude.{◌≡◌, ℕ, suc, List, [], ◌∷◌, ◌++◌, length, Option, Some, None, option_map, map, Bool, true, false}
+use Rattle.py_tree.specs.declared.expr.Atom.{Atom}
+use Rattle.py_tree.specs.Tree.{Name, Form, Assign, Do, Show, Return, Break, Continue, Pass, If, IfElse, While, Suite, nothing, Tree}
+use Rattle.py_tree.specs.Suites.{add}
+use Rattle.py_lines.specs.declared.drive.DriveLine.{DriveLine}
+use Rattle.py_lines.specs.declared.head.Head.{Head}
+use Rattle.py_lines.specs.declared.head.Head.TheVariants as head
+use Rattle.py_lines.specs.declared.head.Turn.{Turn}
+use Rattle.py_lines.specs.declared.head.Turn.TheVariants as turn
+use Rattle.py_lines.specs.declared.header.Header.{Header}
+use Rattle.py_lines.specs.declared.header.Header.TheVariants as header
+use Rattle.py_lines.specs.declared.line.Line.{Line}
+use Rattle.py_lines.specs.declared.line.Line.TheVariants as line
+use Rattle.py_lines.specs.declared.line.LineRead.{LineRead}
+use Rattle.py_lines.specs.declared.line.LineRead.TheVariants.{Blank, Said, Malformed}
+use Rattle.py_lines.specs.declared.plain.Plain.{Plain}
+use Rattle.py_lines.specs.declared.plain.Plain.TheVariants as plain
+use Rattle.py_lines.specs.Reading.{IsReadAs}
+use Rattle.py_grammar.specs.declared.rules.Inside.{Inside}
+use Rattle.py_grammar.specs.declared.script.Kind.{Kind}
+use Rattle.py_grammar.specs.declared.script.Kind.TheVariants as kind
+use Rattle.py_grammar.specs.Grammar.{declared_as}
+use Rattle.py_grammar.specs.Rules.{may_declare, may_drive, body_of, within, may_hold, may_open}
 use Rattle.py_grammar.specs.Script.{Text}
 
+-- ---- the body that is open
+
 -- how an open block began; behind an else, with the suite of its if
-pub data Head : Type 0 where
-  in_if in_while : Atom → Head
-  in_else : Atom → Suite → Head
+pub data Began : Type 0 where
+  in_if in_while : Atom → Began
+  in_else : Atom → Suite → Began
+
+abbrev pub began : Head → Began
+began (head.If a) = in_if a
+began (head.While a) = in_while a
+
+-- the line that opened it
+abbrev pub opener : Began → Head
+opener (in_if a) = head.If a
+opener (in_else a s) = head.If a
+opener (in_while a) = head.While a
 
 -- an open block: the statements before it in the block around it, its line and how it began
 pub record Block : Type 0 where
   pub before : Suite
   pub line : ℕ
-  pub head : Head
+  pub began : Began
 
 -- an open body: its header, its open blocks from the innermost out, and the statements of the innermost read so far
 pub record Open : Type 0 where
   pub line : ℕ
+  pub kind : Kind
   pub name : Name
   pub params : List Name
   pub blocks : List Block
   pub done : Suite
 
--- what was read
-pub record State : Type 0 where
-  pub trees : List Tree
-  pub drives : List Drive
-  pub inside : Option Open
+-- where the statements of the innermost block stand, in a body of this kind
+abbrev pub inside_of : Kind → List Block → Inside
+inside_of k [] = body_of k
+inside_of k (b ∷ bs) = within (inside_of k bs) (opener b.began)
 
-abbrev pub state : List Tree → List Drive → Option Open → State
-state ts ds i = record { trees = ts; drives = ds; inside = i }
+abbrev pub inside : Open → Inside
+inside o = inside_of o.kind o.blocks
 
--- nothing was read
-abbrev pub start : State
-start = state [] [] None
+abbrev pub opened : ℕ → Name → List Name → Open
+opened n f ps = record { line = n; kind = kind.Function; name = f; params = ps; blocks = []; done = nothing }
+
+-- ---- lines of a body
 
 abbrev pub only_if : {X : Type 0} → Bool → X → Option X
 only_if true x = Some x
 only_if false x = None
 
-abbrev pub opened : ℕ → Name → List Name → Open
-opened n f ps = record { line = n; name = f; params = ps; blocks = []; done = nothing }
-
--- an open body with these open blocks and these statements in the innermost
-abbrev pub inside : Open → List Block → Suite → Open
-inside o bs s = record { line = o.line; name = o.name; params = o.params; blocks = bs; done = s }
+-- the statement that a plain line is
+abbrev pub plain_form : Plain → Form
+plain_form (plain.Assign x e) = Assign x e
+plain_form (plain.Do o) = Do o
+plain_form (plain.Show a) = Show a
+plain_form (plain.Return a) = Return a
+plain_form plain.Break = Break
+plain_form plain.Continue = Continue
+plain_form plain.Pass = Pass
 
 -- one more statement
 abbrev pub grown : Open → ℕ → Form → Open
-grown o n f = inside o o.blocks (add o.done n f)
+grown o n f = record o { done = add o.done n f }
 
 -- one more open block
 abbrev pub deeper : Open → ℕ → Head → Open
-deeper o n h = inside o (record { before = o.done; line = n; head = h } ∷ o.blocks) nothing
+deeper o n h = record o { blocks = record { before = o.done; line = n; began = began h } ∷ o.blocks; done = nothing }
 
--- whether a block with this atom may be opened
-abbrev pub may_open : Open → Atom → Bool
-may_open o a = has_room (suc (length o.blocks)) && is_usable a
+-- how a block goes on behind this turn and its last suite, where it may turn so: an if without an else by an else
+abbrev pub turned_by : Turn → Began → Suite → Option Began
+turned_by turn.Else (in_if a) s = Some (in_else a s)
+turned_by turn.Else (in_else a t) s = None
+turned_by turn.Else (in_while a) s = None
 
--- how a block goes on behind an else, where it may have one: an if without an else
-abbrev pub else_of : Head → Suite → Option Head
-else_of (in_if a) s = Some (in_else a s)
-else_of (in_else a t) s = None
-else_of (in_while a) s = None
+abbrev pub turned_to : Open → Block → List Block → Began → Open
+turned_to o b bs g = record o { blocks = record b { began = g } ∷ bs; done = nothing }
 
-abbrev pub turned_to : Open → Block → List Block → Option Head → Option Open
-turned_to o b bs None = None
-turned_to o b bs (Some h) = Some (inside o (record { before = b.before; line = b.line; head = h } ∷ bs) nothing)
-
--- an else, where these blocks are open
-abbrev pub turned : Open → List Block → Option Open
-turned o [] = None
-turned o (b ∷ bs) = turned_to o b bs (else_of b.head o.done)
+-- a turn, where these blocks are open
+abbrev pub turned : Open → Turn → List Block → Option Open
+turned o t [] = None
+turned o t (b ∷ bs) = option_map (turned_to o b bs) (turned_by t b.began o.done)
 
 -- a line of a body other than an end
 abbrev pub goes_on : Open → ℕ → Line → Option Open
 goes_on o n line.End = None
-goes_on o n (line.Assign x a) = only_if (is_bindable x && is_usable a) (grown o n (assign x a))
-goes_on o n (line.Operate x op atoms) = only_if (is_bindable x && may_operate op atoms) (grown o n (operate (Some x) op atoms))
-goes_on o n (line.Do op atoms) = only_if (may_operate op atoms) (grown o n (operate None op atoms))
-goes_on o n (line.Show a) = only_if (is_usable a) (grown o n (show a))
-goes_on o n (line.Return a) = only_if (is_usable a) (grown o n (give a))
-goes_on o n line.Pass = Some (grown o n pass)
-goes_on o n (line.If a) = only_if (may_open o a) (deeper o n (in_if a))
-goes_on o n line.Else = turned o o.blocks
-goes_on o n (line.While a) = only_if (may_open o a) (deeper o n (in_while a))
-goes_on o n (line.Def f ps) = None
-goes_on o n (line.Call f args) = None
+goes_on o n (line.Plain p) = only_if (may_hold (inside o) p) (grown o n (plain_form p))
+goes_on o n (line.Opens h) = only_if (may_open (inside o) h) (deeper o n h)
+goes_on o n (line.Turns t) = turned o t o.blocks
+goes_on o n (line.Header h) = None
+goes_on o n (line.Drive d) = None
 
--- the statement that a block is at its end
-abbrev pub ended : Head → Suite → Form
-ended (in_if a) s = branch a s
-ended (in_else a t) s = choice a t s
-ended (in_while a) s = loop a s
+-- the statement that a block with this last suite is at its end, where it may end
+abbrev pub ended : Began → Suite → Option Form
+ended (in_if a) s = Some (If a s)
+ended (in_else a t) s = Some (IfElse a t s)
+ended (in_while a) s = Some (While a s)
 
 -- what an end closes: the body, or its innermost block
 pub data Closing : Type 0 where
@@ -112,53 +129,59 @@ pub data Closing : Type 0 where
 abbrev pub function_of : Open → Tree
 function_of o = record { name = o.name; params = o.params; suite = o.done; line = o.line }
 
--- an end, where these blocks are open
-abbrev pub closed : Open → List Block → Closing
-closed o [] = whole_body (function_of o)
-closed o (b ∷ bs) = one_block (inside o bs (add b.before b.line (ended b.head o.done)))
+abbrev pub ended_in : Open → Block → List Block → Form → Open
+ended_in o b bs f = record o { blocks = bs; done = add b.before b.line f }
 
-abbrev pub closes : List Tree → List Drive → Closing → State
+-- an end, where these blocks are open
+abbrev pub closed : Open → List Block → Option Closing
+closed o [] = Some (whole_body (function_of o))
+closed o (b ∷ bs) = option_map (λ f. one_block (ended_in o b bs f)) (ended b.began o.done)
+
+-- ---- lines of a script
+
+-- what was read
+pub record State : Type 0 where
+  pub trees : List Tree
+  pub drives : List DriveLine
+  pub inside : Option Open
+
+abbrev pub state : List Tree → List DriveLine → Option Open → State
+state ts ds i = record { trees = ts; drives = ds; inside = i }
+
+-- nothing was read
+abbrev pub start : State
+start = state [] [] None
+
+abbrev pub closes : List Tree → List DriveLine → Closing → State
 closes ts ds (whole_body t) = state (ts ++ t ∷ []) ds None
 closes ts ds (one_block o) = state ts ds (Some o)
 
-abbrev pub still_inside : List Tree → List Drive → Option Open → Option State
-still_inside ts ds None = None
-still_inside ts ds (Some o) = Some (state ts ds (Some o))
-
-abbrev pub is_end : Line → Bool
-is_end line.End = true
-is_end (line.Assign x a) = false
-is_end (line.Operate x op atoms) = false
-is_end (line.Do op atoms) = false
-is_end (line.Show a) = false
-is_end (line.Return a) = false
-is_end line.Pass = false
-is_end (line.If a) = false
-is_end line.Else = false
-is_end (line.While a) = false
-is_end (line.Def f ps) = false
-is_end (line.Call f args) = false
+abbrev pub still_inside : List Tree → List DriveLine → Option Open → Option State
+still_inside ts ds o = option_map (λ x. state ts ds (Some x)) o
 
 -- a line where a body is open
-abbrev pub in_body : List Tree → List Drive → Open → ℕ → Line → Option State
-in_body ts ds o n l = if is_end l then Some (closes ts ds (closed o o.blocks)) else still_inside ts ds (goes_on o n l)
+abbrev pub in_body : List Tree → List DriveLine → Open → ℕ → Line → Option State
+in_body ts ds o n line.End = option_map (closes ts ds) (closed o o.blocks)
+in_body ts ds o n (line.Plain p) = still_inside ts ds (goes_on o n (line.Plain p))
+in_body ts ds o n (line.Opens h) = still_inside ts ds (goes_on o n (line.Opens h))
+in_body ts ds o n (line.Turns t) = still_inside ts ds (goes_on o n (line.Turns t))
+in_body ts ds o n (line.Header h) = None
+in_body ts ds o n (line.Drive d) = None
+
+-- the body that a header opens
+abbrev pub headed : List Tree → List DriveLine → ℕ → Header → Option State
+headed ts ds n (header.Def f ps) = only_if (may_declare (map declared_as ts) f ps) (state ts ds (Some (opened n f ps)))
 
 -- a line outside of bodies
-abbrev pub outside : List Tree → List Drive → ℕ → Line → Option State
+abbrev pub outside : List Tree → List DriveLine → ℕ → Line → Option State
 outside ts ds n line.End = None
-outside ts ds n (line.Assign x a) = None
-outside ts ds n (line.Operate x op atoms) = None
-outside ts ds n (line.Do op atoms) = None
-outside ts ds n (line.Show a) = None
-outside ts ds n (line.Return a) = None
-outside ts ds n line.Pass = None
-outside ts ds n (line.If a) = None
-outside ts ds n line.Else = None
-outside ts ds n (line.While a) = None
-outside ts ds n (line.Def f ps) = only_if (may_declare ts f ps) (state ts ds (Some (opened n f ps)))
-outside ts ds n (line.Call f args) = only_if (may_drive ts (length ds) f args) (state ts (ds ++ record { function = f; args = args } ∷ []) None)
+outside ts ds n (line.Plain p) = None
+outside ts ds n (line.Opens h) = None
+outside ts ds n (line.Turns t) = None
+outside ts ds n (line.Header h) = headed ts ds n h
+outside ts ds n (line.Drive d) = only_if (may_drive (map declared_as ts) (length ds) d) (state ts (ds ++ d ∷ []) None)
 
-abbrev pub accept_at : List Tree → List Drive → Option Open → ℕ → Line → Option State
+abbrev pub accept_at : List Tree → List DriveLine → Option Open → ℕ → Line → Option State
 accept_at ts ds None n l = outside ts ds n l
 accept_at ts ds (Some o) n l = in_body ts ds o n l
 
@@ -172,20 +195,23 @@ takes_line st n Malformed = None
 takes_line st n Blank = Some st
 takes_line st n (Said l) = accept st n l
 
+-- ---- a whole text
+
 -- what comes of a text: its script, or its bad line
 pub data Verdict : Type 0 where
-  Good : List Tree → List Drive → Verdict
+  Good : List Tree → List DriveLine → Verdict
   Bad : ℕ → Verdict
 
-abbrev pub at_end : List Tree → List Drive → Option Open → ℕ → Verdict
+abbrev pub at_end : List Tree → List DriveLine → Option Open → ℕ → Verdict
 at_end ts ds None n = Good ts ds
 at_end ts ds (Some o) n = Bad n
 
-abbrev pub goes_with : Option State → ℕ → (State → Verdict) → Verdict
-goes_with None n f = Bad n
-goes_with (Some st) n f = f st
+-- a verdict where the n-th line is taken or refused; `next` says how it goes on from a state
+abbrev pub Goes : Option State → ℕ → (State → Verdict → Type 0) → Verdict → Type 0
+Goes None n next v = v ≡ Bad n
+Goes (Some st) n next v = next st v
 
 -- the verdict on the lines from the n-th on
-abbrev pub walk : State → ℕ → Text → Verdict
-walk st n [] = at_end st.trees st.drives st.inside n
-walk st n (l ∷ ls) = goes_with (takes_line st n (says l)) n (λ st2. walk st2 (suc n) ls)
+abbrev pub WalksTo : State → ℕ → Text → Verdict → Type 0
+WalksTo st n [] v = v ≡ at_end st.trees st.drives st.inside n
+WalksTo st n (l ∷ ls) v = (r : LineRead) × IsReadAs l r × Goes (takes_line st n r) n (λ st2 w. WalksTo st2 (suc n) ls w) v

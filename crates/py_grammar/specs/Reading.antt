@@ -1,28 +1,28 @@
 -- The program's reader and answers as the definitions see them.
-use Rattle.std.specs.Prelude.{◌≡◌, List, [], ◌∷◌, option_map}
+use Rattle.std.specs.Prelude.{ℕ, List, [], ◌∷◌, option_map}
 use Rattle.std.specs.declared.result.Result.{Result}
 use Rattle.std.specs.declared.result.Result.TheVariants.{Ok, Err}
-use Rattle.py_body.specs.Tree.{suite_of, tree_of}
+use Rattle.py_tree.specs.Views.{suite_of, tree_of}
 use Rattle.py_grammar.specs.declared.fault.ParseFault.{ParseFault}
 use Rattle.py_grammar.specs.declared.fault.ParseFault.TheVariants.{Malformed, NoMemory}
 use Rattle.py_grammar.specs.declared.open_body.BlockHead.{BlockHead}
-use Rattle.py_grammar.specs.declared.open_body.BlockHead.TheVariants as head
+use Rattle.py_grammar.specs.declared.open_body.BlockHead.TheVariants as block
 use Rattle.py_grammar.specs.declared.open_body.OpenBlock.{OpenBlock}
 use Rattle.py_grammar.specs.declared.open_body.OpenBody.{OpenBody}
 use Rattle.py_grammar.specs.declared.open_body.Closed.{Closed}
 use Rattle.py_grammar.specs.declared.open_body.Closed.TheVariants as closed
 use Rattle.py_grammar.specs.declared.script.Script.{Script}
-use Rattle.py_grammar.specs.Script.{trees_of, drives_of}
-use Rattle.py_grammar.specs.Reader.{Head, in_if, in_else, in_while, Block, Open, Closing, whole_body, one_block, State, state, Verdict, Good, Bad}
+use Rattle.py_grammar.specs.Script.{trees_of, Text}
+use Rattle.py_grammar.specs.Reader.{Began, in_if, in_else, in_while, Block, Open, Closing, whole_body, one_block, State, state, Good, Bad, WalksTo, start}
 use Rattle.py_grammar.specs.Tables.{SoFar}
 
-abbrev pub head_of : BlockHead → Head
-head_of (head.If a) = in_if a
-head_of (head.Else a s) = in_else a (suite_of s)
-head_of (head.While a) = in_while a
+abbrev pub began_of : BlockHead → Began
+began_of (block.If a) = in_if a
+began_of (block.Else a s) = in_else a (suite_of s)
+began_of (block.While a) = in_while a
 
 abbrev pub block_of : OpenBlock → Block
-block_of b = record { before = suite_of b.before; line = b.line; head = head_of b.head }
+block_of b = record { before = suite_of b.before; line = b.line; began = began_of b.head }
 
 -- blocks from the outermost in, turned around in front of others
 abbrev pub onto : List Block → List OpenBlock → List Block
@@ -34,20 +34,24 @@ abbrev pub stack_of : List OpenBlock → List Block
 stack_of bs = onto [] bs
 
 abbrev pub open_of : OpenBody → Open
-open_of o = record { line = o.line; name = o.name; params = o.params; blocks = stack_of o.blocks.items; done = suite_of o.done }
+open_of o = record { line = o.line; kind = o.kind; name = o.name; params = o.params; blocks = stack_of o.blocks.items; done = suite_of o.done }
 
 abbrev pub closing_of : Closed → Closing
 closing_of (closed.Function b) = whole_body (tree_of b)
 closing_of (closed.Block o) = one_block (open_of o)
 
 abbrev pub state_of : SoFar → State
-state_of r = state (trees_of r.whole) (drives_of r.whole) (option_map open_of r.inside)
+state_of r = state (trees_of r.whole) r.whole.drives (option_map open_of r.inside)
 
-abbrev pub IsFaultOf : Verdict → ParseFault → Type 0
-IsFaultOf v (Malformed k) = v ≡ Bad k
-IsFaultOf v NoMemory = Unit {0}
+-- from a state on, lines come to this answer, unless memory ran out
+abbrev pub ComesToFault : State → ℕ → Text → ParseFault → Type 0
+ComesToFault st n text (Malformed k) = WalksTo st n text (Bad k)
+ComesToFault st n text NoMemory = Unit {0}
 
--- an answer is the verdict, unless memory ran out
-abbrev pub IsAnswerOf : Verdict → Result Script ParseFault → Type 0
-IsAnswerOf v (Ok s) = v ≡ Good (trees_of s) (drives_of s)
-IsAnswerOf v (Err e) = IsFaultOf v e
+abbrev pub ComesTo : State → ℕ → Text → Result Script ParseFault → Type 0
+ComesTo st n text (Ok s) = WalksTo st n text (Good (trees_of s) s.drives)
+ComesTo st n text (Err e) = ComesToFault st n text e
+
+-- so does a whole text
+abbrev pub IsAnswerTo : Text → Result Script ParseFault → Type 0
+IsAnswerTo text r = ComesTo start 1 text r

@@ -1,14 +1,32 @@
--- The rules on lines that look at what stands before them, each a test.
-use Rattle.std.specs.Prelude.{ℕ, Option, Some, None, List, [], ◌∷◌, length, Bool, true, ◌&&◌, not, nat_le, nat_lt, bytes_eq, map}
+-- The rules on lines that look at what stands around them, each a test.
+use Rattle.std.specs.Prelude.{ℕ, suc, List, [], ◌∷◌, length, Bool, true, false, ◌&&◌, ◌||◌, not, nat_le, nat_lt, bytes_eq, map}
 use Rattle.std.specs.List.{list_any, list_all}
 use Rattle.py_objects.specs.Objects.{error_kinds, name_of}
-use Rattle.py_body.specs.declared.atom.Atom.{Atom}
-use Rattle.py_body.specs.declared.atom.Atom.TheVariants as atom
-use Rattle.py_body.specs.declared.atom.Operator.{Operator}
-use Rattle.py_body.specs.Tree.{Name, Tree}
-use Rattle.py_body.specs.Binding.{takes_count}
-use Rattle.py_grammar.specs.declared.drive.DriveAtom.{DriveAtom}
-use Rattle.py_grammar.specs.declared.drive.DriveAtom.TheVariants as drive
+use Rattle.py_tree.specs.declared.expr.Atom.{Atom}
+use Rattle.py_tree.specs.declared.expr.Atom.TheVariants as atom
+use Rattle.py_tree.specs.declared.expr.Expr.{Expr}
+use Rattle.py_tree.specs.declared.expr.Expr.TheVariants as expr
+use Rattle.py_tree.specs.declared.expr.Operation.{Operation}
+use Rattle.py_tree.specs.declared.expr.Operation.TheVariants as operation
+use Rattle.py_tree.specs.Tree.{Name}
+use Rattle.py_lines.specs.declared.drive.DriveAtom.{DriveAtom}
+use Rattle.py_lines.specs.declared.drive.DriveAtom.TheVariants as argument
+use Rattle.py_lines.specs.declared.drive.DriveLine.{DriveLine}
+use Rattle.py_lines.specs.declared.drive.DriveLine.TheVariants as drive
+use Rattle.py_lines.specs.declared.head.Head.{Head}
+use Rattle.py_lines.specs.declared.head.Head.TheVariants as head
+use Rattle.py_lines.specs.declared.plain.Plain.{Plain}
+use Rattle.py_lines.specs.declared.plain.Plain.TheVariants as plain
+use Rattle.py_grammar.specs.declared.rules.Inside.{Inside}
+use Rattle.py_grammar.specs.declared.script.Kind.{Kind}
+use Rattle.py_grammar.specs.declared.script.Kind.TheVariants as kind
+
+-- ---- what was declared before
+
+-- a declaration by what later lines ask of it
+pub record Declared : Type 0 where
+  pub name : Name
+  pub kind : Kind
 
 abbrev pub is_among : Name → List Name → Bool
 is_among x ys = list_any (bytes_eq x) ys
@@ -18,8 +36,15 @@ abbrev pub all_differ : List Name → Bool
 all_differ [] = true
 all_differ (x ∷ xs) = not (is_among x xs) && all_differ xs
 
-abbrev pub declares : Name → List Tree → Bool
-declares f ts = list_any (λ t. bytes_eq f t.name) ts
+abbrev pub declares : Name → List Declared → Bool
+declares x ds = list_any (λ d. bytes_eq x d.name) ds
+
+abbrev pub is_callable : Kind → Bool
+is_callable kind.Function = true
+
+-- whether what is declared under a name can be called
+abbrev pub declares_callable : Name → List Declared → Bool
+declares_callable f ds = list_any (λ d. bytes_eq f d.name && is_callable d.kind) ds
 
 -- the names of the classes that are there without a declaration
 abbrev pub is_builtin_class : Name → Bool
@@ -27,23 +52,25 @@ is_builtin_class f = is_among f (map name_of error_kinds)
 
 -- whether, behind these declarations, a function may have this name and these parameters:
 -- its name is new, and at most 255 parameters have names of their own
-abbrev pub may_declare : List Tree → Name → List Name → Bool
-may_declare ts f ps = not (declares f ts) && not (is_builtin_class f) && all_differ ps && nat_le (length ps) 255
+abbrev pub may_declare : List Declared → Name → List Name → Bool
+may_declare ds f ps = not (declares f ds) && not (is_builtin_class f) && all_differ ps && nat_le (length ps) 255
 
 -- whether, behind these declarations and so many drives, a drive may have this argument:
 -- a literal, the name of a declaration, or the number of a drive
-abbrev pub is_drivable : List Tree → ℕ → DriveAtom → Bool
-is_drivable ts made drive.None = true
-is_drivable ts made (drive.Bool b) = true
-is_drivable ts made (drive.Int n) = true
-is_drivable ts made (drive.Str s) = true
-is_drivable ts made (drive.Name x) = declares x ts
-is_drivable ts made (drive.Drive n) = nat_le 1 n && nat_le n made
+abbrev pub is_drivable : List Declared → ℕ → DriveAtom → Bool
+is_drivable ds made argument.None = true
+is_drivable ds made (argument.Bool b) = true
+is_drivable ds made (argument.Int n) = true
+is_drivable ds made (argument.Str s) = true
+is_drivable ds made (argument.Name x) = declares x ds
+is_drivable ds made (argument.Drive n) = nat_le 1 n && nat_le n made
 
--- whether, behind these declarations and so many drives, a drive may call this function with these arguments:
--- the function is declared, and it has at most 255 arguments, each of which may stand here
-abbrev pub may_drive : List Tree → ℕ → Name → List DriveAtom → Bool
-may_drive ts made f args = declares f ts && nat_le (length args) 255 && list_all (is_drivable ts made) args
+-- whether, behind these declarations and so many drives, this drive may stand: it calls what can be called,
+-- with at most 255 arguments, each of which may stand here
+abbrev pub may_drive : List Declared → ℕ → DriveLine → Bool
+may_drive ds made (drive.Call f args) = declares_callable f ds && nat_le (length args) 255 && list_all (is_drivable ds made) args
+
+-- ---- what stands in a body
 
 -- whether an atom may stand in a body: it isn't the name of a built-in class
 abbrev pub is_usable : Atom → Bool
@@ -57,14 +84,47 @@ is_usable (atom.Name x) = not (is_builtin_class x)
 abbrev pub is_bindable : Name → Bool
 is_bindable x = not (is_builtin_class x)
 
-abbrev pub is_bindable_if : Option Name → Bool
-is_bindable_if None = true
-is_bindable_if (Some x) = is_bindable x
+-- whether an operation may: each of its atoms may, and a call has at most 255 arguments
+abbrev pub may_operate : Operation → Bool
+may_operate (operation.Add a b) = is_usable a && is_usable b
+may_operate (operation.Sub a b) = is_usable a && is_usable b
+may_operate (operation.Lt a b) = is_usable a && is_usable b
+may_operate (operation.Eq a b) = is_usable a && is_usable b
+may_operate (operation.Call f atoms) = is_usable f && nat_le (length atoms) 255 && list_all is_usable atoms
 
--- whether an operator may take these atoms: it takes so many, and each may stand in a body
-abbrev pub may_operate : Operator → List Atom → Bool
-may_operate op atoms = takes_count op (length atoms) && list_all is_usable atoms
+abbrev pub may_compute : Expr → Bool
+may_compute (expr.Atom a) = is_usable a
+may_compute (expr.Operation o) = may_operate o
 
--- whether one more block may be opened where so many are open, the body itself among them
-abbrev pub has_room : ℕ → Bool
-has_room blocks = nat_lt blocks 64
+-- ---- where it stands
+
+-- where the statements of a body of this kind stand: the body is open alone
+abbrev pub body_of : Kind → Inside
+body_of k = record { kind = k; blocks = 1; in_loop = false }
+
+abbrev pub is_loop : Head → Bool
+is_loop (head.If a) = false
+is_loop (head.While a) = true
+
+-- where those of a block stand that is opened by this line
+abbrev pub within : Inside → Head → Inside
+within i h = record { kind = i.kind; blocks = suc i.blocks; in_loop = is_loop h || i.in_loop }
+
+-- whether a plain statement may stand somewhere
+abbrev pub may_hold : Inside → Plain → Bool
+may_hold i (plain.Assign x e) = is_bindable x && may_compute e
+may_hold i (plain.Do o) = may_operate o
+may_hold i (plain.Show a) = is_usable a
+may_hold i (plain.Return a) = is_usable a
+may_hold i plain.Break = i.in_loop
+may_hold i plain.Continue = i.in_loop
+may_hold i plain.Pass = true
+
+-- whether this line may open a block, by itself
+abbrev pub may_begin : Head → Bool
+may_begin (head.If a) = is_usable a
+may_begin (head.While a) = is_usable a
+
+-- and whether it may there: at most 64 blocks are open at once, the body among them
+abbrev pub may_open : Inside → Head → Bool
+may_open i h = nat_lt i.blocks 64 && may_begin h

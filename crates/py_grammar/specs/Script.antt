@@ -1,31 +1,25 @@
 -- Which bytes are a script, and which line of them is the bad one.
 use Rattle.std.specs.Prelude.{◌≡◌, ◌⊎◌, ℕ, suc, List, [], ◌∷◌, ◌++◌, length, Option, Some, None, option_map, map}
-use Rattle.py_body.specs.Tree.{Tree, tree_of}
-use Rattle.py_grammar.specs.declared.line.LineRead.{LineRead}
-use Rattle.py_grammar.specs.declared.line.LineRead.TheVariants.{Blank, Said, Malformed}
+use Rattle.std.specs.List.{AllZip}
+use Rattle.py_tree.specs.Tree.{Tree}
+use Rattle.py_tree.specs.Views.{tree_of}
+use Rattle.py_lines.specs.declared.drive.DriveLine.{DriveLine}
+use Rattle.py_lines.specs.declared.line.LineRead.{LineRead}
+use Rattle.py_lines.specs.declared.line.LineRead.TheVariants.{Blank, Said, Malformed}
+use Rattle.py_lines.specs.Reading.{IsReadAs}
 use Rattle.py_grammar.specs.declared.script.Declaration.{Declaration}
 use Rattle.py_grammar.specs.declared.script.Declaration.TheVariants.{Function}
-use Rattle.py_grammar.specs.declared.script.DriveLine.{DriveLine}
-use Rattle.py_grammar.specs.declared.script.DriveLine.TheVariants.{Call}
 use Rattle.py_grammar.specs.declared.script.Script.{Script}
-use Rattle.py_grammar.specs.Drive.{Drive}
 use Rattle.py_grammar.specs.Grammar.{Row, row, Item, items_rows, trees_in, drives_in, WellItems}
 use Rattle.py_grammar.specs.Lines.{lines}
-use Rattle.py_grammar.specs.Says.{says}
 
 -- the tree of a declaration
 abbrev pub declared_tree : Declaration → Tree
 declared_tree (Function b) = tree_of b
 
-abbrev pub drive_of : DriveLine → Drive
-drive_of (Call f args) = record { function = f; args = args }
-
--- what a script declares and drives, as plain data
+-- what a script declares, as plain data
 abbrev pub trees_of : Script → List Tree
 trees_of s = map declared_tree s.declarations
-
-abbrev pub drives_of : Script → List Drive
-drives_of s = map drive_of s.drives
 
 -- a text by its lines
 abbrev pub Text : Type 0
@@ -37,22 +31,24 @@ with_read n Malformed rows = None
 with_read n Blank rows = rows
 with_read n (Said l) rows = option_map (λ rs. row n l ∷ rs) rows
 
--- the rows of lines from the n-th on, where each is well formed
-abbrev pub rows_from : ℕ → Text → Option (List Row)
+-- the rows of lines that read so from the n-th on, where each is well formed
+abbrev pub rows_from : ℕ → List LineRead → Option (List Row)
 rows_from n [] = Some []
-rows_from n (l ∷ ls) = with_read n (says l) (rows_from (suc n) ls)
+rows_from n (r ∷ rs) = with_read n r (rows_from (suc n) rs)
 
--- the lines spell these declarations and drives: they are the rows of items that keep the rules
-pub record Spells (text : Text) (trees : List Tree) (drives : List Drive) : Type 0 where
+-- the lines spell these declarations and drives: what they say, each by itself, are the rows of items that keep the rules
+pub record Spells (text : Text) (trees : List Tree) (drives : List DriveLine) : Type 0 where
   pub items : List Item
-  pub spelled : rows_from 1 text ≡ Some (items_rows items)
+  pub reads : List LineRead
+  pub read : AllZip IsReadAs text reads
+  pub spelled : rows_from 1 reads ≡ Some (items_rows items)
   pub well : WellItems [] 0 items
   pub declared : trees ≡ trees_in items
   pub driven : drives ≡ drives_in items
 
 -- some script begins with these lines
 abbrev pub Begins : Text → Type 0
-Begins text = (more : List ℕ) × (trees : List Tree) × (drives : List Drive) × Spells (text ++ lines more) trees drives
+Begins text = (more : List ℕ) × (trees : List Tree) × (drives : List DriveLine) × Spells (text ++ lines more) trees drives
 
 -- some script begins with the lines before the k-th, none with those up to it
 abbrev pub IsFirstBad : Text → ℕ → Type 0
@@ -60,7 +56,7 @@ IsFirstBad text k = (front : Text) × (l : List ℕ) × (back : Text) × (text �
 
 -- the lines are the beginning of a script and no whole one: the next line is missing
 abbrev pub IsLeftOpen : Text → ℕ → Type 0
-IsLeftOpen text k = (k ≡ suc (length text)) × Begins text × ((trees : List Tree) → (drives : List Drive) → Spells text trees drives → ⊥)
+IsLeftOpen text k = (k ≡ suc (length text)) × Begins text × ((trees : List Tree) → (drives : List DriveLine) → Spells text trees drives → ⊥)
 
 -- the bad line of bytes that are no script
 abbrev pub IsBadLine : List ℕ → ℕ → Type 0
@@ -68,4 +64,4 @@ IsBadLine bytes k = IsFirstBad (lines bytes) k ⊎ IsLeftOpen (lines bytes) k
 
 -- the bytes are this script
 abbrev pub IsScript : List ℕ → Script → Type 0
-IsScript bytes s = Spells (lines bytes) (trees_of s) (drives_of s)
+IsScript bytes s = Spells (lines bytes) (trees_of s) s.drives

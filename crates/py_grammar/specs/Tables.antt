@@ -1,9 +1,11 @@
 -- What a reader keeps, and the names that its table has.
 use Rattle.std.specs.Prelude.{ℕ, Option, Some, None, List, [], ◌∷◌, ◌++◌, ◌&&◌, not, nat_le, length, Bool, true, map}
 use Rattle.std.specs.List.{list_all}
-use Rattle.py_body.specs.Tree.{Name, Tree}
-use Rattle.py_grammar.specs.declared.drive.DriveAtom.{DriveAtom}
-use Rattle.py_grammar.specs.declared.drive.DriveAtom.TheVariants as drive
+use Rattle.py_tree.specs.Tree.{Name, Tree}
+use Rattle.py_lines.specs.declared.drive.DriveAtom.{DriveAtom}
+use Rattle.py_lines.specs.declared.drive.DriveAtom.TheVariants as argument
+use Rattle.py_lines.specs.declared.drive.DriveLine.{DriveLine}
+use Rattle.py_lines.specs.declared.drive.DriveLine.TheVariants as drive
 use Rattle.py_grammar.specs.declared.open_body.OpenBody.{OpenBody}
 use Rattle.py_grammar.specs.declared.script.Script.{Script}
 use Rattle.py_grammar.specs.Rules.{is_among, all_differ, is_builtin_class}
@@ -26,15 +28,15 @@ taken_names ts (Some o) = names_of ts ++ o.name ∷ []
 abbrev pub may_head : List Name → Name → List Name → Bool
 may_head names f ps = nat_le (length ps) 255 && not (is_among f names) && not (is_builtin_class f) && all_differ ps
 
--- whether, behind declarations with these names and so many drives, a drive may have this argument
+-- whether, behind functions with these names and so many drives, a drive may have this argument
 abbrev pub is_drivable_by : List Name → ℕ → DriveAtom → Bool
-is_drivable_by names made drive.None = true
-is_drivable_by names made (drive.Bool b) = true
-is_drivable_by names made (drive.Int n) = true
-is_drivable_by names made (drive.Str s) = true
-is_drivable_by names made (drive.Name x) = is_among x names
-is_drivable_by names made (drive.Drive n) = nat_le 1 n && nat_le n made
+is_drivable_by names made argument.None = true
+is_drivable_by names made (argument.Bool b) = true
+is_drivable_by names made (argument.Int n) = true
+is_drivable_by names made (argument.Str s) = true
+is_drivable_by names made (argument.Name x) = is_among x names
+is_drivable_by names made (argument.Drive n) = nat_le 1 n && nat_le n made
 
--- and whether it may call this function with these arguments
-abbrev pub may_call : List Name → ℕ → Name → List DriveAtom → Bool
-may_call names made f args = nat_le (length args) 255 && is_among f names && list_all (is_drivable_by names made) args
+-- and whether a drive may stand
+abbrev pub may_drive_by : List Name → ℕ → DriveLine → Bool
+may_drive_by names made (drive.Call f args) = nat_le (length args) 255 && is_among f names && list_all (is_drivable_by names made) args

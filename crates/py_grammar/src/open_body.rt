@@ -1,21 +1,21 @@
 //! The body that is open while its lines are read, with the blocks that are open in it.
 //! A block lies on a stack until its `end`, so that no line walks over what was read before it.
 
-ghost use Rattle.std.specs.Prelude.{◌≡◌, ◌&&◌, IfOk, option_map, suc, length};
-ghost use Rattle.py_body.specs.Tree.{form_of, suite_of};
-ghost use Rattle.py_grammar.specs.Rules.{has_room as is_room};
-ghost use Rattle.py_grammar.specs.Reader.{opened, grown, deeper, else_of, turned, goes_on, only_if, ended, closed};
-ghost use Rattle.py_grammar.specs.Reading.{head_of, open_of, closing_of};
+ghost use Rattle.std.specs.Prelude.{◌≡◌, IfOk, option_map, Some};
+ghost use Rattle.std.specs.List.{list_any};
+ghost use Rattle.py_tree.specs.Views.{form_of, suite_of};
+ghost use Rattle.py_lines.specs.declared.line.Line.TheVariants.{Plain as PlainLine, Opens as OpensLine, Turns as TurnsLine};
+ghost use Rattle.py_grammar.specs.Rules.{is_loop as is_loop_head};
+ghost use Rattle.py_grammar.specs.Reader.{began, closed, deeper, ended, goes_on, grown, inside as is_inside, only_if, opened, opener, plain_form, turned, turned_by};
+ghost use Rattle.py_grammar.specs.Reading.{began_of, closing_of, open_of};
 
-use crate::line::Line;
-use crate::rules::{is_bindable, is_usable, may_operate};
-use py_body::{Atom, Body, ParamList, Stmt, StmtForm, StmtList};
+use crate::rules::{Inside, may_hold, may_open};
+use crate::script::Kind;
 use py_code::{NoMemory, PyText};
+use py_lines::{Head, Line, Plain, Turn};
+use py_tree::{Atom, Body, ParamList, Stmt, StmtForm, StmtList};
 use std::alloc::Global;
 use std::mem;
-
-/// How many blocks may be open at once, the body among them.
-const MOST_BLOCKS: usize = 64;
 
 /// How an open block began.
 #[derive(Drop)]
@@ -41,6 +41,7 @@ pub struct OpenBlock {
 #[derive(Drop)]
 pub struct OpenBody {
     line: u32,
+    kind: Kind,
     name: PyText,
     params: ParamList,
     blocks: Vec<OpenBlock>,
@@ -56,35 +57,83 @@ pub enum Closed {
     Block(OpenBody),
 }
 
-/// How a block goes on behind an `else`, where it may have one.
-fn else_head(head: BlockHead, suite: StmtList) -> Option<BlockHead>
-    ensures { option_map head_of result ≡ else_of (head_of head) (suite_of suite) }
+/// The statement that a plain line is.
+fn statement_of(plain: Plain) -> StmtForm
+    ensures { form_of result ≡ plain_form plain }
 {
-    match head {
-        BlockHead::If(atom) => Some(BlockHead::Else(atom, suite)),
-        BlockHead::Else(_, _) => None,
-        BlockHead::While(_) => None,
+    match plain {
+        Plain::Assign(target, value) => StmtForm::Assign(target, value),
+        Plain::Do(operation) => StmtForm::Do(operation),
+        Plain::Show(atom) => StmtForm::Show(atom),
+        Plain::Return(atom) => StmtForm::Return(atom),
+        Plain::Break => StmtForm::Break,
+        Plain::Continue => StmtForm::Continue,
+        Plain::Pass => StmtForm::Pass,
     }
 }
 
-/// The statement that a block with this last suite is at its end.
-fn form_at_end(head: BlockHead, suite: StmtList) -> StmtForm
-    ensures { form_of result ≡ ended (head_of head) (suite_of suite) }
-{
-    match head {
-        BlockHead::If(atom) => StmtForm::If(atom, suite),
-        BlockHead::Else(atom, first) => StmtForm::IfElse(atom, first, suite),
-        BlockHead::While(atom) => StmtForm::While(atom, suite),
+impl BlockHead {
+    /// How a block begins with the line that opens it.
+    fn of(head: Head) -> BlockHead
+        ensures { began_of result ≡ began head }
+    {
+        match head {
+            Head::If(atom) => BlockHead::If(atom),
+            Head::While(atom) => BlockHead::While(atom),
+        }
     }
+
+    /// Whether the block is a loop.
+    fn is_loop(&self) -> bool
+        ensures { result ≡ is_loop_head (opener (began_of self.now)) }
+    {
+        match self {
+            BlockHead::If(_) => false,
+            BlockHead::Else(_, _) => false,
+            BlockHead::While(_) => true,
+        }
+    }
+
+    /// How the block goes on behind this turn and its last suite, where it may turn so.
+    fn turned(self, turn: Turn, suite: StmtList) -> Option<BlockHead>
+        ensures { option_map began_of result ≡ turned_by turn (began_of self) (suite_of suite) }
+    {
+        match turn {
+            Turn::Else => match self {
+                BlockHead::If(atom) => Some(BlockHead::Else(atom, suite)),
+                BlockHead::Else(_, _) => None,
+                BlockHead::While(_) => None,
+            },
+        }
+    }
+
+    /// The statement that the block is at its end with this last suite, where it may end.
+    fn ended(self, suite: StmtList) -> Option<StmtForm>
+        ensures { option_map form_of result ≡ ended (began_of self) (suite_of suite) }
+    {
+        match self {
+            BlockHead::If(atom) => Some(StmtForm::If(atom, suite)),
+            BlockHead::Else(atom, first) => Some(StmtForm::IfElse(atom, first, suite)),
+            BlockHead::While(atom) => Some(StmtForm::While(atom, suite)),
+        }
+    }
+}
+
+/// Whether one of these blocks is a loop.
+fn have_loop(blocks: &[OpenBlock]) -> bool
+    ensures { result ≡ list_any (λ block. is_loop_head (opener (began_of block.head))) blocks.now }
+{
+    blocks.iter().any(|block| block.head.is_loop())
 }
 
 impl OpenBody {
-    /// A body of which the header alone was read.
+    /// The body of a function of which the header alone was read.
     pub fn new(alloc: Global, line: u32, name: PyText, params: ParamList) -> OpenBody
         ensures { open_of result ≡ opened line name params }
     {
         OpenBody {
             line,
+            kind: Kind::Function,
             name,
             params,
             blocks: Vec::new(alloc),
@@ -92,50 +141,53 @@ impl OpenBody {
         }
     }
 
-    /// Whether one more block may be opened.
-    #[tactic(auto, using(crate::proofs::Stacks::stack_length))]
-    fn has_room(&self) -> bool
-        ensures { result ≡ is_room (suc (length (open_of self.now).blocks)) }
+    /// Where the next statement stands.
+    #[tactic(auto, using(crate::proofs::Stacks::stack_inside))]
+    fn inside(&self) -> Inside
+        ensures { result ≡ is_inside (open_of self.now) }
     {
-        self.blocks.len() + 1 < MOST_BLOCKS
+        Inside {
+            kind: self.kind,
+            blocks: self.blocks.len() + 1,
+            in_loop: have_loop(&self.blocks),
+        }
     }
 
-    /// One more statement, where it is allowed.
-    fn grow_if(self, allowed: bool, line: u32, form: StmtForm) -> Result<Option<OpenBody>, NoMemory>
-        ensures { IfOk result (λ next. option_map open_of next ≡ only_if allowed (grown (open_of self) line (form_of form))) }
+    /// One more plain statement, where it is allowed.
+    fn hold(self, number: u32, plain: Plain) -> Result<Option<OpenBody>, NoMemory>
+        ensures { IfOk result (λ next. option_map open_of next ≡ goes_on (open_of self) number (PlainLine plain)) }
     {
-        if !allowed {
+        if !may_hold(self.inside(), &plain) {
             return Ok(None);
         }
         let mut body = self;
-        body.done.push(Stmt { line, form })?;
+        let form = statement_of(plain);
+        body.done.push(Stmt { line: number, form })?;
         Ok(Some(body))
     }
 
-    /// One more open block, where there is room for it and its atom is allowed.
+    /// One more open block, where it is allowed.
     #[tactic(auto, using(crate::proofs::Stacks::stack_push))]
-    fn open_if(
-        self,
-        alloc: Global,
-        allowed: bool,
-        line: u32,
-        head: BlockHead,
-    ) -> Result<Option<OpenBody>, NoMemory>
-        ensures { IfOk result (λ next. option_map open_of next ≡ only_if (is_room (suc (length (open_of self).blocks)) && allowed) (deeper (open_of self) line (head_of head))) }
+    fn open(self, alloc: Global, number: u32, head: Head) -> Result<Option<OpenBody>, NoMemory>
+        ensures { IfOk result (λ next. option_map open_of next ≡ goes_on (open_of self) number (OpensLine head)) }
     {
-        if !self.has_room() || !allowed {
+        if !may_open(self.inside(), &head) {
             return Ok(None);
         }
         let mut body = self;
         let before = mem::replace(&mut body.done, StmtList::new(alloc));
-        body.blocks.push(OpenBlock { before, line, head })?;
+        body.blocks.push(OpenBlock {
+            before,
+            line: number,
+            head: BlockHead::of(head),
+        })?;
         Ok(Some(body))
     }
 
-    /// The innermost block behind an `else`, where it may have one.
+    /// The innermost block turned to its next suite, where it may turn so.
     #[tactic(auto, using(crate::proofs::Stacks::stack_push))]
-    fn turn(self, alloc: Global) -> Result<Option<OpenBody>, NoMemory>
-        ensures { IfOk result (λ next. option_map open_of next ≡ turned (open_of self) (open_of self).blocks) }
+    fn turn(self, alloc: Global, turn: Turn) -> Result<Option<OpenBody>, NoMemory>
+        ensures { IfOk result (λ next. option_map open_of next ≡ turned (open_of self) turn (open_of self).blocks) }
     {
         let mut body = self;
         let Some(block) = body.blocks.pop() else {
@@ -143,7 +195,7 @@ impl OpenBody {
         };
         let OpenBlock { before, line, head } = block;
         let suite = mem::replace(&mut body.done, StmtList::new(alloc));
-        let Some(head) = else_head(head, suite) else {
+        let Some(head) = head.turned(turn, suite) else {
             return Ok(None);
         };
         body.blocks.push(OpenBlock { before, line, head })?;
@@ -160,63 +212,49 @@ impl OpenBody {
         ensures { IfOk result (λ next. option_map open_of next ≡ goes_on (open_of self) number line) }
     {
         match line {
-            Line::Assign(target, atom) => {
-                let may = is_bindable(&target) && is_usable(&atom);
-                self.grow_if(may, number, StmtForm::Assign(target, atom))
-            }
-            Line::Operate(target, op, atoms) => {
-                let may = is_bindable(&target) && may_operate(op, &atoms);
-                self.grow_if(may, number, StmtForm::Operate(target, op, atoms))
-            }
-            Line::Do(op, atoms) => {
-                self.grow_if(may_operate(op, &atoms), number, StmtForm::Do(op, atoms))
-            }
-            Line::Show(atom) => self.grow_if(is_usable(&atom), number, StmtForm::Show(atom)),
-            Line::Return(atom) => self.grow_if(is_usable(&atom), number, StmtForm::Return(atom)),
-            Line::Pass => self.grow_if(true, number, StmtForm::Pass),
-            Line::If(atom) => self.open_if(alloc, is_usable(&atom), number, BlockHead::If(atom)),
-            Line::Else => self.turn(alloc),
-            Line::While(atom) => {
-                self.open_if(alloc, is_usable(&atom), number, BlockHead::While(atom))
-            }
-            Line::End => Ok(None),
-            Line::Def(_, _) => Ok(None),
-            Line::Call(_, _) => Ok(None),
+            Line::Plain(plain) => self.hold(number, plain),
+            Line::Opens(head) => self.open(alloc, number, head),
+            Line::Turns(turn) => self.turn(alloc, turn),
+            Line::End | Line::Header(_) | Line::Drive(_) => Ok(None),
         }
     }
 
-    /// The body behind an `end`.
+    /// The body behind an `end`, where that may stand here.
     #[tactic(auto, using(crate::proofs::Stacks::stack_push))]
-    pub fn close(self) -> Result<Closed, NoMemory>
-        ensures { IfOk result (λ left. closing_of left ≡ closed (open_of self) (open_of self).blocks) }
+    pub fn close(self) -> Result<Option<Closed>, NoMemory>
+        ensures { IfOk result (λ left. option_map closing_of left ≡ closed (open_of self) (open_of self).blocks) }
     {
         let OpenBody {
             line,
+            kind,
             name,
             params,
             mut blocks,
             done,
         } = self;
         let Some(block) = blocks.pop() else {
-            return Ok(Closed::Function(Body {
+            return Ok(Some(Closed::Function(Body {
                 name,
                 params,
                 suite: done,
                 line,
-            }));
+            })));
         };
-        let form = form_at_end(block.head, done);
+        let Some(form) = block.head.ended(done) else {
+            return Ok(None);
+        };
         let mut done = block.before;
         done.push(Stmt {
             line: block.line,
             form,
         })?;
-        Ok(Closed::Block(OpenBody {
+        Ok(Some(Closed::Block(OpenBody {
             line,
+            kind,
             name,
             params,
             blocks,
             done,
-        }))
+        })))
     }
 }

@@ -1,24 +1,24 @@
 //! Bytes to scripts.
 
-ghost use Rattle.std.specs.Prelude.{◌≡◌, ◌≤◌, ◌⊎◌, IfOk, IsOk, Some, None, Err, length, ℕ, List, option_map};
-ghost use Rattle.py_body.specs.Tree.{Tree};
-ghost use Rattle.py_grammar.specs.Drive.{Drive};
-ghost use Rattle.py_grammar.specs.Script.{IsScript, IsBadLine, Spells, trees_of, drives_of};
+ghost use Rattle.std.specs.Prelude.{◌≡◌, ◌≤◌, ◌⊎◌, IfOk, IsOk, Err, length, ℕ, List, option_map};
+ghost use Rattle.py_tree.specs.Tree.{Tree};
+ghost use Rattle.py_lines.specs.declared.drive.DriveLine.{DriveLine};
+ghost use Rattle.py_lines.specs.declared.line.LineRead.{LineRead as Read};
+ghost use Rattle.py_lines.specs.Reading.{IsReadAs};
+ghost use Rattle.py_grammar.specs.Script.{IsScript, IsBadLine, Spells, trees_of};
 ghost use Rattle.py_grammar.specs.WellFormed.{IsWellFormed};
 ghost use Rattle.py_grammar.specs.Lines.{lines};
-ghost use Rattle.py_grammar.specs.Says.{says};
-ghost use Rattle.py_grammar.specs.Reader.{takes_line, walk, start};
-ghost use Rattle.py_grammar.specs.Reading.{state_of, IsAnswerOf};
+ghost use Rattle.py_grammar.specs.Reader.{takes_line};
+ghost use Rattle.py_grammar.specs.Reading.{state_of, IsAnswerTo};
 ghost use Rattle.py_grammar.specs.declared.fault.ParseFault.TheVariants.{Malformed, NoMemory as OutOfMemory};
 ghost use Rattle.py_grammar.specs.declared.script.Script.{Script as ScriptOf};
 
 use crate::fault::ParseFault;
-use crate::forms::line_of;
-use crate::line::LineRead;
 use crate::lines::first_line;
 use crate::reader::Reader;
 use crate::script::Script;
 use py_code::NoMemory;
+use py_lines::{LineRead, laws_of_lines, read_line};
 use std::alloc::Global;
 
 /// The reader behind one more line of the text, where that may stand here.
@@ -28,9 +28,9 @@ fn push_bytes(
     number: u32,
     line: &[u8],
 ) -> Result<Option<Reader>, NoMemory>
-    ensures { IfOk result (λ next. option_map state_of next ≡ takes_line (state_of reader) number (says line.now)) }
+    ensures { IfOk result (λ next. (read : Read) × IsReadAs line.now read × (option_map state_of next ≡ takes_line (state_of reader) number read)) }
 {
-    match line_of(alloc, line)? {
+    match read_line(alloc, line)? {
         LineRead::Blank => Ok(Some(reader)),
         LineRead::Said(line) => reader.push_line(alloc, number, line),
         LineRead::Malformed => Ok(None),
@@ -40,7 +40,7 @@ fn push_bytes(
 /// What the lines of bytes say to the reader, one after another.
 fn read_lines(alloc: Global, bytes: &[u8]) -> Result<Script, ParseFault>
     requires { length bytes.now ≤ 1048576 }
-    ensures { IsAnswerOf (walk start 1 (lines bytes.now)) result }
+    ensures { IsAnswerTo (lines bytes.now) result }
 {
     let mut reader = Reader::new(alloc);
     let mut rest = bytes;
@@ -73,8 +73,10 @@ pub fn parse_script(alloc: Global, bytes: &[u8]) -> Result<Script, ParseFault>
 
 /// What the grammar keeps: bytes are one script or have one bad line, never both.
 pub fn one_script(bytes: &[u8])
-    ensures script_or_bad { ((trees : List Tree) × (drives : List Drive) × Spells (lines bytes.now) trees drives) ⊎ ((k : ℕ) × IsBadLine bytes.now k) }
-    ensures one_tree { (s : ScriptOf) → (t : ScriptOf) → IsScript bytes.now s → IsScript bytes.now t → (trees_of s ≡ trees_of t) × (drives_of s ≡ drives_of t) }
+    ensures script_or_bad { ((trees : List Tree) × (drives : List DriveLine) × Spells (lines bytes.now) trees drives) ⊎ ((k : ℕ) × IsBadLine bytes.now k) }
+    ensures one_tree { (s : ScriptOf) → (t : ScriptOf) → IsScript bytes.now s → IsScript bytes.now t → (trees_of s ≡ trees_of t) × (s.drives ≡ t.drives) }
     ensures not_both { (s : ScriptOf) → (k : ℕ) → IsScript bytes.now s → IsBadLine bytes.now k → ⊥ }
     ensures one_bad { (j : ℕ) → (k : ℕ) → IsBadLine bytes.now j → IsBadLine bytes.now k → j ≡ k }
-{}
+{
+    laws_of_lines();
+}

@@ -1,21 +1,21 @@
 //! A reader of lines: what was read so far, and whether one more line may stand behind it.
 
 ghost use Rattle.std.specs.Prelude.{◌≡◌, ◌++◌, ◌∷◌, IfOk, Some, None, [], option_map, true};
-ghost use Rattle.py_grammar.specs.Script.{trees_of, drives_of, drive_of};
-ghost use Rattle.py_body.specs.Tree.{tree_of};
-ghost use Rattle.py_grammar.specs.declared.line.Line.TheVariants.{Def as DefLine, Call as CallLine};
-ghost use Rattle.py_grammar.specs.Reader.{accept, start, state, in_body, goes_on, still_inside, opened, outside, closed, closes, walk};
-ghost use Rattle.py_grammar.specs.Reading.{open_of, state_of, IsAnswerOf};
+ghost use Rattle.py_tree.specs.Views.{tree_of};
+ghost use Rattle.py_lines.specs.declared.header.Header.TheVariants.{Def as DefHeader};
+ghost use Rattle.py_lines.specs.declared.line.Line.TheVariants.{Header as HeaderLine, Drive as DrivenLine};
+ghost use Rattle.py_grammar.specs.Script.{trees_of};
+ghost use Rattle.py_grammar.specs.Reader.{accept, closed, closes, headed, in_body, opened, outside, start, state};
+ghost use Rattle.py_grammar.specs.Reading.{ComesTo, open_of, state_of};
 ghost use Rattle.py_grammar.specs.Tables.{names_of, taken_names, may_head};
 
-use crate::drive::DriveAtomList;
 use crate::fault::ParseFault;
-use crate::line::Line;
 use crate::open_body::{Closed, OpenBody};
 use crate::rules::{may_declare, may_drive};
-use crate::script::{DeclList, Declaration, DriveLine, DriveList, Script};
-use py_body::{Body, ParamList};
+use crate::script::{DeclList, Declaration, DriveList, Script};
 use py_code::{NameSet, NoMemory, PyText};
+use py_lines::{DriveLine, Header, Line};
+use py_tree::{Body, ParamList};
 use std::alloc::Global;
 use std::marker::Model;
 
@@ -31,7 +31,7 @@ pub struct Reader {
 impl Model for Reader {
     ghost use Rattle.std.specs.Prelude.{◌≡◌};
     ghost use Rattle.std.specs.Coded.{codes};
-    ghost use Rattle.py_body.specs.contracts.stmt.StmtList as e;
+    ghost use Rattle.py_tree.specs.contracts.stmt.StmtList as e;
     ghost use Rattle.py_grammar.specs.Script.{trees_of};
     ghost use Rattle.py_grammar.specs.Tables.{SoFar, taken_names};
 
@@ -62,7 +62,7 @@ impl Reader {
     /// The reader behind a function whose lines ended.
     fn declare(whole: Script, names: NameSet, body: Body) -> Result<Reader, NoMemory>
         requires { names ≡ names_of (trees_of whole ++ tree_of body ∷ []) }
-        ensures { IfOk result (λ next. state_of next ≡ state (trees_of whole ++ tree_of body ∷ []) (drives_of whole) None) }
+        ensures { IfOk result (λ next. state_of next ≡ state (trees_of whole ++ tree_of body ∷ []) whole.drives None) }
     {
         let mut whole = whole;
         whole.declarations.push(Declaration::Function(body))?;
@@ -74,22 +74,23 @@ impl Reader {
     }
 
     /// An `end` where this body is open.
-    fn end(whole: Script, names: NameSet, body: OpenBody) -> Result<Reader, NoMemory>
+    fn end(whole: Script, names: NameSet, body: OpenBody) -> Result<Option<Reader>, NoMemory>
         requires { names ≡ taken_names (trees_of whole) (Some body) }
-        ensures { IfOk result (λ next. state_of next ≡ closes (trees_of whole) (drives_of whole) (closed (open_of body) (open_of body).blocks)) }
+        ensures { IfOk result (λ next. option_map state_of next ≡ option_map (closes (trees_of whole) whole.drives) (closed (open_of body) (open_of body).blocks)) }
     {
         match body.close()? {
-            Closed::Block(body) => Ok(Reader {
+            Some(Closed::Block(body)) => Ok(Some(Reader {
                 whole,
                 inside: Some(body),
                 names,
-            }),
-            Closed::Function(body) => Reader::declare(whole, names, body),
+            })),
+            Some(Closed::Function(body)) => Reader::declare(whole, names, body).map(Some),
+            None => Ok(None),
         }
     }
 
-    /// A line other than an `end` where this body is open.
-    fn go_on(
+    /// A line where this body is open.
+    fn push_inside(
         alloc: Global,
         whole: Script,
         names: NameSet,
@@ -98,8 +99,11 @@ impl Reader {
         line: Line,
     ) -> Result<Option<Reader>, NoMemory>
         requires { names ≡ taken_names (trees_of whole) (Some body) }
-        ensures { IfOk result (λ next. option_map state_of next ≡ still_inside (trees_of whole) (drives_of whole) (goes_on (open_of body) number line)) }
+        ensures { IfOk result (λ next. option_map state_of next ≡ in_body (trees_of whole) whole.drives (open_of body) number line) }
     {
+        if matches!(line, Line::End) {
+            return Reader::end(whole, names, body);
+        }
         match body.push_line(alloc, number, line)? {
             Some(body) => Ok(Some(Reader {
                 whole,
@@ -107,25 +111,6 @@ impl Reader {
                 names,
             })),
             None => Ok(None),
-        }
-    }
-
-    /// A line where this body is open.
-    fn push_inside(
-        line: Line,
-        alloc: Global,
-        whole: Script,
-        names: NameSet,
-        body: OpenBody,
-        number: u32,
-    ) -> Result<Option<Reader>, NoMemory>
-        requires { names ≡ taken_names (trees_of whole) (Some body) }
-        ensures { IfOk result (λ next. option_map state_of next ≡ in_body (trees_of whole) (drives_of whole) (open_of body) number line) }
-    {
-        if line.is_end() {
-            Reader::end(whole, names, body).map(Some)
-        } else {
-            Reader::go_on(alloc, whole, names, body, number, line)
         }
     }
 
@@ -140,7 +125,7 @@ impl Reader {
     ) -> Result<Reader, NoMemory>
         requires table { names ≡ names_of (trees_of whole) }
         requires allowed { may_head names name params ≡ true }
-        ensures { IfOk result (λ next. state_of next ≡ state (trees_of whole) (drives_of whole) (Some (opened number name params))) }
+        ensures { IfOk result (λ next. state_of next ≡ state (trees_of whole) whole.drives (Some (opened number name params))) }
     {
         let mut names = names;
         names.insert(&name)?;
@@ -162,7 +147,7 @@ impl Reader {
         params: ParamList,
     ) -> Result<Option<Reader>, NoMemory>
         requires { names ≡ taken_names (trees_of whole) None }
-        ensures { IfOk result (λ next. option_map state_of next ≡ outside (trees_of whole) (drives_of whole) number (DefLine name params)) }
+        ensures { IfOk result (λ next. option_map state_of next ≡ headed (trees_of whole) whole.drives number (DefHeader name params)) }
     {
         if may_declare(&names, &name, &params) {
             Reader::begin(alloc, whole, names, number, name, params).map(Some)
@@ -174,7 +159,7 @@ impl Reader {
     /// The reader behind one more drive.
     fn add_drive(whole: Script, names: NameSet, drive: DriveLine) -> Result<Reader, NoMemory>
         requires { names ≡ names_of (trees_of whole) }
-        ensures { IfOk result (λ next. state_of next ≡ state (trees_of whole) (drives_of whole ++ drive_of drive ∷ []) None) }
+        ensures { IfOk result (λ next. state_of next ≡ state (trees_of whole) (whole.drives ++ drive ∷ []) None) }
     {
         let mut whole = whole;
         whole.drives.push(drive)?;
@@ -185,19 +170,13 @@ impl Reader {
         })
     }
 
-    /// A drive where no body is open.
-    fn drive(
-        whole: Script,
-        names: NameSet,
-        number: u32,
-        function: PyText,
-        args: DriveAtomList,
-    ) -> Result<Option<Reader>, NoMemory>
+    /// A drive where no body is open; the number of its line is kept nowhere.
+    fn drive(whole: Script, names: NameSet, drive: DriveLine) -> Result<Option<Reader>, NoMemory>
         requires { names ≡ taken_names (trees_of whole) None }
-        ensures { IfOk result (λ next. option_map state_of next ≡ outside (trees_of whole) (drives_of whole) number (CallLine function args)) }
+        ensures { IfOk result (λ next. option_map state_of next ≡ outside (trees_of whole) whole.drives 0 (DrivenLine drive)) }
     {
-        if may_drive(&names, &whole, &function, &args) {
-            Reader::add_drive(whole, names, DriveLine::Call(function, args)).map(Some)
+        if may_drive(&names, &whole, &drive) {
+            Reader::add_drive(whole, names, drive).map(Some)
         } else {
             Ok(None)
         }
@@ -205,28 +184,21 @@ impl Reader {
 
     /// A line where no body is open.
     fn push_outside(
-        line: Line,
         alloc: Global,
         whole: Script,
         names: NameSet,
         number: u32,
+        line: Line,
     ) -> Result<Option<Reader>, NoMemory>
         requires { names ≡ taken_names (trees_of whole) None }
-        ensures { IfOk result (λ next. option_map state_of next ≡ outside (trees_of whole) (drives_of whole) number line) }
+        ensures { IfOk result (λ next. option_map state_of next ≡ outside (trees_of whole) whole.drives number line) }
     {
         match line {
-            Line::Def(name, params) => Reader::open(alloc, whole, names, number, name, params),
-            Line::Call(function, args) => Reader::drive(whole, names, number, function, args),
-            Line::End
-            | Line::Assign(..)
-            | Line::Operate(..)
-            | Line::Do(..)
-            | Line::Show(_)
-            | Line::Return(_)
-            | Line::Pass
-            | Line::If(_)
-            | Line::Else
-            | Line::While(_) => Ok(None),
+            Line::Header(Header::Def(name, params)) => {
+                Reader::open(alloc, whole, names, number, name, params)
+            }
+            Line::Drive(drive) => Reader::drive(whole, names, drive),
+            Line::End | Line::Plain(_) | Line::Opens(_) | Line::Turns(_) => Ok(None),
         }
     }
 
@@ -245,14 +217,14 @@ impl Reader {
             names,
         } = self;
         match inside {
-            Some(body) => Reader::push_inside(line, alloc, whole, names, body, number),
-            None => Reader::push_outside(line, alloc, whole, names, number),
+            Some(body) => Reader::push_inside(alloc, whole, names, body, number, line),
+            None => Reader::push_outside(alloc, whole, names, number, line),
         }
     }
 
     /// The script at the end of the lines, of which this would be the number of the next.
     pub fn finish(self, number: u32) -> Result<Script, ParseFault>
-        ensures { IsAnswerOf (walk (state_of self) number []) result }
+        ensures { ComesTo (state_of self) number [] result }
     {
         let Reader {
             whole,

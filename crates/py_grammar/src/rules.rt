@@ -1,20 +1,35 @@
-//! The rules on lines that look at what stands before them.
+//! The rules on lines that look at what stands around them.
 
-ghost use Rattle.std.specs.Prelude.{◌≡◌, length, bytes_eq};
+ghost use Rattle.std.specs.Prelude.{◌≡◌, length, bytes_eq, map};
 ghost use Rattle.std.specs.List.{list_any, list_all};
 ghost use Rattle.py_objects.specs.Objects.{name_of};
-ghost use Rattle.py_body.specs.Binding.{takes_count as takes_count_in};
-ghost use Rattle.py_grammar.specs.Script.{trees_of, drives_of};
+ghost use Rattle.py_tree.specs.declared.expr.Operation.TheVariants as operation;
+ghost use Rattle.py_grammar.specs.Grammar.{declared_as};
+ghost use Rattle.py_grammar.specs.Script.{trees_of};
 ghost use Rattle.py_grammar.specs.Rules.{is_among as is_among_names, all_differ as do_all_differ, is_builtin_class as is_builtin};
-ghost use Rattle.py_grammar.specs.Rules.{may_drive as may_be_driven};
-ghost use Rattle.py_grammar.specs.Rules.{is_bindable as is_bindable_name, is_usable as is_usable_atom, may_operate as may_be_operated};
-ghost use Rattle.py_grammar.specs.Tables.{may_head, names_of, is_drivable_by, may_call as may_be_called};
+ghost use Rattle.py_grammar.specs.Rules.{is_bindable as is_bindable_name, is_usable as is_usable_atom, may_begin as may_begin_by};
+ghost use Rattle.py_grammar.specs.Rules.{may_compute as may_be_computed, may_drive as may_be_driven, may_hold as may_be_held, may_open as may_be_opened, may_operate as may_be_operated};
+ghost use Rattle.py_grammar.specs.Tables.{may_head, names_of, is_drivable_by, may_drive_by};
 
-use crate::drive::{DriveAtom, DriveAtomList};
-use crate::script::Script;
-use py_body::{Atom, AtomList, Operator, ParamList};
+use crate::script::{Kind, Script};
 use py_code::{NameSet, PyText, same_text};
+use py_lines::{DriveAtom, DriveLine, Head, Plain};
 use py_objects::ErrorKind;
+use py_tree::{Atom, AtomList, Expr, Operation, ParamList};
+
+/// How many blocks may be open at once, the body among them.
+const MOST_BLOCKS: usize = 64;
+
+/// Where a statement stands.
+#[derive(Clone, Copy, Debug, PartialEq, Eq)]
+pub struct Inside {
+    /// What the body is of.
+    pub kind: Kind,
+    /// How many blocks are open, the body among them.
+    pub blocks: usize,
+    /// Whether a loop is one of them.
+    pub in_loop: bool,
+}
 
 fn is_among(name: &PyText, names: &[PyText]) -> bool
     ensures { result ≡ is_among_names name.now names.now }
@@ -88,7 +103,7 @@ pub fn may_declare(names: &NameSet, name: &PyText, params: &ParamList) -> bool
         && all_differ(params.as_slice())
 }
 
-/// Whether a drive may have this argument, behind declarations with the names of the table and so many drives.
+/// Whether a drive may have this argument, behind functions with the names of the table and so many drives.
 fn is_drivable(names: &NameSet, made: usize, atom: &DriveAtom) -> bool
     ensures { result ≡ is_drivable_by names.now made atom.now }
 {
@@ -108,30 +123,35 @@ fn are_drivable(names: &NameSet, made: usize, atoms: &[DriveAtom]) -> bool
     atoms.iter().all(|atom| is_drivable(names, made, atom))
 }
 
-/// Whether a drive may call this function with these arguments, behind declarations with the names of the table and so many drives.
-fn may_call(names: &NameSet, made: usize, name: &PyText, args: &DriveAtomList) -> bool
-    ensures { result ≡ may_be_called names.now made name.now args.now }
+/// Whether a drive may stand behind functions with the names of the table and so many drives.
+fn may_follow(names: &NameSet, made: usize, drive: &DriveLine) -> bool
+    ensures { result ≡ may_drive_by names.now made drive.now }
 {
-    args.len() <= 255 && names.contains(name) && are_drivable(names, made, args.as_slice())
+    match drive {
+        DriveLine::Call(name, args) => {
+            args.len() <= 255 && names.contains(name) && are_drivable(names, made, args.as_slice())
+        }
+    }
 }
 
-/// Whether a drive may call this function with these arguments, behind a script of whose declarations the table has the names.
-pub fn may_drive(names: &NameSet, whole: &Script, name: &PyText, args: &DriveAtomList) -> bool
+/// Whether a drive may stand behind a script, of whose declarations the table has the names.
+#[tactic(auto, using(crate::proofs::Tables::may_drive_names))]
+pub fn may_drive(names: &NameSet, whole: &Script, drive: &DriveLine) -> bool
     requires { names.now ≡ names_of (trees_of whole.now) }
-    ensures { result ≡ may_be_driven (trees_of whole.now) (length (drives_of whole.now)) name.now args.now }
+    ensures { result ≡ may_be_driven (map declared_as (trees_of whole.now)) (length whole.now.drives) drive.now }
 {
-    may_call(names, whole.drives.len(), name, args)
+    may_follow(names, whole.drives.len(), drive)
 }
 
 /// Whether a name may be bound in a body.
-pub fn is_bindable(name: &PyText) -> bool
+fn is_bindable(name: &PyText) -> bool
     ensures { result ≡ is_bindable_name name.now }
 {
     !is_builtin_class(name)
 }
 
 /// Whether an atom may stand in a body.
-pub fn is_usable(atom: &Atom) -> bool
+fn is_usable(atom: &Atom) -> bool
     ensures { result ≡ is_usable_atom atom.now }
 {
     match atom {
@@ -143,29 +163,69 @@ pub fn is_usable(atom: &Atom) -> bool
     }
 }
 
-/// Whether an operator takes so many atoms.
-fn takes_count(op: Operator, count: usize) -> bool
-    ensures { result ≡ takes_count_in op count }
-{
-    match op {
-        Operator::Add => count == 2,
-        Operator::Sub => count == 2,
-        Operator::Lt => count == 2,
-        Operator::Eq => count == 2,
-        // The callee, and at most 255 arguments.
-        Operator::Call => 1 <= count && count <= 256,
-    }
-}
-
 fn are_usable(atoms: &[Atom]) -> bool
     ensures { result ≡ list_all is_usable_atom atoms.now }
 {
     atoms.iter().all(is_usable)
 }
 
-/// Whether an operator may take these atoms.
-pub fn may_operate(op: Operator, atoms: &AtomList) -> bool
-    ensures { result ≡ may_be_operated op atoms.now }
+/// Whether a call may have this callee and these arguments.
+fn may_call(callee: &Atom, args: &AtomList) -> bool
+    ensures { result ≡ may_be_operated (operation.Call callee.now args.now) }
 {
-    takes_count(op, atoms.len()) && are_usable(atoms.as_slice())
+    is_usable(callee) && args.len() <= 255 && are_usable(args.as_slice())
+}
+
+/// Whether an operation may stand in a body.
+fn may_operate(operation: &Operation) -> bool
+    ensures { result ≡ may_be_operated operation.now }
+{
+    match operation {
+        Operation::Add(left, right) => is_usable(left) && is_usable(right),
+        Operation::Sub(left, right) => is_usable(left) && is_usable(right),
+        Operation::Lt(left, right) => is_usable(left) && is_usable(right),
+        Operation::Eq(left, right) => is_usable(left) && is_usable(right),
+        Operation::Call(callee, args) => may_call(callee, args),
+    }
+}
+
+fn may_compute(value: &Expr) -> bool
+    ensures { result ≡ may_be_computed value.now }
+{
+    match value {
+        Expr::Atom(atom) => is_usable(atom),
+        Expr::Operation(operation) => may_operate(operation),
+    }
+}
+
+/// Whether a plain statement may stand there.
+pub fn may_hold(inside: Inside, plain: &Plain) -> bool
+    ensures { result ≡ may_be_held inside plain.now }
+{
+    match plain {
+        Plain::Assign(target, value) => is_bindable(target) && may_compute(value),
+        Plain::Do(operation) => may_operate(operation),
+        Plain::Show(atom) => is_usable(atom),
+        Plain::Return(atom) => is_usable(atom),
+        Plain::Break => inside.in_loop,
+        Plain::Continue => inside.in_loop,
+        Plain::Pass => true,
+    }
+}
+
+/// Whether a line may open a block, by itself.
+fn may_begin(head: &Head) -> bool
+    ensures { result ≡ may_begin_by head.now }
+{
+    match head {
+        Head::If(atom) => is_usable(atom),
+        Head::While(atom) => is_usable(atom),
+    }
+}
+
+/// Whether it may there.
+pub fn may_open(inside: Inside, head: &Head) -> bool
+    ensures { result ≡ may_be_opened inside head.now }
+{
+    inside.blocks < MOST_BLOCKS && may_begin(head)
 }

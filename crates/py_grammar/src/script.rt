@@ -3,9 +3,16 @@
 ghost use Rattle.std.specs.Prelude.{◌≡◌};
 ghost use Rattle.py_grammar.specs.Script.{declared_tree};
 
-use crate::drive::DriveAtomList;
-use py_body::Body;
 use py_code::{ItemList, PyText};
+use py_lines::DriveLine;
+use py_tree::Body;
+
+/// What a declaration declares.
+#[derive(Clone, Copy, Debug, PartialEq, Eq)]
+pub enum Kind {
+    /// `def`: a function.
+    Function,
+}
 
 /// What a script declares.
 #[derive(Debug, Drop)]
@@ -27,13 +34,6 @@ impl Declaration {
 
 /// Declarations in order.
 pub type DeclList = ItemList<Declaration>;
-
-/// What a script asks of its declarations from outside.
-#[derive(Debug, Drop)]
-pub enum DriveLine {
-    /// `call f a ..`: a function by its name, and its arguments.
-    Call(PyText, DriveAtomList),
-}
 
 /// Drives in order.
 pub type DriveList = ItemList<DriveLine>;

@@ -2,7 +2,7 @@ use Rattle.py_grammar.proofs.Verdicts.{script_or_bad, one_tree, not_both, one_ba
 use Rattle.py_grammar.proofs.parse.one_script.Goals as goal
 
 pub returns-clause-script_or_bad : goal.returns-clause-script_or_bad
-returns-clause-script_or_bad c = script_or_bad c.args.bytes.now
+returns-clause-script_or_bad c = script_or_bad c.laws_of_lines.ensures.some_way c.args.bytes.now
 
 pub returns-clause-one_tree : goal.returns-clause-one_tree
 returns-clause-one_tree c = one_tree c.args.bytes.now

@@ -3,10 +3,14 @@ use Rattle.std.specs.Prelude.{option_map}
 use Rattle.py_grammar.specs.Script.{trees_of}
 use Rattle.py_grammar.specs.Reading.{open_of}
 use Rattle.py_grammar.specs.Tables.{names_of}
-use Rattle.py_grammar.proofs.Heads.{goes_on-name}
-use Rattle.py_grammar.proofs.reader.Reader.go_on.Goals as goal
+use Rattle.py_grammar.proofs.OpenNames.{goes_on-name}
+use Rattle.py_grammar.proofs.reader.Reader.push_inside.Goals.{in-End, in_default}
+use Rattle.py_grammar.proofs.reader.Reader.push_inside.Goals as goal
 
 pub invariant_of-result : goal.invariant_of-result
 invariant_of-result c =
     c.requires ∙ ap (λ x. names_of (trees_of c.args.whole) ++ x ∷ [])
     (sym (goes_on-name (open_of c.args.body) c.args.number c.args.line (open_of c.in-Some.body) (ap (option_map open_of) (sym c.in-Some.is) ∙ c.in_ok-body.ensures)))
+
+pub returns-then-matches : goal.returns-then-matches
+returns-then-matches c = elim c.match-matches.branch [ in-End w ↦ rw w.in-End.is c.end.ensures | in_default w ↦ cc ]
