@@ -1,6 +1,6 @@
 //! A list of statements.
 
-use py_body::{Stmt, StmtForm, StmtList};
+use py_tree::{Stmt, StmtForm, StmtList};
 use std::test::Fail;
 
 #[test]

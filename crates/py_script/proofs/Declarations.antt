@@ -1,18 +1,20 @@
 -- How a machine is loaded, declaration by declaration.
 use Rattle.std.proofs.Common.{◌≡◌, ◌<◌, ◌≤◌, ◌+◌, ℕ, zero, suc, List, [], ◌∷◌, ◌++◌, length, Some, refl, sym, ap, ◌∙◌, subst, arith, length-append, append_assoc, ◌⊎◌, inl, inr, get_or, take}
-use Rattle.std.specs.Prelude.{option_map, slice_get, map, All}
+use Rattle.std.specs.Prelude.{Option, option_map, chars, slice_get, map, All}
 use Rattle.std.proofs.lemmas.List.{map-append, length-map, length-take-le, take_all}
 use Rattle.std.proofs.lemmas.Grind.{take_at_read}
-use Rattle.std.proofs.lemmas.Option.{slice_get-map, slice_get-get_or}
+use Rattle.std.proofs.lemmas.Option.{slice_get-map, slice_get-get_or, slice_get_within, get_or_from_slice_get}
+use Rattle.py_code.specs.declared.names.NameId.{NameId}
 use Rattle.py_check.specs.declared.annotated.Annotated.{Annotated}
 use Rattle.py_objects.specs.declared.payload.Payload.{Payload}
 use Rattle.py_objects.specs.declared.payload.Payload.TheVariants as payload
 use Rattle.py_objects.specs.Objects.{Obj, Name, numbers, AllBelow}
-use Rattle.py_rows.specs.Sound.{AreNames, IsSound}
+use Rattle.py_rows.specs.Asked.{name_in}
+use Rattle.py_rows.specs.Signature.{characters, params_of}
+use Rattle.py_rows.specs.Sound.{AreNames, ArePlaces, IsSound}
 use Rattle.py_rows.proofs.GrowingLemmas.{slice_get_grown}
-use Rattle.py_body.specs.Tree.{Tree}
-use Rattle.py_body.specs.Fits.{Fits, Continues}
-use Rattle.py_body.proofs.Fitting.{params_continue}
+use Rattle.py_tree.specs.Tree.{Tree}
+use Rattle.py_laid.specs.Fits.{Fits, Continues}
 use Rattle.py_grammar.specs.declared.script.Declaration.{Declaration}
 use Rattle.py_grammar.specs.Script.{declared_tree}
 use Rattle.py_vm.specs.Calls.{Signature}
@@ -27,8 +29,8 @@ pub entry_mapped : {A B : Type 0} (f : A → B) (xs : List A) (i : ℕ) (x : A) 
 entry_mapped f xs i x is = slice_get-map f xs i ∙ ap (option_map f) is
 
 -- the next entry of a list, as a loop has it
-pub entry_read : {A B : Type 0} (f : A → B) (xs : List A) (i : ℕ) (x : A) → i < length xs → x ≡ get_or xs i x → slice_get (map f xs) i ≡ Some (f x)
-entry_read f xs i x low is = entry_mapped f xs i (get_or xs i x) (slice_get-get_or xs i x low) ∙ ap (λ y. Some (f y)) (sym is)
+pub entry_read : {A : Type 0} (xs : List A) (i : ℕ) (x : A) → i < length xs → x ≡ get_or xs i x → slice_get xs i ≡ Some x
+entry_read xs i x low is = slice_get-get_or xs i x low ∙ ap Some (sym is)
 
 -- the front of a list up to it
 pub front_more : {A B : Type 0} (f : A → B) (xs : List A) (i : ℕ) (x : A) → i < length xs → x ≡ get_or xs i x → map f (take (i + 1) xs) ≡ map f (take i xs) ++ f x ∷ []
@@ -67,6 +69,24 @@ sound_continues names names' c (more, is) sound =
 continues_on : (a b c : List (List ℕ)) → Continues a b → Continues b c → Continues a c
 continues_on a b c (more, is) (rest, goes) = (more ++ rest, goes ∙ ap (λ l. l ++ rest) is ∙ append_assoc a more rest)
 
+-- the names of the first places stay, where the table goes on
+params_stay : (names more : List (List ℕ)) (n : ℕ) (ids : List NameId) → ArePlaces names ids
+    → map (λ id. characters (name_in (names ++ more) (Some id))) (take n ids) ≡ map (λ id. characters (name_in names (Some id))) (take n ids)
+params_stay names more zero ids there = refl
+params_stay names more (suc n) [] there = refl
+params_stay names more (suc n) (id ∷ ids) there =
+    let name : List ℕ = get_or names id.index [] in
+    let here : slice_get names id.index ≡ Some name = slice_get-get_or names id.index [] (there zero id refl) in
+    let same : slice_get (names ++ more) id.index ≡ slice_get names id.index = slice_get_grown names more id.index name here ∙ sym here in
+    let one : characters (name_in (names ++ more) (Some id)) ≡ characters (name_in names (Some id)) = ap (λ (o : Option (List ℕ)). characters (option_map chars o)) same in
+    let others = params_stay names more n ids (λ i k at. there (suc i) k at) in
+    λ k. one k ∷ others k
+
+-- so do the parameters of a code that fits
+params_continue : (names names' : List (List ℕ)) (c : Annotated) (t : Tree) → Continues names names' → Fits names c t → params_of names' c.code ≡ t.params
+params_continue names names' c t (more, is) fits =
+    ap (λ (table : List (List ℕ)). params_of table c.code) is ∙ params_stay names more c.code.code.arg_count c.code.code.varnames.items fits.sound.named.locals ∙ fits.params
+
 -- so it fits its tree
 fits_continues : (names names' : List (List ℕ)) (c : Annotated) (t : Tree) → Continues names names' → Fits names c t → Fits names' c t
 fits_continues names names' c t grows fits = record {
@@ -98,6 +118,10 @@ first_of_all P x xs all = all 0 x (omega arith)
 
 pub others_of_all : {X : Type 0} (P : X → Type 0) (x : X) (xs : List X) → All P (x ∷ xs) → All P xs
 others_of_all P x xs all = λ i y low. all (suc i) y (omega (arith, low))
+
+-- and of one that is there
+pub one_of_all : {X : Type 0} (P : X → Type 0) (xs : List X) (k : ℕ) (x : X) → All P xs → slice_get xs k ≡ Some x → P x
+one_of_all P xs k x all is = subst P (get_or_from_slice_get xs k x x is) (all k x (slice_get_within xs k x is))
 
 -- codes that fit with their notes are compiled
 pub checked_compiled : (ts : List Tree) (cs : Checked) → AreChecked ts cs → AreCompiled ts (plain_codes cs)

@@ -4,7 +4,7 @@ use Rattle.std.specs.Prelude.{option_map, slice_get, AllPairs, map, bytes_eq}
 use Rattle.std.proofs.lemmas.Option.{slice_get_within, get_or_from_slice_get, slice_get-map}
 use Rattle.std.proofs.lemmas.Slice.Eq.{bytes_eq-Decides}
 use Rattle.py_objects.specs.Objects.{Name}
-use Rattle.py_body.specs.Tree.{Tree}
+use Rattle.py_tree.specs.Tree.{Tree}
 
 -- a name that differs is another one
 pub other_name : (n m : Name) → (m ≡ n → ⊥) → bytes_eq n m ≡ false

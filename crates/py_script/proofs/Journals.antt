@@ -26,23 +26,30 @@ use Rattle.py_objects.specs.declared.event.Event.TheVariants as event
 use Rattle.py_objects.specs.Objects.{Obj, Name, HasPayload, declares, declared, declared_from, name_of, error_kinds, payload_numbers, event_numbers, AllBelow, IsMade, AllFit, AreNamed, is_among, IsNew}
 use Rattle.py_objects.specs.Own.{Own, Makes, Resumes, Asks, Gets, Ends, own_events, own_from, told_by}
 use Rattle.py_objects.specs.Telling.{AfterValue, Answered, Answers, Asked}
-use Rattle.py_body.specs.Tree.{Tree}
-use Rattle.py_body.specs.Scene.{Scene, anywhere}
-use Rattle.py_body.specs.Trace.{IsTrace, IsBegun}
-use Rattle.py_grammar.specs.Drive.{Drive}
+use Rattle.py_tree.specs.Tree.{Tree}
+use Rattle.py_tree.specs.Scene.{Scene, anywhere}
+use Rattle.py_tree.specs.Trace.{IsTrace, IsBegun}
+use Rattle.py_lines.specs.declared.drive.DriveLine.{DriveLine}
+use Rattle.py_lines.specs.declared.line.LineRead.{LineRead}
+use Rattle.py_lines.specs.declared.line.LineRead.TheVariants.{Said}
+use Rattle.py_grammar.specs.Grammar.{Row, Item, items_rows}
 use Rattle.py_vm.specs.declared.drive.Drive.TheVariants.{Call}
 use Rattle.py_vm.specs.Answers.{Reply, Replies, Gives, IsRaised, sum, whole}
 use Rattle.py_vm.specs.Calls.{Signature, Course, Says, Enters, refusal, bound_at, CallsAs, Calls, ComesTo}
 use Rattle.py_vm.specs.Run.{Posed, Plan, Activation, Phase, Asking, IsTop, Answers as IsAnswered, MayCome, State, question, start, state_after, Comes, EachTells}
 use Rattle.py_script.specs.Whole.{AreAsked, AreGlobals, AreObjects, Traces, IsRunOf, plan_of, signature_of}
 use Rattle.std.proofs.lemmas.List.Sorted.{IsPermutation-refl}
-use Rattle.py_script.specs.Worked.{object, exception, class_entry, function_entry, loaded, objects_of, entered, asked, greatest, overflowing, error_entry, error_objects, raising_by, raised, raises, overflow_by}
+use Rattle.py_script.specs.Worked.{object, exception, class_entry, function_entry, loaded, objects_of, entered, asked, greatest, overflowing_of, error_entry, error_objects, raising_by, raised, raises, overflow_by}
 
 pub decimal_1 : decimal 1 ≡ codes "1"
 decimal_1 = decimal_digit 1 (lit< tt)
 
 pub decimal_45 : decimal 45 ≡ codes "45"
 decimal_45 = decimal_step 45 (lit≤ tt) (lit< tt) ∙ ap (λ ds. ds ++ 53 ∷ []) (decimal_digit 4 (lit< tt))
+
+-- what the lines of these items say, where no others stand between them
+abbrev pub reads_of : List Item → List LineRead
+reads_of items = map (λ (r : Row). Said r.line) (items_rows items)
 
 -- what is there is one thing
 pub some_is : {X : Type 0} (x y : X) → Some x ≡ Some y → x ≡ y
@@ -150,7 +157,7 @@ asked_so units r q at k i w ts K (inr more) =
     gotten K k i w ts (subst (λ (xs : List Own). Answered k xs K) (sym rest) more.4)
 
 -- no more drives are begun than the script has
-pub few_asked : (store : List Payload) (events : List Event) (ds : List Drive) (qs : List Posed) → AreAsked store events ds qs → length qs ≤ length ds
+pub few_asked : (store : List Payload) (events : List Event) (ds : List DriveLine) (qs : List Posed) → AreAsked store events ds qs → length qs ≤ length ds
 few_asked store events ds [] h = omega arith
 few_asked store events [] (q ∷ qs) h = absurd h
 few_asked store events (d ∷ ds) (q ∷ qs) h = let few = few_asked store events ds qs h.1 in omega arith
@@ -306,12 +313,12 @@ module _ (t : Tree) where
       subst (λ (u : Tree). IsTrace (anywhere store globals) u vs ts) (sym same) h.2.2
 
   -- what a run of the script says of its activation
-  pub traced_with : (vs : List Obj) (store : List Payload) (drives : List Drive) (events : List Event) → HasPayload store (object 7) (function_entry t.name 0) → slice_get (state_after start events).made 0 ≡ Some (record { function = object 7; args = vs })
+  pub traced_with : (vs : List Obj) (store : List Payload) (drives : List DriveLine) (events : List Event) → HasPayload store (object 7) (function_entry t.name 0) → slice_get (state_after start events).made 0 ≡ Some (record { function = object 7; args = vs })
       → (r : IsRunOf (t ∷ []) drives store events) → IsTrace (anywhere store r.globals) t vs (own_events 1 events)
   traced_with vs store drives events p e r = traced_by r.globals store (object 7) vs (own_events 1 events) p (r.run.tells 0 (record { function = object 7; args = vs }) e)
 
   -- the same of an activation with two arguments
-  pub traced : (store : List Payload) (drives : List Drive) (events : List Event) → HasPayload store (object 7) (function_entry t.name 0) → slice_get (state_after start events).made 0 ≡ Some (record { function = object 7; args = object 10 ∷ object 11 ∷ [] })
+  pub traced : (store : List Payload) (drives : List DriveLine) (events : List Event) → HasPayload store (object 7) (function_entry t.name 0) → slice_get (state_after start events).made 0 ≡ Some (record { function = object 7; args = object 10 ∷ object 11 ∷ [] })
       → (r : IsRunOf (t ∷ []) drives store events) → IsTrace (anywhere store r.globals) t (object 10 ∷ object 11 ∷ []) (own_events 1 events)
   traced store drives events p e r = traced_with (object 10 ∷ object 11 ∷ []) store drives events p e r
 
@@ -373,7 +380,7 @@ module _ (t : Tree) where
   overflow_tells h = one_tells (Traces (t ∷ []) (object 9) (overflow_with [])) (object 7) (object 10 ∷ object 11 ∷ []) (overflow_by (exception 15)) refl (_, refl, (t, refl, h))
 
   -- the run of one drive that overflows
-  pub overflow_is_run : IsDeclared (overflow_with []) → Binds (overflow_with []) → RaiseIsTraced [] 2 4 (exception 15) → IsRunOf (t ∷ []) (record overflowing { function = t.name } ∷ []) (overflow_with []) (overflow_by (exception 15))
+  pub overflow_is_run : IsDeclared (overflow_with []) → Binds (overflow_with []) → RaiseIsTraced [] 2 4 (exception 15) → IsRunOf (t ∷ []) (overflowing_of t.name ∷ []) (overflow_with []) (overflow_by (exception 15))
   overflow_is_run d binds h =
       record {
         asked = call ∷ [];

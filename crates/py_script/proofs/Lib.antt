@@ -1,5 +1,4 @@
 -- what a script gives the compiler and the machine
-pub mod Closed
 pub mod Functions
 pub mod Objects
 -- what a machine's run is in the script's own words

@@ -17,11 +17,12 @@ use Rattle.py_objects.specs.Objects.{Obj, Name, HasPayload, declares, declared, 
 use Rattle.py_objects.specs.Growth.{GrowsPlainly}
 use Rattle.py_rows.proofs.GrowingLemmas.{slice_get_grown, payload_grown}
 use Rattle.py_frame.proofs.PlainGrowth.{plainly_grows, slice_get_split}
-use Rattle.py_body.specs.Fits.{Continues}
-use Rattle.py_body.specs.Tree.{Tree}
-use Rattle.py_grammar.specs.declared.drive.DriveAtom.{DriveAtom}
-use Rattle.py_grammar.specs.declared.drive.DriveAtom.TheVariants as atom
-use Rattle.py_grammar.specs.Drive.{Drive}
+use Rattle.py_laid.specs.Fits.{Continues}
+use Rattle.py_tree.specs.Tree.{Tree}
+use Rattle.py_lines.specs.declared.drive.DriveAtom.{DriveAtom}
+use Rattle.py_lines.specs.declared.drive.DriveAtom.TheVariants as atom
+use Rattle.py_lines.specs.declared.drive.DriveLine.{DriveLine}
+use Rattle.py_lines.specs.declared.drive.DriveLine.TheVariants as drive
 use Rattle.py_grammar.specs.Rules.{is_builtin_class}
 use Rattle.py_vm.specs.declared.drive.Drive.{Drive as Question}
 use Rattle.py_vm.specs.declared.drive.Drive.TheVariants as question
@@ -214,11 +215,11 @@ module _ (objects objects' : List Payload) (events events' : List Event) (grows 
   are_of_grow (a ∷ atoms) [] of = of
   are_of_grow (a ∷ atoms) (v ∷ vs) of = (of_grows a v of.0, are_of_grow atoms vs of.1)
 
-  asks_this_grows : (d : Drive) (q : Question) → AsksThis objects events d q → AsksThis objects' events' d q
-  asks_this_grows d (question.Call f vs) asks = (declared_stays objects objects' d.function grows ∙ asks.0, are_of_grow d.args vs asks.1)
+  asks_this_grows : (d : DriveLine) (q : Question) → AsksThis objects events d q → AsksThis objects' events' d q
+  asks_this_grows (drive.Call x args) (question.Call f vs) asks = (declared_stays objects objects' x grows ∙ asks.0, are_of_grow args vs asks.1)
 
   -- questions of drives stay so
-  pub asked_grow : (ds : List Drive) (qs : List Posed) → AreAsked objects events ds qs → AreAsked objects' events' ds qs
+  pub asked_grow : (ds : List DriveLine) (qs : List Posed) → AreAsked objects events ds qs → AreAsked objects' events' ds qs
   asked_grow ds [] are = tt
   asked_grow [] (q ∷ qs) are = are
   asked_grow (d ∷ ds) (q ∷ qs) are = ((asks_this_grows d q.drive are.0.0, are.0.1), asked_grow ds qs are.1)
@@ -247,9 +248,9 @@ are_of_more objects events (b ∷ atoms) [] a v of is = absurd of
 are_of_more objects events (b ∷ atoms) (w ∷ vs) a v of is = (of.0, are_of_more objects events atoms vs a v of.1 is)
 
 -- one more drive is begun
-pub asked_more : (objects : List Payload) (events : List Event) (ds : List Drive) (qs : List Posed) (d : Drive) (q : Posed) → AreAsked objects events ds qs → slice_get ds (length qs) ≡ Some d → Asks objects events d q → AreAsked objects events ds (qs ++ q ∷ [])
+pub asked_more : (objects : List Payload) (events : List Event) (ds : List DriveLine) (qs : List Posed) (d : DriveLine) (q : Posed) → AreAsked objects events ds qs → slice_get ds (length qs) ≡ Some d → Asks objects events d q → AreAsked objects events ds (qs ++ q ∷ [])
 asked_more objects events [] [] d q are is asks = absurd (cc is)
-asked_more objects events (e ∷ ds) [] d q are is asks = let same : e ≡ d = cc is in (subst (λ (x : Drive). Asks objects events x q) (sym same) asks, tt)
+asked_more objects events (e ∷ ds) [] d q are is asks = let same : e ≡ d = cc is in (subst (λ (x : DriveLine). Asks objects events x q) (sym same) asks, tt)
 asked_more objects events [] (p ∷ qs) d q are is asks = absurd are
 asked_more objects events (e ∷ ds) (p ∷ qs) d q are is asks = (are.0, asked_more objects events ds qs d q are.1 is asks)
 

@@ -25,9 +25,9 @@ use Rattle.py_objects.specs.declared.event.Event.TheVariants as event
 use Rattle.py_objects.specs.Objects.{Obj, Name, HasPayload, class_object, declared, name_of, error_kinds}
 use Rattle.py_objects.specs.Own.{Own, Asks, Gets, Ends, whose, own_of, own_from, told_by}
 use Rattle.py_objects.specs.Telling.{Given, Failed, AfterValue, Asked, Answered, Answers}
-use Rattle.py_body.specs.Tree.{Tree}
-use Rattle.py_body.specs.Scene.{anywhere}
-use Rattle.py_body.specs.Trace.{IsBegun, Ended}
+use Rattle.py_tree.specs.Tree.{Tree}
+use Rattle.py_tree.specs.Scene.{anywhere}
+use Rattle.py_tree.specs.Trace.{IsBegun, Ended}
 use Rattle.py_vm.specs.declared.drive.Drive.{Drive as Question}
 use Rattle.py_vm.specs.declared.drive.Drive.TheVariants.{Call}
 use Rattle.py_vm.specs.Calls.{Says, ComesTo, entry_at}
@@ -302,17 +302,17 @@ module _ (store : List Payload) (globals : Obj) (journal : List Event) (qs : Lis
       (λ u l. question_behind _ a b _ _ _ es ab few (λ v i ts x. ⊎_elim (λ cut. inl cut.0) (λ more. more) x, λ e i ts x. x) (⊎_elim (λ cut. inl (cut.0, refl)) (λ more. more) u.1) (l.0.1, l.1)) t h
 
   -- the first question is the script's
-  first_asked : (xs : List Posed) (f : Obj) (vs : List Obj) → AreAsked store journal (call_of m n ∷ []) xs → open_in (slice_get xs 0) [] ≡ Some (Calling f vs keywords.None) → AsksThis store journal (call_of m n) (Call f vs)
+  first_asked : (xs : List Posed) (f : Obj) (vs : List Obj) → AreAsked store journal (call_of (codes "f") m n ∷ []) xs → open_in (slice_get xs 0) [] ≡ Some (Calling f vs keywords.None) → AsksThis store journal (call_of (codes "f") m n) (Call f vs)
   first_asked [] f vs h e = absurd cc
-  first_asked (x ∷ xs) f vs h e = subst (AsksThis store journal (call_of m n)) (call_is x.drive f vs (some_is _ _ e)) h.0.0
+  first_asked (x ∷ xs) f vs h e = subst (AsksThis store journal (call_of (codes "f") m n)) (call_is x.drive f vs (some_is _ _ e)) h.0.0
 
   -- it is made by a host that has entered nothing
-  none_entered : (xs : List Posed) → AreAsked store journal (call_of m n ∷ []) xs → entered_in (slice_get xs 0) ≡ 0
+  none_entered : (xs : List Posed) → AreAsked store journal (call_of (codes "f") m n ∷ []) xs → entered_in (slice_get xs 0) ≡ 0
   none_entered [] h = refl
   none_entered (x ∷ xs) h = h.0.1
 
   -- so many arguments as the function takes are not refused
-  not_refused : (d : Question) (r : Request) (reply : Reply) (k : ℕ) → AreObjects trees store → k ≡ 0 → AsksThis store journal (call_of m n) d → request_of d ≡ r → ComesTo (map signature_of trees) k store r (Says reply) → ⊥
+  not_refused : (d : Question) (r : Request) (reply : Reply) (k : ℕ) → AreObjects trees store → k ≡ 0 → AsksThis store journal (call_of (codes "f") m n) d → request_of d ≡ r → ComesTo (map signature_of trees) k store r (Says reply) → ⊥
   not_refused (Call f []) r reply k o at_zero q is h = absurd q.1
   not_refused (Call f (a ∷ [])) r reply k o at_zero q is h = absurd q.1.1
   not_refused (Call f (a ∷ b ∷ c ∷ vs)) r reply k o at_zero q is h = absurd q.1.1.1
@@ -322,7 +322,7 @@ module _ (store : List Payload) (globals : Obj) (journal : List Event) (qs : Lis
       let enters : Says reply ≡ entry_at 0 = subst (λ (k : ℕ). Says reply ≡ entry_at k) at_zero course in
       cc
 
-  enters_only : (xs : List Posed) (r : Request) (reply : Reply) (k : ℕ) → AreObjects trees store → AreAsked store journal (call_of m n ∷ []) xs → k ≡ 0 → open_in (slice_get xs 0) [] ≡ Some r → ComesTo (map signature_of trees) k store r (Says reply) → ⊥
+  enters_only : (xs : List Posed) (r : Request) (reply : Reply) (k : ℕ) → AreObjects trees store → AreAsked store journal (call_of (codes "f") m n ∷ []) xs → k ≡ 0 → open_in (slice_get xs 0) [] ≡ Some r → ComesTo (map signature_of trees) k store r (Says reply) → ⊥
   enters_only [] r reply k o h at_zero e c = absurd cc
   enters_only (x ∷ xs) r reply k o h at_zero e c = not_refused x.drive r reply k o at_zero h.0.0 (some_is _ _ e) c
 
@@ -330,7 +330,7 @@ module _ (store : List Payload) (globals : Obj) (journal : List Event) (qs : Lis
   abbrev Tells : State → ℕ → List Event → Type 0
   Tells s i es = (a : Activation) → slice_get (state_after s es).made 0 ≡ Some a → Traces trees globals store a.function a.args (own_from 1 i es)
 
-  making : (f : Obj) (vs : List Obj) (before es : List Event) → AreObjects trees store → length qs ≤ 1 → AsksThis store journal (call_of m n) (Call f vs) → Tells (at 0 Asking [] []) 1 (event.Make 1 f vs ∷ es) → Follows before (at 0 Asking [] []) (event.Make 1 f vs ∷ es) → plain_text store (event.Make 1 f vs ∷ es) ≡ line
+  making : (f : Obj) (vs : List Obj) (before es : List Event) → AreObjects trees store → length qs ≤ 1 → AsksThis store journal (call_of (codes "f") m n) (Call f vs) → Tells (at 0 Asking [] []) 1 (event.Make 1 f vs ∷ es) → Follows before (at 0 Asking [] []) (event.Make 1 f vs ∷ es) → plain_text store (event.Make 1 f vs ∷ es) ≡ line
   unfolding own_from told_by
   making f [] before es o few q t h = absurd q.1
   making f (a ∷ []) before es o few q t h = absurd q.1.1
@@ -340,15 +340,15 @@ module _ (store : List Payload) (globals : Obj) (journal : List Event) (qs : Lis
       let trace = traced_by function globals store f (a ∷ b ∷ []) _ (entry_of function store f o q.0) (t made (kept (at 0 (Made f) [] (made ∷ [])) es made refl)) in
       entry_behind f a b _ es (q.1.0, q.1.1.0) few (begun (anywhere store globals) function (a ∷ b ∷ []) (own_from 1 2 es) trace) (h.0.1, h.1)
 
-  making_behind : (before es : List Event) → AreObjects trees store → AreAsked store journal (call_of m n ∷ []) qs → Tells (at 0 Asking [] []) 1 es → Follows before (at 0 Asking [] []) es → plain_text store es ≡ line
+  making_behind : (before es : List Event) → AreObjects trees store → AreAsked store journal (call_of (codes "f") m n ∷ []) qs → Tells (at 0 Asking [] []) 1 es → Follows before (at 0 Asking [] []) es → plain_text store es ≡ line
   making_behind before [] o asked t h = absurd (cc h.1)
   making_behind before (e ∷ es) o asked t h =
       let none = none_entered qs asked in
       let c = asked_next before (at 0 Asking [] []) e refl refl (λ r reply q x. enters_only qs r reply _ o asked (omega arith) q x) h.0.0 in
       subst (λ (x : Event). Tells (at 0 Asking [] []) 1 (x ∷ es) → Follows before (at 0 Asking [] []) (x ∷ es) → plain_text store (x ∷ es) ≡ line) (sym c.2)
-      (λ u l. making c.0 c.1 before es o (few_asked store journal (call_of m n ∷ []) qs asked) (first_asked qs c.0 c.1 asked c.3) u l) t h
+      (λ u l. making c.0 c.1 before es o (few_asked store journal (call_of (codes "f") m n ∷ []) qs asked) (first_asked qs c.0 c.1 asked c.3) u l) t h
 
-  all_behind : (es : List Event) → AreObjects trees store → AreAsked store journal (call_of m n ∷ []) qs → Tells start 0 es → Follows [] start es → plain_text store es ≡ line
+  all_behind : (es : List Event) → AreObjects trees store → AreAsked store journal (call_of (codes "f") m n ∷ []) qs → Tells start 0 es → Follows [] start es → plain_text store es ≡ line
   unfolding own_from told_by
   all_behind [] o asked t h = absurd (cc h.1)
   all_behind (e ∷ es) o asked t h =

@@ -1,25 +1,12 @@
 -- What was read of a source, in the words of the answers.
-use Rattle.std.proofs.Common.{◌≤◌, ◌^◌, ℕ, List, length, arith}
+use Rattle.std.proofs.Common.{◌≤◌, ◌^◌, ℕ, List, length}
 use Rattle.std.specs.Prelude.{Bool, IsTrue, Option, Result, Ok, Err}
-use Rattle.py_body.specs.Compilable.{statements}
 use Rattle.py_grammar.specs.declared.script.Script.{Script}
-use Rattle.py_grammar.specs.Script.{IsScript, trees_of}
-use Rattle.py_grammar.specs.WellFormed.{IsWellFormed, IsWellDeclared}
 use Rattle.py_outside.specs.Reading.{HasRead}
 use Rattle.py_script.specs.declared.fault.ScriptFault.{ScriptFault}
 use Rattle.py_script.specs.declared.fault.ScriptFault.TheVariants as fault
 use Rattle.py_script.specs.Causes.{WasRead}
-use Rattle.py_script.specs.Steps.{IsRunnable, IsParsed, IsReading}
-use Rattle.py_script.proofs.Closed.{body_short, body_compilable}
-use Rattle.py_script.proofs.Traced.{one_of_all}
-
--- a script of few bytes can be run
-pub runnable : (bytes : List ℕ) (s : Script) → length bytes ≤ 2 ^ 20 → IsScript bytes s → IsWellFormed s → IsRunnable s
-runnable bytes s short is well = record {
-  well = well;
-  closed = λ i t at. body_compilable t (one_of_all IsWellDeclared (trees_of s) i t well.declared at)
-      (let few : statements t.suite ≤ length bytes = body_short bytes s i t is at in let most : length bytes ≤ 1048576 = short in omega (arith, few, most));
-}
+use Rattle.py_script.specs.Steps.{IsParsed, IsReading}
 
 was_read : (P : List ℕ → Type 0) (left left' : Option (List ℕ)) (at_end' : Bool) (bytes : List ℕ) → HasRead left left' bytes → IsTrue at_end' → length bytes ≤ 2 ^ 20 → P bytes → WasRead left left' at_end' P
 was_read P left left' at_end' bytes has ended short holds = record { bytes = bytes; are = has.0; short = short; none_left = has.1; ended = ended; claimed = holds }

@@ -1,7 +1,6 @@
 -- What the rows of compiled code may tell is a trace of its body.
-use Rattle.std.proofs.Common.{◌≡◌, ℕ, suc, List, [], ◌∷◌, ◌++◌, length, Some, sym, ap, ◌∙◌, subst, append-nil}
-use Rattle.std.specs.Prelude.{slice_get, map, All}
-use Rattle.std.proofs.lemmas.Option.{slice_get_within, get_or_from_slice_get}
+use Rattle.std.proofs.Common.{◌≡◌, suc, List, [], ◌∷◌, ◌++◌, length, Some, refl, sym, ap, ◌∙◌, subst, append-nil}
+use Rattle.std.specs.Prelude.{slice_get, map}
 use Rattle.py_code.specs.Codes.{Codes}
 use Rattle.py_code.specs.declared.code.PyCode.{PyCode}
 use Rattle.py_check.specs.declared.note.Note.{Note}
@@ -11,21 +10,17 @@ use Rattle.py_objects.specs.declared.payload.FunctionBody.{FunctionBody}
 use Rattle.py_objects.specs.declared.event.Event.{Event}
 use Rattle.py_objects.specs.Objects.{Obj}
 use Rattle.py_objects.specs.Own.{Own, Makes, own_events}
-use Rattle.py_body.specs.Tree.{Tree}
-use Rattle.py_body.specs.Scene.{anywhere}
-use Rattle.py_body.specs.Trace.{IsTrace}
-use Rattle.py_body.specs.Fits.{Fits, located}
-use Rattle.py_body.proofs.Carry.{widens_anywhere, trace_goes}
+use Rattle.py_tree.specs.Tree.{Tree}
+use Rattle.py_tree.specs.Scene.{anywhere}
+use Rattle.py_tree.specs.Trace.{IsTrace}
+use Rattle.py_laid.specs.Fits.{Fits, located}
+use Rattle.py_tree.proofs.Carry.{traces_carry}
 use Rattle.py_vm.specs.Run.{Posed, Activation, start, Comes, EachTells}
 use Rattle.py_vm.specs.RowsOf.{RowsOf}
 use Rattle.py_vm.proofs.BoundLemmas.{IsBound, comes_bound}
 use Rattle.py_script.specs.Whole.{AreCompiled, signature_of, plan_of, Traces}
 use Rattle.py_script.proofs.Declarations.{signed_by_body}
 use Rattle.py_script.proofs.Made.{HasTold, activation_tells}
-
--- what holds of all holds of one
-pub one_of_all : {X : Type 0} (P : X → Type 0) (xs : List X) (k : ℕ) (x : X) → All P xs → slice_get xs k ≡ Some x → P x
-one_of_all P xs k x all is = subst P (get_or_from_slice_get xs k x x is) (all k x (slice_get_within xs k x is))
 
 -- an activation that was made has its tree's trace where its code's rows tell it
 traced : (trees : List Tree) (globals : Obj) (objects : List Payload) (codes : Codes) (act : Activation) (own : List Own) → AreCompiled trees codes → IsBound (map signature_of trees) objects act
@@ -46,7 +41,7 @@ traced trees globals objects codes act own compiled bound told (b, has, c, is, c
         let split : IsTrace (located c objects globals) t act.args ((told.front ∷ told.behind) ++ []) =
         subst (IsTrace (located c objects globals) t act.args) (sym own_is ∙ told.is ∙ sym (append-nil (told.front ∷ told.behind))) whole in
         let front : IsTrace (anywhere objects globals) t act.args (told.front ∷ told.behind) =
-        trace_goes (located c objects globals) (anywhere objects globals) (widens_anywhere (located c objects globals) objects ([], sym (append-nil objects))) [] t act.args told.front told.behind split in
+        traces_carry (located c objects globals) (anywhere objects globals) t act.args told.front told.behind [] (record { objects = ([], sym (append-nil objects)); globals = refl; units = λ at line is. refl }) split in
         (b, has, (t, ap (slice_get trees) place ∙ at, subst (IsTrace (anywhere objects globals) t act.args) (sym told.is) front))
 
 -- what activations tell by their rows they tell by their bodies

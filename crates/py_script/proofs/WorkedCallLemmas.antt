@@ -20,11 +20,13 @@ use Rattle.py_objects.specs.declared.event.Event.{Event}
 use Rattle.py_objects.specs.declared.event.Event.TheVariants as event
 use Rattle.py_objects.specs.Objects.{Obj, Name, HasPayload, declares, declared, name_of, error_kinds, event_numbers, is_among, IsMade, AllFit}
 use Rattle.py_objects.specs.Own.{Makes, Resumes, Ends, own_events, own_from, told_by}
-use Rattle.py_body.specs.Tree.{Tree}
-use Rattle.py_body.specs.Scene.{anywhere}
-use Rattle.py_body.specs.Trace.{IsTrace}
+use Rattle.py_tree.specs.Tree.{Tree}
+use Rattle.py_tree.specs.Scene.{anywhere}
+use Rattle.py_tree.specs.Trace.{IsTrace}
 use Rattle.py_grammar.specs.Grammar.{Declares, Drives}
-use Rattle.py_grammar.specs.declared.drive.DriveAtom.TheVariants as argument
+use Rattle.py_lines.specs.declared.drive.DriveAtom.TheVariants as argument
+use Rattle.py_lines.specs.declared.drive.DriveLine.{DriveLine}
+use Rattle.py_lines.specs.declared.drive.DriveLine.TheVariants as drive
 use Rattle.py_grammar.specs.Lines.{lines}
 use Rattle.py_grammar.specs.Script.{Spells}
 use Rattle.py_vm.specs.declared.drive.Drive.TheVariants.{Call}
@@ -36,17 +38,25 @@ use Rattle.py_script.specs.Whole.{AreAsked, Binds, AreGlobals, AreObjects, AsksT
 use Rattle.py_script.specs.Text.{events_text, numbered, result_text}
 use Rattle.py_script.specs.Worked.{object, exception, class_entry, function_entry, exception_entry}
 use Rattle.py_script.specs.WorkedCall.{objects_by, pair_of_g, pair_of_f, script, callee, caller, trees, drives, objects, returned, again, events}
-use Rattle.py_script.proofs.Journals.{Each, HasClass, IsBuiltIn, all_fit, are_named, body_of, built_in, decimal_1, each_at, none_chosen, not_chosen, some_is}
+use Rattle.py_script.proofs.Journals.{Each, HasClass, IsBuiltIn, all_fit, are_named, body_of, built_in, decimal_1, each_at, none_chosen, not_chosen, reads_of, some_is}
 use Rattle.py_script.proofs.OneText.{call_is, raise_line_of}
 
+-- call g $1 9
+abbrev second_drive : DriveLine
+second_drive = drive.Call (codes "g") (argument.Drive 1 ∷ argument.Int (pos 9) ∷ [])
+
 pub spelled : Spells (lines script) trees drives
-spelled = record {
-  items = Declares callee ∷ Declares caller ∷ Drives (record { function = codes "f"; args = [] }) ∷ Drives (record { function = codes "g"; args = argument.Drive 1 ∷ argument.Int (pos 9) ∷ [] }) ∷ Drives (record { function = codes "f"; args = argument.Drive 1 ∷ [] }) ∷ [];
-  spelled = refl;
-  well = (refl, ((refl, tt), (refl, ((refl, (refl, tt)), (refl, (refl, (refl, tt)))))));
-  declared = refl;
-  driven = refl;
-}
+spelled =
+    let items = Declares callee ∷ Declares caller ∷ Drives (drive.Call (codes "f") []) ∷ Drives second_drive ∷ Drives (drive.Call (codes "f") (argument.Drive 1 ∷ [])) ∷ [] in
+    record {
+      items = items;
+      reads = reads_of items;
+      read = (refl, (refl, (refl, (refl, (refl, (refl, (refl, (refl, (refl, (refl, tt))))))))));
+      spelled = refl;
+      well = (refl, ((refl, tt), (refl, ((refl, (refl, tt)), (refl, (refl, (refl, tt)))))));
+      declared = refl;
+      driven = refl;
+    }
 
 -- ---- the objects
 
@@ -336,7 +346,7 @@ not_asked : (qs : List Posed) → AreAsked objects (again (object 7) []) drives 
 not_asked [] h e = absurd cc
 not_asked (p ∷ []) h e = absurd cc
 not_asked (p ∷ q ∷ qs) h e =
-    let asks = subst (AsksThis objects (again (object 7) []) (record { function = codes "g"; args = argument.Drive 1 ∷ argument.Int (pos 9) ∷ [] })) (call_is q.drive (object 7) (object 7 ∷ object 16 ∷ []) (some_is _ _ e)) h.1.0.0 in
+    let asks = subst (AsksThis objects (again (object 7) []) second_drive) (call_is q.drive (object 7) (object 7 ∷ object 16 ∷ []) (some_is _ _ e)) h.1.0.0 in
     let left = asks.1.0 in
     apart (subst (λ (w : DriveAnswer). IsLeft objects w (object 7)) (first_left left.0 left.1 left.2) left.3)
 

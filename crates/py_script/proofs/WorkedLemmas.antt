@@ -14,19 +14,29 @@ use Rattle.py_objects.specs.declared.event.Event.{Event}
 use Rattle.py_objects.specs.declared.event.Event.TheVariants as event
 use Rattle.py_objects.specs.Objects.{Obj, AllFit, IsNew}
 use Rattle.py_objects.specs.Own.{Own, Asks, own_events, own_from, told_by}
-use Rattle.py_body.specs.Scene.{anywhere}
-use Rattle.py_body.specs.Trace.{IsTrace}
+use Rattle.py_tree.specs.Scene.{anywhere}
+use Rattle.py_tree.specs.Trace.{IsTrace}
 use Rattle.py_grammar.specs.Grammar.{Declares, Drives}
 use Rattle.py_grammar.specs.Lines.{lines}
 use Rattle.py_grammar.specs.Script.{Spells}
 use Rattle.py_vm.specs.Run.{Posed, Plan, Activation, start, state_after, Comes, EachTells}
 use Rattle.py_script.specs.Whole.{AreObjects, Traces, IsRunOf, plan_of}
 use Rattle.py_script.specs.Worked.{script, function, trees, call_of, drives, object, exception, function_entry, objects_by, objects, objects_with_manager, entered, asked, events, unfinished, with_round, swapped, driven_twice, greatest, overflowing, error_entry, error_objects, raising_objects, overflow_objects, raises, overflow_by}
-use Rattle.py_script.proofs.Journals.{RaiseIsTraced, all_fit, are_globals, are_named, are_objects, asking_comes, begun, call, code_of, entry_of, few_asked, first_raises, gives_sum, is_raised, made_error, new_in, one_tells, plain, plan_with, some_is, sum_comes, traced}
+use Rattle.py_script.proofs.Journals.{RaiseIsTraced, all_fit, are_globals, are_named, are_objects, asking_comes, begun, call, code_of, entry_of, few_asked, first_raises, gives_sum, is_raised, made_error, new_in, one_tells, plain, plan_with, reads_of, some_is, sum_comes, traced}
 use Rattle.py_script.proofs.Journals.{overflow_is_run as overflow_run}
 
 pub spelled : Spells (lines script) trees drives
-spelled = record { items = Declares function ∷ Drives (call_of (pos 33) (pos 12)) ∷ []; spelled = refl; well = (refl, ((refl, (refl, tt)), (refl, tt))); declared = refl; driven = refl }
+spelled =
+    let items = Declares function ∷ Drives (call_of (codes "f") (pos 33) (pos 12)) ∷ [] in
+    record {
+      items = items;
+      reads = reads_of items;
+      read = (refl, (refl, (refl, (refl, (refl, tt)))));
+      spelled = refl;
+      well = (refl, ((refl, (refl, tt)), (refl, tt)));
+      declared = refl;
+      driven = refl;
+    }
 
 sum_fits : AllFit objects
 sum_fits = all_fit objects refl (tt, (tt, (tt, (tt, (tt, (tt, (tt, (tt, (tt, (tt, (tt, (tt, (tt, (tt, tt))))))))))))))

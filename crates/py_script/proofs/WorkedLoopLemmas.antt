@@ -11,11 +11,12 @@ use Rattle.py_objects.specs.declared.event.DriveAnswer.TheVariants as answer
 use Rattle.py_objects.specs.declared.event.Event.{Event}
 use Rattle.py_objects.specs.Objects.{Obj, Name, HasPayload, name_of, event_numbers, is_among, IsMade, AllFit}
 use Rattle.py_objects.specs.Own.{Own, Makes, Resumes, Asks, Gets, Rounds, Ends, own_events, own_from, told_by}
-use Rattle.py_body.specs.declared.atom.Atom.TheVariants as atom
-use Rattle.py_body.specs.Tree.{show, nothing, first, Tree}
-use Rattle.py_body.specs.Scene.{Scene, anywhere}
-use Rattle.py_body.specs.Outcome.{After, Normal, On_normal, On_turn, Chooses, By_truth, Loops, RunsSuite}
-use Rattle.py_body.specs.Trace.{IsTrace, EndsBy}
+use Rattle.py_tree.specs.declared.expr.Atom.TheVariants as atom
+use Rattle.py_tree.specs.Tree.{Show, nothing, first, Tree}
+use Rattle.py_tree.specs.Scene.{Scene, anywhere}
+use Rattle.py_tree.specs.Outcome.{After, Normal, On_normal, On_turn, Chooses, By_truth, Loops, RunsSuite}
+use Rattle.py_tree.specs.Trace.{IsTrace, EndsBy}
+use Rattle.py_lines.specs.declared.drive.DriveLine.TheVariants as drive
 use Rattle.py_grammar.specs.Grammar.{Declares, Drives}
 use Rattle.py_grammar.specs.Lines.{lines}
 use Rattle.py_grammar.specs.Script.{Spells}
@@ -26,11 +27,21 @@ use Rattle.py_script.specs.Whole.{AreGlobals, Traces, IsRunOf, plan_of}
 use Rattle.py_script.specs.Text.{events_text, result_text}
 use Rattle.py_script.specs.Worked.{object, exception}
 use Rattle.py_script.specs.WorkedLoop.{script, function_of, function, trees, drives, objects, events, without_round, untested, left_early, unknown_script, unknown_trees, unknown_error, raised_objects, unknown_objects, asked_in, asked, unknown_events}
-use Rattle.py_script.proofs.Journals.{all_fit, are_globals, are_loaded, are_named, asked_so, begun, each_at, one_tells, plain, traced_with, undeclared}
+use Rattle.py_script.proofs.Journals.{all_fit, are_globals, are_loaded, are_named, asked_so, begun, each_at, one_tells, plain, reads_of, traced_with, undeclared}
 use Rattle.py_script.proofs.OneText.{raise_line}
 
 pub spelled : Spells (lines script) trees drives
-spelled = record { items = Declares function ∷ Drives (record { function = codes "f"; args = [] }) ∷ []; spelled = refl; well = (refl, (((refl, tt), tt), (refl, tt))); declared = refl; driven = refl }
+spelled =
+    let items = Declares function ∷ Drives (drive.Call (codes "f") []) ∷ [] in
+    record {
+      items = items;
+      reads = reads_of items;
+      read = (refl, (refl, (refl, (refl, (refl, tt)))));
+      spelled = refl;
+      well = (refl, (((refl, tt), tt), (refl, tt)));
+      declared = refl;
+      driven = refl;
+    }
 
 -- the question of the drive
 abbrev call : Posed
@@ -81,14 +92,14 @@ Behind g = On_normal (EndsBy (scene_of g)) (λ env k ts. RunsSuite (scene_of g) 
 
 -- the loop, whose body is begun at most n times, behind the event k
 abbrev Going : Obj → ℕ → ℕ → List Own → Type 0
-Going g n k ts = Loops (scene_of g) 2 None (atom.Bool true) (λ env i mid. RunsSuite (scene_of g) nothing env None i mid) n [] k ts (Behind g)
+Going g n k ts = Loops (scene_of g) 2 (atom.Bool true) (RunsSuite (scene_of g) nothing) n [] None k ts (Behind g)
 
 -- what follows a test of the loop's
 abbrev Tested : Obj → ℕ → Bool → ℕ → List Own → Type 0
 Tested g zero b k ts = By_truth b ⊥ (Behind g [] Normal k ts)
 Tested g (suc n) b k ts =
     By_truth b
-    (RunsSuite (scene_of g) nothing [] None k ts (On_turn (Behind g) (λ env j rest. Loops (scene_of g) 2 None (atom.Bool true) (λ env1 i mid. RunsSuite (scene_of g) nothing env1 None i mid) n env j rest (Behind g))))
+    (RunsSuite (scene_of g) nothing [] None k ts (On_turn (Behind g) (λ env j rest. Loops (scene_of g) 2 (atom.Bool true) (RunsSuite (scene_of g) nothing) n env None j rest (Behind g))))
     (Behind g [] Normal k ts)
 
 abbrev Tests : Obj → ℕ → ℕ → List Own → Type 0
@@ -154,10 +165,20 @@ no_end_where_it_is_true r =
 -- ---- the unknown name
 
 abbrev unknown_function : Tree
-unknown_function = function_of (first 2 (show (atom.Name (codes "z"))) nothing)
+unknown_function = function_of (first 2 (Show (atom.Name (codes "z"))) nothing)
 
 pub unknown_spelled : Spells (lines unknown_script) unknown_trees drives
-unknown_spelled = record { items = Declares unknown_function ∷ Drives (record { function = codes "f"; args = [] }) ∷ []; spelled = refl; well = (refl, ((refl, tt), (refl, tt))); declared = refl; driven = refl }
+unknown_spelled =
+    let items = Declares unknown_function ∷ Drives (drive.Call (codes "f") []) ∷ [] in
+    record {
+      items = items;
+      reads = reads_of items;
+      read = (refl, (refl, (refl, (refl, tt))));
+      spelled = refl;
+      well = (refl, ((refl, tt), (refl, tt)));
+      declared = refl;
+      driven = refl;
+    }
 
 -- the entry of the exception names what it should
 made_error : IsMade unknown_objects (unknown_error 1)

@@ -7,7 +7,7 @@ use Rattle.py_objects.specs.declared.payload.Payload.{Payload}
 use Rattle.py_objects.specs.declared.payload.Payload.TheVariants as payload
 use Rattle.py_code.specs.declared.operator.BinaryOperator.TheVariants as binary
 use Rattle.py_objects.specs.declared.request.Request.{Request}
-use Rattle.py_objects.specs.declared.request.Request.TheVariants.{Binary, Show}
+use Rattle.py_objects.specs.declared.request.Request.TheVariants as request
 use Rattle.py_objects.specs.declared.event.ResumeHow.TheVariants.{Start}
 use Rattle.py_objects.specs.declared.event.GotAnswer.{GotAnswer}
 use Rattle.py_objects.specs.declared.event.GotAnswer.TheVariants as got
@@ -18,12 +18,12 @@ use Rattle.py_objects.specs.declared.event.Event.TheVariants as event
 use Rattle.py_objects.specs.Objects.{Obj, HasPayload, event_numbers, AllBelow, AllFit, AreNamed}
 use Rattle.py_objects.specs.Own.{Own, Makes, Resumes, Asks, Gets, Ends, own_events, own_from, told_by}
 use Rattle.py_objects.specs.Telling.{AfterValue, Answers}
-use Rattle.py_body.specs.declared.atom.Atom.TheVariants as atom
-use Rattle.py_body.specs.Tree.{show, nothing, first}
-use Rattle.py_body.specs.Binding.{Env, start_env, set_local}
-use Rattle.py_body.specs.Outcome.{Normal, Use, On_normal, RunsSuite}
-use Rattle.py_body.specs.Scene.{Scene, anywhere}
-use Rattle.py_body.specs.Trace.{IsTrace, EndsBy}
+use Rattle.py_tree.specs.declared.expr.Atom.TheVariants as atom
+use Rattle.py_tree.specs.Tree.{Show, nothing, first}
+use Rattle.py_tree.specs.Binding.{Env, start_env, set_local}
+use Rattle.py_tree.specs.Outcome.{Normal, Use, On_normal, RunsSuite}
+use Rattle.py_tree.specs.Scene.{Scene, anywhere}
+use Rattle.py_tree.specs.Trace.{IsTrace, EndsBy}
 use Rattle.py_grammar.specs.Grammar.{Declares, Drives}
 use Rattle.py_grammar.specs.Lines.{lines}
 use Rattle.py_grammar.specs.Script.{Spells}
@@ -33,12 +33,22 @@ use Rattle.py_script.specs.Whole.{Traces, IsRunOf, plan_of}
 use Rattle.py_script.specs.Text.{events_text, result_text}
 use Rattle.py_script.specs.Worked.{object, exception, entered, asked, greatest, overflow_by}
 use Rattle.py_script.specs.WorkedShow.{script, function, trees, drive, drives, objects, summed, shows, answered, ended, events_by, events, without_show, shown_twice, overflowing, overflow_objects, shown_behind_raise}
-use Rattle.py_script.proofs.Journals.{RaiseIsTraced, all_fit, are_globals, are_objects, asked_so, asking_comes, begun, call, decimal_1, decimal_45, each_at, gives_sum, one_tells, plain, plan_with, replied, some_is, sum_comes, traced}
+use Rattle.py_script.proofs.Journals.{RaiseIsTraced, all_fit, are_globals, are_objects, asked_so, asking_comes, begun, call, decimal_1, decimal_45, each_at, gives_sum, one_tells, plain, plan_with, reads_of, replied, some_is, sum_comes, traced}
 use Rattle.py_script.proofs.Journals.{overflow_is_run as overflow_run}
 use Rattle.py_script.proofs.OneText.{overflow_line}
 
 pub spelled : Spells (lines script) trees drives
-spelled = record { items = Declares function ∷ Drives drive ∷ []; spelled = refl; well = (refl, ((refl, (refl, tt)), (refl, tt))); declared = refl; driven = refl }
+spelled =
+    let items = Declares function ∷ Drives drive ∷ [] in
+    record {
+      items = items;
+      reads = reads_of items;
+      read = (refl, (refl, (refl, (refl, (refl, tt)))));
+      spelled = refl;
+      well = (refl, ((refl, (refl, tt)), (refl, tt)));
+      declared = refl;
+      driven = refl;
+    }
 
 fits : AllFit objects
 fits = all_fit objects refl (tt, (tt, (tt, (tt, (tt, (tt, (tt, (tt, (tt, (tt, (tt, (tt, (tt, (tt, (tt, tt)))))))))))))))
@@ -57,7 +67,7 @@ comes a r n m =
     let more = payload.Int (pos 45) ∷ payload.None ∷ [] in
     asking_comes function [] (pos 33) (pos 12) more (event.Got 1 (got.Value (object 13)) ∷ shows (object 13) (answered a (ended r))) (lit< tt) (_, refl, (_, refl, refl)) (
       sum_comes function plan (pos 33) (pos 12) more asking (state_after start asking) 1 (got.Value (object 13)) refl refl refl refl,
-      ((refl, refl), ((refl, (Show (object 13), refl, (Has payload.None, inl (Has payload.None, refl, refl), n))), ((refl, refl), ((refl, refl, (_, got.Value r, refl, refl, (_, _, refl, refl))), tt)))),
+      ((refl, refl), ((refl, (request.Show (object 13), refl, (Has payload.None, inl (Has payload.None, refl, refl), n))), ((refl, refl), ((refl, refl, (_, got.Value r, refl, refl, (_, _, refl, refl))), tt)))),
     )
 
 shown_traced : (a r : Obj) → IsNone r → IsTrace (anywhere objects (object 9)) function (object 10 ∷ object 11 ∷ []) (own_events 1 (events_by (object 13) a r))
@@ -101,7 +111,7 @@ locals v = set_local (codes "x") (Some v) (start_env function (object 10 ∷ obj
 
 -- what follows the sum, and what follows what is shown, behind the event k
 abbrev Shows : Scene → Env → ℕ → List Own → Type 0
-Shows scene env k ts = RunsSuite scene (first 3 (show (atom.Name (codes "x"))) nothing) env None k ts (EndsBy scene)
+Shows scene env k ts = RunsSuite scene (first 3 (Show (atom.Name (codes "x"))) nothing) env None k ts (EndsBy scene)
 
 abbrev Finishes : Scene → Env → ℕ → List Own → Type 0
 Finishes scene env k ts = RunsSuite scene nothing env None k ts (EndsBy scene)
@@ -110,24 +120,24 @@ Finishes scene env k ts = RunsSuite scene nothing env None k ts (EndsBy scene)
 abbrev AfterSum : Scene → AfterValue
 AfterSum scene = Use (start_env function (object 10 ∷ object 11 ∷ [])) (On_normal (EndsBy scene) (Shows scene)) (λ v. On_normal (EndsBy scene) (Shows scene) (locals v) Normal)
 
-behind_sum : (scene : Scene) (w : GotAnswer) (ts : List Own) → IsTrace scene function (object 10 ∷ object 11 ∷ []) (Makes ∷ Resumes 2 Start ∷ Asks 2 (Binary binary.Add (object 10) (object 11)) None ∷ Gets 4 w ∷ ts) → Answers w 4 ts (AfterSum scene)
+behind_sum : (scene : Scene) (w : GotAnswer) (ts : List Own) → IsTrace scene function (object 10 ∷ object 11 ∷ []) (Makes ∷ Resumes 2 Start ∷ Asks 2 (request.Binary binary.Add (object 10) (object 11)) None ∷ Gets 4 w ∷ ts) → Answers w 4 ts (AfterSum scene)
 behind_sum scene w ts h =
     let b = begun scene function (object 10 ∷ object 11 ∷ []) _ h in
-    ⊎_elim (λ cut. cc cut.0) (λ more. asked_so _ (Binary binary.Add (object 10) (object 11)) (Binary binary.Add (object 10) (object 11)) 2 2 4 w ts (AfterSum scene) more) b.1
+    ⊎_elim (λ cut. cc cut.0) (λ more. asked_so _ (request.Binary binary.Add (object 10) (object 11)) (request.Binary binary.Add (object 10) (object 11)) 2 2 4 w ts (AfterSum scene) more) b.1
 
 -- the sum is shown first
-first_shown : (scene : Scene) (v : Obj) (k : ℕ) (o : Own) (ts : List Own) → Shows scene (locals v) k (o ∷ ts) → (at : ℕ) × (o ≡ Asks at (Show v) None)
+first_shown : (scene : Scene) (v : Obj) (k : ℕ) (o : Own) (ts : List Own) → Shows scene (locals v) k (o ∷ ts) → (at : ℕ) × (o ≡ Asks at (request.Show v) None)
 first_shown scene v k o ts h = ⊎_elim (λ cut. cc cut.0) (λ more. ⊎_elim (λ cut. cc cut.0) (λ asks. (asks.0, cc asks.3)) more) h
 
-behind_show : (scene : Scene) (v q u : Obj) (k i : ℕ) (ts : List Own) → Shows scene (locals v) k (Asks 5 (Show q) None ∷ Gets i (got.Value u) ∷ ts) → Finishes scene (locals v) i ts
+behind_show : (scene : Scene) (v q u : Obj) (k i : ℕ) (ts : List Own) → Shows scene (locals v) k (Asks 5 (request.Show q) None ∷ Gets i (got.Value u) ∷ ts) → Finishes scene (locals v) i ts
 behind_show scene v q u k i ts h =
-    ⊎_elim (λ cut. cc cut.0) (λ more. asked_so _ (Show v) (Show q) 5 k i (got.Value u) ts _ more) h
+    ⊎_elim (λ cut. cc cut.0) (λ more. asked_so _ (request.Show v) (request.Show q) 5 k i (got.Value u) ts _ more) h
 
 -- at its end the body returns None
 last_told : (g v : Obj) (k : ℕ) (o : Own) (ts : List Own) → Finishes (anywhere objects g) (locals v) k (o ∷ ts) → (at : ℕ) × (r : Obj) × IsNone r × (o ≡ Ends at (ending.Return r))
 last_told g v k o ts h = ⊎_elim (λ cut. cc cut.0) (λ more. ⊎_elim (λ cut. cc cut) (λ end. ⊎_elim (λ cut. cc cut) (λ told. (told.0, end.0, end.1, cc told.1)) end.2) more) h
 
-shown_number : (at at' : ℕ) (v w : Obj) (own own' : Option PyBaseExceptionRef) → Asks at (Show v) own ≡ Asks at' (Show w) own' → v.number ≡ w.number
+shown_number : (at at' : ℕ) (v w : Obj) (own own' : Option PyBaseExceptionRef) → Asks at (request.Show v) own ≡ Asks at' (request.Show w) own' → v.number ≡ w.number
 shown_number at at' v w own own' e = let same : v ≡ w = cc in ap (λ (v : Obj). v.number) same
 
 pub no_show_dropped : IsRunOf trees drives objects without_show → ⊥
@@ -150,10 +160,10 @@ no_show_twice r =
     cc e.3
 
 -- what is shown is answered by None
-gives_none : (plan : Plan) (store : List Payload) (before : List Event) (s : State) (v : Obj) (w : GotAnswer) → ((r : Request) × (Some (Show v) ≡ Some r) × IsAnswered plan store before s Asking r w) → Gives store before (Has payload.None) w
+gives_none : (plan : Plan) (store : List Payload) (before : List Event) (s : State) (v : Obj) (w : GotAnswer) → ((r : Request) × (Some (request.Show v) ≡ Some r) × IsAnswered plan store before s Asking r w) → Gives store before (Has payload.None) w
 gives_none plan store before s v w h =
     let answered = subst (λ (r : Request). IsAnswered plan store before s Asking r w) (sym (some_is _ _ h.1)) h.2 in
-    subst (λ (reply : Reply). Gives store before reply w) (replied _ _ store (Show v) answered.0 (λ f vs e. cc) answered.1) answered.2
+    subst (λ (reply : Reply). Gives store before reply w) (replied _ _ store (request.Show v) answered.0 (λ f vs e. cc) answered.1) answered.2
 
 pub no_other_answer : IsRunOf trees drives objects (events_by (object 13) (object 13) (object 14)) → ⊥
 no_other_answer r =

@@ -3,8 +3,8 @@ use Rattle.std.specs.Prelude.{ℕ, suc, Some, List, [], ◌∷◌, ◌++◌, ◌
 use Rattle.py_objects.specs.declared.payload.Payload.{Payload}
 use Rattle.py_objects.specs.declared.payload.Payload.TheVariants as payload
 use Rattle.py_check.specs.declared.annotated.Annotated.{Annotated}
-use Rattle.py_body.specs.Tree.{Tree}
-use Rattle.py_body.specs.Fits.{Fits}
+use Rattle.py_tree.specs.Tree.{Tree}
+use Rattle.py_laid.specs.Fits.{Fits}
 use Rattle.py_vm.specs.Classes.{first_objects}
 use Rattle.py_vm.specs.Codes.{Checked}
 use Rattle.py_vm.specs.Machine.{Machine}

@@ -1,13 +1,10 @@
 -- What the steps of a run answer: reading the script, making its drives, and writing the text.
-use Rattle.std.specs.Prelude.{ℕ, ◌<◌, ◌≤◌, ◌^◌, ◌⊎◌, List, Bool, false, Option, Some, IfSome, ◌≡◌, slice_get, length, Result, Ok, Err}
+use Rattle.std.specs.Prelude.{ℕ, ◌<◌, ◌≤◌, ◌^◌, ◌⊎◌, List, Bool, false, Option, IfSome, ◌≡◌, length, Result, Ok, Err}
 use Rattle.std.specs.Io.KnownBytes.{Appends, Keeps}
 use Rattle.py_outside.specs.Faults.{Rose}
 use Rattle.py_outside.specs.Transfer.{AppendsFront}
-use Rattle.py_body.specs.Tree.{Tree}
-use Rattle.py_body.specs.Compilable.{IsCompilable}
 use Rattle.py_grammar.specs.declared.script.Script.{Script}
-use Rattle.py_grammar.specs.Script.{IsScript, IsBadLine, trees_of}
-use Rattle.py_grammar.specs.WellFormed.{IsWellFormed}
+use Rattle.py_grammar.specs.Script.{IsScript, IsBadLine}
 use Rattle.py_vm.specs.declared.fault.VmFault.{VmFault}
 use Rattle.py_vm.specs.declared.fault.VmFault.TheVariants as vm_fault
 use Rattle.py_vm.specs.declared.journal.Journal.{Journal}
@@ -16,15 +13,6 @@ use Rattle.py_script.specs.declared.fault.ScriptFault.TheVariants as fault
 use Rattle.py_script.specs.Whole.{IsRun, IsWhole, RunsItsCodes, IsEmpty}
 use Rattle.py_script.specs.Text.{text_of}
 use Rattle.py_script.specs.Causes.{WasRead}
-
--- each body of the trees can be compiled
-abbrev pub AllCompilable : List Tree → Type 0
-AllCompilable trees = (i : ℕ) (t : Tree) → slice_get trees i ≡ Some t → IsCompilable t
-
--- a script that can be run: it keeps the rules, and its bodies can be compiled
-pub record IsRunnable (s : Script) : Type 0 where
-  pub well : IsWellFormed s
-  pub closed : AllCompilable (trees_of s)
 
 -- what parsing bytes answers
 abbrev pub IsParsed : List ℕ → Result Script ScriptFault → Type 0

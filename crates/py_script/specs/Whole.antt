@@ -16,15 +16,16 @@ use Rattle.py_objects.specs.Objects.{Obj, HasPayload, as_object, declared, name_
 use Rattle.py_code.specs.Codes.{Codes}
 use Rattle.py_code.specs.declared.code.PyCode.{PyCode}
 use Rattle.py_check.specs.declared.note.Note.{Note}
-use Rattle.py_body.specs.Fits.{Fits}
-use Rattle.py_body.specs.Tree.{Tree}
-use Rattle.py_body.specs.Scene.{anywhere}
-use Rattle.py_body.specs.Trace.{IsTrace}
-use Rattle.py_grammar.specs.declared.drive.DriveAtom.{DriveAtom}
-use Rattle.py_grammar.specs.declared.drive.DriveAtom.TheVariants as atom
-use Rattle.py_grammar.specs.Drive.{Drive}
+use Rattle.py_laid.specs.Fits.{Fits}
+use Rattle.py_tree.specs.Tree.{Tree}
+use Rattle.py_tree.specs.Scene.{anywhere}
+use Rattle.py_tree.specs.Trace.{IsTrace}
+use Rattle.py_lines.specs.declared.drive.DriveAtom.{DriveAtom}
+use Rattle.py_lines.specs.declared.drive.DriveAtom.TheVariants as atom
+use Rattle.py_lines.specs.declared.drive.DriveLine.{DriveLine}
+use Rattle.py_lines.specs.declared.drive.DriveLine.TheVariants as drive
 use Rattle.py_grammar.specs.declared.script.Script.{Script}
-use Rattle.py_grammar.specs.Script.{trees_of, drives_of, IsScript}
+use Rattle.py_grammar.specs.Script.{trees_of, IsScript}
 use Rattle.py_vm.specs.declared.drive.Drive.{Drive as Question}
 use Rattle.py_vm.specs.declared.drive.Drive.TheVariants as question
 use Rattle.py_vm.specs.declared.journal.Journal.{Journal}
@@ -59,15 +60,15 @@ abbrev pub AreOf : List Payload → List Event → List DriveAtom → List Obj �
 AreOf objects events atoms vs = AllZip (IsOf objects events) atoms vs
 
 -- the question that a drive of a script asks
-abbrev pub AsksThis : List Payload → List Event → Drive → Question → Type 0
-AsksThis objects events d (question.Call f vs) = (declared objects d.function ≡ Some f) × AreOf objects events d.args vs
+abbrev pub AsksThis : List Payload → List Event → DriveLine → Question → Type 0
+AsksThis objects events (drive.Call f args) (question.Call g vs) = (declared objects f ≡ Some g) × AreOf objects events args vs
 
 -- the same, asked by a host that has entered nothing
-abbrev pub Asks : List Payload → List Event → Drive → Posed → Type 0
+abbrev pub Asks : List Payload → List Event → DriveLine → Posed → Type 0
 Asks objects events d q = AsksThis objects events d q.drive × (q.entered ≡ 0)
 
 -- the questions of a script's drives in order, as far as they were begun
-abbrev pub AreAsked : List Payload → List Event → List Drive → List Posed → Type 0
+abbrev pub AreAsked : List Payload → List Event → List DriveLine → List Posed → Type 0
 AreAsked objects events ds [] = Unit {0}
 AreAsked objects events [] (q ∷ qs) = ⊥
 AreAsked objects events (d ∷ ds) (q ∷ qs) = Asks objects events d q × AreAsked objects events ds qs
@@ -109,7 +110,7 @@ Traces trees globals objects f vs own =
     (b : FunctionBody) × HasPayload objects f (payload.Function b) × ((t : Tree) × (slice_get trees b.code ≡ Some t) × IsTrace (anywhere objects globals) t vs own)
 
 -- a prefix of a run of these declarations and drives
-pub record IsRunOf (trees : List Tree) (drives : List Drive) (objects : List Payload) (events : List Event) : Type 0 where
+pub record IsRunOf (trees : List Tree) (drives : List DriveLine) (objects : List Payload) (events : List Event) : Type 0 where
   pub asked : List Posed
   pub are_asked : AreAsked objects events drives asked
   pub globals : Obj  -- one and the same dict throughout
@@ -119,12 +120,12 @@ pub record IsRunOf (trees : List Tree) (drives : List Drive) (objects : List Pay
 
 -- the journal is a prefix of a run of a script
 pub record IsRun (s : Script) (j : Journal) : Type 0 where
-  pub run : IsRunOf (trees_of s) (drives_of s) j.objects j.events
+  pub run : IsRunOf (trees_of s) s.drives j.objects j.events
   pub unchanged : j.changes ≡ []
 
 -- every drive of the script has its result, and nothing runs
 abbrev pub IsWhole : Script → Journal → Type 0
-IsWhole s j = IsDone (length (drives_of s)) j.events
+IsWhole s j = IsDone (length s.drives) j.events
 
 -- there is a code for each body, and the one at its place fits it, with some notes
 pub record AreCompiled (ts : List Tree) (cs : Codes) : Type 0 where

@@ -1,6 +1,6 @@
 -- What the words of a command line ask for.
 use Rattle.std.specs.Prelude.{ℕ, List, [], ◌∷◌, Option, Some, None, bytes_eq, codes, if◌then◌else◌}
-use Rattle.py_grammar.specs.Words.{short_number}
+use Rattle.py_lines.specs.Words.{short_number}
 use Rattle.py_script.specs.declared.words.Command.{Command}
 use Rattle.py_script.specs.declared.words.Command.TheVariants as command
 

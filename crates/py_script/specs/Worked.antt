@@ -15,11 +15,13 @@ use Rattle.py_objects.specs.declared.event.Event.{Event}
 use Rattle.py_objects.specs.declared.event.Event.TheVariants as event
 use Rattle.py_objects.specs.Objects.{Obj, Name, name_of}
 use Rattle.py_objects.specs.Values.{new_exception}
-use Rattle.py_body.specs.declared.atom.Atom.TheVariants as atom
-use Rattle.py_body.specs.declared.atom.Operator.TheVariants as operator
-use Rattle.py_body.specs.Tree.{Tree, operate, give, nothing, first}
-use Rattle.py_grammar.specs.declared.drive.DriveAtom.TheVariants as argument
-use Rattle.py_grammar.specs.Drive.{Drive}
+use Rattle.py_tree.specs.declared.expr.Atom.TheVariants as atom
+use Rattle.py_tree.specs.declared.expr.Operation.TheVariants as operation
+use Rattle.py_tree.specs.declared.expr.Expr.TheVariants as expr
+use Rattle.py_tree.specs.Tree.{Tree, Assign, Return, nothing, first}
+use Rattle.py_lines.specs.declared.drive.DriveAtom.TheVariants as argument
+use Rattle.py_lines.specs.declared.drive.DriveLine.{DriveLine}
+use Rattle.py_lines.specs.declared.drive.DriveLine.TheVariants as drive
 use Rattle.py_vm.specs.Run.{IsDone}
 use Rattle.py_script.specs.Whole.{IsRunOf}
 use Rattle.py_script.specs.Text.{events_text}
@@ -34,7 +36,7 @@ function =
     record {
       name = codes "f";
       params = codes "a" ∷ codes "b" ∷ [];
-      suite = first 2 (operate (Some (codes "x")) operator.Add (atom.Name (codes "a") ∷ atom.Name (codes "b") ∷ [])) (first 3 (give (atom.Name (codes "x"))) nothing);
+      suite = first 2 (Assign (codes "x") (expr.Operation (operation.Add (atom.Name (codes "a")) (atom.Name (codes "b"))))) (first 3 (Return (atom.Name (codes "x"))) nothing);
       line = 1;
     }
 
@@ -42,13 +44,13 @@ function =
 abbrev pub trees : List Tree
 trees = function ∷ []
 
--- call f with two numbers
-abbrev pub call_of : ℤ → ℤ → Drive
-call_of m n = record { function = codes "f"; args = argument.Int m ∷ argument.Int n ∷ [] }
+-- the call of a function with two numbers
+abbrev pub call_of : Name → ℤ → ℤ → DriveLine
+call_of f m n = drive.Call f (argument.Int m ∷ argument.Int n ∷ [])
 
 -- what it drives: call f 33 12
-abbrev pub drives : List Drive
-drives = call_of (pos 33) (pos 12) ∷ []
+abbrev pub drives : List DriveLine
+drives = call_of (codes "f") (pos 33) (pos 12) ∷ []
 
 -- an object by its number
 abbrev pub object : ℕ → Obj
@@ -142,9 +144,13 @@ driven_twice = entered 1 (asked 1 (object 10) (object 11) (returned 1 (object 13
 abbrev pub greatest : ℤ
 greatest = pos (2 ^ 127 - 1)
 
--- a drive that adds 1 to it
-abbrev pub overflowing : Drive
-overflowing = call_of greatest (pos 1)
+-- a call of a function that adds 1 to it
+abbrev pub overflowing_of : Name → DriveLine
+overflowing_of f = call_of f greatest (pos 1)
+
+-- a drive that does
+abbrev pub overflowing : DriveLine
+overflowing = overflowing_of (codes "f")
 
 -- the entry of a new exception: the numbers of its class and of its arguments
 abbrev pub exception_entry : ℕ → ℕ → Payload
@@ -187,4 +193,4 @@ overflow_by e = raises 1 e []
 
 -- each whole run of the call with these numbers writes this
 abbrev pub Writes : ℤ → ℤ → List ℕ → Type 0
-Writes m n line = (store : List Payload) (es : List Event) → IsRunOf trees (call_of m n ∷ []) store es → IsDone 1 es → events_text store [] es ≡ line
+Writes m n line = (store : List Payload) (es : List Event) → IsRunOf trees (call_of (codes "f") m n ∷ []) store es → IsDone 1 es → events_text store [] es ≡ line

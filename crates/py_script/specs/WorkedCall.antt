@@ -12,11 +12,13 @@ use Rattle.py_objects.specs.declared.event.DriveAnswer.TheVariants as answer
 use Rattle.py_objects.specs.declared.event.Event.{Event}
 use Rattle.py_objects.specs.declared.event.Event.TheVariants as event
 use Rattle.py_objects.specs.Objects.{Obj, HasPayload}
-use Rattle.py_body.specs.declared.atom.Atom.TheVariants as atom
-use Rattle.py_body.specs.declared.atom.Operator.TheVariants as operator
-use Rattle.py_body.specs.Tree.{Tree, operate, give, nothing, first}
-use Rattle.py_grammar.specs.declared.drive.DriveAtom.TheVariants as argument
-use Rattle.py_grammar.specs.Drive.{Drive}
+use Rattle.py_tree.specs.declared.expr.Atom.TheVariants as atom
+use Rattle.py_tree.specs.declared.expr.Operation.TheVariants as operation
+use Rattle.py_tree.specs.declared.expr.Expr.TheVariants as expr
+use Rattle.py_tree.specs.Tree.{Tree, Assign, Return, nothing, first}
+use Rattle.py_lines.specs.declared.drive.DriveAtom.TheVariants as argument
+use Rattle.py_lines.specs.declared.drive.DriveLine.{DriveLine}
+use Rattle.py_lines.specs.declared.drive.DriveLine.TheVariants as drive
 use Rattle.py_vm.specs.Calls.{Signature}
 use Rattle.py_vm.specs.Run.{Plan}
 use Rattle.py_script.specs.Worked.{object, exception, built_in, function_entry, exception_entry}
@@ -27,7 +29,7 @@ script = codes "def g a b\nreturn a\nend\ndef f\nx = (call g 7 8)\nreturn x\nend
 
 -- def g a b / return a / end
 abbrev pub callee : Tree
-callee = record { name = codes "g"; params = codes "a" ∷ codes "b" ∷ []; suite = first 2 (give (atom.Name (codes "a"))) nothing; line = 1 }
+callee = record { name = codes "g"; params = codes "a" ∷ codes "b" ∷ []; suite = first 2 (Return (atom.Name (codes "a"))) nothing; line = 1 }
 
 -- def f / x = (call g 7 8) / return x / end
 abbrev pub caller : Tree
@@ -35,7 +37,7 @@ caller =
     record {
       name = codes "f";
       params = [];
-      suite = first 5 (operate (Some (codes "x")) operator.Call (atom.Name (codes "g") ∷ atom.Int (pos 7) ∷ atom.Int (pos 8) ∷ [])) (first 6 (give (atom.Name (codes "x"))) nothing);
+      suite = first 5 (Assign (codes "x") (expr.Operation (operation.Call (atom.Name (codes "g")) (atom.Int (pos 7) ∷ atom.Int (pos 8) ∷ [])))) (first 6 (Return (atom.Name (codes "x"))) nothing);
       line = 4;
     }
 
@@ -44,10 +46,9 @@ abbrev pub trees : List Tree
 trees = callee ∷ caller ∷ []
 
 -- what it drives: call f, call g $1 9, call f $1
-abbrev pub drives : List Drive
+abbrev pub drives : List DriveLine
 drives =
-    record { function = codes "f"; args = [] } ∷ record { function = codes "g"; args = argument.Drive 1 ∷ argument.Int (pos 9) ∷ [] }
-    ∷ record { function = codes "f"; args = argument.Drive 1 ∷ [] } ∷ []
+    drive.Call (codes "f") [] ∷ drive.Call (codes "g") (argument.Drive 1 ∷ argument.Int (pos 9) ∷ []) ∷ drive.Call (codes "f") (argument.Drive 1 ∷ []) ∷ []
 
 -- the names of the functions, 9 and 10, the dict of the globals, 11, the frame of f, 12, its numbers, 13 and 14, the frame of g, 15,
 -- the number of the second drive, 16, and the frame of g again, 17

@@ -11,9 +11,10 @@ use Rattle.py_objects.specs.declared.event.DriveAnswer.TheVariants as answer
 use Rattle.py_objects.specs.declared.event.Event.{Event}
 use Rattle.py_objects.specs.declared.event.Event.TheVariants as event
 use Rattle.py_objects.specs.Objects.{Obj}
-use Rattle.py_body.specs.declared.atom.Atom.TheVariants as atom
-use Rattle.py_body.specs.Tree.{Suite, show, loop, nothing, first, Tree}
-use Rattle.py_grammar.specs.Drive.{Drive}
+use Rattle.py_tree.specs.declared.expr.Atom.TheVariants as atom
+use Rattle.py_tree.specs.Tree.{Suite, Show, While, nothing, first, Tree}
+use Rattle.py_lines.specs.declared.drive.DriveLine.{DriveLine}
+use Rattle.py_lines.specs.declared.drive.DriveLine.TheVariants as drive
 use Rattle.py_script.specs.Worked.{object, exception, exception_entry, function_entry, loaded}
 
 -- the bytes of the script whose loop doesn't end
@@ -26,15 +27,15 @@ function_of s = record { name = codes "f"; params = []; suite = s; line = 1 }
 
 -- def f / while True / end / end
 abbrev pub function : Tree
-function = function_of (first 2 (loop (atom.Bool true) nothing) nothing)
+function = function_of (first 2 (While (atom.Bool true) nothing) nothing)
 
 -- what the script declares
 abbrev pub trees : List Tree
 trees = function ∷ []
 
 -- what it drives: call f
-abbrev pub drives : List Drive
-drives = record { function = codes "f"; args = [] } ∷ []
+abbrev pub drives : List DriveLine
+drives = drive.Call (codes "f") [] ∷ []
 
 -- the objects of a run of f, the frame of whose activation has number 10, and more
 abbrev pub objects_with : List Payload → List Payload
@@ -82,7 +83,7 @@ unknown_script = codes "def f\nshow z\nend\ncall f\n"
 
 -- def f / show z / end
 abbrev pub unknown_trees : List Tree
-unknown_trees = function_of (first 2 (show (atom.Name (codes "z"))) nothing) ∷ []
+unknown_trees = function_of (first 2 (Show (atom.Name (codes "z"))) nothing) ∷ []
 
 -- the entry of an exception of the class with this number
 abbrev pub unknown_error : ℕ → Payload

@@ -1,20 +1,20 @@
 -- A script that shows, worked by hand: its journal, and lists of events that look like one and are none.
-use Rattle.std.specs.Prelude.{ℕ, Some, None, List, [], ◌∷◌, pos, codes}
+use Rattle.std.specs.Prelude.{ℕ, None, List, [], ◌∷◌, pos, codes}
 use Rattle.py_objects.specs.declared.payload.Payload.{Payload}
 use Rattle.py_objects.specs.declared.payload.Payload.TheVariants as payload
-use Rattle.py_objects.specs.declared.request.Request.TheVariants.{Show}
+use Rattle.py_objects.specs.declared.request.Request.TheVariants as request
 use Rattle.py_objects.specs.declared.event.GotAnswer.TheVariants as got
 use Rattle.py_objects.specs.declared.event.Ending.TheVariants as ending
 use Rattle.py_objects.specs.declared.event.DriveAnswer.TheVariants as answer
 use Rattle.py_objects.specs.declared.event.Event.{Event}
 use Rattle.py_objects.specs.declared.event.Event.TheVariants as event
 use Rattle.py_objects.specs.Objects.{Obj}
-use Rattle.py_body.specs.declared.atom.Atom.TheVariants as atom
-use Rattle.py_body.specs.declared.atom.Operator.TheVariants as operator
-use Rattle.py_body.specs.Tree.{Tree, operate, show, nothing, first}
-use Rattle.py_grammar.specs.Drive.{Drive}
-use Rattle.py_script.specs.Worked.{call_of, object, exception, function_entry, objects_of, entered, asked, raising_by}
-use Rattle.py_script.specs.Worked.{overflowing as overflowing_f}
+use Rattle.py_tree.specs.declared.expr.Atom.TheVariants as atom
+use Rattle.py_tree.specs.declared.expr.Operation.TheVariants as operation
+use Rattle.py_tree.specs.declared.expr.Expr.TheVariants as expr
+use Rattle.py_tree.specs.Tree.{Tree, Assign, Show, nothing, first}
+use Rattle.py_lines.specs.declared.drive.DriveLine.{DriveLine}
+use Rattle.py_script.specs.Worked.{call_of, overflowing_of, object, exception, function_entry, objects_of, entered, asked, raising_by}
 
 -- the bytes of the script
 abbrev pub script : List ℕ
@@ -26,7 +26,7 @@ function =
     record {
       name = codes "g";
       params = codes "a" ∷ codes "b" ∷ [];
-      suite = first 2 (operate (Some (codes "x")) operator.Add (atom.Name (codes "a") ∷ atom.Name (codes "b") ∷ [])) (first 3 (show (atom.Name (codes "x"))) nothing);
+      suite = first 2 (Assign (codes "x") (expr.Operation (operation.Add (atom.Name (codes "a")) (atom.Name (codes "b"))))) (first 3 (Show (atom.Name (codes "x"))) nothing);
       line = 1;
     }
 
@@ -35,11 +35,11 @@ abbrev pub trees : List Tree
 trees = function ∷ []
 
 -- call g 33 12
-abbrev pub drive : Drive
-drive = record (call_of (pos 33) (pos 12)) { function = codes "g" }
+abbrev pub drive : DriveLine
+drive = call_of (codes "g") (pos 33) (pos 12)
 
 -- what it drives
-abbrev pub drives : List Drive
+abbrev pub drives : List DriveLine
 drives = drive ∷ []
 
 -- the objects of the run; the sum has number 13, and 14 is the None that is returned
@@ -52,7 +52,7 @@ summed events = entered 1 (asked 1 (object 10) (object 11) (event.Got 1 (got.Val
 
 -- the body shows this object, at its sixth unit
 abbrev pub shows : Obj → List Event → List Event
-shows v events = event.Ask 1 (Show v) None 5 ∷ events
+shows v events = event.Ask 1 (request.Show v) None 5 ∷ events
 
 -- it gets this object for what it shows
 abbrev pub answered : Obj → List Event → List Event
@@ -79,8 +79,8 @@ abbrev pub shown_twice : List Event
 shown_twice = summed (shows (object 13) (answered (object 0) (shows (object 13) (answered (object 0) (ended (object 14))))))
 
 -- a drive that adds 1 to the greatest whole number
-abbrev pub overflowing : Drive
-overflowing = record overflowing_f { function = codes "g" }
+abbrev pub overflowing : DriveLine
+overflowing = overflowing_of (codes "g")
 
 -- the objects where OverflowError is raised
 abbrev pub overflow_objects : List Payload

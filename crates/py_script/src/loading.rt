@@ -1,18 +1,19 @@
 //! The declarations of a script in a machine: their codes, their functions, and the dict of their names.
 
-ghost use Rattle.std.specs.Prelude.{false, ◌≡◌, ◌≤◌, ◌<◌, ◌+◌, ◌++◌, ◌∷◌, [], IfOk, OnOk, map, length, All};
+ghost use Rattle.std.specs.Prelude.{false, ◌≡◌, ◌≤◌, ◌<◌, ◌+◌, [], IfOk, OnOk, map, length, All};
 ghost use Rattle.py_objects.specs.Objects.{HasPayload, declared, pair_numbers, AllBelow};
-ghost use Rattle.py_body.specs.Compilable.{IsCompilable};
-ghost use Rattle.py_body.specs.Fits.{Fits, Continues};
+ghost use Rattle.py_laid.specs.Fits.{Fits, Continues};
+ghost use Rattle.py_laid.specs.Instructions.{UsesUnguarded};
+ghost use Rattle.py_body.specs.Codes.{Each};
 ghost use Rattle.py_rows.specs.Sound.{AreNames};
 ghost use Rattle.py_vm.specs.Codes.{CodeIsAnswered};
 ghost use Rattle.py_grammar.specs.Script.{declared_tree, trees_of};
+ghost use Rattle.py_grammar.specs.WellFormed.{IsWellDeclared, IsWellFormed};
 ghost use Rattle.py_script.specs.Loaded.{AreChecked, function_entries, with_codes, with_objects};
-ghost use Rattle.py_script.specs.Steps.{AllCompilable, IsRunnable};
 ghost use Rattle.py_script.specs.Session.{AreBindings, AreDeclared, BindsAll, HasFunctions, IsLoaded, IsValue, OnlyGrew, TakesGlobals};
 
 use crate::session::Session;
-use py_body::compile_body;
+use py_body::{AnnotatedList, compile_body};
 use py_check::CheckedCode;
 use py_code::{Names, NoMemory};
 use py_grammar::{Declaration, Script};
@@ -20,19 +21,39 @@ use py_objects::{FunctionBody, ObjList, PairList, Payload, PyObjectRef};
 use py_vm::VirtualMachine;
 use std::alloc::Global;
 
-/// The code of a declaration, whose names go into the table.
+/// The codes of a declaration, the first of which has this number. Their names go into the table.
+fn compile_declaration(
+    alloc: Global,
+    names: &mut Names,
+    declaration: &Declaration,
+    number: usize,
+) -> Result<AnnotatedList, NoMemory>
+    requires { IsWellDeclared (declared_tree declaration.now) }
+    ensures one { IfOk result (λ codes. length codes ≡ 1) }
+    ensures fits { IfOk result (λ codes. Each (λ code. Fits names.new code (declared_tree declaration.now)) codes) }
+    ensures uses { IfOk result (λ codes. Each (λ code. UsesUnguarded code.code) codes) }
+    ensures grows { Continues names.old names.new }
+{
+    match declaration {
+        Declaration::Function(body) => compile_body(alloc, names, body, number),
+    }
+}
+
+/// The code of a declaration, which has this number. A body has no bodies inside of it so far.
 fn compile_one(
     alloc: Global,
     names: &mut Names,
     declaration: &Declaration,
+    number: usize,
 ) -> Result<CheckedCode, NoMemory>
-    requires { IsCompilable (declared_tree declaration.now) }
+    requires { IsWellDeclared (declared_tree declaration.now) }
     ensures fits { IfOk result (λ code. Fits names.new code (declared_tree declaration.now)) }
     ensures answered { IfOk result (λ code. CodeIsAnswered code.code) }
     ensures grows { Continues names.old names.new }
 {
-    let code = match declaration {
-        Declaration::Function(body) => compile_body(alloc, names, body)?,
+    let codes = compile_declaration(alloc, names, declaration, number)?;
+    let Some(code) = codes.into_vec().pop() else {
+        unreachable!();
     };
     Ok(CheckedCode::of(code))
 }
@@ -43,13 +64,13 @@ fn compile_all(
     names: &mut Names,
     declarations: &[Declaration],
 ) -> Result<Vec<CheckedCode>, NoMemory>
-    requires { AllCompilable (map declared_tree declarations.now) }
+    requires { All IsWellDeclared (map declared_tree declarations.now) }
     ensures checked { IfOk result (λ codes. AreChecked (map declared_tree declarations.now) (record { names = names.new; codes = codes.items })) }
     ensures answered { IfOk result (λ codes. All (λ code. CodeIsAnswered code.code) codes.items) }
 {
     let mut codes = Vec::new(alloc);
     for declaration in declarations {
-        let code = compile_one(alloc, names, declaration)?;
+        let code = compile_one(alloc, names, declaration, codes.len())?;
         codes.push(code)?;
     }
     Ok(codes)
@@ -59,7 +80,7 @@ fn compile_all(
 fn add_codes(vm: &mut VirtualMachine, codes: Vec<CheckedCode>) -> Result<(), NoMemory>
     requires named { All (λ code. AreNames vm.old.checked.names code.code) codes.items }
     requires answered { All (λ code. CodeIsAnswered code.code) codes.items }
-    ensures { OnOk result (vm.new ≡ record vm.old { checked = record vm.old.checked { codes = vm.old.checked.codes ++ codes.items } }) }
+    ensures { OnOk result (vm.new ≡ with_codes vm.old codes.items) }
 {
     for code in codes {
         let Ok(_) = vm.add_code(code) else {
@@ -92,7 +113,7 @@ fn add_functions(
     declarations: &[Declaration],
 ) -> Result<(), NoMemory>
     requires coded { length declarations.now ≤ length vm.old.checked.codes }
-    ensures { OnOk result (vm.new ≡ record vm.old { objects = vm.old.objects ++ function_entries 0 (map declared_tree declarations.now) }) }
+    ensures { OnOk result (vm.new ≡ with_objects vm.old (function_entries 0 (map declared_tree declarations.now))) }
 {
     for (code, declaration) in declarations.iter().enumerate() {
         let body = function_body(alloc, declaration, code)?;
@@ -174,7 +195,7 @@ fn add_declarations(
 
 /// A machine with the codes and the functions of the declarations.
 fn load_functions(alloc: Global, script: &Script) -> Result<VirtualMachine, NoMemory>
-    requires { IsRunnable script.now }
+    requires { IsWellFormed script.now }
     ensures { IfOk result (λ vm. HasFunctions (trees_of script.now) vm) }
 {
     let declarations = script.declarations.as_slice();
@@ -204,7 +225,7 @@ fn bind_declarations(
 
 /// A machine that holds the declarations of the script, with the dict of their names as its globals.
 pub(crate) fn load_script(alloc: Global, script: &Script) -> Result<Session, NoMemory>
-    requires { IsRunnable script.now }
+    requires { IsWellFormed script.now }
     ensures { IfOk result (λ session. IsLoaded (trees_of script.now) session) }
 {
     let mut vm = load_functions(alloc, script)?;

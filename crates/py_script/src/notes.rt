@@ -1,6 +1,6 @@
 //! Notes: the line that is written of each outcome, for which no memory is taken.
 
-ghost use Rattle.std.specs.Prelude.{◌≡◌, ◌≤◌, ◌++◌, ◌⊎◌, OnOk, codes, decimal};
+ghost use Rattle.std.specs.Prelude.{◌≤◌, ◌++◌, ◌⊎◌, OnOk, decimal};
 ghost use Rattle.std.specs.Io.KnownBytes.{Appends};
 ghost use Rattle.py_outside.specs.Counting.{HasCause};
 ghost use Rattle.py_outside.specs.Faults.{Rose};

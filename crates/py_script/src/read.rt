@@ -1,8 +1,9 @@
 //! Reading a script from a source.
 
 ghost use Rattle.std.specs.Prelude.{◌≤◌, ◌+◌, ◌^◌, IfOk, length};
+ghost use Rattle.py_grammar.specs.WellFormed.{IsWellFormed};
 ghost use Rattle.py_script.specs.Whole.{IsEmpty};
-ghost use Rattle.py_script.specs.Steps.{IsParsed, IsReading, IsRunnable};
+ghost use Rattle.py_script.specs.Steps.{IsParsed, IsReading};
 
 use crate::fault::ScriptFault;
 use py_code::{CodeList, Names};
@@ -28,7 +29,7 @@ pub(crate) fn empty_journal(alloc: Global) -> Journal
 fn parse_bytes(alloc: Global, bytes: &[u8]) -> Result<Script, ScriptFault>
     requires { length bytes.now ≤ 2 ^ 20 }
     ensures parsed { IsParsed bytes.now result }
-    ensures runnable { IfOk result IsRunnable }
+    ensures well { IfOk result IsWellFormed }
 {
     match parse_script(alloc, bytes) {
         Ok(script) => Ok(script),
@@ -40,7 +41,7 @@ fn parse_bytes(alloc: Global, bytes: &[u8]) -> Result<Script, ScriptFault>
 /// The script that the source holds.
 pub(crate) fn read_script<S: Source>(alloc: Global, source: &mut S) -> Result<Script, ScriptFault>
     ensures reading { IsReading (S.left source.old) (S.left source.new) (S.at_end source.new) (S.faults source.old) (S.faults source.new) result }
-    ensures runnable { IfOk result IsRunnable }
+    ensures well { IfOk result IsWellFormed }
     ensures reads { S.reads source.new ≤ S.reads source.old + (2 ^ 20 + 1) }
 {
     match read_bytes(alloc, source) {

@@ -1,11 +1,11 @@
 //! The words of a command line, and what they ask for.
 
 ghost use Rattle.std.specs.Prelude.{◌≡◌, [], ◌∷◌, ◌++◌, length, slice_get, option_copied, OnOk, OnErr};
-ghost use Rattle.py_grammar.specs.Words.{short_number as turns_spelled};
+ghost use Rattle.py_lines.specs.Words.{short_number as turns_spelled};
 ghost use Rattle.py_script.specs.Words.{run_of, command_in};
 
 use py_code::NoMemory;
-use py_grammar::short_number;
+use py_lines::short_number;
 use std::alloc::Global;
 use std::marker::Model;
 

@@ -1,10 +1,11 @@
 //! A function as a tree, made by hand.
 
-ghost use Rattle.std.specs.Prelude.{◌≡◌, IfOk, length};
-ghost use Rattle.py_body.specs.Compilable.{IsCompilable, SuiteTakes, statements};
-ghost use Rattle.py_body.specs.Tree.{suite_of, tree_of};
+ghost use Rattle.std.specs.Prelude.{◌≡◌, IfOk, false};
+ghost use Rattle.py_tree.specs.Compilable.{IsCompilable, SuiteFits, statements};
+ghost use Rattle.py_tree.specs.Unguarded.{IsUnguarded};
+ghost use Rattle.py_tree.specs.Views.{suite_of, tree_of};
 
-use py_body::{Atom, AtomList, Body, Operator, ParamList, Stmt, StmtForm, StmtList};
+use py_body::{Atom, AtomList, Body, Expr, Operation, ParamList, Stmt, StmtForm, StmtList};
 use py_code::{NoMemory, PyText, text_of};
 use std::alloc::Global;
 
@@ -21,7 +22,8 @@ use std::alloc::Global;
 /// end
 /// ```
 pub(crate) fn count_down(alloc: Global) -> Result<Body, NoMemory>
-    ensures { IfOk result (λ body. IsCompilable (tree_of body)) }
+    ensures compilable { IfOk result (λ body. IsCompilable (tree_of body)) }
+    ensures unguarded { IfOk result (λ body. IsUnguarded (suite_of body.suite)) }
 {
     let mut params = ParamList::new(alloc);
     params.push(text(alloc, b"n")?)?;
@@ -40,17 +42,20 @@ pub(crate) fn count_down(alloc: Global) -> Result<Body, NoMemory>
 
 /// The two lines in the `if`.
 fn call_of_less(alloc: Global) -> Result<StmtList, NoMemory>
-    ensures takes { IfOk result (λ suite. SuiteTakes (suite_of suite)) }
+    ensures fits { IfOk result (λ suite. SuiteFits false (suite_of suite)) }
+    ensures unguarded { IfOk result (λ suite. IsUnguarded (suite_of suite)) }
     ensures counted { IfOk result (λ suite. statements (suite_of suite) ≡ 2) }
 {
-    let less = two(alloc, name(alloc, b"n")?, Atom::Int(1))?;
-    let call = two(alloc, name(alloc, b"down")?, name(alloc, b"m")?)?;
+    let less = Operation::Sub(name(alloc, b"n")?, Atom::Int(1));
+    let mut args = AtomList::new(alloc);
+    args.push(name(alloc, b"m")?)?;
+    let call = Operation::Call(name(alloc, b"down")?, args);
     let mut suite = StmtList::new(alloc);
     suite.push(line(
         4,
-        StmtForm::Operate(text(alloc, b"m")?, Operator::Sub, less),
+        StmtForm::Assign(text(alloc, b"m")?, Expr::Operation(less)),
     ))?;
-    suite.push(line(5, StmtForm::Do(Operator::Call, call)))?;
+    suite.push(line(5, StmtForm::Do(call)))?;
     Ok(suite)
 }
 
@@ -66,13 +71,4 @@ fn text(alloc: Global, bytes: &[u8]) -> Result<PyText, NoMemory> {
 
 fn name(alloc: Global, bytes: &[u8]) -> Result<Atom, NoMemory> {
     Ok(Atom::Name(text_of(alloc, bytes)?))
-}
-
-fn two(alloc: Global, left: Atom, right: Atom) -> Result<AtomList, NoMemory>
-    ensures { IfOk result (λ atoms. length atoms ≡ 2) }
-{
-    let mut atoms = AtomList::new(alloc);
-    atoms.push(left)?;
-    atoms.push(right)?;
-    Ok(atoms)
 }

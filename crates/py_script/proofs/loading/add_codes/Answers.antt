@@ -15,15 +15,15 @@ Named names codes = All (λ (code : Annotated). AreNames names code.code) codes
 Answered : List Annotated → Type 0
 Answered codes = All (λ (code : Annotated). CodeIsAnswered code.code) codes
 
-abbrev with_codes : Machine → List Annotated → Machine
-with_codes m codes = record m { checked = record m.checked { codes = codes } }
+abbrev set_codes : Machine → List Annotated → Machine
+set_codes m codes = record m { checked = record m.checked { codes = codes } }
 
 pub loop-code-init : goal.loop-code-init
 unfolding Named Answered
 loop-code-init c =
     let vm : Machine = c.args.vm.now in
     record {
-      is = ap (with_codes vm) (sym (append-nil vm.checked.codes));
+      is = ap (set_codes vm) (sym (append-nil vm.checked.codes));
       named = subst (Named vm.checked.names) (sym c.into_iter-code-iterator.ensures.into_iter_gives.0) c.requires.named;
       answered = subst Answered (sym c.into_iter-code-iterator.ensures.into_iter_gives.0) c.requires.answered;
     }
@@ -44,8 +44,8 @@ loop-code-preserved c =
     let so_far = c.loop-code.invariant in
     let left = subst (Named vm.checked.names) c.in-Some.ensures.steps.0 so_far.named in
     record {
-      is = c.in-Ok.ensures.1.1 ∙ (ap (λ (m : Machine). with_codes m (m.checked.codes ++ c.in-Some.code ∷ [])) so_far.is
-          ∙ ap (with_codes vm) (append_assoc vm.checked.codes c.loop-code.yielded (c.in-Some.code ∷ [])));
+      is = c.in-Ok.ensures.1.1 ∙ (ap (λ (m : Machine). set_codes m (m.checked.codes ++ c.in-Some.code ∷ [])) so_far.is
+          ∙ ap (set_codes vm) (append_assoc vm.checked.codes c.loop-code.yielded (c.in-Some.code ∷ [])));
       named = others_of_all (λ (code : Annotated). AreNames vm.checked.names code.code) c.in-Some.code c.next.new.self.rest.items left;
       answered = others_of_all (λ (code : Annotated). CodeIsAnswered code.code) c.in-Some.code c.next.new.self.rest.items (subst Answered c.in-Some.ensures.steps.0 so_far.answered);
     }

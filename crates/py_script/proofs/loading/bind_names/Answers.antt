@@ -1,11 +1,11 @@
 use Rattle.std.proofs.Common.{◌≡◌, ◌∙◌, ◌+◌, ◌++◌, ◌∷◌, [], List, Some, map, take, refl, ap, sym, subst}
 use Rattle.py_objects.specs.declared.payload.Payload.TheVariants as payload
 use Rattle.py_objects.specs.Objects.{Obj, HasPayload, declared}
-use Rattle.py_body.specs.Tree.{Tree}
+use Rattle.py_tree.specs.Tree.{Tree}
 use Rattle.py_grammar.specs.Script.{declared_tree}
 use Rattle.py_vm.proofs.RunLemmas.{declared_stays}
 use Rattle.py_script.specs.Session.{AreBindings}
-use Rattle.py_script.proofs.Declarations.{entry_read, front_more}
+use Rattle.py_script.proofs.Declarations.{entry_mapped, entry_read, front_more}
 use Rattle.py_script.proofs.Objects.{bindings_grow, bindings_more}
 use Rattle.py_script.proofs.Driven.{grew_more}
 use Rattle.py_script.proofs.loading.bind_names.Goals as goal
@@ -15,7 +15,7 @@ unreachable-requires c =
     let i = c.loop-declaration.declaration-index in
     let tree = declared_tree c.declaration-item.result in
     let now = c.loop-declaration.vm.objects in
-    let (f, is) = c.requires.declared i tree (entry_read declared_tree c.args.declarations.now i c.declaration-item.result c.loop-declaration-test.true c.declaration-item.is) in
+    let (f, is) = c.requires.declared i tree (entry_mapped declared_tree c.args.declarations.now i c.declaration-item.result (entry_read c.args.declarations.now i c.declaration-item.result c.loop-declaration-test.true c.declaration-item.is)) in
     c.in_default.not-Some f (c.declared.ensures ∙ ap (declared now) c.name-name.ensures ∙ declared_stays c.args.vm.now.objects now tree.name c.loop-declaration.invariant.grew.grows ∙ is)
 
 pub loop-declaration-preserved : goal.loop-declaration-preserved

@@ -2,16 +2,20 @@ use Rattle.std.proofs.Common.{◌+◌, ◌++◌, ◌∷◌, [], ℕ, List, map, 
 use Rattle.std.specs.Prelude.{All}
 use Rattle.std.proofs.lemmas.List.Elements.{All-push}
 use Rattle.py_check.specs.declared.annotated.Annotated.{Annotated}
-use Rattle.py_body.specs.Tree.{Tree}
+use Rattle.py_tree.specs.Tree.{Tree}
 use Rattle.py_grammar.specs.Script.{declared_tree}
+use Rattle.py_grammar.specs.WellFormed.{IsWellDeclared}
 use Rattle.py_vm.specs.Codes.{CodeIsAnswered}
 use Rattle.py_script.specs.Loaded.{AreChecked}
-use Rattle.py_script.proofs.Declarations.{entry_read, front_more, front_whole, none_checked, checked_more}
+use Rattle.py_script.proofs.Declarations.{entry_mapped, entry_read, front_more, front_whole, none_checked, checked_more, one_of_all}
 use Rattle.py_script.proofs.loading.compile_all.Goals as goal
 
 pub compile_one-requires : goal.compile_one-requires
-compile_one-requires c = c.requires c.loop-declaration.declaration-index (declared_tree c.declaration-item.result)
-    (entry_read declared_tree c.args.declarations.now c.loop-declaration.declaration-index c.declaration-item.result c.loop-declaration-test.true c.declaration-item.is)
+compile_one-requires c =
+    let i = c.loop-declaration.declaration-index in
+    let ds = c.args.declarations.now in
+    let d = c.declaration-item.result in
+    one_of_all IsWellDeclared (map declared_tree ds) i (declared_tree d) c.requires (entry_mapped declared_tree ds i d (entry_read ds i d c.loop-declaration-test.true c.declaration-item.is))
 
 pub loop-declaration-init : goal.loop-declaration-init
 loop-declaration-init c = record {

@@ -1,11 +1,20 @@
 use Rattle.std.proofs.Common.{refl, subst, sym}
 use Rattle.py_check.specs.declared.annotated.Annotated.{Annotated}
-use Rattle.py_body.specs.Code.{is_body_instruction}
+use Rattle.py_laid.specs.Fits.{Fits}
+use Rattle.py_laid.specs.Instructions.{UsesUnguarded, is_unguarded}
+use Rattle.py_body.proofs.CodesLemmas.{last_of_each}
+use Rattle.py_grammar.specs.Script.{declared_tree}
 use Rattle.py_vm.specs.Codes.{CodeIsAnswered}
 use Rattle.py_vm.proofs.CodesLemmas.{code_answered}
 use Rattle.py_script.proofs.loading.compile_one.Goals as goal
 
+pub returns-clause-fits : goal.returns-clause-fits
+returns-clause-fits c =
+    let fits = λ (code : Annotated). Fits c.compile_declaration.new.names code (declared_tree c.args.declaration.now) in
+    subst fits (sym c.of.ensures) (last_of_each fits _ _ _ _ _ c.into_vec.ensures c.pop.ensures.items c.in-Some.is c.in_ok-codes.ensures.fits)
+
 pub returns-clause-answered : goal.returns-clause-answered
 returns-clause-answered c =
+    let uses = λ (code : Annotated). UsesUnguarded code.code in
     subst (λ (code : Annotated). CodeIsAnswered code.code) (sym c.of.ensures)
-    (code_answered is_body_instruction refl refl refl refl refl refl refl c.in_ok-code.code.code c.in_ok-code.ensures.uses)
+    (code_answered is_unguarded refl refl refl refl refl refl refl c.in-Some.code.code (last_of_each uses _ _ _ _ _ c.into_vec.ensures c.pop.ensures.items c.in-Some.is c.in_ok-codes.ensures.uses))

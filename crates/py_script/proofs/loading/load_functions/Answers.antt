@@ -4,7 +4,6 @@ use Rattle.std.specs.Prelude.{All}
 use Rattle.py_check.specs.declared.annotated.Annotated.{Annotated}
 use Rattle.py_rows.specs.Sound.{AreNames}
 use Rattle.py_grammar.specs.Script.{declared_tree}
-use Rattle.py_vm.specs.Codes.{Checked}
 use Rattle.py_vm.specs.Machine.{Machine}
 use Rattle.py_script.specs.Loaded.{AreChecked, function_entries, with_codes, with_objects}
 use Rattle.py_script.proofs.Declarations.{of_trees, codes_named}

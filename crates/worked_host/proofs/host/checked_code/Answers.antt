@@ -1,11 +1,21 @@
 use Rattle.std.proofs.Common.{refl, subst, sym}
 use Rattle.py_check.specs.declared.annotated.Annotated.{Annotated}
-use Rattle.py_body.specs.Code.{is_body_instruction}
+use Rattle.py_rows.specs.Sound.{AreNames}
+use Rattle.py_tree.specs.Views.{tree_of}
+use Rattle.py_laid.specs.Fits.{Fits}
+use Rattle.py_laid.specs.Instructions.{UsesUnguarded, is_unguarded}
+use Rattle.py_body.proofs.CodesLemmas.{last_of_each}
 use Rattle.py_vm.specs.Codes.{CodeIsAnswered}
 use Rattle.py_vm.proofs.CodesLemmas.{code_answered}
 use Rattle.worked_host.proofs.host.checked_code.Goals as goal
 
+pub returns-clause-named : goal.returns-clause-named
+returns-clause-named c =
+    let names = c.compile_body.new.names in
+    let fits = last_of_each (λ (code : Annotated). Fits names code (tree_of c.args.body.now)) _ _ _ _ _ c.into_vec.ensures c.pop.ensures.items c.in-Some.is c.in_ok-codes.ensures.fits in
+    subst (λ (code : Annotated). AreNames names code.code) (sym c.of.ensures) fits.sound.named
+
 pub returns-clause-answered : goal.returns-clause-answered
 returns-clause-answered c =
-    subst (λ (code : Annotated). CodeIsAnswered code.code) (sym c.of.ensures)
-    (code_answered is_body_instruction refl refl refl refl refl refl refl c.in_ok-code.code.code c.in_ok-code.ensures.uses)
+    let uses = last_of_each (λ (code : Annotated). UsesUnguarded code.code) _ _ _ _ _ c.into_vec.ensures c.pop.ensures.items c.in-Some.is (c.in_ok-codes.ensures.uses c.requires.unguarded) in
+    subst (λ (code : Annotated). CodeIsAnswered code.code) (sym c.of.ensures) (code_answered is_unguarded refl refl refl refl refl refl refl c.in-Some.code.code uses)
