@@ -1,12 +1,10 @@
 -- Inputs that are expected.
-use Rattle.std.proofs.Common.{◌≡◌, ◌<◌, ◌++◌, List, refl, length, arith}
+use Rattle.std.proofs.Common.{◌<◌, ◌++◌, List, refl, length, arith}
 use Rattle.py_objects.specs.declared.payload.Payload.{Payload}
 use Rattle.py_rows.specs.declared.expect.Expect.TheVariants as expect
 use Rattle.py_rows.specs.declared.expect.Wanted.{Wanted}
 use Rattle.py_rows.specs.declared.expect.Wanted.TheVariants as want
-use Rattle.py_check.specs.declared.note.Kind.{Kind}
 use Rattle.py_check.specs.declared.note.Kind.TheVariants as kind
-use Rattle.py_frame.specs.declared.input.Input.{Input}
 use Rattle.py_frame.specs.declared.input.Input.TheVariants as input
 use Rattle.py_frame.specs.declared.input.Answer.TheVariants as answer
 use Rattle.frame_tests.specs.FirstObjects.{first_objects, exception_body, object_at}
@@ -33,6 +31,3 @@ fails w more setting flags = (λ k. ((exception_body, refl), refl), λ k. ((ther
 -- an exception answers
 pub caught : IsExpected (expect.Answer (want.Of kind.Exc)) (input.Answer (answer.Value (object_at 5)))
 caught more setting flags = (λ k. ((exception_body, refl), refl), λ k. ((there_5 more, tt), tt))
-
-pub caught_by : (w : Wanted) (k : Kind) (i : Input) → w ≡ want.Of k → k ≡ kind.Exc → i ≡ input.Answer (answer.Value (object_at 5)) → IsExpected (expect.Answer w) i
-caught_by w k i of exc is = rw (of, exc, is) caught

@@ -9,9 +9,8 @@ use Rattle.py_objects.specs.Objects.{Obj, HasPayload, IsTraceback, as_object, cl
 use Rattle.py_objects.specs.Growth.{Grows}
 use Rattle.py_objects.specs.Edits.{Kept}
 use Rattle.py_rows.specs.RunOfRows.{IsExit}
-use Rattle.py_rows.proofs.GrowingLemmas.{payload_grown, grows_on}
+use Rattle.py_objects.proofs.GrowthLemmas.{payload_grown, grows_on, length_grown}
 use Rattle.py_frame.specs.Exits.{IsTold, TellsTraceback}
-use Rattle.py_frame.proofs.PlainGrowth.{length_grown}
 
 -- three new objects
 pub exit_none : (b c d : List Payload) (t v w : Obj) → Grows b c → Grows c d → HasPayload b t payload.None → HasPayload c v payload.None → HasPayload d w payload.None → IsExit d None t v w

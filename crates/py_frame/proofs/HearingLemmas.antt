@@ -36,7 +36,7 @@ use Rattle.py_frame.specs.declared.input.Input.{Input}
 use Rattle.py_frame.specs.declared.input.Input.TheVariants as input
 use Rattle.py_frame.specs.declared.input.FrameStep.{FrameStep}
 use Rattle.py_frame.specs.declared.input.FrameStep.TheVariants as frame_step
-use Rattle.py_frame.proofs.PlainGrowth.{length_grown}
+use Rattle.py_objects.proofs.GrowthLemmas.{length_grown}
 use Rattle.py_frame.proofs.RunningLemmas.{run_joined, run_keeps}
 
 -- a frame that hears hasn't ended

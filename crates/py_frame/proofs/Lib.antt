@@ -2,8 +2,6 @@
 mod Filling
 -- what objects are now, and as they were made
 mod ObjectsLemmas
--- growth by payloads that declare nothing
-pub mod PlainGrowth
 -- constants that are loaded
 mod LoadingLemmas
 -- steps that can be made

@@ -9,7 +9,7 @@ use Rattle.py_objects.specs.Growth.{GrowsPlainly}
 use Rattle.py_objects.specs.Edits.{Kept}
 use Rattle.py_rows.specs.Rows.{payload_of}
 use Rattle.py_frame.specs.UnitSteps.{HasIf, IsConstant}
-use Rattle.py_frame.proofs.PlainGrowth.{grows_plainly_refl, grows_plainly_by}
+use Rattle.py_objects.proofs.GrowthLemmas.{grows_plainly_refl, grows_plainly_by}
 
 -- a payload that declares nothing and names nothing, so that it may come behind any objects
 abbrev pub IsBare : List Payload → Payload → Type 0

@@ -11,7 +11,7 @@ use Rattle.py_rows.specs.declared.expect.Expect.{Expect}
 use Rattle.py_rows.specs.declared.expect.Expect.TheVariants as expect
 use Rattle.py_rows.specs.States.{State}
 use Rattle.py_rows.specs.Below.{IfBelow, TypeBelow, BlocksBelow, ExpectBelow, HoldsBelow}
-use Rattle.py_frame.proofs.PlainGrowth.{below_more}
+use Rattle.py_objects.proofs.GrowthLemmas.{below_more}
 
 module _ (n m : ℕ) (more : n ≤ m) where
   reason_more : (r : Option UnwindReason) → IfBelow n r → IfBelow m r

@@ -38,7 +38,7 @@ use Rattle.py_frame.specs.declared.unit_step.UnitStep.{UnitStep}
 use Rattle.py_frame.specs.declared.unit_step.UnitStep.TheVariants as unit
 use Rattle.py_frame.specs.declared.input.FrameStep.{FrameStep}
 use Rattle.py_frame.specs.declared.input.FrameStep.TheVariants as frame_step
-use Rattle.py_frame.proofs.PlainGrowth.{length_grown}
+use Rattle.py_objects.proofs.GrowthLemmas.{length_grown}
 use Rattle.py_frame.proofs.MoreLemmas.{holds_more}
 use Rattle.py_frame.proofs.ManagerLemmas.{ManagerBelow, manager_there}
 

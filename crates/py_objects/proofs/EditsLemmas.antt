@@ -33,10 +33,6 @@ length-with_edit objects o x = by (slice_get objects o.number)
     by None = refl
     by (Some p) = length-set objects o.number (edited objects x p)
 
-pub length-changed_by : (objects : List Payload) (cs : List Change) → length (changed_by objects cs) ≡ length objects
-length-changed_by objects [] = refl
-length-changed_by objects (c ∷ cs) = length-changed_by (with_edit objects c.object c.edit) cs ∙ length-with_edit objects c.object c.edit
-
 -- ---- one object more
 
 module _ (objects : List Payload) (p : Payload) where

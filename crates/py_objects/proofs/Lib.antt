@@ -6,3 +6,7 @@ pub mod EditsLemmas
 pub mod OriginalsLemmas
 pub mod StoreLemmas
 pub mod OwnLemmas
+-- objects and stores that grow, and new objects
+pub mod GrowthLemmas
+pub mod GrownLemmas
+pub mod NewLemmas

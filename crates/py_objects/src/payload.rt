@@ -102,6 +102,15 @@ pub enum ErrorKind {
 }
 
 impl ErrorKind {
+    /// All of them, in the order of their objects.
+    pub const ALL: [ErrorKind; 5] = [
+        ErrorKind::NameError,
+        ErrorKind::OverflowError,
+        ErrorKind::RecursionError,
+        ErrorKind::TypeError,
+        ErrorKind::UnboundLocalError,
+    ];
+
     /// The class's name, in ASCII.
     pub fn name(self) -> &'static [u8]
         ensures { result.now ≡ name_of self }

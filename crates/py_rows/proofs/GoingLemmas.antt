@@ -19,7 +19,8 @@ use Rattle.py_rows.specs.Laws.{LeadsTo, AlwaysLeads, IsMoving, setting_of}
 use Rattle.py_rows.proofs.AskingLemmas.{got_there}
 use Rattle.py_rows.proofs.LandingLemmas.{Fits}
 use Rattle.py_rows.proofs.StepLemmas.{next_fits}
-use Rattle.py_rows.proofs.GrowingLemmas.{payload_grown, grows_on, fits_grown}
+use Rattle.py_rows.proofs.GrowingLemmas.{fits_grown}
+use Rattle.py_objects.proofs.GrowthLemmas.{payload_grown, grows_on}
 
 -- so many more that a number is one's
 padded : List Payload → ℕ → List Payload

@@ -1,9 +1,8 @@
 -- What fits goes on to fit as objects grow.
-use Rattle.std.proofs.Common.{◌≡◌, ◌++◌, ◌<◌, ℕ, zero, suc, List, [], ◌∷◌, Option, None, Some, inl, inr, ⊎_elim, append_assoc, ap, ◌∙◌, length, length-append, arith}
-use Rattle.std.specs.Prelude.{slice_get}
+use Rattle.std.proofs.Common.{◌<◌, ℕ, List, [], ◌∷◌, Option, None, Some, inl, inr, ⊎_elim, ap, ◌∙◌, length, length-append, arith}
 use Rattle.py_objects.specs.declared.payload.Payload.{Payload}
 use Rattle.py_objects.specs.declared.event.GotAnswer.TheVariants as got
-use Rattle.py_objects.specs.Objects.{Obj, HasPayload, as_object}
+use Rattle.py_objects.specs.Objects.{Obj, as_object}
 use Rattle.py_objects.specs.Growth.{Grows}
 use Rattle.py_check.specs.declared.note.Kind.{Kind}
 use Rattle.py_check.specs.declared.note.Kind.TheVariants as kind
@@ -20,29 +19,15 @@ use Rattle.py_rows.specs.declared.expect.Wanted.{Wanted}
 use Rattle.py_rows.specs.declared.expect.Wanted.TheVariants as want
 use Rattle.py_rows.specs.declared.expect.Expect.{Expect}
 use Rattle.py_rows.specs.declared.expect.Expect.TheVariants as expect
-use Rattle.py_rows.specs.States.{State}
-use Rattle.py_rows.specs.Answers.{HasKind, IsValue}
+use Rattle.py_rows.specs.States.{State, Setting, Step, Goes, Tells, Move, Plainly, Loads, Decides, Manages, Exits}
+use Rattle.py_rows.specs.Answers.{HasKind, IsValue, IsAnswer}
 use Rattle.py_objects.specs.declared.event.GotAnswer.{GotAnswer}
 use Rattle.py_objects.specs.declared.event.ResumeHow.TheVariants as how
 use Rattle.py_objects.specs.Own.{Own, Resumes, Gets}
-use Rattle.py_rows.specs.States.{Setting, Step, Goes, Tells, Move, Plainly, Loads, Decides, Manages, Exits}
 use Rattle.py_rows.specs.Receiving.{moves}
 use Rattle.py_rows.specs.RunOfRows.{IsExit, MayLead, Hears, Steps, silent, telling, hearing, Runs, none, on}
-use Rattle.py_rows.specs.Answers.{IsAnswer}
 use Rattle.py_rows.specs.Fitting.{HaveKinds, WaitsIn, MayWait, TypeWaits, AreBlocks, Has, FitsNote, FitsBut, FitsAt}
-
--- an entry stays where it is as more comes behind
-pub slice_get_grown : {A : Type 0} (xs ys : List A) (i : ℕ) (x : A) → slice_get xs i ≡ Some x → slice_get (xs ++ ys) i ≡ Some x
-slice_get_grown [] ys i x here = cc
-slice_get_grown (z ∷ zs) ys zero x here = here
-slice_get_grown (z ∷ zs) ys (suc i) x here = slice_get_grown zs ys i x here
-
--- a payload stays as objects grow
-pub payload_grown : (objects objects' : List Payload) (v : Obj) (p : Payload) → Grows objects objects' → HasPayload objects v p → HasPayload objects' v p
-payload_grown objects objects' v p (more, is) has = rw is (slice_get_grown objects more v.number p has)
-
-pub grows_on : (a b c : List Payload) → Grows a b → Grows b c → Grows a c
-grows_on a b c (xs, x) (ys, y) = (xs ++ ys, rw (y, x) (append_assoc a xs ys))
+use Rattle.py_objects.proofs.GrowthLemmas.{payload_grown}
 
 -- an object stays of a kind as objects grow
 pub kind_grown : (objects objects' : List Payload) (v : Obj) (k : Kind) → Grows objects objects' → HasKind objects v k → HasKind objects' v k

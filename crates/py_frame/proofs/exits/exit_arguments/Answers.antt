@@ -2,7 +2,7 @@ use Rattle.std.proofs.Common.{sym, subst}
 use Rattle.std.specs.Prelude.{Option}
 use Rattle.py_objects.specs.declared.refs.PyBaseExceptionRef.{PyBaseExceptionRef}
 use Rattle.py_rows.specs.RunOfRows.{IsExit}
-use Rattle.py_frame.proofs.PlainGrowth.{plainly_grows, grows_plainly_trans}
+use Rattle.py_objects.proofs.GrowthLemmas.{plainly_grows, grows_plainly_trans}
 use Rattle.py_frame.proofs.ExitLemmas.{exit_none, exit_raised}
 use Rattle.py_frame.proofs.exits.exit_arguments.Goals as goal
 

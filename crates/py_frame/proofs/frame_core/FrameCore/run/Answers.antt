@@ -1,6 +1,6 @@
 use Rattle.std.proofs.Common.{◌<◌, refl, arith}
 use Rattle.py_frame.specs.Frames.{over}
-use Rattle.py_frame.proofs.PlainGrowth.{plainly_grows, grows_plainly_refl, grows_plainly_trans}
+use Rattle.py_objects.proofs.GrowthLemmas.{plainly_grows, grows_plainly_refl, grows_plainly_trans}
 use Rattle.py_frame.proofs.RunningLemmas.{silent_first, unit_there, can_move, row_goes, row_tells, silent_falls, silent_on, told_there, tells_on, cut_short, store_on, erred}
 use Rattle.py_frame.proofs.frame_core.FrameCore.run.Goals as goal
 

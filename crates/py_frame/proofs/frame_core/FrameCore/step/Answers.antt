@@ -2,7 +2,7 @@ use Rattle.std.proofs.Common.{sym, ap, subst}
 use Rattle.py_rows.specs.Laws.{IsMoving}
 use Rattle.py_frame.specs.Frames.{Framed, over, setting_of}
 use Rattle.py_frame.specs.Running.{IsRunning, IsSame, HasTold, IsCut}
-use Rattle.py_frame.proofs.PlainGrowth.{plainly_grows}
+use Rattle.py_objects.proofs.GrowthLemmas.{plainly_grows}
 use Rattle.py_frame.proofs.HearingLemmas.{taken_moves, hearing_runs, stepped_told, stepped_cut}
 use Rattle.py_frame.proofs.frame_core.FrameCore.step.Goals as goal
 

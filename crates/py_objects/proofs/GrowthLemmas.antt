@@ -1,11 +1,24 @@
--- Growth by payloads that declare nothing.
-use Rattle.std.proofs.Common.{◌≡◌, ◌<◌, ◌≤◌, ◌-◌, ◌++◌, ℕ, zero, suc, List, [], ◌∷◌, Bool, true, false, cond, Some, refl, sym, ap, subst, ◌∙◌, length, length-append, append_assoc, append-nil, arith, ◌⊎◌, inl, inr}
-use Rattle.std.specs.Prelude.{Option, None, slice_get}
+-- Objects that come behind others: what stays as it is.
+use Rattle.std.proofs.Common.{◌≡◌, ◌++◌, ℕ, zero, suc, List, [], ◌∷◌, Some, append_assoc, ◌<◌, ◌≤◌, ◌-◌, Bool, true, false, cond, refl, sym, ap, subst, ◌∙◌, length, length-append, append-nil, arith, ◌⊎◌, inl, inr}
+use Rattle.std.specs.Prelude.{slice_get, Option, None}
 use Rattle.py_objects.specs.declared.payload.Payload.{Payload}
-use Rattle.py_objects.specs.declared.payload.Payload.TheVariants as payload
-use Rattle.py_objects.specs.Objects.{Obj, Name, declares, is_name, declared_from, declared, payload_numbers, AllBelow, IsMade, AllFit, IfThere}
+use Rattle.py_objects.specs.Objects.{Obj, HasPayload, Name, declares, is_name, declared_from, declared, payload_numbers, AllBelow, IsMade, AllFit, IfThere, IsNew}
 use Rattle.py_objects.specs.Growth.{Grows, GrowsPlainly}
-use Rattle.py_rows.proofs.GrowingLemmas.{payload_grown}
+use Rattle.py_objects.specs.declared.payload.Payload.TheVariants as payload
+use Rattle.py_objects.specs.declared.event.Event.{Event}
+
+-- an entry stays where it is as more comes behind
+pub slice_get_grown : {A : Type 0} (xs ys : List A) (i : ℕ) (x : A) → slice_get xs i ≡ Some x → slice_get (xs ++ ys) i ≡ Some x
+slice_get_grown [] ys i x here = cc
+slice_get_grown (z ∷ zs) ys zero x here = here
+slice_get_grown (z ∷ zs) ys (suc i) x here = slice_get_grown zs ys i x here
+
+-- a payload stays as objects grow
+pub payload_grown : (objects objects' : List Payload) (v : Obj) (p : Payload) → Grows objects objects' → HasPayload objects v p → HasPayload objects' v p
+payload_grown objects objects' v p (more, is) has = rw is (slice_get_grown objects more v.number p has)
+
+pub grows_on : (a b c : List Payload) → Grows a b → Grows b c → Grows a c
+grows_on a b c (xs, x) (ys, y) = (xs ++ ys, rw (y, x) (append_assoc a xs ys))
 
 -- what is below stays below more
 pub below_more : (n m : ℕ) (ks : List ℕ) → n ≤ m → AllBelow n ks → AllBelow m ks
@@ -86,9 +99,9 @@ grows_plainly_trans old mid new first second = record {
 }
 
 -- the entry of a list of one
-one_entry : (q p : Payload) (i : ℕ) → slice_get (q ∷ []) i ≡ Some p → q ≡ p
-one_entry q p zero here = cc
-one_entry q p (suc i) here = cc
+pub one_entry : {A : Type 0} (x y : A) (i : ℕ) → slice_get (x ∷ []) i ≡ Some y → x ≡ y
+one_entry x y zero here = cc
+one_entry x y (suc i) here = absurd (cc here)
 
 -- a payload that declares nothing and names objects that are there, of the kinds that it needs
 pub grows_plainly_by : (objects : List Payload) (q : Payload) → declares q ≡ None → (AllFit objects → AllBelow (length objects) (payload_numbers q)) → (AllFit objects → IsMade objects q) → GrowsPlainly objects (objects ++ q ∷ [])
@@ -105,3 +118,26 @@ grows_plainly_by objects q plain below made =
         | inr back ↦ subst Fits (one_entry q p _ back) (below_more _ _ _ longer (below fit), made_grown _ _ q grows (made fit))
       ];
     }
+
+-- objects that declare nothing are declared under no name
+declared_from_plain : (i : ℕ) (more : List Payload) (n : Name) → ((j : ℕ) (p : Payload) → slice_get more j ≡ Some p → declares p ≡ None) → declared_from i more n ≡ None
+declared_from_plain i [] n plain = refl
+declared_from_plain i (p ∷ ps) n plain =
+    let none : declares p ≡ None = plain 0 p refl in
+    ap (λ d. cond (is_name n d) (Some (record { number = i })) (declared_from (suc i) ps n)) none ∙ declared_from_plain (suc i) ps n (λ j q here. plain (suc j) q here)
+
+declared_from_stays : (i : ℕ) (objects more : List Payload) (n : Name) → ((j : ℕ) (p : Payload) → slice_get more j ≡ Some p → declares p ≡ None)
+    → declared_from i (objects ++ more) n ≡ declared_from i objects n
+declared_from_stays i [] more n plain = declared_from_plain i more n plain
+declared_from_stays i (p ∷ ps) more n plain = ap (λ d. cond (is_name n (declares p)) (Some (record { number = i })) d) (declared_from_stays (suc i) ps more n plain)
+
+-- the objects that are declared stay
+pub declared_stays : (objects objects' : List Payload) (n : Name) → GrowsPlainly objects objects' → declared objects' n ≡ declared objects n
+declared_stays objects objects' n grows = ap (λ os. declared os n) grows.is ∙ declared_from_stays 0 objects grows.more n grows.plain
+
+-- what was new stays new
+pub new_stays : (objects objects' : List Payload) (before : List Event) (n : ℕ) → GrowsPlainly objects objects' → IsNew objects before n → IsNew objects' before n
+new_stays objects objects' before n grows new = record {
+  unnamed = new.unnamed;
+  undeclared = λ x v is. new.undeclared x v (sym (declared_stays objects objects' x grows) ∙ is);
+}
