@@ -1,7 +1,7 @@
 -- What a body binds has places among its locals.
 use Rattle.std.proofs.Common.{List, Some, None, ◌≡◌, refl, ℕ}
 use Rattle.std.specs.Prelude.{Option}
-use Rattle.py_tree.specs.Tree.{Name, Form, Assign, Do, Show, Return, Raise, Reraise, Break, Continue, Pass, If, IfElse, While, TryExcept, TryFinally, Suite, nothing, first, Clauses, no_more, clause}
+use Rattle.py_tree.specs.Tree.{Name, Form, Assign, If, IfElse, While, TryExcept, TryFinally, Suite, nothing, first, Clauses, no_more, clause}
 use Rattle.py_tree.specs.Binding.{bound_if, bound_in, bound_by, bound_under}
 use Rattle.py_tree.specs.Suites.{add}
 use Rattle.py_laid.specs.Fits.{Continues}
@@ -18,19 +18,12 @@ target_on names vars (Some x) on placed = placed_on names vars x on placed
 mutual
   form_on : (f : Form) (names vars : List Name) → Continues names vars → FormPlaced names f → FormPlaced vars f
   form_on (Assign x e) names vars on placed = placed_on names vars x on placed
-  form_on (Do o) names vars on placed = tt
-  form_on (Show a) names vars on placed = tt
-  form_on (Return a) names vars on placed = tt
-  form_on (Raise a) names vars on placed = tt
-  form_on Reraise names vars on placed = tt
-  form_on Break names vars on placed = tt
-  form_on Continue names vars on placed = tt
-  form_on Pass names vars on placed = tt
   form_on (If a s) names vars on placed = suite_on s names vars on placed
   form_on (IfElse a s t) names vars on placed = (suite_on s names vars on placed.0, suite_on t names vars on placed.1)
   form_on (While a s) names vars on placed = suite_on s names vars on placed
   form_on (TryExcept s cs) names vars on placed = (suite_on s names vars on placed.0, clauses_on cs names vars on placed.1)
   form_on (TryFinally s t) names vars on placed = (suite_on s names vars on placed.0, suite_on t names vars on placed.1)
+  form_on f names vars on placed = tt
 
   suite_on : (s : Suite) (names vars : List Name) → Continues names vars → SuitePlaced names s → SuitePlaced vars s
   suite_on nothing names vars on placed = tt
@@ -49,19 +42,12 @@ target_bound names (Some x) = placed_bound names x
 mutual
   form_bound : (f : Form) (names : List Name) → FormPlaced (bound_in names f) f
   form_bound (Assign x e) names = placed_bound names x
-  form_bound (Do o) names = tt
-  form_bound (Show a) names = tt
-  form_bound (Return a) names = tt
-  form_bound (Raise a) names = tt
-  form_bound Reraise names = tt
-  form_bound Break names = tt
-  form_bound Continue names = tt
-  form_bound Pass names = tt
   form_bound (If a s) names = suite_bound s names
   form_bound (IfElse a s t) names = (suite_on s (bound_by names s) _ (Continues-bound_by t (bound_by names s)) (suite_bound s names), suite_bound t (bound_by names s))
   form_bound (While a s) names = suite_bound s names
   form_bound (TryExcept s cs) names = (suite_on s (bound_by names s) _ (Continues-bound_under cs (bound_by names s)) (suite_bound s names), clauses_bound cs (bound_by names s))
   form_bound (TryFinally s t) names = (suite_on s (bound_by names s) _ (Continues-bound_by t (bound_by names s)) (suite_bound s names), suite_bound t (bound_by names s))
+  form_bound f names = tt
 
   pub suite_bound : (s : Suite) (names : List Name) → SuitePlaced (bound_by names s) s
   suite_bound nothing names = tt

@@ -1,12 +1,13 @@
 -- What is emitted for suites, branches and loops.
 use Rattle.std.proofs.Common.{◌≡◌, ◌<◌, ◌≤◌, ◌+◌, ◌%◌, ◌^◌, ℕ, zero, suc, refl, sym, ap, ◌∙◌, subst, arith}
+use Rattle.py_code.specs.declared.instruction.Instruction.{Instruction}
 use Rattle.py_code.specs.declared.instruction.Instruction.TheVariants as op
 use Rattle.py_tree.specs.declared.expr.Atom.{Atom}
 use Rattle.py_tree.specs.Tree.{Form, If, IfElse, Pass, While, Suite, nothing, first}
 use Rattle.py_tree.specs.Suites.{add}
 use Rattle.py_laid.specs.Code.{Parts, Labels, Scope, on, over, in_loop, Stands, LaidAtom, LaidForm, LaidSuite}
 use Rattle.py_body.specs.Sizes.{size_form, size_rounds, size_suite}
-use Rattle.py_body.specs.Emitting.{Draft, end_of, weights_of, HasRoom, AroundFits, EmitsAtom, EmitsForm, EmitsJump, EmitsPlain, EmitsSuite}
+use Rattle.py_body.specs.Emitting.{Draft, end_of, weights_of, HasRoom, AroundFits, EmitsAtom, EmitsBranch, EmitsForm, EmitsJump, EmitsPlain, EmitsSuite}
 use Rattle.py_body.proofs.Binding.{placed_add}
 use Rattle.py_body.proofs.Trees.{size_add}
 use Rattle.py_body.proofs.EmittingLemmas.{emits_as, emits_none, emits_then}
@@ -54,17 +55,17 @@ pass_emits labels d scope line = emits_as (emits_none {d = d} {A = λ whole at n
 
 -- ---- branches
 
-pub if_emits : {a b c d : Draft} (scope : Scope) (line : ℕ) (x : Atom) (s : Suite) (behind : ℕ)
+pub branch_emits : {a b c d : Draft} {i : Instruction} (scope : Scope) (line : ℕ) (x : Atom) (s : Suite) (behind : ℕ)
     → behind ≡ (end_of a + size_form (weights_of a) (If x s)) % 2 ^ 32
-    → EmitsAtom a b scope line x → EmitsJump b.labels b c (over 1 scope) line op.JumpIfFalse behind → EmitsSuite c.labels c d scope s → EmitsForm a.labels a d scope line (If x s)
-if_emits {a} {b} {c} {d} scope line x s behind cut one two three =
-    let two_here : EmitsJump a.labels b c (over 1 scope) line op.JumpIfFalse behind = subst (λ (l : ℕ). EmitsJump l b c (over 1 scope) line op.JumpIfFalse behind) one.labels two in
+    → EmitsAtom a b scope line x → EmitsJump b.labels b c (over 1 scope) line i behind → EmitsSuite c.labels c d scope s → EmitsBranch a.labels a d scope line x i s
+branch_emits {a} {b} {c} {d} {i} scope line x s behind cut one two three =
+    let two_here : EmitsJump a.labels b c (over 1 scope) line i behind = subst (λ (l : ℕ). EmitsJump l b c (over 1 scope) line i behind) one.labels two in
     let three_here : EmitsSuite a.labels c d scope s = subst (λ (l : ℕ). EmitsSuite l c d scope s) (two.labels ∙ one.labels) three in
     emits_as (emits_then (emits_then one two_here) three_here) (λ w. refl)
     (λ room whole same (begins, begins_is, next_is, (asks, _, _, load, test), suite) around placed.
     let fits =
     label_fits {d = d} behind (end_of a + size_form (weights_of a) (If x s)) (end_of d) a.labels room (three.labels ∙ two.labels ∙ one.labels) cut (omega (arith, begins_is, next_is)) (omega arith) in
-    (asks, begins, load, subst (λ (n : ℕ). Stands whole (on scope) line asks op.JumpIfFalse n begins) fits.0 (test fits.1), suite around placed))
+    (asks, begins, load, subst (λ (n : ℕ). Stands whole (on scope) line asks i n begins) fits.0 (test fits.1), suite around placed))
 
 pub if_else_emits : {a b c d e f : Draft} (scope : Scope) (line : ℕ) (x : Atom) (s t : Suite) (second behind : ℕ)
     → second ≡ (end_of a + ((weights_of a).index + (weights_of a).jump + size_suite (weights_of a) s + (weights_of a).jump)) % 2 ^ 32

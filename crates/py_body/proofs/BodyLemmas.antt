@@ -7,7 +7,7 @@ use Rattle.py_code.specs.declared.code.CodeObject.{CodeObject}
 use Rattle.py_code.specs.Literals.{literals_of}
 use Rattle.py_check.specs.declared.annotated.Annotated.{Annotated}
 use Rattle.py_check.specs.Operands.{prefixes}
-use Rattle.py_tree.specs.Tree.{Name, Form, Assign, Do, Show, Return, Raise, Reraise, Break, Continue, Pass, If, IfElse, While, TryExcept, TryFinally, Suite, nothing, first}
+use Rattle.py_tree.specs.Tree.{Name, Form, Assign, If, IfElse, While, TryExcept, TryFinally, Suite, nothing, first}
 use Rattle.py_tree.specs.Tree.{Clauses, no_more, clause, Tree}
 use Rattle.py_tree.specs.Binding.{bound_if, bound_in, bound_by, bound_under, locals_of}
 use Rattle.py_laid.specs.Code.{Parts, LaidBody, IsLaid, entry, parts_with}
@@ -28,14 +28,6 @@ length-bound_if names (Some x) = length-bound names x
 mutual
   length-bound_in : (f : Form) (names : List Name) → length (bound_in names f) ≤ length names + statements_in f
   length-bound_in (Assign x e) names = length-bound names x
-  length-bound_in (Do o) names = omega arith
-  length-bound_in (Show a) names = omega arith
-  length-bound_in (Return a) names = omega arith
-  length-bound_in (Raise a) names = omega arith
-  length-bound_in Reraise names = omega arith
-  length-bound_in Break names = omega arith
-  length-bound_in Continue names = omega arith
-  length-bound_in Pass names = omega arith
   length-bound_in (If a s) names = let inside = length-bound_by s names in omega (arith, inside)
   length-bound_in (IfElse a s t) names =
       let one = length-bound_by s names in
@@ -50,6 +42,7 @@ mutual
       let one = length-bound_by s names in
       let other = length-bound_by t (bound_by names s) in
       omega (arith, one, other)
+  length-bound_in f names = omega arith
 
   -- a suite binds no more names than it has statements
   length-bound_by : (s : Suite) (names : List Name) → length (bound_by names s) ≤ length names + statements s

@@ -18,12 +18,12 @@ use Rattle.py_tree.specs.declared.expr.Atom.{Atom}
 use Rattle.py_tree.specs.declared.expr.Atom.TheVariants as atom
 use Rattle.py_tree.specs.declared.expr.Expr.{Expr}
 use Rattle.py_tree.specs.declared.expr.Operation.{Operation}
-use Rattle.py_tree.specs.Tree.{Name, Form, Assign, Do, Show, Return, Raise, Reraise, Break, Continue, Pass, If, IfElse, While, TryExcept, TryFinally, Suite, nothing, first}
+use Rattle.py_tree.specs.Tree.{Name, Form, Assign, If, IfElse, While, TryExcept, TryFinally, Suite, nothing, first}
 use Rattle.py_tree.specs.Tree.{Clauses, no_more, clause, Tree}
 use Rattle.py_tree.specs.Binding.{bound, locals_of}
 use Rattle.py_laid.specs.Fits.{Continues}
 use Rattle.py_laid.specs.Code.{Parts, Labels, Around, Scope, note_of, place, Stands, StandsConst, StandsLocal, LaidAtom, LaidTaken, LaidAtoms, LaidTwo, LaidOperation, LaidExpr, LaidTarget}
-use Rattle.py_laid.specs.Code.{LaidForget, LaidHandler, LaidForm, LaidSuite, LaidClauses, LaidBody, on, in_try, before_finally, entry}
+use Rattle.py_laid.specs.Code.{LaidForget, LaidHandler, LaidBranch, LaidForm, LaidSuite, LaidClauses, LaidBody, on, in_try, before_finally, entry}
 use Rattle.py_body.specs.declared.sizes.Weights.{Weights}
 use Rattle.py_body.specs.declared.scope.Labels.{Labels as OwnLabels}
 use Rattle.py_body.specs.declared.scope.Scope.{Scope as OwnScope}
@@ -204,19 +204,12 @@ abbrev mutual
   -- the names that a statement binds have places among these
   pub FormPlaced : List Name → Form → Type 0
   FormPlaced vars (Assign x e) = IsPlaced vars x
-  FormPlaced vars (Do o) = Unit {0}
-  FormPlaced vars (Show a) = Unit {0}
-  FormPlaced vars (Return a) = Unit {0}
-  FormPlaced vars (Raise a) = Unit {0}
-  FormPlaced vars Reraise = Unit {0}
-  FormPlaced vars Break = Unit {0}
-  FormPlaced vars Continue = Unit {0}
-  FormPlaced vars Pass = Unit {0}
   FormPlaced vars (If a s) = SuitePlaced vars s
   FormPlaced vars (IfElse a s t) = SuitePlaced vars s × SuitePlaced vars t
   FormPlaced vars (While a s) = SuitePlaced vars s
   FormPlaced vars (TryExcept s cs) = SuitePlaced vars s × ClausesPlaced vars cs
   FormPlaced vars (TryFinally s t) = SuitePlaced vars s × SuitePlaced vars t
+  FormPlaced vars f = Unit {0}
 
   pub SuitePlaced : List Name → Suite → Type 0
   SuitePlaced vars nothing = Unit {0}
@@ -235,6 +228,12 @@ AroundFits labels (Some l) = (l.stop < 256 ^ suc labels) × (l.again < 256 ^ suc
 abbrev pub EmitsForm : ℕ → Draft → Draft → Scope → ℕ → Form → Type 0
 EmitsForm labels old new scope line f =
     Emits old new (λ w. size_form w f) (λ whole at next. AroundFits labels scope.around → FormPlaced whole.vars f → LaidForm whole scope line f at next)
+
+-- a suite over which a jump leads, by the value of an atom
+abbrev pub EmitsBranch : ℕ → Draft → Draft → Scope → ℕ → Atom → Instruction → Suite → Type 0
+EmitsBranch labels old new scope line x i s =
+    Emits old new (λ w. w.index + w.jump + size_suite w s)
+    (λ whole at next. AroundFits labels scope.around → SuitePlaced whole.vars s → LaidBranch whole scope line x i (λ begins to. LaidSuite whole scope s begins to) at next)
 
 abbrev pub EmitsSuite : ℕ → Draft → Draft → Scope → Suite → Type 0
 EmitsSuite labels old new scope s =

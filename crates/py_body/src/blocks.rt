@@ -1,12 +1,13 @@
 //! The code of statements with suites.
 
-ghost use Rattle.std.specs.Prelude.{◌≡◌, ◌+◌, ◌%◌, ◌≤◌, ◌^◌, true, OnOk};
+ghost use Rattle.std.specs.Prelude.{◌≡◌, ◌+◌, ◌%◌, ◌≤◌, ◌^◌, false, true, OnOk};
+ghost use Rattle.py_code.specs.Units.{is_prefix};
 ghost use Rattle.py_laid.specs.Code.{in_loop};
-ghost use Rattle.py_tree.specs.Tree.{If, IfElse, TryExcept, TryFinally, While};
+ghost use Rattle.py_tree.specs.Tree.{IfElse, TryExcept, TryFinally, While};
 ghost use Rattle.py_tree.specs.Views.{clauses_of, form_of, suite_of};
 ghost use Rattle.py_tree.specs.Compilable.{FormFits, SuiteFits, statements, statements_in};
 ghost use Rattle.py_body.specs.Sizes.{size_form, size_rounds};
-ghost use Rattle.py_body.specs.Emitting.{draft_of, end_of, is_inside, labels_of, scope_of, weights_of, EmitsForm, EmitsSuite};
+ghost use Rattle.py_body.specs.Emitting.{draft_of, end_of, is_inside, labels_of, scope_of, weights_of, EmitsBranch, EmitsForm, EmitsSuite};
 
 use crate::emitter::Emitter;
 use crate::scope::{Labels, Scope, in_loop};
@@ -63,7 +64,9 @@ impl Emitter {
             StmtForm::Break => self.compile_break(scope, line),
             StmtForm::Continue => self.compile_continue(scope, line),
             StmtForm::Pass => Ok(()),
-            StmtForm::If(atom, suite) => self.compile_if(atom, suite, scope, line),
+            StmtForm::If(atom, suite) => {
+                self.compile_branch(atom, Instruction::JumpIfFalse, suite, scope, line)
+            }
             StmtForm::IfElse(atom, suite, other) => {
                 self.compile_if_else(atom, suite, other, scope, line)
             }
@@ -77,27 +80,29 @@ impl Emitter {
         }
     }
 
-    /// Adds `if a` and its suite, which is jumped over where the atom is false.
+    /// Adds an atom, the instruction that jumps by its value, and the suite over which that leads.
     #[cycle(compile)]
-    fn compile_if(
+    fn compile_branch(
         &mut self,
         atom: &Atom,
+        op: Instruction,
         suite: &StmtList,
         scope: &Scope,
         line: u32,
     ) -> Result<(), NoMemory>
+        requires plain { is_prefix op ≡ false }
         requires few { statements (suite_of suite.now) ≤ 1048575 }
         requires fits { SuiteFits (is_inside (scope_of scope.now).around) (suite_of suite.now) }
         requires low { (self.old.labels ≤ 3) × (self.old.others ≤ 3) }
         requires depth { scope.now.depth ≤ 1000 }
-        ensures code { OnOk result (EmitsForm self.old.labels (draft_of self.old) (draft_of self.new) (scope_of scope.now) line (If atom.now (suite_of suite.now))) }
+        ensures code { OnOk result (EmitsBranch self.old.labels (draft_of self.old) (draft_of self.new) (scope_of scope.now) line atom.now op (suite_of suite.now)) }
         ensures widths { (self.new.labels ≡ self.old.labels) × (self.new.others ≡ self.old.others) }
     {
         let weights = self.weights();
         let size = size_of_suite(weights, suite);
         let behind = self.label(weights.index + weights.jump + size);
         self.compile_atom(atom, scope, 0, line)?;
-        self.put_jump(Instruction::JumpIfFalse, behind, scope, 1, line)?;
+        self.put_jump(op, behind, scope, 1, line)?;
         self.compile_suite(suite, scope)?;
         Ok(())
     }

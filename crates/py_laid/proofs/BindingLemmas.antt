@@ -2,7 +2,7 @@
 use Rattle.std.proofs.Common.{◌≤◌, List, [], ◌∷◌, ◌++◌, Bool, true, false, cond, Some, None, refl, sym, ap, ◌∙◌, length, length-append, append-nil, append_assoc, arith}
 use Rattle.std.specs.Prelude.{Option, bytes_eq}
 use Rattle.std.specs.List.{list_any}
-use Rattle.py_tree.specs.Tree.{Name, Form, Assign, Do, Show, Return, Raise, Reraise, Break, Continue, Pass, If, IfElse, While, TryExcept, TryFinally, Suite, nothing, first, Clauses, no_more, clause}
+use Rattle.py_tree.specs.Tree.{Name, Form, Assign, If, IfElse, While, TryExcept, TryFinally, Suite, nothing, first, Clauses, no_more, clause}
 use Rattle.py_tree.specs.Binding.{bound, bound_if, bound_in, bound_by, bound_under}
 use Rattle.py_laid.specs.Fits.{Continues}
 
@@ -26,19 +26,12 @@ Continues-bound_if names (Some x) = Continues-bound names x
 mutual
   pub Continues-bound_in : (f : Form) (names : List Name) → Continues names (bound_in names f)
   Continues-bound_in (Assign x e) names = Continues-bound names x
-  Continues-bound_in (Do o) names = Continues-refl names
-  Continues-bound_in (Show a) names = Continues-refl names
-  Continues-bound_in (Return a) names = Continues-refl names
-  Continues-bound_in (Raise a) names = Continues-refl names
-  Continues-bound_in Reraise names = Continues-refl names
-  Continues-bound_in Break names = Continues-refl names
-  Continues-bound_in Continue names = Continues-refl names
-  Continues-bound_in Pass names = Continues-refl names
   Continues-bound_in (If a s) names = Continues-bound_by s names
   Continues-bound_in (IfElse a s t) names = Continues-trans names (bound_by names s) _ (Continues-bound_by s names) (Continues-bound_by t (bound_by names s))
   Continues-bound_in (While a s) names = Continues-bound_by s names
   Continues-bound_in (TryExcept s cs) names = Continues-trans names (bound_by names s) _ (Continues-bound_by s names) (Continues-bound_under cs (bound_by names s))
   Continues-bound_in (TryFinally s t) names = Continues-trans names (bound_by names s) _ (Continues-bound_by s names) (Continues-bound_by t (bound_by names s))
+  Continues-bound_in f names = Continues-refl names
 
   pub Continues-bound_by : (s : Suite) (names : List Name) → Continues names (bound_by names s)
   Continues-bound_by nothing names = Continues-refl names

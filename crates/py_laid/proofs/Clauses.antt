@@ -27,7 +27,7 @@ use Rattle.py_laid.proofs.Decoding.{Now, running, begun, Execution, From, Behind
 use Rattle.py_laid.proofs.Places.{stands_bound, atom_bound, target_bound, suite_bound, clauses_bound}
 use Rattle.py_laid.proofs.Lands.{Context, RunsFrom, Pauses, May, Targets, Bare, outcome_of, bottom-under, passes, use_passes, ahead}
 use Rattle.py_laid.proofs.Asking.{asked_once_run}
-use Rattle.py_laid.proofs.Loads.{atom_run, tests_run}
+use Rattle.py_laid.proofs.Loads.{true_stays, atom_run, tests_run}
 use Rattle.py_laid.proofs.Units.{chosen_cut, suite_pauses, tries_pause, target_run, jump_run, reraises_run}
 
 -- the block of the clauses of a try that began over these values
@@ -149,7 +149,7 @@ module _ (ex : Execution) {around : Around} (c : Context ex around) (e : PyBaseE
         (λ l2 d i2 vs down more4. suite_from now l2 d i2 vs (omega (arith, down, least, fewer, less, most)) same more4)
         (λ l2 d i2 vs down more4.
         others (omega (arith, low, duplicates, names_class, matches_it, chooses, binds_it, order, pops_it, jumps_off)) now l2 d i2 vs (omega (arith, down, least, fewer, less, most)) same more4)
-        decide w decides q l rest (le_refl q) (omega (arith, low, duplicates, names_class, matches_it)) more3)) (atom.Name class) load)
+        (λ b. b) (true_stays ex) decide w decides q l rest (le_refl q) (omega (arith, low, duplicates, names_class, matches_it)) more3)) (atom.Name class) load)
 
 module _ (ex : Execution) where
   -- ---- a body, then clauses, which run as they should

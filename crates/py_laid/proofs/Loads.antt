@@ -15,11 +15,11 @@ use Rattle.py_objects.specs.Objects.{Obj, HasPayload}
 use Rattle.py_objects.specs.Own.{Own}
 use Rattle.py_objects.specs.Telling.{Given, Stopped, AfterValue, IsLiteral}
 use Rattle.py_rows.specs.declared.block.Block.{Block}
-use Rattle.py_rows.specs.States.{Step, Goes, Loads as Takes, Plainly}
+use Rattle.py_rows.specs.States.{State, Step, Goes, Move, Loads as Takes, Plainly, Decides, pushed}
 use Rattle.py_rows.specs.Handled.{handled_in}
 use Rattle.py_rows.specs.Asked.{name_in, name_of_local, name_of_global, on_none}
-use Rattle.py_rows.specs.Rows.{payload_of, or_stuck, loads as load_move, load_fast, asks_if, act}
-use Rattle.py_rows.specs.Receiving.{jumps_if}
+use Rattle.py_rows.specs.Rows.{payload_of, or_stuck, loads as load_move, load_fast, asks as asks_for, asks_if, act}
+use Rattle.py_rows.specs.Receiving.{jumps_if, answered}
 use Rattle.py_tree.specs.declared.expr.Atom.{Atom}
 use Rattle.py_tree.specs.declared.expr.Atom.TheVariants as atom
 use Rattle.py_tree.specs.Tree.{Name}
@@ -29,7 +29,7 @@ use Rattle.py_tree.specs.Outcome.{Cut, Handled, Use, Named, Loads, Tests, Choose
 use Rattle.py_laid.specs.Code.{Around, Scope, on, place, Stands, StandsConst, StandsLocal, LaidName, LaidAtom}
 use Rattle.py_laid.specs.Naming.{NamesAll}
 use Rattle.py_laid.proofs.Env.{env_of, find_local-free, find_local-bound}
-use Rattle.py_laid.proofs.Decoding.{Now, running, begun, Execution, setting_of, From, Behind, parts_of, scene_of, stands_run, steps_run}
+use Rattle.py_laid.proofs.Decoding.{Now, running, begun, Execution, setting_of, From, Left, Behind, parts_of, scene_of, stands_run, steps_run}
 use Rattle.py_laid.proofs.Places.{stands_bound, atom_bound}
 use Rattle.py_laid.proofs.Lands.{Context, PassesOn, use_passes, ahead}
 use Rattle.py_laid.proofs.Asking.{asked_run, asked_once_run}
@@ -71,6 +71,16 @@ cut_load scene line env h (atom.Bool b) event V stopped stops = inl (refl, stopp
 cut_load scene line env h (atom.Int n) event V stopped stops = inl (refl, stopped)
 cut_load scene line env h (atom.Str s) event V stopped stops = inl (refl, stopped)
 cut_load scene line env h (atom.Name x) event V stopped stops = cut_name scene line (find_local x env) x h event V stopped stops
+
+-- ---- tests
+
+-- a unit that asks for the truth of the value on top, and jumps unless `stays` says of the answer that control goes on behind it
+abbrev pub TestsBy : Execution → Instruction → (Bool → Bool) → Type 0
+TestsBy ex op stays =
+    (to : ℕ) (v : Obj) (s : State) → (act (setting_of ex) op to (pushed v s) ≡ Plainly (asks_for (Truth v) s)) × (answered op to v s ≡ Decides v (λ b. jumps_if (not (stays b)) to s))
+
+pub true_stays : (ex : Execution) → TestsBy ex JumpIfFalse (λ b. b)
+true_stays ex to v s = (refl, refl)
 
 module _ (ex : Execution) where
   -- a unit that takes a constant of this payload
@@ -156,24 +166,27 @@ module _ (ex : Execution) where
       decided false k p m i us is_next less step = is_false (suc k) m i us less (ahead ex label k (suc k) p (extra ++ c.base) c.blocks now m us (omega (arith, is_next, forward)) step)
 
       -- the truth is asked for
-      pub tests_run : {scope : Scope} {line asks : ℕ} → Stands (parts_of ex) scope line asks JumpIfFalse label inside → (v : Obj) (last m event : ℕ) (us : List Own) → m ≤ n → c.low ≤ asks
-          → From ex m asks last (v ∷ extra ++ c.base) c.blocks now us → Tests (scene_of ex) line env h v event us c.K next
-      tests_run stands v last m event us less low run =
-          asked_run ex c now same _ (use_passes ex c env _) stands (Truth v) (v ∷ extra ++ c.base) extra last m event us (omega (arith, less, most)) low high (λ k p. refl) run
-          (λ w i (b, has). (b, has, stops b i))
-          (λ w k p j i rest from is_next fewer value (done, (b, has, is), step).
-          (b, has, decided b k p j i rest is_next (omega (arith, fewer, less)) (subst (λ (s : Step). Behind ex j s rest) (sym is) step)))
+      pub tests_run : {op : Instruction} (stays : Bool → Bool) → TestsBy ex op stays → {scope : Scope} {line asks : ℕ} → Stands (parts_of ex) scope line asks op label inside
+          → (v : Obj) (last m event : ℕ) (us : List Own) → m ≤ n → c.low ≤ asks
+          → From ex m asks last (v ∷ extra ++ c.base) c.blocks now us → Tests (scene_of ex) line env h v event us c.K (λ b. next (stays b))
+      tests_run stays tests stands v last m event us less low run =
+          asked_run ex c now same _ (use_passes ex c env _) stands (Truth v) (v ∷ extra ++ c.base) extra last m event us (omega (arith, less, most)) low high
+          (λ k p. (tests label v (begun k p (extra ++ c.base) c.blocks now)).0) run
+          (λ w i (b, has). (b, has, stops (stays b) i))
+          (λ w k p j i rest from is_next fewer value left.
+          let (done, (b, has, is), step) = subst (λ (move : Move). Left ex j move rest) (tests label w (begun k p (extra ++ c.base) c.blocks now)).1 left in
+          (b, has, decided (stays b) k p j i rest is_next (omega (arith, fewer, less)) (subst (λ (s : Step). Behind ex j s rest) (sym is) step)))
 
     -- an atom is loaded and tested
-    pub chooses_run : (next : Bool → ℕ → List Own → Type 0) (inside label n : ℕ) → n ≤ c.limit → inside ≤ label → inside ≤ c.high → ((b : Bool) (i : ℕ) → next b i [])
+    pub chooses_run : {op : Instruction} (stays : Bool → Bool) → TestsBy ex op stays → (next : Bool → ℕ → List Own → Type 0) (inside label n : ℕ) → n ≤ c.limit → inside ≤ label → inside ≤ c.high → ((b : Bool) (i : ℕ) → next b i [])
         → ((last m i : ℕ) (us : List Own) → m < n → From ex m inside last c.base c.blocks now us → next true i us)
         → ((last m i : ℕ) (us : List Own) → m < n → From ex m label last c.base c.blocks now us → next false i us)
         → (scope : Scope) (line : ℕ) (a : Atom) (at last asks event : ℕ) (ts : List Own) → c.low ≤ at → LaidAtom (parts_of ex) scope line a at asks
-        → Stands (parts_of ex) (on scope) line asks JumpIfFalse label inside
-        → From ex n at last c.base c.blocks now ts → Chooses (scene_of ex) line env h a event ts c.K next
-    chooses_run next inside label n most forward high stops is_true is_false scope line a at last asks event ts low laid stands run =
+        → Stands (parts_of ex) (on scope) line asks op label inside
+        → From ex n at last c.base c.blocks now ts → Chooses (scene_of ex) line env h a event ts c.K (λ b. next (stays b))
+    chooses_run stays tests next inside label n most forward high stops is_true is_false scope line a at last asks event ts low laid stands run =
         let before : at < asks = atom_bound (parts_of ex) scope line a at asks laid in
         let after : asks < inside = stands_bound (parts_of ex) stands in
-        atom_run (Use env c.K (λ v i mid. Tests (scene_of ex) line env h v i mid c.K next)) (use_passes ex c env _) scope line at asks [] last n event ts most low (omega (arith, after, high)) run
+        atom_run (Use env c.K (λ v i mid. Tests (scene_of ex) line env h v i mid c.K (λ b. next (stays b)))) (use_passes ex c env _) scope line at asks [] last n event ts most low (omega (arith, after, high)) run
         (λ v i. inl (refl, c.lands.pauses env Cut i tt))
-        (λ v m i us less more. tests_run next inside label [] n most forward high stops is_true is_false stands v asks m i us (omega (arith, less)) (omega (arith, low, before)) more) a laid
+        (λ v m i us less more. tests_run next inside label [] n most forward high stops is_true is_false stays tests stands v asks m i us (omega (arith, less)) (omega (arith, low, before)) more) a laid

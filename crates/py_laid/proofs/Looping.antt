@@ -21,7 +21,7 @@ use Rattle.py_laid.proofs.Env.{env_of}
 use Rattle.py_laid.proofs.Decoding.{Now, running, begun, Execution, Behind, From, TellsFrom, parts_of, scene_of, steps_run, silent_run}
 use Rattle.py_laid.proofs.Places.{stands_bound, atom_bound, suite_bound}
 use Rattle.py_laid.proofs.Lands.{Context, RunsFrom, Pauses, May, Targets, Bare, outcome_of, bottom-under, passes, ahead, back}
-use Rattle.py_laid.proofs.Loads.{chooses_run}
+use Rattle.py_laid.proofs.Loads.{true_stays, chooses_run}
 use Rattle.py_laid.proofs.Units.{chosen_cut, cut_loop, suite_pauses}
 
 module _ (ex : Execution) where
@@ -160,7 +160,7 @@ module _ (ex : Execution) where
         let again : FromTest n = turns_run n (omega (arith, few)) in
         let fewer : n ≤ c.limit = omega (arith, few) in
         let env : Env = env_of ex.vars now.locals in
-        let chosen = chooses_run ex test_context now same (λ b i mid. By_truth b (body env h i mid (turns n)) (c.K env Normal i mid)) begins ends m (omega (arith, less, few))
+        let chosen = chooses_run ex test_context now same (λ b. b) (true_stays ex) (λ b i mid. By_truth b (body env h i mid (turns n)) (c.K env Normal i mid)) begins ends m (omega (arith, less, few))
         (omega (arith, order, jumps_back)) (omega (arith, order, jumps_back, leaves, high))
         (λ b i. chosen_cut (body env h i [] (turns n)) (c.K env Normal i [])
         (paused env h i (turns n) (λ env1. turn_pauses n fewer again env1 Normal i tt) (λ env1. c.lands.pauses env1 Cut i tt)) (c.lands.pauses env Normal i tt) b)

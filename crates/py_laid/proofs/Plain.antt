@@ -1,6 +1,6 @@
 -- Laid statements without blocks of their own run as those of the tree: what is bound, dropped, shown, returned or raised,
 -- jumps out of loops, suites behind a test, and statements in order.
-use Rattle.std.proofs.Common.{◌<◌, ◌≤◌, ℕ, List, [], ◌∷◌, refl, sym, subst, arith, inl, inr}
+use Rattle.std.proofs.Common.{◌<◌, ◌≤◌, ℕ, List, [], ◌∷◌, Bool, refl, sym, subst, arith, inl, inr}
 use Rattle.std.specs.Prelude.{Some, None}
 use Rattle.py_code.specs.declared.instruction.Instruction.{Instruction}
 use Rattle.py_objects.specs.declared.request.Request.TheVariants.{Raisable, Show as Shows}
@@ -13,16 +13,16 @@ use Rattle.py_rows.specs.Unwinding.{unwinds}
 use Rattle.py_tree.specs.declared.expr.Atom.{Atom}
 use Rattle.py_tree.specs.declared.expr.Expr.{Expr}
 use Rattle.py_tree.specs.declared.expr.Operation.{Operation}
-use Rattle.py_tree.specs.Tree.{Name, Form, Assign, Do, Show, Return, Raise, Reraise, Break, Continue, Pass, If, IfElse, Suite, nothing, first}
+use Rattle.py_tree.specs.Tree.{Name, Form, Assign, Do, Show, Return, Raise, Reraise, Break, Continue, Pass, IfElse, Suite, nothing, first}
 use Rattle.py_tree.specs.Binding.{Env, set_local}
-use Rattle.py_tree.specs.Outcome.{Outcome, Normal, Breaks, Continues, Returns, Raises, Cut, Runner, Use, Loads, Requests, By_truth, On_normal, Runs, RunsSuite}
-use Rattle.py_laid.specs.Code.{Around, Scope, on, Stands, LaidTaken, LaidBreak, LaidContinue, LaidForm, LaidSuite}
+use Rattle.py_tree.specs.Outcome.{Outcome, Normal, Breaks, Continues, Returns, Raises, Cut, Runner, Use, Loads, Requests, By_truth, Chooses, On_normal, Runs, RunsSuite}
+use Rattle.py_laid.specs.Code.{Around, Scope, on, Stands, LaidTaken, LaidBreak, LaidContinue, LaidBranch, LaidForm, LaidSuite}
 use Rattle.py_laid.proofs.Env.{env_of}
 use Rattle.py_laid.proofs.Decoding.{begun, Execution, From, TellsFrom, parts_of, scene_of, step_left}
 use Rattle.py_laid.proofs.Places.{stands_bound, atom_bound, target_bound, suite_bound}
 use Rattle.py_laid.proofs.Lands.{Context, RunsFrom, May, outcome_of, use_passes}
 use Rattle.py_laid.proofs.Asking.{asked_run, asked_once_run}
-use Rattle.py_laid.proofs.Loads.{atom_run, chooses_run}
+use Rattle.py_laid.proofs.Loads.{TestsBy, true_stays, atom_run, chooses_run}
 use Rattle.py_laid.proofs.Operating.{operation_run, expr_run}
 use Rattle.py_laid.proofs.Units.{chosen_cut, suite_pauses, target_run, jump_run, leaves_run, raised_run, reraises_run}
 
@@ -93,14 +93,17 @@ module _ (ex : Execution) (scope : Scope) where
 
   -- ---- suites
 
-  pub if_run : (line at to : ℕ) (a : Atom) (s : Suite) → ((begins : ℕ) → LaidSuite (parts_of ex) scope s begins to → RunsFrom ex scope.around begins to (RunsSuite (scene_of ex) s))
-      → LaidForm (parts_of ex) scope line (If a s) at to → RunsFrom ex scope.around at to (Runs (scene_of ex) line (If a s))
-  if_run line at to a s runs (asks, begins, loads, jumps, suite) c low high later now last m event ts most same run =
+  -- a suite that is jumped over, unless `stays` says otherwise of the truth of the atom
+  pub branch_run : {op : Instruction} (stays : Bool → Bool) → TestsBy ex op stays → (line at to : ℕ) (a : Atom) (s : Suite)
+      → ((begins : ℕ) → LaidSuite (parts_of ex) scope s begins to → RunsFrom ex scope.around begins to (RunsSuite (scene_of ex) s))
+      → LaidBranch (parts_of ex) scope line a op (λ begins next. LaidSuite (parts_of ex) scope s begins next) at to → RunsFrom ex scope.around at to
+      (λ env h event ts K. Chooses (scene_of ex) line env h a event ts K (λ b i mid. By_truth (stays b) (RunsSuite (scene_of ex) s env h i mid K) (K env Normal i mid)))
+  branch_run stays tests line at to a s runs (asks, begins, loads, jumps, suite) c low high later now last m event ts most same run =
       let before : at < asks = atom_bound (parts_of ex) scope line a at asks loads in
       let after : asks < begins = stands_bound (parts_of ex) jumps in
       let order : begins ≤ to = suite_bound (parts_of ex) scope s begins to suite in
       let env : Env = env_of ex.vars now.locals in
-      chooses_run ex c now same
+      chooses_run ex c now same stays tests
       (λ b i mid. By_truth b (RunsSuite (scene_of ex) s env (handled_in None c.blocks) i mid c.K) (c.K env Normal i mid)) begins to m most order (omega (arith, order, high))
       (λ b i. chosen_cut (RunsSuite (scene_of ex) s env (handled_in None c.blocks) i [] c.K) (c.K env Normal i [])
       (suite_pauses ex s env (handled_in None c.blocks) i c.K (λ env1. c.lands.pauses env1 Normal i tt) (λ env1. c.lands.pauses env1 Cut i tt)) (c.lands.pauses env Normal i tt) b)
@@ -119,7 +122,7 @@ module _ (ex : Execution) (scope : Scope) where
       let over : leaves < other = stands_bound (parts_of ex) leave in
       let behind : other ≤ to = suite_bound (parts_of ex) scope t other to rest in
       let env : Env = env_of ex.vars now.locals in
-      chooses_run ex c now same
+      chooses_run ex c now same (λ b. b) (true_stays ex)
       (λ b i mid. By_truth b (RunsSuite (scene_of ex) s env (handled_in None c.blocks) i mid c.K) (RunsSuite (scene_of ex) t env (handled_in None c.blocks) i mid c.K))
       begins other m most (omega (arith, order, over)) (omega (arith, order, over, behind, high))
       (λ b i. chosen_cut (RunsSuite (scene_of ex) s env (handled_in None c.blocks) i [] c.K) (RunsSuite (scene_of ex) t env (handled_in None c.blocks) i [] c.K)

@@ -8,8 +8,9 @@ use Rattle.py_laid.specs.Code.{Scope, in_loop, in_try, in_clauses, in_finally, b
 use Rattle.py_laid.proofs.Decoding.{Execution, TellsFrom, parts_of, scene_of}
 use Rattle.py_laid.proofs.Places.{form_bound, suite_bound, handler_bound, clauses_bound}
 use Rattle.py_laid.proofs.Lands.{Context, RunsFrom}
+use Rattle.py_laid.proofs.Loads.{true_stays}
 use Rattle.py_laid.proofs.Units.{suite_pauses, clause_pauses}
-use Rattle.py_laid.proofs.Plain.{assign_run, do_run, show_run, return_run, raise_run, reraise_run, pass_run, break_run, continue_run, if_run, if_else_run, nothing_run, first_run}
+use Rattle.py_laid.proofs.Plain.{assign_run, do_run, show_run, return_run, raise_run, reraise_run, pass_run, break_run, continue_run, branch_run, if_else_run, nothing_run, first_run}
 use Rattle.py_laid.proofs.Looping.{while_run}
 use Rattle.py_laid.proofs.Trying.{finally_run, handler_suite_run}
 use Rattle.py_laid.proofs.Clauses.{TriesFrom, no_more_run, clause_run, except_run}
@@ -26,7 +27,7 @@ module _ (ex : Execution) where
     form_run Break scope line at to laid = break_run ex scope.around scope line at to laid
     form_run Continue scope line at to laid = continue_run ex scope.around scope line at to laid
     form_run Pass scope line at to laid = pass_run ex scope line at to laid
-    form_run (If a s) scope line at to laid = if_run ex scope line at to a s (λ begins suite. suite_run s scope begins to suite) laid
+    form_run (If a s) scope line at to laid = branch_run ex scope (λ b. b) (true_stays ex) line at to a s (λ begins suite. suite_run s scope begins to suite) laid
     form_run (IfElse a s t) scope line at to laid =
         if_else_run ex scope line at to a s t (λ begins leaves suite. suite_run s scope begins leaves suite) (λ other suite. suite_run t scope other to suite) laid
     form_run (While a s) scope line at to laid = while_run ex scope line at to a s (λ labels begins repeats suite. suite_run s (in_loop labels scope) begins repeats suite) laid

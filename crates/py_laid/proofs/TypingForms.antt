@@ -12,11 +12,11 @@ use Rattle.py_check.specs.Taking.{may_move}
 use Rattle.py_tree.specs.declared.expr.Atom.{Atom}
 use Rattle.py_tree.specs.declared.expr.Atom.TheVariants as atom
 use Rattle.py_tree.specs.Tree.{Name, Form, Assign, Do, Show, Return, Raise, Reraise, Break, Continue, Pass, If, IfElse, While, TryExcept, TryFinally, Suite, nothing, first, Clauses, no_more, clause}
-use Rattle.py_laid.specs.Code.{Scope, on, in_loop, in_try, in_clauses, before_finally, in_finally, place, Stands, LaidTaken, LaidForget, LaidFinally, LaidHandler, LaidForm, LaidSuite, LaidClauses}
+use Rattle.py_laid.specs.Code.{Scope, on, in_loop, in_try, in_clauses, before_finally, in_finally, place, Stands, LaidTaken, LaidForget, LaidFinally, LaidHandler, LaidBranch, LaidForm, LaidSuite, LaidClauses}
 use Rattle.py_laid.proofs.NoteLemmas.{kinds_of, length-kinds_of, top_level-low}
 use Rattle.py_laid.proofs.TypingUnits.{Noted, parts_of, Free, In, Safe, safe_on, Asks, keeps_then}
 use Rattle.py_laid.proofs.TypingLoads.{Typed, joined, typed_by, nothing_typed, unit_typed, goes_as, takes_one, taken_on, has_local, answer_typed}
-use Rattle.py_laid.proofs.TypingLoads.{none_typed, atom_typed, operation_typed, expr_typed, target_typed, test_typed, jump_typed}
+use Rattle.py_laid.proofs.TypingLoads.{JumpsBy, none_typed, atom_typed, operation_typed, expr_typed, target_typed, test_typed, jump_typed}
 use Rattle.py_laid.proofs.TypingBlocks.{Fine, fine_finally, fine_clauses, fine_try, fine_guarded, fine_loop}
 use Rattle.py_laid.proofs.TypingBlocks.{loop_opens, block_opens, finally_begins, block_closes, finally_ends, break_typed, continue_typed}
 
@@ -96,6 +96,22 @@ module _ (code : Noted) where
       fine_typed scope scope scope at next
       (joined code (Safe code scope) scope (on scope) scope at asks next front (unit_typed code (Safe code scope) (on scope) scope line asks arg next i stands front.free (safe_on code scope) takes))
 
+  -- a suite that is jumped over
+  branch_typed : (scope : Scope) (line : ℕ) (a : Atom) (i : Instruction) → JumpsBy code i → (suite : ℕ → ℕ → Type 0) (at next : ℕ)
+      → ((begins : ℕ) → suite begins next → Free code begins → Typed code (Fine code scope) scope scope begins next)
+      → LaidBranch (parts_of code) scope line a i suite at next → Free code at → Typed code (Fine code scope) scope scope at next
+  branch_typed scope line a i same suite at next inner (asks, begins, laid, test, stands) free =
+      let front = atom_typed code scope line a at asks laid free in
+      let tested = test_typed code i same scope line asks next begins test front.free in
+      let body = inner begins stands tested.free in
+      record {
+        free = body.free;
+        enters = λ there. front.enters (tested.enters (body.enters there));
+        kept = λ fine there.
+            let in_begins = body.enters there in
+            keeps_then code at asks next (front.kept fine.safe (tested.enters in_begins)) (keeps_then code asks begins next (tested.kept (fine.safe, there) in_begins) (body.kept fine there));
+      }
+
   -- ---- statements
 
   mutual
@@ -114,20 +130,12 @@ module _ (code : Noted) where
     form_typed Break scope line at next laid free = break_typed code scope.around scope refl line at next laid free
     form_typed Continue scope line at next laid free = continue_typed code scope.around scope refl line at next laid free
     form_typed Pass scope line at next is_at free = nothing_typed code (Fine code scope) scope at next is_at free
-    form_typed (If a s) scope line at next (asks, begins, laid, test, suite) free =
-        let front = atom_typed code scope line a at asks laid free in
-        let tested = test_typed code scope line asks next begins test front.free in
-        let body = suite_typed s scope begins next suite tested.free in
-        record {
-          free = body.free;
-          enters = λ there. front.enters (tested.enters (body.enters there));
-          kept = λ fine there.
-              let in_begins = body.enters there in
-              keeps_then code at asks next (front.kept fine.safe (tested.enters in_begins)) (keeps_then code asks begins next (tested.kept (fine.safe, there) in_begins) (body.kept fine there));
-        }
+    form_typed (If a s) scope line at next laid free =
+        branch_typed scope line a op.JumpIfFalse (λ k to kinds blocks. refl) (λ begins to. LaidSuite (parts_of code) scope s begins to) at next
+        (λ begins suite free1. suite_typed s scope begins next suite free1) laid free
     form_typed (IfElse a s t) scope line at next (asks, begins, leaves, other, laid, test, suite, leave, second) free =
         let front = atom_typed code scope line a at asks laid free in
-        let tested = test_typed code scope line asks other begins test front.free in
+        let tested = test_typed code op.JumpIfFalse (λ k to kinds blocks. refl) scope line asks other begins test front.free in
         let body = suite_typed s scope begins leaves suite tested.free in
         let left = jump_typed code scope scope line leaves next other leave body.free in
         let rest = suite_typed t scope other next second left.free in
@@ -146,7 +154,7 @@ module _ (code : Noted) where
         let within : Scope = in_loop (record { stop = next; again = tests }) scope in
         let opened = loop_opens code scope (record { stop = next; again = tests }) line at tests sets free in
         let front = atom_typed code within line a tests asks laid opened.free in
-        let tested = test_typed code within line asks ends begins test front.free in
+        let tested = test_typed code op.JumpIfFalse (λ k to kinds blocks. refl) within line asks ends begins test front.free in
         let body = suite_typed s within begins repeats suite tested.free in
         let back = jump_typed code within within line repeats tests ends repeat body.free in
         let closed = block_closes code scope within line ends next op.PopBlock (λ k. refl) pops back.free in
@@ -207,7 +215,7 @@ module _ (code : Noted) where
         let copied = copy_typed (in_clauses scope) n at loads copy free in
         let front = atom_typed code (on (on within)) n (atom.Name c) loads asks load copied.free in
         let matched = answer_typed code (on within) 2 n asks _ decides op.TestOperation refl refl match front.free in
-        let tested = test_typed code (on within) n decides other binds decide matched.free in
+        let tested = test_typed code op.JumpIfFalse (λ k to kinds blocks. refl) (on within) n decides other binds decide matched.free in
         let bound = target_typed code within n x binds begins bind tested.free in
         let body = handler_typed x within n (λ place from to. LaidSuite (parts_of code) place s from to) begins leaves
         (λ place from to laid free1. suite_typed s place from to laid free1) suite bound.free in

@@ -11,11 +11,12 @@ use Rattle.py_code.specs.declared.instruction.Instruction.TheVariants as op
 use Rattle.py_code.specs.declared.literal.Literal.{Literal, None as NoneLiteral, Bool as BoolLiteral, Int as IntLiteral, Str as StrLiteral}
 use Rattle.py_check.specs.declared.note.Kind.{Kind}
 use Rattle.py_check.specs.declared.note.Kind.TheVariants.{Any}
+use Rattle.py_check.specs.declared.note.BlockNote.{BlockNote}
 use Rattle.py_check.specs.Constants.{is_loaded, kind_of, loads}
 use Rattle.py_check.specs.Landing.{goes_on, jumps, top_level}
 use Rattle.py_check.specs.Effects.{Effect, gives, effect, has_operand}
 use Rattle.py_check.specs.Taking.{takes_top, may_move}
-use Rattle.py_check.specs.Typing.{keeps_own, keeps_by}
+use Rattle.py_check.specs.Typing.{keeps_own, keeps_by, keeps_op}
 use Rattle.py_tree.specs.declared.expr.Atom.{Atom}
 use Rattle.py_tree.specs.declared.expr.Atom.TheVariants as atom
 use Rattle.py_tree.specs.declared.expr.Expr.{Expr}
@@ -211,14 +212,18 @@ module _ (code : Noted) where
 
   -- ---- jumps
 
-  -- a jump where a value is false
-  pub test_typed : (scope : Scope) (line at label next : ℕ) → Stands (parts_of code) (on scope) line at op.JumpIfFalse label next → Free code at
+  -- an instruction asks what a jump by a value does
+  abbrev pub JumpsBy : Instruction → Type 0
+  JumpsBy i = (k to : ℕ) (kinds : List Kind) (blocks : List BlockNote) → keeps_op code.sheet k i to kinds blocks ≡ keeps_op code.sheet k op.JumpIfFalse to kinds blocks
+
+  -- a jump by a value
+  pub test_typed : (i : Instruction) → JumpsBy i → (scope : Scope) (line at label next : ℕ) → Stands (parts_of code) (on scope) line at i label next → Free code at
       → Typed (Safe code scope × In code scope label) (on scope) scope at next
-  test_typed scope line at label next stands free =
-      unit_typed (Safe code scope × In code scope label) (on scope) scope line at label next op.JumpIfFalse stands free (λ holds. safe_on code scope holds.0)
+  test_typed i same scope line at label next stands free =
+      unit_typed (Safe code scope × In code scope label) (on scope) scope line at label next i stands free (λ holds. safe_on code scope holds.0)
       (λ (safe, enters) there k is_next.
       let long : length (kinds_of scope) ≡ scope.depth = length-kinds_of scope in
-      takes_one scope safe (λ rest. jumps code.sheet label rest scope.blocks && goes_on code.sheet (k + 1) rest scope.blocks)
+      same k label (Any ∷ kinds_of scope) scope.blocks ∙ takes_one scope safe (λ rest. jumps code.sheet label rest scope.blocks && goes_on code.sheet (k + 1) rest scope.blocks)
       (and_from _ _ (jumps_to code scope (kinds_of scope) scope.blocks label enters long safe.same) (goes_as scope safe (kinds_of scope) k next is_next there long)))
 
   -- a jump, whatever the scope behind it

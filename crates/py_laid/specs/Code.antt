@@ -211,6 +211,11 @@ module _ (parts : Parts) where
   LaidHandler scope line None suite at next = suite scope at next
   LaidHandler scope line (Some x) suite at next = LaidFinally scope line suite (λ within handler ends. LaidForget within line x handler ends) at next
 
+  -- a suite over which a jump leads, by the value of an atom: `suite` says from which place to which its code stands
+  abbrev pub LaidBranch : Scope → ℕ → Atom → Instruction → (ℕ → ℕ → Type 0) → ℕ → ℕ → Type 0
+  LaidBranch scope line a i suite at next =
+      (asks : ℕ) × (begins : ℕ) × LaidAtom scope line a at asks × Stands (on scope) line asks i next begins × suite begins next
+
   abbrev mutual
     -- the code of a statement of this line
     pub LaidForm : Scope → ℕ → Form → ℕ → ℕ → Type 0
@@ -224,8 +229,7 @@ module _ (parts : Parts) where
     LaidForm scope line Continue at next = LaidContinue scope scope.around line at next
     LaidForm scope line Pass at next = next ≡ at
     -- the suite is jumped over where the atom is false
-    LaidForm scope line (If a s) at next =
-        (asks : ℕ) × (begins : ℕ) × LaidAtom scope line a at asks × Stands (on scope) line asks op.JumpIfFalse next begins × LaidSuite scope s begins next
+    LaidForm scope line (If a s) at next = LaidBranch scope line a op.JumpIfFalse (λ begins to. LaidSuite scope s begins to) at next
     -- the second suite is jumped to where it is false, and jumped over behind the first
     LaidForm scope line (IfElse a s t) at next =
         (asks : ℕ) × (begins : ℕ) × (leaves : ℕ) × (other : ℕ) × LaidAtom scope line a at asks × Stands (on scope) line asks op.JumpIfFalse other begins

@@ -1,6 +1,6 @@
 -- What a tree may tell goes over to any front of its events, to what follows more weakly, and to a wider scene.
 use Rattle.std.proofs.Common.{◌≡◌, ℕ, zero, suc, Bool, true, false, List, [], ◌∷◌, ◌++◌, Some, None, refl, ap, subst, ◌∙◌, inl, inr}
-use Rattle.std.specs.Prelude.{Option, slice_get}
+use Rattle.std.specs.Prelude.{Option}
 use Rattle.py_code.specs.declared.operator.BinaryOperator.TheVariants as binary
 use Rattle.py_code.specs.declared.operator.ComparisonOperator.TheVariants as comparison
 use Rattle.py_objects.specs.declared.refs.PyBaseExceptionRef.{PyBaseExceptionRef}
@@ -12,8 +12,7 @@ use Rattle.py_objects.specs.declared.request.Request.TheVariants as request
 use Rattle.py_objects.specs.declared.event.GotAnswer.{GotAnswer}
 use Rattle.py_objects.specs.declared.event.GotAnswer.TheVariants as got
 use Rattle.py_objects.specs.declared.event.Ending.{Ending}
-use Rattle.py_objects.specs.Objects.{Obj, HasPayload, as_exception, as_object}
-use Rattle.py_objects.specs.Growth.{Grows}
+use Rattle.py_objects.specs.Objects.{Obj, as_exception, as_object}
 use Rattle.py_objects.specs.Own.{Own, Makes, Resumes, Asks, Gets, Rounds, Yields, Ends}
 use Rattle.py_objects.specs.Telling.{Value, Given, Failed, Stopped, AfterValue, IsLiteral, Answers, Answered, Rounded}
 use Rattle.py_tree.specs.declared.expr.Atom.{Atom}
@@ -28,18 +27,11 @@ use Rattle.py_tree.specs.Scene.{Scene}
 use Rattle.py_tree.specs.Outcome.{Outcome, Normal, Breaks, Continues, Returns, Raises, Cut, Handled, After, Runner, With, Use, By_truth, Requests, Named, Loads, LoadsAll, RequestsTwo, Operates, Evaluates, Tests, Chooses, On_normal, On_turn, On_raise, behind, Behind_finally, On_finally, Finally, Forgets, Handles, Loops, Reraises, Runs, RunsSuite, Tries}
 use Rattle.py_tree.specs.Trace.{Ended, EndsBy, IsBegun, IsTrace}
 use Rattle.py_tree.specs.Laws.{Widens, TracesCarry}
+use Rattle.py_objects.proofs.GrowthLemmas.{payload_grown}
 
 empty_front : {X : Type 0} (ts more : List X) → ts ++ more ≡ [] → ts ≡ []
 empty_front [] more e = refl
 empty_front (t ∷ ts) more e = absurd (cc e)
-
-get_stays : (objects more : List Payload) (i : ℕ) (p : Payload) → slice_get objects i ≡ Some p → slice_get (objects ++ more) i ≡ Some p
-get_stays [] more i p here = absurd (cc)
-get_stays (q ∷ objects) more zero p here = here
-get_stays (q ∷ objects) more (suc i) p here = get_stays objects more i p here
-
-payload_stays : (objects objects' : List Payload) (v : Obj) (p : Payload) → Grows objects objects' → HasPayload objects v p → HasPayload objects' v p
-payload_stays objects objects' v p (more, is) has = rw is (get_stays objects more v.number p has)
 
 -- a value goes over to a front
 abbrev ValueGoes : List Own → AfterValue → AfterValue → Type 0
@@ -120,7 +112,7 @@ module _ (scene scene' : Scene) (widens : Widens scene scene') (more : List Own)
 
   literal_goes : (p : Payload) (event : ℕ) (ts : List Own) (K K' : AfterValue) → ValueGoes more K K' → K' Stopped event [] → IsLiteral scene.objects p event (ts ++ more) K → IsLiteral scene'.objects p event ts K'
   literal_goes p event ts K K' goes cut (inl (e, k)) = inl (empty_front ts more e, cut)
-  literal_goes p event ts K K' goes cut (inr (v, has, k)) = inr (v, payload_stays scene.objects scene'.objects v p widens.objects has, goes (Given v) event ts k)
+  literal_goes p event ts K K' goes cut (inr (v, has, k)) = inr (v, payload_grown scene.objects scene'.objects v p widens.objects has, goes (Given v) event ts k)
 
   requests_go : (line : ℕ) (r : Request) (h : Handled) (event : ℕ) (ts : List Own) (K K' : AfterValue) → ValueGoes more K K' → K' Stopped event []
       → Requests scene line r h event (ts ++ more) K → Requests scene' line r h event ts K'
@@ -188,7 +180,7 @@ module _ (scene scene' : Scene) (widens : Widens scene scene') (more : List Own)
       → ((b : Bool) (i : ℕ) (rest : List Own) → next b i (rest ++ more) → next' b i rest) → Tests scene line env h v event (ts ++ more) K next → Tests scene' line env h v event ts K' next'
   tests_go line env h v event ts K K' next next' carries on k =
       asked_goes line env h (request.Truth v) event ts K K' _ _ carries
-      (λ w i rest (b, has, told). (b, payload_stays scene.objects scene'.objects w (payload.Bool b) widens.objects has, on b i rest told)) k
+      (λ w i rest (b, has, told). (b, payload_grown scene.objects scene'.objects w (payload.Bool b) widens.objects has, on b i rest told)) k
 
   chooses_go : (line : ℕ) (env : Env) (h : Handled) (a : Atom) (event : ℕ) (ts : List Own) (K K' : After) (next next' : Bool → ℕ → List Own → Type 0) → Carries more K K'
       → ((b : Bool) (i : ℕ) (rest : List Own) → next b i (rest ++ more) → next' b i rest) → Chooses scene line env h a event (ts ++ more) K next → Chooses scene' line env h a event ts K' next'
@@ -311,7 +303,7 @@ module _ (scene scene' : Scene) (widens : Widens scene scene') (more : List Own)
 
   ends_go : Goes more (EndsBy scene) (EndsBy scene')
   ends_go env Normal event rest (inl e) = inl (empty_front rest more e)
-  ends_go env Normal event rest (inr (v, has, k)) = inr (v, payload_stays scene.objects scene'.objects v payload.None widens.objects has, ended_goes _ rest k)
+  ends_go env Normal event rest (inr (v, has, k)) = inr (v, payload_grown scene.objects scene'.objects v payload.None widens.objects has, ended_goes _ rest k)
   ends_go env Breaks event rest k = k
   ends_go env Continues event rest k = k
   ends_go env (Returns v) event rest k = ended_goes _ rest k

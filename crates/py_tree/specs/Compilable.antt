@@ -5,7 +5,7 @@ use Rattle.py_tree.specs.declared.expr.Expr.{Expr}
 use Rattle.py_tree.specs.declared.expr.Expr.TheVariants as expr
 use Rattle.py_tree.specs.declared.expr.Operation.{Operation}
 use Rattle.py_tree.specs.declared.expr.Operation.TheVariants as operation
-use Rattle.py_tree.specs.Tree.{Form, Assign, Do, Show, Return, Raise, Reraise, Break, Continue, Pass, If, IfElse, While, TryExcept, TryFinally, Suite, nothing, first, Clauses, no_more, clause, Tree}
+use Rattle.py_tree.specs.Tree.{Form, Assign, Do, Break, Continue, If, IfElse, While, TryExcept, TryFinally, Suite, nothing, first, Clauses, no_more, clause, Tree}
 
 -- a call has at most 255 arguments
 abbrev pub OperationFits : Operation → Type 0
@@ -24,18 +24,14 @@ abbrev mutual
   pub FormFits : Bool → Form → Type 0
   FormFits in_loop (Assign x e) = ExprFits e
   FormFits in_loop (Do o) = OperationFits o
-  FormFits in_loop (Show a) = Unit {0}
-  FormFits in_loop (Return a) = Unit {0}
-  FormFits in_loop (Raise a) = Unit {0}
-  FormFits in_loop Reraise = Unit {0}
   FormFits in_loop Break = in_loop ≡ true
   FormFits in_loop Continue = in_loop ≡ true
-  FormFits in_loop Pass = Unit {0}
   FormFits in_loop (If a s) = SuiteFits in_loop s
   FormFits in_loop (IfElse a s t) = SuiteFits in_loop s × SuiteFits in_loop t
   FormFits in_loop (While a s) = SuiteFits true s
   FormFits in_loop (TryExcept s cs) = SuiteFits in_loop s × ClausesFit in_loop cs
   FormFits in_loop (TryFinally s t) = SuiteFits in_loop s × SuiteFits in_loop t
+  FormFits in_loop f = Unit {0}
 
   pub SuiteFits : Bool → Suite → Type 0
   SuiteFits in_loop nothing = Unit {0}
@@ -48,20 +44,12 @@ abbrev mutual
 abbrev mutual
   -- how many statements and clauses there are, those inside others too
   pub statements_in : Form → ℕ
-  statements_in (Assign x e) = 1
-  statements_in (Do o) = 1
-  statements_in (Show a) = 1
-  statements_in (Return a) = 1
-  statements_in (Raise a) = 1
-  statements_in Reraise = 1
-  statements_in Break = 1
-  statements_in Continue = 1
-  statements_in Pass = 1
   statements_in (If a s) = suc (statements s)
   statements_in (IfElse a s t) = suc (statements s + statements t)
   statements_in (While a s) = suc (statements s)
   statements_in (TryExcept s cs) = suc (statements s + statements_under cs)
   statements_in (TryFinally s t) = suc (statements s + statements t)
+  statements_in f = 1
 
   pub statements : Suite → ℕ
   statements nothing = 0

@@ -1,22 +1,16 @@
 -- Bodies that guard nothing: no statement of theirs raises an exception by itself, and none is a try.
-use Rattle.py_tree.specs.Tree.{Form, Assign, Do, Show, Return, Raise, Reraise, Break, Continue, Pass, If, IfElse, While, TryExcept, TryFinally, Suite, nothing, first}
+use Rattle.py_tree.specs.Tree.{Form, Raise, Reraise, If, IfElse, While, TryExcept, TryFinally, Suite, nothing, first}
 
 abbrev mutual
   pub FormIsUnguarded : Form → Type 0
-  FormIsUnguarded (Assign x e) = Unit {0}
-  FormIsUnguarded (Do o) = Unit {0}
-  FormIsUnguarded (Show a) = Unit {0}
-  FormIsUnguarded (Return a) = Unit {0}
   FormIsUnguarded (Raise a) = ⊥
   FormIsUnguarded Reraise = ⊥
-  FormIsUnguarded Break = Unit {0}
-  FormIsUnguarded Continue = Unit {0}
-  FormIsUnguarded Pass = Unit {0}
   FormIsUnguarded (If a s) = IsUnguarded s
   FormIsUnguarded (IfElse a s t) = IsUnguarded s × IsUnguarded t
   FormIsUnguarded (While a s) = IsUnguarded s
   FormIsUnguarded (TryExcept s cs) = ⊥
   FormIsUnguarded (TryFinally s t) = ⊥
+  FormIsUnguarded f = Unit {0}
 
   pub IsUnguarded : Suite → Type 0
   IsUnguarded nothing = Unit {0}

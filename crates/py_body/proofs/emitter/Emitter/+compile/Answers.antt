@@ -1,4 +1,5 @@
 use Rattle.std.proofs.Common.{◌≡◌, ◌+◌, ◌*◌, ◌<◌, ◌≤◌, ◌%◌, ◌^◌, ℕ, Bool, refl, sym, ap, ◌∙◌, subst, take, arith, rules}
+use Rattle.std.proofs.lemmas.Result.{on_ok_weaker}
 use Rattle.py_code.specs.declared.instruction.Instruction.TheVariants as op
 use Rattle.py_tree.specs.declared.stmt.Clause.{out-Clause}
 use Rattle.py_tree.specs.Tree.{Raise, Return, Show, If, IfElse, Suite, Clauses, TryExcept}
@@ -11,9 +12,9 @@ use Rattle.py_body.specs.Emitting.{draft_of, scope_of, is_inside, end_of, labels
 use Rattle.py_body.proofs.Trees.{fits_at, statements_at, suite_more}
 use Rattle.py_body.proofs.SizeLemmas.{clauses_most, suite_most}
 use Rattle.py_body.proofs.StatementLemmas.{form_taken}
-use Rattle.py_body.proofs.BlockLemmas.{if_else_emits, if_emits, pass_emits, suite_add, suite_none, while_emits}
+use Rattle.py_body.proofs.BlockLemmas.{branch_emits, if_else_emits, pass_emits, suite_add, suite_none, while_emits}
 use Rattle.py_body.proofs.ClauseTrees.{clause_fits_at, clause_statements_at, clauses_behind}
-use Rattle.py_body.proofs.ProtectedLemmas.{clause_emits, clauses_add, clauses_none, forgetting_emits, opening_emits, tried_emits, try_except_emits, try_finally_emits}
+use Rattle.py_body.proofs.ProtectedLemmas.{clause_emits, clauses_add, clauses_none, forgetting_emits, opening_emits, plain_handler_emits, tried_emits, try_except_emits, try_finally_emits}
 use Rattle.py_body.proofs.emitter.Emitter.+compile.Goals as goal
 
 -- ---- suites
@@ -64,18 +65,21 @@ compile_form-returns-in-Pass-clause-code t c = rw c.in-Pass.is (pass_emits c.arg
 
 -- ---- branches
 
-pub compile_if-size_of_suite-size-requires : goal.compile_if-size_of_suite-size-requires
-compile_if-size_of_suite-size-requires t c =
+pub compile_form-returns-in-If-clause-code : goal.compile_form-returns-in-If-clause-code
+compile_form-returns-in-If-clause-code t c = rw c.in-If.is c.compile_branch.ensures.code
+
+pub compile_branch-size_of_suite-size-requires : goal.compile_branch-size_of_suite-size-requires
+compile_branch-size_of_suite-size-requires t c =
     suite_most c.weights-weights.result c.args.self.now.labels c.args.self.now.others (is_inside (scope_of c.args.scope.now).around) (suite_of c.args.suite.now) c.weights-weights.ensures
     c.requires.low.0 c.requires.low.1
     c.requires.fits (omega (arith, c.requires.few))
 
-pub compile_if-returns-clause-code : goal.compile_if-returns-clause-code
-compile_if-returns-clause-code t c =
+pub compile_branch-returns-clause-code : goal.compile_branch-returns-clause-code
+compile_branch-returns-clause-code t c =
     let old = draft_of c.args.self.now in
     let suite : Suite = suite_of c.args.suite.now in
     let sizes : c.size_of_suite-size.result ≡ size_suite c.weights-weights.result suite = c.size_of_suite-size.ensures.size in
-    if_emits (scope_of c.args.scope.now) c.args.line c.args.atom.now suite c.label-behind.result
+    branch_emits (scope_of c.args.scope.now) c.args.line c.args.atom.now suite c.label-behind.result
     (c.label-behind.ensures ∙ (λ k. (end_of old + (c.weights-weights.result.index + c.weights-weights.result.jump + sizes k)) % 2 ^ 32)
     ∙ (λ k. (end_of old + size_form (c.weights-weights.ensures k) (If c.args.atom.now suite)) % 2 ^ 32))
     c.in_ok-compile_atom.ensures.code c.in_ok-put_jump.ensures.code c.in_ok-compile_suite.ensures.code
@@ -134,6 +138,10 @@ compile_try_finally-returns-clause-code t c =
     try_finally_emits (scope_of c.args.scope.now) (scope_of c.in_ok-within.within) c.args.line (suite_of c.args.suite.now) (suite_of c.args.last.now) c.handler_label-handler.result
     c.in_ok-within.ensures
     c.handler_label-handler.ensures c.in_ok-compile_opening.ensures.code c.in_ok-compile_suite.ensures.code c.in_ok-put_plain.ensures.code
+
+pub compile_handler-returns-in-None-clause-code : goal.compile_handler-returns-in-None-clause-code
+compile_handler-returns-in-None-clause-code t c = rw c.in-None.is (on_ok_weaker c.compile_suite.result
+    (plain_handler_emits c.args.self.now.labels (scope_of c.args.scope.now) c.args.line (suite_of c.args.suite.now)) c.compile_suite.ensures.code)
 
 pub compile_forgetting-returns-clause-code : goal.compile_forgetting-returns-clause-code
 compile_forgetting-returns-clause-code t c =

@@ -11,8 +11,8 @@ decreases-compile_suite l = 5 * statements (suite_of l.suite.now) + 1
 abbrev pub decreases-compile_form : goal.decreases-compile_form
 decreases-compile_form l = 5 * statements_in (form_of l.form.now)
 
-abbrev pub decreases-compile_if : goal.decreases-compile_if
-decreases-compile_if l = 5 * statements (suite_of l.suite.now) + 2
+abbrev pub decreases-compile_branch : goal.decreases-compile_branch
+decreases-compile_branch l = 5 * statements (suite_of l.suite.now) + 2
 
 abbrev pub decreases-compile_if_else : goal.decreases-compile_if_else
 decreases-compile_if_else l = 5 * (statements (suite_of l.suite.now) + statements (suite_of l.other.now)) + 2
