@@ -7,23 +7,22 @@ use Rattle.py_objects.specs.declared.payload.ClassBody.{ClassBody}
 use Rattle.py_objects.specs.declared.edit.Change.{Change}
 use Rattle.py_objects.specs.declared.edit.Edit.TheVariants as edit
 use Rattle.py_objects.specs.Objects.{Obj, Name, declared, payload_numbers, AllBelow, IsMade, AllFit}
-use Rattle.py_objects.specs.Growth.{Grows, GrowsPlainly}
+use Rattle.py_objects.specs.Growth.{Grows, GrowsPlainly, IsGrown, with_object}
 use Rattle.py_objects.specs.Attrs.{Attrs, inserted}
 use Rattle.py_objects.specs.Edits.{Kept}
 use Rattle.py_objects.specs.Originals.{IsDict}
 use Rattle.py_check.specs.declared.annotated.Annotated.{Annotated}
-use Rattle.py_frame.proofs.PlainGrowth.{made_grown, below_more, length_grown, declared_grown, plainly_grows, grows_plainly_refl, grows_plainly_by}
+use Rattle.py_objects.proofs.GrowthLemmas.{made_grown, below_more, length_grown, declared_grown, plainly_grows, grows_plainly_refl, grows_plainly_by, declared_stays}
 use Rattle.py_vm.specs.declared.stage.Stage.{Stage}
 use Rattle.py_vm.specs.declared.stage.Stage.TheVariants as stage
 use Rattle.py_vm.specs.declared.machinery.Core.{Core}
 use Rattle.py_vm.specs.Codes.{Checked, IsRunnable}
 use Rattle.py_vm.specs.Declaring.{first_name, added_as, IsAddable, IsPutInto}
-use Rattle.py_vm.specs.Holds.{ChangeDicts, IsCoded, AreRunnable, AreFirst}
+use Rattle.py_vm.specs.Holds.{IsCoded, AreRunnable}
+use Rattle.py_answers.specs.Readable.{ChangeDicts, AreFirst}
 use Rattle.py_vm.specs.Stands.{AreStored, AreCallers, AtStage, frames_at, IsTold, Keeps, IsIdle}
-use Rattle.py_vm.specs.Turns.{IsGrown}
 use Rattle.py_vm.proofs.RowsOfLemmas.{tells_behind_code}
-use Rattle.py_vm.proofs.RunLemmas.{declared_stays}
-use Rattle.py_vm.proofs.GrownLemmas.{with_object, objects_grow}
+use Rattle.py_objects.proofs.GrownLemmas.{objects_grow}
 use Rattle.py_vm.proofs.DeclaringLemmas.{AreDeclared, declared_new, one_more, named_declared, still_declared}
 use Rattle.py_vm.proofs.KeepsLemmas.{classes_stay, dict_grown, first_on, stored_on, runnable_on, told_still}
 use Rattle.py_vm.proofs.NestedLemmas.{frames_still}

@@ -10,13 +10,16 @@ use Rattle.py_objects.specs.Own.{own_events}
 use Rattle.py_objects.specs.Edits.{Kept}
 use Rattle.py_vm.specs.declared.stage.Stage.TheVariants as stage
 use Rattle.py_vm.specs.declared.machinery.Core.{Core}
-use Rattle.py_vm.specs.Run.{State, start, state_after}
-use Rattle.py_vm.specs.Classes.{class_payload, first_objects, first_classes, first_declarations, HaveClasses}
-use Rattle.py_vm.specs.Holds.{IsCoded, AreFirst}
+use Rattle.py_run.specs.Run.{State, start, state_after}
+use Rattle.py_exceptions.specs.Classes.{class_payload, first_classes, first_declarations, HaveClasses}
+use Rattle.py_vm.specs.First.{first_objects}
+use Rattle.py_vm.specs.Holds.{IsCoded}
+use Rattle.py_answers.specs.Readable.{AreFirst}
 use Rattle.py_vm.specs.Stands.{AreCallers, AreApart, AtStage, phase_of, acts_of, frames_at, slot_at, IsIdle}
-use Rattle.py_vm.proofs.OwnLemmas.{own_events-nil}
-use Rattle.py_vm.proofs.GrownLemmas.{with_object, added_made}
-use Rattle.py_vm.proofs.ReplyingLemmas.{added_has}
+use Rattle.py_run.proofs.OwnLemmas.{own_events-nil}
+use Rattle.py_objects.proofs.GrownLemmas.{added_made}
+use Rattle.py_objects.specs.Growth.{with_object}
+use Rattle.py_objects.proofs.NewLemmas.{added_has}
 
 -- an entry among the first objects fits
 abbrev FitsFirst : Payload → Type 0

@@ -20,8 +20,8 @@ use Rattle.py_rows.specs.Laws.{AllMayTell}
 use Rattle.py_frame.specs.declared.input.FrameStep.{FrameStep}
 use Rattle.py_frame.specs.declared.input.FrameStep.TheVariants as step
 use Rattle.py_frame.specs.Steps.{events, told}
-use Rattle.py_vm.specs.Answers.{Reply, Has, Is, Makes, Fails, is_true, Replies, Gives}
-use Rattle.py_vm.specs.Calls.{Signature, Says, ComesTo}
+use Rattle.py_answers.specs.Answers.{Reply, Has, Is, Makes, Fails, is_true, Replies, Gives}
+use Rattle.py_run.specs.Calls.{Signature, Says, ComesTo}
 use Rattle.py_vm.specs.Codes.{is_answered, is_later, UnitIsAnswered, CodeIsAnswered}
 use Rattle.py_vm.specs.Turns.{IsPlain}
 

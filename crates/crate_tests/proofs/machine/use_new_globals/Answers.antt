@@ -6,7 +6,7 @@ use Rattle.py_objects.specs.Objects.{Obj}
 use Rattle.py_objects.specs.Pairs.{Pairs}
 use Rattle.py_objects.specs.Originals.{IsDict}
 use Rattle.py_vm.specs.Machine.{Machine}
-use Rattle.py_vm.proofs.ReplyingLemmas.{newest}
+use Rattle.py_objects.proofs.NewLemmas.{newest}
 use Rattle.crate_tests.proofs.machine.use_new_globals.Goals as goal
 
 -- a dict that was put behind the others

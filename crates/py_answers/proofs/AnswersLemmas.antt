@@ -1,0 +1,137 @@
+-- Replies by cases on the operands.
+use Rattle.std.proofs.Common.{◌≡◌, ◌++◌, List, Some, refl, sym, ap, subst, ◌∙◌, ℤ, Bool, true, false, cond}
+use Rattle.std.specs.Prelude.{Option, None, ◌+ℤ◌, ◌-ℤ◌, int_lt, codes}
+use Rattle.py_objects.specs.declared.payload.Payload.{Payload}
+use Rattle.py_objects.specs.declared.payload.Payload.TheVariants as payload
+use Rattle.py_objects.specs.declared.payload.ErrorKind.TheVariants.{OverflowError}
+use Rattle.py_objects.specs.declared.request.Request.{Request}
+use Rattle.py_objects.specs.declared.request.Request.TheVariants as request
+use Rattle.py_code.specs.Literals.{in_range}
+use Rattle.py_code.specs.declared.operator.BinaryOperator.{BinaryOperator}
+use Rattle.py_code.specs.declared.operator.BinaryOperator.TheVariants as binary
+use Rattle.py_code.specs.declared.operator.ComparisonOperator.{ComparisonOperator}
+use Rattle.py_code.specs.declared.operator.ComparisonOperator.TheVariants as comparison
+use Rattle.py_objects.specs.Objects.{Obj, Name, declared, IsMade}
+use Rattle.py_objects.specs.Values.{number_of, text_of}
+use Rattle.py_answers.specs.Answers.{Reply, Has, Fails, IsTypeName, whole, sum, difference, truth, text_less, not_supported, operated, on_both, found, Compares, Replies}
+use Rattle.py_answers.specs.Replying.{joined, IsThere, IsSum, IsDifference, IsLess}
+use Rattle.py_objects.proofs.NewLemmas.{declared_within}
+
+-- each payload that is made of what it needs has a type with a name
+pub has_type_name : (objects : List Payload) (p : Payload) → IsMade objects p → (n : Name) × IsTypeName objects p n
+has_type_name objects (payload.Exception e) made = (made.class.name, (made.class, made.is_class, refl))
+has_type_name objects _ made = (_, refl)
+
+-- a text is no number
+text_no_number : (p : Payload) (s : Name) → text_of p ≡ Some s → number_of p ≡ None
+text_no_number (payload.Str t) s is = refl
+text_no_number _ s is = absurd (cc is)
+
+-- where both values are there
+on_both_there : {A : Type 0} (a b : Option A) (x y : A) (f : A → A → Reply) (other : Reply) → a ≡ Some x → b ≡ Some y → on_both a b f other ≡ f x y
+on_both_there a b x y f other first second = ap (λ k. on_both k b f other) first ∙ ap (λ k. on_both (Some x) k f other) second
+
+-- where the first isn't
+on_both_none : {A : Type 0} (a b : Option A) (f : A → A → Reply) (other : Reply) → a ≡ None → on_both a b f other ≡ other
+on_both_none a b f other none = ap (λ k. on_both k b f other) none
+
+-- two texts as one, where both are there
+on_both_joined : (a b : Option Name) (t : Name) (other : Reply) → joined a b ≡ Some t → on_both a b (λ s u. Has (payload.Str (s ++ u))) other ≡ Has (payload.Str t)
+on_both_joined None b t other is = absurd (cc is)
+on_both_joined (Some s) None t other is = absurd (cc is)
+on_both_joined (Some s) (Some u) t other is = let same : s ++ u ≡ t = cc in ap (λ v. Has (payload.Str v)) same
+
+on_both_other : (a b : Option Name) (other : Reply) → joined a b ≡ None → on_both a b (λ s u. Has (payload.Str (s ++ u))) other ≡ other
+on_both_other None b other is = refl
+on_both_other (Some s) None other is = refl
+on_both_other (Some s) (Some u) other is = absurd (cc is)
+
+-- two texts are joined
+pub texts_joined : (objects : List Payload) (p q : Payload) (t : Name)
+    → IsMade objects p → IsMade objects q → joined (text_of p) (text_of q) ≡ Some t → IsSum objects p q (Has (payload.Str t))
+texts_joined objects p q t made_p made_q is =
+    let left = has_type_name objects p made_p in
+    let right = has_type_name objects q made_q in
+    (left.0, right.0, left.1, right.1, sym (on_both_joined (text_of p) (text_of q) t _ is))
+
+-- two numbers are added
+pub numbers_added : (objects : List Payload) (p q : Payload) (m n : ℤ) (reply : Reply)
+    → IsMade objects p → IsMade objects q → joined (text_of p) (text_of q) ≡ None → number_of p ≡ Some m → number_of q ≡ Some n → reply ≡ whole (m +ℤ n) → IsSum objects p q reply
+numbers_added objects p q m n reply made_p made_q none first second is =
+    let left = has_type_name objects p made_p in
+    let right = has_type_name objects q made_q in
+    let refusal : Reply = not_supported (codes "+") left.0 right.0 in
+    let numbers = on_both_there (number_of p) (number_of q) m n (λ m n. whole (m +ℤ n)) refusal first second in
+    (left.0, right.0, left.1, right.1, is ∙ sym (on_both_other (text_of p) (text_of q) (on_both (number_of p) (number_of q) (λ m n. whole (m +ℤ n)) refusal) none ∙ numbers))
+
+-- and subtracted
+pub numbers_subtracted : (objects : List Payload) (p q : Payload) (m n : ℤ) (reply : Reply)
+    → IsMade objects p → IsMade objects q → number_of p ≡ Some m → number_of q ≡ Some n → reply ≡ whole (m -ℤ n) → IsDifference objects p q reply
+numbers_subtracted objects p q m n reply made_p made_q first second is =
+    let left = has_type_name objects p made_p in
+    let right = has_type_name objects q made_q in
+    (left.0, right.0, left.1, right.1, is ∙ sym (on_both_there (number_of p) (number_of q) m n (λ m n. whole (m -ℤ n)) _ first second))
+
+-- and compared
+pub numbers_compared : (objects : List Payload) (p q : Payload) (m n : ℤ) (b : Bool)
+    → IsMade objects p → IsMade objects q → number_of p ≡ Some m → number_of q ≡ Some n → b ≡ int_lt m n → IsLess objects p q (truth b)
+numbers_compared objects p q m n b made_p made_q first second is =
+    let left = has_type_name objects p made_p in
+    let right = has_type_name objects q made_q in
+    (left.0, right.0, left.1, right.1, ap truth is ∙ sym (on_both_there (number_of p) (number_of q) m n (λ m n. truth (int_lt m n)) _ first second))
+
+-- so are two texts
+pub texts_compared : (objects : List Payload) (p q : Payload) (s t : Name) (b : Bool)
+    → IsMade objects p → IsMade objects q → text_of p ≡ Some s → text_of q ≡ Some t → b ≡ text_less s t → IsLess objects p q (truth b)
+texts_compared objects p q s t b made_p made_q first second is =
+    let left = has_type_name objects p made_p in
+    let right = has_type_name objects q made_q in
+    let refusal : Reply = not_supported (codes "<") left.0 right.0 in
+    let texts : Reply = on_both (text_of p) (text_of q) (λ s t. truth (text_less s t)) refusal in (
+      left.0,
+      right.0,
+      left.1,
+      right.1,
+      ap truth is
+          ∙ sym (on_both_none (number_of p) (number_of q) (λ m n. truth (int_lt m n)) texts (text_no_number p s first) ∙ on_both_there (text_of p) (text_of q) s t (λ s t. truth (text_less s t)) refusal first second),
+    )
+
+on_both_gives : {A : Type 0} (objects : List Payload) (a b : Option A) (f : A → A → Reply) (other : Reply) → ((x y : A) → IsThere objects (f x y)) → IsThere objects other → IsThere objects (on_both a b f other)
+on_both_gives objects None b f other here there = there
+on_both_gives objects (Some x) None f other here there = there
+on_both_gives objects (Some x) (Some y) f other here there = here x y
+
+whole_gives : (objects : List Payload) (n : ℤ) → IsThere objects (whole n)
+whole_gives objects n =
+    let P : Bool → Type 0 = λ b. IsThere objects (cond b (Has (payload.Int n)) (Fails OverflowError (codes "integer out of range"))) in
+    let cases : (b : Bool) → P b = λ b. elim b as P [ true ↦ tt | false ↦ tt ] in
+    cases (in_range n)
+
+operated_gives : (objects : List Payload) (op : BinaryOperator) (p q : Payload) (left right : Name) (reply : Reply) → operated op p q left right ≡ Some reply → IsThere objects reply
+operated_gives objects binary.Add p q left right reply is =
+    let same : sum p q left right ≡ reply = cc in
+    subst (IsThere objects) same (on_both_gives objects (text_of p) (text_of q) _ _ (λ s t. tt) (on_both_gives objects (number_of p) (number_of q) _ _ (λ m n. whole_gives objects (m +ℤ n)) tt))
+operated_gives objects binary.Subtract p q left right reply is =
+    let same : difference p q left right ≡ reply = cc in
+    subst (IsThere objects) same (on_both_gives objects (number_of p) (number_of q) _ _ (λ m n. whole_gives objects (m -ℤ n)) tt)
+operated_gives objects _ p q left right reply is = absurd (cc is)
+
+compares_gives : (objects : List Payload) (op : ComparisonOperator) (a b : Obj) (reply : Reply) → Compares objects op a b reply → IsThere objects reply
+compares_gives objects comparison.Less a b reply (p, q, left, right, has_p, has_q, is_left, is_right, is) =
+    subst (IsThere objects) (sym is) (on_both_gives objects (number_of p) (number_of q) _ _ (λ m n. tt) (on_both_gives objects (text_of p) (text_of q) _ _ (λ s t. tt) tt))
+compares_gives objects comparison.Equal a b reply (p, q, has_p, has_q, is) = subst (IsThere objects) (sym is) tt
+compares_gives objects _ a b reply is = absurd is
+
+found_gives : (objects : List Payload) (x : Name) (v : Option Obj) → declared objects x ≡ v → IsThere objects (found x v)
+found_gives objects x None is = tt
+found_gives objects x (Some v) is = declared_within objects x v is
+
+-- an object that is replied is there
+pub replied_there : (objects : List Payload) (r : Request) (reply : Reply) → Replies objects r reply → IsThere objects reply
+replied_there objects (request.Binary op a b) reply (p, q, left, right, has_p, has_q, is_left, is_right, is) = operated_gives objects op p q left right reply is
+replied_there objects (request.Compare op a b) reply compares = compares_gives objects op a b reply compares
+replied_there objects (request.Truth v) reply (p, has, is) = subst (IsThere objects) (sym is) tt
+replied_there objects (request.Global globals x) reply is = subst (IsThere objects) (sym is) (found_gives objects x (declared objects x) refl)
+replied_there objects (request.Show v) reply is = subst (IsThere objects) (sym is) tt
+replied_there objects (request.Unbound x) reply is = subst (IsThere objects) (sym is) tt
+replied_there objects _ reply is = absurd is

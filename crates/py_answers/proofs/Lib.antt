@@ -1,0 +1,6 @@
+-- what is read of objects
+pub mod ReadingLemmas
+-- replies by cases on the operands
+pub mod AnswersLemmas
+-- replies among more objects
+pub mod RepliesLemmas

@@ -1,0 +1,2 @@
+-- the objects that new exceptions add
+pub mod MakingLemmas

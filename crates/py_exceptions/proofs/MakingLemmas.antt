@@ -1,0 +1,100 @@
+-- New exceptions: the objects that they add.
+use Rattle.std.proofs.Common.{◌≡◌, ◌≤◌, ◌+◌, List, [], ◌∷◌, refl, ap, subst, ◌∙◌, length, length-append, arith}
+use Rattle.std.proofs.lemmas.Option.{slice_get_within}
+use Rattle.py_objects.specs.declared.refs.PyTypeRef.{PyTypeRef}
+use Rattle.py_objects.specs.declared.refs.PyBaseExceptionRef.{PyBaseExceptionRef}
+use Rattle.py_objects.specs.declared.payload.Payload.{Payload}
+use Rattle.py_objects.specs.declared.payload.Payload.TheVariants as payload
+use Rattle.py_objects.specs.declared.payload.ErrorKind.{ErrorKind}
+use Rattle.py_objects.specs.Objects.{Obj, Name, HasPayload, class_object, declares, name_of, payload_numbers, numbers, AllBelow}
+use Rattle.py_objects.specs.Growth.{Grows, IsGrown, with_object}
+use Rattle.py_objects.specs.Values.{new_exception}
+use Rattle.py_objects.specs.Edits.{Kept}
+use Rattle.py_objects.proofs.GrowthLemmas.{payload_grown, declared_grown}
+use Rattle.py_exceptions.specs.declared.zoo.ExceptionZoo.{ExceptionZoo}
+use Rattle.py_exceptions.specs.Classes.{class_of, HaveClasses}
+use Rattle.py_exceptions.specs.Making.{IsClass, IsNewInstance, IsNewException}
+use Rattle.py_objects.proofs.GrownLemmas.{objects_grow, grown_trans, added_grown, added_made, added_below}
+use Rattle.py_objects.proofs.NewLemmas.{added_has}
+
+-- the objects of a new instance: the tuple of its arguments, and itself
+pub record AreInstance (s0 s1 s2 : Kept) (class : PyTypeRef) (arguments : List Obj) (args e : Obj) : Type 0 where
+  pub args_added : s1 ≡ with_object s0 (payload.Tuple arguments)
+  pub args_last : args.number ≡ length s0.made
+  pub entry_added : s2 ≡ with_object s1 (payload.Exception (new_exception class args))
+  pub last : e.number ≡ length s1.made
+
+pub text_grows : (s0 s1 : Kept) (text : Name) → s1 ≡ with_object s0 (payload.Str text) → IsGrown s0 s1
+text_grows s0 s1 text added = added_grown s0 s1 (payload.Str text) added refl (λ fit. tt) (λ fit. tt)
+
+pub tuple_grows : (s0 s1 : Kept) (arguments : List Obj) → AllBelow (length s0.made) (numbers arguments) → s1 ≡ with_object s0 (payload.Tuple arguments) → IsGrown s0 s1
+tuple_grows s0 s1 arguments below added = added_grown s0 s1 (payload.Tuple arguments) added refl (λ fit. below) (λ fit. tt)
+
+-- a class stays the declared one of its name
+pub class_stays : (s0 s1 : Kept) (class : PyTypeRef) → IsGrown s0 s1 → IsClass s0.made class → IsClass s1.made class
+class_stays s0 s1 class grown (c, has, is) =
+    let more : Grows s0.made s1.made = objects_grow s0 s1 grown in (c, payload_grown s0.made s1.made _ _ more has, declared_grown s0.made s1.made c.name (class_object class) more is)
+
+-- what a new instance names is below, also where it isn't among the objects yet
+pub instance_below : (s0 s1 : Kept) (class : PyTypeRef) (arguments : List Obj) (args : Obj)
+    → IsClass s0.made class → AllBelow (length s0.made) (numbers arguments) → s1 ≡ with_object s0 (payload.Tuple arguments) → args.number ≡ length s0.made
+    → AllBelow (length s1.made) (payload_numbers (payload.Exception (new_exception class args)))
+instance_below s0 s1 class arguments args is below added last =
+    let (c, has, declares) = class_stays s0 s1 class (tuple_grows s0 s1 arguments below added) is in
+    (slice_get_within s1.made class.number _ has, (added_below s0 s1 (payload.Tuple arguments) args.number added last, tt))
+
+pub instance_grows : (s0 s1 s2 : Kept) (class : PyTypeRef) (arguments : List Obj) (args e : Obj)
+    → IsClass s0.made class → AllBelow (length s0.made) (numbers arguments) → AreInstance s0 s1 s2 class arguments args e → IsGrown s0 s2
+instance_grows s0 s1 s2 class arguments args e is below x =
+    let front : IsGrown s0 s1 = tuple_grows s0 s1 arguments below x.args_added in
+    let (c, has, declares) = class_stays s0 s1 class front is in
+    grown_trans s0 s1 s2 front
+    (added_grown s1 s2 (payload.Exception (new_exception class args)) x.entry_added refl
+    (λ fit. instance_below s0 s1 class arguments args is below x.args_added x.args_last)
+    (λ fit. record {
+      class = c;
+      is_class = has;
+      is_declared = declares;
+      arguments = arguments;
+      are_arguments = added_has s0 s1 (payload.Tuple arguments) args x.args_added x.args_last;
+      cause = tt;
+      context = tt;
+      traceback = tt;
+    }))
+
+pub instance_new : (s0 s1 s2 : Kept) (class : PyTypeRef) (arguments : List Obj) (args e : Obj)
+    → AreInstance s0 s1 s2 class arguments args e → IsNewInstance s0.made s2.made class arguments (record { number = e.number })
+instance_new s0 s1 s2 class arguments args e x =
+    let entry : Payload = payload.Exception (new_exception class args) in
+    let n1 : length s1.made ≡ length s0.made + 1 = ap length (added_made s0 s1 (payload.Tuple arguments) x.args_added) ∙ length-append s0.made (payload.Tuple arguments ∷ []) in
+    let last : e.number ≡ length s1.made = x.last in
+    record {
+      later = omega (arith, n1, last);
+      below = added_below s1 s2 entry e.number x.entry_added x.last;
+      args = args;
+      entry = added_has s1 s2 entry e x.entry_added x.last;
+      are = payload_grown s1.made s2.made args (payload.Tuple arguments) (entry ∷ [], added_made s1 s2 entry x.entry_added) (added_has s0 s1 (payload.Tuple arguments) args x.args_added x.args_last);
+    }
+
+-- a new instance whose one argument is a text that was added is an exception with that text
+pub exception_new : (s0 s1 s2 : Kept) (class : PyTypeRef) (text : Name) (argument : Obj) (items : List Obj) (e : PyBaseExceptionRef)
+    → s1 ≡ with_object s0 (payload.Str text) → argument.number ≡ length s0.made → items ≡ argument ∷ [] → IsGrown s1 s2 → IsNewInstance s1.made s2.made class items e
+    → IsNewException s0.made s2.made class text e
+exception_new s0 s1 s2 class text argument items e added last are grown x =
+    let n1 : length s1.made ≡ length s0.made + 1 = ap length (added_made s0 s1 (payload.Str text) added) ∙ length-append s0.made (payload.Str text ∷ []) in
+    let later : length s1.made ≤ e.number = x.later in
+    record {
+      argument = argument;
+      message = payload_grown s1.made s2.made argument (payload.Str text) (objects_grow s1 s2 grown) (added_has s0 s1 (payload.Str text) argument added last);
+      made = record {
+        later = omega (arith, n1, later);
+        below = x.below;
+        args = x.args;
+        entry = x.entry;
+        are = subst (λ vs. HasPayload s2.made x.args (payload.Tuple vs)) are x.are;
+      };
+    }
+
+-- each built-in class is the declared one of its name
+pub built_in_class : (zoo : ExceptionZoo) (objects : List Payload) (kind : ErrorKind) → HaveClasses zoo objects → IsClass objects (class_of zoo kind)
+built_in_class zoo objects kind classes = (record { name = name_of kind }, (classes kind).0, (classes kind).1)

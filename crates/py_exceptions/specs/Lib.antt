@@ -1,0 +1,4 @@
+-- the built-in classes among the objects
+pub mod Classes
+-- new exceptions
+pub mod Making

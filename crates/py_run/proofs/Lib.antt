@@ -1,0 +1,6 @@
+-- a run as objects and drives grow, and as an event comes
+pub mod RunLemmas
+-- arguments that bind, and runs over more signatures
+pub mod BoundLemmas
+-- own events and the state as an event comes
+pub mod OwnLemmas

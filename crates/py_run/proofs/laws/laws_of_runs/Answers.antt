@@ -1,0 +1,16 @@
+use Rattle.std.proofs.Common.{[]}
+use Rattle.py_run.specs.Run.{start}
+use Rattle.py_run.proofs.RunLemmas.{comes_front, comes_grow, comes_more, comes_on}
+use Rattle.py_run.proofs.laws.laws_of_runs.Goals as goal
+
+pub returns-clause-grow : goal.returns-clause-grow
+returns-clause-grow c = λ plan objects objects' events grows comes. comes_grow plan objects objects' [] start events grows comes
+
+pub returns-clause-more : goal.returns-clause-more
+returns-clause-more c = λ signatures asked more objects events comes. comes_more (record { signatures = signatures; asked = asked }) more objects events comes
+
+pub returns-clause-on : goal.returns-clause-on
+returns-clause-on c = λ plan objects events e comes may. comes_on plan objects [] start events e comes may
+
+pub returns-clause-fronts : goal.returns-clause-fronts
+returns-clause-fronts c = λ plan objects front more comes. comes_front plan objects [] start front more comes
