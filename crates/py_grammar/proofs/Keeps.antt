@@ -1,5 +1,5 @@
 -- What the rules on scripts keep for the layers above.
-use Rattle.std.proofs.Common.{◌≡◌, ◌≢◌, ◌<◌, ◌≤◌, ℕ, List, [], ◌∷◌, ◌++◌, ◌+◌, Some, slice_get, length, Bool, true, false, ◌&&◌, ◌||◌, not, refl, sym, ap, ◌∙◌, append_assoc, append-nil, subst, arith, map, get_or, suc, zero}
+use Rattle.std.proofs.Common.{◌≡◌, ◌≢◌, ◌<◌, ◌≤◌, ℕ, List, [], ◌∷◌, ◌++◌, ◌+◌, Some, slice_get, length, Bool, true, false, ◌&&◌, ◌||◌, not, refl, sym, ap, inl, inr, ◌∙◌, append_assoc, append-nil, subst, arith, map, get_or, suc, zero}
 use Rattle.std.proofs.lemmas.List.{map-append}
 use Rattle.std.proofs.lemmas.List.Elements.{All-nil, All-cons}
 use Rattle.std.proofs.lemmas.List.Kept.{AllPairs-cons}
@@ -13,7 +13,7 @@ use Rattle.py_tree.specs.declared.expr.Expr.{Expr}
 use Rattle.py_tree.specs.declared.expr.Expr.TheVariants as expr
 use Rattle.py_tree.specs.declared.expr.Operation.{Operation}
 use Rattle.py_tree.specs.declared.expr.Operation.TheVariants as operation
-use Rattle.py_tree.specs.Tree.{Name, Form, Assign, Do, Show, Return, Break, Continue, Pass, If, IfElse, While, Suite, nothing, first, Tree}
+use Rattle.py_tree.specs.Tree.{Name, Form, Assign, Do, Raise, Reraise, Break, Continue, If, IfElse, While, TryExcept, TryFinally, Suite, nothing, first, Tree}
 use Rattle.py_tree.specs.Compilable.{OperationFits, ExprFits, FormFits, SuiteFits, statements}
 use Rattle.py_tree.specs.Unguarded.{FormIsUnguarded, IsUnguarded}
 use Rattle.py_lines.specs.declared.drive.DriveAtom.{DriveAtom}
@@ -24,11 +24,11 @@ use Rattle.py_lines.specs.declared.head.Head.TheVariants as head
 use Rattle.py_grammar.specs.declared.rules.Inside.{Inside}
 use Rattle.py_grammar.specs.declared.script.Kind.TheVariants as kind
 use Rattle.py_grammar.specs.declared.script.Script.{Script}
-use Rattle.py_grammar.specs.Rules.{Declared, is_among, all_differ, declares, declares_callable, is_builtin_class, may_declare, is_drivable, may_drive, is_usable, is_bindable, may_operate, may_compute, body_of, within}
+use Rattle.py_grammar.specs.Rules.{Declared, is_among, all_differ, declares, declares_callable, is_builtin_class, may_declare, is_drivable, may_drive, may_operate, may_compute, body_of, within}
 use Rattle.py_grammar.specs.Grammar.{Item, Declares, Drives, declared_as, WellForm, WellSuite, WellItems, items_rows, trees_in, drives_in}
 use Rattle.py_grammar.specs.Script.{IsScript}
 use Rattle.py_grammar.specs.Tables.{names_of}
-use Rattle.py_grammar.specs.WellFormed.{AreDistinct, IsWellDeclared, IsDrivable, IsWellDriven, AreWellFormed, IsWellFormed}
+use Rattle.py_grammar.specs.WellFormed.{AreDistinct, IsKnown, IsWellDeclared, IsDrivable, IsWellDriven, AreWellFormed, IsWellFormed}
 use Rattle.py_grammar.proofs.Short.{tree_size, script_size}
 use Rattle.py_grammar.proofs.Tables.{declares-names, callable-names}
 use Rattle.py_grammar.proofs.Whole.{well_behind_one}
@@ -60,9 +60,7 @@ all_by_test p P f (x ∷ xs) h = let parts = and_parts (p x) (list_all p xs) h i
 
 -- calls have few arguments
 operation_keeps : (o : Operation) → may_operate o ≡ true → OperationFits o
-operation_keeps (operation.Call f args) w =
-    let few : Bool = nat_le (length args) 255 in
-    leb-true (length args) 255 (and_parts (is_usable f) few (and_parts (is_usable f && few) (list_all is_usable args) w).0).1
+operation_keeps (operation.Call f args) w = leb-true (length args) 255 w
 operation_keeps o w = tt
 
 expr_keeps : (e : Expr) → may_compute e ≡ true → ExprFits e
@@ -72,20 +70,21 @@ expr_keeps (expr.Operation o) w = operation_keeps o w
 -- statements can be compiled where they stand, and guard nothing
 mutual
   form_keeps : (i : Inside) (f : Form) → WellForm i f → FormFits i.in_loop f × FormIsUnguarded f
-  form_keeps i (Assign x e) w = (expr_keeps e (and_parts (is_bindable x) (may_compute e) w).1, tt)
+  form_keeps i (Assign x e) w = (expr_keeps e w, tt)
   form_keeps i (Do o) w = (operation_keeps o w, tt)
-  form_keeps i (Show a) w = (tt, tt)
-  form_keeps i (Return a) w = (tt, tt)
   form_keeps i Break w = (w, tt)
   form_keeps i Continue w = (w, tt)
-  form_keeps i Pass w = (tt, tt)
   form_keeps i (If a s) w = suite_keeps (within i (head.If a)) s w.1
   form_keeps i (IfElse a s t) w =
       let one = suite_keeps (within i (head.If a)) s w.1.0 in
       let other = suite_keeps (within i (head.If a)) t w.1.1 in
       ((one.0, other.0), (one.1, other.1))
   form_keeps i (While a s) w = suite_keeps (within i (head.While a)) s w.1
-  form_keeps i f w = absurd w
+  form_keeps i (Raise a) w = absurd w
+  form_keeps i Reraise w = absurd w
+  form_keeps i (TryExcept s cs) w = absurd w
+  form_keeps i (TryFinally s t) w = absurd w
+  form_keeps i f w = (tt, tt)
 
   suite_keeps : (i : Inside) (s : Suite) → WellSuite i s → SuiteFits i.in_loop s × IsUnguarded s
   suite_keeps i nothing w = (tt, tt)
@@ -162,8 +161,16 @@ declared_by_test x ts more h =
     let a = Any-from_list_any named (ts ++ more) (list_any-append named ts more ∙ or_left (list_any named ts) (list_any named more) (named_among x ts ∙ h)) in
     (a.0, a.1, a.2, a.3, sym ((bytes_eq-Decides x a.1.name).0 a.4))
 
+-- a name that is declared here, or a class's, means something with more behind
+known_by_test : (x : Name) (ts more : List Tree) → (declares x (map declared_as ts) || is_builtin_class x) ≡ true → IsKnown (ts ++ more) x
+known_by_test x ts more h = go (declares x (map declared_as ts)) refl h
+  where
+    go : (b : Bool) → b ≡ declares x (map declared_as ts) → (b || is_builtin_class x) ≡ true → IsKnown (ts ++ more) x
+    go true is known = inl (declared_by_test x ts more (sym (declares-names x ts) ∙ sym is))
+    go false is known = inr known
+
 drivable_by_test : (ts more : List Tree) (made : ℕ) (a : DriveAtom) → is_drivable (map declared_as ts) made a ≡ true → IsDrivable (ts ++ more) made a
-drivable_by_test ts more made (argument.Name x) h = declared_by_test x ts more (sym (declares-names x ts) ∙ h)
+drivable_by_test ts more made (argument.Name x) h = known_by_test x ts more h
 drivable_by_test ts more made (argument.Drive n) h = (leb-true 1 n (and_parts (nat_le 1 n) (nat_le n made) h).0, leb-true n made (and_parts (nat_le 1 n) (nat_le n made) h).1)
 drivable_by_test ts more made a h = tt
 

@@ -43,9 +43,9 @@ open_rows o = behind_header o (blocks_rows o.blocks ++ suite_rows o.done)
 
 -- an open block keeps the rules where it stands
 abbrev pub WellBegan : Inside → Began → Type 0
-WellBegan i (in_if a) = may_open i (head.If a) ≡ true
-WellBegan i (in_else a s) = (may_open i (head.If a) ≡ true) × WellSuite (within i (head.If a)) s
-WellBegan i (in_while a) = may_open i (head.While a) ≡ true
+WellBegan i (in_if a) = may_open i ≡ true
+WellBegan i (in_else a s) = (may_open i ≡ true) × WellSuite (within i (head.If a)) s
+WellBegan i (in_while a) = may_open i ≡ true
 
 abbrev pub WellBlocks : Kind → List Block → Type 0
 WellBlocks k [] = Unit {0}
@@ -67,7 +67,7 @@ plain_lays i n plain.Pass w = (refl, w)
 plain_lays i n p w = (refl, w)
 
 -- a line that opens a block is the row of its beginning
-head_lays : (i : Inside) (n : ℕ) (h : Head) → may_open i h ≡ true → (began_rows n (began h) ≡ head_row n h ∷ []) × WellBegan i (began h)
+head_lays : (i : Inside) (n : ℕ) (h : Head) → may_open i ≡ true → (began_rows n (began h) ≡ head_row n h ∷ []) × WellBegan i (began h)
 head_lays i n (head.If a) w = (refl, w)
 head_lays i n h w = (refl, w)
 
@@ -128,7 +128,7 @@ grows_by ts o n f r e w v = (
 )
 
 -- and by a block that is opened
-grows_deeper : (ts : List Tree) (o : Open) (n : ℕ) (h : Head) → WellOpen ts o → may_open (inside o) h ≡ true → Grows ts o (head_row n h) (Some (deeper o n h))
+grows_deeper : (ts : List Tree) (o : Open) (n : ℕ) (h : Head) → WellOpen ts o → may_open (inside o) ≡ true → Grows ts o (head_row n h) (Some (deeper o n h))
 grows_deeper ts o n h w v =
     let lays = head_lays (inside o) n h v in (
       ap (λ x. behind_header o ((blocks_rows o.blocks ++ (suite_rows o.done ++ x)) ++ [])) lays.0

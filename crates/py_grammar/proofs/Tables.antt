@@ -45,7 +45,7 @@ may_head_names ts names f ps is =
 -- the rule on an argument of a drive, by the table
 drivable-names : (ts : List Tree) (names : List Name) (made : ℕ) (a : DriveAtom) → names ≡ names_of ts
     → is_drivable_by names made a ≡ is_drivable (map declared_as ts) made a
-drivable-names ts names made (argument.Name x) is = ap (is_among x) is ∙ sym (declares-names x ts)
+drivable-names ts names made (argument.Name x) is = ap (λ b. b || is_builtin_class x) (ap (is_among x) is ∙ sym (declares-names x ts))
 drivable-names ts names made a is = refl
 
 all_alike : {X : Type 0} (p q : X → Bool) → ((x : X) → p x ≡ q x) → (xs : List X) → list_all p xs ≡ list_all q xs

@@ -53,7 +53,7 @@ module _ (ts : List Tree) (ds : List DriveLine) (line : ℕ) (k : Kind) (name : 
       → run (body_at bs done) (plain_rows n p ++ rest) ≡ run (body_at bs (add done n (plain_form p))) rest
   plain_read p n bs done rest w = rw w refl
 
-  head_read : (h : Head) (n : ℕ) (bs : List Block) (done : Suite) (rest : List Row) → may_open (inside_of k bs) h ≡ true
+  head_read : (h : Head) (n : ℕ) (bs : List Block) (done : Suite) (rest : List Row) → may_open (inside_of k bs) ≡ true
       → run (body_at bs done) (head_row n h ∷ rest) ≡ run (body_at (block done n (began h) ∷ bs) nothing) rest
   head_read h n bs done rest w = rw w refl
 

@@ -110,9 +110,9 @@ abbrev mutual
   WellForm i Break = may_hold i plain.Break ≡ true
   WellForm i Continue = may_hold i plain.Continue ≡ true
   WellForm i Pass = may_hold i plain.Pass ≡ true
-  WellForm i (If a s) = (may_open i (head.If a) ≡ true) × WellSuite (within i (head.If a)) s
-  WellForm i (IfElse a s t) = (may_open i (head.If a) ≡ true) × (WellSuite (within i (head.If a)) s × WellSuite (within i (head.If a)) t)
-  WellForm i (While a s) = (may_open i (head.While a) ≡ true) × WellSuite (within i (head.While a)) s
+  WellForm i (If a s) = (may_open i ≡ true) × WellSuite (within i (head.If a)) s
+  WellForm i (IfElse a s t) = (may_open i ≡ true) × (WellSuite (within i (head.If a)) s × WellSuite (within i (head.If a)) t)
+  WellForm i (While a s) = (may_open i ≡ true) × WellSuite (within i (head.While a)) s
   WellForm i (TryExcept s cs) = ⊥
   WellForm i (TryFinally s t) = ⊥
 

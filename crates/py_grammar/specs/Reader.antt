@@ -109,7 +109,7 @@ turned o t (b ∷ bs) = option_map (turned_to o b bs) (turned_by t b.began o.don
 abbrev pub goes_on : Open → ℕ → Line → Option Open
 goes_on o n line.End = None
 goes_on o n (line.Plain p) = only_if (may_hold (inside o) p) (grown o n (plain_form p))
-goes_on o n (line.Opens h) = only_if (may_open (inside o) h) (deeper o n h)
+goes_on o n (line.Opens h) = only_if (may_open (inside o)) (deeper o n h)
 goes_on o n (line.Turns t) = turned o t o.blocks
 goes_on o n (line.Header h) = None
 goes_on o n (line.Drive d) = None

@@ -2,8 +2,6 @@
 use Rattle.std.specs.Prelude.{ℕ, suc, List, [], ◌∷◌, length, Bool, true, false, ◌&&◌, ◌||◌, not, nat_le, nat_lt, bytes_eq, map}
 use Rattle.std.specs.List.{list_any, list_all}
 use Rattle.py_objects.specs.Objects.{error_kinds, name_of}
-use Rattle.py_tree.specs.declared.expr.Atom.{Atom}
-use Rattle.py_tree.specs.declared.expr.Atom.TheVariants as atom
 use Rattle.py_tree.specs.declared.expr.Expr.{Expr}
 use Rattle.py_tree.specs.declared.expr.Expr.TheVariants as expr
 use Rattle.py_tree.specs.declared.expr.Operation.{Operation}
@@ -56,13 +54,13 @@ abbrev pub may_declare : List Declared → Name → List Name → Bool
 may_declare ds f ps = not (declares f ds) && not (is_builtin_class f) && all_differ ps && nat_le (length ps) 255
 
 -- whether, behind these declarations and so many drives, a drive may have this argument:
--- a literal, the name of a declaration, or the number of a drive
+-- a literal, the name of a declaration or of a built-in class, or the number of a drive
 abbrev pub is_drivable : List Declared → ℕ → DriveAtom → Bool
 is_drivable ds made argument.None = true
 is_drivable ds made (argument.Bool b) = true
 is_drivable ds made (argument.Int n) = true
 is_drivable ds made (argument.Str s) = true
-is_drivable ds made (argument.Name x) = declares x ds
+is_drivable ds made (argument.Name x) = declares x ds || is_builtin_class x
 is_drivable ds made (argument.Drive n) = nat_le 1 n && nat_le n made
 
 -- whether, behind these declarations and so many drives, this drive may stand: it calls what can be called,
@@ -72,28 +70,16 @@ may_drive ds made (drive.Call f args) = declares_callable f ds && nat_le (length
 
 -- ---- what stands in a body
 
--- whether an atom may stand in a body: it isn't the name of a built-in class
-abbrev pub is_usable : Atom → Bool
-is_usable atom.None = true
-is_usable (atom.Bool b) = true
-is_usable (atom.Int n) = true
-is_usable (atom.Str s) = true
-is_usable (atom.Name x) = not (is_builtin_class x)
-
--- whether a name may be bound in a body
-abbrev pub is_bindable : Name → Bool
-is_bindable x = not (is_builtin_class x)
-
--- whether an operation may: each of its atoms may, and a call has at most 255 arguments
+-- whether an operation may stand in a body: a call has at most 255 arguments
 abbrev pub may_operate : Operation → Bool
-may_operate (operation.Add a b) = is_usable a && is_usable b
-may_operate (operation.Sub a b) = is_usable a && is_usable b
-may_operate (operation.Lt a b) = is_usable a && is_usable b
-may_operate (operation.Eq a b) = is_usable a && is_usable b
-may_operate (operation.Call f atoms) = is_usable f && nat_le (length atoms) 255 && list_all is_usable atoms
+may_operate (operation.Add a b) = true
+may_operate (operation.Sub a b) = true
+may_operate (operation.Lt a b) = true
+may_operate (operation.Eq a b) = true
+may_operate (operation.Call f atoms) = nat_le (length atoms) 255
 
 abbrev pub may_compute : Expr → Bool
-may_compute (expr.Atom a) = is_usable a
+may_compute (expr.Atom a) = true
 may_compute (expr.Operation o) = may_operate o
 
 -- ---- where it stands
@@ -112,19 +98,14 @@ within i h = record { kind = i.kind; blocks = suc i.blocks; in_loop = is_loop h 
 
 -- whether a plain statement may stand somewhere
 abbrev pub may_hold : Inside → Plain → Bool
-may_hold i (plain.Assign x e) = is_bindable x && may_compute e
+may_hold i (plain.Assign x e) = may_compute e
 may_hold i (plain.Do o) = may_operate o
-may_hold i (plain.Show a) = is_usable a
-may_hold i (plain.Return a) = is_usable a
+may_hold i (plain.Show a) = true
+may_hold i (plain.Return a) = true
 may_hold i plain.Break = i.in_loop
 may_hold i plain.Continue = i.in_loop
 may_hold i plain.Pass = true
 
--- whether this line may open a block, by itself
-abbrev pub may_begin : Head → Bool
-may_begin (head.If a) = is_usable a
-may_begin (head.While a) = is_usable a
-
--- and whether it may there: at most 64 blocks are open at once, the body among them
-abbrev pub may_open : Inside → Head → Bool
-may_open i h = nat_lt i.blocks 64 && may_begin h
+-- whether a block may be opened there: at most 64 are open at once, the body among them
+abbrev pub may_open : Inside → Bool
+may_open i = nat_lt i.blocks 64

@@ -1,5 +1,5 @@
 -- What a reader keeps, and the names that its table has.
-use Rattle.std.specs.Prelude.{ℕ, Option, Some, None, List, [], ◌∷◌, ◌++◌, ◌&&◌, not, nat_le, length, Bool, true, map}
+use Rattle.std.specs.Prelude.{ℕ, Option, Some, None, List, [], ◌∷◌, ◌++◌, ◌&&◌, ◌||◌, not, nat_le, length, Bool, true, map}
 use Rattle.std.specs.List.{list_all}
 use Rattle.py_tree.specs.Tree.{Name, Tree}
 use Rattle.py_lines.specs.declared.drive.DriveAtom.{DriveAtom}
@@ -34,7 +34,7 @@ is_drivable_by names made argument.None = true
 is_drivable_by names made (argument.Bool b) = true
 is_drivable_by names made (argument.Int n) = true
 is_drivable_by names made (argument.Str s) = true
-is_drivable_by names made (argument.Name x) = is_among x names
+is_drivable_by names made (argument.Name x) = is_among x names || is_builtin_class x
 is_drivable_by names made (argument.Drive n) = nat_le 1 n && nat_le n made
 
 -- and whether a drive may stand

@@ -1,5 +1,5 @@
 -- What every script keeps, as the layers above need it.
-use Rattle.std.specs.Prelude.{◌≡◌, ◌≢◌, ◌≤◌, ℕ, List, Some, length, false, All, Any, AllPairs, map, slice_get}
+use Rattle.std.specs.Prelude.{◌≡◌, ◌≢◌, ◌≤◌, ◌⊎◌, ℕ, List, Some, length, true, false, All, Any, AllPairs, map, slice_get}
 use Rattle.py_tree.specs.Compilable.{IsCompilable}
 use Rattle.py_tree.specs.Tree.{Name, Tree}
 use Rattle.py_tree.specs.Unguarded.{IsUnguarded}
@@ -21,13 +21,17 @@ pub record IsWellDeclared (t : Tree) : Type 0 where
   pub compilable : IsCompilable t
   pub unguarded : IsUnguarded t.suite
 
--- among these declarations and behind so many drives, an argument of a drive is a literal, the name of a declaration or the number of a drive
+-- a name that stands for something among these declarations: it is that of one, or of a built-in class
+abbrev pub IsKnown : List Tree → Name → Type 0
+IsKnown trees x = Any (λ t. t.name ≡ x) trees ⊎ (is_builtin_class x ≡ true)
+
+-- among these declarations and behind so many drives, an argument of a drive is a literal, such a name or the number of a drive
 abbrev pub IsDrivable : List Tree → ℕ → DriveAtom → Type 0
 IsDrivable trees made argument.None = Unit {0}
 IsDrivable trees made (argument.Bool b) = Unit {0}
 IsDrivable trees made (argument.Int n) = Unit {0}
 IsDrivable trees made (argument.Str s) = Unit {0}
-IsDrivable trees made (argument.Name x) = Any (λ t. t.name ≡ x) trees
+IsDrivable trees made (argument.Name x) = IsKnown trees x
 IsDrivable trees made (argument.Drive n) = (1 ≤ n) × (n ≤ made)
 
 -- behind so many drives, one of these functions is called with such arguments

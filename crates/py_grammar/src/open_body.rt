@@ -171,7 +171,7 @@ impl OpenBody {
     fn open(self, alloc: Global, number: u32, head: Head) -> Result<Option<OpenBody>, NoMemory>
         ensures { IfOk result (λ next. option_map open_of next ≡ goes_on (open_of self) number (OpensLine head)) }
     {
-        if !may_open(self.inside(), &head) {
+        if !may_open(self.inside()) {
             return Ok(None);
         }
         let mut body = self;

@@ -3,19 +3,17 @@
 ghost use Rattle.std.specs.Prelude.{◌≡◌, length, bytes_eq, map};
 ghost use Rattle.std.specs.List.{list_any, list_all};
 ghost use Rattle.py_objects.specs.Objects.{name_of};
-ghost use Rattle.py_tree.specs.declared.expr.Operation.TheVariants as operation;
 ghost use Rattle.py_grammar.specs.Grammar.{declared_as};
 ghost use Rattle.py_grammar.specs.Script.{trees_of};
 ghost use Rattle.py_grammar.specs.Rules.{is_among as is_among_names, all_differ as do_all_differ, is_builtin_class as is_builtin};
-ghost use Rattle.py_grammar.specs.Rules.{is_bindable as is_bindable_name, is_usable as is_usable_atom, may_begin as may_begin_by};
 ghost use Rattle.py_grammar.specs.Rules.{may_compute as may_be_computed, may_drive as may_be_driven, may_hold as may_be_held, may_open as may_be_opened, may_operate as may_be_operated};
 ghost use Rattle.py_grammar.specs.Tables.{may_head, names_of, is_drivable_by, may_drive_by};
 
 use crate::script::{Kind, Script};
 use py_code::{NameSet, PyText, same_text};
-use py_lines::{DriveAtom, DriveLine, Head, Plain};
+use py_lines::{DriveAtom, DriveLine, Plain};
 use py_objects::ErrorKind;
-use py_tree::{Atom, AtomList, Expr, Operation, ParamList};
+use py_tree::{Expr, Operation, ParamList};
 
 /// How many blocks may be open at once, the body among them.
 const MOST_BLOCKS: usize = 64;
@@ -69,15 +67,6 @@ fn is_word(text: &PyText, word: &[u8]) -> bool
     bytes.is_empty()
 }
 
-/// The classes that are there without a declaration.
-const ERROR_KINDS: [ErrorKind; 5] = [
-    ErrorKind::NameError,
-    ErrorKind::OverflowError,
-    ErrorKind::RecursionError,
-    ErrorKind::TypeError,
-    ErrorKind::UnboundLocalError,
-];
-
 /// Whether a name is that of one of these classes.
 fn is_name_of(name: &PyText, kinds: &[ErrorKind]) -> bool
     ensures { result ≡ list_any (λ kind. bytes_eq name.now (name_of kind)) kinds.now }
@@ -89,7 +78,7 @@ fn is_name_of(name: &PyText, kinds: &[ErrorKind]) -> bool
 fn is_builtin_class(name: &PyText) -> bool
     ensures { result ≡ is_builtin name.now }
 {
-    is_name_of(name, &ERROR_KINDS)
+    is_name_of(name, &ErrorKind::ALL)
 }
 
 /// Whether a function may have this name and these parameters, behind declarations with the names of the table.
@@ -112,7 +101,7 @@ fn is_drivable(names: &NameSet, made: usize, atom: &DriveAtom) -> bool
         DriveAtom::Bool(_) => true,
         DriveAtom::Int(_) => true,
         DriveAtom::Str(_) => true,
-        DriveAtom::Name(name) => names.contains(name),
+        DriveAtom::Name(name) => names.contains(name) || is_builtin_class(name),
         DriveAtom::Drive(number) => 1 <= *number && *number <= made as u64,
     }
 }
@@ -143,49 +132,14 @@ pub fn may_drive(names: &NameSet, whole: &Script, drive: &DriveLine) -> bool
     may_follow(names, whole.drives.len(), drive)
 }
 
-/// Whether a name may be bound in a body.
-fn is_bindable(name: &PyText) -> bool
-    ensures { result ≡ is_bindable_name name.now }
-{
-    !is_builtin_class(name)
-}
-
-/// Whether an atom may stand in a body.
-fn is_usable(atom: &Atom) -> bool
-    ensures { result ≡ is_usable_atom atom.now }
-{
-    match atom {
-        Atom::None => true,
-        Atom::Bool(_) => true,
-        Atom::Int(_) => true,
-        Atom::Str(_) => true,
-        Atom::Name(name) => !is_builtin_class(name),
-    }
-}
-
-fn are_usable(atoms: &[Atom]) -> bool
-    ensures { result ≡ list_all is_usable_atom atoms.now }
-{
-    atoms.iter().all(is_usable)
-}
-
-/// Whether a call may have this callee and these arguments.
-fn may_call(callee: &Atom, args: &AtomList) -> bool
-    ensures { result ≡ may_be_operated (operation.Call callee.now args.now) }
-{
-    is_usable(callee) && args.len() <= 255 && are_usable(args.as_slice())
-}
-
 /// Whether an operation may stand in a body.
 fn may_operate(operation: &Operation) -> bool
     ensures { result ≡ may_be_operated operation.now }
 {
     match operation {
-        Operation::Add(left, right) => is_usable(left) && is_usable(right),
-        Operation::Sub(left, right) => is_usable(left) && is_usable(right),
-        Operation::Lt(left, right) => is_usable(left) && is_usable(right),
-        Operation::Eq(left, right) => is_usable(left) && is_usable(right),
-        Operation::Call(callee, args) => may_call(callee, args),
+        Operation::Add(_, _) | Operation::Sub(_, _) | Operation::Lt(_, _) | Operation::Eq(_, _) =>
+            true,
+        Operation::Call(_, args) => args.len() <= 255,
     }
 }
 
@@ -193,7 +147,7 @@ fn may_compute(value: &Expr) -> bool
     ensures { result ≡ may_be_computed value.now }
 {
     match value {
-        Expr::Atom(atom) => is_usable(atom),
+        Expr::Atom(_) => true,
         Expr::Operation(operation) => may_operate(operation),
     }
 }
@@ -203,29 +157,19 @@ pub fn may_hold(inside: Inside, plain: &Plain) -> bool
     ensures { result ≡ may_be_held inside plain.now }
 {
     match plain {
-        Plain::Assign(target, value) => is_bindable(target) && may_compute(value),
+        Plain::Assign(_, value) => may_compute(value),
         Plain::Do(operation) => may_operate(operation),
-        Plain::Show(atom) => is_usable(atom),
-        Plain::Return(atom) => is_usable(atom),
+        Plain::Show(_) => true,
+        Plain::Return(_) => true,
         Plain::Break => inside.in_loop,
         Plain::Continue => inside.in_loop,
         Plain::Pass => true,
     }
 }
 
-/// Whether a line may open a block, by itself.
-fn may_begin(head: &Head) -> bool
-    ensures { result ≡ may_begin_by head.now }
+/// Whether a block may be opened there.
+pub fn may_open(inside: Inside) -> bool
+    ensures { result ≡ may_be_opened inside }
 {
-    match head {
-        Head::If(atom) => is_usable(atom),
-        Head::While(atom) => is_usable(atom),
-    }
-}
-
-/// Whether it may there.
-pub fn may_open(inside: Inside, head: &Head) -> bool
-    ensures { result ≡ may_be_opened inside head.now }
-{
-    inside.blocks < MOST_BLOCKS && may_begin(head)
+    inside.blocks < MOST_BLOCKS
 }

@@ -12,15 +12,15 @@ use Rattle.py_objects.specs.Objects.{Obj, Name, numbers, AllBelow}
 use Rattle.py_rows.specs.Asked.{name_in}
 use Rattle.py_rows.specs.Signature.{characters, params_of}
 use Rattle.py_rows.specs.Sound.{AreNames, ArePlaces, IsSound}
-use Rattle.py_rows.proofs.GrowingLemmas.{slice_get_grown}
+use Rattle.py_objects.proofs.GrowthLemmas.{slice_get_grown}
 use Rattle.py_tree.specs.Tree.{Tree}
 use Rattle.py_laid.specs.Fits.{Fits, Continues}
 use Rattle.py_grammar.specs.declared.script.Declaration.{Declaration}
 use Rattle.py_grammar.specs.Script.{declared_tree}
-use Rattle.py_vm.specs.Calls.{Signature}
+use Rattle.py_run.specs.Calls.{Signature}
 use Rattle.py_vm.specs.Codes.{Checked, plain_codes, signature_in, signatures_of}
-use Rattle.py_vm.proofs.BoundLemmas.{AreSigned}
-use Rattle.py_vm.proofs.ReplyingLemmas.{newest}
+use Rattle.py_run.proofs.BoundLemmas.{AreSigned}
+use Rattle.py_objects.proofs.NewLemmas.{newest}
 use Rattle.py_script.specs.Whole.{AreCompiled, signature_of}
 use Rattle.py_script.specs.Loaded.{AreChecked, function_entries}
 

@@ -33,10 +33,10 @@ use Rattle.py_lines.specs.declared.drive.DriveLine.{DriveLine}
 use Rattle.py_lines.specs.declared.line.LineRead.{LineRead}
 use Rattle.py_lines.specs.declared.line.LineRead.TheVariants.{Said}
 use Rattle.py_grammar.specs.Grammar.{Row, Item, items_rows}
-use Rattle.py_vm.specs.declared.drive.Drive.TheVariants.{Call}
-use Rattle.py_vm.specs.Answers.{Reply, Replies, Gives, IsRaised, sum, whole}
-use Rattle.py_vm.specs.Calls.{Signature, Course, Says, Enters, refusal, bound_at, CallsAs, Calls, ComesTo}
-use Rattle.py_vm.specs.Run.{Posed, Plan, Activation, Phase, Asking, IsTop, Answers as IsAnswered, MayCome, State, question, start, state_after, Comes, EachTells}
+use Rattle.py_run.specs.declared.drive.Drive.TheVariants.{Call}
+use Rattle.py_answers.specs.Answers.{Reply, Replies, Gives, IsRaised, sum, whole}
+use Rattle.py_run.specs.Calls.{Signature, Course, Says, Enters, refusal, bound_at, CallsAs, Calls, ComesTo}
+use Rattle.py_run.specs.Run.{Posed, Plan, Activation, Phase, Asking, IsTop, Answers as IsAnswered, MayCome, State, question, start, state_after, Comes, EachTells}
 use Rattle.py_script.specs.Whole.{AreAsked, AreGlobals, AreObjects, Traces, IsRunOf, plan_of, signature_of}
 use Rattle.std.proofs.lemmas.List.Sorted.{IsPermutation-refl}
 use Rattle.py_script.specs.Worked.{object, exception, class_entry, function_entry, loaded, objects_of, entered, asked, greatest, overflowing_of, error_entry, error_objects, raising_by, raised, raises, overflow_by}

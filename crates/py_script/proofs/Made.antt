@@ -8,7 +8,7 @@ use Rattle.py_objects.specs.declared.event.Event.{Event}
 use Rattle.py_objects.specs.declared.event.Event.TheVariants as event
 use Rattle.py_objects.specs.Objects.{Obj}
 use Rattle.py_objects.specs.Own.{Own, Makes, own_if, told_by, own_from, own_events}
-use Rattle.py_vm.specs.Run.{Plan, Activation, State, start, after, state_after, Comes}
+use Rattle.py_run.specs.Run.{Plan, Activation, State, start, after, state_after, Comes}
 
 -- some event was told
 pub record HasTold (ts : List Own) : Type 0 where

@@ -1,7 +1,9 @@
 -- The objects of a script: as they are loaded, and as more come.
 use Rattle.std.proofs.Common.{◌≡◌, ◌+◌, ◌-◌, ℕ, zero, suc, List, [], ◌∷◌, ◌++◌, length, Bool, true, false, cond, ◌||◌, Some, None, refl, sym, ap, ◌∙◌, subst, arith, ◌⊎◌, inl, inr}
 use Rattle.std.specs.Prelude.{slice_get, map, codes, bytes_eq, Contains}
-use Rattle.std.proofs.lemmas.Option.{slice_get_within, get_or_from_slice_get}
+use Rattle.std.specs.List.{list_any}
+use Rattle.std.proofs.lemmas.Option.{slice_get_within, slice_get-get_or, get_or_from_slice_get}
+use Rattle.std.proofs.lemmas.Slice.Eq.{bytes_eq-Decides}
 use Rattle.py_objects.specs.declared.payload.Payload.{Payload}
 use Rattle.py_objects.specs.declared.payload.Payload.TheVariants as payload
 use Rattle.py_objects.specs.declared.payload.ClassBody.{ClassBody}
@@ -15,8 +17,7 @@ use Rattle.py_objects.specs.declared.event.Event.{Event}
 use Rattle.py_objects.specs.declared.event.Event.TheVariants as event
 use Rattle.py_objects.specs.Objects.{Obj, Name, HasPayload, declares, declared, declared_from, name_of, error_kinds, pair_numbers, AllBelow, AllFit}
 use Rattle.py_objects.specs.Growth.{GrowsPlainly}
-use Rattle.py_rows.proofs.GrowingLemmas.{slice_get_grown, payload_grown}
-use Rattle.py_frame.proofs.PlainGrowth.{plainly_grows, slice_get_split}
+use Rattle.py_objects.proofs.GrowthLemmas.{slice_get_grown, payload_grown, plainly_grows, slice_get_split, declared_stays}
 use Rattle.py_laid.specs.Fits.{Continues}
 use Rattle.py_tree.specs.Tree.{Tree}
 use Rattle.py_lines.specs.declared.drive.DriveAtom.{DriveAtom}
@@ -24,11 +25,11 @@ use Rattle.py_lines.specs.declared.drive.DriveAtom.TheVariants as atom
 use Rattle.py_lines.specs.declared.drive.DriveLine.{DriveLine}
 use Rattle.py_lines.specs.declared.drive.DriveLine.TheVariants as drive
 use Rattle.py_grammar.specs.Rules.{is_builtin_class}
-use Rattle.py_vm.specs.declared.drive.Drive.{Drive as Question}
-use Rattle.py_vm.specs.declared.drive.Drive.TheVariants as question
-use Rattle.py_vm.specs.Run.{Posed}
-use Rattle.py_vm.proofs.ReplyingLemmas.{declared_within}
-use Rattle.py_vm.proofs.RunLemmas.{declared_stays}
+use Rattle.py_grammar.specs.WellFormed.{IsKnown}
+use Rattle.py_run.specs.declared.drive.Drive.{Drive as Question}
+use Rattle.py_run.specs.declared.drive.Drive.TheVariants as question
+use Rattle.py_run.specs.Run.{Posed}
+use Rattle.py_objects.proofs.NewLemmas.{declared_within}
 use Rattle.py_script.specs.Whole.{IsLeft, IsLeftBy, IsOf, AreOf, AsksThis, Asks, AreAsked, AreGlobals, AreObjects}
 use Rattle.py_script.specs.Session.{AreBindings, AreDeclared}
 use Rattle.py_script.specs.Loaded.{function_entries, script_objects}
@@ -159,6 +160,31 @@ loaded_objects ts differ no_class fit = record {
   no_managers = λ m b is. no_managers_at ts m.number b is;
   fit = fit;
 }
+
+-- a name of a built-in class is that of one of them
+named_class : (x : Name) (ks : List ErrorKind) → list_any (bytes_eq x) (map name_of ks) ≡ true → (i : ℕ) × (k : ErrorKind) × (slice_get ks i ≡ Some k) × (x ≡ name_of k)
+named_class x [] h = absurd (cc h)
+named_class x (k ∷ ks) h = go (bytes_eq x (name_of k)) refl h (named_class x ks)
+  where
+    go : (b : Bool) → b ≡ bytes_eq x (name_of k) → (b || list_any (bytes_eq x) (map name_of ks)) ≡ true
+        → (list_any (bytes_eq x) (map name_of ks) ≡ true → (i : ℕ) × (j : ErrorKind) × (slice_get ks i ≡ Some j) × (x ≡ name_of j))
+        → (i : ℕ) × (j : ErrorKind) × (slice_get (k ∷ ks) i ≡ Some j) × (x ≡ name_of j)
+    go true same h later = (0, k, refl, (bytes_eq-Decides x (name_of k)).0 (sym same))
+    go false other h later = let (i, j, at, is) = later h in (suc i, j, at, is)
+
+-- a built-in class is declared
+class_declared : (ts : List Tree) (objects : List Payload) (x : Name) → AreObjects ts objects → is_builtin_class x ≡ true → (v : Obj) × (declared objects x ≡ Some v)
+class_declared ts objects x are known =
+    let (i, k, at, is) = named_class x error_kinds known in
+    let (c, found, has) = are.classes i k at in
+    (c, ap (declared objects) is ∙ found)
+
+-- a name that stands for something has its object
+pub known_declared : (ts : List Tree) (objects : List Payload) (x : Name) → AreObjects ts objects → IsKnown ts x → (v : Obj) × (declared objects x ≡ Some v)
+known_declared ts objects x are (inl h) =
+    let (f, found, has) = are.functions h.0 h.1 (slice_get-get_or ts h.0 h.1 h.2 ∙ ap Some h.3) in
+    (f, ap (declared objects) (sym h.4) ∙ found)
+known_declared ts objects x are (inr known) = class_declared ts objects x are known
 
 -- an entry that is a declaration was there before others came plainly
 declared_before : (objects objects' : List Payload) (v : Obj) (p : Payload) (n : Name) → GrowsPlainly objects objects' → declares p ≡ Some n → HasPayload objects' v p → HasPayload objects v p

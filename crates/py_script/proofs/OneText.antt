@@ -28,11 +28,11 @@ use Rattle.py_objects.specs.Telling.{Given, Failed, AfterValue, Asked, Answered,
 use Rattle.py_tree.specs.Tree.{Tree}
 use Rattle.py_tree.specs.Scene.{anywhere}
 use Rattle.py_tree.specs.Trace.{IsBegun, Ended}
-use Rattle.py_vm.specs.declared.drive.Drive.{Drive as Question}
-use Rattle.py_vm.specs.declared.drive.Drive.TheVariants.{Call}
-use Rattle.py_vm.specs.Calls.{Says, ComesTo, entry_at}
-use Rattle.py_vm.specs.Answers.{Reply, Has, Fails, Gives, IsRaised, whole}
-use Rattle.py_vm.specs.Run.{Posed, Plan, Left, left_by, Phase, Idle, Asking, Going, Made, Due, Act, Activation, State, start, after, state_after, request_of, open_in, question, entered_in, depth, IsTop, Passes, as_got, Answers as IsAnswered, MayCome, Comes}
+use Rattle.py_run.specs.declared.drive.Drive.{Drive as Question}
+use Rattle.py_run.specs.declared.drive.Drive.TheVariants.{Call}
+use Rattle.py_run.specs.Calls.{Says, ComesTo, entry_at}
+use Rattle.py_answers.specs.Answers.{Reply, Has, Fails, Gives, IsRaised, whole}
+use Rattle.py_run.specs.Run.{Posed, Plan, Left, left_by, Phase, Idle, Asking, Going, Made, Due, Act, Activation, State, start, after, state_after, request_of, open_in, question, entered_in, depth, IsTop, Passes, as_got, Answers as IsAnswered, MayCome, Comes}
 use Rattle.py_script.specs.Whole.{AreAsked, AsksThis, AreObjects, Traces, plan_of, signature_of}
 use Rattle.py_script.specs.Text.{class_name, details, events_text, items_of, numbered, payload_of, raised, repr_within, result_text, said, shown, str_by, str_within}
 use Rattle.py_script.proofs.TextLemmas.{plain_text, unchanged}

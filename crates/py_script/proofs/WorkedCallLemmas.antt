@@ -29,10 +29,10 @@ use Rattle.py_lines.specs.declared.drive.DriveLine.{DriveLine}
 use Rattle.py_lines.specs.declared.drive.DriveLine.TheVariants as drive
 use Rattle.py_grammar.specs.Lines.{lines}
 use Rattle.py_grammar.specs.Script.{Spells}
-use Rattle.py_vm.specs.declared.drive.Drive.TheVariants.{Call}
-use Rattle.py_vm.specs.Answers.{Fails, Is, IsRaised}
-use Rattle.py_vm.specs.Calls.{too_many}
-use Rattle.py_vm.specs.Run.{Posed, Plan, Activation, open_in, start, state_after, Comes, EachTells}
+use Rattle.py_run.specs.declared.drive.Drive.TheVariants.{Call}
+use Rattle.py_answers.specs.Answers.{Fails, Is, IsRaised}
+use Rattle.py_run.specs.Calls.{too_many}
+use Rattle.py_run.specs.Run.{Posed, Plan, Activation, open_in, start, state_after, Comes, EachTells}
 use Rattle.std.proofs.lemmas.List.Sorted.{IsPermutation-refl, IsPermutation-reverse, sum_by-IsPermutation}
 use Rattle.py_script.specs.Whole.{AreAsked, Binds, AreGlobals, AreObjects, AsksThis, IsLeft, Traces, IsRunOf, plan_of}
 use Rattle.py_script.specs.Text.{events_text, numbered, result_text}

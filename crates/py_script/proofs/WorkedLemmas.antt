@@ -19,11 +19,10 @@ use Rattle.py_tree.specs.Trace.{IsTrace}
 use Rattle.py_grammar.specs.Grammar.{Declares, Drives}
 use Rattle.py_grammar.specs.Lines.{lines}
 use Rattle.py_grammar.specs.Script.{Spells}
-use Rattle.py_vm.specs.Run.{Posed, Plan, Activation, start, state_after, Comes, EachTells}
+use Rattle.py_run.specs.Run.{Posed, Plan, Activation, start, state_after, Comes, EachTells}
 use Rattle.py_script.specs.Whole.{AreObjects, Traces, IsRunOf, plan_of}
 use Rattle.py_script.specs.Worked.{script, function, trees, call_of, drives, object, exception, function_entry, objects_by, objects, objects_with_manager, entered, asked, events, unfinished, with_round, swapped, driven_twice, greatest, overflowing, error_entry, error_objects, raising_objects, overflow_objects, raises, overflow_by}
-use Rattle.py_script.proofs.Journals.{RaiseIsTraced, all_fit, are_globals, are_named, are_objects, asking_comes, begun, call, code_of, entry_of, few_asked, first_raises, gives_sum, is_raised, made_error, new_in, one_tells, plain, plan_with, reads_of, some_is, sum_comes, traced}
-use Rattle.py_script.proofs.Journals.{overflow_is_run as overflow_run}
+use Rattle.py_script.proofs.Journals.{RaiseIsTraced, all_fit, are_globals, are_named, are_objects, asking_comes, begun, call, code_of, entry_of, few_asked, first_raises, gives_sum, is_raised, made_error, new_in, one_tells, plain, plan_with, reads_of, some_is, sum_comes, traced, overflow_is_run as overflow_run}
 
 pub spelled : Spells (lines script) trees drives
 spelled =

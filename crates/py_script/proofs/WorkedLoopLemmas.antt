@@ -20,9 +20,9 @@ use Rattle.py_lines.specs.declared.drive.DriveLine.TheVariants as drive
 use Rattle.py_grammar.specs.Grammar.{Declares, Drives}
 use Rattle.py_grammar.specs.Lines.{lines}
 use Rattle.py_grammar.specs.Script.{Spells}
-use Rattle.py_vm.specs.declared.drive.Drive.TheVariants.{Call}
-use Rattle.py_vm.specs.Answers.{Has, Fails, unknown_text, IsRaised}
-use Rattle.py_vm.specs.Run.{Posed, Plan, start, Comes}
+use Rattle.py_run.specs.declared.drive.Drive.TheVariants.{Call}
+use Rattle.py_answers.specs.Answers.{Has, Fails, unknown_text, IsRaised}
+use Rattle.py_run.specs.Run.{Posed, Plan, start, Comes}
 use Rattle.py_script.specs.Whole.{AreGlobals, Traces, IsRunOf, plan_of}
 use Rattle.py_script.specs.Text.{events_text, result_text}
 use Rattle.py_script.specs.Worked.{object, exception}

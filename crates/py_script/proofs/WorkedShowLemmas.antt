@@ -27,14 +27,13 @@ use Rattle.py_tree.specs.Trace.{IsTrace, EndsBy}
 use Rattle.py_grammar.specs.Grammar.{Declares, Drives}
 use Rattle.py_grammar.specs.Lines.{lines}
 use Rattle.py_grammar.specs.Script.{Spells}
-use Rattle.py_vm.specs.Answers.{Reply, Has, Gives}
-use Rattle.py_vm.specs.Run.{Plan, Asking, State, Answers as IsAnswered, start, state_after, Comes}
+use Rattle.py_answers.specs.Answers.{Reply, Has, Gives}
+use Rattle.py_run.specs.Run.{Plan, Asking, State, Answers as IsAnswered, start, state_after, Comes}
 use Rattle.py_script.specs.Whole.{Traces, IsRunOf, plan_of}
 use Rattle.py_script.specs.Text.{events_text, result_text}
 use Rattle.py_script.specs.Worked.{object, exception, entered, asked, greatest, overflow_by}
 use Rattle.py_script.specs.WorkedShow.{script, function, trees, drive, drives, objects, summed, shows, answered, ended, events_by, events, without_show, shown_twice, overflowing, overflow_objects, shown_behind_raise}
-use Rattle.py_script.proofs.Journals.{RaiseIsTraced, all_fit, are_globals, are_objects, asked_so, asking_comes, begun, call, decimal_1, decimal_45, each_at, gives_sum, one_tells, plain, plan_with, reads_of, replied, some_is, sum_comes, traced}
-use Rattle.py_script.proofs.Journals.{overflow_is_run as overflow_run}
+use Rattle.py_script.proofs.Journals.{RaiseIsTraced, all_fit, are_globals, are_objects, asked_so, asking_comes, begun, call, decimal_1, decimal_45, each_at, gives_sum, one_tells, plain, plan_with, reads_of, replied, some_is, sum_comes, traced, overflow_is_run as overflow_run}
 use Rattle.py_script.proofs.OneText.{overflow_line}
 
 pub spelled : Spells (lines script) trees drives

@@ -5,7 +5,7 @@ use Rattle.py_objects.specs.declared.payload.Payload.TheVariants as payload
 use Rattle.py_check.specs.declared.annotated.Annotated.{Annotated}
 use Rattle.py_tree.specs.Tree.{Tree}
 use Rattle.py_laid.specs.Fits.{Fits}
-use Rattle.py_vm.specs.Classes.{first_objects}
+use Rattle.py_vm.specs.First.{first_objects}
 use Rattle.py_vm.specs.Codes.{Checked}
 use Rattle.py_vm.specs.Machine.{Machine}
 

@@ -26,11 +26,11 @@ use Rattle.py_lines.specs.declared.drive.DriveLine.{DriveLine}
 use Rattle.py_lines.specs.declared.drive.DriveLine.TheVariants as drive
 use Rattle.py_grammar.specs.declared.script.Script.{Script}
 use Rattle.py_grammar.specs.Script.{trees_of, IsScript}
-use Rattle.py_vm.specs.declared.drive.Drive.{Drive as Question}
-use Rattle.py_vm.specs.declared.drive.Drive.TheVariants as question
+use Rattle.py_run.specs.declared.drive.Drive.{Drive as Question}
+use Rattle.py_run.specs.declared.drive.Drive.TheVariants as question
 use Rattle.py_vm.specs.declared.journal.Journal.{Journal}
-use Rattle.py_vm.specs.Calls.{Signature}
-use Rattle.py_vm.specs.Run.{Posed, Plan, May, EachTells, IsRunBy, IsDone}
+use Rattle.py_run.specs.Calls.{Signature}
+use Rattle.py_run.specs.Run.{Posed, Plan, May, EachTells, IsRunBy, IsDone}
 use Rattle.py_vm.specs.RowsOf.{RowsOf}
 
 -- what the answer of a drive leaves for `$N`: its value or its exception, None where there is none

@@ -22,7 +22,7 @@ use Rattle.py_tree.specs.Tree.{Tree, Assign, Return, nothing, first}
 use Rattle.py_lines.specs.declared.drive.DriveAtom.TheVariants as argument
 use Rattle.py_lines.specs.declared.drive.DriveLine.{DriveLine}
 use Rattle.py_lines.specs.declared.drive.DriveLine.TheVariants as drive
-use Rattle.py_vm.specs.Run.{IsDone}
+use Rattle.py_run.specs.Run.{IsDone}
 use Rattle.py_script.specs.Whole.{IsRunOf}
 use Rattle.py_script.specs.Text.{events_text}
 

@@ -19,8 +19,8 @@ use Rattle.py_tree.specs.Tree.{Tree, Assign, Return, nothing, first}
 use Rattle.py_lines.specs.declared.drive.DriveAtom.TheVariants as argument
 use Rattle.py_lines.specs.declared.drive.DriveLine.{DriveLine}
 use Rattle.py_lines.specs.declared.drive.DriveLine.TheVariants as drive
-use Rattle.py_vm.specs.Calls.{Signature}
-use Rattle.py_vm.specs.Run.{Plan}
+use Rattle.py_run.specs.Calls.{Signature}
+use Rattle.py_run.specs.Run.{Plan}
 use Rattle.py_script.specs.Worked.{object, exception, built_in, function_entry, exception_entry}
 
 -- the bytes of the script

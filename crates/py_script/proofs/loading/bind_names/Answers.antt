@@ -3,7 +3,7 @@ use Rattle.py_objects.specs.declared.payload.Payload.TheVariants as payload
 use Rattle.py_objects.specs.Objects.{Obj, HasPayload, declared}
 use Rattle.py_tree.specs.Tree.{Tree}
 use Rattle.py_grammar.specs.Script.{declared_tree}
-use Rattle.py_vm.proofs.RunLemmas.{declared_stays}
+use Rattle.py_objects.proofs.GrowthLemmas.{declared_stays}
 use Rattle.py_script.specs.Session.{AreBindings}
 use Rattle.py_script.proofs.Declarations.{entry_mapped, entry_read, front_more}
 use Rattle.py_script.proofs.Objects.{bindings_grow, bindings_more}
