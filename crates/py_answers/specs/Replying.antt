@@ -1,4 +1,4 @@
--- The replies that are made, and what is read for them.
+-- What the functions of this crate promise: replies as the code makes them, and objects as it reads them.
 use Rattle.std.specs.Int.{w128}
 use Rattle.std.specs.Prelude.{FitsSigned, Bool, ℕ, ◌<◌, Option, Some, None, List, ◌++◌, ◌≡◌, ◌⊎◌, length, true, false}
 use Rattle.py_check.specs.Effects.{is_asked, is_compared}
@@ -14,7 +14,7 @@ use Rattle.py_answers.specs.declared.reply.Reply.TheVariants as made
 use Rattle.py_answers.specs.Answers.{Reply, Has, Is, Makes, Fails, IsTypeName, operated, sum, difference, less, not_supported}
 use Rattle.py_exceptions.specs.Making.{IsClass}
 
--- the requests to which there is a reply, which needs no activation
+-- the requests to which there is a reply: no calls
 abbrev pub is_replied : Request → Bool
 is_replied (request.Binary op a b) = is_asked op
 is_replied (request.Compare op a b) = is_compared op

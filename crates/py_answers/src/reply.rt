@@ -28,7 +28,7 @@ pub enum Reply {
     Fails(ErrorKind, PyText),
 }
 
-/// The reply to a request that codes make, where this is the first object that is declared under each name.
+/// The reply to a request that needs no activation, where `declarations` has the first object that is declared under each name.
 pub fn reply_to(
     alloc: Global,
     store: &Store,

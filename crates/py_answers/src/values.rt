@@ -1,4 +1,4 @@
-//! The payloads of objects, in stores of which answers are read.
+//! What an object is, as the rows of answers read it.
 
 ghost use Rattle.std.specs.Prelude.{◌<◌, length};
 ghost use Rattle.py_answers.specs.Replying.{IsRead};

@@ -94,7 +94,7 @@ comes_to_signed xs ys depth objects r c signed (inr (f, vs, is, (p, has, calls))
 
 -- a plan over other signatures
 abbrev pub signed_by : Plan → List Signature → Plan
-signed_by plan ys = record { signatures = ys; asked = plan.asked }
+signed_by plan ys = record plan { signatures = ys }
 
 answers_signed : (plan : Plan) (ys : List Signature) (objects : List Payload) (before : List Event) (s : State) (phase : Phase) (r : Request) (w : GotAnswer) → AreSigned plan.signatures ys
     → Answers plan objects before s phase r w → Answers (signed_by plan ys) objects before s phase r w

@@ -98,7 +98,7 @@ IsAsked plan s = (s.phase ≡ Idle) ⊎ (s.done < length plan.asked)
 
 -- with more drives behind those of a plan
 abbrev pub with_more : Plan → List Posed → Plan
-with_more plan more = record { signatures = plan.signatures; asked = plan.asked ++ more }
+with_more plan more = record plan { asked = plan.asked ++ more }
 
 -- the drive that runs is the same among more
 same_drive : (plan : Plan) (more : List Posed) (s : State) → s.done < length plan.asked → slice_get (plan.asked ++ more) s.done ≡ slice_get plan.asked s.done

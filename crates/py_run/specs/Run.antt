@@ -70,7 +70,7 @@ start = record { done = 0; phase = Idle; stack = []; made = [] }
 -- the innermost activation asks this, or nothing any more
 abbrev pub top_asks : Option Request → Option PyBaseExceptionRef → List Act → List Act
 top_asks r own [] = []
-top_asks r own (a ∷ stack) = record { number = a.number; asks = r; own = own } ∷ stack
+top_asks r own (a ∷ stack) = record a { asks = r; own = own } ∷ stack
 
 -- how an activation was left that ended like this
 abbrev pub left_by : Ending → Left

@@ -1,4 +1,4 @@
--- The courses that the machine makes for requests.
+-- What the machine promises of calls: the course that the code makes is one that the definitions have.
 use Rattle.std.specs.Prelude.{ℕ, Some, None, List, ◌≡◌, map}
 use Rattle.py_objects.specs.declared.payload.Payload.{Payload}
 use Rattle.py_code.specs.declared.names.NameId.{NameId}

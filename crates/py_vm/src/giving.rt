@@ -1,4 +1,4 @@
-//! The answers that give replies.
+//! What a frame is handed for a reply: a value, or the raise of a new exception.
 
 ghost use Rattle.std.specs.Prelude.{IfOk};
 ghost use Rattle.py_objects.specs.Growth.{IsGrown};

@@ -7,7 +7,7 @@ pub returns-clause-grow : goal.returns-clause-grow
 returns-clause-grow c = λ plan objects objects' events grows comes. comes_grow plan objects objects' [] start events grows comes
 
 pub returns-clause-more : goal.returns-clause-more
-returns-clause-more c = λ signatures asked more objects events comes. comes_more (record { signatures = signatures; asked = asked }) more objects events comes
+returns-clause-more c = λ plan more objects events comes. comes_more plan more objects events comes
 
 pub returns-clause-on : goal.returns-clause-on
 returns-clause-on c = λ plan objects events e comes may. comes_on plan objects [] start events e comes may
