@@ -6,6 +6,8 @@ mod bodies;
 #[cfg(test)]
 mod codes;
 #[cfg(test)]
+mod exceptions;
+#[cfg(test)]
 mod grammar;
 #[cfg(test)]
 mod machine;

@@ -6,7 +6,7 @@ ghost use Rattle.py_objects.specs.Edits.{edit_numbers, FitsException, IsInPlace}
 
 use py_code::{NoMemory, PyText, text_of};
 use py_objects::{
-    AttrMap, Change, ClassBody, Edit, ExceptionBody, History, LinkField, ObjList, PairList,
+    AttrMap, Boxed, Change, ClassBody, Edit, ExceptionBody, History, LinkField, ObjList, PairList,
     Payload, PyObjectRef, PyTypeRef, Scope, Store,
 };
 use std::alloc::Global;
@@ -122,8 +122,11 @@ fn store_of_exception(rt: &impl Abort, alloc: Global) -> Result<Store, NoMemory>
     ensures { IfOk result (λ store. store.mark ≡ 0) }
 {
     let mut store = Store::new(alloc)?;
-    let name = text_of(alloc, b"ValueError")?;
-    let class = store.add(Payload::Class(ClassBody { name }))?;
+    let body = ClassBody {
+        name: text_of(alloc, b"ValueError")?,
+        mro: ObjList::new(alloc),
+    };
+    let class = store.add(Payload::Class(Boxed::new(alloc, body)?))?;
     let args = store.add(Payload::Tuple(ObjList::new(alloc)))?;
     assert_eq!(rt; (class, args), (object(1), object(2)));
     assert!(rt; 3 <= store.len());
@@ -137,7 +140,7 @@ fn store_of_exception(rt: &impl Abort, alloc: Global) -> Result<Store, NoMemory>
         traceback: None,
         attrs,
     };
-    let exception = store.add(Payload::Exception(body))?;
+    let exception = store.add(Payload::Exception(Boxed::new(alloc, body)?))?;
     assert_eq!(rt; exception, object(3));
     Ok(store)
 }
@@ -181,15 +184,18 @@ struct Seen {
 
 fn seen_of(payload: &Payload, name: &PyText) -> Option<Seen> {
     match payload {
-        Payload::Exception(body) => Some(Seen {
-            args: body.args,
-            cause: body.cause,
-            context: body.context,
-            suppress: body.suppress,
-            has_traceback: body.traceback.is_some(),
-            attr: body.attrs.get(name),
-            attrs: body.attrs.len(),
-        }),
+        Payload::Exception(exception) => {
+            let body = exception.value();
+            Some(Seen {
+                args: body.args,
+                cause: body.cause,
+                context: body.context,
+                suppress: body.suppress,
+                has_traceback: body.traceback.is_some(),
+                attr: body.attrs.get(name),
+                attrs: body.attrs.len(),
+            })
+        }
         _ => None,
     }
 }

@@ -18,7 +18,7 @@ exception_body = record { class = record { number = 3 }; args = object_at 4; cau
 abbrev pub payload_of : First → Payload
 payload_of first.False = payload.Bool false
 payload_of first.True = payload.Bool true
-payload_of first.Class = payload.Class (record { name = codes "x" })
+payload_of first.Class = payload.Class (record { name = codes "x"; mro = [] })
 payload_of first.Arguments = payload.Tuple []
 payload_of first.Exception = payload.Exception exception_body
 payload_of first.Function = payload.Function (record { name = codes "x"; code = 0 })

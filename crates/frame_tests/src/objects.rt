@@ -6,8 +6,8 @@ ghost use Rattle.frame_tests.specs.FirstObjects.{exception_body, first_objects, 
 use crate::tables::{FIRST, First};
 use py_code::{NoMemory, text_of};
 use py_objects::{
-    AttrMap, ClassBody, ExceptionBody, FunctionBody, ManagerBody, ObjList, Payload, PyObjectRef,
-    PyTypeRef, Store,
+    AttrMap, Boxed, ClassBody, ExceptionBody, FunctionBody, ManagerBody, ObjList, Payload,
+    PyObjectRef, PyTypeRef, Store,
 };
 use std::alloc::Global;
 
@@ -41,9 +41,12 @@ fn payload(alloc: Global, first: First) -> Result<Payload, NoMemory>
     match first {
         First::False => Ok(Payload::Bool(false)),
         First::True => Ok(Payload::Bool(true)),
-        First::Class => Ok(Payload::Class(ClassBody { name })),
+        First::Class => {
+            let mro = ObjList::new(alloc);
+            Ok(Payload::Class(Boxed::new(alloc, ClassBody { name, mro })?))
+        }
         First::Arguments => Ok(Payload::Tuple(ObjList::new(alloc))),
-        First::Exception => Ok(Payload::Exception(exception(alloc))),
+        First::Exception => Ok(Payload::Exception(Boxed::new(alloc, exception(alloc))?)),
         First::Function => Ok(Payload::Function(FunctionBody { name, code: 0 })),
         First::Manager => Ok(Payload::Manager(ManagerBody {
             name,

@@ -1,9 +1,10 @@
 -- Replies by cases on the operands.
 use Rattle.std.proofs.Common.{◌≡◌, ◌++◌, List, Some, refl, sym, ap, subst, ◌∙◌, ℤ, Bool, true, false, cond}
 use Rattle.std.specs.Prelude.{Option, None, ◌+ℤ◌, ◌-ℤ◌, int_lt, codes}
+use Rattle.std.proofs.lemmas.Option.{slice_get_within}
 use Rattle.py_objects.specs.declared.payload.Payload.{Payload}
 use Rattle.py_objects.specs.declared.payload.Payload.TheVariants as payload
-use Rattle.py_objects.specs.declared.payload.ErrorKind.TheVariants.{OverflowError}
+use Rattle.py_objects.specs.declared.error_kind.ErrorKind.TheVariants.{OverflowError}
 use Rattle.py_objects.specs.declared.request.Request.{Request}
 use Rattle.py_objects.specs.declared.request.Request.TheVariants as request
 use Rattle.py_code.specs.Literals.{in_range}
@@ -11,16 +12,13 @@ use Rattle.py_code.specs.declared.operator.BinaryOperator.{BinaryOperator}
 use Rattle.py_code.specs.declared.operator.BinaryOperator.TheVariants as binary
 use Rattle.py_code.specs.declared.operator.ComparisonOperator.{ComparisonOperator}
 use Rattle.py_code.specs.declared.operator.ComparisonOperator.TheVariants as comparison
-use Rattle.py_objects.specs.Objects.{Obj, Name, declared, IsMade}
+use Rattle.py_objects.specs.Objects.{Obj, Name, HasPayload, declared, IsMade}
 use Rattle.py_objects.specs.Values.{number_of, text_of}
-use Rattle.py_answers.specs.Answers.{Reply, Has, Fails, IsTypeName, whole, sum, difference, truth, text_less, not_supported, operated, on_both, found, Compares, Replies}
+use Rattle.py_answers.specs.Answers.{Reply, Has, Fails, whole, sum, difference, truth, text_less, not_supported, operated, on_both, found, Compares, MatchesAs, RaisesAs, Replies}
+use Rattle.py_answers.specs.Readable.{AreFirst}
 use Rattle.py_answers.specs.Replying.{joined, IsThere, IsSum, IsDifference, IsLess}
 use Rattle.py_objects.proofs.NewLemmas.{declared_within}
-
--- each payload that is made of what it needs has a type with a name
-pub has_type_name : (objects : List Payload) (p : Payload) → IsMade objects p → (n : Name) × IsTypeName objects p n
-has_type_name objects (payload.Exception e) made = (made.class.name, (made.class, made.is_class, refl))
-has_type_name objects _ made = (_, refl)
+use Rattle.py_exceptions.proofs.TypeNamesLemmas.{has_type_name}
 
 -- a text is no number
 text_no_number : (p : Payload) (s : Name) → text_of p ≡ Some s → number_of p ≡ None
@@ -126,12 +124,23 @@ found_gives : (objects : List Payload) (x : Name) (v : Option Obj) → declared 
 found_gives objects x None is = tt
 found_gives objects x (Some v) is = declared_within objects x v is
 
+matches_gives : (objects : List Payload) (p : Payload) (c : Obj) (q : Payload) (reply : Reply) → MatchesAs objects p c q reply → IsThere objects reply
+matches_gives objects p c (payload.Class d) reply (b, caught, is) = subst (IsThere objects) (sym is) tt
+matches_gives objects p c _ reply is = subst (IsThere objects) (sym is) tt
+
+raises_give : (objects : List Payload) (v : Obj) (p : Payload) (reply : Reply) → AreFirst objects → HasPayload objects v p → RaisesAs objects v p reply → IsThere objects reply
+raises_give objects v (payload.Class c) reply first has is = subst (IsThere objects) (sym is) ((c, has, first v c has), tt)
+raises_give objects v (payload.Exception e) reply first has is = subst (IsThere objects) (sym is) (slice_get_within objects v.number (payload.Exception e) has)
+raises_give objects v _ reply first has (n, named, is) = subst (IsThere objects) (sym is) tt
+
 -- an object that is replied is there
-pub replied_there : (objects : List Payload) (r : Request) (reply : Reply) → Replies objects r reply → IsThere objects reply
-replied_there objects (request.Binary op a b) reply (p, q, left, right, has_p, has_q, is_left, is_right, is) = operated_gives objects op p q left right reply is
-replied_there objects (request.Compare op a b) reply compares = compares_gives objects op a b reply compares
-replied_there objects (request.Truth v) reply (p, has, is) = subst (IsThere objects) (sym is) tt
-replied_there objects (request.Global globals x) reply is = subst (IsThere objects) (sym is) (found_gives objects x (declared objects x) refl)
-replied_there objects (request.Show v) reply is = subst (IsThere objects) (sym is) tt
-replied_there objects (request.Unbound x) reply is = subst (IsThere objects) (sym is) tt
-replied_there objects _ reply is = absurd is
+pub replied_there : (objects : List Payload) (r : Request) (reply : Reply) → AreFirst objects → Replies objects r reply → IsThere objects reply
+replied_there objects (request.Binary op a b) reply first (p, q, left, right, has_p, has_q, is_left, is_right, is) = operated_gives objects op p q left right reply is
+replied_there objects (request.Compare op a b) reply first compares = compares_gives objects op a b reply compares
+replied_there objects (request.Truth v) reply first (p, has, is) = subst (IsThere objects) (sym is) tt
+replied_there objects (request.Match e c) reply first (p, q, has_p, has_q, matches) = matches_gives objects p c q reply matches
+replied_there objects (request.Global globals x) reply first is = subst (IsThere objects) (sym is) (found_gives objects x (declared objects x) refl)
+replied_there objects (request.Show v) reply first is = subst (IsThere objects) (sym is) tt
+replied_there objects (request.Unbound x) reply first is = subst (IsThere objects) (sym is) tt
+replied_there objects (request.Raisable v) reply first (p, has, raises) = raises_give objects v p reply first has raises
+replied_there objects _ reply first is = absurd is

@@ -12,8 +12,9 @@ use Rattle.py_objects.specs.Pairs.{Pairs}
 use Rattle.py_objects.specs.Edits.{Kept, edited, edited_pairs, edited_entry, with_edit, changed_by, objects_of}
 use Rattle.py_objects.specs.Originals.{IsDict}
 use Rattle.py_answers.specs.Readable.{ChangeDicts}
-use Rattle.py_answers.specs.Replying.{IsLike, IsRead, IsOperated}
-use Rattle.py_answers.specs.Answers.{Reply, Replies, operated}
+use Rattle.py_answers.specs.Replying.{IsLike, IsRead, IsOperated, IsLess}
+use Rattle.py_code.specs.declared.operator.ComparisonOperator.TheVariants as comparison
+use Rattle.py_answers.specs.Answers.{Reply, Compares, Replies, operated}
 
 -- an entry of a list with one entry set is that one, or was there
 set_gives : {X : Type 0} (xs : List X) (i : ℕ) (x : X) (j : ℕ) (y : X) → slice_get (set xs i x) j ≡ Some y → ((y ≡ x) × (j ≡ i)) ⊎ (slice_get xs j ≡ Some y)
@@ -107,3 +108,10 @@ operated_as_made objects op a b p q reply (p', has_p, like_p) (q', has_q, like_q
 
     second : (ps qs : Pairs) → IsOperated objects op p' (payload.Dict qs) reply → IsOperated objects op p' (payload.Dict ps) reply
     second ps qs (left, right, is_left, is_right, is) = (left, right, is_left, is_right, operated_same op ps qs p' left right ∙ is)
+
+-- that of a comparison
+pub less_as_made : (objects : List Payload) (a b : Obj) (p q : Payload) (reply : Reply) → IsRead objects a p → IsRead objects b q → IsLess objects p q reply → Compares objects comparison.Less a b reply
+less_as_made objects a b p q reply (p', has_p, like_p) (q', has_q, like_q) less_pq =
+    let (left, right, is_left, is_right, is) =
+    said_of_made (λ k. IsLess objects p' k reply) q' q like_q (λ ps qs less. less) (said_of_made (λ k. IsLess objects k q reply) p' p like_p (λ ps qs less. less) less_pq) in
+    (p', q', left, right, has_p, has_q, is_left, is_right, is)

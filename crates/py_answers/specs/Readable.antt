@@ -1,20 +1,15 @@
 -- Objects that answers can read.
 use Rattle.std.specs.Prelude.{ℕ, Some, List, ◌≡◌, slice_get}
 use Rattle.py_objects.specs.declared.payload.Payload.{Payload}
-use Rattle.py_objects.specs.declared.payload.Payload.TheVariants as payload
-use Rattle.py_objects.specs.declared.payload.ClassBody.{ClassBody}
 use Rattle.py_objects.specs.declared.edit.Change.{Change}
-use Rattle.py_objects.specs.Objects.{Obj, HasPayload, declared, AllFit}
+use Rattle.py_objects.specs.Objects.{AllFit}
 use Rattle.py_objects.specs.Originals.{IsDict}
 use Rattle.py_objects.specs.Edits.{Kept}
+pub use Rattle.py_exceptions.specs.Kinds.{AreFirst}
 
 -- each change is one of a dict
 abbrev pub ChangeDicts : List Payload → List Change → Type 0
 ChangeDicts objects changes = (i : ℕ) (c : Change) → slice_get changes i ≡ Some c → IsDict objects c.object
-
--- each class is the first object of its name
-abbrev pub AreFirst : List Payload → Type 0
-AreFirst objects = (c : Obj) (b : ClassBody) → HasPayload objects c (payload.Class b) → declared objects b.name ≡ Some c
 
 -- objects that answers can read: no change is of more than dicts, each entry fits, and each class is the first object of its name
 pub record IsReadable (store : Kept) : Type 0 where

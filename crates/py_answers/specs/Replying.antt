@@ -19,9 +19,11 @@ abbrev pub is_replied : Request → Bool
 is_replied (request.Binary op a b) = is_asked op
 is_replied (request.Compare op a b) = is_compared op
 is_replied (request.Global globals x) = true
+is_replied (request.Match e c) = true
 is_replied (request.Show v) = true
 is_replied (request.Truth v) = true
 is_replied (request.Unbound x) = true
+is_replied (request.Raisable v) = true
 is_replied _ = false
 
 -- the reply that a made one is

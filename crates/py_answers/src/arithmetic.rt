@@ -10,8 +10,8 @@ ghost use Rattle.py_answers.specs.Answers.{Replies, whole};
 ghost use Rattle.py_answers.specs.Readable.{IsReadable};
 ghost use Rattle.py_answers.specs.Replying.{reply_of, joined, IsSized, IsSum, IsDifference, IsOperated};
 
+use crate::refusals::refused;
 use crate::reply::Reply;
-use crate::type_names::refused;
 use crate::values::entry;
 use py_code::{BinaryOperator, NoMemory, PyText, push_text, text_of as text_of_bytes};
 use py_objects::{ErrorKind, Payload, PyObjectRef, Store};
@@ -46,7 +46,6 @@ pub(crate) fn operate(
     right: &Payload,
 ) -> Result<Reply, NoMemory>
     requires known { is_asked op ≡ true }
-    requires readable { IsReadable store.now }
     requires left_made { IsMade store.now.made left.now }
     requires right_made { IsMade store.now.made right.now }
     ensures reply { IfOk result (λ reply. IsOperated store.now.made op left.now right.now (reply_of reply)) }
@@ -61,7 +60,6 @@ pub(crate) fn operate(
 
 /// The sum of two payloads.
 fn sum(alloc: Global, store: &Store, left: &Payload, right: &Payload) -> Result<Reply, NoMemory>
-    requires readable { IsReadable store.now }
     requires left_made { IsMade store.now.made left.now }
     requires right_made { IsMade store.now.made right.now }
     ensures reply { IfOk result (λ reply. IsSum store.now.made left.now right.now (reply_of reply)) }
@@ -83,7 +81,6 @@ fn difference(
     left: &Payload,
     right: &Payload,
 ) -> Result<Reply, NoMemory>
-    requires readable { IsReadable store.now }
     requires left_made { IsMade store.now.made left.now }
     requires right_made { IsMade store.now.made right.now }
     ensures reply { IfOk result (λ reply. IsDifference store.now.made left.now right.now (reply_of reply)) }

@@ -8,8 +8,8 @@ ghost use Rattle.py_answers.specs.Answers.{Compares, is_true, text_less};
 ghost use Rattle.py_answers.specs.Readable.{IsReadable};
 ghost use Rattle.py_answers.specs.Replying.{reply_of, IsSized, IsLess};
 
+use crate::refusals::refused;
 use crate::reply::Reply;
-use crate::type_names::refused;
 use crate::values::entry;
 use py_code::{ComparisonOperator, NoMemory, PyText};
 use py_objects::{Payload, PyObjectRef, Store};
@@ -53,7 +53,6 @@ pub(crate) fn less(
     left: &Payload,
     right: &Payload,
 ) -> Result<Reply, NoMemory>
-    requires readable { IsReadable store.now }
     requires left_made { IsMade store.now.made left.now }
     requires right_made { IsMade store.now.made right.now }
     ensures reply { IfOk result (λ reply. IsLess store.now.made left.now right.now (reply_of reply)) }

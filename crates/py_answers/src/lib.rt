@@ -3,11 +3,12 @@
 
 mod arithmetic;
 mod comparison;
+mod matching;
 mod names;
+mod raising;
+mod refusals;
 mod reply;
-mod type_names;
 mod values;
 
 pub use reply::{Reply, reply_to};
-pub use type_names::type_name;
 pub use values::entry;

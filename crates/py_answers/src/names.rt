@@ -2,7 +2,7 @@
 
 ghost use Rattle.std.specs.Prelude.{◌≡◌, IfOk};
 ghost use Rattle.py_objects.specs.AttrEntries.{value_of};
-ghost use Rattle.py_objects.specs.declared.payload.ErrorKind.TheVariants as kind;
+ghost use Rattle.py_objects.specs.declared.error_kind.ErrorKind.TheVariants as kind;
 ghost use Rattle.py_answers.specs.Answers.{Fails, found, unbound_text};
 ghost use Rattle.py_answers.specs.Replying.{reply_of, IsSized};
 

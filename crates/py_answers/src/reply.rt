@@ -9,7 +9,9 @@ ghost use Rattle.py_answers.specs.Replying.{reply_of, is_replied, IsSized};
 
 use crate::arithmetic::binary;
 use crate::comparison::{compare, is_true};
+use crate::matching::matches;
 use crate::names::{global, unbound};
+use crate::raising::raisable;
 use crate::values::entry;
 use py_code::{NoMemory, PyText};
 use py_objects::{AttrMap, ErrorKind, ObjList, PyObjectRef, PyTypeRef, Request, Store};
@@ -45,10 +47,12 @@ pub fn reply_to(
     match request {
         Request::Binary(op, left, right) => binary(alloc, store, *op, *left, *right),
         Request::Compare(op, left, right) => compare(alloc, store, *op, *left, *right),
+        Request::Match(exception, class) => matches(alloc, store, *exception, *class),
         Request::Truth(value) => Ok(Reply::Bool(is_true(entry(store, *value)))),
         Request::Global(_, name) => global(alloc, declarations, name),
         Request::Show(_) => Ok(Reply::None),
         Request::Unbound(name) => unbound(alloc, name),
+        Request::Raisable(object) => raisable(alloc, store, *object),
         _ => unreachable!(),
     }
 }

@@ -1,27 +1,30 @@
 -- New exceptions: the objects that they add.
-use Rattle.std.proofs.Common.{◌≡◌, ◌≤◌, ◌+◌, List, [], ◌∷◌, refl, ap, subst, ◌∙◌, length, length-append, arith}
+use Rattle.std.proofs.Common.{◌≡◌, ◌≤◌, ◌+◌, ℕ, Bool, true, false, List, [], ◌∷◌, refl, ap, subst, ◌∙◌, length, length-append, arith}
 use Rattle.std.proofs.lemmas.Option.{slice_get_within}
 use Rattle.py_objects.specs.declared.refs.PyTypeRef.{PyTypeRef}
 use Rattle.py_objects.specs.declared.refs.PyBaseExceptionRef.{PyBaseExceptionRef}
 use Rattle.py_objects.specs.declared.payload.Payload.{Payload}
 use Rattle.py_objects.specs.declared.payload.Payload.TheVariants as payload
-use Rattle.py_objects.specs.declared.payload.ErrorKind.{ErrorKind}
-use Rattle.py_objects.specs.Objects.{Obj, Name, HasPayload, class_object, declares, name_of, payload_numbers, numbers, AllBelow}
+use Rattle.py_objects.specs.declared.error_kind.ErrorKind.{ErrorKind}
+use Rattle.py_objects.specs.ErrorKinds.{name_of}
+use Rattle.py_objects.specs.Objects.{Obj, Name, HasPayload, as_object, class_object, declares, payload_numbers, numbers, attr_numbers, AllBelow}
+use Rattle.py_objects.specs.Attrs.{Attrs}
 use Rattle.py_objects.specs.Growth.{Grows, IsGrown, with_object}
 use Rattle.py_objects.specs.Values.{new_exception}
 use Rattle.py_objects.specs.Edits.{Kept}
-use Rattle.py_objects.proofs.GrowthLemmas.{payload_grown, declared_grown}
+use Rattle.py_objects.proofs.GrowthLemmas.{payload_grown, declared_grown, below_more, length_grown}
 use Rattle.py_exceptions.specs.declared.zoo.ExceptionZoo.{ExceptionZoo}
 use Rattle.py_exceptions.specs.Classes.{class_of, HaveClasses}
+use Rattle.py_exceptions.specs.Keeping.{kept_args, kept_attrs}
 use Rattle.py_exceptions.specs.Making.{IsClass, IsNewInstance, IsNewException}
 use Rattle.py_objects.proofs.GrownLemmas.{objects_grow, grown_trans, added_grown, added_made, added_below}
 use Rattle.py_objects.proofs.NewLemmas.{added_has}
 
 -- the objects of a new instance: the tuple of its arguments, and itself
-pub record AreInstance (s0 s1 s2 : Kept) (class : PyTypeRef) (arguments : List Obj) (args e : Obj) : Type 0 where
+pub record AreInstance (s0 s1 s2 : Kept) (class : PyTypeRef) (arguments : List Obj) (attrs : Attrs) (args e : Obj) : Type 0 where
   pub args_added : s1 ≡ with_object s0 (payload.Tuple arguments)
   pub args_last : args.number ≡ length s0.made
-  pub entry_added : s2 ≡ with_object s1 (payload.Exception (new_exception class args))
+  pub entry_added : s2 ≡ with_object s1 (payload.Exception (record (new_exception class args) { attrs = attrs }))
   pub last : e.number ≡ length s1.made
 
 pub text_grows : (s0 s1 : Kept) (text : Name) → s1 ≡ with_object s0 (payload.Str text) → IsGrown s0 s1
@@ -36,21 +39,29 @@ class_stays s0 s1 class grown (c, has, is) =
     let more : Grows s0.made s1.made = objects_grow s0 s1 grown in (c, payload_grown s0.made s1.made _ _ more has, declared_grown s0.made s1.made c.name (class_object class) more is)
 
 -- what a new instance names is below, also where it isn't among the objects yet
-pub instance_below : (s0 s1 : Kept) (class : PyTypeRef) (arguments : List Obj) (args : Obj)
-    → IsClass s0.made class → AllBelow (length s0.made) (numbers arguments) → s1 ≡ with_object s0 (payload.Tuple arguments) → args.number ≡ length s0.made
-    → AllBelow (length s1.made) (payload_numbers (payload.Exception (new_exception class args)))
-instance_below s0 s1 class arguments args is below added last =
-    let (c, has, declares) = class_stays s0 s1 class (tuple_grows s0 s1 arguments below added) is in
-    (slice_get_within s1.made class.number _ has, (added_below s0 s1 (payload.Tuple arguments) args.number added last, tt))
+pub instance_below : (s0 s1 : Kept) (class : PyTypeRef) (arguments : List Obj) (attrs : Attrs) (args : Obj)
+    → IsClass s0.made class → AllBelow (length s0.made) (numbers arguments) → AllBelow (length s0.made) (attr_numbers attrs)
+    → s1 ≡ with_object s0 (payload.Tuple arguments) → args.number ≡ length s0.made
+    → AllBelow (length s1.made) (payload_numbers (payload.Exception (record (new_exception class args) { attrs = attrs })))
+instance_below s0 s1 class arguments attrs args is below attrs_below added last =
+    let front : IsGrown s0 s1 = tuple_grows s0 s1 arguments below added in
+    let (c, has, declares) = class_stays s0 s1 class front is in (
+      slice_get_within s1.made class.number _ has,
+      (
+        added_below s0 s1 (payload.Tuple arguments) args.number added last,
+        below_more (length s0.made) (length s1.made) (attr_numbers attrs) (length_grown s0.made s1.made (objects_grow s0 s1 front)) attrs_below,
+      ),
+    )
 
-pub instance_grows : (s0 s1 s2 : Kept) (class : PyTypeRef) (arguments : List Obj) (args e : Obj)
-    → IsClass s0.made class → AllBelow (length s0.made) (numbers arguments) → AreInstance s0 s1 s2 class arguments args e → IsGrown s0 s2
-instance_grows s0 s1 s2 class arguments args e is below x =
+pub instance_grows : (s0 s1 s2 : Kept) (class : PyTypeRef) (arguments : List Obj) (attrs : Attrs) (args e : Obj)
+    → IsClass s0.made class → AllBelow (length s0.made) (numbers arguments) → AllBelow (length s0.made) (attr_numbers attrs)
+    → AreInstance s0 s1 s2 class arguments attrs args e → IsGrown s0 s2
+instance_grows s0 s1 s2 class arguments attrs args e is below attrs_below x =
     let front : IsGrown s0 s1 = tuple_grows s0 s1 arguments below x.args_added in
     let (c, has, declares) = class_stays s0 s1 class front is in
     grown_trans s0 s1 s2 front
-    (added_grown s1 s2 (payload.Exception (new_exception class args)) x.entry_added refl
-    (λ fit. instance_below s0 s1 class arguments args is below x.args_added x.args_last)
+    (added_grown s1 s2 (payload.Exception (record (new_exception class args) { attrs = attrs })) x.entry_added refl
+    (λ fit. instance_below s0 s1 class arguments attrs args is below attrs_below x.args_added x.args_last)
     (λ fit. record {
       class = c;
       is_class = has;
@@ -62,10 +73,10 @@ instance_grows s0 s1 s2 class arguments args e is below x =
       traceback = tt;
     }))
 
-pub instance_new : (s0 s1 s2 : Kept) (class : PyTypeRef) (arguments : List Obj) (args e : Obj)
-    → AreInstance s0 s1 s2 class arguments args e → IsNewInstance s0.made s2.made class arguments (record { number = e.number })
-instance_new s0 s1 s2 class arguments args e x =
-    let entry : Payload = payload.Exception (new_exception class args) in
+pub instance_new : (s0 s1 s2 : Kept) (class : PyTypeRef) (arguments : List Obj) (attrs : Attrs) (args e : Obj)
+    → AreInstance s0 s1 s2 class arguments attrs args e → IsNewInstance s0.made s2.made class arguments attrs (record { number = e.number })
+instance_new s0 s1 s2 class arguments attrs args e x =
+    let entry : Payload = payload.Exception (record (new_exception class args) { attrs = attrs }) in
     let n1 : length s1.made ≡ length s0.made + 1 = ap length (added_made s0 s1 (payload.Tuple arguments) x.args_added) ∙ length-append s0.made (payload.Tuple arguments ∷ []) in
     let last : e.number ≡ length s1.made = x.last in
     record {
@@ -77,10 +88,10 @@ instance_new s0 s1 s2 class arguments args e x =
     }
 
 -- a new instance whose one argument is a text that was added is an exception with that text
-pub exception_new : (s0 s1 s2 : Kept) (class : PyTypeRef) (text : Name) (argument : Obj) (items : List Obj) (e : PyBaseExceptionRef)
-    → s1 ≡ with_object s0 (payload.Str text) → argument.number ≡ length s0.made → items ≡ argument ∷ [] → IsGrown s1 s2 → IsNewInstance s1.made s2.made class items e
-    → IsNewException s0.made s2.made class text e
-exception_new s0 s1 s2 class text argument items e added last are grown x =
+pub exception_new : (s0 s1 s2 : Kept) (class : PyTypeRef) (text : Name) (argument : Obj) (items : List Obj) (attrs : Attrs) (e : PyBaseExceptionRef)
+    → s1 ≡ with_object s0 (payload.Str text) → argument.number ≡ length s0.made → items ≡ argument ∷ [] → attrs ≡ [] → IsGrown s1 s2
+    → IsNewInstance s1.made s2.made class items attrs e → IsNewException s0.made s2.made class text e
+exception_new s0 s1 s2 class text argument items attrs e added last are none grown x =
     let n1 : length s1.made ≡ length s0.made + 1 = ap length (added_made s0 s1 (payload.Str text) added) ∙ length-append s0.made (payload.Str text ∷ []) in
     let later : length s1.made ≤ e.number = x.later in
     record {
@@ -90,11 +101,32 @@ exception_new s0 s1 s2 class text argument items e added last are grown x =
         later = omega (arith, n1, later);
         below = x.below;
         args = x.args;
-        entry = x.entry;
+        entry = subst (λ (a : Attrs). HasPayload s2.made (as_object e) (payload.Exception (record (new_exception class x.args) { attrs = a }))) none x.entry;
         are = subst (λ vs. HasPayload s2.made x.args (payload.Tuple vs)) are x.are;
       };
     }
 
+-- what an exception keeps of the arguments that its class is called with names no other objects
+pub kept_below : (n : ℕ) (os : Bool) (vs : List Obj) → AllBelow n (numbers vs) → AllBelow n (numbers (kept_args os vs))
+kept_below n false vs below = below
+kept_below n true [] below = below
+kept_below n true (v ∷ []) below = below
+kept_below n true (v ∷ w ∷ []) below = below
+kept_below n true (v ∷ w ∷ x ∷ []) below = (below.0, (below.1.0, tt))
+kept_below n true (v ∷ w ∷ x ∷ y ∷ []) below = (below.0, (below.1.0, tt))
+kept_below n true (v ∷ w ∷ x ∷ y ∷ z ∷ []) below = (below.0, (below.1.0, tt))
+kept_below n true (v ∷ w ∷ x ∷ y ∷ z ∷ u ∷ us) below = below
+
+pub attrs_below : (n : ℕ) (os : Bool) (vs : List Obj) → AllBelow n (numbers vs) → AllBelow n (attr_numbers (kept_attrs os vs))
+attrs_below n false vs below = tt
+attrs_below n true [] below = tt
+attrs_below n true (v ∷ []) below = tt
+attrs_below n true (v ∷ w ∷ []) below = tt
+attrs_below n true (v ∷ w ∷ x ∷ []) below = (below.1.1.0, tt)
+attrs_below n true (v ∷ w ∷ x ∷ y ∷ []) below = (below.1.1.0, tt)
+attrs_below n true (v ∷ w ∷ x ∷ y ∷ z ∷ []) below = (below.1.1.0, (below.1.1.1.1.0, tt))
+attrs_below n true (v ∷ w ∷ x ∷ y ∷ z ∷ u ∷ us) below = tt
+
 -- each built-in class is the declared one of its name
 pub built_in_class : (zoo : ExceptionZoo) (objects : List Payload) (kind : ErrorKind) → HaveClasses zoo objects → IsClass objects (class_of zoo kind)
-built_in_class zoo objects kind classes = (record { name = name_of kind }, (classes kind).0, (classes kind).1)
+built_in_class zoo objects kind classes = (record { name = name_of kind; mro = (classes kind).mro }, (classes kind).entry, (classes kind).is_declared)

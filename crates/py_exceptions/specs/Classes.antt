@@ -1,41 +1,43 @@
 -- The built-in exception classes among the objects.
-use Rattle.std.specs.Prelude.{Some, List, ◌≡◌, map}
+use Rattle.std.specs.Prelude.{ℕ, ◌+◌, Some, None, List, ◌≡◌, map, slice_get}
 use Rattle.py_objects.specs.declared.refs.PyTypeRef.{PyTypeRef}
 use Rattle.py_objects.specs.declared.payload.Payload.{Payload}
 use Rattle.py_objects.specs.declared.payload.Payload.TheVariants as payload
-use Rattle.py_objects.specs.declared.payload.ErrorKind.{ErrorKind}
-use Rattle.py_objects.specs.declared.payload.ErrorKind.TheVariants.{NameError, OverflowError, RecursionError, TypeError, UnboundLocalError}
-use Rattle.py_objects.specs.Objects.{HasPayload, class_object, declared, name_of, error_kinds}
+use Rattle.py_objects.specs.declared.error_kind.ErrorKind.{ErrorKind}
+use Rattle.py_objects.specs.ErrorKinds.{name_of, bases_of, error_kinds, place_of}
+use Rattle.py_objects.specs.Objects.{Obj, class_object, declares}
 use Rattle.py_objects.specs.Attrs.{Attrs}
 use Rattle.py_exceptions.specs.declared.zoo.ExceptionZoo.{ExceptionZoo}
+use Rattle.py_exceptions.specs.BuiltIn.{IsClassOf}
 
--- the class of the exceptions of a kind
+-- the class of the exceptions of a kind: the classes stand one behind the other
 abbrev pub class_of : ExceptionZoo → ErrorKind → PyTypeRef
-class_of zoo NameError = zoo.name_error
-class_of zoo OverflowError = zoo.overflow_error
-class_of zoo RecursionError = zoo.recursion_error
-class_of zoo TypeError = zoo.type_error
-class_of zoo UnboundLocalError = zoo.unbound_local_error
+class_of zoo kind = record { number = zoo.first + place_of kind }
+
+-- the classes that one derives from
+abbrev pub mro_of : ExceptionZoo → ErrorKind → List Obj
+mro_of zoo kind = map (λ base. class_object (class_of zoo base)) (bases_of kind)
 
 -- the entry of a built-in class
-abbrev pub class_payload : ErrorKind → Payload
-class_payload kind = payload.Class (record { name = name_of kind })
+abbrev pub class_payload : ExceptionZoo → ErrorKind → Payload
+class_payload zoo kind = payload.Class (record { name = name_of kind; mro = mro_of zoo kind })
 
--- where the classes stand among those
+-- the entries of all of them
+abbrev pub class_payloads : ExceptionZoo → List Payload
+class_payloads zoo = map (class_payload zoo) error_kinds
+
+-- where the classes of a machine stand: behind None, False and True
 abbrev pub first_classes : ExceptionZoo
-first_classes = record {
-  name_error = record { number = 1 };
-  overflow_error = record { number = 2 };
-  recursion_error = record { number = 3 };
-  type_error = record { number = 4 };
-  unbound_local_error = record { number = 5 };
-}
+first_classes = record { first = 3 }
 
--- the names that are declared by those, with their classes
-abbrev pub first_declarations : Attrs
-first_declarations = map (λ kind. (name_of kind, class_object (class_of first_classes kind))) error_kinds
+-- the names of the classes, each with its class
+abbrev pub declarations_of : ExceptionZoo → Attrs
+declarations_of zoo = map (λ kind. (name_of kind, class_object (class_of zoo kind))) error_kinds
 
--- each built-in class is there, and is the one that is declared under its name
+-- nothing is declared among these
+abbrev pub DeclareNothing : List Payload → Type 0
+DeclareNothing objects = (i : ℕ) (p : Payload) → slice_get objects i ≡ Some p → declares p ≡ None
+
+-- each built-in class is there
 abbrev pub HaveClasses : ExceptionZoo → List Payload → Type 0
-HaveClasses zoo objects =
-    (kind : ErrorKind) → HasPayload objects (class_object (class_of zoo kind)) (class_payload kind) × (declared objects (name_of kind) ≡ Some (class_object (class_of zoo kind)))
+HaveClasses zoo objects = (kind : ErrorKind) → IsClassOf objects kind (class_of zoo kind)

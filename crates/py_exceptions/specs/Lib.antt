@@ -1,4 +1,20 @@
--- the built-in classes among the objects
+-- the built-in classes among the objects, and where they stand
+pub mod BuiltIn
 pub mod Classes
+-- what exceptions keep of the arguments of calls
+pub mod Keeping
+-- which classes derive from which, and which are of the built-in kinds
+pub mod Deriving
+pub mod Kinds
+-- the names of types
+pub mod TypeNames
 -- new exceptions
 pub mod Making
+-- the arguments of exceptions
+pub mod Arguments
+-- what may be raised, and what comes of it
+pub mod Constructing
+-- the slots of handled exceptions
+pub mod Slots
+-- what the functions of the crate need of an exception
+pub mod Parts

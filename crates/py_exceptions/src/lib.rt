@@ -1,8 +1,20 @@
-//! Exceptions: the built-in classes among the objects of a run, and new exceptions.
+//! Exceptions: the built-in classes among the objects of a run, what derives from them, what may be raised, new exceptions, their arguments, and
+//! the slots of those that are handled.
 #![tactic(auto)]
 
+mod arguments;
+mod ctor;
+mod kinds;
 mod making;
+mod reading;
+mod stack;
+mod type_names;
 mod zoo;
 
+pub use arguments::{args, get_arg};
+pub use ctor::{CtorFault, ExceptionCtor, Instantiate};
+pub use kinds::{derives, is_gen_exit, is_kind};
 pub use making::{make_exception, new_exception};
+pub use stack::ExceptionStack;
+pub use type_names::type_name;
 pub use zoo::ExceptionZoo;

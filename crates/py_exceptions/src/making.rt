@@ -1,12 +1,16 @@
-//! New exceptions: of a class, with arguments, and with no links.
+//! New exceptions: of a class, with what that keeps of its arguments, and with no links.
 
-ghost use Rattle.std.specs.Prelude.{length, IfOk};
-ghost use Rattle.py_objects.specs.Objects.{numbers, AllBelow};
-ghost use Rattle.py_exceptions.specs.Making.{IsClass, IsNewInstance, IsNewException};
+ghost use Rattle.std.specs.Prelude.{◌≡◌, [], ◌∷◌, length, codes, if◌then◌else◌, IfOk};
+ghost use Rattle.py_objects.specs.Objects.{attr_numbers, numbers, AllBelow};
 ghost use Rattle.py_objects.specs.Growth.{IsGrown};
+ghost use Rattle.py_exceptions.specs.Keeping.{kept_args as args_kept, kept_attrs as attrs_kept, os_args as args_of_os, os_attrs as attrs_of_os};
+ghost use Rattle.py_exceptions.specs.Making.{IsClass, IsNewCalled, IsNewInstance, IsNewException};
 
-use py_code::{NoMemory, PyText};
-use py_objects::{AttrMap, ExceptionBody, ObjList, Payload, PyBaseExceptionRef, PyTypeRef, Store};
+use py_code::{NoMemory, PyText, text_of};
+use py_objects::{
+    AttrMap, Boxed, ErrorKind, ExceptionBody, ObjList, Payload, PyBaseExceptionRef, PyObjectRef,
+    PyTypeRef, Store,
+};
 use std::alloc::Global;
 
 /// A new exception of a class, with a text as its one argument.
@@ -23,10 +27,10 @@ pub fn new_exception(
     let argument = store.add(Payload::Str(text))?;
     let mut items = ObjList::new(alloc);
     items.push(argument)?;
-    make_exception(alloc, store, class, items)
+    add_exception(alloc, store, class, items, AttrMap::new(alloc))
 }
 
-/// A new exception of a class, with these arguments.
+/// The exception that a call of a class with these arguments makes.
 pub fn make_exception(
     alloc: Global,
     store: &mut Store,
@@ -36,19 +40,107 @@ pub fn make_exception(
     requires class { IsClass store.old.made class }
     requires args { AllBelow (length store.old.made) (numbers args) }
     ensures grows { IsGrown store.old store.new }
-    ensures made { IfOk result (λ e. IsNewInstance store.old.made store.new.made class args e) }
+    ensures made { IfOk result (λ e. IsNewCalled store.old.made store.new.made class args e) }
+{
+    let os = store.derives_from(class, ErrorKind::OSError);
+    let attrs = kept_attrs(alloc, os, args.as_slice())?;
+    let args = kept_args(alloc, os, args)?;
+    add_exception(alloc, store, class, args, attrs)
+}
+
+/// A new exception of a class, with these arguments and attributes.
+fn add_exception(
+    alloc: Global,
+    store: &mut Store,
+    class: PyTypeRef,
+    args: ObjList,
+    attrs: AttrMap,
+) -> Result<PyBaseExceptionRef, NoMemory>
+    requires class { IsClass store.old.made class }
+    requires args { AllBelow (length store.old.made) (numbers args) }
+    requires attrs { AllBelow (length store.old.made) (attr_numbers attrs) }
+    ensures grows { IsGrown store.old store.new }
+    ensures made { IfOk result (λ e. IsNewInstance store.old.made store.new.made class args attrs e) }
 {
     let args = store.add(Payload::Tuple(args))?;
-    let exception = store.add(Payload::Exception(ExceptionBody {
+    let body = ExceptionBody {
         class,
         args,
         cause: None,
         context: None,
         suppress: false,
         traceback: None,
-        attrs: AttrMap::new(alloc),
-    }))?;
+        attrs,
+    };
+    let exception = store.add(Payload::Exception(Boxed::new(alloc, body)?))?;
     Ok(PyBaseExceptionRef {
         number: exception.number,
     })
+}
+
+/// The arguments that an exception keeps of those that its class is called with.
+fn kept_args(alloc: Global, os: bool, args: ObjList) -> Result<ObjList, NoMemory>
+    ensures { IfOk result (λ kept. kept ≡ args_kept os args) }
+{
+    if os {
+        return os_args(alloc, args);
+    }
+    Ok(args)
+}
+
+/// The attributes that an exception has by the arguments that its class is called with.
+fn kept_attrs(alloc: Global, os: bool, args: &[PyObjectRef]) -> Result<AttrMap, NoMemory>
+    ensures { IfOk result (λ attrs. attrs ≡ attrs_kept os args.now) }
+{
+    if os {
+        return os_attrs(alloc, args);
+    }
+    Ok(AttrMap::new(alloc))
+}
+
+/// The arguments that an `OSError` keeps.
+fn os_args(alloc: Global, args: ObjList) -> Result<ObjList, NoMemory>
+    ensures { IfOk result (λ kept. kept ≡ args_of_os args) }
+{
+    match args.as_slice() {
+        [number, message, _] => two(alloc, *number, *message),
+        [number, message, _, _] => two(alloc, *number, *message),
+        [number, message, _, _, _] => two(alloc, *number, *message),
+        _ => Ok(args),
+    }
+}
+
+/// A list of two.
+fn two(alloc: Global, first: PyObjectRef, second: PyObjectRef) -> Result<ObjList, NoMemory>
+    ensures { IfOk result (λ list. list ≡ first ∷ second ∷ []) }
+{
+    let mut list = ObjList::new(alloc);
+    list.push(first)?;
+    list.push(second)?;
+    Ok(list)
+}
+
+/// The attributes that an `OSError` has: its files.
+fn os_attrs(alloc: Global, args: &[PyObjectRef]) -> Result<AttrMap, NoMemory>
+    ensures { IfOk result (λ attrs. attrs ≡ attrs_of_os args.now) }
+{
+    match args {
+        [_, _, file] => with_file(alloc, *file),
+        [_, _, file, _] => with_file(alloc, *file),
+        [_, _, file, _, second] => {
+            let mut attrs = with_file(alloc, *file)?;
+            attrs.insert(text_of(alloc, b"filename2")?, *second)?;
+            Ok(attrs)
+        }
+        _ => Ok(AttrMap::new(alloc)),
+    }
+}
+
+/// The attributes of an `OSError` with one file.
+fn with_file(alloc: Global, file: PyObjectRef) -> Result<AttrMap, NoMemory>
+    ensures { IfOk result (λ attrs. attrs ≡ (codes "filename", file) ∷ []) }
+{
+    let mut attrs = AttrMap::new(alloc);
+    attrs.insert(text_of(alloc, b"filename")?, file)?;
+    Ok(attrs)
 }

@@ -1,90 +1,90 @@
 //! The built-in exception classes, which each machine begins with.
 
-ghost use Rattle.std.specs.Prelude.{◌≡◌, [], ◌∷◌, ◌++◌, length, map, IfOk, OnOk};
-ghost use Rattle.py_objects.specs.declared.payload.Payload.TheVariants.{None as NonePayload};
+ghost use Rattle.std.specs.Prelude.{◌≡◌, ◌<◌, ◌+◌, ◌^◌, [], ◌∷◌, ◌++◌, length, IfOk, OnOk};
+ghost use Rattle.py_objects.specs.Objects.{class_object};
+ghost use Rattle.py_objects.specs.ErrorKinds.{name_of, place_of};
 ghost use Rattle.py_objects.specs.Attrs.{inserted};
-ghost use Rattle.py_exceptions.specs.Classes.{class_of, class_payload, first_classes, first_declarations};
-ghost use Rattle.py_objects.specs.Objects.{class_object, error_kinds, name_of};
+ghost use Rattle.py_exceptions.specs.Classes.{class_of, class_payload, class_payloads, declarations_of, mro_of, DeclareNothing, HaveClasses};
 
 use py_code::{NoMemory, text_of};
-use py_objects::{AttrMap, ClassBody, ErrorKind, Payload, PyTypeRef, Store};
+use py_objects::{
+    AttrMap, Boxed, ClassBody, ErrorKind, ObjList, Payload, PyObjectRef, PyTypeRef, Store,
+};
 use std::alloc::Global;
 
-/// The class of each kind of built-in exception.
+/// The class of each kind of built-in exception. The classes stand one behind the other, in the order of [`ErrorKind::all`].
 #[derive(Clone, Copy, Debug, PartialEq, Eq)]
 pub struct ExceptionZoo {
-    name_error: PyTypeRef,
-    overflow_error: PyTypeRef,
-    recursion_error: PyTypeRef,
-    type_error: PyTypeRef,
-    unbound_local_error: PyTypeRef,
+    /// The number of the first one.
+    first: u32,
 }
 
 impl ExceptionZoo {
-    /// Adds the classes to a store that has `None` alone, and their names to those that are declared.
-    pub fn new(
+    /// Adds the classes to a store without declarations, and their names to those that are declared.
+    pub fn extend(
         alloc: Global,
         store: &mut Store,
         declarations: &mut AttrMap,
     ) -> Result<ExceptionZoo, NoMemory>
-        requires store { store.old.made ≡ NonePayload ∷ [] }
+        requires store { DeclareNothing store.old.made }
+        requires short { length store.old.made < 2 ^ 32 }
         requires none { declarations.old ≡ [] }
-        ensures objects { OnOk result (store.new.made ≡ NonePayload ∷ map class_payload error_kinds) }
-        ensures unchanged { OnOk result (store.new.changes ≡ store.old.changes) }
-        ensures marked { OnOk result (store.new.mark ≡ store.old.mark) }
-        ensures declarations { OnOk result (declarations.new ≡ first_declarations) }
-        ensures classes { IfOk result (λ zoo. zoo ≡ first_classes) }
+        ensures first { IfOk result (λ zoo. zoo.first ≡ length store.old.made) }
+        ensures added { IfOk result (λ zoo. store.new ≡ record store.old { made = store.old.made ++ class_payloads zoo }) }
+        ensures classes { IfOk result (λ zoo. HaveClasses zoo store.new.made) }
+        ensures declarations { IfOk result (λ zoo. declarations.new ≡ declarations_of zoo) }
     {
-        let name_error = add_class(alloc, store, declarations, ErrorKind::NameError)?;
-        let overflow_error = add_class(alloc, store, declarations, ErrorKind::OverflowError)?;
-        let recursion_error = add_class(alloc, store, declarations, ErrorKind::RecursionError)?;
-        let type_error = add_class(alloc, store, declarations, ErrorKind::TypeError)?;
-        let unbound_local_error = add_class(
-            alloc,
-            store,
-            declarations,
-            ErrorKind::UnboundLocalError,
-        )?;
-        Ok(ExceptionZoo {
-            name_error,
-            overflow_error,
-            recursion_error,
-            type_error,
-            unbound_local_error,
-        })
+        let zoo = ExceptionZoo {
+            first: store.len() as u32,
+        };
+        for kind in ErrorKind::all() {
+            zoo.add_class(alloc, store, declarations, *kind)?;
+        }
+        Ok(zoo)
     }
 
     /// The class of the exceptions of a kind.
     pub fn class(&self, kind: ErrorKind) -> PyTypeRef
         ensures { result ≡ class_of self.now kind }
     {
-        match kind {
-            ErrorKind::NameError => self.name_error,
-            ErrorKind::OverflowError => self.overflow_error,
-            ErrorKind::RecursionError => self.recursion_error,
-            ErrorKind::TypeError => self.type_error,
-            ErrorKind::UnboundLocalError => self.unbound_local_error,
+        PyTypeRef {
+            number: u64::from(self.first) + kind.place(),
         }
     }
-}
 
-/// The class of a kind goes behind the other objects, declared under its name.
-fn add_class(
-    alloc: Global,
-    store: &mut Store,
-    declarations: &mut AttrMap,
-    kind: ErrorKind,
-) -> Result<PyTypeRef, NoMemory>
-    ensures number { IfOk result (λ class. class.number ≡ length store.old.made) }
-    ensures added { OnOk result (store.new ≡ record store.old { made = store.old.made ++ class_payload kind ∷ [] }) }
-    ensures declared { IfOk result (λ class. declarations.new ≡ inserted (name_of kind) (class_object class) declarations.old) }
-{
-    let name = kind.name();
-    let object = store.add(Payload::Class(ClassBody {
-        name: text_of(alloc, name)?,
-    }))?;
-    declarations.insert(text_of(alloc, name)?, object)?;
-    Ok(PyTypeRef {
-        number: object.number,
-    })
+    /// The class of a kind goes behind the other objects, where its bases are, declared under its name.
+    fn add_class(
+        &self,
+        alloc: Global,
+        store: &mut Store,
+        declarations: &mut AttrMap,
+        kind: ErrorKind,
+    ) -> Result<(), NoMemory>
+        requires place { length store.old.made ≡ self.now.first + place_of kind }
+        ensures added { OnOk result (store.new ≡ record store.old { made = store.old.made ++ class_payload self.now kind ∷ [] }) }
+        ensures declared { OnOk result (declarations.new ≡ inserted (name_of kind) (class_object (class_of self.now kind)) declarations.old) }
+    {
+        let name = kind.name();
+        let class = ClassBody {
+            name: text_of(alloc, name)?,
+            mro: self.mro(alloc, kind)?,
+        };
+        let class = store.add(Payload::Class(Boxed::new(alloc, class)?))?;
+        declarations.insert(text_of(alloc, name)?, class)?;
+        Ok(())
+    }
+
+    /// The classes that the class of a kind derives from, the nearest first.
+    fn mro(&self, alloc: Global, kind: ErrorKind) -> Result<ObjList, NoMemory>
+        ensures { IfOk result (λ mro. mro ≡ mro_of self.now kind) }
+    {
+        let mut mro = ObjList::new(alloc);
+        for base in kind.bases() {
+            let class = self.class(*base);
+            mro.push(PyObjectRef {
+                number: class.number,
+            })?;
+        }
+        Ok(mro)
+    }
 }

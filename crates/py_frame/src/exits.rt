@@ -49,7 +49,7 @@ fn class(store: &Store, exception: PyObjectRef) -> PyObjectRef
 {
     match store.get(exception) {
         Payload::Exception(body) => PyObjectRef {
-            number: body.class.number,
+            number: body.value().class.number,
         },
         _ => unreachable!(),
     }
@@ -87,7 +87,7 @@ fn traceback_of(store: &Store, exception: PyObjectRef) -> Option<PyObjectRef>
     ensures { HasTraceback store.now exception result }
 {
     match store.get(exception) {
-        Payload::Exception(body) => body.traceback,
+        Payload::Exception(body) => body.value().traceback,
         _ => unreachable!(),
     }
 }

@@ -13,7 +13,7 @@ use Rattle.py_tree.specs.declared.expr.Expr.{Expr}
 use Rattle.py_tree.specs.declared.expr.Expr.TheVariants as expr
 use Rattle.py_tree.specs.declared.expr.Operation.{Operation}
 use Rattle.py_tree.specs.declared.expr.Operation.TheVariants as operation
-use Rattle.py_tree.specs.Tree.{Name, Form, Assign, Do, Raise, Reraise, Break, Continue, If, IfElse, While, TryExcept, TryFinally, Suite, nothing, first, Tree}
+use Rattle.py_tree.specs.Tree.{Name, Form, Assign, Do, Break, Continue, If, IfElse, While, TryExcept, TryFinally, Suite, nothing, first, Tree}
 use Rattle.py_tree.specs.Compilable.{OperationFits, ExprFits, FormFits, SuiteFits, statements}
 use Rattle.py_tree.specs.Unguarded.{FormIsUnguarded, IsUnguarded}
 use Rattle.py_lines.specs.declared.drive.DriveAtom.{DriveAtom}
@@ -80,8 +80,6 @@ mutual
       let other = suite_keeps (within i (head.If a)) t w.1.1 in
       ((one.0, other.0), (one.1, other.1))
   form_keeps i (While a s) w = suite_keeps (within i (head.While a)) s w.1
-  form_keeps i (Raise a) w = absurd w
-  form_keeps i Reraise w = absurd w
   form_keeps i (TryExcept s cs) w = absurd w
   form_keeps i (TryFinally s t) w = absurd w
   form_keeps i f w = (tt, tt)

@@ -1,7 +1,7 @@
 -- Bodies are short: each statement of a script has a row of its own, each row a line, and each line a byte.
 use Rattle.std.proofs.Common.{◌≡◌, ◌≤◌, ◌+◌, ℕ, suc, List, [], ◌∷◌, ◌++◌, length, Bool, true, false, cond, Option, Some, None, refl, ap, arith, length-append}
 use Rattle.std.specs.Prelude.{◌==◌, ◌&&◌}
-use Rattle.py_tree.specs.Tree.{Form, Raise, Reraise, If, IfElse, While, TryExcept, TryFinally, Suite, nothing, first, Tree}
+use Rattle.py_tree.specs.Tree.{Form, If, IfElse, While, TryExcept, TryFinally, Suite, nothing, first, Tree}
 use Rattle.py_tree.specs.Compilable.{statements_in, statements}
 use Rattle.py_lines.specs.declared.head.Head.TheVariants as head
 use Rattle.py_lines.specs.declared.line.LineRead.{LineRead}
@@ -57,8 +57,6 @@ mutual
       let behind = length-append (suite_rows t) (end_row ∷ []) in
       omega (arith, one, other, all, behind)
   form_size i n (While a s) w = let inside = suite_size (within i (head.While a)) s w.1 in let all = length-append (suite_rows s) (end_row ∷ []) in omega (arith, inside, all)
-  form_size i n (Raise a) w = absurd w
-  form_size i n Reraise w = absurd w
   form_size i n (TryExcept s cs) w = absurd w
   form_size i n (TryFinally s t) w = absurd w
   form_size i n f w = omega arith

@@ -1,7 +1,7 @@
 -- The reader takes the rows of every script.
 use Rattle.std.proofs.Common.{◌≡◌, ℕ, suc, length, List, [], ◌∷◌, ◌++◌, Option, Some, None, true, refl, sym, ap, ◌∙◌, append_assoc, append-nil, length-append, subst, arith, map}
 use Rattle.std.proofs.lemmas.List.{map-append}
-use Rattle.py_tree.specs.Tree.{Name, Form, Assign, Do, Show, Return, Break, Continue, Pass, If, IfElse, While, Suite, nothing, first, Tree}
+use Rattle.py_tree.specs.Tree.{Name, Form, Assign, Do, Show, Return, Raise, Reraise, Break, Continue, Pass, If, IfElse, While, Suite, nothing, first, Tree}
 use Rattle.py_tree.specs.Suites.{joined, add}
 use Rattle.py_lines.specs.declared.drive.DriveLine.{DriveLine}
 use Rattle.py_lines.specs.declared.head.Head.{Head}
@@ -70,6 +70,8 @@ module _ (ts : List Tree) (ds : List DriveLine) (line : ℕ) (k : Kind) (name : 
     form_read (Do o) n bs done rest w = plain_read (plain.Do o) n bs done rest w
     form_read (Show a) n bs done rest w = plain_read (plain.Show a) n bs done rest w
     form_read (Return a) n bs done rest w = plain_read (plain.Return a) n bs done rest w
+    form_read (Raise a) n bs done rest w = plain_read (plain.Raise a) n bs done rest w
+    form_read Reraise n bs done rest w = plain_read plain.Reraise n bs done rest w
     form_read Break n bs done rest w = plain_read plain.Break n bs done rest w
     form_read Continue n bs done rest w = plain_read plain.Continue n bs done rest w
     form_read Pass n bs done rest w = plain_read plain.Pass n bs done rest w

@@ -62,8 +62,8 @@ abbrev mutual
   form_rows n (Do o) = plain_rows n (plain.Do o)
   form_rows n (Show a) = plain_rows n (plain.Show a)
   form_rows n (Return a) = plain_rows n (plain.Return a)
-  form_rows n (Raise a) = []
-  form_rows n Reraise = []
+  form_rows n (Raise a) = plain_rows n (plain.Raise a)
+  form_rows n Reraise = plain_rows n plain.Reraise
   form_rows n Break = plain_rows n plain.Break
   form_rows n Continue = plain_rows n plain.Continue
   form_rows n Pass = plain_rows n plain.Pass
@@ -105,8 +105,8 @@ abbrev mutual
   WellForm i (Do o) = may_hold i (plain.Do o) ≡ true
   WellForm i (Show a) = may_hold i (plain.Show a) ≡ true
   WellForm i (Return a) = may_hold i (plain.Return a) ≡ true
-  WellForm i (Raise a) = ⊥
-  WellForm i Reraise = ⊥
+  WellForm i (Raise a) = may_hold i (plain.Raise a) ≡ true
+  WellForm i Reraise = may_hold i plain.Reraise ≡ true
   WellForm i Break = may_hold i plain.Break ≡ true
   WellForm i Continue = may_hold i plain.Continue ≡ true
   WellForm i Pass = may_hold i plain.Pass ≡ true

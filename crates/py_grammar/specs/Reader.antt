@@ -1,7 +1,7 @@
 -- A reader of lines, by what it has read.
 use Rattle.std.specs.Prelude.{◌≡◌, ℕ, suc, List, [], ◌∷◌, ◌++◌, length, Option, Some, None, option_map, map, Bool, true, false}
 use Rattle.py_tree.specs.declared.expr.Atom.{Atom}
-use Rattle.py_tree.specs.Tree.{Name, Form, Assign, Do, Show, Return, Break, Continue, Pass, If, IfElse, While, Suite, nothing, Tree}
+use Rattle.py_tree.specs.Tree.{Name, Form, Assign, Do, Show, Return, Raise, Reraise, Break, Continue, Pass, If, IfElse, While, Suite, nothing, Tree}
 use Rattle.py_tree.specs.Suites.{add}
 use Rattle.py_lines.specs.declared.drive.DriveLine.{DriveLine}
 use Rattle.py_lines.specs.declared.head.Head.{Head}
@@ -79,6 +79,8 @@ plain_form (plain.Assign x e) = Assign x e
 plain_form (plain.Do o) = Do o
 plain_form (plain.Show a) = Show a
 plain_form (plain.Return a) = Return a
+plain_form (plain.Raise a) = Raise a
+plain_form plain.Reraise = Reraise
 plain_form plain.Break = Break
 plain_form plain.Continue = Continue
 plain_form plain.Pass = Pass

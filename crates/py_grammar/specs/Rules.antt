@@ -1,7 +1,7 @@
 -- The rules on lines that look at what stands around them, each a test.
 use Rattle.std.specs.Prelude.{ℕ, suc, List, [], ◌∷◌, length, Bool, true, false, ◌&&◌, ◌||◌, not, nat_le, nat_lt, bytes_eq, map}
 use Rattle.std.specs.List.{list_any, list_all}
-use Rattle.py_objects.specs.Objects.{error_kinds, name_of}
+use Rattle.py_objects.specs.ErrorKinds.{error_kinds, name_of}
 use Rattle.py_tree.specs.declared.expr.Expr.{Expr}
 use Rattle.py_tree.specs.declared.expr.Expr.TheVariants as expr
 use Rattle.py_tree.specs.declared.expr.Operation.{Operation}
@@ -102,6 +102,8 @@ may_hold i (plain.Assign x e) = may_compute e
 may_hold i (plain.Do o) = may_operate o
 may_hold i (plain.Show a) = true
 may_hold i (plain.Return a) = true
+may_hold i (plain.Raise a) = true
+may_hold i plain.Reraise = true
 may_hold i plain.Break = i.in_loop
 may_hold i plain.Continue = i.in_loop
 may_hold i plain.Pass = true

@@ -66,6 +66,8 @@ fn statement_of(plain: Plain) -> StmtForm
         Plain::Do(operation) => StmtForm::Do(operation),
         Plain::Show(atom) => StmtForm::Show(atom),
         Plain::Return(atom) => StmtForm::Return(atom),
+        Plain::Raise(atom) => StmtForm::Raise(atom),
+        Plain::Reraise => StmtForm::Reraise,
         Plain::Break => StmtForm::Break,
         Plain::Continue => StmtForm::Continue,
         Plain::Pass => StmtForm::Pass,

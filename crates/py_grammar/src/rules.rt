@@ -2,7 +2,7 @@
 
 ghost use Rattle.std.specs.Prelude.{◌≡◌, length, bytes_eq, map};
 ghost use Rattle.std.specs.List.{list_any, list_all};
-ghost use Rattle.py_objects.specs.Objects.{name_of};
+ghost use Rattle.py_objects.specs.ErrorKinds.{name_of};
 ghost use Rattle.py_grammar.specs.Grammar.{declared_as};
 ghost use Rattle.py_grammar.specs.Script.{trees_of};
 ghost use Rattle.py_grammar.specs.Rules.{is_among as is_among_names, all_differ as do_all_differ, is_builtin_class as is_builtin};
@@ -48,37 +48,18 @@ fn all_differ(names: &[PyText]) -> bool
     true
 }
 
-/// Whether the characters of a text are those of an ASCII word.
-fn is_word(text: &PyText, word: &[u8]) -> bool
-    ensures { result ≡ bytes_eq text.now word.now }
-{
-    let mut characters = text.as_slice();
-    let mut bytes = word;
-    while let Some((character, more)) = characters.split_first() {
-        let Some((byte, rest)) = bytes.split_first() else {
-            return false;
-        };
-        if *character != char::from(*byte) {
-            return false;
-        }
-        characters = more;
-        bytes = rest;
-    }
-    bytes.is_empty()
-}
-
 /// Whether a name is that of one of these classes.
 fn is_name_of(name: &PyText, kinds: &[ErrorKind]) -> bool
     ensures { result ≡ list_any (λ kind. bytes_eq name.now (name_of kind)) kinds.now }
 {
-    kinds.iter().any(|kind| is_word(name, kind.name()))
+    kinds.iter().any(|kind| kind.is_name(name))
 }
 
 /// Whether a name is one of the classes that are there without a declaration.
 fn is_builtin_class(name: &PyText) -> bool
     ensures { result ≡ is_builtin name.now }
 {
-    is_name_of(name, &ErrorKind::ALL)
+    is_name_of(name, ErrorKind::all())
 }
 
 /// Whether a function may have this name and these parameters, behind declarations with the names of the table.
@@ -161,6 +142,8 @@ pub fn may_hold(inside: Inside, plain: &Plain) -> bool
         Plain::Do(operation) => may_operate(operation),
         Plain::Show(_) => true,
         Plain::Return(_) => true,
+        Plain::Raise(_) => true,
+        Plain::Reraise => true,
         Plain::Break => inside.in_loop,
         Plain::Continue => inside.in_loop,
         Plain::Pass => true,

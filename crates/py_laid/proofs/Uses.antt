@@ -1,13 +1,17 @@
 -- The code of bodies that guard nothing has units of certain instructions only: prefixes with the instruction behind them,
 -- then expressions, statements and suites.
-use Rattle.std.proofs.Common.{◌≡◌, ◌<◌, ◌≤◌, ◌+◌, ⊎_elim, ℕ, suc, List, [], ◌∷◌, Bool, true, false, cond, Some, None, refl, sym, ap, ◌∙◌, subst, length, drop, arith, add-one}
+use Rattle.std.proofs.Common.{◌≡◌, ◌≢◌, ◌<◌, ◌≤◌, ◌+◌, ⊎_elim, ℕ, suc, List, [], ◌∷◌, Bool, true, false, cond, Some, None, refl, sym, ap, ◌∙◌, subst, length, drop, arith, add-one}
 use Rattle.std.specs.Prelude.{Option, slice_get, bytes_eq}
 use Rattle.std.specs.List.{list_any}
 use Rattle.std.proofs.lemmas.Bool.{cases_lt}
 use Rattle.std.proofs.lemmas.Option.{slice_get_within}
 use Rattle.py_code.specs.declared.instruction.Instruction.{Instruction}
+use Rattle.py_code.specs.declared.instruction.Instruction.TheVariants as instruction
+use Rattle.py_code.specs.declared.operator.RaiseKind.TheVariants as raise
 use Rattle.py_code.specs.declared.unit.CodeUnit.{CodeUnit}
 use Rattle.py_code.specs.Units.{decoded_from, is_prefix, with_byte}
+use Rattle.py_rows.specs.Questions.{raise_of}
+use Rattle.py_rows.proofs.AskingLemmas.{same_raise}
 use Rattle.py_tree.specs.declared.expr.Atom.{Atom}
 use Rattle.py_tree.specs.declared.expr.Atom.TheVariants as atom
 use Rattle.py_tree.specs.declared.expr.Expr.{Expr}
@@ -19,24 +23,33 @@ use Rattle.py_tree.specs.Binding.{locals_of}
 use Rattle.py_tree.specs.Unguarded.{FormIsUnguarded, IsUnguarded}
 use Rattle.py_laid.specs.Code.{Parts, Around, Scope, on, in_loop, Stands, LaidName, LaidAtom, LaidAtoms, LaidTaken, LaidTwo, LaidOperation, LaidExpr, LaidTarget}
 use Rattle.py_laid.specs.Code.{LaidBreak, LaidContinue, LaidForm, LaidSuite, LaidBody, parts_with}
-use Rattle.py_laid.specs.Instructions.{is_unguarded}
+use Rattle.py_laid.specs.Instructions.{is_unguarded_raise, is_unguarded}
 use Rattle.py_laid.specs.Laws.{UnguardedCodeIsPlain}
 use Rattle.py_laid.proofs.UnitLemmas.{slice_get-drop, Some-injective, prefix_is, decoded_is, decoded_as}
+
+-- prefixes change nothing of whether such a unit is one of these
+same_use : (op : Instruction) (state arg : ℕ) → is_unguarded op arg ≡ is_unguarded op (with_byte state arg)
+same_use instruction.Raise state arg = ap is_unguarded_raise (sym (same_raise state arg))
+same_use _ state arg = refl
+
+-- a raise of such a body has no cause
+pub unguarded_raise : (arg : ℕ) → is_unguarded instruction.Raise arg ≡ true → raise_of arg ≢ Some raise.RaiseCause
+unguarded_raise arg used cause = let clash : false ≡ true = sym (ap is_unguarded_raise cause) ∙ used in cc clash
 
 module _ (parts : Parts) where
   -- each unit from one place up to another is of such an instruction
   abbrev Uses : ℕ → ℕ → Type 0
-  Uses at next = (k : ℕ) → at ≤ k → k < next → (u : CodeUnit) → slice_get parts.units k ≡ Some u → is_unguarded u.op ≡ true
+  Uses at next = (k : ℕ) → at ≤ k → k < next → (u : CodeUnit) → slice_get parts.units k ≡ Some u → is_unguarded u.op u.arg ≡ true
 
   -- no unit, one unit, and units behind units
   uses_none : (at next : ℕ) → next ≡ at → Uses at next
   uses_none at next is_at k low high u here = absurd (omega (arith, is_at, low, high))
 
-  uses_one : (at : ℕ) (u : CodeUnit) → slice_get parts.units at ≡ Some u → is_unguarded u.op ≡ true → Uses at (suc at)
+  uses_one : (at : ℕ) (u : CodeUnit) → slice_get parts.units at ≡ Some u → is_unguarded u.op u.arg ≡ true → Uses at (suc at)
   uses_one at u here used k low high v there =
       let same : at ≡ k = omega (arith, low, high) in
       let is : u ≡ v = Some-injective u v (sym here ∙ ap (slice_get parts.units) same ∙ there) in
-      subst (λ (w : CodeUnit). is_unguarded w.op ≡ true) is used
+      subst (λ (w : CodeUnit). is_unguarded w.op w.arg ≡ true) is used
 
   uses_then : (at mid next : ℕ) → Uses at mid → Uses mid next → Uses at next
   uses_then at mid next front rest k low high = ⊎_elim (λ less. front k low less) (λ more. rest k more high) (cases_lt k mid)
@@ -45,7 +58,7 @@ module _ (parts : Parts) where
 
   -- an instruction with its prefixes
   decoded_uses : (left : List CodeUnit) (at state arg next : ℕ) (op : Instruction) → drop at parts.units ≡ left → decoded_from state at left ≡ decoded_as op arg next
-      → is_unguarded op ≡ true → Uses at next
+      → is_unguarded op arg ≡ true → Uses at next
   decoded_uses [] at state arg next op here d used = absurd (cc)
   decoded_uses (u ∷ us) at state arg next op here d used =
       by (is_prefix u.op) refl d (λ more. decoded_uses us (suc at) (with_byte state u.arg) arg next op first_unit.1 more used)
@@ -58,12 +71,12 @@ module _ (parts : Parts) where
           → (decoded_from (with_byte state u.arg) (suc at) us ≡ decoded_as op arg next → Uses (suc at) next) → Uses at next
       by true prefixed d later =
           let place : at + 1 ≡ suc at = add-one at in
-          uses_then at (suc at) next (uses_one at u first_unit.0 (ap is_unguarded (prefix_is u.op prefixed))) (later (rw place at d))
+          uses_then at (suc at) next (uses_one at u first_unit.0 (ap (λ (o : Instruction). is_unguarded o u.arg) (prefix_is u.op prefixed))) (later (rw place at d))
       by false plain d later =
           let (is_op, is_arg, is_next) = decoded_is _ _ d in
-          subst (Uses at) (sym (add-one at) ∙ is_next) (uses_one at u first_unit.0 (ap is_unguarded is_op ∙ used))
+          subst (Uses at) (sym (add-one at) ∙ is_next) (uses_one at u first_unit.0 (same_use u.op state u.arg ∙ ap (is_unguarded u.op) is_arg ∙ ap (λ (o : Instruction). is_unguarded o arg) is_op ∙ used))
 
-  stands_uses : (scope : Scope) (line at arg next : ℕ) (op : Instruction) → Stands parts scope line at op arg next → is_unguarded op ≡ true → Uses at next
+  stands_uses : (scope : Scope) (line at arg next : ℕ) (op : Instruction) → Stands parts scope line at op arg next → is_unguarded op arg ≡ true → Uses at next
   stands_uses scope line at arg next op stands used = decoded_uses (drop at parts.units) at 0 arg next op refl stands.decoded used
 
   -- ---- expressions
@@ -83,7 +96,7 @@ module _ (parts : Parts) where
   atoms_uses scope line [] at next is_at = uses_none at next is_at
   atoms_uses scope line (a ∷ atoms) at next (mid, one, rest) = uses_then at mid next (atom_uses scope line a at mid one) (atoms_uses (on scope) line atoms mid next rest)
 
-  two_uses : (scope : Scope) (line : ℕ) (a b : Atom) (op : Instruction) (arg at next : ℕ) → is_unguarded op ≡ true → LaidTwo parts scope line a b op arg at next → Uses at next
+  two_uses : (scope : Scope) (line : ℕ) (a b : Atom) (op : Instruction) (arg at next : ℕ) → is_unguarded op arg ≡ true → LaidTwo parts scope line a b op arg at next → Uses at next
   two_uses scope line a b op arg at next used (mid, asks, one, other, stands) =
       uses_then at mid next (atom_uses scope line a at mid one)
       (uses_then mid asks next (atom_uses (on scope) line b mid asks other) (stands_uses _ line asks arg next op stands used))
@@ -116,7 +129,7 @@ module _ (parts : Parts) where
   continue_uses (Some l) scope line at next stands = stands_uses scope line at l.again next _ stands refl
 
   -- an atom, and the unit that takes it
-  taken_uses : (scope : Scope) (line : ℕ) (a : Atom) (op : Instruction) (arg at next : ℕ) → is_unguarded op ≡ true → LaidTaken parts scope line a op arg at next → Uses at next
+  taken_uses : (scope : Scope) (line : ℕ) (a : Atom) (op : Instruction) (arg at next : ℕ) → is_unguarded op arg ≡ true → LaidTaken parts scope line a op arg at next → Uses at next
   taken_uses scope line a op arg at next used (asks, laid, stands) = uses_then at asks next (atom_uses scope line a at asks laid) (stands_uses (on scope) line asks arg next op stands used)
 
   mutual
@@ -126,8 +139,8 @@ module _ (parts : Parts) where
     form_uses (Do o) scope line at next plain (drops, laid, pop) = uses_then at drops next (operation_uses scope line o at drops laid) (target_uses scope line None drops next pop)
     form_uses (Show a) scope line at next plain laid = taken_uses scope line a _ 0 at next refl laid
     form_uses (Return a) scope line at next plain laid = taken_uses scope line a _ 0 at next refl laid
-    form_uses (Raise a) scope line at next plain laid = absurd plain
-    form_uses Reraise scope line at next plain laid = absurd plain
+    form_uses (Raise a) scope line at next plain laid = taken_uses scope line a _ _ at next refl laid
+    form_uses Reraise scope line at next plain laid = stands_uses scope line at _ next _ laid refl
     form_uses Break scope line at next plain laid = break_uses scope.around scope line at next laid
     form_uses Continue scope line at next plain laid = continue_uses scope.around scope line at next laid
     form_uses Pass scope line at next plain is_at = uses_none at next is_at

@@ -123,6 +123,8 @@ find_plain ts =
     or_else (find_behind (behind_key keyword.Do ts) find_parenthesized) (λ o. Found (plain.Do o)) λ no_do.
     or_else (find_behind (behind_key keyword.Show ts) (find_lone find_atom)) (λ a. Found (plain.Show a)) λ no_show.
     or_else (find_behind (behind_key keyword.Return ts) (find_lone find_atom)) (λ a. Found (plain.Return a)) λ no_return.
+    or_else (find_behind (behind_key keyword.Raise ts) (find_lone find_atom)) (λ a. Found (plain.Raise a)) λ no_raise.
+    or_else (find_behind (behind_key keyword.Reraise ts) find_nothing) (λ x. Found plain.Reraise) λ no_reraise.
     or_else (find_behind (behind_key keyword.Break ts) find_nothing) (λ x. Found plain.Break) λ no_break.
     or_else (find_behind (behind_key keyword.Continue ts) find_nothing) (λ x. Found plain.Continue) λ no_continue.
     or_else (find_behind (behind_key keyword.Pass ts) find_nothing) (λ x. Found plain.Pass) λ no_pass.
@@ -131,6 +133,8 @@ find_plain ts =
       | plain.Do o ↦ no_do o
       | plain.Show a ↦ no_show a
       | plain.Return a ↦ no_return a
+      | plain.Raise a ↦ no_raise a
+      | plain.Reraise ↦ no_reraise tt
       | plain.Break ↦ no_break tt
       | plain.Continue ↦ no_continue tt
       | plain.Pass ↦ no_pass tt

@@ -24,6 +24,10 @@ pub enum Plain {
     Show(Atom),
     /// `return a`.
     Return(Atom),
+    /// `raise a`.
+    Raise(Atom),
+    /// `reraise`.
+    Reraise,
     /// `break`.
     Break,
     /// `continue`.
@@ -58,6 +62,8 @@ fn read_statement(
         Keyword::Do => Ok(parenthesized(alloc, rest)?.map(Plain::Do)),
         Keyword::Show => Ok(lone_atom(alloc, rest)?.map(Plain::Show)),
         Keyword::Return => Ok(lone_atom(alloc, rest)?.map(Plain::Return)),
+        Keyword::Raise => Ok(lone_atom(alloc, rest)?.map(Plain::Raise)),
+        Keyword::Reraise => Ok(alone(Plain::Reraise, rest)),
         Keyword::Break => Ok(alone(Plain::Break, rest)),
         Keyword::Continue => Ok(alone(Plain::Continue, rest)),
         Keyword::Pass => Ok(alone(Plain::Pass, rest)),

@@ -2,7 +2,7 @@
 use Rattle.std.proofs.Common.{◌≡◌, ◌++◌, ℕ, zero, suc, List, [], ◌∷◌, Some, append_assoc, ◌<◌, ◌≤◌, ◌-◌, Bool, true, false, cond, refl, sym, ap, subst, ◌∙◌, length, length-append, append-nil, arith, ◌⊎◌, inl, inr}
 use Rattle.std.specs.Prelude.{slice_get, Option, None}
 use Rattle.py_objects.specs.declared.payload.Payload.{Payload}
-use Rattle.py_objects.specs.Objects.{Obj, HasPayload, Name, declares, is_name, declared_from, declared, payload_numbers, AllBelow, IsMade, AllFit, IfThere, IsNew}
+use Rattle.py_objects.specs.Objects.{Obj, HasPayload, Name, declares, is_name, declared_from, declared, payload_numbers, AllBelow, AreClasses, IsMade, AllFit, IfThere, IsNew}
 use Rattle.py_objects.specs.Growth.{Grows, GrowsPlainly}
 use Rattle.py_objects.specs.declared.payload.Payload.TheVariants as payload
 use Rattle.py_objects.specs.declared.event.Event.{Event}
@@ -54,6 +54,11 @@ there_grown : {P Q : Obj → Type 0} (v : Option Obj) → ((w : Obj) → P w →
 there_grown None f there = tt
 there_grown (Some v) f there = f v there
 
+-- classes stay classes
+pub classes_grown : (objects objects' : List Payload) (vs : List Obj) → Grows objects objects' → AreClasses objects vs → AreClasses objects' vs
+classes_grown objects objects' [] grows classes = tt
+classes_grown objects objects' (v ∷ vs) grows ((c, is), more) = ((c, payload_grown objects objects' _ _ grows is), classes_grown objects objects' vs grows more)
+
 -- an entry's objects are of their kinds also among more objects
 pub made_grown : (objects objects' : List Payload) (p : Payload) → Grows objects objects' → IsMade objects p → IsMade objects' p
 made_grown objects objects' payload.None grows made = tt
@@ -62,7 +67,7 @@ made_grown objects objects' (payload.Int n) grows made = tt
 made_grown objects objects' (payload.Str s) grows made = tt
 made_grown objects objects' (payload.Tuple vs) grows made = tt
 made_grown objects objects' (payload.Dict ps) grows made = tt
-made_grown objects objects' (payload.Class c) grows made = tt
+made_grown objects objects' (payload.Class c) grows made = classes_grown objects objects' c.mro grows made
 made_grown objects objects' (payload.Function f) grows made = tt
 made_grown objects objects' (payload.Manager m) grows ((f, is_enter), (g, is_exit)) =
     ((f, payload_grown objects objects' _ _ grows is_enter), (g, payload_grown objects objects' _ _ grows is_exit))

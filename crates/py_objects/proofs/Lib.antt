@@ -1,3 +1,5 @@
+-- the places of the built-in classes
+pub mod ErrorKindsLemmas
 pub mod AttrsLemmas
 pub mod PairsLemmas
 pub mod Slots
@@ -10,3 +12,5 @@ pub mod OwnLemmas
 pub mod GrowthLemmas
 pub mod GrownLemmas
 pub mod NewLemmas
+-- what a class derives from stays, through changes and as more objects come
+pub mod AncestryLemmas

@@ -1,5 +1,5 @@
 -- Lists with one entry set.
-use Rattle.std.proofs.Common.{◌≡◌, ◌≢◌, ℕ, zero, suc, ◌<◌, List, [], ◌∷◌, Some, length, set, slice_get, refl, ap, arith}
+use Rattle.std.proofs.Common.{◌≡◌, ◌≢◌, ℕ, zero, suc, ◌<◌, Option, List, [], ◌∷◌, Some, length, set, slice_get, refl, ap, sym, ◌∙◌, arith}
 
 pub slice_get-set_same : {X : Type 0} (xs : List X) (i : ℕ) (x : X) → i < length xs → slice_get (set xs i x) i ≡ Some x
 slice_get-set_same [] i x within = absurd (omega arith)
@@ -32,3 +32,12 @@ pub there : {X : Type 0} (xs : List X) (i : ℕ) → i < length xs → (x : X) �
 there [] i within = absurd (omega arith)
 there (x ∷ xs) zero within = (x, refl)
 there (x ∷ xs) (suc i) within = there xs i (omega arith)
+
+-- what reads alike of an entry and of the one that takes its place is read at each place as before
+pub read_set : {A B : Type 0} (f : Option A → B) (xs : List A) (i j : ℕ) (x y : A) → slice_get xs i ≡ Some x → f (Some y) ≡ f (Some x)
+    → f (slice_get (set xs i y) j) ≡ f (slice_get xs j)
+read_set f [] i j x y here same = refl
+read_set f (z ∷ zs) zero zero x y here same = same ∙ ap f (sym here)
+read_set f (z ∷ zs) zero (suc j) x y here same = refl
+read_set f (z ∷ zs) (suc i) zero x y here same = refl
+read_set f (z ∷ zs) (suc i) (suc j) x y here same = read_set f zs i j x y here same

@@ -9,9 +9,11 @@ use Rattle.py_objects.specs.declared.payload.Payload.TheVariants as payload
 use Rattle.py_objects.specs.declared.edit.Edit.{Edit}
 use Rattle.py_objects.specs.declared.edit.Change.{Change}
 use Rattle.py_objects.specs.declared.store.Original.{Original}
-use Rattle.py_objects.specs.Objects.{Obj, HasPayload, AllBelow, payload_numbers}
+use Rattle.py_objects.specs.Objects.{Obj, Name, HasPayload, AllBelow, payload_numbers}
+use Rattle.py_objects.specs.Ancestry.{derives_from}
 use Rattle.py_objects.specs.Edits.{Kept, objects_of, store_at, changed_by, with_edit, edit_numbers, EditFits, IsEdited}
 use Rattle.py_objects.specs.Originals.{may_change, original_of, with_copy, restored, AreMarked, AreWithin, IsKept, FitsEntry}
+use Rattle.py_objects.proofs.AncestryLemmas.{changed_derives}
 use Rattle.py_objects.proofs.Slots.{there}
 use Rattle.py_objects.proofs.EditsLemmas.{length-with_edit}
 use Rattle.py_objects.proofs.OriginalsLemmas.{noted, filter-marked, length-restored, restored-noted, restored-with_edit, IsKept-add, IsKept-change}
@@ -47,6 +49,11 @@ module _ (os : List Original) (now : List Payload) (cs : List Change) (mark spar
 
   pub objects-now : objects_of s ≡ now
   objects-now = ap objects_of (sym view) ∙ sym kept.changed
+
+  -- ---- what a class derives from
+
+  pub derives_as_made : (v : Obj) (n : Name) → derives_from now v n ≡ derives_from s.made v n
+  derives_as_made v n = ap (λ objects. derives_from objects v n) (sym objects-now) ∙ changed_derives s.made s.changes v n
 
   -- ---- reading an object
 

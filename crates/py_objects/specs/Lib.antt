@@ -1,7 +1,11 @@
 -- numbers of objects
 pub mod Refs
+-- the built-in exception classes by their names
+pub mod ErrorKinds
 -- what objects are, and which are new
 pub mod Objects
+-- which classes a class derives from
+pub mod Ancestry
 -- objects that come behind others
 pub mod Growth
 -- an activation's own events, and the words in which bodies tell them

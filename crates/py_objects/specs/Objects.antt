@@ -1,5 +1,5 @@
 -- What the objects of a run are: by number, by the names that they are declared under, and which are new.
-use Rattle.std.specs.Prelude.{ℕ, suc, ◌<◌, Option, Some, None, List, [], ◌∷◌, ◌++◌, Bool, false, ◌≡◌, ◌||◌, slice_get, length, eqb, bytes_eq, if◌then◌else◌, codes}
+use Rattle.std.specs.Prelude.{ℕ, suc, ◌<◌, Option, Some, None, List, [], ◌∷◌, ◌++◌, Bool, false, ◌≡◌, ◌||◌, slice_get, length, eqb, bytes_eq, if◌then◌else◌}
 pub use Rattle.py_objects.specs.Refs.{Obj, Name}
 use Rattle.py_objects.specs.declared.refs.PyTypeRef.{PyTypeRef}
 use Rattle.py_objects.specs.declared.refs.PyBaseExceptionRef.{PyBaseExceptionRef}
@@ -9,8 +9,6 @@ use Rattle.py_objects.specs.declared.payload.ClassBody.{ClassBody}
 use Rattle.py_objects.specs.declared.payload.FunctionBody.{FunctionBody}
 use Rattle.py_objects.specs.declared.payload.ExceptionBody.{ExceptionBody}
 use Rattle.py_objects.specs.declared.payload.TracebackBody.{TracebackBody}
-use Rattle.py_objects.specs.declared.payload.ErrorKind.{ErrorKind}
-use Rattle.py_objects.specs.declared.payload.ErrorKind.TheVariants.{NameError, OverflowError, RecursionError, TypeError, UnboundLocalError}
 use Rattle.py_objects.specs.declared.request.Keywords.{Keywords}
 use Rattle.py_objects.specs.declared.request.Keywords.TheVariants as keywords
 use Rattle.py_objects.specs.declared.request.Request.{Request}
@@ -63,18 +61,6 @@ declared_from i (p ∷ ps) n = if is_name n (declares p) then Some (record { num
 abbrev pub declared : List Payload → Name → Option Obj
 declared objects n = declared_from 0 objects n
 
--- the name of a built-in exception class
-abbrev pub name_of : ErrorKind → Name
-name_of NameError = codes "NameError"
-name_of OverflowError = codes "OverflowError"
-name_of RecursionError = codes "RecursionError"
-name_of TypeError = codes "TypeError"
-name_of UnboundLocalError = codes "UnboundLocalError"
-
--- the built-in exception classes, in the order of their objects
-abbrev pub error_kinds : List ErrorKind
-error_kinds = NameError ∷ OverflowError ∷ RecursionError ∷ TypeError ∷ UnboundLocalError ∷ []
-
 -- the numbers of objects, in order
 abbrev pub numbers : List Obj → List ℕ
 numbers [] = []
@@ -108,7 +94,7 @@ payload_numbers (payload.Int n) = []
 payload_numbers (payload.Str s) = []
 payload_numbers (payload.Tuple vs) = numbers vs
 payload_numbers (payload.Dict ps) = pair_numbers ps
-payload_numbers (payload.Class c) = []
+payload_numbers (payload.Class c) = numbers c.mro
 payload_numbers (payload.Function f) = []
 payload_numbers (payload.Manager m) = m.enter.number ∷ m.exit.number ∷ []
 payload_numbers (payload.Frame c) = []
@@ -246,11 +232,19 @@ pub record AreNamed (objects : List Payload) (events : List Event) : Type 0 wher
 abbrev pub IsFunction : List Payload → Obj → Type 0
 IsFunction objects v = (f : FunctionBody) × HasPayload objects v (payload.Function f)
 
+abbrev pub IsClassObject : List Payload → Obj → Type 0
+IsClassObject objects v = (c : ClassBody) × HasPayload objects v (payload.Class c)
+
 abbrev pub IsException : List Payload → Obj → Type 0
 IsException objects v = (e : ExceptionBody) × HasPayload objects v (payload.Exception e)
 
 abbrev pub IsTraceback : List Payload → Obj → Type 0
 IsTraceback objects v = (t : TracebackBody) × HasPayload objects v (payload.Traceback t)
+
+-- each of these is a class
+abbrev pub AreClasses : List Payload → List Obj → Type 0
+AreClasses objects [] = Unit {0}
+AreClasses objects (v ∷ vs) = IsClassObject objects v × AreClasses objects vs
 
 -- what holds of an object, where there is one
 abbrev pub IfThere : (Obj → Type 0) → Option Obj → Type 0
@@ -270,6 +264,7 @@ pub record IsExceptionMade (objects : List Payload) (e : ExceptionBody) : Type 0
 
 -- the objects that an entry names are of the kinds that it needs
 abbrev pub IsMade : List Payload → Payload → Type 0
+IsMade objects (payload.Class c) = AreClasses objects c.mro
 IsMade objects (payload.Manager m) = IsFunction objects m.enter × IsFunction objects m.exit
 IsMade objects (payload.Exception e) = IsExceptionMade objects e
 IsMade objects (payload.Traceback t) = IfThere (IsTraceback objects) t.next × ((c : ℕ) × HasPayload objects (record { number = t.frame.number }) (payload.Frame c))

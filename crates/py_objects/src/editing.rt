@@ -9,6 +9,7 @@ ghost use Rattle.py_objects.specs.declared.payload.Payload.{Payload as PayloadOf
 ghost use Rattle.py_objects.specs.declared.payload.Payload.TheVariants.{Dict as DictPayload};
 ghost use Rattle.py_objects.specs.declared.edit.Edit.TheVariants.{Attr as AttrEdit, Drop as DropEdit, Put as PutEdit};
 
+use crate::boxed::Boxed;
 use crate::edit::{Edit, LinkField};
 use crate::keys::place_of_key;
 use crate::payload::{ExceptionBody, Payload, TracebackBody};
@@ -18,7 +19,7 @@ use std::alloc::Global;
 
 impl ExceptionBody {
     /// The same exception in a body of its own.
-    pub(crate) fn copy(&self) -> Result<ExceptionBody, NoMemory>
+    fn copy(&self) -> Result<ExceptionBody, NoMemory>
         ensures { IfOk result (λ copy. copy ≡ self.now) }
     {
         Ok(ExceptionBody {
@@ -59,6 +60,34 @@ impl ExceptionBody {
     }
 }
 
+impl Boxed<ExceptionBody> {
+    /// The same exception in a box of its own.
+    pub(crate) fn copy(&self, alloc: Global) -> Result<Boxed<ExceptionBody>, NoMemory>
+        ensures { IfOk result (λ copy. copy ≡ self.now) }
+    {
+        Boxed::new(alloc, self.value().copy()?)
+    }
+
+    /// Sets an attribute.
+    fn set_attr(&mut self, name: PyText, value: PyObjectRef) -> Result<(), NoMemory>
+        ensures edited { OnOk result (self.new ≡ edited_exception (AttrEdit name (Some value)) self.old) }
+        ensures err { OnErr result (self.new ≡ self.old) }
+    {
+        let body: &mut ExceptionBody = &mut self.value;
+        body.attrs.insert(name, value)
+    }
+
+    /// Makes an edit that takes no memory.
+    fn edit_in_place(&mut self, edit: &Edit)
+        requires fits { FitsException edit.now }
+        requires in_place { IsInPlace edit.now }
+        ensures { self.new ≡ edited_exception edit.now self.old }
+    {
+        let body: &mut ExceptionBody = &mut self.value;
+        body.edit_in_place(edit)
+    }
+}
+
 impl TracebackBody {
     /// Makes an edit.
     fn edit_in_place(&mut self, edit: &Edit)
@@ -90,7 +119,7 @@ impl Payload {
     {
         match self {
             Payload::Dict(pairs) => Ok(Some(Payload::Dict(pairs.copy(alloc)?))),
-            Payload::Exception(body) => Ok(Some(Payload::Exception(body.copy()?))),
+            Payload::Exception(body) => Ok(Some(Payload::Exception(body.copy(alloc)?))),
             Payload::Traceback(body) => Ok(Some(Payload::Traceback(*body))),
             Payload::None
             | Payload::Bool(_)
@@ -112,7 +141,7 @@ impl Payload {
         ensures err { OnErr result (self.new ≡ self.old) }
     {
         match self {
-            Payload::Exception(body) => body.attrs.insert(name, value),
+            Payload::Exception(body) => body.set_attr(name, value),
             Payload::None
             | Payload::Bool(_)
             | Payload::Int(_)

@@ -8,6 +8,7 @@ ghost use Rattle.py_objects.specs.declared.payload.ExceptionBody.{ExceptionBody 
 ghost use Rattle.py_objects.specs.declared.payload.Payload.{Payload as PayloadOf};
 ghost use Rattle.py_objects.specs.declared.payload.TracebackBody.{TracebackBody as Traceback};
 
+use crate::boxed::Boxed;
 use crate::edit::{ChangeList, Edit, LinkField};
 use crate::editing::edit_any;
 use crate::payload::{ClassBody, CoroBody, FunctionBody, ManagerBody, Payload, PayloadList};
@@ -21,6 +22,7 @@ impl ClassBody {
     {
         Ok(ClassBody {
             name: self.name.copy(alloc)?,
+            mro: self.mro.copy(alloc)?,
         })
     }
 }
@@ -71,12 +73,14 @@ impl Payload {
             Payload::Str(text) => Payload::Str(text.copy(alloc)?),
             Payload::Tuple(items) => Payload::Tuple(items.copy(alloc)?),
             Payload::Dict(pairs) => Payload::Dict(pairs.copy(alloc)?),
-            Payload::Class(class) => Payload::Class(class.copy(alloc)?),
+            Payload::Class(class) => {
+                Payload::Class(Boxed::new(alloc, class.value().copy(alloc)?)?)
+            }
             Payload::Function(function) => Payload::Function(function.copy(alloc)?),
             Payload::Manager(manager) => Payload::Manager(manager.copy(alloc)?),
             Payload::Frame(code) => Payload::Frame(*code),
             Payload::Generator(coro) => Payload::Generator(coro.copy(alloc)?),
-            Payload::Exception(exception) => Payload::Exception(exception.copy()?),
+            Payload::Exception(exception) => Payload::Exception(exception.copy(alloc)?),
             Payload::Traceback(traceback) => Payload::Traceback(*traceback),
         })
     }

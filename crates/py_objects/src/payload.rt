@@ -1,14 +1,13 @@
 //! What an object is.
 
-ghost use Rattle.std.specs.Prelude.{◌≡◌};
-ghost use Rattle.py_objects.specs.Objects.{name_of};
-
 use crate::attr_map::AttrMap;
+use crate::boxed::Boxed;
+use crate::error_kind::ErrorKind;
 use crate::pair_list::PairList;
 use crate::refs::{FrameRef, ObjList, PyObjectRef, PyTypeRef};
 use py_code::{ItemList, PyText};
 
-/// What an object is. Names are texts; other objects are named by their numbers.
+/// What an object is. Names are texts; other objects are named by their numbers. A store has one of these for each object, so they are small.
 #[derive(Debug, Drop)]
 pub enum Payload {
     None,
@@ -18,23 +17,24 @@ pub enum Payload {
     Tuple(ObjList),
     /// Keys with their values, in the order in which the keys came.
     Dict(PairList),
-    Class(ClassBody),
+    Class(Boxed<ClassBody>),
     Function(FunctionBody),
     Manager(ManagerBody),
     /// A frame, by the number of its code among the codes of the run.
     Frame(u64),
     Generator(CoroBody),
-    Exception(ExceptionBody),
+    Exception(Boxed<ExceptionBody>),
     Traceback(TracebackBody),
 }
 
 /// Payloads in order: the entries of a store.
 pub type PayloadList = ItemList<Payload>;
 
-/// A class.
+/// A class, with those that it derives from, the nearest first, itself left out (Python Language Reference, 3.3.3.1).
 #[derive(Debug, Drop)]
 pub struct ClassBody {
     pub name: PyText,
+    pub mro: ObjList,
 }
 
 /// A function, with the number of its code among the codes of the run.
@@ -89,40 +89,6 @@ pub struct TracebackBody {
     pub frame: FrameRef,
     pub lasti: u32,
     pub lineno: u32,
-}
-
-/// The built-in exception classes.
-#[derive(Clone, Copy, Debug, PartialEq, Eq)]
-pub enum ErrorKind {
-    NameError,
-    OverflowError,
-    RecursionError,
-    TypeError,
-    UnboundLocalError,
-}
-
-impl ErrorKind {
-    /// All of them, in the order of their objects.
-    pub const ALL: [ErrorKind; 5] = [
-        ErrorKind::NameError,
-        ErrorKind::OverflowError,
-        ErrorKind::RecursionError,
-        ErrorKind::TypeError,
-        ErrorKind::UnboundLocalError,
-    ];
-
-    /// The class's name, in ASCII.
-    pub fn name(self) -> &'static [u8]
-        ensures { result.now ≡ name_of self }
-    {
-        match self {
-            ErrorKind::NameError => b"NameError".as_slice(),
-            ErrorKind::OverflowError => b"OverflowError".as_slice(),
-            ErrorKind::RecursionError => b"RecursionError".as_slice(),
-            ErrorKind::TypeError => b"TypeError".as_slice(),
-            ErrorKind::UnboundLocalError => b"UnboundLocalError".as_slice(),
-        }
-    }
 }
 
 /// An exception that is to be made: its class, and its one argument, a text.

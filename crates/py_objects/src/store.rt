@@ -1,16 +1,20 @@
 //! The store: the objects of a run, as they were made and as they are.
 
 ghost use Rattle.std.specs.Prelude.{◌≡◌, ◌<◌, ◌≤◌, ◌+◌, ℕ, [], ◌∷◌, ◌++◌, length, slice_get, slice_set, Some, IfOk, OnOk, OnErr, vec_len, vec_capacity};
-ghost use Rattle.py_objects.specs.Objects.{HasPayload, AllBelow, payload_numbers};
+ghost use Rattle.py_objects.specs.ErrorKinds.{name_of};
+ghost use Rattle.py_objects.specs.Objects.{HasPayload, AllBelow, class_object, payload_numbers};
+ghost use Rattle.py_objects.specs.Ancestry.{derives_from as derives};
 ghost use Rattle.py_objects.specs.Edits.{objects_of, store_at, edit_numbers, EditFits, IsInPlace, IsAsBefore, IsEdited};
 ghost use Rattle.py_objects.specs.Originals.{original_of, with_copy};
 ghost use Rattle.py_objects.specs.declared.payload.Payload.{Payload as PayloadOf};
 ghost use Rattle.py_objects.specs.declared.payload.Payload.TheVariants.{None as NonePayload};
 
+use crate::ancestry::derives_from;
 use crate::edit::{Change, ChangeList, Edit, History};
 use crate::editing::{edit_any, edit_in_place};
+use crate::error_kind::ErrorKind;
 use crate::payload::{Payload, PayloadList};
-use crate::refs::PyObjectRef;
+use crate::refs::{PyObjectRef, PyTypeRef};
 use py_code::NoMemory;
 use std::alloc::Global;
 use std::marker::Model;
@@ -89,6 +93,13 @@ impl Store {
         ensures at { (k : ℕ) → self.now.mark ≤ k → slice_get (store_at self.now.made self.now.changes k) object.number ≡ Some result.now }
     {
         &self.payloads[object.number as usize]
+    }
+
+    /// Whether a class has the name of a built-in one, or derives from one that has it.
+    pub fn derives_from(&self, class: PyTypeRef, kind: ErrorKind) -> bool
+        ensures { result ≡ derives self.now.made (class_object class) (name_of kind) }
+    {
+        derives_from(self.payloads.as_slice(), class, kind)
     }
 
     /// A new object, whose number is that of the objects before. It names objects that are there, or itself.

@@ -55,7 +55,7 @@ use Rattle.py_rows.specs.Unwinding.{left}
 use Rattle.py_rows.specs.Answers.{HasKind, Suits}
 use Rattle.py_rows.specs.Answers as answers
 use Rattle.py_rows.specs.Asked.{name_of_local, asked}
-use Rattle.py_rows.specs.Questions.{may_ask, UnitAsks, UnitYields}
+use Rattle.py_rows.specs.Questions.{raise_of, may_raise, may_ask, UnitAsks, UnitYields}
 use Rattle.py_rows.specs.Fitting.{HaveKinds, MayWait, TypeWaits, type_number, IsBlock, AreBlocks, Has, wanted_of, raise_left, left_own, left_by, left_of, FitsBut}
 use Rattle.py_rows.specs.Sound.{IsSound}
 use Rattle.py_rows.specs.Laws.{RaisedThere, Always}
@@ -66,7 +66,7 @@ use Rattle.py_rows.proofs.LandingLemmas.{Fits, StepFits, arrived, on_fits, may_j
 use Rattle.py_rows.proofs.BehindLemmas.{arrives_behind, fits_behind}
 use Rattle.py_rows.proofs.UnwindingLemmas.{leaves, leaves_with}
 use Rattle.py_rows.proofs.TakingLemmas.{bottom-cons, bottom-drop, handlers_same, reached, places_there, takes_rest, has_under, off, EndsExit, ends_exit}
-use Rattle.py_rows.proofs.AskingLemmas.{unit_asks, got_there, Wants, AsksAs, named, asked_there}
+use Rattle.py_rows.proofs.AskingLemmas.{unit_asks, raise_is, got_there, Wants, AsksAs, named, asked_there}
 
 -- a loaded constant has a payload, and an object of it is of the constant's kind
 literal_kind : (objects : List Payload) (l : Literal) → is_loaded l ≡ true → (p : Payload) × (payload_of l ≡ Some p) × ((v : Obj) → HasPayload objects v p → HasKind objects v (kind_of l))
@@ -139,7 +139,7 @@ module _ (objects : List Payload) (names : List (List ℕ)) (globals : Obj) (clo
   goes_behind plain ks bs stack ds locals slot may holds are count = fits_behind objects code s unit is goes plain ks bs stack ds locals slot may holds are count
 
   -- the unit may ask what its instruction may
-  may_be_asked : (op : Instruction) → unit.op ≡ op → (r : Request) → may_ask op r ≡ true → UnitAsks (slice_get code.code.code.instructions.items s.at) r
+  may_be_asked : (op : Instruction) → unit.op ≡ op → (r : Request) → may_ask op unit.arg r ≡ true → UnitAsks (slice_get code.code.code.instructions.items s.at) r
   may_be_asked op is_op r asks = unit_asks code.code.code.instructions.items s.at unit is op is_op r asks
 
   -- a frame that waits fits the note but for what its unit took
@@ -187,7 +187,7 @@ module _ (objects : List Payload) (names : List (List ℕ)) (globals : Obj) (clo
       asks_fit : (r : Option Request) → Wants op pushes r → Has objects code (drop (length wanted) kinds) blocks (with_stack (drop (length wanted) s.stack) s) → Led (asks_if r (with_stack (drop (length wanted) s.stack) s))
       asks_fit None wants has' = absurd wants
       asks_fit (Some r) wants has' =
-          (may_be_asked op is_op r wants.1, waits_but op i is_op operand (answers.wanted r) (drop (length wanted) kinds) blocks (wanted_of pushes) (drop (length wanted) s.stack) s.blocks s.slot (expect.Answer (answers.wanted r)) left wants.0 has')
+          (may_be_asked op is_op r (wants.1 unit.arg), waits_but op i is_op operand (answers.wanted r) (drop (length wanted) kinds) blocks (wanted_of pushes) (drop (length wanted) s.stack) s.blocks s.slot (expect.Answer (answers.wanted r)) left wants.0 has')
   by_effect op i Other f own there keeps is_op operand plain left asks led may = led may
 
   -- loads
@@ -201,7 +201,7 @@ module _ (objects : List Payload) (names : List (List ℕ)) (globals : Obj) (clo
       subst (λ (q : Option Payload). Always objects (StepFits objects code) (or_stuck q f)) (sym is) move
 
   -- a local that is unset is asked for by its name
-  unbound_fits : (op : Instruction) (i : ℕ) → unit.op ≡ op → with_byte s.prefix unit.arg ≡ i → left_of op i 0 kinds blocks ≡ Some (record { kinds = kinds; blocks = blocks; wanted = want.NoValue }) → ((x : Name) → may_ask op (request.Unbound x) ≡ true)
+  unbound_fits : (op : Instruction) (i : ℕ) → unit.op ≡ op → with_byte s.prefix unit.arg ≡ i → left_of op i 0 kinds blocks ≡ Some (record { kinds = kinds; blocks = blocks; wanted = want.NoValue }) → ((x : Name) → may_ask op unit.arg (request.Unbound x) ≡ true)
       → nat_lt i (length code.code.code.varnames.items) ≡ true → Led (asks_if (option_map (λ x. request.Unbound x) (name_of_local (record { code = code.code; names = names; globals = globals; closure = closure }) i)) s)
   unbound_fits op i is_op operand left asks below =
       let (x, there) = named names code.code.code.varnames.items i sound.named.locals (ltb-true i (length code.code.code.varnames.items) below) in
@@ -376,18 +376,22 @@ module _ (objects : List Payload) (names : List (List ℕ)) (globals : Obj) (clo
       (finishes_fit plain is_op i operand c cs same ends inner_hs r waits v rest outer kept
       (subst (λ (vs : List Obj). HaveKinds objects (drop 2 vs) (drop 2 kinds)) (stack_is ∙ ap (λ (vs : List Obj). v ∷ vs) above_is) there) outer_are))))
 
+  -- a raise may ask what its kind may
+  may_be_raised : (i : ℕ) (k : RaiseKind) (r : Request) → with_byte s.prefix unit.arg ≡ i → slice_get raise_kinds i ≡ Some k → may_raise (Some k) r ≡ true → may_raise (raise_of unit.arg) r ≡ true
+  may_be_raised i k r operand here may = ap (λ (o : Option RaiseKind). may_raise o r) (raise_is s.prefix unit.arg i k operand here) ∙ may
+
   raises_fit : (i : ℕ) → unit.op ≡ Raise → with_byte s.prefix unit.arg ≡ i → (k : Option RaiseKind) → slice_get raise_kinds i ≡ k → typing.raises k kinds blocks ≡ true → Led (raises k s)
   raises_fit i is_op operand None here may = cc
   raises_fit i is_op operand (Some raise.Reraise) here may =
-      (may_be_asked Raise is_op request.Handled refl, waits_but Raise i is_op operand (want.Of kind.Exc) kinds blocks (want.Of kind.Exc) s.stack s.blocks s.slot (expect.Answer (want.Of kind.Exc)) (ap (λ k. raise_left k 0 kinds blocks) here) (λ o v is. is) has)
+      (may_be_asked Raise is_op request.Handled (may_be_raised i raise.Reraise request.Handled operand here refl), waits_but Raise i is_op operand (want.Of kind.Exc) kinds blocks (want.Of kind.Exc) s.stack s.blocks s.slot (expect.Answer (want.Of kind.Exc)) (ap (λ k. raise_left k 0 kinds blocks) here) (λ o v is. is) has)
   raises_fit i is_op operand (Some raise.Raise) here may =
       off objects code kinds blocks (λ rest. true) s (StepFits objects code) _ may has
       (λ v vs has' keeps count holds.
-      (may_be_asked Raise is_op (request.Raisable v) refl, waits_but Raise i is_op operand (want.Of kind.Exc) (drop 1 kinds) blocks (want.Of kind.Exc) vs s.blocks s.slot (expect.Answer (want.Of kind.Exc)) (ap (λ k. raise_left k 0 kinds blocks) here) (λ o v is. is) has'))
+      (may_be_asked Raise is_op (request.Raisable v) (may_be_raised i raise.Raise (request.Raisable v) operand here refl), waits_but Raise i is_op operand (want.Of kind.Exc) (drop 1 kinds) blocks (want.Of kind.Exc) vs s.blocks s.slot (expect.Answer (want.Of kind.Exc)) (ap (λ k. raise_left k 0 kinds blocks) here) (λ o v is. is) has'))
   raises_fit i is_op operand (Some raise.RaiseCause) here may =
       off objects code kinds blocks (λ rest. true) s (StepFits objects code) _ (first_taken kinds blocks may) has
       (λ c vs has' keeps count holds.
-      (may_be_asked Raise is_op (request.Cause c) refl, waits_but Raise i is_op operand want.ExceptionOrNone (drop 1 kinds) blocks want.ExceptionOrNone vs s.blocks s.slot (expect.Answer want.ExceptionOrNone) (ap (λ k. raise_left k 0 kinds blocks) here) (λ o v is. is) has'))
+      (may_be_asked Raise is_op (request.Cause c) (may_be_raised i raise.RaiseCause (request.Cause c) operand here refl), waits_but Raise i is_op operand want.ExceptionOrNone (drop 1 kinds) blocks want.ExceptionOrNone vs s.blocks s.slot (expect.Answer want.ExceptionOrNone) (ap (λ k. raise_left k 0 kinds blocks) here) (λ o v is. is) has'))
 
   -- an instruction that isn't in the table leads to frames that fit
   own_fits : (op : Instruction) (i : ℕ) → unit.op ≡ op → with_byte s.prefix unit.arg ≡ i → keeps_own (sheet_of code) s.at op i kinds blocks ≡ true

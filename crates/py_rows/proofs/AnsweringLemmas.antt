@@ -39,12 +39,13 @@ use Rattle.py_rows.specs.Fitting.{with_left, HaveKinds, IsBlock, AreBlocks, Has,
 use Rattle.py_check.specs.declared.note.Note.TheVariants.{Live}
 use Rattle.py_rows.specs.declared.expect.Wanted.TheVariants as want
 use Rattle.py_rows.specs.Laws.{Always}
+use Rattle.py_rows.specs.Questions.{may_raise}
 use Rattle.py_rows.proofs.KindLemmas.{kinds_counted}
 use Rattle.py_rows.proofs.LandingLemmas.{Fits, StepFits, may_jumped}
 use Rattle.py_rows.proofs.BehindLemmas.{fits_behind}
 use Rattle.py_rows.proofs.UnwindingLemmas.{leaves, leaves_with}
 use Rattle.py_rows.proofs.TakingLemmas.{off, bottom-cons, handlers_same, takes_rest, ends_exit}
-use Rattle.py_rows.proofs.AskingLemmas.{unit_asks}
+use Rattle.py_rows.proofs.AskingLemmas.{unit_asks, raise_is}
 use Rattle.py_rows.proofs.ActingLemmas.{second_taken, drop_two, other_or_plain, listed_asks}
 
 -- any top will do where any is wanted
@@ -118,7 +119,7 @@ module _ (objects : List Payload) (code : Annotated) (s : State) (kinds : List K
       rw (is_op, operand, one, kind_is) refl in
       let left_has : Has objects code (drop 2 kinds) blocks t =
       record { holds = subst (HaveKinds objects vs) (drop_two kinds) has'.holds; blocks = has'.blocks; handlers = subst (λ (ks : List Kind). handlers_land (sheet_of code) ks blocks ≡ true) (drop_two kinds) has'.handlers; room = subst (λ (ks : List Kind). length ks ≤ code.code.code.max_stackdepth) (drop_two kinds) has'.room; block_room = has'.block_room; locals = has'.locals } in
-      (unit_asks code.code.code.instructions.items s.at unit is Raise is_op (request.Raisable w) refl, record { unit = unit; is = is; kinds = kinds; block_notes = blocks; note = note_is; left = record { kinds = drop 2 kinds; blocks = blocks; wanted = want.Of kind.Exc }; waits = waits; suits = λ objects v is. is; has = left_has; carries = carries }))
+      (unit_asks code.code.code.instructions.items s.at unit is Raise is_op (request.Raisable w) (ap (λ (o : Option RaiseKind). may_raise o (request.Raisable w)) (raise_is s.prefix unit.arg i raise.RaiseCause operand kind_is)), record { unit = unit; is = is; kinds = kinds; block_notes = blocks; note = note_is; left = record { kinds = drop 2 kinds; blocks = blocks; wanted = want.Of kind.Exc }; waits = waits; suits = λ objects v is. is; has = left_has; carries = carries }))
   causes_fit i v (suc n) here is_op operand kind_is keeps given = leaves_with objects code (reason.Raising (record { number = v.number })) (drop 2 kinds) blocks s goes given.1 given.0
 
   raised_fits : (i : ℕ) (v : Obj) (k : Option RaiseKind) → unit.op ≡ Raise → with_byte s.prefix unit.arg ≡ i → slice_get raise_kinds i ≡ k → typing.raises k kinds blocks ≡ true → Given v (raise_left k s.phase kinds blocks) → Led (raised k v s)

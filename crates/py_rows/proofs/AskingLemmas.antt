@@ -1,8 +1,9 @@
 -- What instructions ask of the operands that they take is there, and wants what the table of effects says.
 use Rattle.std.proofs.Common.{◌≡◌, ◌∙◌, ◌<◌, ℕ, zero, suc, List, [], ◌∷◌, Option, None, Some, Bool, true, false, cond, ◌⊎◌, inl, inr, ⊎_elim, subst, refl, sym, ap, length, reverse, arith}
 use Rattle.std.proofs.lemmas.List.{length-reverse}
-use Rattle.std.specs.Prelude.{slice_get, nat_lt, option_map, chars, replicate}
+use Rattle.std.specs.Prelude.{◌%◌, slice_get, nat_lt, option_map, chars, replicate}
 use Rattle.std.proofs.lemmas.Bool.{both_ways, cases_lt, le-ltb}
+use Rattle.std.proofs.lemmas.Option.{slice_get_within}
 use Rattle.std.proofs.Math.ListN.{length-replicate}
 use Rattle.py_code.specs.declared.unit.CodeUnit.{CodeUnit}
 use Rattle.py_code.specs.declared.instruction.Instruction.{Instruction}
@@ -13,7 +14,9 @@ use Rattle.py_code.specs.declared.operator.BinaryOperator.{BinaryOperator}
 use Rattle.py_code.specs.declared.operator.ComparisonOperator.{ComparisonOperator}
 use Rattle.py_rows.specs.Asked.{name_of_global, asked_operator, asked_comparison, name_in, on_none, on_one, on_two, calls, tests, asked}
 use Rattle.py_code.specs.declared.names.NameId.{NameId}
-use Rattle.py_code.specs.Operators.{binary_operators, comparison_operators, test_operators}
+use Rattle.py_code.specs.declared.operator.RaiseKind.{RaiseKind}
+use Rattle.py_code.specs.Operators.{binary_operators, comparison_operators, test_operators, raise_kinds}
+use Rattle.py_code.specs.Units.{with_byte}
 use Rattle.py_objects.specs.declared.request.Request.{Request}
 use Rattle.py_objects.specs.Objects.{Obj, Name, AllBelow, numbers, request_numbers}
 use Rattle.py_check.specs.declared.note.Kind.{Kind}
@@ -24,14 +27,14 @@ use Rattle.py_check.specs.Sheet.{Sheet, sheet_of}
 use Rattle.py_rows.specs.States.{Setting}
 use Rattle.py_rows.proofs.BelowLemmas.{joined_below, reverse_below}
 use Rattle.py_rows.specs.Answers.{wanted, Suits}
-use Rattle.py_rows.specs.Questions.{may_ask, UnitAsks}
+use Rattle.py_rows.specs.Questions.{raise_of, may_ask, UnitAsks}
 use Rattle.py_rows.specs.Fitting.{wanted_of}
 use Rattle.py_rows.specs.Sound.{ArePlaces, AreNames}
 
 -- a request is there that the instruction may ask, and wants what is pushed
 abbrev pub Wants : Instruction → Option Kind → Option Request → Type 0
 Wants op pushes None = ⊥
-Wants op pushes (Some r) = Suits (wanted r) (wanted_of pushes) × (may_ask op r ≡ true)
+Wants op pushes (Some r) = Suits (wanted r) (wanted_of pushes) × ((arg : ℕ) → may_ask op arg r ≡ true)
 
 abbrev pub AsksAs : Instruction → Effect → (List Obj → Option Request) → Type 0
 AsksAs op (Moves n places) f = Unit {0}
@@ -44,7 +47,7 @@ module _ (Gap : Type 0) (setting : Setting) (sheet : Sheet) (places : (i : ℕ) 
   -- none, there is a gap
   abbrev pub Asks : Instruction → Option Kind → List Obj → Option Request → Type 0
   Asks op pushes vs None = Gap
-  Asks op pushes vs (Some r) = Suits (wanted r) (wanted_of pushes) × ((n : ℕ) → setting.globals.number < n → AllBelow n (numbers vs) → AllBelow n (request_numbers r)) × (may_ask op r ≡ true)
+  Asks op pushes vs (Some r) = Suits (wanted r) (wanted_of pushes) × ((n : ℕ) → setting.globals.number < n → AllBelow n (numbers vs) → AllBelow n (request_numbers r)) × ((arg : ℕ) → may_ask op arg r ≡ true)
 
   -- the same of an effect, where there is a gap only by a wrong number of operands or an operand that is out of range
   abbrev pub AsksAny : Instruction → Bool → Effect → (List Obj → Option Request) → Type 0
@@ -92,26 +95,37 @@ module _ (Gap : Type 0) (setting : Setting) (sheet : Sheet) (places : (i : ℕ) 
   called : (k : ℕ) (ws vs : List Obj) → reverse vs ≡ ws → ((length vs ≡ length (replicate (suc k) kind.Any) → ⊥) → Gap) → Asks CallFunctionPositional (Some kind.Any) vs (calls ws)
   called k [] vs is gap = gap (λ count. let none : length (reverse vs) ≡ 0 = ap length is in absurd (omega (arith, none, length-reverse vs, count, length-replicate (suc k) kind.Any)))
   called k (f ∷ args) vs is gap =
-      (λ objects v is. tt, λ n there low. let all : AllBelow n (numbers (f ∷ args)) = subst (λ (ws : List Obj). AllBelow n (numbers ws)) is (reverse_below n vs low) in (all.0, joined_below n (numbers args) [] all.1 tt), refl)
+      (λ objects v is. tt, λ n there low. let all : AllBelow n (numbers (f ∷ args)) = subst (λ (ws : List Obj). AllBelow n (numbers ws)) is (reverse_below n vs low) in (all.0, joined_below n (numbers args) [] all.1 tt), λ arg. refl)
 
   tested : (op : Option TestOperator) (a b : Obj) → (is_tested op ≡ false → Gap) → Asks TestOperation (Some kind.Any) (b ∷ a ∷ []) (tests op a b)
-  tested (Some test.ExceptionMatch) a b gap = (λ objects v is. tt, λ n there low. (low.1.0, (low.0, tt)), refl)
+  tested (Some test.ExceptionMatch) a b gap = (λ objects v is. tt, λ n there low. (low.1.0, (low.0, tt)), λ arg. refl)
   tested _ a b gap = gap refl
 
   pub asked_as : (op : Instruction) (i : ℕ) → AsksAny op (has_operand sheet op i) (effect op i) (asked setting op i)
-  asked_as LoadGlobal i = λ vs gap. none_asked LoadGlobal (Some kind.Any) _ vs (λ no. gap (inl no)) (by_name LoadGlobal (Some kind.Any) [] i _ (λ no. gap (inr no)) (λ x. (λ objects v is. tt, λ n there low. (there, tt), refl)))
+  asked_as LoadGlobal i = λ vs gap. none_asked LoadGlobal (Some kind.Any) _ vs (λ no. gap (inl no)) (by_name LoadGlobal (Some kind.Any) [] i _ (λ no. gap (inr no)) (λ x. (λ objects v is. tt, λ n there low. (there, tt), λ arg. refl)))
   asked_as BinaryOperation i =
-      λ vs gap. two_asked BinaryOperation (Some kind.Any) _ vs (λ no. gap (inl no)) (λ a b. by_operator BinaryOperation (Some kind.Any) (b ∷ a ∷ []) (slice_get binary_operators i) _ (λ no. gap (inr no)) (λ x runs. (λ objects v is. tt, λ n there low. (low.1.0, (low.0, tt)), runs)))
+      λ vs gap. two_asked BinaryOperation (Some kind.Any) _ vs (λ no. gap (inl no)) (λ a b. by_operator BinaryOperation (Some kind.Any) (b ∷ a ∷ []) (slice_get binary_operators i) _ (λ no. gap (inr no)) (λ x runs. (λ objects v is. tt, λ n there low. (low.1.0, (low.0, tt)), λ arg. runs)))
   asked_as CompareOperation i =
-      λ vs gap. two_asked CompareOperation (Some kind.Any) _ vs (λ no. gap (inl no)) (λ a b. by_comparison CompareOperation (Some kind.Any) (b ∷ a ∷ []) (slice_get comparison_operators i) _ (λ no. gap (inr no)) (λ x runs. (λ objects v is. tt, λ n there low. (low.1.0, (low.0, tt)), runs)))
+      λ vs gap. two_asked CompareOperation (Some kind.Any) _ vs (λ no. gap (inl no)) (λ a b. by_comparison CompareOperation (Some kind.Any) (b ∷ a ∷ []) (slice_get comparison_operators i) _ (λ no. gap (inr no)) (λ x runs. (λ objects v is. tt, λ n there low. (low.1.0, (low.0, tt)), λ arg. runs)))
   asked_as TestOperation i = λ vs gap. two_asked TestOperation (Some kind.Any) _ vs (λ no. gap (inl no)) (λ a b. tested (slice_get test_operators i) a b (λ no. gap (inr no)))
   asked_as CallFunctionPositional k = λ vs gap. called k (reverse vs) vs refl (λ no. gap (inl no))
-  asked_as PrintExpr i = λ vs gap. one_asked PrintExpr None _ vs (λ no. gap (inl no)) (λ v. (λ objects v is. tt, λ n there low. low, refl))
+  asked_as PrintExpr i = λ vs gap. one_asked PrintExpr None _ vs (λ no. gap (inl no)) (λ v. (λ objects v is. tt, λ n there low. low, λ arg. refl))
   asked_as _ i = tt
 
 -- what an instruction may ask, its unit may
-pub unit_asks : (units : List CodeUnit) (at : ℕ) (unit : CodeUnit) → slice_get units at ≡ Some unit → (op : Instruction) → unit.op ≡ op → (r : Request) → may_ask op r ≡ true → UnitAsks (slice_get units at) r
-unit_asks units at unit is op is_op r asks = subst (λ (o : Option CodeUnit). UnitAsks o r) (sym is) (subst (λ (o : Instruction). may_ask o r ≡ true) (sym is_op) asks)
+pub unit_asks : (units : List CodeUnit) (at : ℕ) (unit : CodeUnit) → slice_get units at ≡ Some unit → (op : Instruction) → unit.op ≡ op → (r : Request) → may_ask op unit.arg r ≡ true → UnitAsks (slice_get units at) r
+unit_asks units at unit is op is_op r asks = subst (λ (o : Option CodeUnit). UnitAsks o r) (sym is) (subst (λ (o : Instruction). may_ask o unit.arg r ≡ true) (sym is_op) asks)
+
+-- prefixes change nothing of the kind of a raise
+pub same_raise : (state arg : ℕ) → raise_of (with_byte state arg) ≡ raise_of arg
+same_raise state arg = let low : with_byte state arg % 256 ≡ arg % 256 = omega arith in ap (slice_get raise_kinds) low
+
+-- so a raise is of the kind that its operand says
+pub raise_is : (state arg i : ℕ) (k : RaiseKind) → with_byte state arg ≡ i → slice_get raise_kinds i ≡ Some k → raise_of arg ≡ Some k
+raise_is state arg i k operand here =
+    let few : i < 3 = slice_get_within raise_kinds i k here in
+    let whole : i % 256 ≡ i = omega (arith, few) in
+    sym (same_raise state arg) ∙ ap raise_of operand ∙ ap (slice_get raise_kinds) whole ∙ here
 
 pub got_there : {A : Type 0} (xs : List A) (i : ℕ) → i < length xs → (x : A) × (slice_get xs i ≡ Some x)
 got_there [] i below = absurd (omega arith)

@@ -53,7 +53,7 @@ waits_fitted objects ps qs Loop waits subset = tt
 waits_fitted objects ps qs (TryExcept handler) waits subset = tt
 waits_fitted objects ps qs (Finally handler) waits subset = tt
 waits_fitted objects ps qs (FinallyHandler r kept) waits subset = if_fitted objects ps qs r waits subset
-waits_fitted objects ps qs (ExceptHandler e kept) waits subset = tt
+waits_fitted objects ps qs (ExceptHandler e kept) waits subset = waits
 
 -- what a note that fits another has in common with it
 pub record Common (c d : BlockNote) : Type 0 where

@@ -66,7 +66,7 @@ module _ (objects objects' : List Payload) (grows : Grows objects objects') wher
   type_grown ps Loop waits = tt
   type_grown ps (TryExcept handler) waits = tt
   type_grown ps (Finally handler) waits = tt
-  type_grown ps (ExceptHandler e kept) waits = tt
+  type_grown ps (ExceptHandler e kept) waits = kind_grown objects objects' (as_object e) kind.Exc grows waits
 
   blocks_grown : (bs : List Block) (cs : List BlockNote) → AreBlocks objects bs cs → AreBlocks objects' bs cs
   blocks_grown [] [] are = tt

@@ -22,6 +22,8 @@ pub mod ActingLemmas
 pub mod AnsweringLemmas
 -- steps
 pub mod StepLemmas
+-- what is handled is an exception
+pub mod HandledLemmas
 -- what is handled, among the first objects
 pub mod HandledBelowLemmas
 -- where every row leads to

@@ -76,7 +76,7 @@ module _ (objects : List Payload) (code : Annotated) where
 
     except_met : (r : UnwindReason) (handler l h : ℕ) → Meets r (TryExcept handler) (note.TryExcept l h)
     except_met (reason.Raising e) handler l h q is there hs may on out =
-        let block : IsBlock objects (record { typ = ExceptHandler e s.slot; level = m }) (note.ExceptHandler l) = record { number = refl; level = is.level; handler = refl; waits = tt } in
+        let block : IsBlock objects (record { typ = ExceptHandler e s.slot; level = m }) (note.ExceptHandler l) = record { number = refl; level = is.level; handler = refl; waits = may } in
         subst (λ (to : ℕ). StepFits objects code (jumps to (record s { stack = as_object e ∷ bottom m s.stack; blocks = record { typ = ExceptHandler e s.slot; level = m } ∷ outer; slot = Some e }))) (sym is.handler)
         (may_jumped objects code h (kind.Exc ∷ bottom l ks) (note.ExceptHandler l ∷ bs) (record s { stack = as_object e ∷ bottom m s.stack; blocks = record { typ = ExceptHandler e s.slot; level = m } ∷ outer; slot = Some e }) goes there
         (may, kinds_under objects l m s.stack ks is.level holds) (block, are) locals)

@@ -76,13 +76,13 @@ abbrev pub MayWait : List Payload → List Pending → Option UnwindReason → T
 MayWait objects ps None = Unit {0}
 MayWait objects ps (Some r) = WaitsIn objects ps r
 
--- the same of what waits in a block
+-- the same of what waits in a block; what a handler handles is an exception
 abbrev pub TypeWaits : List Payload → List Pending → BlockType → Type 0
 TypeWaits objects ps Loop = Unit {0}
 TypeWaits objects ps (TryExcept handler) = Unit {0}
 TypeWaits objects ps (Finally handler) = Unit {0}
 TypeWaits objects ps (FinallyHandler r kept) = MayWait objects ps r
-TypeWaits objects ps (ExceptHandler e kept) = Unit {0}
+TypeWaits objects ps (ExceptHandler e kept) = HasKind objects (as_object e) kind.Exc
 
 -- a block is as its note says
 pub record IsBlock (objects : List Payload) (b : Block) (c : BlockNote) : Type 0 where

@@ -5,6 +5,7 @@ use Rattle.std.proofs.lemmas.Bool.{ltb-false}
 use Rattle.py_objects.specs.declared.payload.Payload.{Payload}
 use Rattle.py_objects.specs.declared.payload.Payload.TheVariants as payload
 use Rattle.py_objects.specs.declared.payload.FunctionBody.{FunctionBody}
+use Rattle.py_objects.specs.declared.refs.PyBaseExceptionRef.{PyBaseExceptionRef}
 use Rattle.py_objects.specs.declared.request.Request.{Request}
 use Rattle.py_objects.specs.declared.event.GotAnswer.{GotAnswer}
 use Rattle.py_objects.specs.declared.event.Event.{Event}
@@ -12,7 +13,7 @@ use Rattle.py_objects.specs.declared.event.Event.TheVariants as event
 use Rattle.py_objects.specs.Objects.{Obj, Name, HasPayload}
 use Rattle.py_objects.proofs.GrowthLemmas.{slice_get_split, one_entry}
 use Rattle.py_run.specs.Calls.{Signature, Course, Says, Enters, refusal, missing_if, too_many, bound_at, IsRefusedCall, CallsAs, ComesTo}
-use Rattle.py_run.specs.Run.{Plan, Phase, Asking, Activation, State, start, after, state_after, depth, Answers, MayCome, Comes}
+use Rattle.py_run.specs.Run.{Plan, Phase, Asking, Activation, State, start, after, state_after, depth, handled_among, Answers, MayCome, Comes}
 
 -- a function was made with as many arguments as its signature has parameters
 pub record IsBound (signatures : List Signature) (objects : List Payload) (a : Activation) : Type 0 where
@@ -88,9 +89,10 @@ calls_signed : (xs ys : List Signature) (depth : ℕ) (objects : List Payload) (
 calls_signed xs ys depth objects f (payload.Function b) vs c signed (s, is_signature, is) = (s, signed b.code s is_signature, is)
 calls_signed xs ys depth objects f _ vs c signed calls = calls
 
-comes_to_signed : (xs ys : List Signature) (depth : ℕ) (objects : List Payload) (r : Request) (c : Course) → AreSigned xs ys → ComesTo xs depth objects r c → ComesTo ys depth objects r c
-comes_to_signed xs ys depth objects r c signed (inl replied) = inl replied
-comes_to_signed xs ys depth objects r c signed (inr (f, vs, is, (p, has, calls))) = inr (f, vs, is, (p, has, calls_signed xs ys depth objects f p vs c signed calls))
+comes_to_signed : (xs ys : List Signature) (depth : ℕ) (handled : Option PyBaseExceptionRef) (objects : List Payload) (r : Request) (c : Course) → AreSigned xs ys → ComesTo xs depth handled objects r c → ComesTo ys depth handled objects r c
+comes_to_signed xs ys depth handled objects r c signed (inl replied) = inl replied
+comes_to_signed xs ys depth handled objects r c signed (inr (inl (f, vs, is, (p, has, calls)))) = inr (inl (f, vs, is, (p, has, calls_signed xs ys depth objects f p vs c signed calls)))
+comes_to_signed xs ys depth handled objects r c signed (inr (inr asks)) = inr (inr asks)
 
 -- a plan over other signatures
 abbrev pub signed_by : Plan → List Signature → Plan
@@ -98,7 +100,7 @@ signed_by plan ys = record plan { signatures = ys }
 
 answers_signed : (plan : Plan) (ys : List Signature) (objects : List Payload) (before : List Event) (s : State) (phase : Phase) (r : Request) (w : GotAnswer) → AreSigned plan.signatures ys
     → Answers plan objects before s phase r w → Answers (signed_by plan ys) objects before s phase r w
-answers_signed plan ys objects before s Asking r w signed (reply, comes, gives) = (reply, comes_to_signed plan.signatures ys (depth plan s) objects r (Says reply) signed comes, gives)
+answers_signed plan ys objects before s Asking r w signed (reply, comes, gives) = (reply, comes_to_signed plan.signatures ys (depth plan s) (handled_among s.stack) objects r (Says reply) signed comes, gives)
 answers_signed plan ys objects before s _ r w signed answers = answers
 
 may_come_signed : (plan : Plan) (ys : List Signature) (objects : List Payload) (before : List Event) (s : State) (e : Event) → AreSigned plan.signatures ys → MayCome plan objects before s e → MayCome (signed_by plan ys) objects before s e

@@ -1,8 +1,9 @@
 -- A run as objects and drives grow, and as one more event comes.
 use Rattle.std.proofs.Common.{◌≡◌, ◌<◌, ◌⊎◌, ◌+◌, ℕ, zero, suc, List, [], ◌∷◌, ◌++◌, inl, inr, refl, sym, ap, subst, ◌∙◌, length, length-append, append_assoc, append-nil, arith}
-use Rattle.std.specs.Prelude.{slice_get}
+use Rattle.std.specs.Prelude.{Option, slice_get}
 use Rattle.py_objects.specs.declared.payload.Payload.{Payload}
 use Rattle.py_objects.specs.declared.payload.Payload.TheVariants as payload
+use Rattle.py_objects.specs.declared.refs.PyBaseExceptionRef.{PyBaseExceptionRef}
 use Rattle.py_objects.specs.declared.request.Request.{Request}
 use Rattle.py_objects.specs.declared.event.GotAnswer.{GotAnswer}
 use Rattle.py_objects.specs.declared.event.Event.{Event}
@@ -12,8 +13,9 @@ use Rattle.py_objects.specs.Growth.{Grows, GrowsPlainly}
 use Rattle.py_objects.proofs.GrowthLemmas.{payload_grown, plainly_grows}
 use Rattle.py_run.specs.Calls.{Signature, Course, Says, Enters, IsRefusedCall, CallsAs, Calls, ComesTo}
 use Rattle.py_objects.specs.declared.event.ResumeHow.TheVariants as how
-use Rattle.py_run.specs.Run.{Posed, Plan, Phase, Idle, Asking, Going, Made, State, start, after, state_after, open_in, entered_in, question, depth, Answers, MayCome, Comes}
-use Rattle.py_answers.proofs.RepliesLemmas.{gives_grow, replies_grow, type_name_grows}
+use Rattle.py_run.specs.Run.{Posed, Plan, Phase, Idle, Asking, Going, Made, State, start, after, state_after, open_in, entered_in, question, depth, handled_among, Answers, MayCome, Comes}
+use Rattle.py_exceptions.proofs.TypeNamesLemmas.{type_name_grows}
+use Rattle.py_answers.proofs.RepliesLemmas.{gives_grow, replies_grow}
 
 -- a call that can't be made still can't
 refused_grows : (objects objects' : List Payload) (p : Payload) (c : Course) → Grows objects objects' → IsRefusedCall objects p c → IsRefusedCall objects' p c
@@ -32,16 +34,17 @@ calls_grow signatures depth objects objects' f vs c grows (p, has, calls) =
     (p, payload_grown objects objects' f p grows has, calls_as_grow signatures depth objects objects' f p vs c grows calls)
 
 -- so does what a question comes to
-pub comes_to_grows : (signatures : List Signature) (depth : ℕ) (objects objects' : List Payload) (r : Request) (c : Course)
-    → GrowsPlainly objects objects' → ComesTo signatures depth objects r c → ComesTo signatures depth objects' r c
-comes_to_grows signatures depth objects objects' r c grows (inl (reply, is, replies)) = inl (reply, is, replies_grow objects objects' r reply grows replies)
-comes_to_grows signatures depth objects objects' r c grows (inr (f, vs, is, calls)) = inr (f, vs, is, calls_grow signatures depth objects objects' f vs c (plainly_grows objects objects' grows) calls)
+pub comes_to_grows : (signatures : List Signature) (depth : ℕ) (handled : Option PyBaseExceptionRef) (objects objects' : List Payload) (r : Request) (c : Course)
+    → GrowsPlainly objects objects' → ComesTo signatures depth handled objects r c → ComesTo signatures depth handled objects' r c
+comes_to_grows signatures depth handled objects objects' r c grows (inl (reply, is, replies)) = inl (reply, is, replies_grow objects objects' r reply grows replies)
+comes_to_grows signatures depth handled objects objects' r c grows (inr (inl (f, vs, is, calls))) = inr (inl (f, vs, is, calls_grow signatures depth objects objects' f vs c (plainly_grows objects objects' grows) calls))
+comes_to_grows signatures depth handled objects objects' r c grows (inr (inr asks)) = inr (inr asks)
 
 -- and the answer to the open question
 answers_grow : (plan : Plan) (objects objects' : List Payload) (before : List Event) (s : State) (phase : Phase) (r : Request) (w : GotAnswer)
     → GrowsPlainly objects objects' → Answers plan objects before s phase r w → Answers plan objects' before s phase r w
 answers_grow plan objects objects' before s Asking r w grows (reply, comes, gives) =
-    (reply, comes_to_grows plan.signatures (depth plan s) objects objects' r (Says reply) grows comes, gives_grow objects objects' before reply w grows gives)
+    (reply, comes_to_grows plan.signatures (depth plan s) (handled_among s.stack) objects objects' r (Says reply) grows comes, gives_grow objects objects' before reply w grows gives)
 answers_grow plan objects objects' before s _ r w grows answers = answers
 
 -- an event that may come still may
@@ -119,7 +122,7 @@ same_depth plan more s within = ap (λ q. entered_in q + length s.stack) (same_d
 answers_more : (plan : Plan) (more : List Posed) (objects : List Payload) (before : List Event) (s : State) (phase : Phase) (r : Request) (w : GotAnswer)
     → s.done < length plan.asked → Answers plan objects before s phase r w → Answers (with_more plan more) objects before s phase r w
 answers_more plan more objects before s Asking r w within (reply, comes, gives) =
-    (reply, subst (λ n. ComesTo plan.signatures n objects r (Says reply)) (sym (same_depth plan more s within)) comes, gives)
+    (reply, subst (λ n. ComesTo plan.signatures n (handled_among s.stack) objects r (Says reply)) (sym (same_depth plan more s within)) comes, gives)
 answers_more plan more objects before s _ r w within answers = answers
 
 -- a question is answered where a drive runs

@@ -1,14 +1,15 @@
--- What calls come to (Python Language Reference, 6.3.4 and 8.7): whether the callee can be called, whether the arguments bind to
--- its parameters, and whether there is depth left, in this order.
+-- What questions come to, by what runs: calls (Python Language Reference, 6.3.4 and 8.7), by whether the callee can be called, whether the
+-- arguments bind to its parameters, and whether there is depth left, in this order; and the exception that is handled.
 use Rattle.std.specs.Prelude.{ℕ, Option, Some, None, List, [], ◌∷◌, ◌++◌, ◌≡◌, ◌==◌, ◌⊎◌, slice_get, length, drop, nat_le, nat_lt, if◌then◌else◌, codes, decimal}
 use Rattle.py_objects.specs.declared.payload.Payload.{Payload}
 use Rattle.py_objects.specs.declared.payload.Payload.TheVariants as payload
-use Rattle.py_objects.specs.declared.payload.ErrorKind.TheVariants.{RecursionError, TypeError}
+use Rattle.py_objects.specs.declared.error_kind.ErrorKind.TheVariants.{RecursionError, RuntimeError, TypeError}
+use Rattle.py_objects.specs.declared.refs.PyBaseExceptionRef.{PyBaseExceptionRef}
 use Rattle.py_objects.specs.declared.request.Keywords.TheVariants as keywords
 use Rattle.py_objects.specs.declared.request.Request.{Request}
 use Rattle.py_objects.specs.declared.request.Request.TheVariants as request
-use Rattle.py_objects.specs.Objects.{Obj, Name, HasPayload}
-use Rattle.py_answers.specs.Answers.{Reply, Makes, Fails, IsTypeName, Replies}
+use Rattle.py_objects.specs.Objects.{Obj, Name, HasPayload, as_object}
+use Rattle.py_answers.specs.Answers.{Reply, Is, Makes, Fails, IsTypeName, Replies}
 
 -- a function by its parameters, in order
 pub record Signature : Type 0 where
@@ -100,8 +101,15 @@ CallsAs signatures depth objects f (payload.Traceback b) vs c = IsRefusedCall ob
 abbrev pub Calls : List Signature → ℕ → List Payload → Obj → List Obj → Course → Type 0
 Calls signatures depth objects f vs c = (p : Payload) × HasPayload objects f p × CallsAs signatures depth objects f p vs c
 
--- what a question comes to: a reply without an activation, or what its call does, where it is one without keyword arguments
-abbrev pub ComesTo : List Signature → ℕ → List Payload → Request → Course → Type 0
-ComesTo signatures depth objects r c =
+-- the reply to who asks for the exception that is handled (Python Language Reference, 7.8): that one, or a raise where there is none
+abbrev pub reraised : Option PyBaseExceptionRef → Reply
+reraised None = Fails RuntimeError (codes "No active exception to reraise")
+reraised (Some e) = Is (as_object e)
+
+-- what a question comes to, while so many activations run and this is handled: a reply without an activation, or what its call does, where
+-- it is one without keyword arguments, or what is handled
+abbrev pub ComesTo : List Signature → ℕ → Option PyBaseExceptionRef → List Payload → Request → Course → Type 0
+ComesTo signatures depth handled objects r c =
     ((reply : Reply) × (c ≡ Says reply) × Replies objects r reply)
     ⊎ ((f : Obj) × (vs : List Obj) × (r ≡ request.Call f vs keywords.None) × Calls signatures depth objects f vs c)
+    ⊎ ((r ≡ request.Handled) × (c ≡ Says (reraised handled)))

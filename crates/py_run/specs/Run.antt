@@ -1,6 +1,7 @@
 -- A run: a condition on a finished list of events, by the one kind of event that may come next. What an activation may tell
 -- is a parameter.
 use Rattle.std.specs.Prelude.{ℕ, suc, ◌+◌, ◌<◌, Option, Some, None, option_map, List, [], ◌∷◌, ◌++◌, ◌≡◌, drop, slice_get, length}
+use Rattle.std.specs.Option.{option_or}
 use Rattle.py_objects.specs.declared.refs.PyBaseExceptionRef.{PyBaseExceptionRef}
 use Rattle.py_objects.specs.declared.payload.Payload.{Payload}
 use Rattle.py_objects.specs.declared.request.Keywords.TheVariants as keywords
@@ -119,6 +120,11 @@ entered_in (Some p) = p.entered
 abbrev pub depth : Plan → State → ℕ
 depth plan s = entered_in (slice_get plan.asked s.done) + length s.stack
 
+-- the exception that is handled while these activations run: that of the innermost one that handles any
+abbrev pub handled_among : List Act → Option PyBaseExceptionRef
+handled_among [] = None
+handled_among (a ∷ stack) = option_or a.own (handled_among stack)
+
 -- the innermost activation is this one, and goes on
 abbrev pub GoesOn : State → ℕ → Type 0
 GoesOn s a = (s.phase ≡ Going) × IsTop a s.stack
@@ -145,7 +151,7 @@ module _ (plan : Plan) (objects : List Payload) where
   -- the open question gets this answer: at once, or where the activation that it entered was left
   abbrev pub Answers : List Event → State → Phase → Request → GotAnswer → Type 0
   Answers before s Idle r w = ⊥
-  Answers before s Asking r w = (reply : Reply) × ComesTo plan.signatures (depth plan s) objects r (Says reply) × Gives objects before reply w
+  Answers before s Asking r w = (reply : Reply) × ComesTo plan.signatures (depth plan s) (handled_among s.stack) objects r (Says reply) × Gives objects before reply w
   Answers before s Going r w = ⊥
   Answers before s (Made f) r w = ⊥
   Answers before s (Due left) r w = (f : Obj) × (vs : List Obj) × (r ≡ request.Call f vs keywords.None) × Passes left w

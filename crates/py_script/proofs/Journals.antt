@@ -1,31 +1,34 @@
 -- What is said of every journal worked by hand, whose script has one function.
-use Rattle.std.proofs.Common.{◌≡◌, ℕ, zero, suc, List, [], ◌∷◌, ◌++◌, Option, Some, None, Bool, true, false, ◌&&◌, ◌<◌, ◌≤◌, refl, sym, ap, subst, inl, inr, lit<, lit≤, ◌∙◌, arith, length}
+use Rattle.std.proofs.Common.{Option, ◌≡◌, ℕ, zero, suc, ◌+◌, List, [], ◌∷◌, ◌++◌, Some, None, Bool, true, false, cond, ◌&&◌, ◌<◌, ◌≤◌, refl, sym, ap, subst, inl, inr, lit<, lit≤, ◌∙◌, arith, length, eqb, eq-eqb, ne_eqb}
 use Rattle.std.proofs.lemmas.Fmt.{decimal_digit, decimal_step}
 use Rattle.std.proofs.lemmas.Bool.{ltb-true}
 use Rattle.std.proofs.lemmas.Str.{encode_ascii}
-use Rattle.std.specs.Prelude.{encode_utf8_all, ℤ, pos, ◌+ℤ◌, codes, decimal, slice_get, Contains, map, nat_lt, eqb, if◌then◌else◌}
+use Rattle.std.proofs.lemmas.List.Sorted.{IsPermutation-refl}
+use Rattle.std.specs.Prelude.{encode_utf8_all, ℤ, pos, ◌+ℤ◌, codes, decimal, slice_get, map, nat_lt}
 use Rattle.std.specs.List.{list_all}
 use Rattle.py_objects.specs.declared.refs.PyBaseExceptionRef.{PyBaseExceptionRef}
 use Rattle.py_objects.specs.declared.payload.Payload.{Payload}
 use Rattle.py_objects.specs.declared.payload.Payload.TheVariants as payload
-use Rattle.py_objects.specs.declared.payload.ClassBody.{ClassBody}
 use Rattle.py_objects.specs.declared.payload.FunctionBody.{FunctionBody}
-use Rattle.py_objects.specs.declared.payload.ManagerBody.{ManagerBody}
-use Rattle.py_objects.specs.declared.payload.ErrorKind.{ErrorKind}
-use Rattle.py_objects.specs.declared.payload.ErrorKind.TheVariants as kind
+use Rattle.py_objects.specs.declared.error_kind.ErrorKind.{ErrorKind}
+use Rattle.py_objects.specs.declared.error_kind.ErrorKind.TheVariants.{OverflowError}
 use Rattle.py_code.specs.declared.operator.BinaryOperator.TheVariants as binary
 use Rattle.py_objects.specs.declared.request.Keywords.TheVariants as keywords
 use Rattle.py_objects.specs.declared.request.Request.{Request}
-use Rattle.py_objects.specs.declared.request.Request.TheVariants.{Binary, Call as Calling}
+use Rattle.py_objects.specs.declared.request.Request.TheVariants.{Binary, Call as Calling, Handled}
 use Rattle.py_objects.specs.declared.event.ResumeHow.TheVariants.{Start}
 use Rattle.py_objects.specs.declared.event.GotAnswer.{GotAnswer}
 use Rattle.py_objects.specs.declared.event.GotAnswer.TheVariants as got
 use Rattle.py_objects.specs.declared.event.Ending.TheVariants as ending
 use Rattle.py_objects.specs.declared.event.Event.{Event}
 use Rattle.py_objects.specs.declared.event.Event.TheVariants as event
-use Rattle.py_objects.specs.Objects.{Obj, Name, HasPayload, declares, declared, declared_from, name_of, error_kinds, payload_numbers, event_numbers, AllBelow, IsMade, AllFit, AreNamed, is_among, IsNew}
+use Rattle.py_objects.specs.ErrorKinds.{name_of}
+use Rattle.py_objects.specs.Objects.{Obj, Name, HasPayload, as_object, declares, is_name, declared, declared_from, payload_numbers, event_numbers, AllBelow, IsMade, AllFit, AreNamed, is_among}
 use Rattle.py_objects.specs.Own.{Own, Makes, Resumes, Asks, Gets, Ends, own_events, own_from, told_by}
 use Rattle.py_objects.specs.Telling.{AfterValue, Answered, Answers, Asked}
+use Rattle.py_objects.specs.Values.{new_exception}
+use Rattle.py_objects.proofs.GrowthLemmas.{below_more, length_grown, made_grown, slice_get_split}
+use Rattle.py_exceptions.specs.Classes.{class_of, first_classes}
 use Rattle.py_tree.specs.Tree.{Tree}
 use Rattle.py_tree.specs.Scene.{Scene, anywhere}
 use Rattle.py_tree.specs.Trace.{IsTrace, IsBegun}
@@ -37,9 +40,11 @@ use Rattle.py_run.specs.declared.drive.Drive.TheVariants.{Call}
 use Rattle.py_answers.specs.Answers.{Reply, Replies, Gives, IsRaised, sum, whole}
 use Rattle.py_run.specs.Calls.{Signature, Course, Says, Enters, refusal, bound_at, CallsAs, Calls, ComesTo}
 use Rattle.py_run.specs.Run.{Posed, Plan, Activation, Phase, Asking, IsTop, Answers as IsAnswered, MayCome, State, question, start, state_after, Comes, EachTells}
+use Rattle.py_vm.specs.First.{first_objects}
+use Rattle.py_vm.proofs.FirstLemmas.{first_fit}
 use Rattle.py_script.specs.Whole.{AreAsked, AreGlobals, AreObjects, Traces, IsRunOf, plan_of, signature_of}
-use Rattle.std.proofs.lemmas.List.Sorted.{IsPermutation-refl}
-use Rattle.py_script.specs.Worked.{object, exception, class_entry, function_entry, loaded, objects_of, entered, asked, greatest, overflowing_of, error_entry, error_objects, raising_by, raised, raises, overflow_by}
+use Rattle.py_script.specs.Worked.{object, exception, function_entry, loaded, objects_of, entered, asked, greatest, overflowing_of, out_of_range, error_entry, error_objects, raising_by, raised, raises, overflow_by}
+use Rattle.py_script.proofs.Behind.{HasFunction, IsOwn, have_classes, script_has}
 
 pub decimal_1 : decimal 1 ≡ codes "1"
 decimal_1 = decimal_digit 1 (lit< tt)
@@ -95,15 +100,8 @@ each_below f n [] h i x e = absurd cc
 each_below f n (y ∷ ys) h zero x e = subst (λ z. AllBelow n (f z)) (some_is y x e) (all_below n (f y) (and_left (are_below n (f y)) _ h))
 each_below f n (y ∷ ys) h (suc i) x e = each_below f n ys (and_right (are_below n (f y)) _ h) i x e
 
-pub all_fit : (store : List Payload) → list_all (λ p. are_below (length store) (payload_numbers p)) store ≡ true → Each (IsMade store) store → AllFit store
-all_fit store b m i p e = (each_below payload_numbers (length store) store b i p e, each_at (IsMade store) store m i p e)
-
 pub are_named : (store : List Payload) (events : List Event) → AllFit store → list_all (λ e. are_below (length store) (event_numbers e)) events ≡ true → AreNamed store events
 are_named store events fit h = record { in_events = each_below event_numbers (length store) events h; in_payloads = λ i p e. (fit i p e).0 }
-
--- a class is a built-in one
-abbrev pub IsBuiltIn : Payload → Type 0
-IsBuiltIn p = (b : ClassBody) → p ≡ payload.Class b → Contains (map name_of error_kinds) b.name
 
 pub body_of : (a b : FunctionBody) → payload.Function a ≡ payload.Function b → a ≡ b
 body_of a b e = cc
@@ -111,18 +109,16 @@ body_of a b e = cc
 pub code_of : (a b : Name) (i j : ℕ) → Some (function_entry a i) ≡ Some (function_entry b j) → i ≡ j
 code_of a b i j e = ap (λ (b : FunctionBody). b.code) (body_of _ _ (some_is _ _ e))
 
-class_of : (a b : ClassBody) → payload.Class a ≡ payload.Class b → a ≡ b
-class_of a b e = cc
-
-pub built_in : (kind : ErrorKind) → Contains (map name_of error_kinds) (name_of kind) → IsBuiltIn (class_entry kind)
-built_in kind h b e = subst (λ (b : ClassBody). Contains (map name_of error_kinds) b.name) (class_of _ b e) h
-
-abbrev pub HasClass : List Payload → ErrorKind → Type 0
-HasClass store k = (c : Obj) × (declared store (name_of k) ≡ Some c) × HasPayload store c (class_entry k)
+-- objects of the run with different numbers are two
+pub differ : (m n : ℕ) → eqb m n ≡ false → object m ≡ object n → ⊥
+differ m n other same =
+    let numbers : length first_objects + m ≡ length first_objects + n = ap (λ (v : Obj). v.number) same in
+    let clash : true ≡ false = sym (eq-eqb m n (let one : m ≡ n = omega (arith, numbers) in one)) ∙ other in
+    cc clash
 
 -- the question of a drive of the function with the two numbers
 abbrev pub call : Posed
-call = record { drive = Call (object 7) (object 10 ∷ object 11 ∷ []); entered = 0 }
+call = record { drive = Call (object 0) (object 3 ∷ object 4 ∷ []); entered = 0 }
 
 -- the one activation tells what it may
 pub one_tells : (may : Obj → List Obj → List Own → Type 0) (f : Obj) (vs : List Obj) (events : List Event) → (state_after start events).made ≡ record { function = f; args = vs } ∷ [] → may f vs (own_events 1 events) → EachTells may events
@@ -162,18 +158,81 @@ few_asked store events ds [] h = omega arith
 few_asked store events [] (q ∷ qs) h = absurd h
 few_asked store events (d ∷ ds) (q ∷ qs) h = let few = few_asked store events ds qs h.1 in omega arith
 
--- a choice of an object that isn't this one
-pub not_chosen : (n i : ℕ) (b : Bool) (rest : Option Obj) → eqb n i ≡ false → ((v : Obj) → rest ≡ Some v → eqb n v.number ≡ false) → (v : Obj) → (if b then Some (object i) else rest) ≡ Some v → eqb n v.number ≡ false
-not_chosen n i true rest h k v e = subst (λ (v : Obj). eqb n v.number ≡ false) (some_is (object i) v e) h
-not_chosen n i false rest h k v e = k v e
+-- ---- objects behind the first ones
 
--- nothing is chosen
-pub none_chosen : (n : ℕ) (rest : Option Obj) → rest ≡ None → (v : Obj) → rest ≡ Some v → eqb n v.number ≡ false
-none_chosen n rest h v e = absurd cc
+-- they fit, where those behind do
+pub all_fit : (own : List Payload) → list_all (λ p. are_below (length (first_objects ++ own)) (payload_numbers p)) own ≡ true
+    → Each (IsMade (first_objects ++ own)) own → AllFit (first_objects ++ own)
+all_fit own below made i p e =
+    let store = first_objects ++ own in
+    elim (slice_get_split first_objects own i p e) [
+      | inl first ↦
+          let (named, is) = first_fit i p first in
+          let longer = length_grown first_objects store (own, refl) in
+          (below_more (length first_objects) (length store) (payload_numbers p) longer named, made_grown first_objects store p (own, refl) is)
+      | inr behind ↦ (each_below payload_numbers (length store) own below _ p behind, each_at (IsMade store) own made _ p behind)
+    ]
 
--- the number is none of the classes' and the function's
-abbrev pub IsNoDeclaration : ℕ → Type 0
-IsNoDeclaration n = (eqb n 1 ≡ false) × (eqb n 2 ≡ false) × (eqb n 3 ≡ false) × (eqb n 4 ≡ false) × (eqb n 5 ≡ false) × (eqb n 7 ≡ false)
+-- a new exception of a kind is made of what it should be
+pub made_exception : (own : List Payload) (kind : ErrorKind) (args : Obj) (arguments : List Obj)
+    → HasPayload (first_objects ++ own) args (payload.Tuple arguments)
+    → IsMade (first_objects ++ own) (payload.Exception (new_exception (class_of first_classes kind) args))
+made_exception own kind args arguments are =
+    let class = have_classes own kind in
+    record {
+      class = record { name = name_of kind; mro = class.mro };
+      is_class = class.entry;
+      is_declared = class.is_declared;
+      arguments = arguments;
+      are_arguments = are;
+      cause = tt;
+      context = tt;
+      traceback = tt;
+    }
+
+-- what is declared under a name has it
+declares_it : (i : ℕ) (store : List Payload) (x : Name) (v : Obj) → declared_from i store x ≡ Some v
+    → (k : ℕ) × (p : Payload) × (v.number ≡ i + k) × (slice_get store k ≡ Some p) × (is_name x (declares p) ≡ true)
+declares_it i [] x v e = absurd (cc e)
+declares_it i (p ∷ store) x v e = go (is_name x (declares p)) refl e (declares_it (suc i) store x v)
+  where
+    go : (b : Bool) → is_name x (declares p) ≡ b → cond b (Some (record { number = i })) (declared_from (suc i) store x) ≡ Some v
+        → (declared_from (suc i) store x ≡ Some v → (k : ℕ) × (q : Payload) × (v.number ≡ suc i + k) × (slice_get store k ≡ Some q) × (is_name x (declares q) ≡ true))
+        → (k : ℕ) × (q : Payload) × (v.number ≡ i + k) × (slice_get (p ∷ store) k ≡ Some q) × (is_name x (declares q) ≡ true)
+    go true hit e later = let number : i ≡ v.number = ap (λ (v : Obj). v.number) (some_is _ _ e) in (0, p, omega (arith, number), refl, hit)
+    go false miss e later = let (k, q, number, here, hit) = later e in (suc k, q, omega (arith, number), here, hit)
+
+-- an entry that declares nothing is declared under no name
+undeclared : (store : List Payload) (n : ℕ) (p : Payload) → slice_get store n ≡ Some p → declares p ≡ None → (x : Name) (v : Obj)
+    → declared store x ≡ Some v → eqb n v.number ≡ false
+undeclared store n p here plain x v e =
+    let (k, q, number, there, hit) = declares_it 0 store x v e in
+    ne_eqb n v.number (λ same.
+    let at : n ≡ k = omega (arith, same, number) in
+    let one : p ≡ q = some_is p q (sym here ∙ ap (slice_get store) at ∙ there) in
+    let clash : true ≡ false = sym hit ∙ ap (λ (p : Payload). is_name x (declares p)) (sym one) ∙ ap (is_name x) plain in
+    cc clash)
+
+-- an exception of a kind with a text, which no event in front names, is raised
+pub is_raised : (own : List Payload) (before : List Event) (kind : ErrorKind) (text : Name) (argument args : Obj) (e : PyBaseExceptionRef)
+    → HasPayload (first_objects ++ own) argument (payload.Str text) → HasPayload (first_objects ++ own) args (payload.Tuple (argument ∷ []))
+    → HasPayload (first_objects ++ own) (as_object e) (payload.Exception (new_exception (class_of first_classes kind) args))
+    → Each (λ x. is_among e.number (event_numbers x) ≡ false) before → IsRaised (first_objects ++ own) before kind text e
+is_raised own before kind text argument args e message are entry unnamed = record {
+  class = class_of first_classes kind;
+  is_class = (have_classes own kind).is_declared;
+  argument = argument;
+  message = message;
+  made = record {
+    new = record {
+      unnamed = each_at (λ x. is_among e.number (event_numbers x) ≡ false) before unnamed;
+      undeclared = undeclared (first_objects ++ own) e.number _ entry refl;
+    };
+    args = args;
+    entry = entry;
+    are = are;
+  };
+}
 
 -- the reply to the sum of two numbers
 reply_of_sum : (store : List Payload) (a b : Obj) (i j : ℤ) (reply : Reply) → HasPayload store a (payload.Int i) → HasPayload store b (payload.Int j) → Replies store (Binary binary.Add a b) reply → reply ≡ whole (i +ℤ j)
@@ -182,15 +241,18 @@ reply_of_sum store a b i j reply p q r =
     let right : r.1 ≡ payload.Int j = some_is _ _ (sym r.5 ∙ q) in
     sym (some_is _ _ r.8) ∙ (ap (λ (x : Payload). sum x r.1 r.2 r.3) left ∙ ap (λ (x : Payload). sum (payload.Int i) x r.2 r.3) right)
 
--- what is no call is replied to
-pub replied : (ss : List Signature) (d : ℕ) (store : List Payload) (r : Request) (reply : Reply) → ((f : Obj) (vs : List Obj) → r ≡ Calling f vs keywords.None → ⊥) → ComesTo ss d store r (Says reply) → Replies store r reply
-replied ss d store r reply other (inl (q, is, h)) = let same : reply ≡ q = cc in subst (Replies store r) (sym same) h
-replied ss d store r reply other (inr (f, vs, is, h)) = absurd (other f vs is)
+-- what is no call, and doesn't ask for what is handled, is replied to
+pub replied : (ss : List Signature) (d : ℕ) (handled : Option PyBaseExceptionRef) (store : List Payload) (r : Request) (reply : Reply) → ((f : Obj) (vs : List Obj) → r ≡ Calling f vs keywords.None → ⊥) → (r ≡ Handled → ⊥)
+    → ComesTo ss d handled store r (Says reply) → Replies store r reply
+replied ss d handled store r reply no_call other (inl (q, is, h)) = let same : reply ≡ q = cc in subst (Replies store r) (sym same) h
+replied ss d handled store r reply no_call other (inr (inl (f, vs, is, h))) = absurd (no_call f vs is)
+replied ss d handled store r reply no_call other (inr (inr (is, says))) = absurd (other is)
 
 -- what is called comes to what the call does
-pub called : (ss : List Signature) (d : ℕ) (store : List Payload) (f : Obj) (vs : List Obj) (c : Course) → ComesTo ss d store (Calling f vs keywords.None) c → Calls ss d store f vs c
-called ss d store f vs c (inl (reply, is, h)) = absurd h
-called ss d store f vs c (inr (g, ws, is, h)) =
+pub called : (ss : List Signature) (d : ℕ) (handled : Option PyBaseExceptionRef) (store : List Payload) (f : Obj) (vs : List Obj) (c : Course) → ComesTo ss d handled store (Calling f vs keywords.None) c → Calls ss d store f vs c
+called ss d handled store f vs c (inl (reply, is, h)) = absurd h
+called ss d handled store f vs c (inr (inr (is, says))) = absurd (cc is)
+called ss d handled store f vs c (inr (inl (g, ws, is, h))) =
     let function : f ≡ g = cc is in
     let args : vs ≡ ws = cc is in
     subst (λ (f : Obj). Calls ss d store f vs c) (sym function) (subst (λ (vs : List Obj). Calls ss d store g vs c) (sym args) h)
@@ -208,102 +270,61 @@ pub gives_sum : (plan : Plan) (store : List Payload) (before : List Event) (s : 
 gives_sum plan store before s a b i j w p q h =
     let answered = subst (λ (r : Request). IsAnswered plan store before s Asking r w) (sym (some_is _ _ h.1)) h.2 in
     subst (λ (reply : Reply). Gives store before reply w)
-    (reply_of_sum store a b i j answered.0 p q (replied _ _ store (Binary binary.Add a b) answered.0 (λ f vs e. cc) answered.1)) answered.2
+    (reply_of_sum store a b i j answered.0 p q (replied _ _ _ store (Binary binary.Add a b) answered.0 (λ f vs e. cc) (λ e. cc) answered.1)) answered.2
 
 -- the script's only function
 module _ (t : Tree) where
-  -- a function is the script's
-  abbrev IsOwn : Payload → Type 0
-  IsOwn p = (b : FunctionBody) → p ≡ payload.Function b → (u : Tree) × (slice_get (t ∷ []) b.code ≡ Some u) × (b.name ≡ u.name)
-
-  own_function : IsOwn (function_entry t.name 0)
-  own_function b e = subst (λ (b : FunctionBody). (u : Tree) × (slice_get (t ∷ []) b.code ≡ Some u) × (b.name ≡ u.name)) (body_of _ b e) (t, refl, refl)
-
-  -- the script declares what an entry does, which is no manager
-  abbrev pub IsKnown : Payload → Type 0
-  IsKnown p = IsOwn p × IsBuiltIn p × ((b : ManagerBody) → p ≡ payload.Manager b → ⊥)
-
-  pub plain : (p : Payload) → declares p ≡ None → IsKnown p
-  plain p h = (λ b e. let d = ap declares e in absurd cc, λ b e. let d = ap declares e in absurd cc, λ b e. let d = ap declares e in cc)
-
-  known_class : (kind : ErrorKind) → Contains (map name_of error_kinds) (name_of kind) → IsKnown (class_entry kind)
-  known_class kind h = (λ b e. absurd cc, built_in kind h, λ b e. cc)
-
-  known_function : IsKnown (function_entry t.name 0)
-  known_function = (own_function, λ b e. absurd cc, λ b e. cc)
-
-  -- the entry of a tree of the script
-  abbrev HasEntry : List Payload → ℕ → Tree → Type 0
-  HasEntry store i u = (f : Obj) × (declared store u.name ≡ Some f) × HasPayload store f (payload.Function (record { name = u.name; code = i }))
-
   -- the objects of the script with two numbers, and more
   abbrev pub with_more : ℤ → ℤ → List Payload → List Payload
   with_more m n more = objects_of t.name (function_entry t.name 0) m n more
 
-  -- the objects of the script, and more
+  -- the objects of the script behind the first ones
+  abbrev pub own_with : List Payload → List Payload
+  own_with more = function_entry t.name 0 ∷ payload.Str t.name ∷ payload.Dict ((object 1, object 0) ∷ []) ∷ more
+
+  -- all its objects
   abbrev pub loaded_with : List Payload → List Payload
   loaded_with more = loaded t.name (function_entry t.name 0) more
 
   -- the function is declared under its name
   abbrev pub IsDeclared : List Payload → Type 0
-  IsDeclared store = declared store t.name ≡ Some (object 7)
+  IsDeclared store = declared store t.name ≡ Some (object 0)
 
-  has_entry : (more : List Payload) → IsDeclared (loaded_with more) → (i : ℕ) (u : Tree) → slice_get (t ∷ []) i ≡ Some u → HasEntry (loaded_with more) i u
-  has_entry more d zero u e = subst (λ (u : Tree). HasEntry (loaded_with more) 0 u) (some_is t u e) (object 7, d, refl)
+  has_entry : (more : List Payload) → IsDeclared (loaded_with more) → (i : ℕ) (u : Tree) → slice_get (t ∷ []) i ≡ Some u → HasFunction (loaded_with more) i u
+  has_entry more d zero u e = subst (HasFunction (loaded_with more) 0) (some_is t u e) (object 0, d, refl)
   has_entry more d (suc i) u e = absurd cc
 
-  all_known : (more : List Payload) → Each IsKnown more → Each IsKnown (loaded_with more)
-  all_known more h = (
-    plain payload.None refl,
-    (
-      known_class kind.NameError (0, lit< tt, refl),
-      (
-        known_class kind.OverflowError (1, lit< tt, refl),
-        (
-          known_class kind.RecursionError (2, lit< tt, refl),
-          (known_class kind.TypeError (3, lit< tt, refl), (known_class kind.UnboundLocalError (4, lit< tt, refl), (plain (payload.Dict []) refl, (known_function, (plain (payload.Str t.name) refl, (plain (payload.Dict ((object 8, object 7) ∷ [])) refl, h)))))),
-        ),
-      ),
-    ),
-  )
+  pub fits : (more : List Payload) → list_all (λ p. are_below (length (loaded_with more)) (payload_numbers p)) (own_with more) ≡ true → Each (IsMade (loaded_with more)) more → AllFit (loaded_with more)
+  fits more below made = all_fit (own_with more) below (tt, (tt, (tt, made)))
 
-  pub are_loaded : (more : List Payload) → IsDeclared (loaded_with more) → Each IsKnown more → AllFit (loaded_with more) → AreObjects (t ∷ []) (loaded_with more)
-  are_loaded more d known fit =
-      record {
-        functions = has_entry more d;
-        classes =
-            each_at (HasClass (loaded_with more)) error_kinds ((object 1, refl, refl), ((object 2, refl, refl), ((object 3, refl, refl), ((object 4, refl, refl), ((object 5, refl, refl), tt)))));
-        only_functions = λ f b e. (each_at IsKnown (loaded_with more) (all_known more known) f.number (payload.Function b) e).0 b refl;
-        only_classes = λ c b e. (each_at IsKnown (loaded_with more) (all_known more known) c.number (payload.Class b) e).1 b refl;
-        no_managers = λ v b e. (each_at IsKnown (loaded_with more) (all_known more known) v.number (payload.Manager b) e).2 b refl;
-        fit = fit;
-      }
+  pub are_loaded : (more : List Payload) → IsDeclared (loaded_with more) → Each (IsOwn (t ∷ [])) more → AllFit (loaded_with more) → AreObjects (t ∷ []) (loaded_with more)
+  are_loaded more d own fit = script_has (t ∷ []) (own_with more) (each_at (IsOwn (t ∷ [])) (own_with more) ((t, refl, refl), (tt, (tt, own)))) (has_entry more d) fit
 
   -- the same with two numbers
-  pub are_objects : (m n : ℤ) (more : List Payload) → IsDeclared (with_more m n more) → Each IsKnown more → AllFit (with_more m n more) → AreObjects (t ∷ []) (with_more m n more)
-  are_objects m n more d known fit = are_loaded (payload.Int m ∷ payload.Int n ∷ payload.Frame 0 ∷ more) d (plain (payload.Int m) refl, (plain (payload.Int n) refl, (plain (payload.Frame 0) refl, known))) fit
+  pub are_objects : (m n : ℤ) (more : List Payload) → IsDeclared (with_more m n more) → Each (IsOwn (t ∷ [])) more → AllFit (with_more m n more) → AreObjects (t ∷ []) (with_more m n more)
+  are_objects m n more d own fit = are_loaded (payload.Int m ∷ payload.Int n ∷ payload.Frame 0 ∷ more) d (tt, (tt, (tt, own))) fit
 
   -- the globals bind the function
-  pub are_globals : (more : List Payload) → IsDeclared (loaded_with more) → AreGlobals (t ∷ []) (loaded_with more) (object 9)
-  are_globals more d = record { pairs = (object 8, object 7) ∷ []; dict = refl; bindings = (object 8, object 7) ∷ []; bind = ((refl, d), tt); same = IsPermutation-refl _ }
+  pub are_globals : (more : List Payload) → IsDeclared (loaded_with more) → AreGlobals (t ∷ []) (loaded_with more) (object 2)
+  are_globals more d = record { pairs = (object 1, object 0) ∷ []; dict = refl; bindings = (object 1, object 0) ∷ []; bind = ((refl, d), tt); same = IsPermutation-refl _ }
 
   -- the two numbers are taken
   abbrev pub Binds : List Payload → Type 0
-  Binds store = Calls (map signature_of (t ∷ [])) 0 store (object 7) (object 10 ∷ object 11 ∷ []) Enters
+  Binds store = Calls (map signature_of (t ∷ [])) 0 store (object 0) (object 3 ∷ object 4 ∷ []) Enters
 
   -- a run of the script whose first drive asks this
   abbrev pub plan_with : List Posed → Plan
   plan_with qs = plan_of (t ∷ []) (call ∷ qs)
 
   -- up to the question for the sum
-  pub asking_comes : (qs : List Posed) (m n : ℤ) (more : List Payload) (rest : List Event) → 0 < length (call ∷ qs) → Binds (with_more m n more) → Comes (plan_with qs) (with_more m n more) (entered 1 (asked 1 (object 10) (object 11) [])) (state_after start (entered 1 (asked 1 (object 10) (object 11) []))) rest → Comes (plan_with qs) (with_more m n more) [] start (entered 1 (asked 1 (object 10) (object 11) rest))
-  asking_comes qs m n more rest few binds k = ((refl, refl, few), ((refl, refl, refl, binds), ((object 7, refl, refl), ((refl, refl), k))))
+  pub asking_comes : (qs : List Posed) (m n : ℤ) (more : List Payload) (rest : List Event) → 0 < length (call ∷ qs) → Binds (with_more m n more) → Comes (plan_with qs) (with_more m n more) (entered 1 (asked 1 (object 3) (object 4) [])) (state_after start (entered 1 (asked 1 (object 3) (object 4) []))) rest → Comes (plan_with qs) (with_more m n more) [] start (entered 1 (asked 1 (object 3) (object 4) rest))
+  asking_comes qs m n more rest few binds k = ((refl, refl, few), ((refl, refl, refl, binds), ((object 0, refl, refl), ((refl, refl), k))))
 
   -- what gives the sum may answer that question
-  pub sum_comes : (plan : Plan) (m n : ℤ) (more : List Payload) (before : List Event) (s : State) (a : ℕ) (w : GotAnswer) → s.phase ≡ Asking → IsTop a s.stack → question plan s ≡ Some (Binary binary.Add (object 10) (object 11)) → Gives (with_more m n more) before (whole (m +ℤ n)) w → MayCome plan (with_more m n more) before s (event.Got a w)
+  pub sum_comes : (plan : Plan) (m n : ℤ) (more : List Payload) (before : List Event) (s : State) (a : ℕ) (w : GotAnswer) → s.phase ≡ Asking → IsTop a s.stack → question plan s ≡ Some (Binary binary.Add (object 3) (object 4)) → Gives (with_more m n more) before (whole (m +ℤ n)) w → MayCome plan (with_more m n more) before s (event.Got a w)
   sum_comes plan m n more before s a w phase top asks given =
       let reply = whole (m +ℤ n) in
-      (top, (_, asks, subst (λ (p : Phase). IsAnswered plan (with_more m n more) before s p (Binary binary.Add (object 10) (object 11)) w) (sym phase) (reply, inl (reply, refl, (_, _, codes "int", codes "int", refl, refl, refl, refl, refl)), given)))
+      (top, (_, asks, subst (λ (p : Phase). IsAnswered plan (with_more m n more) before s p (Binary binary.Add (object 3) (object 4)) w) (sym phase) (reply, inl (reply, refl, (_, _, codes "int", codes "int", refl, refl, refl, refl, refl)), given)))
 
   -- an activation of the script's function tells what that may
   pub traced_by : (globals : Obj) (store : List Payload) (f : Obj) (vs : List Obj) (ts : List Own) → HasPayload store f (function_entry t.name 0) → Traces (t ∷ []) globals store f vs ts → IsTrace (anywhere store globals) t vs ts
@@ -313,14 +334,14 @@ module _ (t : Tree) where
       subst (λ (u : Tree). IsTrace (anywhere store globals) u vs ts) (sym same) h.2.2
 
   -- what a run of the script says of its activation
-  pub traced_with : (vs : List Obj) (store : List Payload) (drives : List DriveLine) (events : List Event) → HasPayload store (object 7) (function_entry t.name 0) → slice_get (state_after start events).made 0 ≡ Some (record { function = object 7; args = vs })
+  pub traced_with : (vs : List Obj) (store : List Payload) (drives : List DriveLine) (events : List Event) → HasPayload store (object 0) (function_entry t.name 0) → slice_get (state_after start events).made 0 ≡ Some (record { function = object 0; args = vs })
       → (r : IsRunOf (t ∷ []) drives store events) → IsTrace (anywhere store r.globals) t vs (own_events 1 events)
-  traced_with vs store drives events p e r = traced_by r.globals store (object 7) vs (own_events 1 events) p (r.run.tells 0 (record { function = object 7; args = vs }) e)
+  traced_with vs store drives events p e r = traced_by r.globals store (object 0) vs (own_events 1 events) p (r.run.tells 0 (record { function = object 0; args = vs }) e)
 
   -- the same of an activation with two arguments
-  pub traced : (store : List Payload) (drives : List DriveLine) (events : List Event) → HasPayload store (object 7) (function_entry t.name 0) → slice_get (state_after start events).made 0 ≡ Some (record { function = object 7; args = object 10 ∷ object 11 ∷ [] })
-      → (r : IsRunOf (t ∷ []) drives store events) → IsTrace (anywhere store r.globals) t (object 10 ∷ object 11 ∷ []) (own_events 1 events)
-  traced store drives events p e r = traced_with (object 10 ∷ object 11 ∷ []) store drives events p e r
+  pub traced : (store : List Payload) (drives : List DriveLine) (events : List Event) → HasPayload store (object 0) (function_entry t.name 0) → slice_get (state_after start events).made 0 ≡ Some (record { function = object 0; args = object 3 ∷ object 4 ∷ [] })
+      → (r : IsRunOf (t ∷ []) drives store events) → IsTrace (anywhere store r.globals) t (object 3 ∷ object 4 ∷ []) (own_events 1 events)
+  traced store drives events p e r = traced_with (object 3 ∷ object 4 ∷ []) store drives events p e r
 
   -- the entry of the function, where it is the script's
   pub entry_of : (store : List Payload) (f : Obj) → AreObjects (t ∷ []) store → declared store t.name ≡ Some f → HasPayload store f (function_entry t.name 0)
@@ -328,70 +349,53 @@ module _ (t : Tree) where
       let entry = h.functions 0 t refl in
       subst (λ (f : Obj). HasPayload store f (function_entry t.name 0)) (some_is _ _ (sym entry.1 ∙ e)) entry.2
 
-  -- nothing is declared under another number
-  pub undeclared : (n : ℕ) (more : List Payload) (x : Name) → IsNoDeclaration n → declared_from 10 more x ≡ None → (v : Obj) → declared (loaded_with more) x ≡ Some v → eqb n v.number ≡ false
-  undeclared n more x past none =
-      not_chosen n 1 _ _ past.0 (not_chosen n 2 _ _ past.1 (not_chosen n 3 _ _ past.2 (not_chosen n 4 _ _ past.3 (not_chosen n 5 _ _ past.4 (not_chosen n 7 _ _ past.5 (none_chosen n (declared_from 10 more x) none))))))
-
   -- the objects of drives that overflow, and more
   abbrev pub overflow_with : List Payload → List Payload
-  overflow_with more = raising_by t.name (function_entry t.name 0) 2 more
-
-  pub new_in : (n : ℕ) (more : List Payload) (before : List Event) → ((x : Name) → declared_from 16 more x ≡ None) → Each (λ e. is_among n (event_numbers e) ≡ false) before → IsNoDeclaration n → IsNew (overflow_with more) before n
-  new_in n more before none h past =
-      record { unnamed = each_at (λ e. is_among n (event_numbers e) ≡ false) before h; undeclared = λ x. undeclared n (payload.Int greatest ∷ payload.Int (pos 1) ∷ payload.Frame 0 ∷ error_objects 2 more) x past (none x) }
+  overflow_with more = raising_by t.name (function_entry t.name 0) OverflowError more
 
   -- what is raised
-  pub is_raised : (n : ℕ) (more : List Payload) (before : List Event) → IsNew (overflow_with more) before n → HasPayload (overflow_with more) (object n) (error_entry 2) → IsRaised (overflow_with more) before kind.OverflowError (codes "integer out of range") (exception n)
-  is_raised n more before new entry = record { class = record { number = 2 }; is_class = refl; argument = object 13; message = refl; made = record { new = new; args = object 14; entry = entry; are = refl } }
+  pub overflows : (n : ℕ) (more : List Payload) (before : List Event) → HasPayload (overflow_with more) (object n) (error_entry OverflowError) → Each (λ e. is_among (exception n).number (event_numbers e) ≡ false) before
+      → IsRaised (overflow_with more) before OverflowError out_of_range (exception n)
+  overflows n more before entry unnamed =
+      is_raised (own_with (payload.Int greatest ∷ payload.Int (pos 1) ∷ payload.Frame 0 ∷ error_objects OverflowError more)) before OverflowError out_of_range (object 6) (object 7) (exception n) refl refl entry unnamed
 
   -- the first of the drives
-  pub first_raises : (qs : List Posed) (more : List Payload) (rest : List Event) → 0 < length (call ∷ qs) → Binds (overflow_with more) → ((x : Name) → declared_from 16 more x ≡ None) → Comes (plan_with qs) (overflow_with more) (overflow_by (exception 15)) (state_after start (overflow_by (exception 15))) rest → Comes (plan_with qs) (overflow_with more) [] start (raises 1 (exception 15) rest)
-  first_raises qs more rest few binds none k =
-      let asking = entered 1 (asked 1 (object 10) (object 11) []) in
-      let new = new_in 15 more asking none (refl, (refl, (refl, (refl, tt)))) (refl, refl, refl, refl, refl, refl) in
-      asking_comes qs greatest (pos 1) (error_objects 2 more) (raised 1 (exception 15) rest) few binds
-      (sum_comes (plan_with qs) greatest (pos 1) (error_objects 2 more) asking (state_after start asking) 1 (got.Raise (exception 15)) refl refl refl (is_raised 15 more asking new refl), ((refl, refl), ((refl, refl, (_, got.Raise (exception 15), refl, refl, (_, _, refl, refl))), k)))
+  pub first_raises : (qs : List Posed) (more : List Payload) (rest : List Event) → 0 < length (call ∷ qs) → Binds (overflow_with more) → Comes (plan_with qs) (overflow_with more) (overflow_by (exception 8)) (state_after start (overflow_by (exception 8))) rest → Comes (plan_with qs) (overflow_with more) [] start (raises 1 (exception 8) rest)
+  first_raises qs more rest few binds k =
+      let asking = entered 1 (asked 1 (object 3) (object 4) []) in
+      asking_comes qs greatest (pos 1) (error_objects OverflowError more) (raised 1 (exception 8) rest) few binds
+      (sum_comes (plan_with qs) greatest (pos 1) (error_objects OverflowError more) asking (state_after start asking) 1 (got.Raise (exception 8)) refl refl refl (overflows 8 more asking refl (refl, (refl, (refl, (refl, tt))))), ((refl, refl), ((refl, refl, (_, got.Raise (exception 8), refl, refl, (_, _, refl, refl))), k)))
 
   -- what the activation of a drive that raises tells, which is entered and answered by the events with these numbers
   abbrev pub RaiseIsTraced : List Payload → ℕ → ℕ → PyBaseExceptionRef → Type 0
   RaiseIsTraced more i j e =
-      IsTrace (anywhere (overflow_with more) (object 9)) t (object 10 ∷ object 11 ∷ [])
-      (Makes ∷ Resumes i Start ∷ Asks 2 (Binary binary.Add (object 10) (object 11)) None ∷ Gets j (got.Raise e) ∷ Ends 2 (ending.Raise e) ∷ [])
+      IsTrace (anywhere (overflow_with more) (object 2)) t (object 3 ∷ object 4 ∷ [])
+      (Makes ∷ Resumes i Start ∷ Asks 2 (Binary binary.Add (object 3) (object 4)) None ∷ Gets j (got.Raise e) ∷ Ends 2 (ending.Raise e) ∷ [])
 
   -- its entry names what it should
-  pub made_error : (more : List Payload) → IsMade (overflow_with more) (error_entry 2)
-  made_error more = record {
-    class = record { name = name_of kind.OverflowError };
-    is_class = refl;
-    is_declared = refl;
-    arguments = object 13 ∷ [];
-    are_arguments = refl;
-    cause = tt;
-    context = tt;
-    traceback = tt;
-  }
+  pub made_error : (more : List Payload) → IsMade (overflow_with more) (error_entry OverflowError)
+  made_error more = made_exception (own_with (payload.Int greatest ∷ payload.Int (pos 1) ∷ payload.Frame 0 ∷ error_objects OverflowError more)) OverflowError (object 7) (object 6 ∷ []) refl
 
   overflow_fits : AllFit (overflow_with [])
-  overflow_fits = all_fit (overflow_with []) refl (tt, (tt, (tt, (tt, (tt, (tt, (tt, (tt, (tt, (tt, (tt, (tt, (tt, (tt, (tt, (made_error [], tt))))))))))))))))
+  overflow_fits = fits (payload.Int greatest ∷ payload.Int (pos 1) ∷ payload.Frame 0 ∷ error_objects OverflowError []) refl (tt, (tt, (tt, (tt, (tt, (made_error [], tt))))))
 
-  overflow_tells : RaiseIsTraced [] 2 4 (exception 15) → EachTells (Traces (t ∷ []) (object 9) (overflow_with [])) (overflow_by (exception 15))
+  overflow_tells : RaiseIsTraced [] 2 4 (exception 8) → EachTells (Traces (t ∷ []) (object 2) (overflow_with [])) (overflow_by (exception 8))
   unfolding own_from told_by
-  overflow_tells h = one_tells (Traces (t ∷ []) (object 9) (overflow_with [])) (object 7) (object 10 ∷ object 11 ∷ []) (overflow_by (exception 15)) refl (_, refl, (t, refl, h))
+  overflow_tells h = one_tells (Traces (t ∷ []) (object 2) (overflow_with [])) (object 0) (object 3 ∷ object 4 ∷ []) (overflow_by (exception 8)) refl (_, refl, (t, refl, h))
 
   -- the run of one drive that overflows
-  pub overflow_is_run : IsDeclared (overflow_with []) → Binds (overflow_with []) → RaiseIsTraced [] 2 4 (exception 15) → IsRunOf (t ∷ []) (overflowing_of t.name ∷ []) (overflow_with []) (overflow_by (exception 15))
+  pub overflow_is_run : IsDeclared (overflow_with []) → Binds (overflow_with []) → RaiseIsTraced [] 2 4 (exception 8) → IsRunOf (t ∷ []) (overflowing_of t.name ∷ []) (overflow_with []) (overflow_by (exception 8))
   overflow_is_run d binds h =
       record {
         asked = call ∷ [];
         are_asked = (((d, (refl, (refl, tt))), refl), tt);
-        globals = object 9;
-        are_globals = are_globals (payload.Int greatest ∷ payload.Int (pos 1) ∷ payload.Frame 0 ∷ error_objects 2 []) d;
+        globals = object 2;
+        are_globals = are_globals (payload.Int greatest ∷ payload.Int (pos 1) ∷ payload.Frame 0 ∷ error_objects OverflowError []) d;
         run =
             record {
-              comes = first_raises [] [] [] (lit< tt) binds (λ x. refl) tt;
+              comes = first_raises [] [] [] (lit< tt) binds tt;
               tells = overflow_tells h;
-              named = are_named (overflow_with []) (overflow_by (exception 15)) overflow_fits refl;
+              named = are_named (overflow_with []) (overflow_by (exception 8)) overflow_fits refl;
             };
-        are_objects = are_objects greatest (pos 1) (error_objects 2 []) d (plain _ refl, (plain _ refl, (plain _ refl, tt))) overflow_fits;
+        are_objects = are_objects greatest (pos 1) (error_objects OverflowError []) d (tt, (tt, (tt, tt))) overflow_fits;
       }

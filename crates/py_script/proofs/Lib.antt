@@ -1,5 +1,6 @@
 -- what a script gives the compiler and the machine
 pub mod Functions
+pub mod Behind
 pub mod Objects
 -- what a machine's run is in the script's own words
 pub mod Made
@@ -14,6 +15,7 @@ pub mod Reading
 pub mod Answering
 -- what is written
 mod NoteLemmas
+mod PathLemmas
 mod ReprLemmas
 mod TextLemmas
 -- journals worked by hand

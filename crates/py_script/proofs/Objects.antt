@@ -1,23 +1,21 @@
 -- The objects of a script: as they are loaded, and as more come.
 use Rattle.std.proofs.Common.{◌≡◌, ◌+◌, ◌-◌, ℕ, zero, suc, List, [], ◌∷◌, ◌++◌, length, Bool, true, false, cond, ◌||◌, Some, None, refl, sym, ap, ◌∙◌, subst, arith, ◌⊎◌, inl, inr}
-use Rattle.std.specs.Prelude.{slice_get, map, codes, bytes_eq, Contains}
+use Rattle.std.specs.Prelude.{slice_get, map, bytes_eq}
 use Rattle.std.specs.List.{list_any}
-use Rattle.std.proofs.lemmas.Option.{slice_get_within, slice_get-get_or, get_or_from_slice_get}
+use Rattle.std.proofs.lemmas.Option.{slice_get_within, slice_get-get_or}
 use Rattle.std.proofs.lemmas.Slice.Eq.{bytes_eq-Decides}
 use Rattle.py_objects.specs.declared.payload.Payload.{Payload}
 use Rattle.py_objects.specs.declared.payload.Payload.TheVariants as payload
-use Rattle.py_objects.specs.declared.payload.ClassBody.{ClassBody}
-use Rattle.py_objects.specs.declared.payload.FunctionBody.{FunctionBody}
-use Rattle.py_objects.specs.declared.payload.ManagerBody.{ManagerBody}
-use Rattle.py_objects.specs.declared.payload.ErrorKind.{ErrorKind}
-use Rattle.py_objects.specs.declared.payload.ErrorKind.TheVariants.{NameError, OverflowError, RecursionError, TypeError, UnboundLocalError}
+use Rattle.py_objects.specs.declared.error_kind.ErrorKind.{ErrorKind}
 use Rattle.py_objects.specs.declared.event.DriveAnswer.{DriveAnswer}
 use Rattle.py_objects.specs.declared.event.DriveAnswer.TheVariants as answer
 use Rattle.py_objects.specs.declared.event.Event.{Event}
 use Rattle.py_objects.specs.declared.event.Event.TheVariants as event
-use Rattle.py_objects.specs.Objects.{Obj, Name, HasPayload, declares, declared, declared_from, name_of, error_kinds, pair_numbers, AllBelow, AllFit}
+use Rattle.py_objects.specs.ErrorKinds.{name_of, error_kinds}
+use Rattle.py_objects.specs.Objects.{Obj, Name, HasPayload, class_object, declares, declared, declared_from, pair_numbers, AllBelow, AllFit}
 use Rattle.py_objects.specs.Growth.{GrowsPlainly}
 use Rattle.py_objects.proofs.GrowthLemmas.{slice_get_grown, payload_grown, plainly_grows, slice_get_split, declared_stays}
+use Rattle.py_exceptions.proofs.ClassesLemmas.{class_grown}
 use Rattle.py_laid.specs.Fits.{Continues}
 use Rattle.py_tree.specs.Tree.{Tree}
 use Rattle.py_lines.specs.declared.drive.DriveAtom.{DriveAtom}
@@ -30,9 +28,11 @@ use Rattle.py_run.specs.declared.drive.Drive.{Drive as Question}
 use Rattle.py_run.specs.declared.drive.Drive.TheVariants as question
 use Rattle.py_run.specs.Run.{Posed}
 use Rattle.py_objects.proofs.NewLemmas.{declared_within}
+use Rattle.py_vm.specs.First.{first_objects}
 use Rattle.py_script.specs.Whole.{IsLeft, IsLeftBy, IsOf, AreOf, AsksThis, Asks, AreAsked, AreGlobals, AreObjects}
 use Rattle.py_script.specs.Session.{AreBindings, AreDeclared}
 use Rattle.py_script.specs.Loaded.{function_entries, script_objects}
+use Rattle.py_script.proofs.Behind.{HasFunction, IsOwn, declared_own, entry_behind, script_has}
 use Rattle.py_script.proofs.Functions.{other_name, same_name, AreDistinct, first_differs, others_differ}
 
 -- the entry of a function, behind those of the ones before it
@@ -65,119 +65,42 @@ found_from k i (s ∷ ts) (suc j) t differ is =
     ap (λ b. cond b (Some (record { number = k })) (declared_from (suc k) (function_entries (suc i) ts) t.name)) miss
     ∙ found_from (suc k) (suc i) ts j t (others_differ s ts differ) is ∙ ap (λ n. Some (record { number = n })) (let e : suc k + j ≡ k + suc j = omega arith in e)
 
-both_false : (a b : Bool) → (a || b) ≡ false → (a ≡ false) × (b ≡ false)
-both_false true b h = absurd (let e : true ≡ false = h in cc e)
-both_false false b h = (refl, h)
-
--- what is no class is declared behind the classes
-behind_classes : (n : Name) (ts : List Tree) → is_builtin_class n ≡ false → declared (script_objects ts) n ≡ declared_from 7 (function_entries 0 ts) n
-behind_classes n ts none =
-    let a = both_false (bytes_eq n (codes "NameError")) _ none in
-    let b = both_false (bytes_eq n (codes "OverflowError")) _ a.1 in
-    let c = both_false (bytes_eq n (codes "RecursionError")) _ b.1 in
-    let d = both_false (bytes_eq n (codes "TypeError")) _ c.1 in
-    let e = both_false (bytes_eq n (codes "UnboundLocalError")) _ d.1 in
-    rw (a.0, b.0, c.0, d.0, e.0) refl
-
--- entries behind the first seven
-entry_behind : (ts : List Tree) (j : ℕ) → slice_get (script_objects ts) (7 + j) ≡ slice_get (function_entries 0 ts) j
-entry_behind ts j = ap (slice_get (script_objects ts)) (let e : 7 + j ≡ suc (suc (suc (suc (suc (suc (suc j)))))) = omega arith in e)
-
 -- the functions that are loaded are declared, in order
-pub functions_are : (ts : List Tree) → AreDistinct ts → (j : ℕ) (t : Tree) → slice_get ts j ≡ Some t → is_builtin_class t.name ≡ false
-    → (declared (script_objects ts) t.name ≡ Some (record { number = 7 + j })) × HasPayload (script_objects ts) (record { number = 7 + j }) (payload.Function (record { name = t.name; code = j }))
+functions_are : (ts : List Tree) → AreDistinct ts → (j : ℕ) (t : Tree) → slice_get ts j ≡ Some t → is_builtin_class t.name ≡ false → HasFunction (script_objects ts) j t
 functions_are ts differ j t is none = (
-  behind_classes t.name ts none ∙ found_from 7 0 ts j t differ is,
-  entry_behind ts j ∙ entry_at 0 ts j t is ∙ ap (λ n. Some (payload.Function (record { name = t.name; code = n }))) (let e : 0 + j ≡ j = omega arith in e),
+  record { number = length first_objects + j },
+  declared_own (function_entries 0 ts) t.name none ∙ found_from (length first_objects) 0 ts j t differ is,
+  entry_behind first_objects (function_entries 0 ts) j ∙ entry_at 0 ts j t is
+      ∙ ap (λ n. Some (payload.Function (record { name = t.name; code = n }))) (let e : 0 + j ≡ j = omega arith in e),
 )
 
-classes_are : (ts : List Tree) (k : ErrorKind) → (c : Obj) × (declared (script_objects ts) (name_of k) ≡ Some c) × HasPayload (script_objects ts) c (payload.Class (record { name = name_of k }))
-classes_are ts NameError = (record { number = 1 }, refl, refl)
-classes_are ts OverflowError = (record { number = 2 }, refl, refl)
-classes_are ts RecursionError = (record { number = 3 }, refl, refl)
-classes_are ts TypeError = (record { number = 4 }, refl, refl)
-classes_are ts UnboundLocalError = (record { number = 5 }, refl, refl)
-
-no_function : {A : Type 0} (c : ClassBody) (b : FunctionBody) → Some (payload.Class c) ≡ Some (payload.Function b) → A
-no_function c b e = absurd (let d : payload.Class c ≡ payload.Function b = cc e in cc d)
-
-only_functions_at : (ts : List Tree) (n : ℕ) (b : FunctionBody) → slice_get (script_objects ts) n ≡ Some (payload.Function b) → (t : Tree) × (slice_get ts b.code ≡ Some t) × (b.name ≡ t.name)
-only_functions_at ts zero b is = absurd (let d : payload.None ≡ payload.Function b = cc is in cc d)
-only_functions_at ts (suc zero) b is = no_function _ b is
-only_functions_at ts (suc (suc zero)) b is = no_function _ b is
-only_functions_at ts (suc (suc (suc zero))) b is = no_function _ b is
-only_functions_at ts (suc (suc (suc (suc zero)))) b is = no_function _ b is
-only_functions_at ts (suc (suc (suc (suc (suc zero))))) b is = no_function _ b is
-only_functions_at ts (suc (suc (suc (suc (suc (suc zero)))))) b is = absurd (let d : payload.Dict [] ≡ payload.Function b = cc is in cc d)
-only_functions_at ts (suc (suc (suc (suc (suc (suc (suc j))))))) b is =
-    let h = entry_of 0 ts j (payload.Function b) is in
-    let body : b ≡ record { name = h.0.name; code = 0 + j } = cc h.2 in
-    let place : b.code ≡ j = ap (λ (x : FunctionBody). x.code) body ∙ (let e : 0 + j ≡ j = omega arith in e) in
-    (h.0, ap (slice_get ts) place ∙ h.1, ap (λ (x : FunctionBody). x.name) body)
-
-class_named : (k : ErrorKind) (i : ℕ) (b : ClassBody) → slice_get (map name_of error_kinds) i ≡ Some (name_of k) → Some (payload.Class (record { name = name_of k })) ≡ Some (payload.Class b) → Contains (map name_of error_kinds) b.name
-class_named k i b at is =
-    let inside : payload.Class (record { name = name_of k }) ≡ payload.Class b = cc is in
-    let body : record { name = name_of k } ≡ b = cc inside in
-    let name : name_of k ≡ b.name = ap (λ (x : ClassBody). x.name) body in
-    let here : slice_get (map name_of error_kinds) i ≡ Some b.name = at ∙ ap Some name in
-    (i, slice_get_within (map name_of error_kinds) i b.name here, get_or_from_slice_get (map name_of error_kinds) i b.name b.name here)
-
-only_classes_at : (ts : List Tree) (n : ℕ) (b : ClassBody) → slice_get (script_objects ts) n ≡ Some (payload.Class b) → Contains (map name_of error_kinds) b.name
-only_classes_at ts zero b is = absurd (let d : payload.None ≡ payload.Class b = cc is in cc d)
-only_classes_at ts (suc zero) b is = class_named NameError 0 b refl is
-only_classes_at ts (suc (suc zero)) b is = class_named OverflowError 1 b refl is
-only_classes_at ts (suc (suc (suc zero))) b is = class_named RecursionError 2 b refl is
-only_classes_at ts (suc (suc (suc (suc zero)))) b is = class_named TypeError 3 b refl is
-only_classes_at ts (suc (suc (suc (suc (suc zero))))) b is = class_named UnboundLocalError 4 b refl is
-only_classes_at ts (suc (suc (suc (suc (suc (suc zero)))))) b is = absurd (let d : payload.Dict [] ≡ payload.Class b = cc is in cc d)
-only_classes_at ts (suc (suc (suc (suc (suc (suc (suc j))))))) b is =
-    let h = entry_of 0 ts j (payload.Class b) is in
-    absurd (cc h.2)
-
-class_manages_none : (c : ClassBody) (b : ManagerBody) → Some (payload.Class c) ≡ Some (payload.Manager b) → ⊥
-class_manages_none c b e = let d : payload.Class c ≡ payload.Manager b = cc e in cc d
-
-no_managers_at : (ts : List Tree) (n : ℕ) (b : ManagerBody) → slice_get (script_objects ts) n ≡ Some (payload.Manager b) → ⊥
-no_managers_at ts zero b is = let d : payload.None ≡ payload.Manager b = cc is in cc d
-no_managers_at ts (suc zero) b is = class_manages_none _ b is
-no_managers_at ts (suc (suc zero)) b is = class_manages_none _ b is
-no_managers_at ts (suc (suc (suc zero))) b is = class_manages_none _ b is
-no_managers_at ts (suc (suc (suc (suc zero)))) b is = class_manages_none _ b is
-no_managers_at ts (suc (suc (suc (suc (suc zero))))) b is = class_manages_none _ b is
-no_managers_at ts (suc (suc (suc (suc (suc (suc zero)))))) b is = let d : payload.Dict [] ≡ payload.Manager b = cc is in cc d
-no_managers_at ts (suc (suc (suc (suc (suc (suc (suc j))))))) b is =
-    let h = entry_of 0 ts j (payload.Manager b) is in
-    cc h.2
+-- nothing else is
+only_functions : (ts : List Tree) (j : ℕ) (p : Payload) → slice_get (function_entries 0 ts) j ≡ Some p → IsOwn ts p
+only_functions ts j p is =
+    let (t, at, same) = entry_of 0 ts j p is in
+    subst (IsOwn ts) (sym same) (t, ap (slice_get ts) (let e : 0 + j ≡ j = omega arith in e) ∙ at, refl)
 
 -- the objects that are loaded are a script's
-pub loaded_objects : (ts : List Tree) → AreDistinct ts → ((j : ℕ) (t : Tree) → slice_get ts j ≡ Some t → is_builtin_class t.name ≡ false) → AllFit (script_objects ts) → AreObjects ts (script_objects ts)
-loaded_objects ts differ no_class fit = record {
-  functions = λ j t is. let h = functions_are ts differ j t is (no_class j t is) in (_, h.0, h.1);
-  classes = λ i k is. classes_are ts k;
-  only_functions = λ f b is. only_functions_at ts f.number b is;
-  only_classes = λ c b is. only_classes_at ts c.number b is;
-  no_managers = λ m b is. no_managers_at ts m.number b is;
-  fit = fit;
-}
+pub loaded_objects : (ts : List Tree) → AreDistinct ts → ((j : ℕ) (t : Tree) → slice_get ts j ≡ Some t → is_builtin_class t.name ≡ false) → AllFit (script_objects ts)
+    → AreObjects ts (script_objects ts)
+loaded_objects ts differ no_class fit = script_has ts (function_entries 0 ts) (only_functions ts) (λ j t is. functions_are ts differ j t is (no_class j t is)) fit
 
 -- a name of a built-in class is that of one of them
-named_class : (x : Name) (ks : List ErrorKind) → list_any (bytes_eq x) (map name_of ks) ≡ true → (i : ℕ) × (k : ErrorKind) × (slice_get ks i ≡ Some k) × (x ≡ name_of k)
+named_class : (x : Name) (kinds : List ErrorKind) → list_any (bytes_eq x) (map name_of kinds) ≡ true → (kind : ErrorKind) × (x ≡ name_of kind)
 named_class x [] h = absurd (cc h)
-named_class x (k ∷ ks) h = go (bytes_eq x (name_of k)) refl h (named_class x ks)
+named_class x (k ∷ kinds) h = go (bytes_eq x (name_of k)) refl h (named_class x kinds)
   where
-    go : (b : Bool) → b ≡ bytes_eq x (name_of k) → (b || list_any (bytes_eq x) (map name_of ks)) ≡ true
-        → (list_any (bytes_eq x) (map name_of ks) ≡ true → (i : ℕ) × (j : ErrorKind) × (slice_get ks i ≡ Some j) × (x ≡ name_of j))
-        → (i : ℕ) × (j : ErrorKind) × (slice_get (k ∷ ks) i ≡ Some j) × (x ≡ name_of j)
-    go true same h later = (0, k, refl, (bytes_eq-Decides x (name_of k)).0 (sym same))
-    go false other h later = let (i, j, at, is) = later h in (suc i, j, at, is)
+    go : (b : Bool) → b ≡ bytes_eq x (name_of k) → (b || list_any (bytes_eq x) (map name_of kinds)) ≡ true
+        → (list_any (bytes_eq x) (map name_of kinds) ≡ true → (kind : ErrorKind) × (x ≡ name_of kind)) → (kind : ErrorKind) × (x ≡ name_of kind)
+    go true same h later = (k, (bytes_eq-Decides x (name_of k)).0 (sym same))
+    go false other h later = later h
 
 -- a built-in class is declared
 class_declared : (ts : List Tree) (objects : List Payload) (x : Name) → AreObjects ts objects → is_builtin_class x ≡ true → (v : Obj) × (declared objects x ≡ Some v)
 class_declared ts objects x are known =
-    let (i, k, at, is) = named_class x error_kinds known in
-    let (c, found, has) = are.classes i k at in
-    (c, ap (declared objects) is ∙ found)
+    let (kind, is) = named_class x error_kinds known in
+    let (class, has) = are.classes kind in
+    (class_object class, ap (declared objects) is ∙ has.is_declared)
 
 -- a name that stands for something has its object
 pub known_declared : (ts : List Tree) (objects : List Payload) (x : Name) → AreObjects ts objects → IsKnown ts x → (v : Obj) × (declared objects x ≡ Some v)
@@ -198,9 +121,11 @@ declared_before objects objects' v p n grows says has = go (slice_get_split obje
 pub objects_grow : (ts : List Tree) (objects objects' : List Payload) → GrowsPlainly objects objects' → AreObjects ts objects → AreObjects ts objects'
 objects_grow ts objects objects' grows are = record {
   functions = λ j t is. let h = are.functions j t is in (h.0, declared_stays objects objects' t.name grows ∙ h.1, payload_grown objects objects' h.0 _ (plainly_grows objects objects' grows) h.2);
-  classes = λ i k is. let h = are.classes i k is in (h.0, declared_stays objects objects' (name_of k) grows ∙ h.1, payload_grown objects objects' h.0 _ (plainly_grows objects objects' grows) h.2);
+  classes = λ kind. let (class, has) = are.classes kind in (class, class_grown objects objects' kind class (plainly_grows objects objects' grows) has);
   only_functions = λ f b is. are.only_functions f b (declared_before objects objects' f (payload.Function b) b.name grows refl is);
-  only_classes = λ c b is. are.only_classes c b (declared_before objects objects' c (payload.Class b) b.name grows refl is);
+  only_classes = λ c b is.
+      let (kind, found) = are.only_classes c b (declared_before objects objects' c (payload.Class b) b.name grows refl is) in
+      (kind, declared_stays objects objects' (name_of kind) grows ∙ found);
   no_managers = λ m b is. are.no_managers m b (declared_before objects objects' m (payload.Manager b) b.name grows refl is);
   fit = grows.fit are.fit;
 }

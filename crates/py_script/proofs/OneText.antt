@@ -6,8 +6,8 @@ use Rattle.std.specs.Fmt.{signed_decimal}
 use Rattle.py_objects.specs.declared.refs.PyBaseExceptionRef.{PyBaseExceptionRef}
 use Rattle.py_objects.specs.declared.payload.Payload.{Payload}
 use Rattle.py_objects.specs.declared.payload.Payload.TheVariants as payload
-use Rattle.py_objects.specs.declared.payload.ErrorKind.{ErrorKind}
-use Rattle.py_objects.specs.declared.payload.ErrorKind.TheVariants.{OverflowError}
+use Rattle.py_objects.specs.declared.error_kind.ErrorKind.{ErrorKind}
+use Rattle.py_objects.specs.declared.error_kind.ErrorKind.TheVariants.{OverflowError}
 use Rattle.py_code.specs.declared.operator.BinaryOperator.TheVariants as binary
 use Rattle.py_code.specs.Literals.{in_range}
 use Rattle.py_objects.specs.declared.request.Keywords.TheVariants as keywords
@@ -22,7 +22,8 @@ use Rattle.py_objects.specs.declared.event.DriveAnswer.{DriveAnswer}
 use Rattle.py_objects.specs.declared.event.DriveAnswer.TheVariants as answer
 use Rattle.py_objects.specs.declared.event.Event.{Event}
 use Rattle.py_objects.specs.declared.event.Event.TheVariants as event
-use Rattle.py_objects.specs.Objects.{Obj, Name, HasPayload, class_object, declared, name_of, error_kinds}
+use Rattle.py_objects.specs.ErrorKinds.{name_of}
+use Rattle.py_objects.specs.Objects.{Obj, Name, HasPayload, class_object, declared}
 use Rattle.py_objects.specs.Own.{Own, Asks, Gets, Ends, whose, own_of, own_from, told_by}
 use Rattle.py_objects.specs.Telling.{Given, Failed, AfterValue, Asked, Answered, Answers}
 use Rattle.py_tree.specs.Tree.{Tree}
@@ -32,11 +33,13 @@ use Rattle.py_run.specs.declared.drive.Drive.{Drive as Question}
 use Rattle.py_run.specs.declared.drive.Drive.TheVariants.{Call}
 use Rattle.py_run.specs.Calls.{Says, ComesTo, entry_at}
 use Rattle.py_answers.specs.Answers.{Reply, Has, Fails, Gives, IsRaised, whole}
-use Rattle.py_run.specs.Run.{Posed, Plan, Left, left_by, Phase, Idle, Asking, Going, Made, Due, Act, Activation, State, start, after, state_after, request_of, open_in, question, entered_in, depth, IsTop, Passes, as_got, Answers as IsAnswered, MayCome, Comes}
+use Rattle.py_run.specs.Run.{Posed, Plan, Left, left_by, Phase, Idle, Asking, Going, Made, Due, Act, Activation, State, start, after, state_after, request_of, open_in, question, entered_in, depth, handled_among, IsTop, Passes, as_got, Answers as IsAnswered, MayCome, Comes}
 use Rattle.py_script.specs.Whole.{AreAsked, AsksThis, AreObjects, Traces, plan_of, signature_of}
-use Rattle.py_script.specs.Text.{class_name, details, events_text, items_of, numbered, payload_of, raised, repr_within, result_text, said, shown, str_by, str_within}
+use Rattle.py_script.specs.Repr.{class_name, items_of, payload_of, repr_within, shown}
+use Rattle.py_script.specs.Said.{said_by}
+use Rattle.py_script.specs.Text.{details, events_text, numbered, raised, result_text, str_by, str_within}
 use Rattle.py_script.proofs.TextLemmas.{plain_text, unchanged}
-use Rattle.py_script.specs.Worked.{Writes, call_of, class_entry, events, exception, function, greatest, objects, overflow_by, overflow_objects, trees}
+use Rattle.py_script.specs.Worked.{Writes, call_of, events, exception, function, greatest, objects, out_of_range, overflow_by, overflow_objects, trees}
 use Rattle.py_script.proofs.Journals.{ascii_bytes, begun, called, course_is, decimal_1, decimal_45, entry_of, few_asked, gives_sum, gotten, some_is, traced_by}
 use Rattle.py_script.proofs.WorkedLemmas.{is_run, overflow_is_run}
 
@@ -142,7 +145,7 @@ module _ (store : List Payload) (globals : Obj) (journal : List Event) (qs : Lis
 
   -- the open question isn't replied to
   abbrev Enters_only : State → Type 0
-  Enters_only s = (r : Request) (reply : Reply) → question plan s ≡ Some r → ComesTo plan.signatures (depth plan s) store r (Says reply) → ⊥
+  Enters_only s = (r : Request) (reply : Reply) → question plan s ≡ Some r → ComesTo plan.signatures (depth plan s) (handled_among s.stack) store r (Says reply) → ⊥
 
   -- a drive's question is open
   asked_next : (before : List Event) (s : State) (e : Event) → s.phase ≡ Asking → s.stack ≡ [] → Enters_only s → MayCome plan store before s e → (f : Obj) × (vs : List Obj) × (e ≡ event.Make (suc (length s.made)) f vs) × (question plan s ≡ Some (Calling f vs keywords.None))
@@ -312,17 +315,17 @@ module _ (store : List Payload) (globals : Obj) (journal : List Event) (qs : Lis
   none_entered (x ∷ xs) h = h.0.1
 
   -- so many arguments as the function takes are not refused
-  not_refused : (d : Question) (r : Request) (reply : Reply) (k : ℕ) → AreObjects trees store → k ≡ 0 → AsksThis store journal (call_of (codes "f") m n) d → request_of d ≡ r → ComesTo (map signature_of trees) k store r (Says reply) → ⊥
+  not_refused : (d : Question) (r : Request) (reply : Reply) (k : ℕ) → AreObjects trees store → k ≡ 0 → AsksThis store journal (call_of (codes "f") m n) d → request_of d ≡ r → ComesTo (map signature_of trees) k None store r (Says reply) → ⊥
   not_refused (Call f []) r reply k o at_zero q is h = absurd q.1
   not_refused (Call f (a ∷ [])) r reply k o at_zero q is h = absurd q.1.1
   not_refused (Call f (a ∷ b ∷ c ∷ vs)) r reply k o at_zero q is h = absurd q.1.1.1
   not_refused (Call f (a ∷ b ∷ [])) r reply k o at_zero q is h =
-      let calls = called (map signature_of trees) k store f (a ∷ b ∷ []) (Says reply) (subst (λ (x : Request). ComesTo (map signature_of trees) k store x (Says reply)) (sym is) h) in
+      let calls = called (map signature_of trees) k None store f (a ∷ b ∷ []) (Says reply) (subst (λ (x : Request). ComesTo (map signature_of trees) k None store x (Says reply)) (sym is) h) in
       let course : Says reply ≡ entry_at k = course_is (map signature_of trees) k store f (record { name = codes "f"; code = 0 }) (signature_of function) (a ∷ b ∷ []) (Says reply) (entry_of function store f o q.0) refl calls in
       let enters : Says reply ≡ entry_at 0 = subst (λ (k : ℕ). Says reply ≡ entry_at k) at_zero course in
       cc
 
-  enters_only : (xs : List Posed) (r : Request) (reply : Reply) (k : ℕ) → AreObjects trees store → AreAsked store journal (call_of (codes "f") m n ∷ []) xs → k ≡ 0 → open_in (slice_get xs 0) [] ≡ Some r → ComesTo (map signature_of trees) k store r (Says reply) → ⊥
+  enters_only : (xs : List Posed) (r : Request) (reply : Reply) (k : ℕ) → AreObjects trees store → AreAsked store journal (call_of (codes "f") m n ∷ []) xs → k ≡ 0 → open_in (slice_get xs 0) [] ≡ Some r → ComesTo (map signature_of trees) k None store r (Says reply) → ⊥
   enters_only [] r reply k o h at_zero e c = absurd cc
   enters_only (x ∷ xs) r reply k o h at_zero e c = not_refused x.drive r reply k o at_zero h.0.0 (some_is _ _ e) c
 
@@ -374,46 +377,46 @@ of_value store i before (got.Raise e) h = absurd h
 pub text_of_sum : (m n : ℤ) → in_range (m +ℤ n) ≡ true → Writes m n (codes "1 returns " ++ (signed_decimal (m +ℤ n) ++ codes "\n"))
 text_of_sum m n i store es r d =
     unchanged store es ∙ all_behind store r.globals es r.asked m n _
-    (λ before w g. of_value store (m +ℤ n) before w (subst (λ (b : Bool). Gives store before (if b then Has (payload.Int (m +ℤ n)) else Fails OverflowError (codes "integer out of range")) w) i g))
+    (λ before w g. of_value store (m +ℤ n) before w (subst (λ (b : Bool). Gives store before (if b then Has (payload.Int (m +ℤ n)) else Fails OverflowError out_of_range) w) i g))
     es r.are_objects r.are_asked (r.run.tells 0) (r.run.comes, d.done)
 
--- the class of an exception of a kind, by the name under which it is declared
-class_of : (ts : List Tree) (store : List Payload) (i : ℕ) (kind : ErrorKind) (c : Obj) → slice_get error_kinds i ≡ Some kind → AreObjects ts store → declared store (name_of kind) ≡ Some c → HasPayload store c (class_entry kind)
-class_of ts store i kind c at o e =
-    let entry = o.classes i kind at in
-    subst (λ (c : Obj). HasPayload store c (class_entry kind)) (some_is _ _ (sym entry.1 ∙ e)) entry.2
+-- the class that is declared under the name of a kind has it
+class_named : (ts : List Tree) (store : List Payload) (kind : ErrorKind) (c : Obj) → AreObjects ts store → declared store (name_of kind) ≡ Some c → class_name (payload_of store c) ≡ name_of kind
+class_named ts store kind c o e =
+    let (class, is) = o.classes kind in
+    ap (λ (c : Obj). class_name (payload_of store c)) (some_is c (class_object class) (sym e ∙ is.is_declared)) ∙ ap class_name is.entry
 
 -- a text is itself, so deep as it may be
 text_within : (k : ℕ) (store : List Payload) (v : Obj) (text : Name) → HasPayload store v (payload.Str text) → str_within k store v ≡ encode_utf8_all text
 text_within zero store v text is = ap (λ (p : Option Payload). str_by None (repr_within zero store v) store p) is
-text_within (suc k) store v text is = ap (λ (p : Option Payload). str_by (Some (said (str_within k store) (repr_within k store))) (repr_within (suc k) store v) store p) is
+text_within (suc k) store v text is = ap (λ (p : Option Payload). str_by (Some (said_by (str_within k store) (repr_within k store) store)) (repr_within (suc k) store v) store p) is
 
--- an exception of the i-th kind with a text is written, as the result of any drive
-pub raise_line_of : (d : ℕ) (ts : List Tree) (store : List Payload) (i : ℕ) (kind : ErrorKind) (text : Name) → slice_get error_kinds i ≡ Some kind → list_all (λ c. nat_lt c 128) (name_of kind) ≡ true → list_all (λ c. nat_lt c 128) text ≡ true
+-- an exception of a kind with a text is written, as the result of any drive
+pub raise_line_of : (d : ℕ) (ts : List Tree) (store : List Payload) (kind : ErrorKind) (text : Name) → list_all (λ c. nat_lt c 128) (name_of kind) ≡ true → list_all (λ c. nat_lt c 128) text ≡ true
     → AreObjects ts store → (before : List Event) (e : PyBaseExceptionRef) → IsRaised store before kind text e
     → result_text store d (answer.Raises e) ≡ numbered d (codes " raises " ++ (name_of kind ++ (codes ": " ++ text)))
-raise_line_of d ts store i kind text at ascii_name ascii_text o before e h =
+raise_line_of d ts store kind text ascii_name ascii_text o before e h =
     ap (λ (p : Option Payload). numbered d (codes " raises " ++ raised store p)) h.made.entry
-    ∙ (ap (λ (p : Option Payload). numbered d (codes " raises " ++ (encode_utf8_all (class_name p) ++ details store (items_of (payload_of store h.made.args))))) (class_of ts store i kind (class_object h.class) at o h.is_class)
+    ∙ (ap (λ (n : Name). numbered d (codes " raises " ++ (encode_utf8_all n ++ details store (items_of (payload_of store h.made.args))))) (class_named ts store kind (class_object h.class) o h.is_class)
     ∙ (ap (λ (p : Option Payload). numbered d (codes " raises " ++ (encode_utf8_all (name_of kind) ++ details store (items_of p)))) h.made.are
     ∙ (ap (λ (t : List ℕ). numbered d (codes " raises " ++ (encode_utf8_all (name_of kind) ++ (codes ": " ++ t)))) (text_within 999 store h.argument text h.message)
     ∙ (ap (λ (name : List ℕ). numbered d (codes " raises " ++ (name ++ (codes ": " ++ encode_utf8_all text)))) (ascii_bytes (name_of kind) ascii_name)
     ∙ ap (λ (t : List ℕ). numbered d (codes " raises " ++ (name_of kind ++ (codes ": " ++ t)))) (ascii_bytes text ascii_text)))))
 
 -- the same of the only drive
-pub raise_line : (ts : List Tree) (store : List Payload) (i : ℕ) (kind : ErrorKind) (text : Name) → slice_get error_kinds i ≡ Some kind → list_all (λ c. nat_lt c 128) (name_of kind) ≡ true → list_all (λ c. nat_lt c 128) text ≡ true
+pub raise_line : (ts : List Tree) (store : List Payload) (kind : ErrorKind) (text : Name) → list_all (λ c. nat_lt c 128) (name_of kind) ≡ true → list_all (λ c. nat_lt c 128) text ≡ true
     → AreObjects ts store → (before : List Event) (e : PyBaseExceptionRef) → IsRaised store before kind text e
     → result_text store 1 (answer.Raises e) ≡ codes "1" ++ ((codes " raises " ++ (name_of kind ++ (codes ": " ++ text))) ++ codes "\n")
-raise_line ts store i kind text at ascii_name ascii_text o before e h =
-    raise_line_of 1 ts store i kind text at ascii_name ascii_text o before e h ∙ first_line (codes " raises " ++ (name_of kind ++ (codes ": " ++ text)))
+raise_line ts store kind text ascii_name ascii_text o before e h =
+    raise_line_of 1 ts store kind text ascii_name ascii_text o before e h ∙ first_line (codes " raises " ++ (name_of kind ++ (codes ": " ++ text)))
 
 -- so is a sum that is out of range
-pub overflow_line : (ts : List Tree) (store : List Payload) → AreObjects ts store → (before : List Event) (e : PyBaseExceptionRef) → IsRaised store before OverflowError (codes "integer out of range") e
+pub overflow_line : (ts : List Tree) (store : List Payload) → AreObjects ts store → (before : List Event) (e : PyBaseExceptionRef) → IsRaised store before OverflowError out_of_range e
     → result_text store 1 (answer.Raises e) ≡ codes "1 raises OverflowError: integer out of range\n"
-overflow_line ts store o before e h = raise_line ts store 1 OverflowError (codes "integer out of range") refl refl refl o before e h
+overflow_line ts store o before e h = raise_line ts store OverflowError out_of_range refl refl o before e h
 
 -- so is what a raise ends
-of_raise : (store : List Payload) → AreObjects trees store → (before : List Event) (w : GotAnswer) → Gives store before (Fails OverflowError (codes "integer out of range")) w → WritesAt store (codes "1 raises OverflowError: integer out of range\n") w
+of_raise : (store : List Payload) → AreObjects trees store → (before : List Event) (w : GotAnswer) → Gives store before (Fails OverflowError out_of_range) w → WritesAt store (codes "1 raises OverflowError: integer out of range\n") w
 of_raise store o before (got.Value v) h = absurd h
 of_raise store o before (got.Stop v) h = absurd h
 of_raise store o before (got.Raise e) h = (ending.Raise e, λ ts t. t, overflow_line trees store o before e h)
@@ -422,12 +425,12 @@ of_raise store o before (got.Raise e) h = (ending.Raise e, λ ts t. t, overflow_
 pub text_of_overflow : (m n : ℤ) → in_range (m +ℤ n) ≡ false → Writes m n (codes "1 raises OverflowError: integer out of range\n")
 text_of_overflow m n i store es r d =
     unchanged store es ∙ all_behind store r.globals es r.asked m n _
-    (λ before w g. of_raise store r.are_objects before w (subst (λ (b : Bool). Gives store before (if b then Has (payload.Int (m +ℤ n)) else Fails OverflowError (codes "integer out of range")) w) i g))
+    (λ before w g. of_raise store r.are_objects before w (subst (λ (b : Bool). Gives store before (if b then Has (payload.Int (m +ℤ n)) else Fails OverflowError out_of_range) w) i g))
     es r.are_objects r.are_asked (r.run.tells 0) (r.run.comes, d.done)
 
 -- the text of the worked run, and of the one that raises
 pub text : events_text objects [] events ≡ codes "1 returns 45\n"
 text = text_of_sum (pos 33) (pos 12) refl objects events is_run (record { done = refl; idle = refl }) ∙ ap (λ (ds : List ℕ). codes "1 returns " ++ (ds ++ codes "\n")) decimal_45
 
-pub overflow_text : events_text overflow_objects [] (overflow_by (exception 15)) ≡ codes "1 raises OverflowError: integer out of range\n"
-overflow_text = text_of_overflow greatest (pos 1) refl overflow_objects (overflow_by (exception 15)) overflow_is_run (record { done = refl; idle = refl })
+pub overflow_text : events_text overflow_objects [] (overflow_by (exception 8)) ≡ codes "1 raises OverflowError: integer out of range\n"
+overflow_text = text_of_overflow greatest (pos 1) refl overflow_objects (overflow_by (exception 8)) overflow_is_run (record { done = refl; idle = refl })

@@ -12,7 +12,8 @@ use Rattle.py_objects.specs.declared.event.Ending.TheVariants as ending
 use Rattle.py_objects.specs.declared.event.DriveAnswer.TheVariants as answer
 use Rattle.py_objects.specs.declared.event.Event.{Event}
 use Rattle.py_objects.specs.declared.event.Event.TheVariants as event
-use Rattle.py_objects.specs.Objects.{Obj, AllFit, IsNew}
+use Rattle.py_objects.specs.declared.error_kind.ErrorKind.TheVariants.{OverflowError}
+use Rattle.py_objects.specs.Objects.{Obj, AllFit}
 use Rattle.py_objects.specs.Own.{Own, Asks, own_events, own_from, told_by}
 use Rattle.py_tree.specs.Scene.{anywhere}
 use Rattle.py_tree.specs.Trace.{IsTrace}
@@ -22,7 +23,7 @@ use Rattle.py_grammar.specs.Script.{Spells}
 use Rattle.py_run.specs.Run.{Posed, Plan, Activation, start, state_after, Comes, EachTells}
 use Rattle.py_script.specs.Whole.{AreObjects, Traces, IsRunOf, plan_of}
 use Rattle.py_script.specs.Worked.{script, function, trees, call_of, drives, object, exception, function_entry, objects_by, objects, objects_with_manager, entered, asked, events, unfinished, with_round, swapped, driven_twice, greatest, overflowing, error_entry, error_objects, raising_objects, overflow_objects, raises, overflow_by}
-use Rattle.py_script.proofs.Journals.{RaiseIsTraced, all_fit, are_globals, are_named, are_objects, asking_comes, begun, call, code_of, entry_of, few_asked, first_raises, gives_sum, is_raised, made_error, new_in, one_tells, plain, plan_with, reads_of, some_is, sum_comes, traced, overflow_is_run as overflow_run}
+use Rattle.py_script.proofs.Journals.{RaiseIsTraced, are_globals, are_named, are_objects, asking_comes, begun, call, code_of, differ, entry_of, few_asked, first_raises, fits, gives_sum, made_error, one_tells, overflows, plan_with, reads_of, some_is, sum_comes, traced, overflow_is_run as overflow_run}
 
 pub spelled : Spells (lines script) trees drives
 spelled =
@@ -38,10 +39,10 @@ spelled =
     }
 
 sum_fits : AllFit objects
-sum_fits = all_fit objects refl (tt, (tt, (tt, (tt, (tt, (tt, (tt, (tt, (tt, (tt, (tt, (tt, (tt, (tt, tt))))))))))))))
+sum_fits = fits function (payload.Int (pos 33) ∷ payload.Int (pos 12) ∷ payload.Frame 0 ∷ payload.Int (pos 45) ∷ []) refl (tt, (tt, (tt, (tt, tt))))
 
 sum_objects : AreObjects trees objects
-sum_objects = are_objects function (pos 33) (pos 12) (payload.Int (pos 45) ∷ []) refl (plain function (payload.Int (pos 45)) refl, tt) sum_fits
+sum_objects = are_objects function (pos 33) (pos 12) (payload.Int (pos 45) ∷ []) refl (tt, tt) sum_fits
 
 -- what the run is of
 abbrev plan : Plan
@@ -50,38 +51,38 @@ plan = plan_with function []
 -- up to the activation's end
 front_comes : (rest : List Event) → Comes plan objects unfinished (state_after start unfinished) rest → Comes plan objects [] start (unfinished ++ rest)
 front_comes rest k =
-    let asking = entered 1 (asked 1 (object 10) (object 11) []) in
-    asking_comes function [] (pos 33) (pos 12) (payload.Int (pos 45) ∷ []) (event.Got 1 (got.Value (object 13)) ∷ event.End 1 (ending.Return (object 13)) 5 ∷ rest) (lit< tt) (_, refl, (_, refl, refl))
-    (sum_comes function plan (pos 33) (pos 12) (payload.Int (pos 45) ∷ []) asking (state_after start asking) 1 (got.Value (object 13)) refl refl refl refl, ((refl, refl), k))
+    let asking = entered 1 (asked 1 (object 3) (object 4) []) in
+    asking_comes function [] (pos 33) (pos 12) (payload.Int (pos 45) ∷ []) (event.Got 1 (got.Value (object 6)) ∷ event.End 1 (ending.Return (object 6)) 5 ∷ rest) (lit< tt) (_, refl, (_, refl, refl))
+    (sum_comes function plan (pos 33) (pos 12) (payload.Int (pos 45) ∷ []) asking (state_after start asking) 1 (got.Value (object 6)) refl refl refl refl, ((refl, refl), k))
 
-sum_traced : IsTrace (anywhere objects (object 9)) function (object 10 ∷ object 11 ∷ []) (own_events 1 events)
+sum_traced : IsTrace (anywhere objects (object 2)) function (object 3 ∷ object 4 ∷ []) (own_events 1 events)
 unfolding own_from told_by
-sum_traced = (refl, (_, refl, (tt, inr (inr (2, _, refl, refl, inr (4, got.Value (object 13), _, refl, inr (inr (5, refl))))))))
+sum_traced = (refl, (_, refl, (tt, inr (inr (2, _, refl, refl, inr (4, got.Value (object 6), _, refl, inr (inr (5, refl))))))))
 
-sum_tells : EachTells (Traces trees (object 9) objects) events
-sum_tells = one_tells (Traces trees (object 9) objects) (object 7) (object 10 ∷ object 11 ∷ []) events refl (_, refl, (function, refl, sum_traced))
+sum_tells : EachTells (Traces trees (object 2) objects) events
+sum_tells = one_tells (Traces trees (object 2) objects) (object 0) (object 3 ∷ object 4 ∷ []) events refl (_, refl, (function, refl, sum_traced))
 
 pub is_run : IsRunOf trees drives objects events
 is_run =
     record {
       asked = call ∷ [];
       are_asked = (((refl, (refl, (refl, tt))), refl), tt);
-      globals = object 9;
+      globals = object 2;
       are_globals = are_globals function (payload.Int (pos 33) ∷ payload.Int (pos 12) ∷ payload.Frame 0 ∷ payload.Int (pos 45) ∷ []) refl;
-      run = record { comes = front_comes (event.Result 1 (answer.Returns (object 13)) ∷ []) ((refl, refl, (_, got.Value (object 13), refl, refl, (_, _, refl, refl))), tt); tells = sum_tells; named = are_named objects events sum_fits refl };
+      run = record { comes = front_comes (event.Result 1 (answer.Returns (object 6)) ∷ []) ((refl, refl, (_, got.Value (object 6), refl, refl, (_, _, refl, refl))), tt); tells = sum_tells; named = are_named objects events sum_fits refl };
       are_objects = sum_objects;
     }
 
-front_tells : EachTells (Traces trees (object 9) objects) unfinished
+front_tells : EachTells (Traces trees (object 2) objects) unfinished
 unfolding own_from told_by
-front_tells = one_tells (Traces trees (object 9) objects) (object 7) (object 10 ∷ object 11 ∷ []) unfinished refl (_, refl, (function, refl, sum_traced))
+front_tells = one_tells (Traces trees (object 2) objects) (object 0) (object 3 ∷ object 4 ∷ []) unfinished refl (_, refl, (function, refl, sum_traced))
 
 pub front_is_run : IsRunOf trees drives objects unfinished
 front_is_run =
     record {
       asked = call ∷ [];
       are_asked = (((refl, (refl, (refl, tt))), refl), tt);
-      globals = object 9;
+      globals = object 2;
       are_globals = are_globals function (payload.Int (pos 33) ∷ payload.Int (pos 12) ∷ payload.Frame 0 ∷ payload.Int (pos 45) ∷ []) refl;
       run = record { comes = front_comes [] tt; tells = front_tells; named = are_named objects unfinished sum_fits refl };
       are_objects = sum_objects;
@@ -90,54 +91,56 @@ front_is_run =
 pub no_round : IsRunOf trees drives objects with_round → ⊥
 unfolding own_from told_by
 no_round r =
-    let b = begun (anywhere objects r.globals) function (object 10 ∷ object 11 ∷ []) _ (traced function objects drives with_round refl refl r) in
+    let b = begun (anywhere objects r.globals) function (object 3 ∷ object 4 ∷ []) _ (traced function objects drives with_round refl refl r) in
     ⊎_elim (λ a. cc a.0) (λ a. ⊎_elim (λ a. cc a.0) (λ a. cc a.3) a) b.1
 
 -- what is asked first has this request
 first_request : (at at' : ℕ) (r r' : Request) (own own' : Option PyBaseExceptionRef) (ts us : List Own) → Asks at r own ∷ ts ≡ Asks at' r' own' ∷ us → r ≡ r'
 first_request at at' r r' own own' ts us e = cc
 
-left_operand : (a b c d : Obj) → Binary binary.Add a b ≡ Binary binary.Add c d → a.number ≡ c.number
-left_operand a b c d e = let same : a ≡ c = cc in ap (λ (v : Obj). v.number) same
+left_operand : (a b c d : Obj) → Binary binary.Add a b ≡ Binary binary.Add c d → a ≡ c
+left_operand a b c d e = cc
 
 pub no_swapped_operands : IsRunOf trees drives objects swapped → ⊥
 unfolding own_from told_by
 no_swapped_operands r =
-    let b = begun (anywhere objects r.globals) function (object 10 ∷ object 11 ∷ []) _ (traced function objects drives swapped refl refl r) in
-    ⊎_elim (λ a. cc a.0) (λ a. ⊎_elim (λ a. cc a.0) (λ a. let e = left_operand _ _ _ _ (first_request _ _ _ _ _ _ _ _ a.3) in cc) a) b.1
+    let b = begun (anywhere objects r.globals) function (object 3 ∷ object 4 ∷ []) _ (traced function objects drives swapped refl refl r) in
+    ⊎_elim (λ a. cc a.0) (λ a. ⊎_elim (λ a. cc a.0) (λ a. differ 4 3 refl (left_operand _ _ _ _ (first_request _ _ _ _ _ _ _ _ a.3))) a) b.1
 
 pub no_drive_beyond : IsRunOf trees drives objects driven_twice → ⊥
 no_drive_beyond r = let few : length r.asked ≤ 1 = few_asked objects driven_twice drives r.asked r.are_asked in let more : 1 < length r.asked = r.run.comes.1.1.1.1.1.1.1.0.2 in omega arith
 
 pub no_other_code : IsRunOf trees drives (objects_by (function_entry (codes "f") 1)) events → ⊥
-no_other_code r = let e = code_of (codes "f") (codes "f") 1 0 (entry_of function _ (object 7) r.are_objects refl) in cc
+no_other_code r = let e = code_of (codes "f") (codes "f") 1 0 (entry_of function _ (object 0) r.are_objects refl) in cc
 
 pub no_other_name : IsRunOf trees drives (objects_by (function_entry (codes "g") 0)) events → ⊥
 no_other_name r = let entry = r.are_objects.functions 0 function refl in let e = entry.1 in cc
 
 pub no_manager : IsRunOf trees drives objects_with_manager events → ⊥
-no_manager r = r.are_objects.no_managers (object 14) _ refl
+no_manager r = r.are_objects.no_managers (object 7) _ refl
 
 raise_traced : (more : List Payload) (i j : ℕ) (e : PyBaseExceptionRef) → RaiseIsTraced function more i j e
 raise_traced more i j e = (refl, (_, refl, (tt, inr (inr (2, _, refl, refl, inr (j, got.Raise e, _, refl, inr (2, refl)))))))
 
-pub overflow_is_run : IsRunOf trees (overflowing ∷ []) overflow_objects (overflow_by (exception 15))
-overflow_is_run = overflow_run function refl (_, refl, (_, refl, refl)) (raise_traced [] 2 4 (exception 15))
+pub overflow_is_run : IsRunOf trees (overflowing ∷ []) overflow_objects (overflow_by (exception 8))
+overflow_is_run = overflow_run function refl (_, refl, (_, refl, refl)) (raise_traced [] 2 4 (exception 8))
 
 -- the objects of two drives that raise, and their run
 abbrev both_objects : List Payload
-both_objects = raising_objects 2 (error_entry 2 ∷ [])
+both_objects = raising_objects OverflowError (error_entry OverflowError ∷ [])
 
 abbrev both_raise : List Event
-both_raise = raises 1 (exception 15) (raises 2 (exception 16) [])
+both_raise = raises 1 (exception 8) (raises 2 (exception 9) [])
 
 both_fit : AllFit both_objects
-both_fit = all_fit both_objects refl (tt, (tt, (tt, (tt, (tt, (tt, (tt, (tt, (tt, (tt, (tt, (tt, (tt, (tt, (tt, (made_error function (error_entry 2 ∷ []), (made_error function (error_entry 2 ∷ []), tt)))))))))))))))))
+both_fit =
+    let more = error_entry OverflowError ∷ [] in
+    fits function (payload.Int greatest ∷ payload.Int (pos 1) ∷ payload.Frame 0 ∷ error_objects OverflowError more) refl (tt, (tt, (tt, (tt, (tt, (made_error function more, (made_error function more, tt)))))))
 
-both_tell : EachTells (Traces trees (object 9) both_objects) both_raise
+both_tell : EachTells (Traces trees (object 2) both_objects) both_raise
 unfolding own_from told_by
-both_tell zero a e = subst (λ (a : Activation). Traces trees (object 9) both_objects a.function a.args (own_events 1 both_raise)) (some_is _ a e) (_, refl, (function, refl, raise_traced (error_entry 2 ∷ []) 2 4 (exception 15)))
-both_tell (suc zero) a e = subst (λ (a : Activation). Traces trees (object 9) both_objects a.function a.args (own_events 2 both_raise)) (some_is _ a e) (_, refl, (function, refl, raise_traced (error_entry 2 ∷ []) 9 11 (exception 16)))
+both_tell zero a e = subst (λ (a : Activation). Traces trees (object 2) both_objects a.function a.args (own_events 1 both_raise)) (some_is _ a e) (_, refl, (function, refl, raise_traced (error_entry OverflowError ∷ []) 2 4 (exception 8)))
+both_tell (suc zero) a e = subst (λ (a : Activation). Traces trees (object 2) both_objects a.function a.args (own_events 2 both_raise)) (some_is _ a e) (_, refl, (function, refl, raise_traced (error_entry OverflowError ∷ []) 9 11 (exception 9)))
 both_tell (suc (suc i)) a e = absurd cc
 
 -- the questions of the two drives
@@ -149,24 +152,21 @@ both_plan = plan_with function (call ∷ [])
 
 -- up to the second drive's question
 abbrev second_asks : List Event
-second_asks = raises 1 (exception 15) (entered 2 (asked 2 (object 10) (object 11) []))
+second_asks = raises 1 (exception 8) (entered 2 (asked 2 (object 3) (object 4) []))
 
-second_new : IsNew both_objects second_asks 16
-second_new = new_in function 16 (error_entry 2 ∷ []) second_asks (λ x. refl) (refl, (refl, (refl, (refl, (refl, (refl, (refl, (refl, (refl, (refl, (refl, tt))))))))))) (refl, refl, refl, refl, refl, refl)
-
-second_raises : Comes both_plan both_objects (overflow_by (exception 15)) (state_after start (overflow_by (exception 15))) (raises 2 (exception 16) [])
+second_raises : Comes both_plan both_objects (overflow_by (exception 8)) (state_after start (overflow_by (exception 8))) (raises 2 (exception 9) [])
 second_raises = (
   (refl, refl, lit< tt),
   (
     (refl, refl, refl, (_, refl, (_, refl, refl))),
     (
-      (object 7, refl, refl),
+      (object 0, refl, refl),
       (
         (refl, refl),
         (
-          sum_comes function both_plan greatest (pos 1) (error_objects 2 (error_entry 2 ∷ [])) second_asks (state_after start second_asks) 2 (got.Raise (exception 16)) refl refl refl
-              (is_raised function 16 (error_entry 2 ∷ []) second_asks second_new refl),
-          ((refl, refl), ((refl, refl, (_, got.Raise (exception 16), refl, refl, (_, _, refl, refl))), tt)),
+          sum_comes function both_plan greatest (pos 1) (error_objects OverflowError (error_entry OverflowError ∷ [])) second_asks (state_after start second_asks) 2 (got.Raise (exception 9)) refl refl refl
+              (overflows function 9 (error_entry OverflowError ∷ []) second_asks refl (refl, (refl, (refl, (refl, (refl, (refl, (refl, (refl, (refl, (refl, (refl, tt)))))))))))),
+          ((refl, refl), ((refl, refl, (_, got.Raise (exception 9), refl, refl, (_, _, refl, refl))), tt)),
         ),
       ),
     ),
@@ -177,20 +177,20 @@ pub errors_are_run : IsRunOf trees (overflowing ∷ overflowing ∷ []) both_obj
 errors_are_run =
     record {
       asked = both_asked;
-      globals = object 9;
-      are_globals = are_globals function (payload.Int greatest ∷ payload.Int (pos 1) ∷ payload.Frame 0 ∷ error_objects 2 (error_entry 2 ∷ [])) refl;
+      globals = object 2;
+      are_globals = are_globals function (payload.Int greatest ∷ payload.Int (pos 1) ∷ payload.Frame 0 ∷ error_objects OverflowError (error_entry OverflowError ∷ [])) refl;
       are_asked = (((refl, (refl, (refl, tt))), refl), (((refl, (refl, (refl, tt))), refl), tt));
       run =
           record {
-            comes = first_raises function (call ∷ []) (error_entry 2 ∷ []) (raises 2 (exception 16) []) (lit< tt) (_, refl, (_, refl, refl)) (λ x. refl) second_raises;
+            comes = first_raises function (call ∷ []) (error_entry OverflowError ∷ []) (raises 2 (exception 9) []) (lit< tt) (_, refl, (_, refl, refl)) second_raises;
             tells = both_tell;
             named = are_named both_objects both_raise both_fit refl;
           };
-      are_objects = are_objects function greatest (pos 1) (error_objects 2 (error_entry 2 ∷ [])) refl (plain function _ refl, (plain function _ refl, (plain function _ refl, (plain function _ refl, tt)))) both_fit;
+      are_objects = are_objects function greatest (pos 1) (error_objects OverflowError (error_entry OverflowError ∷ [])) refl (tt, (tt, (tt, (tt, tt)))) both_fit;
     }
 
-pub no_error_twice : IsRunOf trees (overflowing ∷ overflowing ∷ []) both_objects (raises 1 (exception 15) (raises 2 (exception 15) [])) → ⊥
+pub no_error_twice : IsRunOf trees (overflowing ∷ overflowing ∷ []) both_objects (raises 1 (exception 8) (raises 2 (exception 8) [])) → ⊥
 no_error_twice r =
-    let given = gives_sum (plan_of trees r.asked) both_objects second_asks (state_after start second_asks) (object 10) (object 11) greatest (pos 1) (got.Raise (exception 15)) refl refl r.run.comes.1.1.1.1.1.1.1.1.1.1.1.0.1 in
-    let named = given.made.new.unnamed 4 (event.Got 1 (got.Raise (exception 15))) refl in
+    let given = gives_sum (plan_of trees r.asked) both_objects second_asks (state_after start second_asks) (object 3) (object 4) greatest (pos 1) (got.Raise (exception 8)) refl refl r.run.comes.1.1.1.1.1.1.1.1.1.1.1.0.1 in
+    let named = given.made.new.unnamed 4 (event.Got 1 (got.Raise (exception 8))) refl in
     cc

@@ -2,14 +2,15 @@
 use Rattle.std.proofs.Common.{◌≡◌, ℕ, zero, suc, List, [], ◌∷◌, None, Bool, true, false, refl, sym, subst, inl, inr, lit<, ⊎_elim, ◌∙◌, append-nil}
 use Rattle.std.specs.Prelude.{codes}
 use Rattle.py_objects.specs.declared.payload.Payload.TheVariants as payload
-use Rattle.py_objects.specs.declared.payload.ErrorKind.TheVariants as kind
+use Rattle.py_objects.specs.declared.payload.Payload.{Payload}
+use Rattle.py_objects.specs.declared.error_kind.ErrorKind.TheVariants.{NameError}
 use Rattle.py_objects.specs.declared.request.Request.TheVariants.{Truth, Global}
 use Rattle.py_objects.specs.declared.event.ResumeHow.TheVariants.{Start}
 use Rattle.py_objects.specs.declared.event.GotAnswer.TheVariants as got
 use Rattle.py_objects.specs.declared.event.Ending.TheVariants as ending
 use Rattle.py_objects.specs.declared.event.DriveAnswer.TheVariants as answer
 use Rattle.py_objects.specs.declared.event.Event.{Event}
-use Rattle.py_objects.specs.Objects.{Obj, Name, HasPayload, name_of, event_numbers, is_among, IsMade, AllFit}
+use Rattle.py_objects.specs.Objects.{Obj, Name, HasPayload, AllFit}
 use Rattle.py_objects.specs.Own.{Own, Makes, Resumes, Asks, Gets, Rounds, Ends, own_events, own_from, told_by}
 use Rattle.py_tree.specs.declared.expr.Atom.TheVariants as atom
 use Rattle.py_tree.specs.Tree.{Show, nothing, first, Tree}
@@ -25,9 +26,10 @@ use Rattle.py_answers.specs.Answers.{Has, Fails, unknown_text, IsRaised}
 use Rattle.py_run.specs.Run.{Posed, Plan, start, Comes}
 use Rattle.py_script.specs.Whole.{AreGlobals, Traces, IsRunOf, plan_of}
 use Rattle.py_script.specs.Text.{events_text, result_text}
+use Rattle.py_script.specs.Session.{none_object}
 use Rattle.py_script.specs.Worked.{object, exception}
-use Rattle.py_script.specs.WorkedLoop.{script, function_of, function, trees, drives, objects, events, without_round, untested, left_early, unknown_script, unknown_trees, unknown_error, raised_objects, unknown_objects, asked_in, asked, unknown_events}
-use Rattle.py_script.proofs.Journals.{all_fit, are_globals, are_loaded, are_named, asked_so, begun, each_at, one_tells, plain, reads_of, traced_with, undeclared}
+use Rattle.py_script.specs.WorkedLoop.{script, function_of, function, trees, drives, objects, events, without_round, untested, left_early, unknown_script, unknown_trees, not_defined, raised_objects, unknown_objects, asked_in, asked, unknown_events}
+use Rattle.py_script.proofs.Journals.{are_globals, are_loaded, are_named, asked_so, begun, fits, is_raised, made_exception, one_tells, own_with, reads_of, traced_with}
 use Rattle.py_script.proofs.OneText.{raise_line}
 
 pub spelled : Spells (lines script) trees drives
@@ -45,14 +47,14 @@ spelled =
 
 -- the question of the drive
 abbrev call : Posed
-call = record { drive = Call (object 7) []; entered = 0 }
+call = record { drive = Call (object 0) []; entered = 0 }
 
 -- what the run is of
 abbrev plan : Plan
 plan = plan_of trees (call ∷ [])
 
-fits : AllFit objects
-fits = all_fit objects refl (tt, (tt, (tt, (tt, (tt, (tt, (tt, (tt, (tt, (tt, (tt, (tt, (tt, tt)))))))))))))
+loop_fits : AllFit objects
+loop_fits = fits function (payload.Frame 0 ∷ payload.Bool true ∷ payload.Bool true ∷ []) refl (tt, (tt, (tt, tt)))
 
 comes : Comes plan objects [] start events
 comes = (
@@ -60,26 +62,26 @@ comes = (
   (
     (refl, refl, refl, (_, refl, (_, refl, refl))),
     (
-      (object 7, refl, refl),
-      ((refl, refl), ((refl, refl), ((refl, (Truth (object 11), refl, (Has (payload.Bool true), inl (Has (payload.Bool true), refl, (payload.Bool true, refl, refl)), refl))), ((refl, refl), tt)))),
+      (object 0, refl, refl),
+      ((refl, refl), ((refl, refl), ((refl, (Truth (object 4), refl, (Has (payload.Bool true), inl (Has (payload.Bool true), refl, (payload.Bool true, refl, refl)), refl))), ((refl, refl), tt)))),
     ),
   ),
 )
 
-loop_traced : IsTrace (anywhere objects (object 9)) function [] (own_events 1 events)
+loop_traced : IsTrace (anywhere objects (object 2)) function [] (own_events 1 events)
 unfolding own_from told_by
 loop_traced =
-    (refl, (_, refl, (tt, inr (1, inr (0, _, refl, inr (object 11, refl, inr (2, _, refl, refl, inr (5, got.Value (object 12), _, refl, (true, refl, inr (inr (3, _, refl, inl (refl, refl))))))))))))
+    (refl, (_, refl, (tt, inr (1, inr (0, _, refl, inr (object 4, refl, inr (2, _, refl, refl, inr (5, got.Value (object 5), _, refl, (true, refl, inr (inr (3, _, refl, inl (refl, refl))))))))))))
 
 pub is_run : IsRunOf trees drives objects events
 is_run =
     record {
       asked = call ∷ [];
       are_asked = (((refl, tt), refl), tt);
-      globals = object 9;
+      globals = object 2;
       are_globals = are_globals function (payload.Frame 0 ∷ payload.Bool true ∷ payload.Bool true ∷ []) refl;
-      run = record { comes = comes; tells = one_tells (Traces trees (object 9) objects) (object 7) [] events refl (_, refl, (function, refl, loop_traced)); named = are_named objects events fits refl };
-      are_objects = are_loaded function (payload.Frame 0 ∷ payload.Bool true ∷ payload.Bool true ∷ []) refl (plain function _ refl, (plain function _ refl, (plain function _ refl, tt))) fits;
+      run = record { comes = comes; tells = one_tells (Traces trees (object 2) objects) (object 0) [] events refl (_, refl, (function, refl, loop_traced)); named = are_named objects events loop_fits refl };
+      are_objects = are_loaded function (payload.Frame 0 ∷ payload.Bool true ∷ payload.Bool true ∷ []) refl (tt, (tt, (tt, tt))) loop_fits;
     }
 
 -- what the loop's rounds may tell, where the globals are in this dict
@@ -148,7 +150,7 @@ no_round_untested r =
     cc asks.2
 
 -- the second object is True alone
-is_true : (b : Bool) → HasPayload objects (object 12) (payload.Bool b) → b ≡ true
+is_true : (b : Bool) → HasPayload objects (object 5) (payload.Bool b) → b ≡ true
 is_true true h = refl
 is_true false h = absurd (cc h)
 
@@ -157,8 +159,8 @@ unfolding own_from told_by
 no_end_where_it_is_true r =
     let going = begins_loop r.globals 2 _ _ (traced_with function [] objects drives left_early refl refl r) in
     let next = goes_round r.globals going.0 2 _ _ going.1 in
-    let tested = by_truth r.globals going.0 2 5 2 (object 11) (object 12) _ next.2 in
-    let told = subst (λ (b : Bool). Tested r.globals going.0 b 5 (Ends 4 (ending.Return (object 0)) ∷ [])) (is_true tested.0 tested.1) tested.2 in
+    let tested = by_truth r.globals going.0 2 5 2 (object 4) (object 5) _ next.2 in
+    let told = subst (λ (b : Bool). Tested r.globals going.0 b 5 (Ends 4 (ending.Return none_object) ∷ [])) (is_true tested.0 tested.1) tested.2 in
     let again = next_round r.globals going.0 5 _ _ told in
     cc again.1
 
@@ -180,39 +182,16 @@ unknown_spelled =
       driven = refl;
     }
 
--- the entry of the exception names what it should
-made_error : IsMade unknown_objects (unknown_error 1)
-made_error = record {
-  class = record { name = name_of kind.NameError };
-  is_class = refl;
-  is_declared = refl;
-  arguments = object 11 ∷ [];
-  are_arguments = refl;
-  cause = tt;
-  context = tt;
-  traceback = tt;
-}
+-- its objects behind the first ones
+abbrev unknown_own : List Payload
+unknown_own = own_with unknown_function (payload.Frame 0 ∷ raised_objects NameError)
 
 unknown_fits : AllFit unknown_objects
-unknown_fits = all_fit unknown_objects refl (tt, (tt, (tt, (tt, (tt, (tt, (tt, (tt, (tt, (tt, (tt, (tt, (tt, (made_error, tt))))))))))))))
+unknown_fits = fits unknown_function (payload.Frame 0 ∷ raised_objects NameError) refl (tt, (tt, (tt, (made_exception unknown_own NameError (object 5) (object 4 ∷ []) refl, tt))))
 
 -- the exception is new, and is what the question is answered
-unknown_raised : IsRaised unknown_objects (asked []) kind.NameError (codes "name 'z' is not defined") (exception 13)
-unknown_raised = record {
-  class = record { number = 1 };
-  is_class = refl;
-  argument = object 11;
-  message = refl;
-  made = record {
-    new = record {
-      unnamed = each_at (λ (e : Event). is_among 13 (event_numbers e) ≡ false) (asked []) (refl, (refl, (refl, (refl, tt))));
-      undeclared = λ x. undeclared unknown_function 13 (payload.Frame 0 ∷ raised_objects 1) x (refl, refl, refl, refl, refl, refl) refl;
-    };
-    args = object 12;
-    entry = refl;
-    are = refl;
-  };
-}
+unknown_raised : IsRaised unknown_objects (asked []) NameError not_defined (exception 6)
+unknown_raised = is_raised unknown_own (asked []) NameError not_defined (object 4) (object 5) (exception 6) refl refl refl (refl, (refl, (refl, (refl, tt))))
 
 unknown_comes : Comes (plan_of unknown_trees (call ∷ [])) unknown_objects [] start unknown_events
 unknown_comes = (
@@ -220,51 +199,51 @@ unknown_comes = (
   (
     (refl, refl, refl, (_, refl, (_, refl, refl))),
     (
-      (object 7, refl, refl),
+      (object 0, refl, refl),
       (
         (refl, refl),
         (
-          (refl, (Global (object 9) (codes "z"), refl, (Fails kind.NameError (unknown_text (codes "z")), inl (Fails kind.NameError (unknown_text (codes "z")), refl, refl), unknown_raised))),
-          ((refl, refl), ((refl, refl, (_, got.Raise (exception 13), refl, refl, (_, _, refl, refl))), tt)),
+          (refl, (Global (object 2) (codes "z"), refl, (Fails NameError (unknown_text (codes "z")), inl (Fails NameError (unknown_text (codes "z")), refl, refl), unknown_raised))),
+          ((refl, refl), ((refl, refl, (_, got.Raise (exception 6), refl, refl, (_, _, refl, refl))), tt)),
         ),
       ),
     ),
   ),
 )
 
-unknown_traced : IsTrace (anywhere unknown_objects (object 9)) unknown_function [] (own_events 1 unknown_events)
+unknown_traced : IsTrace (anywhere unknown_objects (object 2)) unknown_function [] (own_events 1 unknown_events)
 unfolding own_from told_by
-unknown_traced = (refl, (_, refl, (tt, inr (inr (0, _, refl, refl, inr (4, got.Raise (exception 13), _, refl, inr (0, refl)))))))
+unknown_traced = (refl, (_, refl, (tt, inr (inr (0, _, refl, refl, inr (4, got.Raise (exception 6), _, refl, inr (0, refl)))))))
 
 pub unknown_is_run : IsRunOf unknown_trees drives unknown_objects unknown_events
 unknown_is_run =
     record {
       asked = call ∷ [];
       are_asked = (((refl, tt), refl), tt);
-      globals = object 9;
-      are_globals = are_globals unknown_function (payload.Frame 0 ∷ raised_objects 1) refl;
+      globals = object 2;
+      are_globals = are_globals unknown_function (payload.Frame 0 ∷ raised_objects NameError) refl;
       run =
           record {
             comes = unknown_comes;
-            tells = one_tells (Traces unknown_trees (object 9) unknown_objects) (object 7) [] unknown_events refl (_, refl, (unknown_function, refl, unknown_traced));
+            tells = one_tells (Traces unknown_trees (object 2) unknown_objects) (object 0) [] unknown_events refl (_, refl, (unknown_function, refl, unknown_traced));
             named = are_named unknown_objects unknown_events unknown_fits refl;
           };
-      are_objects = are_loaded unknown_function (payload.Frame 0 ∷ raised_objects 1) refl (plain unknown_function _ refl, (plain unknown_function _ refl, (plain unknown_function _ refl, (plain unknown_function _ refl, tt)))) unknown_fits;
+      are_objects = are_loaded unknown_function (payload.Frame 0 ∷ raised_objects NameError) refl (tt, (tt, (tt, (tt, tt)))) unknown_fits;
     }
 
 asked_object : (at at' : ℕ) (v w : Obj) (x : Name) (ts us : List Own) → Asks at (Global v x) None ∷ ts ≡ Asks at' (Global w x) None ∷ us → v ≡ w
 asked_object at at' v w x ts us e = let request : Global v x ≡ Global w x = cc e in cc request
 
-pub no_name_asked_of_none : IsRunOf unknown_trees drives unknown_objects (asked_in (object 0) []) → ⊥
+pub no_name_asked_of_none : IsRunOf unknown_trees drives unknown_objects (asked_in none_object []) → ⊥
 unfolding own_from told_by
 no_name_asked_of_none r =
-    let b = begun (anywhere unknown_objects r.globals) unknown_function [] _ (traced_with unknown_function [] unknown_objects drives (asked_in (object 0) []) refl refl r) in
+    let b = begun (anywhere unknown_objects r.globals) unknown_function [] _ (traced_with unknown_function [] unknown_objects drives (asked_in none_object []) refl refl r) in
     ⊎_elim (λ cut. cc cut.0) (λ loads. ⊎_elim (λ cut. cc cut.0) (λ asks.
-    let same : object 0 ≡ r.globals = asked_object _ _ _ _ _ _ _ asks.3 in
+    let same : none_object ≡ r.globals = asked_object _ _ _ _ _ _ _ asks.3 in
     let none = subst (AreGlobals unknown_trees unknown_objects) (sym same) r.are_globals in
     cc none.dict) loads) b.1
 
 pub unknown_line : events_text unknown_objects [] unknown_events ≡ codes "1 raises NameError: name 'z' is not defined\n"
 unknown_line =
-    append-nil (result_text unknown_objects 1 (answer.Raises (exception 13)))
-    ∙ raise_line unknown_trees unknown_objects 0 kind.NameError (codes "name 'z' is not defined") refl refl refl unknown_is_run.are_objects (asked []) (exception 13) unknown_raised
+    append-nil (result_text unknown_objects 1 (answer.Raises (exception 6)))
+    ∙ raise_line unknown_trees unknown_objects NameError not_defined refl refl unknown_is_run.are_objects (asked []) (exception 6) unknown_raised

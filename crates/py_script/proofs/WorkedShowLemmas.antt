@@ -31,9 +31,10 @@ use Rattle.py_answers.specs.Answers.{Reply, Has, Gives}
 use Rattle.py_run.specs.Run.{Plan, Asking, State, Answers as IsAnswered, start, state_after, Comes}
 use Rattle.py_script.specs.Whole.{Traces, IsRunOf, plan_of}
 use Rattle.py_script.specs.Text.{events_text, result_text}
+use Rattle.py_script.specs.Session.{none_object}
 use Rattle.py_script.specs.Worked.{object, exception, entered, asked, greatest, overflow_by}
 use Rattle.py_script.specs.WorkedShow.{script, function, trees, drive, drives, objects, summed, shows, answered, ended, events_by, events, without_show, shown_twice, overflowing, overflow_objects, shown_behind_raise}
-use Rattle.py_script.proofs.Journals.{RaiseIsTraced, all_fit, are_globals, are_objects, asked_so, asking_comes, begun, call, decimal_1, decimal_45, each_at, gives_sum, one_tells, plain, plan_with, reads_of, replied, some_is, sum_comes, traced, overflow_is_run as overflow_run}
+use Rattle.py_script.proofs.Journals.{RaiseIsTraced, are_globals, are_objects, asked_so, asking_comes, begun, call, decimal_1, decimal_45, differ, each_at, fits, gives_sum, one_tells, plan_with, reads_of, replied, some_is, sum_comes, traced, overflow_is_run as overflow_run}
 use Rattle.py_script.proofs.OneText.{overflow_line}
 
 pub spelled : Spells (lines script) trees drives
@@ -49,8 +50,8 @@ spelled =
       driven = refl;
     }
 
-fits : AllFit objects
-fits = all_fit objects refl (tt, (tt, (tt, (tt, (tt, (tt, (tt, (tt, (tt, (tt, (tt, (tt, (tt, (tt, (tt, tt)))))))))))))))
+all_fit : AllFit objects
+all_fit = fits function (payload.Int (pos 33) ∷ payload.Int (pos 12) ∷ payload.Frame 0 ∷ payload.Int (pos 45) ∷ payload.None ∷ []) refl (tt, (tt, (tt, (tt, (tt, tt)))))
 
 -- an object that is None
 abbrev IsNone : Obj → Type 0
@@ -60,45 +61,45 @@ IsNone v = HasPayload objects v payload.None
 abbrev plan : Plan
 plan = plan_with function []
 
-comes : (a r : Obj) → IsNone a → IsNone r → Comes plan objects [] start (events_by (object 13) a r)
+comes : (a r : Obj) → IsNone a → IsNone r → Comes plan objects [] start (events_by (object 6) a r)
 comes a r n m =
-    let asking = entered 1 (asked 1 (object 10) (object 11) []) in
+    let asking = entered 1 (asked 1 (object 3) (object 4) []) in
     let more = payload.Int (pos 45) ∷ payload.None ∷ [] in
-    asking_comes function [] (pos 33) (pos 12) more (event.Got 1 (got.Value (object 13)) ∷ shows (object 13) (answered a (ended r))) (lit< tt) (_, refl, (_, refl, refl)) (
-      sum_comes function plan (pos 33) (pos 12) more asking (state_after start asking) 1 (got.Value (object 13)) refl refl refl refl,
-      ((refl, refl), ((refl, (request.Show (object 13), refl, (Has payload.None, inl (Has payload.None, refl, refl), n))), ((refl, refl), ((refl, refl, (_, got.Value r, refl, refl, (_, _, refl, refl))), tt)))),
+    asking_comes function [] (pos 33) (pos 12) more (event.Got 1 (got.Value (object 6)) ∷ shows (object 6) (answered a (ended r))) (lit< tt) (_, refl, (_, refl, refl)) (
+      sum_comes function plan (pos 33) (pos 12) more asking (state_after start asking) 1 (got.Value (object 6)) refl refl refl refl,
+      ((refl, refl), ((refl, (request.Show (object 6), refl, (Has payload.None, inl (Has payload.None, refl, refl), n))), ((refl, refl), ((refl, refl, (_, got.Value r, refl, refl, (_, _, refl, refl))), tt)))),
     )
 
-shown_traced : (a r : Obj) → IsNone r → IsTrace (anywhere objects (object 9)) function (object 10 ∷ object 11 ∷ []) (own_events 1 (events_by (object 13) a r))
+shown_traced : (a r : Obj) → IsNone r → IsTrace (anywhere objects (object 2)) function (object 3 ∷ object 4 ∷ []) (own_events 1 (events_by (object 6) a r))
 unfolding own_from told_by
-shown_traced a r m = (refl, (_, refl, (tt, inr (inr (2, _, refl, refl, inr (4, got.Value (object 13), _, refl, inr (inr (5, _, refl, refl, inr (6, got.Value a, _, refl, inr (inr (r, m, inr (6, refl))))))))))))
+shown_traced a r m = (refl, (_, refl, (tt, inr (inr (2, _, refl, refl, inr (4, got.Value (object 6), _, refl, inr (inr (5, _, refl, refl, inr (6, got.Value a, _, refl, inr (inr (r, m, inr (6, refl))))))))))))
 
-named : (a r : Obj) → IsNone a → IsNone r → AreNamed objects (events_by (object 13) a r)
+named : (a r : Obj) → IsNone a → IsNone r → AreNamed objects (events_by (object 6) a r)
 named a r n m =
     let below : a.number < length objects = slice_get_within objects a.number payload.None n in
     let returned : r.number < length objects = slice_get_within objects r.number payload.None m in
     record {
       in_events =
-          each_at (λ (e : Event). AllBelow (length objects) (event_numbers e)) (events_by (object 13) a r)
+          each_at (λ (e : Event). AllBelow (length objects) (event_numbers e)) (events_by (object 6) a r)
           (tt, ((lit< tt, (lit< tt, (lit< tt, tt))), (tt, ((lit< tt, (lit< tt, tt)), ((lit< tt, tt), ((lit< tt, tt), ((below, tt), ((returned, tt), ((returned, tt), tt)))))))));
-      in_payloads = λ i p e. (fits i p e).0;
+      in_payloads = λ i p e. (all_fit i p e).0;
     }
 
 -- any None answers the show, and any None is returned
-pub any_none : (a r : Obj) → IsNone a → IsNone r → IsRunOf trees drives objects (events_by (object 13) a r)
+pub any_none : (a r : Obj) → IsNone a → IsNone r → IsRunOf trees drives objects (events_by (object 6) a r)
 any_none a r n m =
     record {
       asked = call ∷ [];
       are_asked = (((refl, (refl, (refl, tt))), refl), tt);
-      globals = object 9;
+      globals = object 2;
       are_globals = are_globals function (payload.Int (pos 33) ∷ payload.Int (pos 12) ∷ payload.Frame 0 ∷ payload.Int (pos 45) ∷ payload.None ∷ []) refl;
       run =
           record {
             comes = comes a r n m;
-            tells = one_tells (Traces trees (object 9) objects) (object 7) (object 10 ∷ object 11 ∷ []) (events_by (object 13) a r) refl (_, refl, (function, refl, shown_traced a r m));
+            tells = one_tells (Traces trees (object 2) objects) (object 0) (object 3 ∷ object 4 ∷ []) (events_by (object 6) a r) refl (_, refl, (function, refl, shown_traced a r m));
             named = named a r n m;
           };
-      are_objects = are_objects function (pos 33) (pos 12) (payload.Int (pos 45) ∷ payload.None ∷ []) refl (plain function _ refl, (plain function _ refl, tt)) fits;
+      are_objects = are_objects function (pos 33) (pos 12) (payload.Int (pos 45) ∷ payload.None ∷ []) refl (tt, (tt, tt)) all_fit;
     }
 
 pub text : events_text objects [] events ≡ codes "45\n1 returns None\n"
@@ -106,7 +107,7 @@ text = simp (decimal_45, decimal_1)
 
 -- the locals where the sum is this
 abbrev locals : Obj → Env
-locals v = set_local (codes "x") (Some v) (start_env function (object 10 ∷ object 11 ∷ []))
+locals v = set_local (codes "x") (Some v) (start_env function (object 3 ∷ object 4 ∷ []))
 
 -- what follows the sum, and what follows what is shown, behind the event k
 abbrev Shows : Scene → Env → ℕ → List Own → Type 0
@@ -117,12 +118,12 @@ Finishes scene env k ts = RunsSuite scene nothing env None k ts (EndsBy scene)
 
 -- what follows the answer to the sum
 abbrev AfterSum : Scene → AfterValue
-AfterSum scene = Use (start_env function (object 10 ∷ object 11 ∷ [])) (On_normal (EndsBy scene) (Shows scene)) (λ v. On_normal (EndsBy scene) (Shows scene) (locals v) Normal)
+AfterSum scene = Use (start_env function (object 3 ∷ object 4 ∷ [])) (On_normal (EndsBy scene) (Shows scene)) (λ v. On_normal (EndsBy scene) (Shows scene) (locals v) Normal)
 
-behind_sum : (scene : Scene) (w : GotAnswer) (ts : List Own) → IsTrace scene function (object 10 ∷ object 11 ∷ []) (Makes ∷ Resumes 2 Start ∷ Asks 2 (request.Binary binary.Add (object 10) (object 11)) None ∷ Gets 4 w ∷ ts) → Answers w 4 ts (AfterSum scene)
+behind_sum : (scene : Scene) (w : GotAnswer) (ts : List Own) → IsTrace scene function (object 3 ∷ object 4 ∷ []) (Makes ∷ Resumes 2 Start ∷ Asks 2 (request.Binary binary.Add (object 3) (object 4)) None ∷ Gets 4 w ∷ ts) → Answers w 4 ts (AfterSum scene)
 behind_sum scene w ts h =
-    let b = begun scene function (object 10 ∷ object 11 ∷ []) _ h in
-    ⊎_elim (λ cut. cc cut.0) (λ more. asked_so _ (request.Binary binary.Add (object 10) (object 11)) (request.Binary binary.Add (object 10) (object 11)) 2 2 4 w ts (AfterSum scene) more) b.1
+    let b = begun scene function (object 3 ∷ object 4 ∷ []) _ h in
+    ⊎_elim (λ cut. cc cut.0) (λ more. asked_so _ (request.Binary binary.Add (object 3) (object 4)) (request.Binary binary.Add (object 3) (object 4)) 2 2 4 w ts (AfterSum scene) more) b.1
 
 -- the sum is shown first
 first_shown : (scene : Scene) (v : Obj) (k : ℕ) (o : Own) (ts : List Own) → Shows scene (locals v) k (o ∷ ts) → (at : ℕ) × (o ≡ Asks at (request.Show v) None)
@@ -136,63 +137,62 @@ behind_show scene v q u k i ts h =
 last_told : (g v : Obj) (k : ℕ) (o : Own) (ts : List Own) → Finishes (anywhere objects g) (locals v) k (o ∷ ts) → (at : ℕ) × (r : Obj) × IsNone r × (o ≡ Ends at (ending.Return r))
 last_told g v k o ts h = ⊎_elim (λ cut. cc cut.0) (λ more. ⊎_elim (λ cut. cc cut) (λ end. ⊎_elim (λ cut. cc cut) (λ told. (told.0, end.0, end.1, cc told.1)) end.2) more) h
 
-shown_number : (at at' : ℕ) (v w : Obj) (own own' : Option PyBaseExceptionRef) → Asks at (request.Show v) own ≡ Asks at' (request.Show w) own' → v.number ≡ w.number
-shown_number at at' v w own own' e = let same : v ≡ w = cc in ap (λ (v : Obj). v.number) same
+shown_one : (at at' : ℕ) (v w : Obj) (own own' : Option PyBaseExceptionRef) → Asks at (request.Show v) own ≡ Asks at' (request.Show w) own' → v ≡ w
+shown_one at at' v w own own' e = cc
 
 pub no_show_dropped : IsRunOf trees drives objects without_show → ⊥
 unfolding own_from told_by
 no_show_dropped r =
-    let e = first_shown (anywhere objects r.globals) (object 13) 4 _ _ (behind_sum (anywhere objects r.globals) (got.Value (object 13)) _ (traced function objects drives without_show refl refl r)) in
+    let e = first_shown (anywhere objects r.globals) (object 6) 4 _ _ (behind_sum (anywhere objects r.globals) (got.Value (object 6)) _ (traced function objects drives without_show refl refl r)) in
     cc e.1
 
-pub no_other_value : IsRunOf trees drives objects (events_by (object 10) (object 0) (object 14)) → ⊥
+pub no_other_value : IsRunOf trees drives objects (events_by (object 3) none_object (object 7)) → ⊥
 unfolding own_from told_by
 no_other_value r =
-    let e = first_shown (anywhere objects r.globals) (object 13) 4 _ _ (behind_sum (anywhere objects r.globals) (got.Value (object 13)) _ (traced function objects drives (events_by (object 10) (object 0) (object 14)) refl refl r)) in
-    let n = shown_number 5 e.0 (object 10) (object 13) None None e.1 in
-    cc
+    let e = first_shown (anywhere objects r.globals) (object 6) 4 _ _ (behind_sum (anywhere objects r.globals) (got.Value (object 6)) _ (traced function objects drives (events_by (object 3) none_object (object 7)) refl refl r)) in
+    differ 3 6 refl (shown_one 5 e.0 (object 3) (object 6) None None e.1)
 
 pub no_show_twice : IsRunOf trees drives objects shown_twice → ⊥
 unfolding own_from told_by
 no_show_twice r =
-    let e = last_told r.globals (object 13) 6 _ _ (behind_show (anywhere objects r.globals) (object 13) (object 13) (object 0) 4 6 _ (behind_sum (anywhere objects r.globals) (got.Value (object 13)) _ (traced function objects drives shown_twice refl refl r))) in
+    let e = last_told r.globals (object 6) 6 _ _ (behind_show (anywhere objects r.globals) (object 6) (object 6) none_object 4 6 _ (behind_sum (anywhere objects r.globals) (got.Value (object 6)) _ (traced function objects drives shown_twice refl refl r))) in
     cc e.3
 
 -- what is shown is answered by None
 gives_none : (plan : Plan) (store : List Payload) (before : List Event) (s : State) (v : Obj) (w : GotAnswer) → ((r : Request) × (Some (request.Show v) ≡ Some r) × IsAnswered plan store before s Asking r w) → Gives store before (Has payload.None) w
 gives_none plan store before s v w h =
     let answered = subst (λ (r : Request). IsAnswered plan store before s Asking r w) (sym (some_is _ _ h.1)) h.2 in
-    subst (λ (reply : Reply). Gives store before reply w) (replied _ _ store (request.Show v) answered.0 (λ f vs e. cc) answered.1) answered.2
+    subst (λ (reply : Reply). Gives store before reply w) (replied _ _ _ store (request.Show v) answered.0 (λ f vs e. cc) (λ e. cc) answered.1) answered.2
 
-pub no_other_answer : IsRunOf trees drives objects (events_by (object 13) (object 13) (object 14)) → ⊥
+pub no_other_answer : IsRunOf trees drives objects (events_by (object 6) (object 6) (object 7)) → ⊥
 no_other_answer r =
-    let e = gives_none (plan_of trees r.asked) objects (summed (shows (object 13) [])) (state_after start (summed (shows (object 13) []))) (object 13) (got.Value (object 13)) r.run.comes.1.1.1.1.1.1.0.1 in
+    let e = gives_none (plan_of trees r.asked) objects (summed (shows (object 6) [])) (state_after start (summed (shows (object 6) []))) (object 6) (got.Value (object 6)) r.run.comes.1.1.1.1.1.1.0.1 in
     cc
 
 returned_one : (at at' : ℕ) (v w : Obj) → Ends at (ending.Return v) ≡ Ends at' (ending.Return w) → v ≡ w
 returned_one at at' v w e = cc
 
-pub no_other_end : IsRunOf trees drives objects (events_by (object 13) (object 0) (object 13)) → ⊥
+pub no_other_end : IsRunOf trees drives objects (events_by (object 6) none_object (object 6)) → ⊥
 unfolding own_from told_by
 no_other_end r =
-    let e = last_told r.globals (object 13) 6 _ _ (behind_show (anywhere objects r.globals) (object 13) (object 13) (object 0) 4 6 _ (behind_sum (anywhere objects r.globals) (got.Value (object 13)) _ (traced function objects drives (events_by (object 13) (object 0) (object 13)) refl refl r))) in
-    let none = subst IsNone (sym (returned_one 6 e.0 (object 13) e.1 e.3)) e.2 in
+    let e = last_told r.globals (object 6) 6 _ _ (behind_show (anywhere objects r.globals) (object 6) (object 6) none_object 4 6 _ (behind_sum (anywhere objects r.globals) (got.Value (object 6)) _ (traced function objects drives (events_by (object 6) none_object (object 6)) refl refl r))) in
+    let none = subst IsNone (sym (returned_one 6 e.0 (object 6) e.1 e.3)) e.2 in
     cc
 
-raise_traced : RaiseIsTraced function [] 2 4 (exception 15)
-raise_traced = (refl, (_, refl, (tt, inr (inr (2, _, refl, refl, inr (4, got.Raise (exception 15), _, refl, inr (2, refl)))))))
+raise_traced : RaiseIsTraced function [] 2 4 (exception 8)
+raise_traced = (refl, (_, refl, (tt, inr (inr (2, _, refl, refl, inr (4, got.Raise (exception 8), _, refl, inr (2, refl)))))))
 
-pub raise_ends : IsRunOf trees (overflowing ∷ []) overflow_objects (overflow_by (exception 15))
+pub raise_ends : IsRunOf trees (overflowing ∷ []) overflow_objects (overflow_by (exception 8))
 raise_ends = overflow_run function refl (_, refl, (_, refl, refl)) raise_traced
 
-pub raise_text : events_text overflow_objects [] (overflow_by (exception 15)) ≡ codes "1 raises OverflowError: integer out of range\n"
+pub raise_text : events_text overflow_objects [] (overflow_by (exception 8)) ≡ codes "1 raises OverflowError: integer out of range\n"
 raise_text =
-    let asking = entered 1 (asked 1 (object 10) (object 11) []) in
-    append-nil (result_text overflow_objects 1 (answer.Raises (exception 15)))
-    ∙ overflow_line trees overflow_objects raise_ends.are_objects asking (exception 15)
-    (gives_sum (plan_of trees raise_ends.asked) overflow_objects asking (state_after start asking) (object 10) (object 11) greatest (pos 1) (got.Raise (exception 15)) refl refl raise_ends.run.comes.1.1.1.1.0.1)
+    let asking = entered 1 (asked 1 (object 3) (object 4) []) in
+    append-nil (result_text overflow_objects 1 (answer.Raises (exception 8)))
+    ∙ overflow_line trees overflow_objects raise_ends.are_objects asking (exception 8)
+    (gives_sum (plan_of trees raise_ends.asked) overflow_objects asking (state_after start asking) (object 3) (object 4) greatest (pos 1) (got.Raise (exception 8)) refl refl raise_ends.run.comes.1.1.1.1.0.1)
 
 pub no_show_behind_a_raise : IsRunOf trees (overflowing ∷ []) overflow_objects shown_behind_raise → ⊥
 unfolding own_from told_by
 no_show_behind_a_raise r =
-    ⊎_elim (λ cut. cc cut) (λ end. cc end.1) (behind_sum (anywhere overflow_objects r.globals) (got.Raise (exception 15)) _ (traced function overflow_objects (overflowing ∷ []) shown_behind_raise refl refl r))
+    ⊎_elim (λ cut. cc cut) (λ end. cc end.1) (behind_sum (anywhere overflow_objects r.globals) (got.Raise (exception 8)) _ (traced function overflow_objects (overflowing ∷ []) shown_behind_raise refl refl r))

@@ -1,6 +1,8 @@
 -- what a script means
 pub mod Whole
--- what is written
+-- what represents an object, what an exception says, and what is written
+pub mod Repr
+pub mod Said
 pub mod Text
 -- what the words ask for
 pub mod Words

@@ -1,18 +1,20 @@
 -- What a script means: which journals are runs of it.
-use Rattle.std.specs.Prelude.{ℕ, ◌≤◌, Some, None, List, [], ◌∷◌, ◌≡◌, slice_get, length, map, Contains}
+use Rattle.std.specs.Prelude.{ℕ, ◌≤◌, Some, None, List, [], ◌∷◌, ◌≡◌, slice_get, length, map}
 use Rattle.std.specs.List.{AllZip}
 use Rattle.std.specs.List.Sorted.{IsPermutation}
+use Rattle.py_objects.specs.declared.refs.PyTypeRef.{PyTypeRef}
 use Rattle.py_objects.specs.declared.payload.Payload.{Payload}
 use Rattle.py_objects.specs.declared.payload.Payload.TheVariants as payload
 use Rattle.py_objects.specs.declared.payload.ClassBody.{ClassBody}
 use Rattle.py_objects.specs.declared.payload.FunctionBody.{FunctionBody}
 use Rattle.py_objects.specs.declared.payload.ManagerBody.{ManagerBody}
-use Rattle.py_objects.specs.declared.payload.ErrorKind.{ErrorKind}
+use Rattle.py_objects.specs.declared.error_kind.ErrorKind.{ErrorKind}
 use Rattle.py_objects.specs.declared.event.DriveAnswer.{DriveAnswer}
 use Rattle.py_objects.specs.declared.event.DriveAnswer.TheVariants as answer
 use Rattle.py_objects.specs.declared.event.Event.{Event}
 use Rattle.py_objects.specs.declared.event.Event.TheVariants as event
-use Rattle.py_objects.specs.Objects.{Obj, HasPayload, as_object, declared, name_of, error_kinds, AllFit}
+use Rattle.py_objects.specs.ErrorKinds.{name_of}
+use Rattle.py_objects.specs.Objects.{Obj, HasPayload, as_object, declared, AllFit}
 use Rattle.py_code.specs.Codes.{Codes}
 use Rattle.py_code.specs.declared.code.PyCode.{PyCode}
 use Rattle.py_check.specs.declared.note.Note.{Note}
@@ -28,6 +30,7 @@ use Rattle.py_grammar.specs.declared.script.Script.{Script}
 use Rattle.py_grammar.specs.Script.{trees_of, IsScript}
 use Rattle.py_run.specs.declared.drive.Drive.{Drive as Question}
 use Rattle.py_run.specs.declared.drive.Drive.TheVariants as question
+use Rattle.py_exceptions.specs.BuiltIn.{IsClassOf}
 use Rattle.py_vm.specs.declared.journal.Journal.{Journal}
 use Rattle.py_run.specs.Calls.{Signature}
 use Rattle.py_run.specs.Run.{Posed, Plan, May, EachTells, IsRunBy, IsDone}
@@ -98,9 +101,9 @@ pub record AreGlobals (trees : List Tree) (objects : List Payload) (globals : Ob
 -- that it needs
 pub record AreObjects (trees : List Tree) (objects : List Payload) : Type 0 where
   pub functions : (i : ℕ) (t : Tree) → slice_get trees i ≡ Some t → (f : Obj) × (declared objects t.name ≡ Some f) × HasPayload objects f (payload.Function (record { name = t.name; code = i }))
-  pub classes : (i : ℕ) (k : ErrorKind) → slice_get error_kinds i ≡ Some k → (c : Obj) × (declared objects (name_of k) ≡ Some c) × HasPayload objects c (payload.Class (record { name = name_of k }))
+  pub classes : (kind : ErrorKind) → (c : PyTypeRef) × IsClassOf objects kind c
   pub only_functions : (f : Obj) (b : FunctionBody) → HasPayload objects f (payload.Function b) → (t : Tree) × (slice_get trees b.code ≡ Some t) × (b.name ≡ t.name)
-  pub only_classes : (c : Obj) (b : ClassBody) → HasPayload objects c (payload.Class b) → Contains (map name_of error_kinds) b.name
+  pub only_classes : (c : Obj) (b : ClassBody) → HasPayload objects c (payload.Class b) → (kind : ErrorKind) × (declared objects (name_of kind) ≡ Some c)
   pub no_managers : (m : Obj) (b : ManagerBody) → HasPayload objects m (payload.Manager b) → ⊥
   pub fit : AllFit objects
 

@@ -1,10 +1,10 @@
 -- A script worked by hand: its journal, and lists of events that look like one and are none.
-use Rattle.std.specs.Prelude.{ℕ, ◌-◌, ◌^◌, Some, None, List, [], ◌∷◌, ℤ, pos, ◌≡◌, codes}
+use Rattle.std.specs.Prelude.{ℕ, ◌+◌, ◌-◌, ◌^◌, Some, None, List, [], ◌∷◌, ◌++◌, ℤ, pos, ◌≡◌, codes, length}
 use Rattle.py_objects.specs.declared.refs.PyBaseExceptionRef.{PyBaseExceptionRef}
 use Rattle.py_objects.specs.declared.payload.Payload.{Payload}
 use Rattle.py_objects.specs.declared.payload.Payload.TheVariants as payload
-use Rattle.py_objects.specs.declared.payload.ErrorKind.{ErrorKind}
-use Rattle.py_objects.specs.declared.payload.ErrorKind.TheVariants.{NameError, OverflowError, RecursionError, TypeError, UnboundLocalError}
+use Rattle.py_objects.specs.declared.error_kind.ErrorKind.{ErrorKind}
+use Rattle.py_objects.specs.declared.error_kind.ErrorKind.TheVariants.{OverflowError}
 use Rattle.py_code.specs.declared.operator.BinaryOperator.TheVariants as binary
 use Rattle.py_objects.specs.declared.request.Request.TheVariants.{Binary}
 use Rattle.py_objects.specs.declared.event.ResumeHow.TheVariants.{Start}
@@ -13,8 +13,9 @@ use Rattle.py_objects.specs.declared.event.Ending.TheVariants as ending
 use Rattle.py_objects.specs.declared.event.DriveAnswer.TheVariants as answer
 use Rattle.py_objects.specs.declared.event.Event.{Event}
 use Rattle.py_objects.specs.declared.event.Event.TheVariants as event
-use Rattle.py_objects.specs.Objects.{Obj, Name, name_of}
+use Rattle.py_objects.specs.Objects.{Obj, Name}
 use Rattle.py_objects.specs.Values.{new_exception}
+use Rattle.py_exceptions.specs.Classes.{class_of, first_classes}
 use Rattle.py_tree.specs.declared.expr.Atom.TheVariants as atom
 use Rattle.py_tree.specs.declared.expr.Operation.TheVariants as operation
 use Rattle.py_tree.specs.declared.expr.Expr.TheVariants as expr
@@ -23,6 +24,7 @@ use Rattle.py_lines.specs.declared.drive.DriveAtom.TheVariants as argument
 use Rattle.py_lines.specs.declared.drive.DriveLine.{DriveLine}
 use Rattle.py_lines.specs.declared.drive.DriveLine.TheVariants as drive
 use Rattle.py_run.specs.Run.{IsDone}
+use Rattle.py_vm.specs.First.{first_objects}
 use Rattle.py_script.specs.Whole.{IsRunOf}
 use Rattle.py_script.specs.Text.{events_text}
 
@@ -52,37 +54,27 @@ call_of f m n = drive.Call f (argument.Int m ∷ argument.Int n ∷ [])
 abbrev pub drives : List DriveLine
 drives = call_of (codes "f") (pos 33) (pos 12) ∷ []
 
--- an object by its number
+-- an object of the run by its number behind what each machine begins with
 abbrev pub object : ℕ → Obj
-object n = record { number = n }
+object n = record { number = length first_objects + n }
 
--- an exception by its number
+-- an exception by that number
 abbrev pub exception : ℕ → PyBaseExceptionRef
-exception n = record { number = n }
-
--- the entry of a built-in class
-abbrev pub class_entry : ErrorKind → Payload
-class_entry kind = payload.Class (record { name = name_of kind })
+exception n = record { number = length first_objects + n }
 
 -- the entry of a function, with the number of its code
 abbrev pub function_entry : Name → ℕ → Payload
 function_entry name code = payload.Function (record { name = name; code = code })
 
--- None, the built-in classes, which have the numbers 1 to 5, the empty dict of a new machine, 6, and more
-abbrev pub built_in : List Payload → List Payload
-built_in more =
-    payload.None ∷ class_entry NameError ∷ class_entry OverflowError ∷ class_entry RecursionError ∷ class_entry TypeError ∷ class_entry UnboundLocalError
-    ∷ payload.Dict [] ∷ more
-
--- the same with a function, 7, its name, 8, the dict of the globals that binds it, 9, and more
+-- what a machine begins with, and then a function, 0, its name, 1, the dict of the globals that binds it, 2, and more
 abbrev pub loaded : Name → Payload → List Payload → List Payload
-loaded name f more = built_in (f ∷ payload.Str name ∷ payload.Dict ((object 8, object 7) ∷ []) ∷ more)
+loaded name f more = first_objects ++ f ∷ payload.Str name ∷ payload.Dict ((object 1, object 0) ∷ []) ∷ more
 
--- the same with the function's two arguments, 10 and 11, and the frame of its activation, 12
+-- the same with the function's two arguments, 3 and 4, and the frame of its activation, 5
 abbrev pub objects_of : Name → Payload → ℤ → ℤ → List Payload → List Payload
 objects_of name f m n more = loaded name f (payload.Int m ∷ payload.Int n ∷ payload.Frame 0 ∷ more)
 
--- the objects of the run, where the function has this entry; the sum has number 13
+-- the objects of the run, where the function has this entry; the sum has number 6
 abbrev pub objects_by : Payload → List Payload
 objects_by f = objects_of (codes "f") f (pos 33) (pos 12) (payload.Int (pos 45) ∷ [])
 
@@ -94,11 +86,11 @@ objects = objects_by (function_entry (codes "f") 0)
 abbrev pub objects_with_manager : List Payload
 objects_with_manager =
     objects_of (codes "f") (function_entry (codes "f") 0) (pos 33) (pos 12)
-    (payload.Int (pos 45) ∷ payload.Manager (record { name = codes "m"; enter = object 7; exit = object 7 }) ∷ [])
+    (payload.Int (pos 45) ∷ payload.Manager (record { name = codes "m"; enter = object 0; exit = object 0 }) ∷ [])
 
 -- the n-th drive calls the function, whose n-th activation is entered; these events follow
 abbrev pub entered : ℕ → List Event → List Event
-entered n events = event.Drive n ∷ event.Make n (object 7) (object 10 ∷ object 11 ∷ []) ∷ event.Resume n Start ∷ events
+entered n events = event.Drive n ∷ event.Make n (object 0) (object 3 ∷ object 4 ∷ []) ∷ event.Resume n Start ∷ events
 
 -- its body asks for the sum of two objects, at its third unit
 abbrev pub asked : ℕ → Obj → Obj → List Event → List Event
@@ -114,31 +106,31 @@ raised n e events = event.Got n (got.Raise e) ∷ event.End n (ending.Raise e) 2
 
 -- a run of the drive, in which this object is the sum
 abbrev pub events_by : Obj → List Event
-events_by v = entered 1 (asked 1 (object 10) (object 11) (returned 1 v []))
+events_by v = entered 1 (asked 1 (object 3) (object 4) (returned 1 v []))
 
 -- the run of the script
 abbrev pub events : List Event
-events = events_by (object 13)
+events = events_by (object 6)
 
 -- the same without its last event
 abbrev pub unfinished : List Event
-unfinished = entered 1 (asked 1 (object 10) (object 11) (event.Got 1 (got.Value (object 13)) ∷ event.End 1 (ending.Return (object 13)) 5 ∷ []))
+unfinished = entered 1 (asked 1 (object 3) (object 4) (event.Got 1 (got.Value (object 6)) ∷ event.End 1 (ending.Return (object 6)) 5 ∷ []))
 
 -- a loop goes round, where the body has none
 abbrev pub with_round : List Event
-with_round = entered 1 (event.Round 1 0 ∷ asked 1 (object 10) (object 11) (returned 1 (object 13) []))
+with_round = entered 1 (event.Round 1 0 ∷ asked 1 (object 3) (object 4) (returned 1 (object 6) []))
 
 -- the result stands where the activation's end is missing
 abbrev pub without_end : List Event
-without_end = entered 1 (asked 1 (object 10) (object 11) (event.Got 1 (got.Value (object 13)) ∷ event.Result 1 (answer.Returns (object 13)) ∷ []))
+without_end = entered 1 (asked 1 (object 3) (object 4) (event.Got 1 (got.Value (object 6)) ∷ event.Result 1 (answer.Returns (object 6)) ∷ []))
 
 -- the body asks for the sum of 12 and 33
 abbrev pub swapped : List Event
-swapped = entered 1 (asked 1 (object 11) (object 10) (returned 1 (object 13) []))
+swapped = entered 1 (asked 1 (object 4) (object 3) (returned 1 (object 6) []))
 
 -- a second drive begins, which the script hasn't
 abbrev pub driven_twice : List Event
-driven_twice = entered 1 (asked 1 (object 10) (object 11) (returned 1 (object 13) (event.Drive 2 ∷ [])))
+driven_twice = entered 1 (asked 1 (object 3) (object 4) (returned 1 (object 6) (event.Drive 2 ∷ [])))
 
 -- the greatest whole number
 abbrev pub greatest : ℤ
@@ -152,40 +144,44 @@ overflowing_of f = call_of f greatest (pos 1)
 abbrev pub overflowing : DriveLine
 overflowing = overflowing_of (codes "f")
 
--- the entry of a new exception: the numbers of its class and of its arguments
-abbrev pub exception_entry : ℕ → ℕ → Payload
-exception_entry class args = payload.Exception (new_exception (record { number = class }) (object args))
+-- the entry of a new exception of a kind, with the number of its arguments
+abbrev pub exception_entry : ErrorKind → ℕ → Payload
+exception_entry kind args = payload.Exception (new_exception (class_of first_classes kind) (object args))
 
--- the same with the arguments 14
-abbrev pub error_entry : ℕ → Payload
-error_entry class = exception_entry class 14
+-- the same with the arguments 7
+abbrev pub error_entry : ErrorKind → Payload
+error_entry kind = exception_entry kind 7
 
--- the objects that a raise adds: the text 13, a tuple of it, 14, and an exception of the class with this number, 15
-abbrev pub error_objects : ℕ → List Payload → List Payload
-error_objects class more = payload.Str (codes "integer out of range") ∷ payload.Tuple (object 13 ∷ []) ∷ error_entry class ∷ more
+-- the text of the refusal of a sum
+abbrev pub out_of_range : Name
+out_of_range = codes "integer out of range"
+
+-- the objects that a raise adds: the text 6, a tuple of it, 7, and an exception of a kind, 8
+abbrev pub error_objects : ErrorKind → List Payload → List Payload
+error_objects kind more = payload.Str out_of_range ∷ payload.Tuple (object 6 ∷ []) ∷ error_entry kind ∷ more
 
 -- the objects of a run that raises, where the function has this name and this entry
-abbrev pub raising_by : Name → Payload → ℕ → List Payload → List Payload
-raising_by name f class more = objects_of name f greatest (pos 1) (error_objects class more)
+abbrev pub raising_by : Name → Payload → ErrorKind → List Payload → List Payload
+raising_by name f kind more = objects_of name f greatest (pos 1) (error_objects kind more)
 
 -- the same of the script's function
-abbrev pub raising_objects : ℕ → List Payload → List Payload
-raising_objects class more = raising_by (codes "f") (function_entry (codes "f") 0) class more
+abbrev pub raising_objects : ErrorKind → List Payload → List Payload
+raising_objects kind more = raising_by (codes "f") (function_entry (codes "f") 0) kind more
 
--- the same where the exception has a cause, the number 10
+-- the same where the exception has a cause, the first argument
 abbrev pub caused_objects : List Payload
 caused_objects =
     objects_of (codes "f") (function_entry (codes "f") 0) greatest (pos 1)
-    (payload.Str (codes "integer out of range") ∷ payload.Tuple (object 13 ∷ [])
-    ∷ payload.Exception (record (new_exception (record { number = 2 }) (object 14)) { cause = Some (object 10) }) ∷ [])
+    (payload.Str out_of_range ∷ payload.Tuple (object 6 ∷ [])
+    ∷ payload.Exception (record (new_exception (class_of first_classes OverflowError) (object 7)) { cause = Some (object 3) }) ∷ [])
 
 -- the objects where OverflowError is raised
 abbrev pub overflow_objects : List Payload
-overflow_objects = raising_objects 2 []
+overflow_objects = raising_objects OverflowError []
 
 -- the n-th drive raises an exception, and these events follow
 abbrev pub raises : ℕ → PyBaseExceptionRef → List Event → List Event
-raises n e events = entered n (asked n (object 10) (object 11) (raised n e events))
+raises n e events = entered n (asked n (object 3) (object 4) (raised n e events))
 
 -- the run in which the drive raises this exception
 abbrev pub overflow_by : PyBaseExceptionRef → List Event

@@ -10,11 +10,14 @@ use Rattle.py_objects.specs.declared.event.Ending.TheVariants as ending
 use Rattle.py_objects.specs.declared.event.DriveAnswer.TheVariants as answer
 use Rattle.py_objects.specs.declared.event.Event.{Event}
 use Rattle.py_objects.specs.declared.event.Event.TheVariants as event
-use Rattle.py_objects.specs.Objects.{Obj}
+use Rattle.py_objects.specs.declared.error_kind.ErrorKind.{ErrorKind}
+use Rattle.py_objects.specs.declared.error_kind.ErrorKind.TheVariants.{NameError}
+use Rattle.py_objects.specs.Objects.{Obj, Name}
 use Rattle.py_tree.specs.declared.expr.Atom.TheVariants as atom
 use Rattle.py_tree.specs.Tree.{Suite, Show, While, nothing, first, Tree}
 use Rattle.py_lines.specs.declared.drive.DriveLine.{DriveLine}
 use Rattle.py_lines.specs.declared.drive.DriveLine.TheVariants as drive
+use Rattle.py_script.specs.Session.{none_object}
 use Rattle.py_script.specs.Worked.{object, exception, exception_entry, function_entry, loaded}
 
 -- the bytes of the script whose loop doesn't end
@@ -37,11 +40,11 @@ trees = function ∷ []
 abbrev pub drives : List DriveLine
 drives = drive.Call (codes "f") [] ∷ []
 
--- the objects of a run of f, the frame of whose activation has number 10, and more
+-- the objects of a run of f, the frame of whose activation has number 3, and more
 abbrev pub objects_with : List Payload → List Payload
 objects_with more = loaded (codes "f") (function_entry (codes "f") 0) (payload.Frame 0 ∷ more)
 
--- the True that is tested has number 11, and the answer 12
+-- the True that is tested has number 4, and the answer 5
 abbrev pub objects_by : Bool → List Payload
 objects_by told = objects_with (payload.Bool true ∷ payload.Bool told ∷ [])
 
@@ -51,7 +54,7 @@ objects = objects_by true
 
 -- the drive calls f, whose activation is entered; these events follow
 abbrev pub entered : List Event → List Event
-entered events = event.Drive 1 ∷ event.Make 1 (object 7) [] ∷ event.Resume 1 Start ∷ events
+entered events = event.Drive 1 ∷ event.Make 1 (object 0) [] ∷ event.Resume 1 Start ∷ events
 
 -- a round begins, at this unit
 abbrev pub round : ℕ → List Event → List Event
@@ -59,7 +62,7 @@ round at events = event.Round 1 at ∷ events
 
 -- the truth of the first True is asked for at the third unit, and the second object answers
 abbrev pub tested : List Event → List Event
-tested events = event.Ask 1 (Truth (object 11)) None 2 ∷ event.Got 1 (got.Value (object 12)) ∷ events
+tested events = event.Ask 1 (Truth (object 4)) None 2 ∷ event.Got 1 (got.Value (object 5)) ∷ events
 
 -- the run as far as the second round: seven events
 abbrev pub events : List Event
@@ -75,7 +78,7 @@ untested = entered (round 0 (round 3 (tested [])))
 
 -- the body ends, though the test was true
 abbrev pub left_early : List Event
-left_early = entered (round 0 (tested (event.End 1 (ending.Return (object 0)) 4 ∷ [])))
+left_early = entered (round 0 (tested (event.End 1 (ending.Return none_object) 4 ∷ [])))
 
 -- the bytes of a script with a name that is nowhere
 abbrev pub unknown_script : List ℕ
@@ -85,21 +88,25 @@ unknown_script = codes "def f\nshow z\nend\ncall f\n"
 abbrev pub unknown_trees : List Tree
 unknown_trees = function_of (first 2 (Show (atom.Name (codes "z"))) nothing) ∷ []
 
--- the entry of an exception of the class with this number
-abbrev pub unknown_error : ℕ → Payload
-unknown_error class = exception_entry class 12
+-- the entry of an exception of a kind with the arguments 5
+abbrev pub unknown_error : ErrorKind → Payload
+unknown_error kind = exception_entry kind 5
 
--- the objects that the raise adds: the text 11, a tuple of it, 12, and the exception 13
-abbrev pub raised_objects : ℕ → List Payload
-raised_objects class = payload.Str (codes "name 'z' is not defined") ∷ payload.Tuple (object 11 ∷ []) ∷ unknown_error class ∷ []
+-- the text of the refusal of the name
+abbrev pub not_defined : Name
+not_defined = codes "name 'z' is not defined"
+
+-- the objects that the raise adds: the text 4, a tuple of it, 5, and the exception 6
+abbrev pub raised_objects : ErrorKind → List Payload
+raised_objects kind = payload.Str not_defined ∷ payload.Tuple (object 4 ∷ []) ∷ unknown_error kind ∷ []
 
 -- the objects of a run that raises
-abbrev pub unknown_by : ℕ → List Payload
-unknown_by class = objects_with (raised_objects class)
+abbrev pub unknown_by : ErrorKind → List Payload
+unknown_by kind = objects_with (raised_objects kind)
 
 -- the objects where NameError is raised
 abbrev pub unknown_objects : List Payload
-unknown_objects = unknown_by 1
+unknown_objects = unknown_by NameError
 
 -- the name is asked for at the first unit, in this object
 abbrev pub asked_in : Obj → List Event → List Event
@@ -107,12 +114,12 @@ asked_in d events = entered (event.Ask 1 (Global d (codes "z")) None 0 ∷ event
 
 -- in the dict of the globals
 abbrev pub asked : List Event → List Event
-asked events = asked_in (object 9) events
+asked events = asked_in (object 2) events
 
 -- the answer raises, which ends the body and the drive
 abbrev pub unknown_events : List Event
-unknown_events = asked (event.Got 1 (got.Raise (exception 13)) ∷ event.End 1 (ending.Raise (exception 13)) 0 ∷ event.Result 1 (answer.Raises (exception 13)) ∷ [])
+unknown_events = asked (event.Got 1 (got.Raise (exception 6)) ∷ event.End 1 (ending.Raise (exception 6)) 0 ∷ event.Result 1 (answer.Raises (exception 6)) ∷ [])
 
 -- it gives a value
 abbrev pub unknown_given : List Event
-unknown_given = asked (event.Got 1 (got.Value (object 0)) ∷ [])
+unknown_given = asked (event.Got 1 (got.Value none_object) ∷ [])

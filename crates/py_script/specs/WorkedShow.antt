@@ -8,12 +8,14 @@ use Rattle.py_objects.specs.declared.event.Ending.TheVariants as ending
 use Rattle.py_objects.specs.declared.event.DriveAnswer.TheVariants as answer
 use Rattle.py_objects.specs.declared.event.Event.{Event}
 use Rattle.py_objects.specs.declared.event.Event.TheVariants as event
+use Rattle.py_objects.specs.declared.error_kind.ErrorKind.TheVariants.{OverflowError}
 use Rattle.py_objects.specs.Objects.{Obj}
 use Rattle.py_tree.specs.declared.expr.Atom.TheVariants as atom
 use Rattle.py_tree.specs.declared.expr.Operation.TheVariants as operation
 use Rattle.py_tree.specs.declared.expr.Expr.TheVariants as expr
 use Rattle.py_tree.specs.Tree.{Tree, Assign, Show, nothing, first}
 use Rattle.py_lines.specs.declared.drive.DriveLine.{DriveLine}
+use Rattle.py_script.specs.Session.{none_object}
 use Rattle.py_script.specs.Worked.{call_of, overflowing_of, object, exception, function_entry, objects_of, entered, asked, raising_by}
 
 -- the bytes of the script
@@ -42,13 +44,13 @@ drive = call_of (codes "g") (pos 33) (pos 12)
 abbrev pub drives : List DriveLine
 drives = drive ∷ []
 
--- the objects of the run; the sum has number 13, and 14 is the None that is returned
+-- the objects of the run; the sum has number 6, and 7 is the None that is returned
 abbrev pub objects : List Payload
 objects = objects_of (codes "g") (function_entry (codes "g") 0) (pos 33) (pos 12) (payload.Int (pos 45) ∷ payload.None ∷ [])
 
 -- the drive calls g, whose body gets the sum of its arguments; these events follow
 abbrev pub summed : List Event → List Event
-summed events = entered 1 (asked 1 (object 10) (object 11) (event.Got 1 (got.Value (object 13)) ∷ events))
+summed events = entered 1 (asked 1 (object 3) (object 4) (event.Got 1 (got.Value (object 6)) ∷ events))
 
 -- the body shows this object, at its sixth unit
 abbrev pub shows : Obj → List Event → List Event
@@ -68,15 +70,15 @@ events_by v a r = summed (shows v (answered a (ended r)))
 
 -- the run of the script
 abbrev pub events : List Event
-events = events_by (object 13) (object 0) (object 14)
+events = events_by (object 6) none_object (object 7)
 
 -- nothing is shown
 abbrev pub without_show : List Event
-without_show = summed (ended (object 14))
+without_show = summed (ended (object 7))
 
 -- the sum is shown twice
 abbrev pub shown_twice : List Event
-shown_twice = summed (shows (object 13) (answered (object 0) (shows (object 13) (answered (object 0) (ended (object 14))))))
+shown_twice = summed (shows (object 6) (answered none_object (shows (object 6) (answered none_object (ended (object 7))))))
 
 -- a drive that adds 1 to the greatest whole number
 abbrev pub overflowing : DriveLine
@@ -84,8 +86,8 @@ overflowing = overflowing_of (codes "g")
 
 -- the objects where OverflowError is raised
 abbrev pub overflow_objects : List Payload
-overflow_objects = raising_by (codes "g") (function_entry (codes "g") 0) 2 []
+overflow_objects = raising_by (codes "g") (function_entry (codes "g") 0) OverflowError []
 
 -- the body gets an exception, and shows its first argument behind that
 abbrev pub shown_behind_raise : List Event
-shown_behind_raise = entered 1 (asked 1 (object 10) (object 11) (event.Got 1 (got.Raise (exception 15)) ∷ shows (object 10) []))
+shown_behind_raise = entered 1 (asked 1 (object 3) (object 4) (event.Got 1 (got.Raise (exception 8)) ∷ shows (object 3) []))

@@ -1,6 +1,7 @@
 //! Scripts from bytes to lines: what they mean, how they are run, and what is written.
 #![tactic(auto)]
 
+mod attributes;
 mod command;
 mod fault;
 mod journal;

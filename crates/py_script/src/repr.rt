@@ -2,7 +2,7 @@
 
 ghost use Rattle.std.specs.Prelude.{◌≡◌, ◌++◌, Some, OnOk, string_bytes, encode_utf8_all, codes, if◌then◌else◌};
 ghost use Rattle.py_objects.specs.Objects.{class_object};
-ghost use Rattle.py_script.specs.Text.{payload_of, class_name, items_of, joined, in_parentheses, tuple_of, pair_by, dict_of, coro_front, coro_of, shown, repr_within};
+ghost use Rattle.py_script.specs.Repr.{class_name, coro_front, coro_of, dict_of, in_parentheses, items_of, joined, pair_by, payload_of, repr_within, shown, tuple_of};
 ghost use Rattle.py_script.specs.Writing.{inner_at};
 
 use crate::quoted::push_quoted;
@@ -42,12 +42,13 @@ fn push_payload(
         Payload::Str(text) => push_quoted(out, text)?,
         Payload::Tuple(items) => push_tuple(out, objects, items.as_slice(), depth)?,
         Payload::Dict(pairs) => push_dict(out, objects, pairs.as_slice(), depth)?,
-        Payload::Class(class) => push_named(out, "<class '", &class.name, "'>")?,
+        Payload::Class(class) => push_named(out, "<class '", &class.value().name, "'>")?,
         Payload::Function(function) => push_named(out, "<function ", &function.name, ">")?,
         Payload::Manager(manager) => push_named(out, "<manager ", &manager.name, ">")?,
         Payload::Frame(_) => out.push_str("<frame>")?,
         Payload::Generator(coro) => push_coro(out, coro)?,
         Payload::Exception(exception) => {
+            let exception = exception.value();
             push_class_name(out, objects, exception.class)?;
             let items = tuple_items(objects, exception.args);
             push_in_parentheses(out, objects, items, depth)?;
@@ -233,7 +234,7 @@ pub(crate) fn push_class_name(
         return Ok(());
     };
     match payload {
-        Payload::Class(class) => push_utf8(out, &class.name),
+        Payload::Class(class) => push_utf8(out, &class.value().name),
         Payload::None
         | Payload::Bool(_)
         | Payload::Int(_)

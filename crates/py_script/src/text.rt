@@ -3,7 +3,8 @@
 ghost use Rattle.std.specs.Prelude.{◌≡◌, ◌++◌, OnOk, string_bytes, codes};
 ghost use Rattle.py_objects.specs.Objects.{as_object};
 ghost use Rattle.py_objects.specs.declared.request.Request.TheVariants.{Show};
-ghost use Rattle.py_script.specs.Text.{payload_of, repr, details, raised, numbered, request_text, result_text, event_text};
+ghost use Rattle.py_script.specs.Repr.{payload_of};
+ghost use Rattle.py_script.specs.Text.{repr, details, raised, numbered, request_text, result_text, event_text};
 
 use crate::repr::{push_class_name, push_repr, tuple_items};
 use crate::str_of::push_said;
@@ -134,7 +135,8 @@ fn push_exception(
         return Ok(());
     };
     match payload {
-        Payload::Exception(body) => {
+        Payload::Exception(exception) => {
+            let body = exception.value();
             push_class_name(out, objects, body.class)?;
             push_details(out, objects, tuple_items(objects, body.args))
         }

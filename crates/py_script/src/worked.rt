@@ -2,6 +2,7 @@
 
 ghost use Rattle.std.specs.Prelude.{◌≡◌, [], ◌∷◌, ◌++◌, true, false, ℤ, ◌+ℤ◌, codes};
 ghost use Rattle.std.specs.Fmt.{signed_decimal};
+ghost use Rattle.py_objects.specs.declared.error_kind.ErrorKind.TheVariants.{OverflowError, TypeError};
 ghost use Rattle.py_grammar.specs.Lines.{lines};
 ghost use Rattle.py_grammar.specs.Script.{Spells};
 ghost use Rattle.py_code.specs.Literals.{in_range};
@@ -29,20 +30,20 @@ pub fn worked_journals()
     ensures no_result_without_an_end { IsRunOf trees drives objects without_end → ⊥ }
     ensures no_swapped_operands { IsRunOf trees drives objects swapped → ⊥ }
     ensures no_drive_beyond_the_script { IsRunOf trees drives objects driven_twice → ⊥ }
-    ensures no_wrong_sum { IsRunOf trees drives objects (events_by (object 10)) → ⊥ }
-    ensures no_object_that_is_not_there { IsRunOf trees drives objects (events_by (object 14)) → ⊥ }
+    ensures no_wrong_sum { IsRunOf trees drives objects (events_by (object 3)) → ⊥ }
+    ensures no_object_that_is_not_there { IsRunOf trees drives objects (events_by (object 7)) → ⊥ }
     // Another function than the script's, or a manager.
     ensures no_other_code { IsRunOf trees drives (objects_by (function_entry (codes "f") 1)) events → ⊥ }
     ensures no_other_name { IsRunOf trees drives (objects_by (function_entry (codes "g") 0)) events → ⊥ }
     ensures no_manager { IsRunOf trees drives objects_with_manager events → ⊥ }
     // A sum out of range raises a new OverflowError.
-    ensures overflow_is_run { IsRunOf trees (overflowing ∷ []) overflow_objects (overflow_by (exception 15)) }
-    ensures overflow_is_whole { IsDone 1 (overflow_by (exception 15)) }
-    ensures overflow_text { events_text overflow_objects [] (overflow_by (exception 15)) ≡ codes "1 raises OverflowError: integer out of range\n" }
-    ensures no_other_error { IsRunOf trees (overflowing ∷ []) (raising_objects 4 []) (overflow_by (exception 15)) → ⊥ }
-    ensures no_error_with_a_cause { IsRunOf trees (overflowing ∷ []) caused_objects (overflow_by (exception 15)) → ⊥ }
-    ensures no_object_as_error { IsRunOf trees (overflowing ∷ []) overflow_objects (overflow_by (exception 10)) → ⊥ }
+    ensures overflow_is_run { IsRunOf trees (overflowing ∷ []) overflow_objects (overflow_by (exception 8)) }
+    ensures overflow_is_whole { IsDone 1 (overflow_by (exception 8)) }
+    ensures overflow_text { events_text overflow_objects [] (overflow_by (exception 8)) ≡ codes "1 raises OverflowError: integer out of range\n" }
+    ensures no_other_error { IsRunOf trees (overflowing ∷ []) (raising_objects TypeError []) (overflow_by (exception 8)) → ⊥ }
+    ensures no_error_with_a_cause { IsRunOf trees (overflowing ∷ []) caused_objects (overflow_by (exception 8)) → ⊥ }
+    ensures no_object_as_error { IsRunOf trees (overflowing ∷ []) overflow_objects (overflow_by (exception 3)) → ⊥ }
     // Two drives raise two exceptions, and never the same one.
-    ensures errors_are_run { IsRunOf trees (overflowing ∷ overflowing ∷ []) (raising_objects 2 (error_entry 2 ∷ [])) (raises 1 (exception 15) (raises 2 (exception 16) [])) }
-    ensures no_error_twice { IsRunOf trees (overflowing ∷ overflowing ∷ []) (raising_objects 2 (error_entry 2 ∷ [])) (raises 1 (exception 15) (raises 2 (exception 15) [])) → ⊥ }
+    ensures errors_are_run { IsRunOf trees (overflowing ∷ overflowing ∷ []) (raising_objects OverflowError (error_entry OverflowError ∷ [])) (raises 1 (exception 8) (raises 2 (exception 9) [])) }
+    ensures no_error_twice { IsRunOf trees (overflowing ∷ overflowing ∷ []) (raising_objects OverflowError (error_entry OverflowError ∷ [])) (raises 1 (exception 8) (raises 2 (exception 8) [])) → ⊥ }
 {}

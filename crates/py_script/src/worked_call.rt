@@ -21,8 +21,8 @@ pub fn worked_calls()
     ensures is_whole { IsDone 3 events }
     ensures text { events_text objects [] events ≡ codes "1 returns 7\n2 returns 7\n3 raises TypeError: f() takes 0 positional arguments but 1 were given\n" }
     // The dict of the globals has a pair for each function, in any order.
-    ensures any_order { AreGlobals trees (objects_by (pair_of_f ∷ pair_of_g ∷ [])) (object 11) }
-    ensures no_name_unbound { AreGlobals trees (objects_by (pair_of_g ∷ [])) (object 11) → ⊥ }
+    ensures any_order { AreGlobals trees (objects_by (pair_of_f ∷ pair_of_g ∷ [])) (object 4) }
+    ensures no_name_unbound { AreGlobals trees (objects_by (pair_of_g ∷ [])) (object 4) → ⊥ }
     // The callee is made once, with the next number and its arguments in order, is entered, and ends before the caller goes on.
     ensures no_callee_made_twice { IsRunOf trees drives objects made_twice → ⊥ }
     ensures no_other_number { IsRunOf trees drives objects numbered_on → ⊥ }
@@ -30,8 +30,8 @@ pub fn worked_calls()
     ensures no_callee_never_entered { IsRunOf trees drives objects never_entered → ⊥ }
     ensures no_answer_before_the_end { IsRunOf trees drives objects answered_early → ⊥ }
     // A drive's result is what its function returned, and what the drives after it name by its number.
-    ensures no_other_result { IsRunOf trees drives objects (returned (object 7) []) → ⊥ }
-    ensures no_other_object_of_a_drive { IsRunOf trees drives objects (again (object 7) []) → ⊥ }
+    ensures no_other_result { IsRunOf trees drives objects (returned (object 0) []) → ⊥ }
+    ensures no_other_object_of_a_drive { IsRunOf trees drives objects (again (object 0) []) → ⊥ }
     // What is refused is never made.
     ensures no_activation_of_a_refused_drive { IsRunOf trees drives objects refused_made → ⊥ }
     // A function that gets its own number of arguments is entered where 999 activations run, and not where 1000 do.

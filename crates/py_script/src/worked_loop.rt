@@ -1,12 +1,13 @@
 //! Journals with a loop and with an unknown name that were worked by hand, and what the definitions say of them.
 
 ghost use Rattle.std.specs.Prelude.{◌≡◌, [], false, codes};
+ghost use Rattle.py_objects.specs.declared.error_kind.ErrorKind.TheVariants.{TypeError};
 ghost use Rattle.py_grammar.specs.Lines.{lines};
 ghost use Rattle.py_grammar.specs.Script.{Spells};
 ghost use Rattle.py_run.specs.Run.{IsDone};
 ghost use Rattle.py_script.specs.Whole.{IsRunOf};
+ghost use Rattle.py_script.specs.Session.{none_object};
 ghost use Rattle.py_script.specs.Text.{events_text};
-ghost use Rattle.py_script.specs.Worked.{object};
 ghost use Rattle.py_script.specs.WorkedLoop.{script, trees, drives, objects_by, objects, events, without_round, untested, left_early, unknown_script, unknown_trees, unknown_by, unknown_objects, unknown_events, asked_in, unknown_given};
 
 /// The journal of a `while True` as far as its second round is a part of a run, and no whole one. What differs from it in
@@ -27,7 +28,7 @@ pub fn worked_loops()
     ensures unknown_is_whole { IsDone 1 unknown_events }
     ensures unknown_text { events_text unknown_objects [] unknown_events ≡ codes "1 raises NameError: name 'z' is not defined\n" }
     // It is asked for in the dict of the globals, and no value answers it, nor an exception of another class.
-    ensures no_name_asked_of_none { IsRunOf unknown_trees drives unknown_objects (asked_in (object 0) []) → ⊥ }
+    ensures no_name_asked_of_none { IsRunOf unknown_trees drives unknown_objects (asked_in none_object []) → ⊥ }
     ensures no_value_of_an_unknown_name { IsRunOf unknown_trees drives unknown_objects unknown_given → ⊥ }
-    ensures no_other_error { IsRunOf unknown_trees drives (unknown_by 4) unknown_events → ⊥ }
+    ensures no_other_error { IsRunOf unknown_trees drives (unknown_by TypeError) unknown_events → ⊥ }
 {}

@@ -1,10 +1,8 @@
--- Bodies that guard nothing: no statement of theirs raises an exception by itself, and none is a try.
-use Rattle.py_tree.specs.Tree.{Form, Raise, Reraise, If, IfElse, While, TryExcept, TryFinally, Suite, nothing, first}
+-- Bodies that guard nothing: no statement of theirs is a try.
+use Rattle.py_tree.specs.Tree.{Form, If, IfElse, While, TryExcept, TryFinally, Suite, nothing, first}
 
 abbrev mutual
   pub FormIsUnguarded : Form → Type 0
-  FormIsUnguarded (Raise a) = ⊥
-  FormIsUnguarded Reraise = ⊥
   FormIsUnguarded (If a s) = IsUnguarded s
   FormIsUnguarded (IfElse a s t) = IsUnguarded s × IsUnguarded t
   FormIsUnguarded (While a s) = IsUnguarded s

@@ -24,7 +24,8 @@ use Rattle.py_vm.specs.Stands.{AreStored, AreCallers, AtStage, frames_at, IsTold
 use Rattle.py_vm.proofs.RowsOfLemmas.{tells_behind_code}
 use Rattle.py_objects.proofs.GrownLemmas.{objects_grow}
 use Rattle.py_vm.proofs.DeclaringLemmas.{AreDeclared, declared_new, one_more, named_declared, still_declared}
-use Rattle.py_vm.proofs.KeepsLemmas.{classes_stay, dict_grown, first_on, stored_on, runnable_on, told_still}
+use Rattle.py_exceptions.proofs.ClassesLemmas.{classes_grown}
+use Rattle.py_vm.proofs.KeepsLemmas.{truths_stay, dict_grown, first_on, stored_on, runnable_on, told_still}
 use Rattle.py_vm.proofs.NestedLemmas.{frames_still}
 
 -- between drives nothing waits, and no frame is left
@@ -151,7 +152,8 @@ object_idle m names p below made addable are idle =
     idle_with m m.entered (with_object m.store p) m.codes m.globals names grows
     (record {
       readable = record { dicts = λ i c here. dict_grown objects more c.object grows (k.stored.readable.dicts i c here); fit = fit; first = first_added m p addable k.stored.readable.first };
-      classes = classes_stay m.exceptions objects more grows k.stored.classes;
+      truths = truths_stay objects more grows k.stored.truths;
+      classes = classes_grown m.exceptions objects more grows k.stored.classes;
       dict = dict_grown objects more m.globals grows k.stored.dict;
       names_are = are;
     }) k.marked
@@ -201,7 +203,8 @@ put_idle m store dict x v put is_dict idle =
         fit = plainly.fit k.stored.readable.fit;
         first = first_on m.store.made store.made plainly k.stored.readable.first;
       };
-      classes = classes_stay m.exceptions m.store.made store.made grows k.stored.classes;
+      truths = truths_stay m.store.made store.made grows k.stored.truths;
+      classes = classes_grown m.exceptions m.store.made store.made grows k.stored.classes;
       dict = dict_grown m.store.made store.made m.globals grows k.stored.dict;
       names_are = λ y. k.stored.names_are y ∙ sym (declared_stays m.store.made store.made y plainly);
     }) (put_marked m.store store (length m.events) dict x v put) (runnable_on m.codes m.store.made store.made plainly k.runnable)

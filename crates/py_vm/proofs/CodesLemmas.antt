@@ -1,46 +1,56 @@
--- Codes of instructions that ask only what the machine answers.
-use Rattle.std.proofs.Common.{◌≡◌, ◌∙◌, ℕ, true, false, refl, sym}
-use Rattle.std.specs.Prelude.{Bool, Some, slice_get}
+-- Codes of units that ask only what the machine answers.
+use Rattle.std.proofs.Common.{◌≡◌, ◌≢◌, ◌∙◌, ℕ, true, false, refl, sym}
+use Rattle.std.specs.Prelude.{Bool, Option, Some, slice_get}
 use Rattle.py_code.specs.declared.code.PyCode.{PyCode}
 use Rattle.py_code.specs.declared.instruction.Instruction.{Instruction}
 use Rattle.py_code.specs.declared.instruction.Instruction.TheVariants.{LoadFast, DeleteFast, LoadGlobal, BinaryOperation, CompareOperation, TestOperation, CallFunctionPositional, PrintExpr, JumpIfTrue, JumpIfFalse, SetupWith, WithCleanupStart, WithCleanupFinish, Raise, SetupExcept, SetupFinally, YieldValue}
+use Rattle.py_code.specs.declared.operator.RaiseKind.{RaiseKind}
+use Rattle.py_code.specs.declared.operator.RaiseKind.TheVariants as raise
 use Rattle.py_code.specs.declared.unit.CodeUnit.{CodeUnit}
 use Rattle.py_objects.specs.declared.request.Request.{Request}
 use Rattle.py_objects.specs.declared.request.Request.TheVariants as request
-use Rattle.py_rows.specs.Questions.{may_ask}
+use Rattle.py_rows.specs.Questions.{raise_of, may_raise, may_ask}
 use Rattle.py_vm.specs.Codes.{is_answered, is_later, CodeIsAnswered}
 
-module _ (is_used : Instruction → Bool) (no_test : is_used TestOperation ≡ false) (no_with : is_used SetupWith ≡ false) (no_exit : is_used WithCleanupStart ≡ false)
-    (no_raise : is_used Raise ≡ false) (no_except : is_used SetupExcept ≡ false) (no_finally : is_used SetupFinally ≡ false) (no_yield : is_used YieldValue ≡ false) where
-  -- an instruction that is used isn't one that isn't
-  never : (op : Instruction) → is_used op ≡ false → is_used op ≡ true → ⊥
-  never op unused used = absurd (let clash : true ≡ false = sym used ∙ unused in cc clash)
+-- what a raise asks that has no cause
+raise_answered : (k : Option RaiseKind) (q : Request) → k ≢ Some raise.RaiseCause → may_raise k q ≡ true → is_answered q ≡ true
+raise_answered (Some raise.Reraise) request.Handled plain asks = refl
+raise_answered (Some raise.Raise) (request.Raisable v) plain asks = refl
+raise_answered (Some raise.RaiseCause) q plain asks = absurd (plain refl)
+raise_answered _ _ plain asks = absurd (cc asks)
 
-  -- what an instruction asks that is used the machine answers
-  op_answered : (op : Instruction) → is_used op ≡ true → (q : Request) → may_ask op q ≡ true → is_answered q ≡ true
-  op_answered LoadFast used (request.Unbound x) asks = refl
-  op_answered DeleteFast used (request.Unbound x) asks = refl
-  op_answered LoadGlobal used (request.Global globals x) asks = refl
-  op_answered BinaryOperation used (request.Binary op a b) asks = asks
-  op_answered CompareOperation used (request.Compare op a b) asks = asks
-  op_answered CallFunctionPositional used (request.Call f vs named) asks = asks
-  op_answered PrintExpr used (request.Show v) asks = refl
-  op_answered JumpIfTrue used (request.Truth v) asks = refl
-  op_answered JumpIfFalse used (request.Truth v) asks = refl
-  op_answered WithCleanupFinish used (request.Truth v) asks = refl
-  op_answered TestOperation used q asks = absurd (never TestOperation no_test used)
-  op_answered SetupWith used q asks = absurd (never SetupWith no_with used)
-  op_answered WithCleanupStart used q asks = absurd (never WithCleanupStart no_exit used)
-  op_answered Raise used q asks = absurd (never Raise no_raise used)
-  op_answered _ used _ asks = absurd (cc asks)
+module _ (is_used : Instruction → ℕ → Bool) (no_test : (arg : ℕ) → is_used TestOperation arg ≡ false) (no_with : (arg : ℕ) → is_used SetupWith arg ≡ false) (no_exit : (arg : ℕ) → is_used WithCleanupStart arg ≡ false)
+    (no_except : (arg : ℕ) → is_used SetupExcept arg ≡ false) (no_finally : (arg : ℕ) → is_used SetupFinally arg ≡ false) (no_yield : (arg : ℕ) → is_used YieldValue arg ≡ false)
+    (no_cause : (arg : ℕ) → is_used Raise arg ≡ true → raise_of arg ≢ Some raise.RaiseCause) where
+  -- a unit that is used isn't one that isn't
+  never : (op : Instruction) (arg : ℕ) → is_used op arg ≡ false → is_used op arg ≡ true → ⊥
+  never op arg unused used = absurd (let clash : true ≡ false = sym used ∙ unused in cc clash)
 
-  -- and it runs such an instruction
-  op_runs : (op : Instruction) → is_used op ≡ true → is_later op ≡ false
-  op_runs SetupExcept used = absurd (never SetupExcept no_except used)
-  op_runs SetupFinally used = absurd (never SetupFinally no_finally used)
-  op_runs YieldValue used = absurd (never YieldValue no_yield used)
-  op_runs _ used = refl
+  -- what a unit asks that is used the machine answers
+  unit_answered : (op : Instruction) (arg : ℕ) → is_used op arg ≡ true → (q : Request) → may_ask op arg q ≡ true → is_answered q ≡ true
+  unit_answered LoadFast arg used (request.Unbound x) asks = refl
+  unit_answered DeleteFast arg used (request.Unbound x) asks = refl
+  unit_answered LoadGlobal arg used (request.Global globals x) asks = refl
+  unit_answered BinaryOperation arg used (request.Binary op a b) asks = asks
+  unit_answered CompareOperation arg used (request.Compare op a b) asks = asks
+  unit_answered CallFunctionPositional arg used (request.Call f vs named) asks = asks
+  unit_answered PrintExpr arg used (request.Show v) asks = refl
+  unit_answered JumpIfTrue arg used (request.Truth v) asks = refl
+  unit_answered JumpIfFalse arg used (request.Truth v) asks = refl
+  unit_answered WithCleanupFinish arg used (request.Truth v) asks = refl
+  unit_answered TestOperation arg used q asks = absurd (never TestOperation arg (no_test arg) used)
+  unit_answered SetupWith arg used q asks = absurd (never SetupWith arg (no_with arg) used)
+  unit_answered WithCleanupStart arg used q asks = absurd (never WithCleanupStart arg (no_exit arg) used)
+  unit_answered Raise arg used q asks = raise_answered (raise_of arg) q (no_cause arg used) asks
+  unit_answered _ arg used _ asks = absurd (cc asks)
 
-  -- so are all questions of a code whose units are all of such instructions
-  pub code_answered : (code : PyCode) → ((at : ℕ) (u : CodeUnit) → slice_get code.code.instructions.items at ≡ Some u → is_used u.op ≡ true) → CodeIsAnswered code
-  code_answered code uses = λ at u here. (op_answered u.op (uses at u here), op_runs u.op (uses at u here))
+  -- and it runs such a unit
+  unit_runs : (op : Instruction) (arg : ℕ) → is_used op arg ≡ true → is_later op ≡ false
+  unit_runs SetupExcept arg used = absurd (never SetupExcept arg (no_except arg) used)
+  unit_runs SetupFinally arg used = absurd (never SetupFinally arg (no_finally arg) used)
+  unit_runs YieldValue arg used = absurd (never YieldValue arg (no_yield arg) used)
+  unit_runs _ arg used = refl
+
+  -- so are all questions of a code whose units are all such
+  pub code_answered : (code : PyCode) → ((at : ℕ) (u : CodeUnit) → slice_get code.code.instructions.items at ≡ Some u → is_used u.op u.arg ≡ true) → CodeIsAnswered code
+  code_answered code uses = λ at u here. (unit_answered u.op u.arg (uses at u here), unit_runs u.op u.arg (uses at u here))

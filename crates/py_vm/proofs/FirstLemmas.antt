@@ -1,62 +1,101 @@
 -- What a machine begins with.
-use Rattle.std.proofs.Common.{◌≡◌, ◌++◌, ℕ, zero, suc, List, [], ◌∷◌, Some, map, refl, sym, ap, subst, ◌∙◌, length, arith}
-use Rattle.std.specs.Prelude.{None, slice_get}
+use Rattle.std.proofs.Common.{◌≡◌, ◌<◌, ◌≤◌, ◌+◌, ◌++◌, ℕ, zero, suc, List, [], ◌∷◌, true, false, Some, inl, inr, refl, sym, ap, subst, ◌∙◌, length, append_assoc, arith}
+use Rattle.std.specs.Prelude.{Option, None, slice_get, option_map}
+use Rattle.std.proofs.lemmas.Option.{slice_get-map}
 use Rattle.py_objects.specs.declared.payload.Payload.{Payload}
 use Rattle.py_objects.specs.declared.payload.Payload.TheVariants as payload
-use Rattle.py_objects.specs.declared.payload.ErrorKind.TheVariants.{NameError, OverflowError, RecursionError, TypeError, UnboundLocalError}
-use Rattle.py_objects.specs.Objects.{Obj, Name, HasPayload, declared, error_kinds, payload_numbers, AllBelow, IsMade, AllFit}
+use Rattle.py_objects.specs.declared.error_kind.ErrorKind.{ErrorKind}
+use Rattle.py_objects.specs.ErrorKinds.{error_kinds, place_of}
+use Rattle.py_objects.specs.Objects.{Obj, Name, HasPayload, declared, declares, payload_numbers, AllBelow, IsMade, AllFit}
 use Rattle.py_objects.specs.AttrEntries.{value_of}
 use Rattle.py_objects.specs.Own.{own_events}
 use Rattle.py_objects.specs.Edits.{Kept}
 use Rattle.py_vm.specs.declared.stage.Stage.TheVariants as stage
+use Rattle.py_exceptions.specs.declared.zoo.ExceptionZoo.{ExceptionZoo}
 use Rattle.py_vm.specs.declared.machinery.Core.{Core}
 use Rattle.py_run.specs.Run.{State, start, state_after}
-use Rattle.py_exceptions.specs.Classes.{class_payload, first_classes, first_declarations, HaveClasses}
-use Rattle.py_vm.specs.First.{first_objects}
+use Rattle.py_exceptions.specs.Classes.{class_of, class_payload, class_payloads, declarations_of, first_classes, DeclareNothing, HaveClasses}
+use Rattle.py_exceptions.proofs.ClassesLemmas.{classes_there, mro_there, mro_below, value_declared}
+use Rattle.py_objects.proofs.ErrorKindsLemmas.{place_at, place_below}
+use Rattle.py_objects.proofs.GrowthLemmas.{below_more, slice_get_split, one_entry}
+use Rattle.py_vm.specs.First.{first_objects, first_globals, singletons, HaveTruths}
+use Rattle.py_vm.specs.Machine.{Machine, new_machine}
 use Rattle.py_vm.specs.Holds.{IsCoded}
 use Rattle.py_answers.specs.Readable.{AreFirst}
-use Rattle.py_vm.specs.Stands.{AreCallers, AreApart, AtStage, phase_of, acts_of, frames_at, slot_at, IsIdle}
+use Rattle.py_vm.specs.Stands.{AreCallers, AreApart, AtStage, phase_of, acts_of, frames_at, slot_at, IsIdle, seen}
 use Rattle.py_run.proofs.OwnLemmas.{own_events-nil}
 use Rattle.py_objects.proofs.GrownLemmas.{added_made}
 use Rattle.py_objects.specs.Growth.{with_object}
 use Rattle.py_objects.proofs.NewLemmas.{added_has}
 
+-- what holds of each of the first objects at its place: of what every store begins with, of the class of each kind, and of an empty dict
+pub each_first : (P : ℕ → Payload → Type 0) → ((i : ℕ) (p : Payload) → slice_get singletons i ≡ Some p → P i p)
+    → ((kind : ErrorKind) → P (class_of first_classes kind).number (class_payload first_classes kind)) → ((i : ℕ) → P i (payload.Dict []))
+    → (i : ℕ) (p : Payload) → slice_get first_objects i ≡ Some p → P i p
+each_first P single class dict zero p is = single 0 p is
+each_first P single class dict (suc zero) p is = single 1 p is
+each_first P single class dict (suc (suc zero)) p is = single 2 p is
+each_first P single class dict (suc (suc (suc i))) p is =
+    let place : 3 + i ≡ suc (suc (suc i)) = omega arith in
+    subst (λ n. P n p) place
+    (elim (slice_get_split (class_payloads first_classes) (payload.Dict [] ∷ []) i p is) [
+      | inl front ↦ at_class (slice_get error_kinds i) refl (sym (slice_get-map (class_payload first_classes) error_kinds i) ∙ front)
+      | inr back ↦ subst (P (3 + i)) (one_entry (payload.Dict []) p _ back) (dict (3 + i))
+    ])
+  where
+    at_class : (kind : Option ErrorKind) → slice_get error_kinds i ≡ kind → option_map (class_payload first_classes) kind ≡ Some p → P (3 + i) p
+    at_class None at of = absurd (cc of)
+    at_class (Some kind) at of =
+        let same : class_payload first_classes kind ≡ p = cc in
+        let place : 3 + place_of kind ≡ 3 + i = ap (λ n. 3 + n) (place_at i kind at) in
+        subst (P (3 + i)) same (subst (λ n. P n (class_payload first_classes kind)) place (class kind))
+
+-- None, False and True declare nothing
+pub singles_plain : DeclareNothing singletons
+singles_plain zero p is = ap declares (let same : p ≡ payload.None = cc in same)
+singles_plain (suc zero) p is = ap declares (let same : p ≡ payload.Bool false = cc in same)
+singles_plain (suc (suc zero)) p is = ap declares (let same : p ≡ payload.Bool true = cc in same)
+singles_plain (suc (suc (suc i))) p is = absurd (cc is)
+
+first_truths : HaveTruths first_objects
+first_truths false = refl
+first_truths true = refl
+
 -- an entry among the first objects fits
-abbrev FitsFirst : Payload → Type 0
-FitsFirst p = AllBelow (length first_objects) (payload_numbers p) × IsMade first_objects p
+abbrev FitsFirst : ℕ → Payload → Type 0
+FitsFirst i p = AllBelow (length first_objects) (payload_numbers p) × IsMade first_objects p
+
+single_fits : (i : ℕ) (p : Payload) → slice_get singletons i ≡ Some p → FitsFirst i p
+single_fits zero p is = subst (FitsFirst 0) (let same : payload.None ≡ p = cc in same) (tt, tt)
+single_fits (suc zero) p is = subst (FitsFirst 1) (let same : payload.Bool false ≡ p = cc in same) (tt, tt)
+single_fits (suc (suc zero)) p is = subst (FitsFirst 2) (let same : payload.Bool true ≡ p = cc in same) (tt, tt)
+single_fits (suc (suc (suc i))) p is = absurd (cc is)
+
+class_fits : (kind : ErrorKind) → FitsFirst (class_of first_classes kind).number (class_payload first_classes kind)
+class_fits kind =
+    let low : place_of kind < length error_kinds = place_below kind in
+    (below_more _ _ _ (let more : 3 + place_of kind ≤ length first_objects = omega (arith, low) in more) (mro_below first_classes kind), mro_there first_classes singletons (payload.Dict [] ∷ []) refl singles_plain kind)
 
 -- the objects that a machine begins with fit
-first_fit : AllFit first_objects
-first_fit zero p is = subst FitsFirst (let same : payload.None ≡ p = cc in same) (tt, tt)
-first_fit (suc zero) p is = subst FitsFirst (let same : class_payload NameError ≡ p = cc in same) (tt, tt)
-first_fit (suc (suc zero)) p is = subst FitsFirst (let same : class_payload OverflowError ≡ p = cc in same) (tt, tt)
-first_fit (suc (suc (suc zero))) p is = subst FitsFirst (let same : class_payload RecursionError ≡ p = cc in same) (tt, tt)
-first_fit (suc (suc (suc (suc zero)))) p is = subst FitsFirst (let same : class_payload TypeError ≡ p = cc in same) (tt, tt)
-first_fit (suc (suc (suc (suc (suc zero))))) p is = subst FitsFirst (let same : class_payload UnboundLocalError ≡ p = cc in same) (tt, tt)
-first_fit (suc (suc (suc (suc (suc (suc zero)))))) p is = subst FitsFirst (let same : payload.Dict [] ≡ p = cc in same) (tt, tt)
-first_fit (suc (suc (suc (suc (suc (suc (suc i))))))) p is = absurd (cc is)
+pub first_fit : AllFit first_objects
+first_fit i p is = each_first FitsFirst single_fits class_fits (λ n. (tt, tt)) i p is
 
-first_have : HaveClasses first_classes first_objects
-first_have NameError = (refl, refl)
-first_have OverflowError = (refl, refl)
-first_have RecursionError = (refl, refl)
-first_have TypeError = (refl, refl)
-first_have UnboundLocalError = (refl, refl)
+pub first_have : HaveClasses first_classes first_objects
+first_have = classes_there first_classes singletons (payload.Dict [] ∷ []) refl singles_plain
 
 -- the names that a machine begins with
-first_declared : (x : Name) → value_of x first_declarations ≡ declared first_objects x
-first_declared x = refl
+first_declared : (x : Name) → value_of x (declarations_of first_classes) ≡ declared first_objects x
+first_declared x = value_declared first_classes x (payload.Dict [] ∷ []) (λ j. refl)
 
 -- none of them names a code
 first_coded : (i : ℕ) (p : Payload) → slice_get first_objects i ≡ Some p → IsCoded 0 p
-first_coded zero p is = subst (IsCoded 0) (let same : payload.None ≡ p = cc in same) tt
-first_coded (suc zero) p is = subst (IsCoded 0) (let same : class_payload NameError ≡ p = cc in same) tt
-first_coded (suc (suc zero)) p is = subst (IsCoded 0) (let same : class_payload OverflowError ≡ p = cc in same) tt
-first_coded (suc (suc (suc zero))) p is = subst (IsCoded 0) (let same : class_payload RecursionError ≡ p = cc in same) tt
-first_coded (suc (suc (suc (suc zero)))) p is = subst (IsCoded 0) (let same : class_payload TypeError ≡ p = cc in same) tt
-first_coded (suc (suc (suc (suc (suc zero))))) p is = subst (IsCoded 0) (let same : class_payload UnboundLocalError ≡ p = cc in same) tt
-first_coded (suc (suc (suc (suc (suc (suc zero)))))) p is = subst (IsCoded 0) (let same : payload.Dict [] ≡ p = cc in same) tt
-first_coded (suc (suc (suc (suc (suc (suc (suc i))))))) p is = absurd (cc is)
+first_coded i p is = each_first (λ n. IsCoded 0) single_coded (λ kind. tt) (λ n. tt) i p is
+  where
+    single_coded : (j : ℕ) (q : Payload) → slice_get singletons j ≡ Some q → IsCoded 0 q
+    single_coded zero q at = subst (IsCoded 0) (let same : payload.None ≡ q = cc in same) tt
+    single_coded (suc zero) q at = subst (IsCoded 0) (let same : payload.Bool false ≡ q = cc in same) tt
+    single_coded (suc (suc zero)) q at = subst (IsCoded 0) (let same : payload.Bool true ≡ q = cc in same) tt
+    single_coded (suc (suc (suc j))) q at = absurd (cc at)
 
 -- each class among them is the first of its name
 abbrev IsFirstAt : ℕ → Payload → Type 0
@@ -64,17 +103,41 @@ IsFirstAt n (payload.Class b) = declared first_objects b.name ≡ Some (record {
 IsFirstAt n _ = Unit {0}
 
 are_first_at : (i : ℕ) (p : Payload) → slice_get first_objects i ≡ Some p → IsFirstAt i p
-are_first_at zero p is = subst (IsFirstAt 0) (let same : payload.None ≡ p = cc in same) tt
-are_first_at (suc zero) p is = subst (IsFirstAt 1) (let same : class_payload NameError ≡ p = cc in same) refl
-are_first_at (suc (suc zero)) p is = subst (IsFirstAt 2) (let same : class_payload OverflowError ≡ p = cc in same) refl
-are_first_at (suc (suc (suc zero))) p is = subst (IsFirstAt 3) (let same : class_payload RecursionError ≡ p = cc in same) refl
-are_first_at (suc (suc (suc (suc zero)))) p is = subst (IsFirstAt 4) (let same : class_payload TypeError ≡ p = cc in same) refl
-are_first_at (suc (suc (suc (suc (suc zero))))) p is = subst (IsFirstAt 5) (let same : class_payload UnboundLocalError ≡ p = cc in same) refl
-are_first_at (suc (suc (suc (suc (suc (suc zero)))))) p is = subst (IsFirstAt 6) (let same : payload.Dict [] ≡ p = cc in same) tt
-are_first_at (suc (suc (suc (suc (suc (suc (suc i))))))) p is = absurd (cc is)
+are_first_at i p is = each_first IsFirstAt single_first (λ kind. (first_have kind).is_declared) (λ n. tt) i p is
+  where
+    single_first : (j : ℕ) (q : Payload) → slice_get singletons j ≡ Some q → IsFirstAt j q
+    single_first zero q at = subst (IsFirstAt 0) (let same : payload.None ≡ q = cc in same) tt
+    single_first (suc zero) q at = subst (IsFirstAt 1) (let same : payload.Bool false ≡ q = cc in same) tt
+    single_first (suc (suc zero)) q at = subst (IsFirstAt 2) (let same : payload.Bool true ≡ q = cc in same) tt
+    single_first (suc (suc (suc j))) q at = absurd (cc at)
 
 first_first : AreFirst first_objects
 first_first c b here = are_first_at c.number (payload.Class b) here
+
+-- a store of None, False and True
+pub singles_begin : (s0 s1 s2 : Kept) → s0.made ≡ payload.None ∷ [] → s1 ≡ with_object s0 (payload.Bool false) → s2 ≡ with_object s1 (payload.Bool true) → s2.made ≡ singletons
+singles_begin s0 s1 s2 none is_no is_yes =
+    added_made s1 s2 (payload.Bool true) is_yes ∙ ap (λ os. os ++ payload.Bool true ∷ []) (added_made s0 s1 (payload.Bool false) is_no)
+    ∙ ap (λ os. (os ++ payload.Bool false ∷ []) ++ payload.Bool true ∷ []) none
+
+-- and of the classes behind them, which is as unchanged as the one that had None alone
+pub record ClassesBegin (s0 s3 : Kept) (zoo : ExceptionZoo) : Type 0 where
+  pub classes : zoo ≡ first_classes
+  pub made : s3.made ≡ singletons ++ class_payloads first_classes
+  pub changes : s3.changes ≡ s0.changes
+  pub mark : s3.mark ≡ s0.mark
+
+pub classes_begin : (s0 s1 s2 s3 : Kept) (zoo : ExceptionZoo) → s0.made ≡ payload.None ∷ [] → s1 ≡ with_object s0 (payload.Bool false) → s2 ≡ with_object s1 (payload.Bool true)
+    → zoo.first ≡ length s2.made → s3 ≡ record s2 { made = s2.made ++ class_payloads zoo } → ClassesBegin s0 s3 zoo
+classes_begin s0 s1 s2 s3 zoo none is_no is_yes first added =
+    let made : s2.made ≡ singletons = singles_begin s0 s1 s2 none is_no is_yes in
+    let same : zoo ≡ first_classes = ap (λ n. let z : ExceptionZoo = record { first = n } in z) (first ∙ ap length made) in
+    record {
+      classes = same;
+      made = ap (λ (s : Kept). s.made) added ∙ ap (λ os. os ++ class_payloads zoo) made ∙ ap (λ z. singletons ++ class_payloads z) same;
+      changes = ap (λ (s : Kept). s.changes) added ∙ ap (λ (s : Kept). s.changes) is_yes ∙ ap (λ (s : Kept). s.changes) is_no;
+      mark = ap (λ (s : Kept). s.mark) added ∙ ap (λ (s : Kept). s.mark) is_yes ∙ ap (λ (s : Kept). s.mark) is_no;
+    }
 
 -- the store that a machine begins with, and the dict of its globals
 pub record Begins (store : Kept) (globals : Obj) : Type 0 where
@@ -84,19 +147,36 @@ pub record Begins (store : Kept) (globals : Obj) : Type 0 where
   pub globals_are : HasPayload store.made globals (payload.Dict [])
 
 -- an empty dict is put behind the classes
-pub dict_begins : (old new : Kept) (pairs : List (Obj × Obj)) (globals : Obj) → old.made ≡ payload.None ∷ map class_payload error_kinds → old.changes ≡ [] → old.mark ≡ 0
+pub dict_begins : (old new : Kept) (pairs : List (Obj × Obj)) (globals : Obj) → old.made ≡ singletons ++ class_payloads first_classes → old.changes ≡ [] → old.mark ≡ 0
     → pairs ≡ [] → new ≡ with_object old (payload.Dict pairs) → globals.number ≡ length old.made → Begins new globals
 dict_begins old new pairs globals made unchanged mark none added last =
     let all : new ≡ with_object old (payload.Dict []) = added ∙ ap (λ ps. with_object old (payload.Dict ps)) none in
     record {
-      objects = added_made old new (payload.Dict []) all ∙ ap (λ os. os ++ payload.Dict [] ∷ []) made;
+      objects = added_made old new (payload.Dict []) all ∙ ap (λ os. os ++ payload.Dict [] ∷ []) made ∙ append_assoc singletons (class_payloads first_classes) (payload.Dict [] ∷ []);
       unchanged = ap (λ (s : Kept). s.changes) all ∙ unchanged;
       mark = ap (λ (s : Kept). s.mark) all ∙ mark;
       globals_are = added_has old new (payload.Dict []) globals all last;
     }
 
+-- that dict is the one behind the classes
+pub dict_last : (old : Kept) (globals : Obj) → old.made ≡ singletons ++ class_payloads first_classes → globals.number ≡ length old.made → globals ≡ first_globals
+dict_last old globals made last =
+    let long : length (singletons ++ class_payloads first_classes) ≡ 70 = refl in
+    ap (λ n. let v : Obj = record { number = n } in v) (last ∙ ap length made ∙ long)
+
+-- a machine that has done nothing, as callers see it
+pub seen_first : (m : Core) (names : List Name) → m.store.made ≡ first_objects → m.store.changes ≡ [] → m.codes ≡ record { names = names; codes = [] } → m.globals ≡ first_globals → m.events ≡ [] → m.frames ≡ []
+    → seen m ≡ record (new_machine names) { entered = m.entered; failed = m.failed; state = m.state }
+seen_first m names objects unchanged codes globals no_events no_frames =
+    ap (λ x. let n : Machine = record (seen m) { objects = x } in n) objects
+    ∙ ap (λ x. let n : Machine = record (seen m) { objects = first_objects; changes = x } in n) unchanged
+    ∙ ap (λ x. let n : Machine = record (seen m) { objects = first_objects; changes = []; checked = x } in n) codes
+    ∙ ap (λ x. let n : Machine = record (seen m) { objects = first_objects; changes = []; checked = record { names = names; codes = [] }; globals = x } in n) globals
+    ∙ ap (λ x. let n : Machine = record (new_machine names) { events = x; frames = m.frames; entered = m.entered; failed = m.failed; state = m.state } in n) no_events
+    ∙ ap (λ x. let n : Machine = record (new_machine names) { frames = x; entered = m.entered; failed = m.failed; state = m.state } in n) no_frames
+
 -- a machine that has done nothing is between drives
-pub start_idle : (m : Core) → m.events ≡ [] → Begins m.store m.globals → m.codes.codes ≡ [] → m.exceptions ≡ first_classes → m.declarations ≡ first_declarations → m.done ≡ 0 → m.made ≡ 0
+pub start_idle : (m : Core) → m.events ≡ [] → Begins m.store m.globals → m.codes.codes ≡ [] → m.exceptions ≡ first_classes → m.declarations ≡ declarations_of first_classes → m.done ≡ 0 → m.made ≡ 0
     → m.callers ≡ [] → m.frames ≡ [] → m.slot ≡ None → m.stage ≡ stage.Idle → IsIdle m
 start_idle m no_events begins no_codes classes names none_done none_made no_callers no_frames empty idle =
     let fit : AllFit m.store.made = subst AllFit (sym begins.objects) first_fit in
@@ -115,6 +195,7 @@ start_idle m no_events begins no_codes classes names none_done none_made no_call
             fit = fit;
             first = subst AreFirst (sym begins.objects) first_first;
           };
+          truths = subst HaveTruths (sym begins.objects) first_truths;
           classes = subst (λ zoo. HaveClasses zoo m.store.made) (sym classes) (subst (HaveClasses first_classes) (sym begins.objects) first_have);
           dict = ([], begins.globals_are);
           names_are = λ x. ap (value_of x) names ∙ first_declared x ∙ ap (λ os. declared os x) (sym begins.objects);

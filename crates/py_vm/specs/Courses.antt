@@ -1,6 +1,7 @@
 -- What the machine promises of calls: the course that the code makes is one that the definitions have.
-use Rattle.std.specs.Prelude.{ℕ, Some, None, List, ◌≡◌, map}
+use Rattle.std.specs.Prelude.{ℕ, Option, Some, None, List, ◌≡◌, map}
 use Rattle.py_objects.specs.declared.payload.Payload.{Payload}
+use Rattle.py_objects.specs.declared.refs.PyBaseExceptionRef.{PyBaseExceptionRef}
 use Rattle.py_code.specs.declared.names.NameId.{NameId}
 use Rattle.py_rows.specs.Asked.{name_in}
 use Rattle.py_rows.specs.Signature.{characters}
@@ -19,9 +20,9 @@ IsCourseOf signatures depth objects f vs (course.Says reply) = Calls signatures 
 IsCourseOf signatures depth objects f vs (course.Enters g ws) = Calls signatures depth objects f vs Enters × (g ≡ f) × (ws ≡ vs)
 
 -- a course that was made for a request
-abbrev pub IsCourse : List Signature → ℕ → List Payload → Request → MadeCourse → Type 0
-IsCourse signatures depth objects r (course.Says reply) = ComesTo signatures depth objects r (Says (reply_of reply)) × IsSized reply × IsThere objects (reply_of reply)
-IsCourse signatures depth objects r (course.Enters g ws) = (r ≡ request.Call g ws keywords.None) × Calls signatures depth objects g ws Enters
+abbrev pub IsCourse : List Signature → ℕ → Option PyBaseExceptionRef → List Payload → Request → MadeCourse → Type 0
+IsCourse signatures depth handled objects r (course.Says reply) = ComesTo signatures depth handled objects r (Says (reply_of reply)) × IsSized reply × IsThere objects (reply_of reply)
+IsCourse signatures depth handled objects r (course.Enters g ws) = (r ≡ request.Call g ws keywords.None) × Calls signatures depth objects g ws Enters
 
 -- a course that was made for what a call comes to: what it says is the reply, and what it enters is this object with these arguments
 abbrev pub IsCourseBy : Course → Obj → List Obj → MadeCourse → Type 0

@@ -1,9 +1,11 @@
 //! What a frame is handed for a reply: a value, or the raise of a new exception.
 
-ghost use Rattle.std.specs.Prelude.{IfOk};
+ghost use Rattle.std.specs.Prelude.{◌≡◌, IfOk};
+ghost use Rattle.py_objects.specs.Objects.{AllFit};
 ghost use Rattle.py_objects.specs.Growth.{IsGrown};
 ghost use Rattle.py_exceptions.specs.Classes.{HaveClasses};
 ghost use Rattle.py_answers.specs.Replying.{reply_of, IsSized, IsThere};
+ghost use Rattle.py_vm.specs.First.{truth_object, HaveTruths};
 ghost use Rattle.py_vm.specs.Turns.{IsGiven};
 
 use py_answers::Reply;
@@ -13,7 +15,7 @@ use py_frame::Answer;
 use py_objects::{Payload, PyObjectRef, Store};
 use std::alloc::Global;
 
-/// The answer that gives a reply. The objects that it needs are new.
+/// The answer that gives a reply. The objects that it needs are new, but for `None`, `True` and `False`.
 pub(crate) fn give(
     alloc: Global,
     store: &mut Store,
@@ -21,6 +23,8 @@ pub(crate) fn give(
     reply: Reply,
 ) -> Result<Answer, NoMemory>
     requires classes { HaveClasses exceptions store.old.made }
+    requires truths { HaveTruths store.old.made }
+    requires fit { AllFit store.old.made }
     requires sized { IsSized reply }
     requires there { IsThere store.old.made (reply_of reply) }
     ensures grows { IsGrown store.old store.new }
@@ -28,7 +32,7 @@ pub(crate) fn give(
 {
     match reply {
         Reply::None => Ok(Answer::Value(store.none())),
-        Reply::Bool(flag) => Ok(Answer::Value(store.add(Payload::Bool(flag))?)),
+        Reply::Bool(flag) => Ok(Answer::Value(truth(flag))),
         Reply::Is(object) => Ok(Answer::Value(object)),
         Reply::Int(number) => Ok(Answer::Value(store.add(Payload::Int(number))?)),
         Reply::Str(text) => Ok(Answer::Value(store.add(Payload::Str(text))?)),
@@ -42,5 +46,15 @@ pub(crate) fn give(
             let exception = new_exception(alloc, store, exceptions.class(kind), text)?;
             Ok(Answer::Fresh(exception))
         }
+    }
+}
+
+/// `True` or `False`, as a machine makes them behind `None`.
+fn truth(value: bool) -> PyObjectRef
+    ensures { result ≡ truth_object value }
+{
+    match value {
+        false => PyObjectRef { number: 1 },
+        true => PyObjectRef { number: 2 },
     }
 }

@@ -1,5 +1,6 @@
 use Rattle.std.proofs.Common.{◌≡◌, ◌∙◌, ◌<◌, Some, sym, ap, subst, length}
 use Rattle.py_objects.specs.declared.refs.PyTypeRef.{PyTypeRef}
+use Rattle.py_objects.specs.declared.payload.ExceptionBody.{ExceptionBody}
 use Rattle.py_objects.specs.declared.payload.Payload.TheVariants as payload
 use Rattle.py_objects.specs.Objects.{class_object}
 use Rattle.py_frame.proofs.ObjectsLemmas.{class_of, class_found, is_exception}
@@ -16,6 +17,7 @@ returns c =
     let (e, has) = c.requires.there in
     let found : Some c.in-Exception.body.class ≡ Some e.class =
     sym (ap class_of c.in-Exception.is) ∙ class_found c.args.store.now.made c.args.store.now.changes c.args.exception e _ has c.get.ensures.now in
-    let same : c.in-Exception.body.class ≡ e.class = cc in
+    let inside : c.in-Exception.body.class ≡ e.class = cc in
+    let same : c.value.result.now.class ≡ e.class = ap (λ (b : ExceptionBody). b.class) c.value.ensures ∙ inside in
     let below : e.class.number < length c.args.store.now.made = (c.requires.fit c.args.exception.number (payload.Exception e) has).0.0 in
     (e, has, ap class_object same, subst (λ (x : PyTypeRef). x.number < length c.args.store.now.made) (sym same) below)

@@ -2,6 +2,7 @@ use Rattle.std.proofs.Common.{refl, subst, sym}
 use Rattle.py_check.specs.declared.annotated.Annotated.{Annotated}
 use Rattle.py_laid.specs.Fits.{Fits}
 use Rattle.py_laid.specs.Instructions.{UsesUnguarded, is_unguarded}
+use Rattle.py_laid.proofs.Uses.{unguarded_raise}
 use Rattle.py_body.proofs.CodesLemmas.{last_of_each}
 use Rattle.py_grammar.specs.Script.{declared_tree}
 use Rattle.py_vm.specs.Codes.{CodeIsAnswered}
@@ -17,4 +18,4 @@ pub returns-clause-answered : goal.returns-clause-answered
 returns-clause-answered c =
     let uses = λ (code : Annotated). UsesUnguarded code.code in
     subst (λ (code : Annotated). CodeIsAnswered code.code) (sym c.of.ensures)
-    (code_answered is_unguarded refl refl refl refl refl refl refl c.in-Some.code.code (last_of_each uses _ _ _ _ _ c.into_vec.ensures c.pop.ensures.items c.in-Some.is c.in_ok-codes.ensures.uses))
+    (code_answered is_unguarded (λ arg. refl) (λ arg. refl) (λ arg. refl) (λ arg. refl) (λ arg. refl) (λ arg. refl) unguarded_raise c.in-Some.code.code (last_of_each uses _ _ _ _ _ c.into_vec.ensures c.pop.ensures.items c.in-Some.is c.in_ok-codes.ensures.uses))

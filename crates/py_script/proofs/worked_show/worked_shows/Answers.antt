@@ -1,4 +1,5 @@
 use Rattle.py_script.proofs.WorkedShowLemmas.{spelled, any_none, text, no_show_dropped, no_show_twice, no_other_value, no_other_answer, no_other_end, raise_ends, raise_text, no_show_behind_a_raise}
+use Rattle.py_script.specs.Session.{none_object}
 use Rattle.py_script.specs.Worked.{object}
 use Rattle.std.proofs.Common.{refl}
 use Rattle.py_script.proofs.worked_show.worked_shows.Goals as goal
@@ -7,7 +8,7 @@ pub returns-clause-spelled : goal.returns-clause-spelled
 returns-clause-spelled c = spelled
 
 pub returns-clause-is_run : goal.returns-clause-is_run
-returns-clause-is_run c = any_none (object 0) (object 14) refl refl
+returns-clause-is_run c = any_none none_object (object 7) refl refl
 
 pub returns-clause-text : goal.returns-clause-text
 returns-clause-text c = text

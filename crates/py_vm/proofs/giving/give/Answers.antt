@@ -5,6 +5,7 @@ use Rattle.std.proofs.lemmas.Int.{to_z-of_z}
 use Rattle.py_objects.specs.declared.payload.Payload.TheVariants as payload
 use Rattle.py_objects.proofs.GrownLemmas.{still_grown, added_grown}
 use Rattle.py_objects.specs.Growth.{with_object}
+use Rattle.py_vm.specs.First.{truth_object}
 use Rattle.py_vm.proofs.GivingLemmas.{there_given, itself_given, value_given, raise_given, instance_given}
 use Rattle.py_exceptions.proofs.MakingLemmas.{text_grows, built_in_class}
 use Rattle.py_vm.proofs.giving.give.Goals as goal
@@ -12,15 +13,8 @@ use Rattle.py_vm.proofs.giving.give.Goals as goal
 pub returns-in-None-clause-given : goal.returns-in-None-clause-given
 returns-in-None-clause-given c = rw c.in-None.is (there_given c.args.store.now.made payload.None c.none.result c.none.ensures)
 
-pub returns-in_err-add-in-Bool-clause-grows : goal.returns-in_err-add-in-Bool-clause-grows
-returns-in_err-add-in-Bool-clause-grows c = still_grown _ _ c.in_err-add-in-Bool.ensures.err
-
-pub returns-in_ok-add-in-Bool-clause-grows : goal.returns-in_ok-add-in-Bool-clause-grows
-returns-in_ok-add-in-Bool-clause-grows c = added_grown _ _ _ c.in_ok-add-in-Bool.ensures.added refl (λ fit. tt) (λ fit. tt)
-
-pub returns-in_ok-add-in-Bool-clause-given : goal.returns-in_ok-add-in-Bool-clause-given
-returns-in_ok-add-in-Bool-clause-given c =
-    rw c.in-Bool.is (value_given _ _ _ _ c.in_ok-add-in-Bool.ensures.added c.in_ok-add-in-Bool.ensures.number)
+pub returns-in-Bool-clause-given : goal.returns-in-Bool-clause-given
+returns-in-Bool-clause-given c = rw c.in-Bool.is (rw c.truth.ensures (there_given c.args.store.now.made (payload.Bool c.in-Bool.flag) (truth_object c.in-Bool.flag) (c.requires.truths c.in-Bool.flag)))
 
 pub returns-in-Is-clause-given : goal.returns-in-Is-clause-given
 returns-in-Is-clause-given c = rw c.in-Is.is (itself_given c.args.store.now.made c.in-Is.object (rw c.in-Is.is at c.requires.there))
@@ -58,4 +52,7 @@ returns-in_ok-exception-in-Fails-clause-given c =
 pub returns-in_ok-exception-in-Makes-clause-given :
     goal.returns-in_ok-exception-in-Makes-clause-given
 returns-in_ok-exception-in-Makes-clause-given c =
-    rw c.in-Makes.is (instance_given c.args.store.now.made c.make_exception.new.store.made c.in-Makes.class c.in-Makes.args c.in_ok-exception-in-Makes.exception c.in_ok-exception-in-Makes.ensures.grows.objects c.in_ok-exception-in-Makes.ensures.made)
+    let there = rw c.in-Makes.is at c.requires.there in
+    rw c.in-Makes.is
+    (instance_given c.args.store.now.made c.make_exception.new.store.made c.in-Makes.class c.in-Makes.args c.in_ok-exception-in-Makes.exception
+    c.requires.fit there.0 c.in_ok-exception-in-Makes.ensures.grows.objects c.in_ok-exception-in-Makes.ensures.made)

@@ -4,6 +4,7 @@ use Rattle.py_rows.specs.Sound.{AreNames}
 use Rattle.py_tree.specs.Views.{tree_of}
 use Rattle.py_laid.specs.Fits.{Fits}
 use Rattle.py_laid.specs.Instructions.{UsesUnguarded, is_unguarded}
+use Rattle.py_laid.proofs.Uses.{unguarded_raise}
 use Rattle.py_body.proofs.CodesLemmas.{last_of_each}
 use Rattle.py_vm.specs.Codes.{CodeIsAnswered}
 use Rattle.py_vm.proofs.CodesLemmas.{code_answered}
@@ -18,4 +19,4 @@ returns-clause-named c =
 pub returns-clause-answered : goal.returns-clause-answered
 returns-clause-answered c =
     let uses = last_of_each (λ (code : Annotated). UsesUnguarded code.code) _ _ _ _ _ c.into_vec.ensures c.pop.ensures.items c.in-Some.is (c.in_ok-codes.ensures.uses c.requires.unguarded) in
-    subst (λ (code : Annotated). CodeIsAnswered code.code) (sym c.of.ensures) (code_answered is_unguarded refl refl refl refl refl refl refl c.in-Some.code.code uses)
+    subst (λ (code : Annotated). CodeIsAnswered code.code) (sym c.of.ensures) (code_answered is_unguarded (λ arg. refl) (λ arg. refl) (λ arg. refl) (λ arg. refl) (λ arg. refl) (λ arg. refl) unguarded_raise c.in-Some.code.code uses)

@@ -1,0 +1,2 @@
+-- what holds of the objects of that store
+pub mod ExitLemmas

@@ -1,0 +1,2 @@
+-- the objects of a store that is worked by hand
+pub mod Exit

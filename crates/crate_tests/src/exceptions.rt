@@ -1,0 +1,206 @@
+//! The slots of handled exceptions, and calls on an exception that is made by hand.
+
+ghost use Rattle.std.specs.Prelude.{◌≡◌, ◌<◌, [], ◌∷◌, IfOk};
+ghost use Rattle.py_objects.specs.declared.payload.Payload.TheVariants.{Class};
+ghost use Rattle.crate_tests.specs.Exit.{object, IsExit};
+
+use py_code::{NoMemory, PyText, same_text, text_of};
+use py_exceptions::{
+    CtorFault, ExceptionCtor, ExceptionStack, Instantiate, args, get_arg, is_gen_exit, is_kind,
+};
+use py_objects::{
+    AttrMap, Boxed, ClassBody, ErrorKind, ExceptionBody, ObjList, Payload, PyBaseExceptionRef,
+    PyObjectRef, PyTypeRef, Store,
+};
+use std::alloc::Global;
+use std::test::Fail;
+
+#[test]
+fn the_topmost_exception_is_in_the_first_slot_that_has_one(rt: HostRuntime) -> Result<(), Fail> {
+    let mut stack = ExceptionStack::new(rt.alloc());
+    assert_eq!(rt;
+        (stack.current_exception(), stack.topmost_exception()),
+        (None, None)
+    );
+    let first = Some(PyBaseExceptionRef { number: 7 });
+    stack.set_exception(first);
+    stack.push_exception(None)?;
+    assert_eq!(rt;
+        (stack.current_exception(), stack.topmost_exception()),
+        (None, first)
+    );
+    assert_eq!(rt; stack.pop_exception(), None);
+    assert_eq!(rt; stack.take_exception(), first);
+    assert_eq!(rt;
+        (stack.current_exception(), stack.topmost_exception()),
+        (None, None)
+    );
+    Ok(())
+}
+
+const EXIT: PyBaseExceptionRef = PyBaseExceptionRef { number: 5 };
+
+const EXIT_CLASS: PyTypeRef = PyTypeRef { number: 2 };
+
+const BASE_CLASS: PyTypeRef = PyTypeRef { number: 1 };
+
+fn object(number: u64) -> PyObjectRef
+    ensures { result ≡ object number }
+{
+    PyObjectRef { number }
+}
+
+/// A list of one object.
+fn only(alloc: Global, number: u64) -> Result<ObjList, NoMemory>
+    ensures { IfOk result (λ list. list ≡ object number ∷ []) }
+{
+    let mut list = ObjList::new(alloc);
+    list.push(object(number))?;
+    Ok(list)
+}
+
+fn class(alloc: Global, name: &[u8], mro: ObjList) -> Result<Payload, NoMemory>
+    ensures { IfOk result (λ class. class ≡ Class (record { name = name.now; mro = mro })) }
+{
+    let name = text_of(alloc, name)?;
+    Ok(Payload::Class(Boxed::new(alloc, ClassBody { name, mro })?))
+}
+
+/// A store whose object 5 is a GeneratorExit with 3 for its argument.
+fn store_of_exit(alloc: Global) -> Result<Store, NoMemory>
+    ensures { IfOk result IsExit }
+{
+    let mut store = Store::new(alloc)?;
+    store.add(class(alloc, b"BaseException", ObjList::new(alloc))?)?;
+    store.add(class(alloc, b"GeneratorExit", only(alloc, 1)?)?)?;
+    store.add(Payload::Int(3))?;
+    store.add(Payload::Tuple(only(alloc, 3)?))?;
+    let body = ExceptionBody {
+        class: EXIT_CLASS,
+        args: object(4),
+        cause: None,
+        context: None,
+        suppress: false,
+        traceback: None,
+        attrs: AttrMap::new(alloc),
+    };
+    store.add(Payload::Exception(Boxed::new(alloc, body)?))?;
+    Ok(store)
+}
+
+/// Whether the exception is a GeneratorExit, and whether its class and the class below are of this kind.
+fn kinds(store: &Store, kind: ErrorKind) -> (bool, bool, bool)
+    requires { IsExit store.now }
+{
+    (
+        is_gen_exit(store, EXIT),
+        is_kind(store, EXIT_CLASS, kind),
+        is_kind(store, BASE_CLASS, kind),
+    )
+}
+
+/// The exception's arguments, and the first two of them.
+fn arguments(store: &Store) -> (PyObjectRef, Option<PyObjectRef>, Option<PyObjectRef>)
+    requires { IsExit store.now }
+{
+    (
+        args(store, EXIT),
+        get_arg(store, EXIT, 0),
+        get_arg(store, EXIT, 1),
+    )
+}
+
+#[test]
+fn an_exit_is_of_its_kind_and_of_that_which_it_derives_from(rt: HostRuntime) -> Result<(), Fail> {
+    let store = store_of_exit(rt.alloc())?;
+    assert_eq!(rt;
+        kinds(&store, ErrorKind::GeneratorExit),
+        (true, true, false)
+    );
+    assert_eq!(rt; kinds(&store, ErrorKind::BaseException), (true, true, true));
+    assert_eq!(rt; kinds(&store, ErrorKind::Exception), (true, false, false));
+    assert_eq!(rt; arguments(&store), (object(4), Some(object(3)), None));
+    Ok(())
+}
+
+/// What an object of the store is taken for.
+fn taken(alloc: Global, store: &Store, number: u64) -> Result<ExceptionCtor, CtorFault>
+    requires store { IsExit store.now }
+    requires number { number < 6 }
+{
+    ExceptionCtor::try_from_object(alloc, store, object(number))
+}
+
+fn is_refused(taken: &Result<ExceptionCtor, CtorFault>, text: &PyText) -> bool {
+    match taken {
+        Err(CtorFault::NotException(fault)) => same_text(&fault.text, text),
+        _ => false,
+    }
+}
+
+/// What comes of it with an object of the store.
+fn with(alloc: Global, store: &Store, ctor: ExceptionCtor, number: u64) -> Instantiate
+    requires store { IsExit store.now }
+    requires number { number < 6 }
+{
+    ctor.instantiate_value(alloc, store, object(number))
+}
+
+/// What is seen of an outcome: of a call the class, how many arguments it has, and the first.
+#[derive(Clone, Copy, Debug, PartialEq, Eq)]
+enum Seen {
+    Done(PyBaseExceptionRef),
+    Make(PyTypeRef, usize, Option<PyObjectRef>),
+    Fault,
+    NoMemory,
+}
+
+fn seen_of(outcome: &Instantiate) -> Seen {
+    match outcome {
+        Instantiate::Done(exception) => Seen::Done(*exception),
+        Instantiate::Make(class, args) => Seen::Make(*class, args.len(), args.get(0).copied()),
+        Instantiate::Fault(_) => Seen::Fault,
+        Instantiate::NoMemory => Seen::NoMemory,
+    }
+}
+
+#[test]
+fn a_class_or_an_exception_may_be_raised(rt: HostRuntime) -> Result<(), Fail> {
+    let alloc = rt.alloc();
+    let store = store_of_exit(alloc)?;
+    assert_eq!(rt;
+        taken(alloc, &store, 2).ok(),
+        Some(ExceptionCtor::Class(EXIT_CLASS))
+    );
+    assert_eq!(rt;
+        taken(alloc, &store, 5).ok(),
+        Some(ExceptionCtor::Instance(EXIT))
+    );
+    let text = text_of(
+        alloc,
+        b"exceptions must be classes or instances deriving from BaseException, not int",
+    )?;
+    let number = taken(alloc, &store, 3);
+    assert!(rt; is_refused(&number, &text));
+    Ok(())
+}
+
+#[test]
+fn a_class_takes_a_value_for_its_arguments(rt: HostRuntime) -> Result<(), Fail> {
+    let alloc = rt.alloc();
+    let store = store_of_exit(alloc)?;
+    let class = ExceptionCtor::Class(EXIT_CLASS);
+    let none = Seen::Make(EXIT_CLASS, 0, None);
+    let number = Seen::Make(EXIT_CLASS, 1, Some(object(3)));
+    assert_eq!(rt; seen_of(&class.instantiate(alloc)), none);
+    for (value, want) in [(0, none), (3, number), (4, number), (5, Seen::Done(EXIT))] {
+        assert_eq!(rt; seen_of(&with(alloc, &store, class, value)), want);
+    }
+    let instance = ExceptionCtor::Instance(EXIT);
+    assert_eq!(rt;
+        seen_of(&with(alloc, &store, instance, 0)),
+        Seen::Done(EXIT)
+    );
+    assert_eq!(rt; seen_of(&with(alloc, &store, instance, 5)), Seen::Fault);
+    Ok(())
+}

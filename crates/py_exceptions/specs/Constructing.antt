@@ -1,0 +1,82 @@
+-- What may be raised, and what comes of it with a value.
+use Rattle.std.specs.Prelude.{Bool, true, false, Result, Ok, List, [], ◌∷◌, ◌++◌, ◌≡◌, codes, IsErrAnd}
+use Rattle.py_objects.specs.declared.refs.PyTypeRef.{PyTypeRef}
+use Rattle.py_objects.specs.declared.payload.Payload.{Payload}
+use Rattle.py_objects.specs.declared.payload.Payload.TheVariants as payload
+use Rattle.py_objects.specs.declared.payload.Fault.{Fault}
+use Rattle.py_objects.specs.declared.error_kind.ErrorKind.TheVariants.{TypeError}
+use Rattle.py_objects.specs.Objects.{Obj, Name, HasPayload, class_object, as_exception}
+use Rattle.py_exceptions.specs.declared.ctor.ExceptionCtor.{ExceptionCtor}
+use Rattle.py_exceptions.specs.declared.ctor.ExceptionCtor.TheVariants as ctor
+use Rattle.py_exceptions.specs.declared.ctor.CtorFault.{CtorFault}
+use Rattle.py_exceptions.specs.declared.ctor.CtorFault.TheVariants as fault
+use Rattle.py_exceptions.specs.declared.ctor.Instantiate.{Instantiate}
+use Rattle.py_exceptions.specs.declared.ctor.Instantiate.TheVariants as comes
+use Rattle.py_exceptions.specs.Deriving.{IsInstanceOf}
+use Rattle.py_exceptions.specs.TypeNames.{IsTypeName}
+
+-- an object as a class
+abbrev pub as_class : Obj → PyTypeRef
+as_class v = record { number = v.number }
+
+-- ---- what may be raised
+
+-- the refusal of an object of a type
+abbrev pub not_exception : Name → Fault
+not_exception n = record { kind = TypeError; text = codes "exceptions must be classes or instances deriving from BaseException, not " ++ n }
+
+-- the object with a payload is refused, or memory ran out
+abbrev pub IsNotException : List Payload → Payload → CtorFault → Type 0
+IsNotException objects p (fault.NotException f) = (n : Name) × IsTypeName objects p n × (f ≡ not_exception n)
+IsNotException objects p fault.NoMemory = Unit {0}
+
+-- what an object with a payload is taken for: a class and an exception for themselves, and nothing else
+abbrev pub IsTakenFor : List Payload → Obj → Payload → Result ExceptionCtor CtorFault → Type 0
+IsTakenFor objects v (payload.Class c) taken = taken ≡ Ok (ctor.Class (as_class v))
+IsTakenFor objects v (payload.Exception e) taken = taken ≡ Ok (ctor.Instance (as_exception v))
+IsTakenFor objects v p taken = IsErrAnd taken (IsNotException objects p)
+
+-- what an object is taken for
+abbrev pub IsTaken : List Payload → Obj → Result ExceptionCtor CtorFault → Type 0
+IsTaken objects v taken = (p : Payload) × HasPayload objects v p × IsTakenFor objects v p taken
+
+-- ---- what comes of it
+
+-- without a value: a call without arguments, or the exception
+abbrev pub instantiated : ExceptionCtor → Instantiate
+instantiated (ctor.Class class) = comes.Make class []
+instantiated (ctor.Instance e) = comes.Done e
+
+-- the arguments that a value with a payload stands for: none for None, the items of a tuple, the arguments of an exception, and for all
+-- else the value alone
+abbrev pub StandsFor : List Payload → Obj → Payload → List Obj → Type 0
+StandsFor objects v payload.None args = args ≡ []
+StandsFor objects v (payload.Tuple items) args = args ≡ items
+StandsFor objects v (payload.Exception e) args = HasPayload objects e.args (payload.Tuple args)
+StandsFor objects v p args = args ≡ v ∷ []
+
+-- the refusal of an exception with another one as its value
+abbrev pub separate_value : Fault
+separate_value = record { kind = TypeError; text = codes "instance exception may not have a separate value" }
+
+-- with a value that is an exception of the class, or isn't: the value, or a call with the arguments that it stands for
+abbrev pub ClassWith : List Payload → PyTypeRef → Obj → Payload → Bool → Instantiate → Type 0
+ClassWith objects class v p true outcome = outcome ≡ comes.Done (as_exception v)
+ClassWith objects class v p false outcome = (args : List Obj) × StandsFor objects v p args × (outcome ≡ comes.Make class args)
+
+-- with a value of a payload: an exception with another exception is refused, and stays itself with any other value
+abbrev pub InstantiatesAs : List Payload → ExceptionCtor → Obj → Payload → Instantiate → Type 0
+InstantiatesAs objects (ctor.Class class) v p outcome = (b : Bool) × IsInstanceOf objects p (class_object class) b × ClassWith objects class v p b outcome
+InstantiatesAs objects (ctor.Instance e) v (payload.Exception f) outcome = outcome ≡ comes.Fault separate_value
+InstantiatesAs objects (ctor.Instance e) v p outcome = outcome ≡ comes.Done e
+
+-- with a value
+abbrev pub Instantiates : List Payload → ExceptionCtor → Obj → Instantiate → Type 0
+Instantiates objects c v outcome = (p : Payload) × HasPayload objects v p × InstantiatesAs objects c v p outcome
+
+-- what is said of an outcome, unless memory ran out
+abbrev pub UnlessNoMemory : (Instantiate → Type 0) → Instantiate → Type 0
+UnlessNoMemory P (comes.Done e) = P (comes.Done e)
+UnlessNoMemory P (comes.Make class args) = P (comes.Make class args)
+UnlessNoMemory P (comes.Fault f) = P (comes.Fault f)
+UnlessNoMemory P comes.NoMemory = Unit {0}

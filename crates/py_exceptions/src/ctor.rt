@@ -1,0 +1,225 @@
+//! What may be raised: a class or an exception, and what comes of it with a value.
+
+ghost use Rattle.std.specs.Prelude.{◌≡◌, ◌<◌, length, IfOk};
+ghost use Rattle.py_objects.specs.Edits.{objects_of};
+ghost use Rattle.py_objects.specs.Objects.{Name, class_object};
+ghost use Rattle.py_exceptions.specs.Constructing.{instantiated, not_exception, Instantiates, IsNotException, IsTaken, StandsFor, UnlessNoMemory};
+ghost use Rattle.py_exceptions.specs.Deriving.{IsInstanceOf};
+ghost use Rattle.py_exceptions.specs.Parts.{AreParts, HasParts};
+ghost use Rattle.py_exceptions.specs.TypeNames.{IsTypeName};
+ghost use Rattle.py_exceptions.specs.declared.ctor.ExceptionCtor.TheVariants.{Class, Instance};
+
+use crate::kinds::derives;
+use crate::reading::{class_body, tuple_items};
+use crate::type_names::type_name;
+use py_code::{NoMemory, PyText, push_text, text_of};
+use py_objects::{
+    ErrorKind, Fault, ObjList, Payload, PyBaseExceptionRef, PyObjectRef, PyTypeRef, Store,
+};
+use std::alloc::Global;
+
+/// What may be raised (Python Language Reference, 7.8): a class, whose call makes an exception, or an exception.
+#[derive(Clone, Copy, Debug, PartialEq, Eq)]
+pub enum ExceptionCtor {
+    Class(PyTypeRef),
+    Instance(PyBaseExceptionRef),
+}
+
+/// Why an object can't be raised, or wasn't tried.
+#[derive(Debug, Drop)]
+pub enum CtorFault {
+    /// It is neither an exception nor a class.
+    NotException(Fault),
+    /// Memory ran out.
+    NoMemory,
+}
+
+/// What comes of a class or an exception.
+#[derive(Debug, Drop)]
+pub enum Instantiate {
+    /// This exception.
+    Done(PyBaseExceptionRef),
+    /// A call of this class with these arguments.
+    Make(PyTypeRef, ObjList),
+    /// A refusal.
+    Fault(Fault),
+    /// Memory ran out.
+    NoMemory,
+}
+
+impl ExceptionCtor {
+    /// What an object is taken for, where it may be raised.
+    pub fn try_from_object(
+        alloc: Global,
+        store: &Store,
+        obj: PyObjectRef,
+    ) -> Result<ExceptionCtor, CtorFault>
+        requires { obj.number < length store.now.made }
+        ensures { IsTaken (objects_of store.now) obj result }
+    {
+        let payload = store.get(obj);
+        match payload {
+            Payload::Class(_) => Ok(ExceptionCtor::Class(PyTypeRef { number: obj.number })),
+            Payload::Exception(_) => Ok(ExceptionCtor::Instance(PyBaseExceptionRef {
+                number: obj.number,
+            })),
+            _ => Err(not_exception(alloc, store, payload)),
+        }
+    }
+
+    /// What comes of it without a value.
+    pub fn instantiate(self, alloc: Global) -> Instantiate
+        ensures { result ≡ instantiated self }
+    {
+        match self {
+            ExceptionCtor::Class(class) => Instantiate::Make(class, ObjList::new(alloc)),
+            ExceptionCtor::Instance(exception) => Instantiate::Done(exception),
+        }
+    }
+
+    /// What comes of it with a value.
+    pub fn instantiate_value(self, alloc: Global, store: &Store, value: PyObjectRef) -> Instantiate
+        requires { HasParts (objects_of store.now) value }
+        ensures { UnlessNoMemory (Instantiates (objects_of store.now) self value) result }
+    {
+        let outcome = match self {
+            ExceptionCtor::Class(class) => class_with(alloc, store, class, value),
+            ExceptionCtor::Instance(exception) => instance_with(alloc, store, exception, value),
+        };
+        outcome.unwrap_or(Instantiate::NoMemory)
+    }
+}
+
+/// The refusal of what is neither an exception nor a class.
+fn not_exception(alloc: Global, store: &Store, payload: &Payload) -> CtorFault
+    requires { (name : Name) × IsTypeName store.now.made payload.now name }
+    ensures { IsNotException store.now.made payload.now result }
+{
+    match refusal(alloc, store, payload) {
+        Ok(text) => CtorFault::NotException(Fault {
+            kind: ErrorKind::TypeError,
+            text,
+        }),
+        Err(NoMemory) => CtorFault::NoMemory,
+    }
+}
+
+/// Its text.
+fn refusal(alloc: Global, store: &Store, payload: &Payload) -> Result<PyText, NoMemory>
+    requires { (name : Name) × IsTypeName store.now.made payload.now name }
+    ensures { IfOk result (λ text. (name : Name) × IsTypeName store.now.made payload.now name × (text ≡ (not_exception name).text)) }
+{
+    let name = type_name(alloc, store, payload)?;
+    let mut text = text_of(
+        alloc,
+        b"exceptions must be classes or instances deriving from BaseException, not ",
+    )?;
+    push_text(&mut text, &name)?;
+    Ok(text)
+}
+
+/// What comes of an exception with a value.
+fn instance_with(
+    alloc: Global,
+    store: &Store,
+    exception: PyBaseExceptionRef,
+    value: PyObjectRef,
+) -> Result<Instantiate, NoMemory>
+    requires { value.number < length store.now.made }
+    ensures { IfOk result (Instantiates (objects_of store.now) (Instance exception) value) }
+{
+    match store.get(value) {
+        Payload::Exception(_) => {
+            let text = text_of(alloc, b"instance exception may not have a separate value")?;
+            Ok(Instantiate::Fault(Fault {
+                kind: ErrorKind::TypeError,
+                text,
+            }))
+        }
+        Payload::None
+        | Payload::Bool(_)
+        | Payload::Int(_)
+        | Payload::Str(_)
+        | Payload::Tuple(_)
+        | Payload::Dict(_)
+        | Payload::Class(_)
+        | Payload::Function(_)
+        | Payload::Manager(_)
+        | Payload::Frame(_)
+        | Payload::Generator(_)
+        | Payload::Traceback(_) => Ok(Instantiate::Done(exception)),
+    }
+}
+
+/// What comes of a class with a value: the value, where it is an exception of the class, or a call.
+fn class_with(
+    alloc: Global,
+    store: &Store,
+    class: PyTypeRef,
+    value: PyObjectRef,
+) -> Result<Instantiate, NoMemory>
+    requires { HasParts (objects_of store.now) value }
+    ensures { IfOk result (Instantiates (objects_of store.now) (Class class) value) }
+{
+    let payload = store.get(value);
+    if is_instance(store, payload, class) {
+        return Ok(Instantiate::Done(PyBaseExceptionRef {
+            number: value.number,
+        }));
+    }
+    let args = arguments(alloc, store, value, payload)?;
+    Ok(Instantiate::Make(class, args))
+}
+
+/// Whether what has a payload is an exception of a class, or of one that derives from it.
+fn is_instance(store: &Store, payload: &Payload, class: PyTypeRef) -> bool
+    requires { AreParts (objects_of store.now) payload.now }
+    ensures { IsInstanceOf (objects_of store.now) payload.now (class_object class) result }
+{
+    let Payload::Exception(exception) = payload else {
+        return false;
+    };
+    let own = exception.value().class;
+    let body = class_body(store, PyObjectRef { number: own.number });
+    derives(
+        own,
+        body,
+        PyObjectRef {
+            number: class.number,
+        },
+    )
+}
+
+/// The arguments that a value stands for, which has this payload.
+fn arguments(
+    alloc: Global,
+    store: &Store,
+    value: PyObjectRef,
+    payload: &Payload,
+) -> Result<ObjList, NoMemory>
+    requires { AreParts (objects_of store.now) payload.now }
+    ensures { IfOk result (StandsFor (objects_of store.now) value payload.now) }
+{
+    match payload {
+        Payload::None => Ok(ObjList::new(alloc)),
+        Payload::Tuple(items) => items.copy(alloc),
+        Payload::Exception(exception) => {
+            let items = tuple_items(store, exception.value().args);
+            items.copy(alloc)
+        }
+        Payload::Bool(_)
+        | Payload::Int(_)
+        | Payload::Str(_)
+        | Payload::Dict(_)
+        | Payload::Class(_)
+        | Payload::Function(_)
+        | Payload::Manager(_)
+        | Payload::Frame(_)
+        | Payload::Generator(_)
+        | Payload::Traceback(_) => {
+            let mut args = ObjList::new(alloc);
+            args.push(value)?;
+            Ok(args)
+        }
+    }
+}

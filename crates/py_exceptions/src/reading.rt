@@ -1,0 +1,44 @@
+//! Classes, exceptions and tuples, as they are now.
+
+ghost use Rattle.py_objects.specs.Objects.{as_object, HasPayload, IsClassObject, IsException};
+ghost use Rattle.py_objects.specs.Edits.{objects_of};
+ghost use Rattle.py_objects.specs.declared.payload.Payload.TheVariants.{Class, Exception, Tuple};
+ghost use Rattle.py_exceptions.specs.Arguments.{IsTuple};
+
+use py_objects::{
+    ClassBody, ExceptionBody, ObjList, Payload, PyBaseExceptionRef, PyObjectRef, Store,
+};
+
+/// What a class is.
+pub(crate) fn class_body(store: &Store, class: PyObjectRef) -> &ClassBody
+    requires { IsClassObject (objects_of store.now) class }
+    ensures { HasPayload (objects_of store.now) class (Class result.now) }
+{
+    let Payload::Class(body) = store.get(class) else {
+        unreachable!();
+    };
+    body.value()
+}
+
+/// What an exception is.
+pub(crate) fn exception_body(store: &Store, exc: PyBaseExceptionRef) -> &ExceptionBody
+    requires { IsException (objects_of store.now) (as_object exc) }
+    ensures { HasPayload (objects_of store.now) (as_object exc) (Exception result.now) }
+{
+    let object = PyObjectRef { number: exc.number };
+    let Payload::Exception(body) = store.get(object) else {
+        unreachable!();
+    };
+    body.value()
+}
+
+/// The items of a tuple.
+pub(crate) fn tuple_items(store: &Store, tuple: PyObjectRef) -> &ObjList
+    requires { IsTuple (objects_of store.now) tuple }
+    ensures { HasPayload (objects_of store.now) tuple (Tuple result.now) }
+{
+    let Payload::Tuple(items) = store.get(tuple) else {
+        unreachable!();
+    };
+    items
+}
