@@ -4,7 +4,7 @@ ghost use Rattle.std.specs.Prelude.{◌≡◌, ◌<◌, [], ◌∷◌, IfOk};
 ghost use Rattle.py_objects.specs.declared.payload.Payload.TheVariants.{Class};
 ghost use Rattle.crate_tests.specs.Exit.{object, IsExit};
 
-use py_code::{NoMemory, PyText, same_text, text_of};
+use py_code::{NoMemory, PyText, push_text, same_text, text_of};
 use py_exceptions::{
     CtorFault, ExceptionCtor, ExceptionStack, Instantiate, args, get_arg, is_gen_exit, is_kind,
 };
@@ -38,11 +38,11 @@ fn the_topmost_exception_is_in_the_first_slot_that_has_one(rt: HostRuntime) -> R
     Ok(())
 }
 
-const EXIT: PyBaseExceptionRef = PyBaseExceptionRef { number: 5 };
+const EXIT: PyBaseExceptionRef = PyBaseExceptionRef { number: 7 };
 
-const EXIT_CLASS: PyTypeRef = PyTypeRef { number: 2 };
+const EXIT_CLASS: PyTypeRef = PyTypeRef { number: 4 };
 
-const BASE_CLASS: PyTypeRef = PyTypeRef { number: 1 };
+const BASE_CLASS: PyTypeRef = PyTypeRef { number: 3 };
 
 fn object(number: u64) -> PyObjectRef
     ensures { result ≡ object number }
@@ -66,18 +66,20 @@ fn class(alloc: Global, name: &[u8], mro: ObjList) -> Result<Payload, NoMemory>
     Ok(Payload::Class(Boxed::new(alloc, ClassBody { name, mro })?))
 }
 
-/// A store whose object 5 is a GeneratorExit with 3 for its argument.
+/// A store whose object 7 is a GeneratorExit with object 5 for its argument. Object 8 is a class that derives from nothing.
 fn store_of_exit(alloc: Global) -> Result<Store, NoMemory>
     ensures { IfOk result IsExit }
 {
     let mut store = Store::new(alloc)?;
+    store.add(Payload::Bool(false))?;
+    store.add(Payload::Bool(true))?;
     store.add(class(alloc, b"BaseException", ObjList::new(alloc))?)?;
-    store.add(class(alloc, b"GeneratorExit", only(alloc, 1)?)?)?;
+    store.add(class(alloc, b"GeneratorExit", only(alloc, 3)?)?)?;
     store.add(Payload::Int(3))?;
-    store.add(Payload::Tuple(only(alloc, 3)?))?;
+    store.add(Payload::Tuple(only(alloc, 5)?))?;
     let body = ExceptionBody {
         class: EXIT_CLASS,
-        args: object(4),
+        args: object(6),
         cause: None,
         context: None,
         suppress: false,
@@ -85,6 +87,7 @@ fn store_of_exit(alloc: Global) -> Result<Store, NoMemory>
         attrs: AttrMap::new(alloc),
     };
     store.add(Payload::Exception(Boxed::new(alloc, body)?))?;
+    store.add(class(alloc, b"spam", ObjList::new(alloc))?)?;
     Ok(store)
 }
 
@@ -119,16 +122,26 @@ fn an_exit_is_of_its_kind_and_of_that_which_it_derives_from(rt: HostRuntime) -> 
     );
     assert_eq!(rt; kinds(&store, ErrorKind::BaseException), (true, true, true));
     assert_eq!(rt; kinds(&store, ErrorKind::Exception), (true, false, false));
-    assert_eq!(rt; arguments(&store), (object(4), Some(object(3)), None));
+    assert_eq!(rt; arguments(&store), (object(6), Some(object(5)), None));
     Ok(())
 }
 
 /// What an object of the store is taken for.
 fn taken(alloc: Global, store: &Store, number: u64) -> Result<ExceptionCtor, CtorFault>
     requires store { IsExit store.now }
-    requires number { number < 6 }
+    requires number { number < 9 }
 {
     ExceptionCtor::try_from_object(alloc, store, object(number))
+}
+
+/// The text of the refusal of an object whose type has this name.
+fn refusal(alloc: Global, type_name: &[u8]) -> Result<PyText, NoMemory> {
+    let mut text = text_of(
+        alloc,
+        b"exceptions must be classes or instances deriving from BaseException, not ",
+    )?;
+    push_text(&mut text, &text_of(alloc, type_name)?)?;
+    Ok(text)
 }
 
 fn is_refused(taken: &Result<ExceptionCtor, CtorFault>, text: &PyText) -> bool {
@@ -141,7 +154,7 @@ fn is_refused(taken: &Result<ExceptionCtor, CtorFault>, text: &PyText) -> bool {
 /// What comes of it with an object of the store.
 fn with(alloc: Global, store: &Store, ctor: ExceptionCtor, number: u64) -> Instantiate
     requires store { IsExit store.now }
-    requires number { number < 6 }
+    requires number { number < 9 }
 {
     ctor.instantiate_value(alloc, store, object(number))
 }
@@ -165,23 +178,21 @@ fn seen_of(outcome: &Instantiate) -> Seen {
 }
 
 #[test]
-fn a_class_or_an_exception_may_be_raised(rt: HostRuntime) -> Result<(), Fail> {
+fn a_class_of_exceptions_or_an_exception_may_be_raised(rt: HostRuntime) -> Result<(), Fail> {
     let alloc = rt.alloc();
     let store = store_of_exit(alloc)?;
     assert_eq!(rt;
-        taken(alloc, &store, 2).ok(),
+        taken(alloc, &store, 4).ok(),
         Some(ExceptionCtor::Class(EXIT_CLASS))
     );
     assert_eq!(rt;
-        taken(alloc, &store, 5).ok(),
+        taken(alloc, &store, 7).ok(),
         Some(ExceptionCtor::Instance(EXIT))
     );
-    let text = text_of(
-        alloc,
-        b"exceptions must be classes or instances deriving from BaseException, not int",
-    )?;
-    let number = taken(alloc, &store, 3);
-    assert!(rt; is_refused(&number, &text));
+    for (number, type_name) in [(5, b"int".as_slice()), (8, b"type".as_slice())] {
+        let refused = taken(alloc, &store, number);
+        assert!(rt; is_refused(&refused, &refusal(alloc, type_name)?));
+    }
     Ok(())
 }
 
@@ -191,9 +202,9 @@ fn a_class_takes_a_value_for_its_arguments(rt: HostRuntime) -> Result<(), Fail> 
     let store = store_of_exit(alloc)?;
     let class = ExceptionCtor::Class(EXIT_CLASS);
     let none = Seen::Make(EXIT_CLASS, 0, None);
-    let number = Seen::Make(EXIT_CLASS, 1, Some(object(3)));
+    let number = Seen::Make(EXIT_CLASS, 1, Some(object(5)));
     assert_eq!(rt; seen_of(&class.instantiate(alloc)), none);
-    for (value, want) in [(0, none), (3, number), (4, number), (5, Seen::Done(EXIT))] {
+    for (value, want) in [(0, none), (5, number), (6, number), (7, Seen::Done(EXIT))] {
         assert_eq!(rt; seen_of(&with(alloc, &store, class, value)), want);
     }
     let instance = ExceptionCtor::Instance(EXIT);
@@ -201,6 +212,6 @@ fn a_class_takes_a_value_for_its_arguments(rt: HostRuntime) -> Result<(), Fail> 
         seen_of(&with(alloc, &store, instance, 0)),
         Seen::Done(EXIT)
     );
-    assert_eq!(rt; seen_of(&with(alloc, &store, instance, 5)), Seen::Fault);
+    assert_eq!(rt; seen_of(&with(alloc, &store, instance, 7)), Seen::Fault);
     Ok(())
 }

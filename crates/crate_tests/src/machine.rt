@@ -1,9 +1,10 @@
 //! The machine: its first state, a host's enters, what a host sets between drives, and turns that run out.
 
 ghost use Rattle.std.specs.Prelude.{◌≡◌, ◌≤◌, [], false, length, IfOk, OnOk};
+ghost use Rattle.py_objects.specs.declared.payload.Payload.TheVariants.{Class};
 
 use py_code::{Names, NoMemory, PyText, text_of};
-use py_objects::{DriveAnswer, ObjList, PairList, Payload, PyObjectRef};
+use py_objects::{Boxed, ClassBody, DriveAnswer, ObjList, PairList, Payload, PyObjectRef};
 use py_vm::{Drive, PyGlobalState, PyResult, VirtualMachine, VmFault};
 use std::alloc::Global;
 use std::test::Fail;
@@ -61,13 +62,29 @@ impl From<PyResult<DriveAnswer>> for Outcome {
     }
 }
 
-/// What the call of None comes to in so many turns.
-fn call_none(alloc: Global, vm: &mut VirtualMachine, turns: u64) -> Outcome {
-    if vm.store().len() == 0 {
+/// What the call of an object without arguments comes to in so many turns.
+fn call(alloc: Global, vm: &mut VirtualMachine, callee: PyObjectRef, turns: u64) -> Outcome {
+    if vm.store().len() <= callee.number {
         return Outcome::NoMemory;
     }
-    let drive = Drive::Call(PyObjectRef { number: 0 }, ObjList::new(alloc));
+    let drive = Drive::Call(callee, ObjList::new(alloc));
     Outcome::from(vm.drive(&drive, turns))
+}
+
+/// What the call of None comes to in so many turns.
+fn call_none(alloc: Global, vm: &mut VirtualMachine, turns: u64) -> Outcome {
+    call(alloc, vm, PyObjectRef { number: 0 }, turns)
+}
+
+/// A class of a name that derives from nothing.
+fn bare_class(alloc: Global, name: &[u8]) -> Result<Payload, NoMemory>
+    ensures { IfOk result (λ class. class ≡ Class (record { name = name.now; mro = [] })) }
+{
+    let body = ClassBody {
+        name: text_of(alloc, name)?,
+        mro: ObjList::new(alloc),
+    };
+    Ok(Payload::Class(Boxed::new(alloc, body)?))
 }
 
 /// Has a machine use a new dict as its globals, and gives the number of that.
@@ -177,5 +194,27 @@ fn turns_run_out(rt: HostRuntime) -> Result<(), Fail> {
     let want = [Outcome::Raises, Outcome::OutOfTurns, Outcome::Failed];
     assert_eq!(rt; outcomes, want);
     assert_eq!(rt; (seen.events, seen.has_frames), (3, false));
+    Ok(())
+}
+
+/// What calls come to of a new class, which has the name of a built-in one and derives from nothing, and of the built-in one, which is
+/// object 26.
+fn calls_of_classes(alloc: Global) -> Result<[Outcome; 2], NoMemory> {
+    let mut vm = machine(alloc)?;
+    let class = bare_class(alloc, b"TypeError")?;
+    let Ok(added) = vm.add_object(class) else {
+        return Err(NoMemory);
+    };
+    let built_in = PyObjectRef { number: 26 };
+    Ok([
+        call(alloc, &mut vm, added, 2),
+        call(alloc, &mut vm, built_in, 2),
+    ])
+}
+
+#[test]
+fn a_class_is_called_where_it_derives_from_base_exception(rt: HostRuntime) -> Result<(), Fail> {
+    let outcomes = calls_of_classes(rt.alloc())?;
+    assert_eq!(rt; outcomes, [Outcome::Raises, Outcome::Returns]);
     Ok(())
 }

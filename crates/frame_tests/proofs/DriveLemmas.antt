@@ -10,6 +10,7 @@ use Rattle.py_objects.specs.declared.payload.Payload.TheVariants as payload
 use Rattle.py_objects.specs.Scopes.{scope_of}
 use Rattle.py_objects.specs.Objects.{Obj, payload_numbers, number_if, AllBelow, IsMade, AllFit}
 use Rattle.py_objects.specs.Growth.{Grows, GrowsPlainly}
+use Rattle.py_exceptions.specs.Slots.{Slots, top_of}
 use Rattle.py_check.specs.declared.annotated.Annotated.{Annotated}
 use Rattle.py_check.specs.Depths.{deepest}
 use Rattle.py_check.specs.Typing.{IsTyped}
@@ -36,7 +37,7 @@ abbrev FitsFirst : Payload → Type 0
 FitsFirst p = AllBelow (length first_objects) (payload_numbers p) × IsMade first_objects p
 
 exception_fits : FitsFirst (payload.Exception exception_body)
-exception_fits = ((omega arith, (omega arith, tt)), record { class = _; is_class = refl; is_declared = refl; arguments = []; are_arguments = refl; cause = tt; context = tt; traceback = tt })
+exception_fits = ((omega arith, (omega arith, tt)), record { class = _; is_class = refl; arguments = []; are_arguments = refl; cause = tt; context = tt; traceback = tt })
 
 -- so does each
 pub first_fit : AllFit first_objects
@@ -74,9 +75,9 @@ expected objects setting x y i fits same (more, is) flags =
     (subst (λ (os : List Payload). Expects os setting x i × ((k : ℕ) → HearsBelow (length os) (events (heard k i)))) (sym is) (fits more setting flags))
 
 -- a frame that made a step is still driven
-pub driven_on : (old new : List Payload) (names : List (List ℕ)) (code : Annotated) (before slot : Option PyBaseExceptionRef) (f g : Framed) → IsDriven old names code before f → GrowsPlainly old new
-    → IsRunning new names code g → slot ≡ g.state.slot → IsDriven new names code slot g
-driven_on old new names code before slot f g driven grows running left = record {
+pub driven_on : (old new : List Payload) (names : List (List ℕ)) (code : Annotated) (before slots : Slots) (f g : Framed) → IsDriven old names code before f → GrowsPlainly old new
+    → IsRunning new names code g → top_of slots ≡ g.state.slot → IsDriven new names code slots g
+driven_on old new names code before slots f g driven grows running left = record {
   running = running;
   fit = grows.fit driven.fit;
   grown = (driven.grown.0 ++ grows.more, grows.is ∙ ap (λ os. os ++ grows.more) driven.grown.1 ∙ append_assoc first_objects driven.grown.0 grows.more);
@@ -97,7 +98,7 @@ pub sound : (rows : List Row) (names : List (List ℕ)) (code : Annotated) → I
 sound rows names code of typed some = record { typed = typed; named = record { locals = rw of.varnames (places names 3 some); globals = rw of.names (places names 1 some) } }
 
 -- a frame that hasn't begun is driven
-pub driven_first : (objects : List Payload) (names : List (List ℕ)) (code : Annotated) (f : Framed) → objects ≡ first_objects → IsRunning objects names code f → f.state.wants ≡ expect.Start → IsDriven objects names code (Some (record { number = 6 })) f
+pub driven_first : (objects : List Payload) (names : List (List ℕ)) (code : Annotated) (f : Framed) → objects ≡ first_objects → IsRunning objects names code f → f.state.wants ≡ expect.Start → IsDriven objects names code (Some (record { number = 6 }) ∷ []) f
 driven_first objects names code f is running fresh = record {
   running = running;
   fit = subst AllFit (sym is) first_fit;

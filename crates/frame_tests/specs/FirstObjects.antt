@@ -1,9 +1,10 @@
 -- The objects that are there at first.
-use Rattle.std.specs.Prelude.{ℕ, true, false, None, List, [], ◌∷◌, map, codes}
+use Rattle.std.specs.Prelude.{ℕ, false, None, List, [], ◌++◌, map, codes}
 use Rattle.py_objects.specs.declared.payload.Payload.{Payload}
 use Rattle.py_objects.specs.declared.payload.Payload.TheVariants as payload
 use Rattle.py_objects.specs.declared.payload.ExceptionBody.{ExceptionBody}
 use Rattle.py_objects.specs.Objects.{Obj}
+use Rattle.py_objects.specs.Singletons.{singletons}
 use Rattle.frame_tests.specs.declared.tables.First.{First}
 use Rattle.frame_tests.specs.declared.tables.First.TheVariants as first
 use Rattle.frame_tests.specs.declared.tables.TheConstants.{FIRST}
@@ -16,8 +17,6 @@ abbrev pub exception_body : ExceptionBody
 exception_body = record { class = record { number = 3 }; args = object_at 4; cause = None; context = None; suppress = false; traceback = None; attrs = [] }
 
 abbrev pub payload_of : First → Payload
-payload_of first.False = payload.Bool false
-payload_of first.True = payload.Bool true
 payload_of first.Class = payload.Class (record { name = codes "x"; mro = [] })
 payload_of first.Arguments = payload.Tuple []
 payload_of first.Exception = payload.Exception exception_body
@@ -26,4 +25,4 @@ payload_of first.Manager = payload.Manager (record { name = codes "x"; enter = o
 payload_of first.Frame = payload.Frame 0
 
 abbrev pub first_objects : List Payload
-first_objects = payload.None ∷ map payload_of FIRST
+first_objects = singletons ++ map payload_of FIRST

@@ -1,6 +1,6 @@
 //! Frames that are driven: each is told words, and each event that comes is written as a word.
 
-ghost use Rattle.std.specs.Prelude.{◌≡◌, ◌<◌, ℕ, List, [], ◌∷◌, IfOk, length, true};
+ghost use Rattle.std.specs.Prelude.{◌≡◌, ◌<◌, ℕ, List, [], ◌∷◌, Some, IfOk, length, true};
 ghost use Rattle.py_rows.specs.declared.expect.Expect.TheVariants as expect;
 ghost use Rattle.py_rows.specs.Sound.{IsSound};
 ghost use Rattle.py_rows.specs.RunOfRows.{is_thrown_into};
@@ -11,10 +11,11 @@ ghost use Rattle.frame_tests.specs.Drives.{IsDriven, keep_rules};
 
 use crate::codes::checked;
 use crate::inputs::{exception, input};
-use crate::objects::{first_store, object};
+use crate::objects::{classes, first_store, object};
 use crate::tables::{Case, Row, Said};
 use py_check::CheckedCode;
 use py_code::{Names, NoMemory, utf8_of};
+use py_exceptions::{ExceptionStack, ExceptionZoo};
 use py_frame::{Frame, FrameStep, OwnStack, positional};
 use py_objects::{FrameRef, ObjList, PyBaseExceptionRef, Request, Scope, Store};
 use std::alloc::Global;
@@ -60,7 +61,7 @@ fn event(alloc: Global, step: &FrameStep) -> Result<String, NoMemory> {
     Ok(words)
 }
 
-/// An event as words, behind the place behind its unit, and in front of what is in the slot, where that isn't exception 6.
+/// An event as words, behind the place behind its unit, and in front of what is in the top slot, where that isn't exception 6.
 fn line(
     alloc: Global,
     lasti: u32,
@@ -114,16 +115,17 @@ fn turn(
     code: &CheckedCode,
     names: &Names,
     store: &mut Store,
-    slot: &mut Option<PyBaseExceptionRef>,
+    zoo: &ExceptionZoo,
+    slots: &mut ExceptionStack,
     frame: &mut Frame<OwnStack>,
     said: Said,
 ) -> Option<FrameStep>
     requires generator { is_thrown_into code.now.code.code.flags ≡ true }
-    requires driven { IsDriven store.old.made names.now code.now slot.old frame.old }
-    ensures { IsDriven store.new.made names.now code.now slot.new frame.new }
+    requires driven { IsDriven store.old.made names.now code.now slots.old frame.old }
+    ensures { IsDriven store.new.made names.now code.now slots.new frame.new }
 {
     let input = input(frame.expects(), said)?;
-    Some(frame.step(alloc, code, names, store, slot, input))
+    Some(frame.step(alloc, code, names, store, zoo, slots, input))
 }
 
 /// The events of a frame that is told these words.
@@ -132,16 +134,19 @@ fn drive(
     code: &CheckedCode,
     names: &Names,
     store: &mut Store,
+    zoo: &ExceptionZoo,
     frame: &mut Frame<OwnStack>,
     words: &[Said],
 ) -> Result<String, NoMemory>
     requires generator { is_thrown_into code.now.code.code.flags ≡ true }
-    requires driven { IsDriven store.old.made names.now code.now (Some (record { number = 6 })) frame.old }
+    requires driven { IsDriven store.old.made names.now code.now (Some (record { number = 6 }) ∷ []) frame.old }
 {
-    let mut slot = Some(exception(6));
+    let mut slots = ExceptionStack::new(alloc);
+    slots.set_exception(Some(exception(6)));
     let mut told = String::new(alloc);
     for said in words {
-        let step = turn(alloc, code, names, store, &mut slot, frame, *said);
+        let step = turn(alloc, code, names, store, zoo, &mut slots, frame, *said);
+        let slot = slots.current_exception();
         told.push_str(&line(alloc, frame.lasti(), step, slot)?)?;
     }
     Ok(told)
@@ -155,7 +160,8 @@ fn events_of(alloc: Global, rows: &[Row], words: &[Said]) -> Result<String, NoMe
     let names = one_name(alloc)?;
     let mut store = first_store(alloc)?;
     let mut frame = frame_of(alloc, &mut store, &code)?;
-    drive(alloc, &code, &names, &mut store, &mut frame, words)
+    let zoo = classes(alloc)?;
+    drive(alloc, &code, &names, &mut store, &zoo, &mut frame, words)
 }
 
 /// A table of one name.

@@ -5,6 +5,7 @@ ghost use Rattle.frame_tests.specs.FirstObjects.{exception_body, first_objects, 
 
 use crate::tables::{FIRST, First};
 use py_code::{NoMemory, text_of};
+use py_exceptions::ExceptionZoo;
 use py_objects::{
     AttrMap, Boxed, ClassBody, ExceptionBody, FunctionBody, ManagerBody, ObjList, Payload,
     PyObjectRef, PyTypeRef, Store,
@@ -39,8 +40,6 @@ fn payload(alloc: Global, first: First) -> Result<Payload, NoMemory>
 {
     let name = text_of(alloc, b"x")?;
     match first {
-        First::False => Ok(Payload::Bool(false)),
-        First::True => Ok(Payload::Bool(true)),
         First::Class => {
             let mro = ObjList::new(alloc);
             Ok(Payload::Class(Boxed::new(alloc, ClassBody { name, mro })?))
@@ -62,8 +61,17 @@ pub fn first_store(alloc: Global) -> Result<Store, NoMemory>
     ensures { IfOk result (λ store. store.made ≡ first_objects) }
 {
     let mut store = Store::new(alloc)?;
+    store.add(Payload::Bool(false))?;
+    store.add(Payload::Bool(true))?;
     for first in FIRST {
         store.add(payload(alloc, first)?)?;
     }
     Ok(store)
+}
+
+/// The built-in classes, in a store of their own: no frame reads them yet.
+pub fn classes(alloc: Global) -> Result<ExceptionZoo, NoMemory> {
+    let mut store = Store::new(alloc)?;
+    let mut declarations = AttrMap::new(alloc);
+    ExceptionZoo::extend(alloc, &mut store, &mut declarations)
 }

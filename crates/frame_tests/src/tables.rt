@@ -52,8 +52,6 @@ pub struct Case {
 /// What an object is.
 #[derive(Clone, Copy, Debug)]
 pub enum First {
-    False,
-    True,
     Class,
     Arguments,
     Exception,
@@ -62,10 +60,8 @@ pub enum First {
     Frame,
 }
 
-/// The objects behind None, which is object 0.
-pub const FIRST: [First; 9] = [
-    First::False,
-    First::True,
+/// The objects behind None, False and True, which are objects 0, 1 and 2.
+pub const FIRST: [First; 7] = [
     First::Class,
     First::Arguments,
     First::Exception,

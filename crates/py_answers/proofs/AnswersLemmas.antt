@@ -1,9 +1,10 @@
 -- Replies by cases on the operands.
-use Rattle.std.proofs.Common.{◌≡◌, ◌++◌, List, Some, refl, sym, ap, subst, ◌∙◌, ℤ, Bool, true, false, cond}
+use Rattle.std.proofs.Common.{◌≡◌, ◌++◌, ℕ, List, [], ◌∷◌, length, Some, Ok, inl, inr, refl, sym, ap, subst, ◌∙◌, ℤ, Bool, true, false, cond}
 use Rattle.std.specs.Prelude.{Option, None, ◌+ℤ◌, ◌-ℤ◌, int_lt, codes}
 use Rattle.std.proofs.lemmas.Option.{slice_get_within}
 use Rattle.py_objects.specs.declared.payload.Payload.{Payload}
 use Rattle.py_objects.specs.declared.payload.Payload.TheVariants as payload
+use Rattle.py_objects.specs.declared.payload.ClassBody.{ClassBody}
 use Rattle.py_objects.specs.declared.error_kind.ErrorKind.TheVariants.{OverflowError}
 use Rattle.py_objects.specs.declared.request.Request.{Request}
 use Rattle.py_objects.specs.declared.request.Request.TheVariants as request
@@ -12,11 +13,13 @@ use Rattle.py_code.specs.declared.operator.BinaryOperator.{BinaryOperator}
 use Rattle.py_code.specs.declared.operator.BinaryOperator.TheVariants as binary
 use Rattle.py_code.specs.declared.operator.ComparisonOperator.{ComparisonOperator}
 use Rattle.py_code.specs.declared.operator.ComparisonOperator.TheVariants as comparison
-use Rattle.py_objects.specs.Objects.{Obj, Name, HasPayload, declared, IsMade}
+use Rattle.py_objects.specs.Objects.{Obj, Name, HasPayload, as_exception, declared, numbers, keyword_numbers, request_numbers, AllBelow, IsMade}
 use Rattle.py_objects.specs.Values.{number_of, text_of}
-use Rattle.py_answers.specs.Answers.{Reply, Has, Fails, whole, sum, difference, truth, text_less, not_supported, operated, on_both, found, Compares, MatchesAs, RaisesAs, Replies}
-use Rattle.py_answers.specs.Readable.{AreFirst}
+use Rattle.py_answers.specs.Answers.{Reply, Has, Fails, whole, sum, difference, truth, text_less, not_supported, operated, on_both, found, Compares, MatchesAs, MatchesClass, raised_as, Raises, CallsAs, CallsClass, Replies}
 use Rattle.py_answers.specs.Replying.{joined, IsThere, IsSum, IsDifference, IsLess}
+use Rattle.py_exceptions.specs.declared.ctor.ExceptionCtor.{ExceptionCtor}
+use Rattle.py_exceptions.specs.declared.ctor.ExceptionCtor.TheVariants as ctor
+use Rattle.py_exceptions.specs.Constructing.{as_class, IsTakenFor}
 use Rattle.py_objects.proofs.NewLemmas.{declared_within}
 use Rattle.py_exceptions.proofs.TypeNamesLemmas.{has_type_name}
 
@@ -39,6 +42,7 @@ on_both_joined None b t other is = absurd (cc is)
 on_both_joined (Some s) None t other is = absurd (cc is)
 on_both_joined (Some s) (Some u) t other is = let same : s ++ u ≡ t = cc in ap (λ v. Has (payload.Str v)) same
 
+-- else the other reply
 on_both_other : (a b : Option Name) (other : Reply) → joined a b ≡ None → on_both a b (λ s u. Has (payload.Str (s ++ u))) other ≡ other
 on_both_other None b other is = refl
 on_both_other (Some s) None other is = refl
@@ -94,17 +98,20 @@ texts_compared objects p q s t b made_p made_q first second is =
           ∙ sym (on_both_none (number_of p) (number_of q) (λ m n. truth (int_lt m n)) texts (text_no_number p s first) ∙ on_both_there (text_of p) (text_of q) s t (λ s t. truth (text_less s t)) refusal first second),
     )
 
+-- the objects among replies are there: among a function's reply, where both values are there, and the other one
 on_both_gives : {A : Type 0} (objects : List Payload) (a b : Option A) (f : A → A → Reply) (other : Reply) → ((x y : A) → IsThere objects (f x y)) → IsThere objects other → IsThere objects (on_both a b f other)
 on_both_gives objects None b f other here there = there
 on_both_gives objects (Some x) None f other here there = there
 on_both_gives objects (Some x) (Some y) f other here there = here x y
 
+-- among the reply of a whole number
 whole_gives : (objects : List Payload) (n : ℤ) → IsThere objects (whole n)
 whole_gives objects n =
     let P : Bool → Type 0 = λ b. IsThere objects (cond b (Has (payload.Int n)) (Fails OverflowError (codes "integer out of range"))) in
     let cases : (b : Bool) → P b = λ b. elim b as P [ true ↦ tt | false ↦ tt ] in
     cases (in_range n)
 
+-- of an operator
 operated_gives : (objects : List Payload) (op : BinaryOperator) (p q : Payload) (left right : Name) (reply : Reply) → operated op p q left right ≡ Some reply → IsThere objects reply
 operated_gives objects binary.Add p q left right reply is =
     let same : sum p q left right ≡ reply = cc in
@@ -114,33 +121,70 @@ operated_gives objects binary.Subtract p q left right reply is =
     subst (IsThere objects) same (on_both_gives objects (number_of p) (number_of q) _ _ (λ m n. whole_gives objects (m -ℤ n)) tt)
 operated_gives objects _ p q left right reply is = absurd (cc is)
 
+-- of a comparison
 compares_gives : (objects : List Payload) (op : ComparisonOperator) (a b : Obj) (reply : Reply) → Compares objects op a b reply → IsThere objects reply
 compares_gives objects comparison.Less a b reply (p, q, left, right, has_p, has_q, is_left, is_right, is) =
     subst (IsThere objects) (sym is) (on_both_gives objects (number_of p) (number_of q) _ _ (λ m n. tt) (on_both_gives objects (text_of p) (text_of q) _ _ (λ s t. tt) tt))
 compares_gives objects comparison.Equal a b reply (p, q, has_p, has_q, is) = subst (IsThere objects) (sym is) tt
 compares_gives objects _ a b reply is = absurd is
 
+-- of a look-up among what is declared
 found_gives : (objects : List Payload) (x : Name) (v : Option Obj) → declared objects x ≡ v → IsThere objects (found x v)
 found_gives objects x None is = tt
 found_gives objects x (Some v) is = declared_within objects x v is
 
+-- of the question whether an exception is caught, by whether the class is one of exceptions
+class_matches_gives : (objects : List Payload) (p : Payload) (c : Obj) (b : Bool) (reply : Reply) → MatchesClass objects p c b reply → IsThere objects reply
+class_matches_gives objects p c true reply (b, caught, is) = subst (IsThere objects) (sym is) tt
+class_matches_gives objects p c false reply is = subst (IsThere objects) (sym is) tt
+
+-- and by what stands behind the `except`
 matches_gives : (objects : List Payload) (p : Payload) (c : Obj) (q : Payload) (reply : Reply) → MatchesAs objects p c q reply → IsThere objects reply
-matches_gives objects p c (payload.Class d) reply (b, caught, is) = subst (IsThere objects) (sym is) tt
+matches_gives objects p c (payload.Class d) reply (b, derived, matches) = class_matches_gives objects p c b reply matches
 matches_gives objects p c _ reply is = subst (IsThere objects) (sym is) tt
 
-raises_give : (objects : List Payload) (v : Obj) (p : Payload) (reply : Reply) → AreFirst objects → HasPayload objects v p → RaisesAs objects v p reply → IsThere objects reply
-raises_give objects v (payload.Class c) reply first has is = subst (IsThere objects) (sym is) ((c, has, first v c has), tt)
-raises_give objects v (payload.Exception e) reply first has is = subst (IsThere objects) (sym is) (slice_get_within objects v.number (payload.Exception e) has)
-raises_give objects v _ reply first has (n, named, is) = subst (IsThere objects) (sym is) tt
+-- of what raises what an object is taken for
+taken_gives : (objects : List Payload) (v : Obj) (p : Payload) (c : ExceptionCtor) → HasPayload objects v p → IsTakenFor objects v p (Ok c) → IsThere objects (raised_as c)
+taken_gives objects v (payload.Class d) c has (false, derived, is) = absurd is
+taken_gives objects v (payload.Class d) c has (true, derived, is) = let same : ctor.Class (as_class v) ≡ c = cc in subst (λ k. IsThere objects (raised_as k)) same ((d, has), tt)
+taken_gives objects v (payload.Exception e) c has is =
+    let same : ctor.Instance (as_exception v) ≡ c = cc in
+    subst (λ k. IsThere objects (raised_as k)) same (slice_get_within objects v.number (payload.Exception e) has)
+taken_gives objects v _ c has is = absurd is
+
+-- so of the question what may be raised
+raises_give : (objects : List Payload) (v : Obj) (reply : Reply) → Raises objects v reply → IsThere objects reply
+raises_give objects v reply (inl (c, (p, has, taken), is)) = subst (IsThere objects) (sym is) (taken_gives objects v p c has taken)
+raises_give objects v reply (inr (f, taken, is)) = subst (IsThere objects) (sym is) tt
+
+-- of the call of a class, which makes an exception or is refused
+class_call_gives : (objects : List Payload) (f : Obj) (c : ClassBody) (vs : List Obj) (b : Bool) (reply : Reply)
+    → HasPayload objects f (payload.Class c) → AllBelow (length objects) (numbers vs) → CallsClass objects f c vs b reply → IsThere objects reply
+class_call_gives objects f c vs true reply has below is = subst (IsThere objects) (sym is) ((c, has), below)
+class_call_gives objects f c vs false reply has below (n, named, is) = subst (IsThere objects) (sym is) tt
+
+-- of the call of an object with this payload
+calls_as_give : (objects : List Payload) (f : Obj) (p : Payload) (vs : List Obj) (reply : Reply)
+    → HasPayload objects f p → AllBelow (length objects) (numbers vs) → CallsAs objects f p vs reply → IsThere objects reply
+calls_as_give objects f (payload.Class c) vs reply has below (b, derived, calls) = class_call_gives objects f c vs b reply has below calls
+calls_as_give objects f (payload.Function b) vs reply has below calls = absurd calls
+calls_as_give objects f _ vs reply has below (n, named, is) = subst (IsThere objects) (sym is) tt
+
+-- the front of numbers that are below
+front_below : (n : ℕ) (xs ys : List ℕ) → AllBelow n (xs ++ ys) → AllBelow n xs
+front_below n [] ys below = tt
+front_below n (x ∷ xs) ys (low, below) = (low, front_below n xs ys below)
 
 -- an object that is replied is there
-pub replied_there : (objects : List Payload) (r : Request) (reply : Reply) → AreFirst objects → Replies objects r reply → IsThere objects reply
-replied_there objects (request.Binary op a b) reply first (p, q, left, right, has_p, has_q, is_left, is_right, is) = operated_gives objects op p q left right reply is
-replied_there objects (request.Compare op a b) reply first compares = compares_gives objects op a b reply compares
-replied_there objects (request.Truth v) reply first (p, has, is) = subst (IsThere objects) (sym is) tt
-replied_there objects (request.Match e c) reply first (p, q, has_p, has_q, matches) = matches_gives objects p c q reply matches
-replied_there objects (request.Global globals x) reply first is = subst (IsThere objects) (sym is) (found_gives objects x (declared objects x) refl)
-replied_there objects (request.Show v) reply first is = subst (IsThere objects) (sym is) tt
-replied_there objects (request.Unbound x) reply first is = subst (IsThere objects) (sym is) tt
-replied_there objects (request.Raisable v) reply first (p, has, raises) = raises_give objects v p reply first has raises
-replied_there objects _ reply first is = absurd is
+pub replied_there : (objects : List Payload) (r : Request) (reply : Reply) → AllBelow (length objects) (request_numbers r) → Replies objects r reply → IsThere objects reply
+replied_there objects (request.Binary op a b) reply below (p, q, left, right, has_p, has_q, is_left, is_right, is) = operated_gives objects op p q left right reply is
+replied_there objects (request.Compare op a b) reply below compares = compares_gives objects op a b reply compares
+replied_there objects (request.Truth v) reply below (p, has, is) = subst (IsThere objects) (sym is) tt
+replied_there objects (request.Match e c) reply below (p, q, has_p, has_q, matches) = matches_gives objects p c q reply matches
+replied_there objects (request.Global globals x) reply below is = subst (IsThere objects) (sym is) (found_gives objects x (declared objects x) refl)
+replied_there objects (request.Show v) reply below is = subst (IsThere objects) (sym is) tt
+replied_there objects (request.Unbound x) reply below is = subst (IsThere objects) (sym is) tt
+replied_there objects (request.Raisable v) reply below raises = raises_give objects v reply raises
+replied_there objects (request.Call f vs named) reply below (none, (p, has, calls)) =
+    calls_as_give objects f p vs reply has (front_below (length objects) (numbers vs) (keyword_numbers named) below.1) calls
+replied_there objects _ reply below is = absurd is

@@ -4,3 +4,5 @@ pub mod ReadingLemmas
 pub mod AnswersLemmas
 -- replies among more objects
 pub mod RepliesLemmas
+-- objects that give replies
+pub mod GivingLemmas

@@ -1,20 +1,32 @@
 -- What is read of objects: what was made, but for the pairs of dicts.
-use Rattle.std.proofs.Common.{◌≡◌, ℕ, zero, suc, List, [], ◌∷◌, Some, inl, inr, refl, sym, ap, subst, ◌∙◌, set, slice_get}
-use Rattle.std.specs.Prelude.{Option, None, ◌⊎◌}
+use Rattle.std.proofs.Common.{◌≡◌, ℕ, zero, suc, List, [], ◌∷◌, Bool, true, false, Some, Ok, Err, inl, inr, refl, sym, ap, subst, ◌∙◌, set, slice_get}
+use Rattle.std.specs.Prelude.{Option, None, Result, ◌⊎◌}
 use Rattle.py_objects.specs.declared.payload.Payload.{Payload}
 use Rattle.py_objects.specs.declared.payload.Payload.TheVariants as payload
+use Rattle.py_objects.specs.declared.payload.ClassBody.{ClassBody}
+use Rattle.py_objects.specs.declared.error_kind.ErrorKind.TheVariants.{BaseException}
+use Rattle.py_objects.specs.ErrorKinds.{name_of}
 use Rattle.py_objects.specs.declared.edit.Change.{Change}
 use Rattle.py_objects.specs.declared.request.Request.TheVariants as request
 use Rattle.py_code.specs.declared.operator.BinaryOperator.{BinaryOperator}
 use Rattle.py_code.specs.declared.operator.BinaryOperator.TheVariants as binary
-use Rattle.py_objects.specs.Objects.{Obj, Name, IsMade, AllFit}
+use Rattle.py_objects.specs.Objects.{Obj, Name, HasPayload, class_object, IsMade, AllFit}
 use Rattle.py_objects.specs.Pairs.{Pairs}
 use Rattle.py_objects.specs.Edits.{Kept, edited, edited_pairs, edited_entry, with_edit, changed_by, objects_of}
 use Rattle.py_objects.specs.Originals.{IsDict}
+use Rattle.py_objects.specs.Ancestry.{IsDerived}
+use Rattle.py_objects.proofs.AncestryLemmas.{changed_derives}
+use Rattle.py_objects.proofs.ChangesLemmas.{changes_keep, class_object_now, class_made}
+use Rattle.py_exceptions.specs.declared.ctor.ExceptionCtor.{ExceptionCtor}
+use Rattle.py_exceptions.specs.declared.ctor.CtorFault.{CtorFault}
+use Rattle.py_exceptions.specs.declared.ctor.CtorFault.TheVariants as ctor_fault
+use Rattle.py_exceptions.specs.Constructing.{ClassTaken, IsTaken, IsTakenFor}
+use Rattle.py_exceptions.specs.Deriving.{IsInstanceOf}
+use Rattle.py_exceptions.specs.Parts.{AreParts}
 use Rattle.py_answers.specs.Readable.{ChangeDicts}
 use Rattle.py_answers.specs.Replying.{IsLike, IsRead, IsOperated, IsLess}
 use Rattle.py_code.specs.declared.operator.ComparisonOperator.TheVariants as comparison
-use Rattle.py_answers.specs.Answers.{Reply, Compares, Replies, operated}
+use Rattle.py_answers.specs.Answers.{Reply, Compares, IsOfExceptions, Matches, Replies, operated, truth}
 
 -- an entry of a list with one entry set is that one, or was there
 set_gives : {X : Type 0} (xs : List X) (i : ℕ) (x : X) (j : ℕ) (y : X) → slice_get (set xs i x) j ≡ Some y → ((y ≡ x) × (j ≡ i)) ⊎ (slice_get xs j ≡ Some y)
@@ -38,7 +50,7 @@ dict_like ps q (inl same) = (ps, same)
 dict_like ps q (inr (rs, qs, first, second)) = (qs, second)
 
 -- two payloads of one object are one
-one_payload : (objects : List Payload) (n : ℕ) (p q : Payload) → slice_get objects n ≡ Some p → slice_get objects n ≡ Some q → p ≡ q
+pub one_payload : (objects : List Payload) (n : ℕ) (p q : Payload) → slice_get objects n ≡ Some p → slice_get objects n ≡ Some q → p ≡ q
 one_payload objects n p q first second = let both : Some p ≡ Some q = sym first ∙ second in cc
 
 -- an edited dict is a dict
@@ -61,6 +73,7 @@ edited_like made now c (Some r) is (ps, dict) like = λ n q here. by n q (set_gi
         (payload.Dict ps, subst (λ k. slice_get made k ≡ Some (payload.Dict ps)) (sym at) dict, inr (ps, edited_pairs now c.edit was.0, refl, same ∙ edited_dict now c r was.0 was.1))
     by n q (inr there) = like n q there
 
+-- changes of dicts alone, one behind the other
 changed_like : (made now : List Payload) (cs : List Change) → ChangeDicts made cs → AreLike made now → AreLike made (changed_by now cs)
 changed_like made now [] dicts like = like
 changed_like made now (c ∷ cs) dicts like =
@@ -85,11 +98,13 @@ said_of_read P p q (inr (ps, qs, first, second)) dicts said = subst P (sym secon
 pub read_made : (objects : List Payload) (o : Obj) (q : Payload) → AllFit objects → IsRead objects o q → IsMade objects q
 read_made objects o q fit (p, has, like) = said_of_read (IsMade objects) p q like (λ ps qs made. tt) (fit o.number p has).1
 
+-- an operator comes to the same of any two dicts on its left
 same_operated : (op : BinaryOperator) (ps qs : Pairs) (q : Payload) (left right : Name) → operated op (payload.Dict ps) q left right ≡ operated op (payload.Dict qs) q left right
 same_operated binary.Add ps qs q left right = refl
 same_operated binary.Subtract ps qs q left right = refl
 same_operated _ ps qs q left right = refl
 
+-- and on its right
 operated_same : (op : BinaryOperator) (ps qs : Pairs) (p : Payload) (left right : Name) → operated op p (payload.Dict ps) left right ≡ operated op p (payload.Dict qs) left right
 operated_same binary.Add ps qs p left right = refl
 operated_same binary.Subtract ps qs p left right = refl
@@ -115,3 +130,65 @@ less_as_made objects a b p q reply (p', has_p, like_p) (q', has_q, like_q) less_
     let (left, right, is_left, is_right, is) =
     said_of_made (λ k. IsLess objects p' k reply) q' q like_q (λ ps qs less. less) (said_of_made (λ k. IsLess objects k q reply) p' p like_p (λ ps qs less. less) less_pq) in
     (p', q', left, right, has_p, has_q, is_left, is_right, is)
+
+-- what is read as anything but a dict was made as that
+pub read_class : (objects : List Payload) (o : Obj) (q : Payload) (c : ClassBody) → IsRead objects o q → q ≡ payload.Class c → HasPayload objects o (payload.Class c)
+read_class objects o q c (p, has, inl same) is = subst (HasPayload objects o) (sym same ∙ is) has
+read_class objects o q c (p, has, inr (ps, qs, first, second)) is = let both : payload.Dict qs ≡ payload.Class c = sym second ∙ is in absurd (cc both)
+
+-- ---- objects as they are now, and as they were made
+
+-- a tuple stays what it was made as
+tuple_now : (s : Kept) (o : Obj) (vs : List Obj) → HasPayload s.made o (payload.Tuple vs) → HasPayload (objects_of s) o (payload.Tuple vs)
+tuple_now s o vs has =
+    let (p, now, is) = changes_keep (λ (p : Payload). p ≡ payload.Tuple vs) (λ objects x p is. ap (edited objects x) is) s.made s.changes o.number (payload.Tuple vs, has, refl) in
+    now ∙ ap Some is
+
+-- what an exception was made of is there now
+pub parts_now : (s : Kept) (p : Payload) → IsMade s.made p → AreParts (objects_of s) p
+parts_now s (payload.Exception e) made =
+    (class_object_now s (class_object e.class) (made.class, made.is_class), (made.arguments, tuple_now s e.args made.arguments made.are_arguments))
+parts_now s _ made = tt
+
+-- an instance now was made as one
+pub instance_as_made : (s : Kept) (p : Payload) (c : Obj) (b : Bool) → IsMade s.made p → IsInstanceOf (objects_of s) p c b → IsInstanceOf s.made p c b
+instance_as_made s (payload.Exception e) c b made (body, has, is) = (body, class_made s (class_object e.class) body (made.class, made.is_class) has, is)
+instance_as_made s _ c b made is = is
+
+-- what a class of exceptions catches, by what is read of both
+pub class_matches : (objects : List Payload) (e c : Obj) (p q : Payload) (d : ClassBody) (b : Bool)
+    → IsRead objects e p → IsRead objects c q → q ≡ payload.Class d → IsOfExceptions objects c true → IsInstanceOf objects p c b → Matches objects e c (truth b)
+class_matches objects e c p q d b (p', has, like) read is one caught =
+    (p', payload.Class d, has, read_class objects c q d read is, (true, one, (b, said_of_made (λ k. IsInstanceOf objects k c b) p' p like (λ ps qs same. same) caught, refl)))
+
+-- a class derives now from what it derived from as it was made
+derived_as_made : (s : Kept) (v : Obj) (c : ClassBody) (n : Name) (b : Bool) → HasPayload s.made v (payload.Class c) → IsDerived (objects_of s) v n b → IsDerived s.made v n b
+derived_as_made s v c n b has (d, now, is) = (c, has, is ∙ changed_derives s.made s.changes v n)
+
+-- what a class is taken for now, it is taken for as it was made
+class_taken_as_made : (s : Kept) (v : Obj) (c : ClassBody) (b : Bool) (taken : Result ExceptionCtor CtorFault) → ClassTaken (objects_of s) v c b taken → ClassTaken s.made v c b taken
+class_taken_as_made s v c true taken is = is
+class_taken_as_made s v c false (Ok k) is = is
+class_taken_as_made s v c false (Err (ctor_fault.NotException f)) is = is
+class_taken_as_made s v c false (Err ctor_fault.NoMemory) is = is
+
+-- what an object is taken for now, it is taken for as it was made
+taken_for_as_made : (s : Kept) (v : Obj) (p : Payload) (taken : Result ExceptionCtor CtorFault) → IsRead s.made v p → IsTakenFor (objects_of s) v p taken → IsTakenFor s.made v p taken
+taken_for_as_made s v (payload.Class c) taken read (b, derived, is) =
+    (b, derived_as_made s v c (name_of BaseException) b (read_class s.made v (payload.Class c) c read refl) derived, class_taken_as_made s v c b taken is)
+taken_for_as_made s v (payload.Exception e) taken read is = is
+taken_for_as_made s v _ (Ok c) read is = is
+taken_for_as_made s v _ (Err (ctor_fault.NotException f)) read is = is
+taken_for_as_made s v _ (Err ctor_fault.NoMemory) read is = is
+
+-- a dict is taken for the same, whatever its pairs
+dict_taken : (objects : List Payload) (v : Obj) (taken : Result ExceptionCtor CtorFault) (ps qs : Pairs) → IsTakenFor objects v (payload.Dict qs) taken → IsTakenFor objects v (payload.Dict ps) taken
+dict_taken objects v (Ok c) ps qs is = is
+dict_taken objects v (Err (ctor_fault.NotException f)) ps qs is = is
+dict_taken objects v (Err ctor_fault.NoMemory) ps qs is = is
+
+-- so what is taken for something now is taken for that as it was made
+pub taken_as_made : (s : Kept) (v : Obj) (taken : Result ExceptionCtor CtorFault) → ChangeDicts s.made s.changes → IsTaken (objects_of s) v taken → IsTaken s.made v taken
+taken_as_made s v taken dicts (q, has, is) =
+    let read : IsRead s.made v q = is_read s v q dicts has in
+    (read.0, read.1, said_of_made (λ k. IsTakenFor s.made v k taken) read.0 q read.2 (dict_taken s.made v taken) (taken_for_as_made s v q taken read is))

@@ -1,14 +1,17 @@
 -- Replies go over to more objects.
-use Rattle.std.proofs.Common.{◌≡◌, List, [], ◌∷◌, ◌||◌, Bool, eqb, Some, sym, ap, ◌∙◌}
-use Rattle.std.specs.Prelude.{Option, slice_get}
+use Rattle.std.proofs.Common.{◌≡◌, List, [], ◌∷◌, ◌||◌, Bool, true, false, eqb, Some, Ok, Err, inl, inr, sym, ap, ◌∙◌}
+use Rattle.std.specs.Prelude.{Option, Result, slice_get}
 use Rattle.py_objects.specs.declared.refs.PyBaseExceptionRef.{PyBaseExceptionRef}
 use Rattle.py_objects.specs.declared.payload.Payload.{Payload}
 use Rattle.py_objects.specs.declared.payload.Payload.TheVariants as payload
+use Rattle.py_objects.specs.declared.payload.ClassBody.{ClassBody}
 use Rattle.py_objects.specs.declared.error_kind.ErrorKind.{ErrorKind}
 use Rattle.py_objects.specs.declared.request.Request.{Request}
 use Rattle.py_objects.specs.declared.request.Request.TheVariants as request
 use Rattle.py_objects.specs.declared.event.GotAnswer.{GotAnswer}
 use Rattle.py_objects.specs.declared.event.GotAnswer.TheVariants as got
+use Rattle.py_objects.specs.declared.event.DriveAnswer.{DriveAnswer}
+use Rattle.py_objects.specs.declared.event.DriveAnswer.TheVariants as answer
 use Rattle.py_objects.specs.declared.event.Event.{Event}
 use Rattle.py_code.specs.declared.operator.ComparisonOperator.{ComparisonOperator}
 use Rattle.py_code.specs.declared.operator.ComparisonOperator.TheVariants as comparison
@@ -19,9 +22,13 @@ use Rattle.py_objects.specs.Growth.{Grows, GrowsPlainly}
 use Rattle.py_objects.proofs.AncestryLemmas.{derived_grows}
 use Rattle.py_objects.proofs.GrowthLemmas.{payload_grown, declared_stays, new_stays, plainly_grows}
 use Rattle.py_objects.specs.declared.refs.PyTypeRef.{PyTypeRef}
+use Rattle.py_exceptions.specs.declared.ctor.ExceptionCtor.{ExceptionCtor}
+use Rattle.py_exceptions.specs.declared.ctor.CtorFault.{CtorFault}
+use Rattle.py_exceptions.specs.declared.ctor.CtorFault.TheVariants as ctor_fault
+use Rattle.py_exceptions.specs.Constructing.{ClassTaken, IsTaken, IsTakenFor}
 use Rattle.py_exceptions.specs.Deriving.{IsInstanceOf}
 use Rattle.py_exceptions.proofs.TypeNamesLemmas.{type_name_grows}
-use Rattle.py_answers.specs.Answers.{Reply, Has, Is, Makes, Fails, truth, found, Compares, MatchesAs, RaisesAs, Replies, IsRaised, IsInstance, IsCalled, Gives}
+use Rattle.py_answers.specs.Answers.{Reply, Has, Is, Makes, Fails, Passes, truth, found, Compares, MatchesAs, MatchesClass, Raises, IsRefusedCall, Calls, CallsAs, CallsClass, Replies, IsRaised, IsInstance, IsCalled, GivesValue, GivesRaise, GivesBody, GivesDrive}
 
 -- objects that are there are one key as before
 same_key_grows : (objects objects' : List Payload) (a b : Obj) (p q : Payload) → Grows objects objects' → HasPayload objects a p → HasPayload objects b q
@@ -59,15 +66,61 @@ instance_of_grows : (objects objects' : List Payload) (p : Payload) (c : Obj) (b
 instance_of_grows objects objects' (payload.Exception e) c b grows (body, has, is) = (body, payload_grown objects objects' _ _ grows has, is)
 instance_of_grows objects objects' _ c b grows is = is
 
-matches_grow : (objects objects' : List Payload) (p : Payload) (c : Obj) (q : Payload) (reply : Reply) → Grows objects objects' → MatchesAs objects p c q reply → MatchesAs objects' p c q reply
-matches_grow objects objects' p c (payload.Class d) reply grows (b, caught, is) = (b, instance_of_grows objects objects' p c b grows caught, is)
+-- and whether a class is one of exceptions, and what it catches
+class_matches_grow : (objects objects' : List Payload) (p : Payload) (c : Obj) (b : Bool) (reply : Reply) → Grows objects objects' → MatchesClass objects p c b reply → MatchesClass objects' p c b reply
+class_matches_grow objects objects' p c true reply grows (b, caught, is) = (b, instance_of_grows objects objects' p c b grows caught, is)
+class_matches_grow objects objects' p c false reply grows is = is
+
+-- so what is replied to who asks whether an exception is caught stays
+matches_grow : (objects objects' : List Payload) (p : Payload) (c : Obj) (q : Payload) (reply : Reply) → GrowsPlainly objects objects' → MatchesAs objects p c q reply → MatchesAs objects' p c q reply
+matches_grow objects objects' p c (payload.Class d) reply grows (b, derived, matches) =
+    let more : Grows objects objects' = plainly_grows objects objects' grows in
+    (b, derived_grows objects objects' c _ b grows derived, class_matches_grow objects objects' p c b reply more matches)
 matches_grow objects objects' p c _ reply grows is = is
 
--- what an object is raised as stays
-raises_as_grow : (objects objects' : List Payload) (v : Obj) (p : Payload) (reply : Reply) → Grows objects objects' → RaisesAs objects v p reply → RaisesAs objects' v p reply
-raises_as_grow objects objects' v (payload.Class c) reply grows raises = raises
-raises_as_grow objects objects' v (payload.Exception e) reply grows raises = raises
-raises_as_grow objects objects' v p reply grows (n, named, is) = (n, type_name_grows objects objects' p n grows named, is)
+-- what a class is taken for stays
+class_taken_grows : (objects objects' : List Payload) (v : Obj) (c : ClassBody) (b : Bool) (taken : Result ExceptionCtor CtorFault) → ClassTaken objects v c b taken → ClassTaken objects' v c b taken
+class_taken_grows objects objects' v c true taken is = is
+class_taken_grows objects objects' v c false (Ok k) is = is
+class_taken_grows objects objects' v c false (Err (ctor_fault.NotException f)) is = is
+class_taken_grows objects objects' v c false (Err ctor_fault.NoMemory) is = is
+
+-- and what any object is taken for
+taken_for_grows : (objects objects' : List Payload) (v : Obj) (p : Payload) (taken : Result ExceptionCtor CtorFault) → GrowsPlainly objects objects' → IsTakenFor objects v p taken → IsTakenFor objects' v p taken
+taken_for_grows objects objects' v (payload.Class c) taken grows (b, derived, is) = (b, derived_grows objects objects' v _ b grows derived, class_taken_grows objects objects' v c b taken is)
+taken_for_grows objects objects' v (payload.Exception e) taken grows is = is
+taken_for_grows objects objects' v p (Ok c) grows is = is
+taken_for_grows objects objects' v p (Err (ctor_fault.NotException f)) grows (n, named, is) = (n, type_name_grows objects objects' p n (plainly_grows objects objects' grows) named, is)
+taken_for_grows objects objects' v p (Err ctor_fault.NoMemory) grows is = is
+
+-- so what an object is taken for, whatever its payload, stays
+taken_grows : (objects objects' : List Payload) (v : Obj) (taken : Result ExceptionCtor CtorFault) → GrowsPlainly objects objects' → IsTaken objects v taken → IsTaken objects' v taken
+taken_grows objects objects' v taken grows (p, has, is) = (p, payload_grown objects objects' v p (plainly_grows objects objects' grows) has, taken_for_grows objects objects' v p taken grows is)
+
+-- so what it is raised as stays
+raises_grow : (objects objects' : List Payload) (v : Obj) (reply : Reply) → GrowsPlainly objects objects' → Raises objects v reply → Raises objects' v reply
+raises_grow objects objects' v reply grows (inl (c, taken, is)) = inl (c, taken_grows objects objects' v (Ok c) grows taken, is)
+raises_grow objects objects' v reply grows (inr (f, taken, is)) = inr (f, taken_grows objects objects' v (Err (ctor_fault.NotException f)) grows taken, is)
+
+-- and what its call makes
+refused_call_grows : (objects objects' : List Payload) (p : Payload) (reply : Reply) → GrowsPlainly objects objects' → IsRefusedCall objects p reply → IsRefusedCall objects' p reply
+refused_call_grows objects objects' p reply grows (n, named, is) = (n, type_name_grows objects objects' p n (plainly_grows objects objects' grows) named, is)
+
+-- what the call of a class comes to stays
+class_call_grows : (objects objects' : List Payload) (f : Obj) (c : ClassBody) (vs : List Obj) (b : Bool) (reply : Reply) → GrowsPlainly objects objects' → CallsClass objects f c vs b reply → CallsClass objects' f c vs b reply
+class_call_grows objects objects' f c vs true reply grows is = is
+class_call_grows objects objects' f c vs false reply grows refused = refused_call_grows objects objects' (payload.Class c) reply grows refused
+
+-- and what the call of an object with this payload comes to
+calls_as_grow : (objects objects' : List Payload) (f : Obj) (p : Payload) (vs : List Obj) (reply : Reply) → GrowsPlainly objects objects' → CallsAs objects f p vs reply → CallsAs objects' f p vs reply
+calls_as_grow objects objects' f (payload.Class c) vs reply grows (b, derived, calls) =
+    (b, derived_grows objects objects' f _ b grows derived, class_call_grows objects objects' f c vs b reply grows calls)
+calls_as_grow objects objects' f (payload.Function b) vs reply grows calls = absurd calls
+calls_as_grow objects objects' f p vs reply grows refused = refused_call_grows objects objects' p reply grows refused
+
+-- so what the call of an object comes to stays
+calls_grow : (objects objects' : List Payload) (f : Obj) (vs : List Obj) (reply : Reply) → GrowsPlainly objects objects' → Calls objects f vs reply → Calls objects' f vs reply
+calls_grow objects objects' f vs reply grows (p, has, calls) = (p, payload_grown objects objects' f p (plainly_grows objects objects' grows) has, calls_as_grow objects objects' f p vs reply grows calls)
 
 -- so do replies, as more objects come that declare nothing
 pub replies_grow : (objects objects' : List Payload) (r : Request) (reply : Reply) → GrowsPlainly objects objects' → Replies objects r reply → Replies objects' r reply
@@ -87,26 +140,28 @@ replies_grow objects objects' (request.Compare op a b) reply grows compares = co
 replies_grow objects objects' (request.Truth v) reply grows (p, has, is) = (p, payload_grown objects objects' v p (plainly_grows objects objects' grows) has, is)
 replies_grow objects objects' (request.Match e c) reply grows (p, q, has_p, has_q, matches) =
     let more : Grows objects objects' = plainly_grows objects objects' grows in
-    (p, q, payload_grown objects objects' e p more has_p, payload_grown objects objects' c q more has_q, matches_grow objects objects' p c q reply more matches)
+    (p, q, payload_grown objects objects' e p more has_p, payload_grown objects objects' c q more has_q, matches_grow objects objects' p c q reply grows matches)
 replies_grow objects objects' (request.Global globals x) reply grows is = is ∙ ap (found x) (sym (declared_stays objects objects' x grows))
 replies_grow objects objects' (request.Show v) reply grows is = is
 replies_grow objects objects' (request.Unbound x) reply grows is = is
-replies_grow objects objects' (request.Raisable v) reply grows (p, has, raises) =
-    let more : Grows objects objects' = plainly_grows objects objects' grows in
-    (p, payload_grown objects objects' v p more has, raises_as_grow objects objects' v p reply more raises)
+replies_grow objects objects' (request.Raisable v) reply grows raises = raises_grow objects objects' v reply grows raises
+replies_grow objects objects' (request.Call f vs named) reply grows (none, calls) = (none, calls_grow objects objects' f vs reply grows calls)
 replies_grow objects objects' _ reply grows is = absurd is
 
+-- a new exception still is one
 instance_grows : (objects objects' : List Payload) (before : List Event) (class : PyTypeRef) (args : List Obj) (attrs : Attrs) (v : Obj)
     → GrowsPlainly objects objects' → IsInstance objects before class args attrs v → IsInstance objects' before class args attrs v
 instance_grows objects objects' before class args attrs v grows made =
     let more : Grows objects objects' = plainly_grows objects objects' grows in
     record { new = new_stays objects objects' before v.number grows made.new; args = made.args; entry = payload_grown objects objects' _ _ more made.entry; are = payload_grown objects objects' _ _ more made.are }
 
+-- so is what the call of a class made
 called_grows : (objects objects' : List Payload) (before : List Event) (class : PyTypeRef) (args : List Obj) (v : Obj)
     → GrowsPlainly objects objects' → IsCalled objects before class args v → IsCalled objects' before class args v
 called_grows objects objects' before class args v grows (os, derived, made) =
-    (os, derived_grows objects objects' _ _ os (plainly_grows objects objects' grows) derived, instance_grows objects objects' before class _ _ v grows made)
+    (os, derived_grows objects objects' _ _ os grows derived, instance_grows objects objects' before class _ _ v grows made)
 
+-- and what was raised with a text
 raised_grows : (objects objects' : List Payload) (before : List Event) (kind : ErrorKind) (text : Name) (e : PyBaseExceptionRef)
     → GrowsPlainly objects objects' → IsRaised objects before kind text e → IsRaised objects' before kind text e
 raised_grows objects objects' before kind text e grows raised = record {
@@ -117,17 +172,33 @@ raised_grows objects objects' before kind text e grows raised = record {
   made = instance_grows objects objects' before raised.class (raised.argument ∷ []) [] (as_object e) grows raised.made;
 }
 
--- and answers
-pub gives_grow : (objects objects' : List Payload) (before : List Event) (reply : Reply) (w : GotAnswer) → GrowsPlainly objects objects' → Gives objects before reply w → Gives objects' before reply w
-gives_grow objects objects' before (Has p) (got.Value v) grows gives = payload_grown objects objects' v p (plainly_grows objects objects' grows) gives
-gives_grow objects objects' before (Has p) (got.Stop v) grows gives = absurd gives
-gives_grow objects objects' before (Has p) (got.Raise e) grows gives = absurd gives
-gives_grow objects objects' before (Is v) (got.Value w) grows gives = gives
-gives_grow objects objects' before (Is v) (got.Stop w) grows gives = absurd gives
-gives_grow objects objects' before (Is v) (got.Raise e) grows gives = absurd gives
-gives_grow objects objects' before (Makes class args) (got.Value v) grows gives = called_grows objects objects' before class args v grows gives
-gives_grow objects objects' before (Makes class args) (got.Stop v) grows gives = absurd gives
-gives_grow objects objects' before (Makes class args) (got.Raise e) grows gives = absurd gives
-gives_grow objects objects' before (Fails kind text) (got.Value v) grows gives = absurd gives
-gives_grow objects objects' before (Fails kind text) (got.Stop v) grows gives = absurd gives
-gives_grow objects objects' before (Fails kind text) (got.Raise e) grows gives = raised_grows objects objects' before kind text e grows gives
+-- a value still is what a reply says
+gives_value_grow : (objects objects' : List Payload) (before : List Event) (reply : Reply) (v : Obj) → GrowsPlainly objects objects' → GivesValue objects before reply v → GivesValue objects' before reply v
+gives_value_grow objects objects' before (Has p) v grows gives = payload_grown objects objects' v p (plainly_grows objects objects' grows) gives
+gives_value_grow objects objects' before (Is w) v grows gives = gives
+gives_value_grow objects objects' before (Makes class args) v grows gives = called_grows objects objects' before class args v grows gives
+gives_value_grow objects objects' before (Fails kind text) v grows gives = absurd gives
+gives_value_grow objects objects' before (Passes e) v grows gives = absurd gives
+
+-- and an exception the one that it raises
+gives_raise_grow : (objects objects' : List Payload) (before : List Event) (reply : Reply) (e : PyBaseExceptionRef) → GrowsPlainly objects objects' → GivesRaise objects before reply e → GivesRaise objects' before reply e
+gives_raise_grow objects objects' before (Has p) e grows gives = absurd gives
+gives_raise_grow objects objects' before (Is w) e grows gives = absurd gives
+gives_raise_grow objects objects' before (Makes class args) e grows gives = absurd gives
+gives_raise_grow objects objects' before (Fails kind text) e grows gives = raised_grows objects objects' before kind text e grows gives
+gives_raise_grow objects objects' before (Passes x) e grows gives = gives
+
+-- so the answer that a body gets gives the reply as before
+pub gives_body_grow : (objects objects' : List Payload) (before : List Event) (reply : Reply) (w : GotAnswer) → GrowsPlainly objects objects' → GivesBody objects before reply w → GivesBody objects' before reply w
+gives_body_grow objects objects' before reply (got.Value v) grows gives = gives_value_grow objects objects' before reply v grows gives
+gives_body_grow objects objects' before reply (got.Stop v) grows gives = absurd gives
+gives_body_grow objects objects' before reply (got.Raise e) grows gives = gives_raise_grow objects objects' before reply e grows gives
+
+-- and so does the result of a drive
+pub gives_drive_grow : (objects objects' : List Payload) (before : List Event) (reply : Reply) (w : DriveAnswer) → GrowsPlainly objects objects' → GivesDrive objects before reply w → GivesDrive objects' before reply w
+gives_drive_grow objects objects' before reply (answer.Returns v) grows gives = gives_value_grow objects objects' before reply v grows gives
+gives_drive_grow objects objects' before reply (answer.Yields v) grows gives = absurd gives
+gives_drive_grow objects objects' before reply (answer.Stops v) grows gives = absurd gives
+gives_drive_grow objects objects' before reply answer.Closes grows gives = absurd gives
+gives_drive_grow objects objects' before reply (answer.Raises e) grows gives = gives_raise_grow objects objects' before reply e grows gives
+gives_drive_grow objects objects' before reply (answer.Reported text) grows gives = absurd gives

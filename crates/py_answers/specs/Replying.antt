@@ -7,24 +7,30 @@ use Rattle.py_objects.specs.declared.request.Request.TheVariants as request
 use Rattle.py_objects.specs.declared.payload.Payload.{Payload}
 use Rattle.py_objects.specs.declared.payload.Payload.TheVariants as payload
 use Rattle.py_code.specs.declared.operator.BinaryOperator.{BinaryOperator}
-use Rattle.py_objects.specs.Objects.{Obj, Name, HasPayload, numbers, AllBelow}
+use Rattle.py_objects.specs.declared.request.Keywords.TheVariants as keywords
+use Rattle.py_objects.specs.declared.payload.FunctionBody.{FunctionBody}
+use Rattle.py_objects.specs.declared.event.Event.{Event}
+use Rattle.py_objects.specs.Objects.{Obj, Name, HasPayload, class_object, numbers, AllBelow, AreNamed, IsClassObject, IsFunction, is_positional}
 use Rattle.py_objects.specs.Pairs.{Pairs}
 use Rattle.py_answers.specs.declared.reply.Reply.{Reply as MadeReply}
 use Rattle.py_answers.specs.declared.reply.Reply.TheVariants as made
-use Rattle.py_answers.specs.Answers.{Reply, Has, Is, Makes, Fails, IsTypeName, operated, sum, difference, less, not_supported}
-use Rattle.py_exceptions.specs.Making.{IsClass}
+use Rattle.py_answers.specs.declared.answering.Answered.{Answered}
+use Rattle.py_answers.specs.declared.answering.Answered.TheVariants as answered
+use Rattle.py_answers.specs.Answers.{Reply, Has, Is, Makes, Fails, Passes, GivesValue, IsTypeName, Calls, Replies, operated, sum, difference, less, not_supported}
 
--- the requests to which there is a reply: no calls
-abbrev pub is_replied : Request → Bool
-is_replied (request.Binary op a b) = is_asked op
-is_replied (request.Compare op a b) = is_compared op
-is_replied (request.Global globals x) = true
-is_replied (request.Match e c) = true
-is_replied (request.Show v) = true
-is_replied (request.Truth v) = true
-is_replied (request.Unbound x) = true
-is_replied (request.Raisable v) = true
-is_replied _ = false
+-- the requests that are answered, by a reply or by the machine: of calls those without keyword arguments
+abbrev pub is_answered : Request → Bool
+is_answered (request.Binary op a b) = is_asked op
+is_answered (request.Compare op a b) = is_compared op
+is_answered (request.Global globals x) = true
+is_answered (request.Match e c) = true
+is_answered (request.Show v) = true
+is_answered (request.Truth v) = true
+is_answered (request.Unbound x) = true
+is_answered (request.Raisable v) = true
+is_answered request.Handled = true
+is_answered (request.Call f vs named) = is_positional named
+is_answered _ = false
 
 -- the reply that a made one is
 abbrev pub reply_of : MadeReply → Reply
@@ -46,12 +52,53 @@ IsSized (made.Str s) = Unit {0}
 IsSized (made.Makes class args) = Unit {0}
 IsSized (made.Fails kind text) = Unit {0}
 
+-- an object is what a reply says, whatever happened before, and is there
+pub record IsValueOf (old new : List Payload) (reply : Reply) (v : Obj) : Type 0 where
+  pub gives : (before : List Event) → AreNamed old before → GivesValue new before reply v
+  pub below : v.number < length new
+
+-- requests that a machine answers by what it runs: the one for what is handled, and calls of functions
+abbrev pub IsOfMachine : List Payload → Request → Type 0
+IsOfMachine objects r =
+    (r ≡ request.Handled)
+    ⊎ ((f : Obj) × (vs : List Obj) × (b : FunctionBody) × (r ≡ request.Call f vs keywords.None) × HasPayload objects f (payload.Function b))
+
+-- what a request is answered among these objects, behind which there may be more by then: an object that is what the reply says, the raise that
+-- the reply is, or nothing, where a machine answers it or memory ran out
+abbrev pub IsAnsweredBy : (old new : List Payload) → Request → Answered → Type 0
+IsAnsweredBy old new r (answered.Done v) = (reply : Reply) × Replies old r reply × IsValueOf old new reply v
+IsAnsweredBy old new r (answered.Fault f) = Replies old r (Fails f.kind f.text)
+IsAnsweredBy old new r (answered.Raise kind args) = ⊥
+IsAnsweredBy old new r (answered.Passed e) = ⊥
+IsAnsweredBy old new r answered.Machine = IsOfMachine old r
+IsAnsweredBy old new r answered.NoMemory = Unit {0}
+
+-- what gives a reply among these objects, behind which there may be more by then
+abbrev pub IsGiven : (old new : List Payload) → Reply → Answered → Type 0
+IsGiven old new reply (answered.Done v) = IsValueOf old new reply v
+IsGiven old new reply (answered.Fault f) = reply ≡ Fails f.kind f.text
+IsGiven old new reply (answered.Raise kind args) = ⊥
+IsGiven old new reply (answered.Passed e) = ⊥
+IsGiven old new reply answered.Machine = ⊥
+IsGiven old new reply answered.NoMemory = Unit {0}
+
+-- a reply is the one to a request; where there is none, a machine answers it
+abbrev pub IsReplied : List Payload → Request → Option MadeReply → Type 0
+IsReplied objects r None = IsOfMachine objects r
+IsReplied objects r (Some reply) = Replies objects r (reply_of reply) × IsSized reply
+
+-- a reply is the one to a call; where there is none, a function is called
+abbrev pub IsCallReplied : List Payload → Obj → List Obj → Option MadeReply → Type 0
+IsCallReplied objects f vs None = IsFunction objects f
+IsCallReplied objects f vs (Some reply) = Calls objects f vs (reply_of reply) × IsSized reply
+
 -- the objects among replies are there
 abbrev pub IsThere : List Payload → Reply → Type 0
 IsThere objects (Has p) = Unit {0}
 IsThere objects (Is v) = v.number < length objects
-IsThere objects (Makes class args) = IsClass objects class × AllBelow (length objects) (numbers args)
+IsThere objects (Makes class args) = IsClassObject objects (class_object class) × AllBelow (length objects) (numbers args)
 IsThere objects (Fails kind text) = Unit {0}
+IsThere objects (Passes e) = Unit {0}
 
 -- two texts as one, where both are there
 abbrev pub joined : Option Name → Option Name → Option Name

@@ -1,8 +1,11 @@
 //! What a request is answered, one request at a time.
 #![tactic(auto)]
 
+mod answering;
 mod arithmetic;
+mod calling;
 mod comparison;
+mod giving;
 mod matching;
 mod names;
 mod raising;
@@ -10,5 +13,5 @@ mod refusals;
 mod reply;
 mod values;
 
-pub use reply::{Reply, reply_to};
+pub use answering::{Answered, answer};
 pub use values::entry;

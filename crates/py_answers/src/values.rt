@@ -1,10 +1,12 @@
 //! What an object is, as the rows of answers read it.
 
 ghost use Rattle.std.specs.Prelude.{◌<◌, length};
+ghost use Rattle.py_objects.specs.Objects.{IsClassObject};
+ghost use Rattle.py_answers.specs.Answers.{IsOfExceptions};
 ghost use Rattle.py_answers.specs.Replying.{IsRead};
 ghost use Rattle.py_answers.specs.Readable.{IsReadable};
 
-use py_objects::{Payload, PyObjectRef, Store};
+use py_objects::{ErrorKind, Payload, PyObjectRef, PyTypeRef, Store};
 
 /// What an object is: as it was made, but for the pairs of a dict.
 pub fn entry(store: &Store, object: PyObjectRef) -> &Payload
@@ -13,4 +15,15 @@ pub fn entry(store: &Store, object: PyObjectRef) -> &Payload
     ensures { IsRead store.now.made object result.now }
 {
     store.get(object)
+}
+
+/// Whether a class is one of exceptions: it is `BaseException`, or derives from it.
+pub(crate) fn is_of_exceptions(store: &Store, class: PyObjectRef) -> bool
+    requires { IsClassObject store.now.made class }
+    ensures { IsOfExceptions store.now.made class result }
+{
+    let class = PyTypeRef {
+        number: class.number,
+    };
+    store.derives_from(class, ErrorKind::BaseException)
 }

@@ -1,7 +1,7 @@
 -- The built-in classes stand one behind the other, each behind its bases.
-use Rattle.std.proofs.Common.{◌≡◌, ◌<◌, ◌≤◌, ◌+◌, ◌++◌, ℕ, zero, suc, List, [], ◌∷◌, Bool, true, false, cond, Some, map, refl, sym, ap, ◌∙◌, subst, length, length-append, append-nil, length-take-le, append_assoc, take, drop, take-append-drop, drop-cons, get_or, eqb, arith}
+use Rattle.std.proofs.Common.{◌≡◌, ◌<◌, ◌≤◌, ◌+◌, ◌++◌, ℕ, suc, List, [], ◌∷◌, Bool, true, false, cond, Some, map, refl, sym, ap, ◌∙◌, subst, length, length-append, append-nil, length-take-le, append_assoc, take, drop, take-append-drop, drop-cons, get_or, eqb, arith, inl, inr}
 use Rattle.std.proofs.lemmas.Bool.{and_parts, eqb-true, ltb-true}
-use Rattle.std.specs.Prelude.{Option, None, slice_get, option_map, bytes_eq, nat_lt}
+use Rattle.std.specs.Prelude.{None, slice_get, option_map, bytes_eq, nat_lt}
 use Rattle.std.specs.List.{AllZip, list_all}
 use Rattle.std.proofs.lemmas.List.{length-map, take_all, take_more, map_push}
 use Rattle.std.proofs.lemmas.Option.{slice_get-map, slice_get-get_or}
@@ -16,10 +16,10 @@ use Rattle.py_objects.specs.Edits.{Kept}
 use Rattle.py_objects.specs.Growth.{Grows, with_object}
 use Rattle.py_objects.specs.AttrEntries.{value_of}
 use Rattle.py_objects.proofs.ErrorKindsLemmas.{placed, place_at, each_kind, place_below, are_placed, all_placed}
-use Rattle.py_objects.proofs.GrowthLemmas.{slice_get_grown, payload_grown, declared_grown}
+use Rattle.py_objects.proofs.GrowthLemmas.{slice_get_grown, slice_get_behind, payload_grown, declared_grown}
 use Rattle.py_exceptions.specs.declared.zoo.ExceptionZoo.{ExceptionZoo}
 use Rattle.py_exceptions.specs.BuiltIn.{IsClassOf}
-use Rattle.py_exceptions.specs.Classes.{class_of, mro_of, class_payload, class_payloads, declarations_of, DeclareNothing, HaveClasses}
+use Rattle.py_exceptions.specs.Classes.{class_of, mro_of, class_payload, class_payloads, classes_behind, declarations_of, AreBegun, DeclareNothing, HaveClasses, IsAddedOrNot}
 
 -- ---- the names of the classes
 
@@ -100,12 +100,6 @@ pub mro_below : (zoo : ExceptionZoo) (kind : ErrorKind) → AllBelow (zoo.first 
 mro_below zoo kind = below_by zoo (place_of kind) (bases_of kind) (bases_before kind)
 
 -- ---- the classes behind objects that declare nothing
-
--- an entry behind others
-slice_get_behind : {A : Type 0} (xs ys : List A) (i : ℕ) → slice_get (xs ++ ys) (length xs + i) ≡ slice_get ys i
-slice_get_behind [] ys i = ap (slice_get ys) (let same : 0 + i ≡ i = omega arith in same)
-slice_get_behind (x ∷ xs) ys i =
-    ap (slice_get ((x ∷ xs) ++ ys)) (let same : suc (length xs) + i ≡ suc (length xs + i) = omega arith in same) ∙ slice_get_behind xs ys i
 
 -- what is declared behind objects that declare nothing
 pub declared_behind : (i : ℕ) (old more : List Payload) (n : Name) → DeclareNothing old → declared_from i (old ++ more) n ≡ declared_from (i + length old) more n
@@ -199,6 +193,30 @@ module _ (zoo : ExceptionZoo) (s0 s1 : Kept) (kinds : List ErrorKind) (are : kin
       ap (place_in (name_of kind)) (sym split) ∙ place_at i kind at ∙ sym (length-take-le i error_kinds (omega (arith, within))) in
       added ∙ ap (inserted (name_of kind) class) names ∙ inserted_last zoo kind (take i error_kinds) (drop (suc i) error_kinds) class place
       ∙ sym (map_push (named zoo) (take i error_kinds) kind) ∙ ap (declarations zoo) (sym last_kind)
+
+-- ---- memory that runs out
+
+-- so many classes and names are there
+begun : (zoo : ExceptionZoo) (s0 s2 : Kept) (names : Attrs) (n m : ℕ) → m ≤ n → n ≤ m + 1 → zoo.first ≡ length s0.made → s2 ≡ with_classes zoo s0 (take n error_kinds)
+    → names ≡ declarations zoo (take m error_kinds) → AreBegun s0 s2 names
+begun zoo s0 s2 names n m there but_one first added declared =
+    let same : zoo ≡ classes_behind s0 = ap (λ (k : ℕ). let z : ExceptionZoo = record { first = k } in z) first in
+    record {
+      classes = n;
+      added = added ∙ ap (λ (z : ExceptionZoo). with_classes z s0 (take n error_kinds)) same;
+      named = m;
+      there = there;
+      but_one = but_one;
+      declared = declared ∙ ap (λ (z : ExceptionZoo). declarations z (take m error_kinds)) same;
+    }
+
+-- also where the class of a kind is the next, or isn't
+pub begun_next : (zoo : ExceptionZoo) (s0 s1 s2 : Kept) (kinds : List ErrorKind) → kinds ≡ error_kinds → (i : ℕ) (d : ErrorKind) → i < length kinds
+    → s1 ≡ with_classes zoo s0 (take i error_kinds) → zoo.first ≡ length s0.made → IsAddedOrNot s1 s2 (class_payload zoo (get_or kinds i d))
+    → (before after : Attrs) → before ≡ declarations zoo (take i error_kinds) → after ≡ before → AreBegun s0 s2 after
+begun_next zoo s0 s1 s2 kinds are i d low so_far first (inl same) before after names kept = begun zoo s0 s2 after i i (omega arith) (omega arith) first (same ∙ so_far) (kept ∙ names)
+begun_next zoo s0 s1 s2 kinds are i d low so_far first (inr added) before after names kept =
+    begun zoo s0 s2 after (i + 1) i (omega arith) (omega arith) first (classes_next zoo s0 s1 kinds are i d low so_far s2 added) (kept ∙ names)
 
 -- the classes of all kinds
 pub classes_last : (zoo : ExceptionZoo) (s0 s1 : Kept) (i : ℕ) → length error_kinds ≤ i → s1 ≡ with_classes zoo s0 (take i error_kinds) → s1 ≡ record s0 { made = s0.made ++ class_payloads zoo }

@@ -7,16 +7,16 @@ use Rattle.py_objects.specs.declared.payload.Payload.{Payload}
 use Rattle.py_objects.specs.declared.payload.Payload.TheVariants as payload
 use Rattle.py_objects.specs.declared.error_kind.ErrorKind.{ErrorKind}
 use Rattle.py_objects.specs.ErrorKinds.{name_of}
-use Rattle.py_objects.specs.Objects.{Obj, Name, HasPayload, as_object, class_object, declares, payload_numbers, numbers, attr_numbers, AllBelow}
+use Rattle.py_objects.specs.Objects.{Obj, Name, HasPayload, as_object, class_object, payload_numbers, numbers, attr_numbers, AllBelow, IsClassObject}
 use Rattle.py_objects.specs.Attrs.{Attrs}
-use Rattle.py_objects.specs.Growth.{Grows, IsGrown, with_object}
+use Rattle.py_objects.specs.Growth.{IsGrown, with_object}
 use Rattle.py_objects.specs.Values.{new_exception}
 use Rattle.py_objects.specs.Edits.{Kept}
-use Rattle.py_objects.proofs.GrowthLemmas.{payload_grown, declared_grown, below_more, length_grown}
+use Rattle.py_objects.proofs.GrowthLemmas.{payload_grown, below_more, length_grown}
 use Rattle.py_exceptions.specs.declared.zoo.ExceptionZoo.{ExceptionZoo}
 use Rattle.py_exceptions.specs.Classes.{class_of, HaveClasses}
 use Rattle.py_exceptions.specs.Keeping.{kept_args, kept_attrs}
-use Rattle.py_exceptions.specs.Making.{IsClass, IsNewInstance, IsNewException}
+use Rattle.py_exceptions.specs.Making.{IsNewInstance, IsNewException}
 use Rattle.py_objects.proofs.GrownLemmas.{objects_grow, grown_trans, added_grown, added_made, added_below}
 use Rattle.py_objects.proofs.NewLemmas.{added_has}
 
@@ -33,19 +33,18 @@ text_grows s0 s1 text added = added_grown s0 s1 (payload.Str text) added refl (�
 pub tuple_grows : (s0 s1 : Kept) (arguments : List Obj) → AllBelow (length s0.made) (numbers arguments) → s1 ≡ with_object s0 (payload.Tuple arguments) → IsGrown s0 s1
 tuple_grows s0 s1 arguments below added = added_grown s0 s1 (payload.Tuple arguments) added refl (λ fit. below) (λ fit. tt)
 
--- a class stays the declared one of its name
-pub class_stays : (s0 s1 : Kept) (class : PyTypeRef) → IsGrown s0 s1 → IsClass s0.made class → IsClass s1.made class
-class_stays s0 s1 class grown (c, has, is) =
-    let more : Grows s0.made s1.made = objects_grow s0 s1 grown in (c, payload_grown s0.made s1.made _ _ more has, declared_grown s0.made s1.made c.name (class_object class) more is)
+-- a class stays one
+pub class_stays : (s0 s1 : Kept) (class : PyTypeRef) → IsGrown s0 s1 → IsClassObject s0.made (class_object class) → IsClassObject s1.made (class_object class)
+class_stays s0 s1 class grown (c, has) = (c, payload_grown s0.made s1.made _ _ (objects_grow s0 s1 grown) has)
 
 -- what a new instance names is below, also where it isn't among the objects yet
 pub instance_below : (s0 s1 : Kept) (class : PyTypeRef) (arguments : List Obj) (attrs : Attrs) (args : Obj)
-    → IsClass s0.made class → AllBelow (length s0.made) (numbers arguments) → AllBelow (length s0.made) (attr_numbers attrs)
+    → IsClassObject s0.made (class_object class) → AllBelow (length s0.made) (numbers arguments) → AllBelow (length s0.made) (attr_numbers attrs)
     → s1 ≡ with_object s0 (payload.Tuple arguments) → args.number ≡ length s0.made
     → AllBelow (length s1.made) (payload_numbers (payload.Exception (record (new_exception class args) { attrs = attrs })))
 instance_below s0 s1 class arguments attrs args is below attrs_below added last =
     let front : IsGrown s0 s1 = tuple_grows s0 s1 arguments below added in
-    let (c, has, declares) = class_stays s0 s1 class front is in (
+    let (c, has) = class_stays s0 s1 class front is in (
       slice_get_within s1.made class.number _ has,
       (
         added_below s0 s1 (payload.Tuple arguments) args.number added last,
@@ -54,18 +53,17 @@ instance_below s0 s1 class arguments attrs args is below attrs_below added last 
     )
 
 pub instance_grows : (s0 s1 s2 : Kept) (class : PyTypeRef) (arguments : List Obj) (attrs : Attrs) (args e : Obj)
-    → IsClass s0.made class → AllBelow (length s0.made) (numbers arguments) → AllBelow (length s0.made) (attr_numbers attrs)
+    → IsClassObject s0.made (class_object class) → AllBelow (length s0.made) (numbers arguments) → AllBelow (length s0.made) (attr_numbers attrs)
     → AreInstance s0 s1 s2 class arguments attrs args e → IsGrown s0 s2
 instance_grows s0 s1 s2 class arguments attrs args e is below attrs_below x =
     let front : IsGrown s0 s1 = tuple_grows s0 s1 arguments below x.args_added in
-    let (c, has, declares) = class_stays s0 s1 class front is in
+    let (c, has) = class_stays s0 s1 class front is in
     grown_trans s0 s1 s2 front
     (added_grown s1 s2 (payload.Exception (record (new_exception class args) { attrs = attrs })) x.entry_added refl
     (λ fit. instance_below s0 s1 class arguments attrs args is below attrs_below x.args_added x.args_last)
     (λ fit. record {
       class = c;
       is_class = has;
-      is_declared = declares;
       arguments = arguments;
       are_arguments = added_has s0 s1 (payload.Tuple arguments) args x.args_added x.args_last;
       cause = tt;
@@ -127,6 +125,6 @@ attrs_below n true (v ∷ w ∷ x ∷ y ∷ []) below = (below.1.1.0, tt)
 attrs_below n true (v ∷ w ∷ x ∷ y ∷ z ∷ []) below = (below.1.1.0, (below.1.1.1.1.0, tt))
 attrs_below n true (v ∷ w ∷ x ∷ y ∷ z ∷ u ∷ us) below = tt
 
--- each built-in class is the declared one of its name
-pub built_in_class : (zoo : ExceptionZoo) (objects : List Payload) (kind : ErrorKind) → HaveClasses zoo objects → IsClass objects (class_of zoo kind)
-built_in_class zoo objects kind classes = (record { name = name_of kind; mro = (classes kind).mro }, (classes kind).entry, (classes kind).is_declared)
+-- each built-in class is a class
+pub built_in_class : (zoo : ExceptionZoo) (objects : List Payload) (kind : ErrorKind) → HaveClasses zoo objects → IsClassObject objects (class_object (class_of zoo kind))
+built_in_class zoo objects kind classes = (record { name = name_of kind; mro = (classes kind).mro }, (classes kind).entry)

@@ -5,7 +5,7 @@ use Rattle.std.specs.Option.{option_or}
 use Rattle.std.specs.Prelude.{Option, None}
 use Rattle.std.proofs.lemmas.List.{reverse-append}
 use Rattle.py_objects.specs.declared.refs.PyBaseExceptionRef.{PyBaseExceptionRef}
-use Rattle.py_exceptions.specs.Slots.{Slots, IsTopmost}
+use Rattle.py_exceptions.specs.Slots.{Slots, AreEmpty, IsTopmost, topmost}
 
 -- a slot that is last stands on top
 last_on_top : (slots lower : Slots) (slot : Option PyBaseExceptionRef) → slots ≡ lower ++ slot ∷ [] → reverse slots ≡ slot ∷ reverse lower
@@ -40,3 +40,18 @@ ends_in slots slot some is =
     let n = length slots - 1 in
     let all : suc n ≡ length slots = omega arith in
     sym (take-length slots) ∙ ap (λ (k : ℕ). take k slots) (sym all) ∙ take-suc slots n None (omega (arith, all)) ∙ ap (λ s. take n slots ++ s ∷ []) is
+
+-- slots that are all empty have no topmost
+topmost_empty : (slots : Slots) → AreEmpty slots → None ≡ topmost slots
+topmost_empty [] empty = refl
+topmost_empty (slot ∷ slots) empty = rw empty.0 (topmost_empty slots empty.1)
+
+-- the exception of a slot above which all are empty
+topmost_there : (above below : Slots) (e : PyBaseExceptionRef) → AreEmpty above → Some e ≡ topmost (above ++ Some e ∷ below)
+topmost_there [] below e empty = refl
+topmost_there (slot ∷ above) below e empty = rw empty.0 (topmost_there above below e empty.1)
+
+-- there is but one topmost
+pub topmost_is : (slots : Slots) (found : Option PyBaseExceptionRef) → IsTopmost slots found → found ≡ topmost slots
+topmost_is slots None empty = topmost_empty slots empty
+topmost_is slots (Some e) (above, below, empty, is) = rw is (topmost_there above below e empty)

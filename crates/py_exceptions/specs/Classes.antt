@@ -1,5 +1,5 @@
 -- The built-in exception classes among the objects.
-use Rattle.std.specs.Prelude.{ℕ, ◌+◌, Some, None, List, ◌≡◌, map, slice_get}
+use Rattle.std.specs.Prelude.{ℕ, ◌+◌, ◌≤◌, Some, None, List, ◌++◌, ◌≡◌, ◌⊎◌, length, map, take, slice_get}
 use Rattle.py_objects.specs.declared.refs.PyTypeRef.{PyTypeRef}
 use Rattle.py_objects.specs.declared.payload.Payload.{Payload}
 use Rattle.py_objects.specs.declared.payload.Payload.TheVariants as payload
@@ -7,6 +7,8 @@ use Rattle.py_objects.specs.declared.error_kind.ErrorKind.{ErrorKind}
 use Rattle.py_objects.specs.ErrorKinds.{name_of, bases_of, error_kinds, place_of}
 use Rattle.py_objects.specs.Objects.{Obj, class_object, declares}
 use Rattle.py_objects.specs.Attrs.{Attrs}
+use Rattle.py_objects.specs.Edits.{Kept}
+use Rattle.py_objects.specs.Growth.{with_object}
 use Rattle.py_exceptions.specs.declared.zoo.ExceptionZoo.{ExceptionZoo}
 use Rattle.py_exceptions.specs.BuiltIn.{IsClassOf}
 
@@ -33,6 +35,24 @@ first_classes = record { first = 3 }
 -- the names of the classes, each with its class
 abbrev pub declarations_of : ExceptionZoo → Attrs
 declarations_of zoo = map (λ kind. (name_of kind, class_object (class_of zoo kind))) error_kinds
+
+-- where the classes stand that go behind the objects of a store
+abbrev pub classes_behind : Kept → ExceptionZoo
+classes_behind s = record { first = length s.made }
+
+-- one object more came, or none
+abbrev pub IsAddedOrNot : Kept → Kept → Payload → Type 0
+IsAddedOrNot old new p = (new ≡ old) ⊎ (new ≡ with_object old p)
+
+-- memory ran out while the classes were added to a store without declarations: so many of them came behind its objects, and all else stayed; so
+-- many of their names are declared, which is each but the last one's at most
+pub record AreBegun (old new : Kept) (names : Attrs) : Type 0 where
+  pub classes : ℕ
+  pub added : new ≡ record old { made = old.made ++ map (class_payload (classes_behind old)) (take classes error_kinds) }
+  pub named : ℕ
+  pub there : named ≤ classes
+  pub but_one : classes ≤ named + 1
+  pub declared : names ≡ map (λ kind. (name_of kind, class_object (class_of (classes_behind old) kind))) (take named error_kinds)
 
 -- nothing is declared among these
 abbrev pub DeclareNothing : List Payload → Type 0

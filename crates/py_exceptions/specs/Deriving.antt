@@ -1,15 +1,10 @@
--- Which classes derive from which.
-use Rattle.std.specs.Prelude.{List, Bool, false, ◌||◌, ◌≡◌, eqb}
-use Rattle.std.specs.List.{list_any}
-use Rattle.py_objects.specs.declared.refs.PyTypeRef.{PyTypeRef}
+-- Which exceptions are of which classes.
+use Rattle.std.specs.Prelude.{List, Bool, false, ◌≡◌}
 use Rattle.py_objects.specs.declared.payload.Payload.{Payload}
 use Rattle.py_objects.specs.declared.payload.Payload.TheVariants as payload
 use Rattle.py_objects.specs.declared.payload.ClassBody.{ClassBody}
 use Rattle.py_objects.specs.Objects.{Obj, HasPayload, class_object}
-
--- whether a class is another one, or derives from it
-abbrev pub derives : PyTypeRef → ClassBody → Obj → Bool
-derives class body c = eqb class.number c.number || list_any (λ v. eqb v.number c.number) body.mro
+use Rattle.py_objects.specs.Ancestry.{derives}
 
 -- whether what has a payload is an exception of a class, or of one that derives from it
 abbrev pub IsInstanceOf : List Payload → Payload → Obj → Bool → Type 0

@@ -3,7 +3,7 @@ pub mod BuiltIn
 pub mod Classes
 -- what exceptions keep of the arguments of calls
 pub mod Keeping
--- which classes derive from which, and which are of the built-in kinds
+-- which exceptions are of which classes, and which classes are of the built-in kinds
 pub mod Deriving
 pub mod Kinds
 -- the names of types
@@ -18,3 +18,8 @@ pub mod Constructing
 pub mod Slots
 -- what the functions of the crate need of an exception
 pub mod Parts
+-- how faults of sources and sinks are counted
+pub mod Faults
+pub mod Counting
+-- sinks as contracts see them
+pub mod Sinks

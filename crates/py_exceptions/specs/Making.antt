@@ -1,21 +1,16 @@
 -- New exceptions among the objects of a run.
-use Rattle.std.specs.Prelude.{◌<◌, ◌≤◌, Some, List, [], ◌∷◌, Bool, ◌≡◌, length}
+use Rattle.std.specs.Prelude.{◌<◌, ◌≤◌, List, [], ◌∷◌, Bool, length}
 use Rattle.py_objects.specs.declared.refs.PyTypeRef.{PyTypeRef}
 use Rattle.py_objects.specs.declared.refs.PyBaseExceptionRef.{PyBaseExceptionRef}
 use Rattle.py_objects.specs.declared.payload.Payload.{Payload}
 use Rattle.py_objects.specs.declared.payload.Payload.TheVariants as payload
-use Rattle.py_objects.specs.declared.payload.ClassBody.{ClassBody}
 use Rattle.py_objects.specs.declared.error_kind.ErrorKind.TheVariants.{OSError}
 use Rattle.py_objects.specs.ErrorKinds.{name_of}
-use Rattle.py_objects.specs.Objects.{Obj, Name, HasPayload, as_object, class_object, declared}
+use Rattle.py_objects.specs.Objects.{Obj, Name, HasPayload, as_object, class_object}
 use Rattle.py_objects.specs.Attrs.{Attrs}
 use Rattle.py_objects.specs.Ancestry.{derives_from}
 use Rattle.py_objects.specs.Values.{new_exception}
 use Rattle.py_exceptions.specs.Keeping.{kept_args, kept_attrs}
-
--- a class that is the declared one of its name
-abbrev pub IsClass : List Payload → PyTypeRef → Type 0
-IsClass objects class = (c : ClassBody) × HasPayload objects (class_object class) (payload.Class c) × (declared objects c.name ≡ Some (class_object class))
 
 -- whether a class is OSError, or derives from it
 abbrev pub is_os : List Payload → PyTypeRef → Bool

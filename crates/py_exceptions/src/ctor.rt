@@ -1,34 +1,38 @@
-//! What may be raised: a class or an exception, and what comes of it with a value.
+//! What may be raised: a class of exceptions or an exception, and what comes of it with a value.
 
 ghost use Rattle.std.specs.Prelude.{◌≡◌, ◌<◌, length, IfOk};
 ghost use Rattle.py_objects.specs.Edits.{objects_of};
 ghost use Rattle.py_objects.specs.Objects.{Name, class_object};
+ghost use Rattle.py_objects.specs.Ancestry.{derives_from};
+ghost use Rattle.py_objects.specs.ErrorKinds.{name_of};
+ghost use Rattle.py_objects.specs.declared.error_kind.ErrorKind.TheVariants.{BaseException};
 ghost use Rattle.py_exceptions.specs.Constructing.{instantiated, not_exception, Instantiates, IsNotException, IsTaken, StandsFor, UnlessNoMemory};
 ghost use Rattle.py_exceptions.specs.Deriving.{IsInstanceOf};
 ghost use Rattle.py_exceptions.specs.Parts.{AreParts, HasParts};
 ghost use Rattle.py_exceptions.specs.TypeNames.{IsTypeName};
 ghost use Rattle.py_exceptions.specs.declared.ctor.ExceptionCtor.TheVariants.{Class, Instance};
 
-use crate::kinds::derives;
 use crate::reading::{class_body, tuple_items};
 use crate::type_names::type_name;
 use py_code::{NoMemory, PyText, push_text, text_of};
 use py_objects::{
-    ErrorKind, Fault, ObjList, Payload, PyBaseExceptionRef, PyObjectRef, PyTypeRef, Store,
+    ErrorKind, Fault, ObjList, Payload, PyBaseExceptionRef, PyObjectRef, PyTypeRef, Store, derives,
 };
 use std::alloc::Global;
 
-/// What may be raised (Python Language Reference, 7.8): a class, whose call makes an exception, or an exception.
+/// What may be raised (Python Language Reference, 7.8).
 #[derive(Clone, Copy, Debug, PartialEq, Eq)]
 pub enum ExceptionCtor {
+    /// A class that is BaseException or derives from it, whose call makes an exception.
     Class(PyTypeRef),
+    /// An exception.
     Instance(PyBaseExceptionRef),
 }
 
 /// Why an object can't be raised, or wasn't tried.
 #[derive(Debug, Drop)]
 pub enum CtorFault {
-    /// It is neither an exception nor a class.
+    /// It is neither an exception nor a class that is BaseException or derives from it.
     NotException(Fault),
     /// Memory ran out.
     NoMemory,
@@ -59,7 +63,13 @@ impl ExceptionCtor {
     {
         let payload = store.get(obj);
         match payload {
-            Payload::Class(_) => Ok(ExceptionCtor::Class(PyTypeRef { number: obj.number })),
+            Payload::Class(_) => {
+                let class = PyTypeRef { number: obj.number };
+                if is_of_exceptions(store, class) {
+                    return Ok(ExceptionCtor::Class(class));
+                }
+                Err(not_exception(alloc, store, payload))
+            }
             Payload::Exception(_) => Ok(ExceptionCtor::Instance(PyBaseExceptionRef {
                 number: obj.number,
             })),
@@ -90,7 +100,14 @@ impl ExceptionCtor {
     }
 }
 
-/// The refusal of what is neither an exception nor a class.
+/// Whether a class is one of exceptions: BaseException, or one that derives from it.
+fn is_of_exceptions(store: &Store, class: PyTypeRef) -> bool
+    ensures { result ≡ derives_from store.now.made (class_object class) (name_of BaseException) }
+{
+    store.derives_from(class, ErrorKind::BaseException)
+}
+
+/// The refusal of what is neither an exception nor a class of exceptions.
 fn not_exception(alloc: Global, store: &Store, payload: &Payload) -> CtorFault
     requires { (name : Name) × IsTypeName store.now.made payload.now name }
     ensures { IsNotException store.now.made payload.now result }
@@ -172,7 +189,7 @@ fn class_with(
 }
 
 /// Whether what has a payload is an exception of a class, or of one that derives from it.
-fn is_instance(store: &Store, payload: &Payload, class: PyTypeRef) -> bool
+pub fn is_instance(store: &Store, payload: &Payload, class: PyTypeRef) -> bool
     requires { AreParts (objects_of store.now) payload.now }
     ensures { IsInstanceOf (objects_of store.now) payload.now (class_object class) result }
 {

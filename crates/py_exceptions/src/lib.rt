@@ -1,5 +1,5 @@
-//! Exceptions: the built-in classes among the objects of a run, what derives from them, what may be raised, new exceptions, their arguments, and
-//! the slots of those that are handled.
+//! Exceptions: the built-in classes among the objects of a run, what derives from them, what may be raised, new exceptions, their arguments,
+//! the slots of those that are handled, and the sinks that bytes go to.
 #![tactic(auto)]
 
 mod arguments;
@@ -7,14 +7,20 @@ mod ctor;
 mod kinds;
 mod making;
 mod reading;
+mod sink;
+mod sink_memory;
 mod stack;
+mod std_sink;
 mod type_names;
 mod zoo;
 
 pub use arguments::{args, get_arg};
-pub use ctor::{CtorFault, ExceptionCtor, Instantiate};
-pub use kinds::{derives, is_gen_exit, is_kind};
+pub use ctor::{CtorFault, ExceptionCtor, Instantiate, is_instance};
+pub use kinds::{is_gen_exit, is_kind};
 pub use making::{make_exception, new_exception};
+pub use sink::{Sink, WriteFailed};
+pub use sink_memory::SinkMemory;
 pub use stack::ExceptionStack;
+pub use std_sink::StdSink;
 pub use type_names::type_name;
 pub use zoo::ExceptionZoo;

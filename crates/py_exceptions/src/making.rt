@@ -1,29 +1,33 @@
 //! New exceptions: of a class, with what that keeps of its arguments, and with no links.
 
-ghost use Rattle.std.specs.Prelude.{◌≡◌, [], ◌∷◌, length, codes, if◌then◌else◌, IfOk};
-ghost use Rattle.py_objects.specs.Objects.{attr_numbers, numbers, AllBelow};
+ghost use Rattle.std.specs.Prelude.{◌≡◌, [], ◌∷◌, length, codes, IfOk};
+ghost use Rattle.py_objects.specs.Objects.{attr_numbers, class_object, numbers, AllBelow, IsClassObject};
 ghost use Rattle.py_objects.specs.Growth.{IsGrown};
+ghost use Rattle.py_exceptions.specs.Classes.{class_of, HaveClasses};
 ghost use Rattle.py_exceptions.specs.Keeping.{kept_args as args_kept, kept_attrs as attrs_kept, os_args as args_of_os, os_attrs as attrs_of_os};
-ghost use Rattle.py_exceptions.specs.Making.{IsClass, IsNewCalled, IsNewInstance, IsNewException};
+ghost use Rattle.py_exceptions.specs.Making.{IsNewCalled, IsNewInstance, IsNewException};
 
-use py_code::{NoMemory, PyText, text_of};
+use crate::zoo::ExceptionZoo;
+use py_code::{NoMemory, text_of};
 use py_objects::{
-    AttrMap, Boxed, ErrorKind, ExceptionBody, ObjList, Payload, PyBaseExceptionRef, PyObjectRef,
-    PyTypeRef, Store,
+    AttrMap, Boxed, ErrorKind, ExceptionBody, Fault, ObjList, Payload, PyBaseExceptionRef,
+    PyObjectRef, PyTypeRef, Store,
 };
 use std::alloc::Global;
 
-/// A new exception of a class, with a text as its one argument.
+/// A new exception of a fault's kind, with the fault's text as its one argument.
 pub fn new_exception(
     alloc: Global,
     store: &mut Store,
-    class: PyTypeRef,
-    text: PyText,
+    zoo: &ExceptionZoo,
+    fault: &Fault,
 ) -> Result<PyBaseExceptionRef, NoMemory>
-    requires { IsClass store.old.made class }
+    requires { HaveClasses zoo.now store.old.made }
     ensures grows { IsGrown store.old store.new }
-    ensures made { IfOk result (λ e. IsNewException store.old.made store.new.made class text e) }
+    ensures made { IfOk result (λ e. IsNewException store.old.made store.new.made (class_of zoo.now fault.now.kind) fault.now.text e) }
 {
+    let class = zoo.class(fault.kind);
+    let text = fault.text.copy(alloc)?;
     let argument = store.add(Payload::Str(text))?;
     let mut items = ObjList::new(alloc);
     items.push(argument)?;
@@ -37,7 +41,7 @@ pub fn make_exception(
     class: PyTypeRef,
     args: ObjList,
 ) -> Result<PyBaseExceptionRef, NoMemory>
-    requires class { IsClass store.old.made class }
+    requires class { IsClassObject store.old.made (class_object class) }
     requires args { AllBelow (length store.old.made) (numbers args) }
     ensures grows { IsGrown store.old store.new }
     ensures made { IfOk result (λ e. IsNewCalled store.old.made store.new.made class args e) }
@@ -56,7 +60,7 @@ fn add_exception(
     args: ObjList,
     attrs: AttrMap,
 ) -> Result<PyBaseExceptionRef, NoMemory>
-    requires class { IsClass store.old.made class }
+    requires class { IsClassObject store.old.made (class_object class) }
     requires args { AllBelow (length store.old.made) (numbers args) }
     requires attrs { AllBelow (length store.old.made) (attr_numbers attrs) }
     ensures grows { IsGrown store.old store.new }

@@ -1,7 +1,7 @@
 //! The slots of handled exceptions.
 
 ghost use Rattle.std.specs.Prelude.{◌≡◌, ◌<◌, [], ◌∷◌, length, slice_get, slice_set, reverse, None, Some, OnOk, OnErr};
-ghost use Rattle.py_exceptions.specs.Slots.{IsTopmost};
+ghost use Rattle.py_exceptions.specs.Slots.{IsTopmost, top_of, topmost};
 
 use py_code::NoMemory;
 use py_objects::PyBaseExceptionRef;
@@ -60,14 +60,16 @@ impl ExceptionStack {
 
     /// What the top slot holds.
     pub fn current_exception(&self) -> Option<PyBaseExceptionRef>
-        ensures { slice_get self.now 0 ≡ Some result }
+        ensures there { slice_get self.now 0 ≡ Some result }
+        ensures top { result ≡ top_of self.now }
     {
         self.current
     }
 
     /// Makes the top slot hold this.
     pub fn set_exception(&mut self, exc: Option<PyBaseExceptionRef>)
-        ensures { self.new ≡ slice_set self.old 0 exc }
+        ensures set { self.new ≡ slice_set self.old 0 exc }
+        ensures top { top_of self.new ≡ exc }
     {
         self.current = exc;
     }
@@ -82,7 +84,8 @@ impl ExceptionStack {
 
     /// The exception that is being handled: that of the first slot from the top that holds one.
     pub fn topmost_exception(&self) -> Option<PyBaseExceptionRef>
-        ensures { IsTopmost self.now result }
+        ensures first { IsTopmost self.now result }
+        ensures value { result ≡ topmost self.now }
     {
         self.current.or(topmost(self.below.as_slice()))
     }

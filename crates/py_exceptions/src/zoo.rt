@@ -1,10 +1,10 @@
 //! The built-in exception classes, which each machine begins with.
 
-ghost use Rattle.std.specs.Prelude.{◌≡◌, ◌<◌, ◌+◌, ◌^◌, [], ◌∷◌, ◌++◌, length, IfOk, OnOk};
+ghost use Rattle.std.specs.Prelude.{◌≡◌, ◌<◌, ◌+◌, ◌^◌, [], ◌∷◌, ◌++◌, length, IfOk, OnOk, OnErr};
 ghost use Rattle.py_objects.specs.Objects.{class_object};
 ghost use Rattle.py_objects.specs.ErrorKinds.{name_of, place_of};
 ghost use Rattle.py_objects.specs.Attrs.{inserted};
-ghost use Rattle.py_exceptions.specs.Classes.{class_of, class_payload, class_payloads, declarations_of, mro_of, DeclareNothing, HaveClasses};
+ghost use Rattle.py_exceptions.specs.Classes.{class_of, class_payload, class_payloads, declarations_of, mro_of, AreBegun, DeclareNothing, HaveClasses, IsAddedOrNot};
 
 use py_code::{NoMemory, text_of};
 use py_objects::{
@@ -20,7 +20,8 @@ pub struct ExceptionZoo {
 }
 
 impl ExceptionZoo {
-    /// Adds the classes to a store without declarations, and their names to those that are declared.
+    /// Adds the classes to a store without declarations, behind its objects, and their names to those that are declared. Where memory runs out,
+    /// the store has the first ones.
     pub fn extend(
         alloc: Global,
         store: &mut Store,
@@ -33,6 +34,7 @@ impl ExceptionZoo {
         ensures added { IfOk result (λ zoo. store.new ≡ record store.old { made = store.old.made ++ class_payloads zoo }) }
         ensures classes { IfOk result (λ zoo. HaveClasses zoo store.new.made) }
         ensures declarations { IfOk result (λ zoo. declarations.new ≡ declarations_of zoo) }
+        ensures err { OnErr result (AreBegun store.old store.new declarations.new) }
     {
         let zoo = ExceptionZoo {
             first: store.len() as u32,
@@ -52,7 +54,8 @@ impl ExceptionZoo {
         }
     }
 
-    /// The class of a kind goes behind the other objects, where its bases are, declared under its name.
+    /// The class of a kind goes behind the other objects, where its bases are, declared under its name. Where memory runs out, it is there or not,
+    /// and not declared.
     fn add_class(
         &self,
         alloc: Global,
@@ -63,6 +66,8 @@ impl ExceptionZoo {
         requires place { length store.old.made ≡ self.now.first + place_of kind }
         ensures added { OnOk result (store.new ≡ record store.old { made = store.old.made ++ class_payload self.now kind ∷ [] }) }
         ensures declared { OnOk result (declarations.new ≡ inserted (name_of kind) (class_object (class_of self.now kind)) declarations.old) }
+        ensures err { OnErr result (IsAddedOrNot store.old store.new (class_payload self.now kind)) }
+        ensures undeclared { OnErr result (declarations.new ≡ declarations.old) }
     {
         let name = kind.name();
         let class = ClassBody {

@@ -1,9 +1,10 @@
 //! Frames.
 
-ghost use Rattle.std.specs.Prelude.{ℕ, ◌≡◌, ◌-◌, ◌≤◌, ◌++◌, [], length, slice_get, Some, IfOk};
+ghost use Rattle.std.specs.Prelude.{ℕ, ◌≡◌, ◌-◌, ◌≤◌, ◌++◌, [], length, slice_get, slice_set, Some, IfOk};
 ghost use Rattle.py_objects.specs.declared.payload.Payload.TheVariants as payload;
 ghost use Rattle.py_objects.specs.Objects.{AllFit, HasPayload};
 ghost use Rattle.py_objects.specs.Growth.{GrowsPlainly};
+ghost use Rattle.py_exceptions.specs.Slots.{top_of};
 ghost use Rattle.py_check.specs.Depths.{deepest};
 ghost use Rattle.py_rows.specs.Below.{HearsBelow, TellsBelow};
 ghost use Rattle.py_rows.specs.declared.expect.Expect.TheVariants as expect;
@@ -17,6 +18,7 @@ use crate::frame_core::FrameCore;
 use crate::input::{FrameStep, Input};
 use py_check::CheckedCode;
 use py_code::{Names, NoMemory, OpArgState};
+use py_exceptions::{ExceptionStack, ExceptionZoo};
 use py_objects::{FrameRef, ObjList, PyBaseExceptionRef, PyObjectRef, Scope, Store};
 use py_rows::Expect;
 use py_stack::ValueStack;
@@ -100,34 +102,38 @@ impl<S: ValueStack + Drop> Frame<S> {
     }
 
     /// Takes an input, and runs units until one tells an event. A constant that is loaded is a new object. Where memory
-    /// runs out the frame has ended.
+    /// runs out the frame has ended. Of the slots it works on the top one alone. The built-in classes aren't needed until a
+    /// frame makes exceptions itself.
     pub fn step(
         &mut self,
         alloc: Global,
         code: &CheckedCode,
         names: &Names,
         store: &mut Store,
-        slot: &mut Option<PyBaseExceptionRef>,
+        _zoo: &ExceptionZoo,
+        slots: &mut ExceptionStack,
         input: Input,
     ) -> FrameStep
         requires running { IsRunning store.old.made names.now code.now self.old }
         requires fit { AllFit store.old.made }
-        // The slot is as the frame's last step left it, before the first step any.
-        requires slot { SlotFits store.old.made self.old.state slot.old }
+        // The top slot is as the frame's last step left it, before the first step any.
+        requires slots { SlotFits store.old.made self.old.state (top_of slots.old) }
         // The input is one that the frame expects: an answer is as it was wanted. It names objects. Here and below, k is
         // whatever number its event has in the journal.
         requires expected { Expects store.old.made (setting_of names.now code.now self.old) self.old.state.wants input }
         requires named { (k : ℕ) → HearsBelow (length store.old.made) (events (heard k input)) }
         // The run so far goes on, by what was heard and the one event that is told.
-        ensures extends { (k : ℕ) → IfTold result (Extends store.new.made (setting_of names.now code.now self.old) (handed slot.old self.old.state) (events (heard k input) ++ events (told (self.new.state.last - 1) result)) self.new.state) }
+        ensures extends { (k : ℕ) → IfTold result (Extends store.new.made (setting_of names.now code.now self.old) (handed (top_of slots.old) self.old.state) (events (heard k input) ++ events (told (self.new.state.last - 1) result)) self.new.state) }
         ensures expects { self.new.state.wants ≡ expected result }
         ensures own { NamesHandled self.new.state result }
         // What is asked, the instruction of its unit may ask; only YieldValue yields; a raise is one of an exception.
         ensures may { AllMayTell store.new.made code.now.code (events (told (self.new.state.last - 1) result)) }
         ensures told { TellsBelow (length store.new.made) (events (told (self.new.state.last - 1) result)) }
-        ensures slot { slot.new ≡ self.new.state.slot }
-        // What the slot held when the frame was entered it holds again where the frame has ended, also where memory ran out.
-        ensures given_back { KeepsFirst (handed slot.old self.old.state) self.new.state }
+        // The top slot holds what the frame's has, and those below are as they were.
+        ensures slot { top_of slots.new ≡ self.new.state.slot }
+        ensures slots { slots.new ≡ slice_set slots.old 0 self.new.state.slot }
+        // What the top slot held when the frame was entered it holds again where the frame has ended, also where memory ran out.
+        ensures given_back { KeepsFirst (handed (top_of slots.old) self.old.state) self.new.state }
         // The frame runs as before, or has ended.
         ensures running { IsRunning store.new.made names.now code.now self.new }
         ensures same { IsSame self.old self.new }
@@ -135,10 +141,11 @@ impl<S: ValueStack + Drop> Frame<S> {
         ensures objects { GrowsPlainly store.old.made store.new.made }
         ensures unchanged { store.new ≡ record store.old { made = store.new.made } }
     {
+        let slot = slots.current_exception();
         let step = self
             .core
-            .step(&mut self.stack, alloc, code, names, store, *slot, input);
-        *slot = self.core.slot();
+            .step(&mut self.stack, alloc, code, names, store, slot, input);
+        slots.set_exception(self.core.slot());
         step
     }
 

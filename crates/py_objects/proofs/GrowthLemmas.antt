@@ -1,5 +1,5 @@
 -- Objects that come behind others: what stays as it is.
-use Rattle.std.proofs.Common.{◌≡◌, ◌++◌, ℕ, zero, suc, List, [], ◌∷◌, Some, append_assoc, ◌<◌, ◌≤◌, ◌-◌, Bool, true, false, cond, refl, sym, ap, subst, ◌∙◌, length, length-append, append-nil, arith, ◌⊎◌, inl, inr}
+use Rattle.std.proofs.Common.{◌≡◌, ◌+◌, ◌++◌, ℕ, zero, suc, List, [], ◌∷◌, Some, append_assoc, ◌<◌, ◌≤◌, ◌-◌, Bool, true, false, cond, refl, sym, ap, subst, ◌∙◌, length, length-append, append-nil, arith, ◌⊎◌, inl, inr}
 use Rattle.std.specs.Prelude.{slice_get, Option, None}
 use Rattle.py_objects.specs.declared.payload.Payload.{Payload}
 use Rattle.py_objects.specs.Objects.{Obj, HasPayload, Name, declares, is_name, declared_from, declared, payload_numbers, AllBelow, AreClasses, IsMade, AllFit, IfThere, IsNew}
@@ -12,6 +12,12 @@ pub slice_get_grown : {A : Type 0} (xs ys : List A) (i : ℕ) (x : A) → slice_
 slice_get_grown [] ys i x here = cc
 slice_get_grown (z ∷ zs) ys zero x here = here
 slice_get_grown (z ∷ zs) ys (suc i) x here = slice_get_grown zs ys i x here
+
+-- an entry behind others
+pub slice_get_behind : {A : Type 0} (xs ys : List A) (i : ℕ) → slice_get (xs ++ ys) (length xs + i) ≡ slice_get ys i
+slice_get_behind [] ys i = ap (slice_get ys) (let same : 0 + i ≡ i = omega arith in same)
+slice_get_behind (x ∷ xs) ys i =
+    ap (slice_get ((x ∷ xs) ++ ys)) (let same : suc (length xs) + i ≡ suc (length xs + i) = omega arith in same) ∙ slice_get_behind xs ys i
 
 -- a payload stays as objects grow
 pub payload_grown : (objects objects' : List Payload) (v : Obj) (p : Payload) → Grows objects objects' → HasPayload objects v p → HasPayload objects' v p
@@ -76,7 +82,6 @@ made_grown objects objects' (payload.Generator g) grows made = tt
 made_grown objects objects' (payload.Exception e) grows made = record {
   class = made.class;
   is_class = payload_grown objects objects' _ _ grows made.is_class;
-  is_declared = declared_grown objects objects' _ _ grows made.is_declared;
   arguments = made.arguments;
   are_arguments = payload_grown objects objects' _ _ grows made.are_arguments;
   cause = there_grown e.cause (λ v (b, is). (b, payload_grown objects objects' _ _ grows is)) made.cause;

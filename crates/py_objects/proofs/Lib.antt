@@ -5,7 +5,11 @@ pub mod PairsLemmas
 pub mod Slots
 pub mod BelowLemmas
 pub mod EditsLemmas
+-- what changes leave as it was made
+pub mod ChangesLemmas
 pub mod OriginalsLemmas
+-- truth values among objects
+pub mod SingletonsLemmas
 pub mod StoreLemmas
 pub mod OwnLemmas
 -- objects and stores that grow, and new objects

@@ -1,5 +1,5 @@
 -- What an activation hears has the number of its event.
-use Rattle.std.proofs.Common.{◌≡◌, ◌+◌, ℕ, zero, suc, Bool, true, false, List, [], ◌∷◌, ◌++◌, Some, inl, inr, refl, sym, ap, subst, ◌∙◌, eqb, arith}
+use Rattle.std.proofs.Common.{◌≡◌, ◌+◌, ℕ, zero, suc, List, [], ◌∷◌, ◌++◌, Some, inl, inr, refl, sym, ap, subst, ◌∙◌, arith}
 use Rattle.std.specs.Prelude.{Option, slice_get}
 use Rattle.std.proofs.lemmas.Bool.Decides.{eqb_tells}
 use Rattle.py_objects.specs.declared.event.ResumeHow.{ResumeHow}
@@ -10,7 +10,7 @@ use Rattle.py_objects.specs.declared.event.GotAnswer.{GotAnswer}
 use Rattle.py_objects.specs.declared.event.GotAnswer.TheVariants as got
 use Rattle.py_objects.specs.declared.event.Event.{Event}
 use Rattle.py_objects.specs.declared.event.Event.TheVariants as event
-use Rattle.py_objects.specs.Own.{Own, Makes, Resumes, Asks, Gets, Rounds, Yields, Ends, whose, own_of, own_if, told_by, own_from, own_events}
+use Rattle.py_objects.specs.Own.{Own, Makes, Resumes, Asks, Gets, whose, own_of, own_if, told_by, own_from, own_events}
 use Rattle.py_objects.specs.Objects.{Obj}
 use Rattle.py_objects.specs.Telling.{Answered, Given}
 

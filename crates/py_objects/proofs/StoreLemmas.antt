@@ -10,10 +10,12 @@ use Rattle.py_objects.specs.declared.edit.Edit.{Edit}
 use Rattle.py_objects.specs.declared.edit.Change.{Change}
 use Rattle.py_objects.specs.declared.store.Original.{Original}
 use Rattle.py_objects.specs.Objects.{Obj, Name, HasPayload, AllBelow, payload_numbers}
+use Rattle.py_objects.specs.Singletons.{own_truth}
 use Rattle.py_objects.specs.Ancestry.{derives_from}
 use Rattle.py_objects.specs.Edits.{Kept, objects_of, store_at, changed_by, with_edit, edit_numbers, EditFits, IsEdited}
 use Rattle.py_objects.specs.Originals.{may_change, original_of, with_copy, restored, AreMarked, AreWithin, IsKept, FitsEntry}
 use Rattle.py_objects.proofs.AncestryLemmas.{changed_derives}
+use Rattle.py_objects.proofs.SingletonsLemmas.{changed_truth}
 use Rattle.py_objects.proofs.Slots.{there}
 use Rattle.py_objects.proofs.EditsLemmas.{length-with_edit}
 use Rattle.py_objects.proofs.OriginalsLemmas.{noted, filter-marked, length-restored, restored-noted, restored-with_edit, IsKept-add, IsKept-change}
@@ -54,6 +56,11 @@ module _ (os : List Original) (now : List Payload) (cs : List Change) (mark spar
 
   pub derives_as_made : (v : Obj) (n : Name) → derives_from now v n ≡ derives_from s.made v n
   derives_as_made v n = ap (λ objects. derives_from objects v n) (sym objects-now) ∙ changed_derives s.made s.changes v n
+
+  -- ---- the first object that is a truth value
+
+  pub truth_as_made : (b : Bool) → own_truth b now ≡ own_truth b s.made
+  truth_as_made b = ap (own_truth b) (sym objects-now) ∙ changed_truth b s.made s.changes
 
   -- ---- reading an object
 

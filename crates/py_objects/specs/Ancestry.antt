@@ -1,10 +1,11 @@
--- Which classes a class derives from, by their names.
-use Rattle.std.specs.Prelude.{Option, Some, None, List, Bool, false, ◌||◌, ◌≡◌, bytes_eq, slice_get}
-use Rattle.std.specs.List.{list_any}
+-- Which classes a class derives from.
+use Rattle.std.specs.Prelude.{ℕ, Option, Some, None, List, Bool, false, ◌||◌, ◌≡◌, eqb, bytes_eq, slice_get}
+use Rattle.std.specs.List.{list_any, position_from}
+use Rattle.py_objects.specs.declared.refs.PyTypeRef.{PyTypeRef}
 use Rattle.py_objects.specs.declared.payload.Payload.{Payload}
 use Rattle.py_objects.specs.declared.payload.Payload.TheVariants as payload
 use Rattle.py_objects.specs.declared.payload.ClassBody.{ClassBody}
-use Rattle.py_objects.specs.Objects.{Obj, Name, HasPayload, AreClasses}
+use Rattle.py_objects.specs.Objects.{Obj, Name, HasPayload}
 
 -- the class that an entry is, where it is one
 abbrev pub class_in : Option Payload → Option ClassBody
@@ -20,15 +21,24 @@ abbrev pub has_name : Name → Option ClassBody → Bool
 has_name n None = false
 has_name n (Some c) = bytes_eq c.name n
 
--- whether a class is there and has this name, or one that it derives from has it
-abbrev pub derives_by : List Payload → Name → Option ClassBody → Bool
-derives_by objects n None = false
-derives_by objects n (Some c) = bytes_eq c.name n || list_any (λ v. has_name n (class_at objects v)) c.mro
+-- the place of the first entry that is a class of this name: a built-in class is the first one of its name
+abbrev pub first_class : Name → List Payload → Option ℕ
+first_class n objects = position_from (λ p. has_name n (class_in (Some p))) 0 objects
 
--- whether an object is a class of this name, or one that derives from such a class (Python Language Reference, 3.3.3.1)
+-- whether a class is another one, or derives from it (Python Language Reference, 3.3.3.1)
+abbrev pub derives : PyTypeRef → ClassBody → Obj → Bool
+derives class body c = eqb class.number c.number || list_any (λ v. eqb v.number c.number) body.mro
+
+-- whether an object, which may be a class, is the class at a place, where there is one, or derives from it
+abbrev pub derives_by : Obj → Option ClassBody → Option ℕ → Bool
+derives_by v None first = false
+derives_by v (Some c) None = false
+derives_by v (Some c) (Some i) = derives (record { number = v.number }) c (record { number = i })
+
+-- whether an object is the built-in class of this name, or a class that derives from it
 abbrev pub derives_from : List Payload → Obj → Name → Bool
-derives_from objects v n = derives_by objects n (class_at objects v)
+derives_from objects v n = derives_by v (class_at objects v) (first_class n objects)
 
--- the same of a class that is there, as those that it derives from are: whatever comes behind them, it stays so
+-- the same of a class that is there
 abbrev pub IsDerived : List Payload → Obj → Name → Bool → Type 0
-IsDerived objects v n b = (c : ClassBody) × HasPayload objects v (payload.Class c) × AreClasses objects c.mro × (b ≡ derives_from objects v n)
+IsDerived objects v n b = (c : ClassBody) × HasPayload objects v (payload.Class c) × (b ≡ derives_from objects v n)

@@ -4,6 +4,8 @@ pub mod Refs
 pub mod ErrorKinds
 -- what objects are, and which are new
 pub mod Objects
+-- None, False and True among objects
+pub mod Singletons
 -- which classes a class derives from
 pub mod Ancestry
 -- objects that come behind others

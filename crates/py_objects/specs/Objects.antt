@@ -1,5 +1,5 @@
 -- What the objects of a run are: by number, by the names that they are declared under, and which are new.
-use Rattle.std.specs.Prelude.{ℕ, suc, ◌<◌, Option, Some, None, List, [], ◌∷◌, ◌++◌, Bool, false, ◌≡◌, ◌||◌, slice_get, length, eqb, bytes_eq, if◌then◌else◌}
+use Rattle.std.specs.Prelude.{ℕ, suc, ◌<◌, Option, Some, None, List, [], ◌∷◌, ◌++◌, Bool, true, false, ◌≡◌, ◌||◌, slice_get, length, eqb, bytes_eq, if◌then◌else◌}
 pub use Rattle.py_objects.specs.Refs.{Obj, Name}
 use Rattle.py_objects.specs.declared.refs.PyTypeRef.{PyTypeRef}
 use Rattle.py_objects.specs.declared.refs.PyBaseExceptionRef.{PyBaseExceptionRef}
@@ -108,6 +108,11 @@ abbrev pub keyword_numbers : Keywords → List ℕ
 keyword_numbers keywords.None = []
 keyword_numbers (keywords.Names names) = names.number ∷ []
 keyword_numbers (keywords.Dict d) = d.number ∷ []
+
+-- whether there are no keyword arguments
+abbrev pub is_positional : Keywords → Bool
+is_positional keywords.None = true
+is_positional _ = false
 
 -- the numbers that a request names
 abbrev pub request_numbers : Request → List ℕ
@@ -251,11 +256,10 @@ abbrev pub IfThere : (Obj → Type 0) → Option Obj → Type 0
 IfThere P None = Unit {0}
 IfThere P (Some v) = P v
 
--- an exception's entry names the declared class of its name, and a tuple of arguments; its links are exceptions and a traceback
+-- an exception's entry names a class, and a tuple of arguments; its links are exceptions and a traceback
 pub record IsExceptionMade (objects : List Payload) (e : ExceptionBody) : Type 0 where
   pub class : ClassBody
   pub is_class : HasPayload objects (class_object e.class) (payload.Class class)
-  pub is_declared : declared objects class.name ≡ Some (class_object e.class)
   pub arguments : List Obj
   pub are_arguments : HasPayload objects e.args (payload.Tuple arguments)
   pub cause : IfThere (IsException objects) e.cause

@@ -1,10 +1,10 @@
-//! Which built-in classes a class derives from, by their names.
+//! Which classes a class derives from.
 
-ghost use Rattle.std.specs.Prelude.{◌≡◌, Some, bytes_eq, option_copied};
+ghost use Rattle.std.specs.Prelude.{◌≡◌, Some, eqb, option_copied};
 ghost use Rattle.std.specs.List.{list_any};
 ghost use Rattle.py_objects.specs.ErrorKinds.{name_of};
 ghost use Rattle.py_objects.specs.Objects.{class_object};
-ghost use Rattle.py_objects.specs.Ancestry.{class_in, class_at as class_of, has_name as is_there_named, derives_from as derives};
+ghost use Rattle.py_objects.specs.Ancestry.{class_in, class_at as class_of, derives as is_or_derives, derives_from as derives_by_name, first_class as first_of_name, has_name};
 
 use crate::error_kind::ErrorKind;
 use crate::payload::{ClassBody, Payload};
@@ -31,6 +31,16 @@ impl Payload {
             | Payload::Traceback(_) => None,
         }
     }
+
+    /// Whether it is a class with the name of a built-in one.
+    fn is_class(&self, kind: ErrorKind) -> bool
+        ensures { result ≡ has_name (name_of kind) (class_in (Some self.now)) }
+    {
+        match self.class() {
+            Some(class) => kind.is_name(&class.name),
+            None => false,
+        }
+    }
 }
 
 /// The class that an object is, where it is one.
@@ -43,43 +53,46 @@ fn class_at(payloads: &[Payload], object: PyObjectRef) -> Option<&ClassBody>
     payload.class()
 }
 
-impl ClassBody {
-    /// Whether it has the name of a built-in class.
-    fn has_name(&self, kind: ErrorKind) -> bool
-        ensures { result ≡ bytes_eq self.now.name (name_of kind) }
-    {
-        kind.is_name(&self.name)
-    }
-}
-
-/// Whether an object is a class with the name of a built-in one.
-fn has_name(payloads: &[Payload], object: PyObjectRef, kind: ErrorKind) -> bool
-    ensures { result ≡ is_there_named (name_of kind) (class_of payloads.now object) }
+/// The place of a built-in class: the first class of its name.
+#[tactic(auto, using(crate::proofs::AncestryLemmas::first_position))]
+fn first_class(payloads: &[Payload], kind: ErrorKind) -> Option<usize>
+    ensures { result ≡ first_of_name (name_of kind) payloads.now }
 {
-    match class_at(payloads, object) {
-        Some(class) => class.has_name(kind),
-        None => false,
-    }
+    payloads.iter().position(|payload| payload.is_class(kind))
 }
 
-/// Whether one of these is a class with the name of a built-in one.
-fn any_has_name(payloads: &[Payload], classes: &[PyObjectRef], kind: ErrorKind) -> bool
-    ensures { result ≡ list_any (λ v. is_there_named (name_of kind) (class_of payloads.now v)) classes.now }
-{
-    classes.iter().any(|class| has_name(payloads, *class, kind))
-}
-
-/// Whether a class has the name of a built-in one, or derives from one that has it (Python Language Reference, 3.3.3.1).
+/// Whether a class is a built-in one, or derives from it (Python Language Reference, 3.3.3.1).
 pub fn derives_from(payloads: &[Payload], class: PyTypeRef, kind: ErrorKind) -> bool
-    ensures { result ≡ derives payloads.now (class_object class) (name_of kind) }
+    ensures { result ≡ derives_by_name payloads.now (class_object class) (name_of kind) }
 {
     let object = PyObjectRef {
         number: class.number,
     };
-    match class_at(payloads, object) {
-        Some(class) => {
-            class.has_name(kind) || any_has_name(payloads, class.mro.as_slice(), kind)
-        }
-        None => false,
-    }
+    let Some(body) = class_at(payloads, object) else {
+        return false;
+    };
+    let Some(first) = first_class(payloads, kind) else {
+        return false;
+    };
+    derives(
+        class,
+        body,
+        PyObjectRef {
+            number: first as u64,
+        },
+    )
+}
+
+/// Whether a class is another one, or derives from it.
+pub fn derives(class: PyTypeRef, body: &ClassBody, other: PyObjectRef) -> bool
+    ensures { result ≡ is_or_derives class body.now other }
+{
+    class.number == other.number || is_among(other, body.mro.as_slice())
+}
+
+/// Whether an object is one of these.
+fn is_among(object: PyObjectRef, objects: &[PyObjectRef]) -> bool
+    ensures { result ≡ list_any (λ v. eqb v.number object.number) objects.now }
+{
+    objects.iter().any(|other| other.number == object.number)
 }

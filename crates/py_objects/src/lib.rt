@@ -17,9 +17,10 @@ mod refs;
 mod request;
 mod scope;
 mod store;
+mod truths;
 mod values;
 
-pub use ancestry::derives_from;
+pub use ancestry::{derives, derives_from};
 pub use attr_map::AttrMap;
 pub use boxed::Boxed;
 pub use edit::{AwaitState, Change, ChangeList, Edit, History, LinkField};

@@ -1,13 +1,14 @@
 //! The store: the objects of a run, as they were made and as they are.
 
-ghost use Rattle.std.specs.Prelude.{◌≡◌, ◌<◌, ◌≤◌, ◌+◌, ℕ, [], ◌∷◌, ◌++◌, length, slice_get, slice_set, Some, IfOk, OnOk, OnErr, vec_len, vec_capacity};
+ghost use Rattle.std.specs.Prelude.{◌≡◌, ◌<◌, ◌≤◌, ◌+◌, ℕ, [], ◌∷◌, ◌++◌, length, slice_get, slice_set, Some, IfOk, IfSome, OnOk, OnErr, vec_len, vec_capacity};
 ghost use Rattle.py_objects.specs.ErrorKinds.{name_of};
 ghost use Rattle.py_objects.specs.Objects.{HasPayload, AllBelow, class_object, payload_numbers};
+ghost use Rattle.py_objects.specs.Singletons.{own_truth};
 ghost use Rattle.py_objects.specs.Ancestry.{derives_from as derives};
 ghost use Rattle.py_objects.specs.Edits.{objects_of, store_at, edit_numbers, EditFits, IsInPlace, IsAsBefore, IsEdited};
 ghost use Rattle.py_objects.specs.Originals.{original_of, with_copy};
 ghost use Rattle.py_objects.specs.declared.payload.Payload.{Payload as PayloadOf};
-ghost use Rattle.py_objects.specs.declared.payload.Payload.TheVariants.{None as NonePayload};
+ghost use Rattle.py_objects.specs.declared.payload.Payload.TheVariants.{Bool as BoolPayload, None as NonePayload};
 
 use crate::ancestry::derives_from;
 use crate::edit::{Change, ChangeList, Edit, History};
@@ -15,6 +16,7 @@ use crate::editing::{edit_any, edit_in_place};
 use crate::error_kind::ErrorKind;
 use crate::payload::{Payload, PayloadList};
 use crate::refs::{PyObjectRef, PyTypeRef};
+use crate::truths::first_truth;
 use py_code::NoMemory;
 use std::alloc::Global;
 use std::marker::Model;
@@ -79,6 +81,14 @@ impl Store {
         self.none
     }
 
+    /// The first object that is `True`, or `False`, where there is one.
+    pub fn truth(&self, value: bool) -> Option<PyObjectRef>
+        ensures first { result ≡ own_truth value self.now.made }
+        ensures has { IfSome result (λ object. HasPayload self.now.made object (BoolPayload value)) }
+    {
+        first_truth(self.payloads.as_slice(), value)
+    }
+
     /// How many objects there are.
     pub fn len(&self) -> u64
         ensures { result ≡ length self.now.made }
@@ -95,7 +105,7 @@ impl Store {
         &self.payloads[object.number as usize]
     }
 
-    /// Whether a class has the name of a built-in one, or derives from one that has it.
+    /// Whether a class is a built-in one, or derives from it (Python Language Reference, 3.3.3.1).
     pub fn derives_from(&self, class: PyTypeRef, kind: ErrorKind) -> bool
         ensures { result ≡ derives self.now.made (class_object class) (name_of kind) }
     {

@@ -1,5 +1,5 @@
--- What a read tells of the end of its source.
-use Rattle.std.specs.Prelude.{◌≡◌, ℕ, ◌<◌, ◌==◌, Bool, false, List, length, Result, Ok, Err}
+-- What a read tells of its source: whether it is at its end, and that it is sound.
+use Rattle.std.specs.Prelude.{◌≡◌, ℕ, ◌<◌, ◌==◌, Bool, false, IsTrue, List, length, Result, Ok, Err, IsOk}
 
 -- a read that moved nothing has come to the end; one that failed has not
 abbrev pub is_end : {E : Type 0} → Result ℕ E → Bool
@@ -10,3 +10,9 @@ is_end (Err e) = false
 pub record TellsEnd {E : Type 0} (room : List ℕ) (before now : Bool) (result : Result ℕ E) : Type 0 where
   pub told : 0 < length room → now ≡ is_end result
   pub kept : length room ≡ 0 → now ≡ before
+
+-- a call succeeded, met no fault, and left what it read as sound as it was
+pub record StaysSound {T E : Type 0} (before now : ℕ) (sound : Bool) (result : Result T E) : Type 0 where
+  pub succeeds : IsOk result
+  pub same : now ≡ before
+  pub stays : IsTrue sound

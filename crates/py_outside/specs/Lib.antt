@@ -1,12 +1,7 @@
--- when a call may fail, and how faults are counted
-pub mod Faults
-pub mod Counting
--- what a read tells of the end
+-- what a read tells of its source
 pub mod Ends
--- sources and sinks in memory, as contracts see them
-pub mod Memory
+-- sources as contracts see them
+pub mod Sources
 -- what is read to the end of a source, and what a failed write has written
 pub mod Reading
 pub mod Transfer
--- the streams of std behind sources and sinks
-pub mod Streams

@@ -1,16 +1,14 @@
-//! Bytes from outside and to it: sources and sinks, whose faults are counted, read and written whole.
+//! Bytes from outside and to it: sources, whose faults are counted, read to their end, and bytes written whole to a sink.
 #![tactic(auto)]
 
-mod memory;
 mod reading;
-mod sink;
 mod source;
-mod stdio;
+mod source_memory;
+mod std_source;
 mod writing;
 
-pub use memory::{SinkMemory, SourceMemory};
 pub use reading::{LIMIT, ReadError, read_bytes};
-pub use sink::{Sink, WriteFailed};
 pub use source::{ReadFailed, Source};
-pub use stdio::{StdSink, StdSource};
+pub use source_memory::SourceMemory;
+pub use std_source::StdSource;
 pub use writing::write_bytes;

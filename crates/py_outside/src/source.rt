@@ -3,8 +3,8 @@
 ghost use Rattle.std.specs.Prelude.{◌≡◌, ◌+◌, ◌≤◌, Option, List, ℕ, Bool, false, IsTrue, OnOk};
 ghost use Rattle.std.specs.Io.{ReadsAtMost};
 ghost use Rattle.std.specs.Io.KnownBytes.{ReadConsumes};
-ghost use Rattle.py_outside.specs.Counting.{HasCause, StaysSound};
-ghost use Rattle.py_outside.specs.Ends.{TellsEnd};
+ghost use Rattle.py_exceptions.specs.Counting.{HasCause};
+ghost use Rattle.py_outside.specs.Ends.{StaysSound, TellsEnd};
 
 /// A read that failed, and moved nothing.
 #[derive(Clone, Copy, Debug, PartialEq, Eq)]

@@ -8,14 +8,8 @@ use Rattle.py_code.specs.declared.unit.CodeUnit.{CodeUnit}
 use Rattle.py_code.specs.Operators.{raise_kinds}
 use Rattle.py_objects.specs.declared.request.Request.{Request}
 use Rattle.py_objects.specs.declared.request.Request.TheVariants as request
-use Rattle.py_objects.specs.declared.request.Keywords.{Keywords}
-use Rattle.py_objects.specs.declared.request.Keywords.TheVariants as keywords
+use Rattle.py_objects.specs.Objects.{is_positional}
 use Rattle.py_check.specs.Effects.{is_asked, is_compared}
-
--- whether there are no keyword arguments
-abbrev pub is_positional : Keywords → Bool
-is_positional keywords.None = true
-is_positional _ = false
 
 -- the kind of raise that a unit with this argument is: prefixes in front of it change nothing of its low byte
 abbrev pub raise_of : ℕ → Option RaiseKind

@@ -1,26 +1,31 @@
 -- Activations that were made have arguments that bind, and runs go over to more signatures.
-use Rattle.std.proofs.Common.{◌≡◌, ◌≤◌, ◌++◌, ℕ, zero, suc, List, [], ◌∷◌, Bool, true, false, Some, None, inl, inr, refl, sym, ap, subst, ◌∙◌, length, arith, nat_lt}
-use Rattle.std.specs.Prelude.{Option, slice_get, drop, if◌then◌else◌}
+use Rattle.std.proofs.Common.{◌≡◌, ◌≤◌, ℕ, zero, suc, List, [], ◌∷◌, Bool, true, false, Some, None, inl, inr, refl, sym, ap, subst, ◌∙◌, length, arith, nat_le, nat_lt}
+use Rattle.std.specs.Prelude.{Option, slice_get, drop, if◌then◌else◌, codes}
 use Rattle.std.proofs.lemmas.Bool.{ltb-false}
+use Rattle.py_objects.specs.declared.error_kind.ErrorKind.TheVariants.{RecursionError}
 use Rattle.py_objects.specs.declared.payload.Payload.{Payload}
 use Rattle.py_objects.specs.declared.payload.Payload.TheVariants as payload
 use Rattle.py_objects.specs.declared.payload.FunctionBody.{FunctionBody}
-use Rattle.py_objects.specs.declared.refs.PyBaseExceptionRef.{PyBaseExceptionRef}
+use Rattle.py_objects.specs.declared.request.Keywords.TheVariants as keywords
 use Rattle.py_objects.specs.declared.request.Request.{Request}
-use Rattle.py_objects.specs.declared.event.GotAnswer.{GotAnswer}
+use Rattle.py_objects.specs.declared.request.Request.TheVariants as request
 use Rattle.py_objects.specs.declared.event.Event.{Event}
 use Rattle.py_objects.specs.declared.event.Event.TheVariants as event
+use Rattle.py_objects.specs.declared.event.ResumeHow.TheVariants as how
 use Rattle.py_objects.specs.Objects.{Obj, Name, HasPayload}
 use Rattle.py_objects.proofs.GrowthLemmas.{slice_get_split, one_entry}
-use Rattle.py_run.specs.Calls.{Signature, Course, Says, Enters, refusal, missing_if, too_many, bound_at, IsRefusedCall, CallsAs, ComesTo}
-use Rattle.py_run.specs.Run.{Plan, Phase, Asking, Activation, State, start, after, state_after, depth, handled_among, Answers, MayCome, Comes}
+use Rattle.py_answers.specs.Answers.{Reply, Fails}
+use Rattle.py_run.specs.Calls.{Signature, Course, Says, Enters, refusal, missing_if, too_many, most_depth, entry_at, bound_by, Setting, CallsFunction, ComesTo}
+use Rattle.py_run.specs.Run.{Plan, Phase, Asking, Activation, State, start, after, state_after, Past, nothing, past_after, past_behind, setting, Opens, IsReply, IsAnswered, MayCome, Comes}
+use Rattle.py_run.proofs.PastLemmas.{past_state}
 
--- a function was made with as many arguments as its signature has parameters
+-- a function whose activations run through was made with as many arguments as its signature has parameters
 pub record IsBound (signatures : List Signature) (objects : List Payload) (a : Activation) : Type 0 where
   pub body : FunctionBody
   pub is_function : HasPayload objects a.function (payload.Function body)
   pub signature : Signature
   pub is_signature : slice_get signatures body.code ≡ Some signature
+  pub runs_through : signature.kind ≡ None
   pub binds : length a.args ≡ length signature.params
 
 -- nothing is missing where nothing is left
@@ -41,75 +46,125 @@ not_refused f xs n none = go (nat_lt (length xs) n) refl
         let short : n ≤ length xs = ltb-false (length xs) n (sym few) in
         omega (arith, long, short)
 
--- a call that enters isn't refused
-entered_binds : (refused : Option Name) (depth : ℕ) → Enters ≡ bound_at refused depth → refused ≡ None
-entered_binds None depth is = refl
-entered_binds (Some text) depth is = absurd (cc is)
+-- what enters says nothing
+enters_not : (f : Obj) (vs : List Obj) (reply : Reply) → Enters f vs ≡ Says reply → ⊥
+enters_not f vs reply is = cc is
 
-refused_enters_not : (objects : List Payload) (p : Payload) → IsRefusedCall objects p Enters → ⊥
-refused_enters_not objects p (n, named, is) = absurd (cc is)
+-- a call that enters isn't refused
+entered_binds : (refused : Option Name) (g : Obj) (ws : List Obj) (c : Course) → Enters g ws ≡ bound_by refused c → refused ≡ None
+entered_binds None g ws c is = refl
+entered_binds (Some text) g ws c is = absurd (enters_not g ws _ is)
+
+-- nor is it too deep
+entered_room : (deep : Bool) (g : Obj) (ws : List Obj) (reply : Reply) (c : Course) → Enters g ws ≡ (if deep then Says reply else c) → Enters g ws ≡ c
+entered_room true g ws reply c is = absurd (enters_not g ws reply is)
+entered_room false g ws reply c is = is
+
+-- so what it enters is what is called
+entered_is : (depth : ℕ) (refused : Option Name) (g : Obj) (ws : List Obj) (c : Course) → Enters g ws ≡ bound_by refused (entry_at depth c) → Enters g ws ≡ c
+entered_is depth None g ws c is = entered_room (nat_le most_depth depth) g ws (Fails RecursionError (codes "maximum recursion depth exceeded ")) c is
+entered_is depth (Some text) g ws c is = absurd (enters_not g ws _ is)
 
 -- what is entered by a call is a function, to whose parameters the arguments bind
-pub calls_bind : (signatures : List Signature) (depth : ℕ) (objects : List Payload) (f : Obj) (p : Payload) (vs : List Obj) → HasPayload objects f p → CallsAs signatures depth objects f p vs Enters → IsBound signatures objects (record { function = f; args = vs })
-calls_bind signatures depth objects f (payload.Class b) vs has calls = absurd (cc calls)
-calls_bind signatures depth objects f (payload.Function b) vs has (s, is_signature, is) = record {
-  body = b;
-  is_function = has;
-  signature = s;
-  is_signature = is_signature;
-  binds = not_refused b.name s.params (length vs) (entered_binds (refusal b.name s.params (length vs)) depth is);
+pub calls_bind : (at : Setting) (objects : List Payload) (f g : Obj) (vs ws : List Obj) → CallsFunction at objects f vs (Enters g ws) → IsBound at.signatures objects (record { function = f; args = vs })
+calls_bind at objects f g vs ws calls = record {
+  body = calls.body;
+  is_function = calls.entry;
+  signature = calls.signature;
+  is_signature = calls.signed;
+  runs_through = calls.runs_through;
+  binds = not_refused calls.body.name calls.signature.params (length vs) (entered_binds (refusal calls.body.name calls.signature.params (length vs)) g ws (entry_at at.depth (Enters f vs)) calls.is);
 }
-calls_bind signatures depth objects f p vs has calls = absurd (refused_enters_not objects p calls)
+
+-- it is the callee, with the arguments of the call
+pub calls_enter : (at : Setting) (objects : List Payload) (f g : Obj) (vs ws : List Obj) → CallsFunction at objects f vs (Enters g ws) → Enters g ws ≡ Enters f vs
+calls_enter at objects f g vs ws calls = entered_is at.depth (refusal calls.body.name calls.signature.params (length vs)) g ws (Enters f vs) calls.is
+
+-- a question that enters a function is its call
+pub enters_call : (at : Setting) (objects : List Payload) (r : Request) (f : Obj) (vs : List Obj) → ComesTo at objects r (Enters f vs) → (r ≡ request.Call f vs keywords.None) × CallsFunction at objects f vs (Enters f vs)
+enters_call at objects r f vs (inl (reply, is, replies)) = absurd (enters_not f vs reply is)
+enters_call at objects r f vs (inr (inl (g, ws, is, calls))) =
+    let same : Enters f vs ≡ Enters g ws = calls_enter at objects g f ws vs calls in
+    let callee : f ≡ g = cc same in
+    let args : vs ≡ ws = cc same in
+    (is ∙ (ap (λ x. request.Call x ws keywords.None) (sym callee) ∙ ap (λ x. request.Call f x keywords.None) (sym args)), subst (λ x. CallsFunction at objects f x (Enters f vs)) (sym args) (subst (λ x. CallsFunction at objects x ws (Enters f vs)) (sym callee) calls))
+enters_call at objects r f vs (inr (inr (asks, is))) = absurd (enters_not f vs _ is)
 
 -- each activation that was made
 abbrev pub AreBound : List Signature → List Payload → List Activation → Type 0
 AreBound signatures objects made = (i : ℕ) (a : Activation) → slice_get made i ≡ Some a → IsBound signatures objects a
 
-bound_after : (plan : Plan) (objects : List Payload) (before : List Event) (s : State) (e : Event) → MayCome plan objects before s e → AreBound plan.signatures objects s.made → AreBound plan.signatures objects (after s e).made
-bound_after plan objects before s (event.Make a f vs) (asks, next, open_, (p, has, calls)) bound = λ i x here. elim (slice_get_split s.made (record { function = f; args = vs } ∷ []) i x here) [
+-- they are bound behind one more event, where they were before
+bound_after : (plan : Plan) (objects : List Payload) (p : Past) (e : Event) → MayCome plan objects p e → AreBound plan.signatures objects p.state.made → AreBound plan.signatures objects (after p.state e).made
+bound_after plan objects p (event.Make a f vs) (next, (asks, (r, open_, comes))) bound = λ i x here. elim (slice_get_split p.state.made (record { function = f; args = vs } ∷ []) i x here) [
   | inl front ↦ bound i x front
-  | inr back ↦ subst (IsBound plan.signatures objects) (one_entry (record { function = f; args = vs }) x _ back) (calls_bind plan.signatures (depth plan s) objects f p vs has calls)
+  | inr back ↦ subst (IsBound plan.signatures objects) (one_entry (record { function = f; args = vs }) x _ back) (calls_bind (setting plan p) objects f f vs vs (enters_call (setting plan p) objects r f vs comes).1)
 ]
-bound_after plan objects before s _ may bound = bound
+bound_after plan objects p _ may bound = bound
 
-bound_from : (plan : Plan) (objects : List Payload) (before : List Event) (s : State) (es : List Event) → Comes plan objects before s es → AreBound plan.signatures objects s.made → AreBound plan.signatures objects (state_after s es).made
-bound_from plan objects before s [] comes bound = bound
-bound_from plan objects before s (e ∷ es) comes bound =
-    bound_from plan objects (before ++ e ∷ []) (after s e) es comes.1 (bound_after plan objects before s e comes.0 bound)
+-- and behind more events
+bound_from : (plan : Plan) (objects : List Payload) (p : Past) (es : List Event) → Comes plan objects p es → AreBound plan.signatures objects p.state.made → AreBound plan.signatures objects (past_behind p es).state.made
+bound_from plan objects p [] comes bound = bound
+bound_from plan objects p (e ∷ es) comes bound = bound_from plan objects (past_after p e) es comes.1 (bound_after plan objects p e comes.0 bound)
 
 -- in a run each activation that was made is bound
-pub comes_bound : (plan : Plan) (objects : List Payload) (events : List Event) → Comes plan objects [] start events → AreBound plan.signatures objects (state_after start events).made
-comes_bound plan objects events comes = bound_from plan objects [] start events comes (λ i a none. absurd (cc none))
+pub comes_bound : (plan : Plan) (objects : List Payload) (events : List Event) → Comes plan objects nothing events → AreBound plan.signatures objects (state_after start events).made
+comes_bound plan objects events comes = subst (λ (s : State). AreBound plan.signatures objects s.made) (past_state events) (bound_from plan objects nothing events comes (λ i a none. absurd (cc none)))
 
 -- signatures are the same where there are more
 abbrev pub AreSigned : List Signature → List Signature → Type 0
 AreSigned xs ys = (i : ℕ) (s : Signature) → slice_get xs i ≡ Some s → slice_get ys i ≡ Some s
 
-calls_signed : (xs ys : List Signature) (depth : ℕ) (objects : List Payload) (f : Obj) (p : Payload) (vs : List Obj) (c : Course) → AreSigned xs ys → CallsAs xs depth objects f p vs c → CallsAs ys depth objects f p vs c
-calls_signed xs ys depth objects f (payload.Function b) vs c signed (s, is_signature, is) = (s, signed b.code s is_signature, is)
-calls_signed xs ys depth objects f _ vs c signed calls = calls
+-- a question among other signatures
+abbrev pub among : Setting → List Signature → Setting
+among at ys = record at { signatures = ys }
 
-comes_to_signed : (xs ys : List Signature) (depth : ℕ) (handled : Option PyBaseExceptionRef) (objects : List Payload) (r : Request) (c : Course) → AreSigned xs ys → ComesTo xs depth handled objects r c → ComesTo ys depth handled objects r c
-comes_to_signed xs ys depth handled objects r c signed (inl replied) = inl replied
-comes_to_signed xs ys depth handled objects r c signed (inr (inl (f, vs, is, (p, has, calls)))) = inr (inl (f, vs, is, (p, has, calls_signed xs ys depth objects f p vs c signed calls)))
-comes_to_signed xs ys depth handled objects r c signed (inr (inr asks)) = inr (inr asks)
+-- what the call of a function comes to stays among more signatures
+calls_signed : (at : Setting) (ys : List Signature) (objects : List Payload) (f : Obj) (vs : List Obj) (c : Course) → AreSigned at.signatures ys → CallsFunction at objects f vs c → CallsFunction (among at ys) objects f vs c
+calls_signed at ys objects f vs c signed calls = record {
+  body = calls.body;
+  entry = calls.entry;
+  signature = calls.signature;
+  signed = signed calls.body.code calls.signature calls.signed;
+  runs_through = calls.runs_through;
+  is = calls.is;
+}
+
+-- so does what a question comes to
+comes_to_signed : (at : Setting) (ys : List Signature) (objects : List Payload) (r : Request) (c : Course) → AreSigned at.signatures ys → ComesTo at objects r c → ComesTo (among at ys) objects r c
+comes_to_signed at ys objects r c signed (inl replied) = inl replied
+comes_to_signed at ys objects r c signed (inr (inl (f, vs, is, calls))) = inr (inl (f, vs, is, calls_signed at ys objects f vs c signed calls))
+comes_to_signed at ys objects r c signed (inr (inr asks)) = inr (inr asks)
 
 -- a plan over other signatures
 abbrev pub signed_by : Plan → List Signature → Plan
 signed_by plan ys = record plan { signatures = ys }
 
-answers_signed : (plan : Plan) (ys : List Signature) (objects : List Payload) (before : List Event) (s : State) (phase : Phase) (r : Request) (w : GotAnswer) → AreSigned plan.signatures ys
-    → Answers plan objects before s phase r w → Answers (signed_by plan ys) objects before s phase r w
-answers_signed plan ys objects before s Asking r w signed (reply, comes, gives) = (reply, comes_to_signed plan.signatures ys (depth plan s) (handled_among s.stack) objects r (Says reply) signed comes, gives)
-answers_signed plan ys objects before s _ r w signed answers = answers
+-- and what the open question comes to
+opens_signed : (plan : Plan) (ys : List Signature) (objects : List Payload) (p : Past) (c : Course) → AreSigned plan.signatures ys → Opens plan objects p c → Opens (signed_by plan ys) objects p c
+opens_signed plan ys objects p c signed (asks, (r, open_, comes)) = (asks, (r, open_, comes_to_signed (setting plan p) ys objects r c signed comes))
 
-may_come_signed : (plan : Plan) (ys : List Signature) (objects : List Payload) (before : List Event) (s : State) (e : Event) → AreSigned plan.signatures ys → MayCome plan objects before s e → MayCome (signed_by plan ys) objects before s e
-may_come_signed plan ys objects before s (event.Result d w) signed (next, alone, (r, g, open_, got_, answers)) = (next, alone, (r, g, open_, got_, answers_signed plan ys objects before s s.phase r g signed answers))
-may_come_signed plan ys objects before s (event.Make a f vs) signed (asks, next, open_, (p, has, calls)) = (asks, next, open_, (p, has, calls_signed plan.signatures ys (depth plan s) objects f p vs Enters signed calls))
-may_come_signed plan ys objects before s (event.Got a w) signed (top, (r, open_, answers)) = (top, (r, open_, answers_signed plan ys objects before s s.phase r w signed answers))
-may_come_signed plan ys objects before s _ signed may = may
+-- a reply stays one, in each phase
+reply_signed : (plan : Plan) (ys : List Signature) (objects : List Payload) (p : Past) (phase : Phase) (r : Request) (reply : Reply) → AreSigned plan.signatures ys
+    → IsReply plan objects p phase r reply → IsReply (signed_by plan ys) objects p phase r reply
+reply_signed plan ys objects p Asking r reply signed comes = comes_to_signed (setting plan p) ys objects r (Says reply) signed comes
+reply_signed plan ys objects p _ r reply signed is = is
+
+-- what the open question is answered stays
+answered_signed : (plan : Plan) (ys : List Signature) (objects : List Payload) (p : Past) (reply : Reply) → AreSigned plan.signatures ys → IsAnswered plan objects p reply → IsAnswered (signed_by plan ys) objects p reply
+answered_signed plan ys objects p reply signed (r, open_, is) = (r, open_, reply_signed plan ys objects p p.state.phase r reply signed is)
+
+-- an event that may come still may
+may_come_signed : (plan : Plan) (ys : List Signature) (objects : List Payload) (p : Past) (e : Event) → AreSigned plan.signatures ys → MayCome plan objects p e → MayCome (signed_by plan ys) objects p e
+may_come_signed plan ys objects p (event.Result d w) signed (next, alone, (reply, answered, gives)) = (next, alone, (reply, answered_signed plan ys objects p reply signed answered, gives))
+may_come_signed plan ys objects p (event.Make a f vs) signed (next, opens) = (next, opens_signed plan ys objects p (Enters f vs) signed opens)
+may_come_signed plan ys objects p (event.Resume a how.Start) signed may = may
+may_come_signed plan ys objects p (event.Resume a (how.Send v)) signed may = may
+may_come_signed plan ys objects p (event.Resume a (how.Throw e)) signed may = may
+may_come_signed plan ys objects p (event.Got a w) signed (top, (reply, answered, gives)) = (top, (reply, answered_signed plan ys objects p reply signed answered, gives))
+may_come_signed plan ys objects p _ signed may = may
 
 -- a run goes over to more signatures
-pub comes_signed : (plan : Plan) (ys : List Signature) (objects : List Payload) (before : List Event) (s : State) (es : List Event) → AreSigned plan.signatures ys → Comes plan objects before s es → Comes (signed_by plan ys) objects before s es
-comes_signed plan ys objects before s [] signed comes = tt
-comes_signed plan ys objects before s (e ∷ es) signed comes = (may_come_signed plan ys objects before s e signed comes.0, comes_signed plan ys objects (before ++ e ∷ []) (after s e) es signed comes.1)
+pub comes_signed : (plan : Plan) (ys : List Signature) (objects : List Payload) (p : Past) (es : List Event) → AreSigned plan.signatures ys → Comes plan objects p es → Comes (signed_by plan ys) objects p es
+comes_signed plan ys objects p [] signed comes = tt
+comes_signed plan ys objects p (e ∷ es) signed comes = (may_come_signed plan ys objects p e signed comes.0, comes_signed plan ys objects (past_after p e) es signed comes.1)

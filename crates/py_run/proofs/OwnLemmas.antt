@@ -12,6 +12,7 @@ own_from-append b k n [] e number = append-nil (told_by b k e) ∙ ap (λ i. tol
 own_from-append b k n (x ∷ es) e number =
     ap (λ l. told_by b k x ++ l) (own_from-append b (suc k) n es e (omega (arith, number))) ∙ sym (append_assoc (told_by b k x) (own_from b (suc k) es) (told_by b n e))
 
+-- own events behind one more event
 pub own_events-append : (b : ℕ) (es : List Event) (e : Event) → own_events b (es ++ e ∷ []) ≡ own_events b es ++ told_by b (length es) e
 own_events-append b es e = own_from-append b 0 (length es) es e (omega arith)
 
@@ -43,12 +44,13 @@ pub state_after-append : (s : State) (es : List Event) (e : Event) → state_aft
 state_after-append s [] e = refl
 state_after-append s (x ∷ es) e = state_after-append (after s x) es e
 
--- at most as many drives are done, and activations made, as there are events
+-- at most as many drives are done as there are events
 done_counted : (s : State) (es : List Event) → (state_after s es).done ≤ s.done + length es
 done_counted s [] = omega arith
 done_counted s (event.Result d w ∷ es) = let rest = done_counted (after s (event.Result d w)) es in omega (arith, rest)
 done_counted s (e ∷ es) = let rest = done_counted (after s e) es in omega (arith, rest)
 
+-- at most as many activations are made
 made_counted : (s : State) (es : List Event) → length (state_after s es).made ≤ length s.made + length es
 made_counted s [] = omega arith
 made_counted s (event.Make a f vs ∷ es) =
@@ -57,9 +59,10 @@ made_counted s (event.Make a f vs ∷ es) =
     omega (arith, rest, one)
 made_counted s (e ∷ es) = let rest = made_counted (after s e) es in omega (arith, rest)
 
--- the same from the start
+-- the same of drives from the start
 pub done_below : (es : List Event) → (state_after start es).done ≤ length es
 done_below es = let all = done_counted start es in omega (arith, all)
 
+-- and of activations
 pub made_below : (es : List Event) → length (state_after start es).made ≤ length es
 made_below es = let all = made_counted start es in omega (arith, all)

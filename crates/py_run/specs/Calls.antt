@@ -1,30 +1,35 @@
--- What questions come to, by what runs: calls (Python Language Reference, 6.3.4 and 8.7), by whether the callee can be called, whether the
--- arguments bind to its parameters, and whether there is depth left, in this order; and the exception that is handled.
+-- What questions come to: a reply, or the entry of a function (Python Language Reference, 6.3.4 and 8.7): a call enters one where its
+-- arguments bind to the function's parameters, and where there is depth left, in this order.
 use Rattle.std.specs.Prelude.{ℕ, Option, Some, None, List, [], ◌∷◌, ◌++◌, ◌≡◌, ◌==◌, ◌⊎◌, slice_get, length, drop, nat_le, nat_lt, if◌then◌else◌, codes, decimal}
 use Rattle.py_objects.specs.declared.payload.Payload.{Payload}
 use Rattle.py_objects.specs.declared.payload.Payload.TheVariants as payload
+use Rattle.py_objects.specs.declared.payload.CoroKind.{CoroKind}
+use Rattle.py_objects.specs.declared.payload.FunctionBody.{FunctionBody}
 use Rattle.py_objects.specs.declared.error_kind.ErrorKind.TheVariants.{RecursionError, RuntimeError, TypeError}
 use Rattle.py_objects.specs.declared.refs.PyBaseExceptionRef.{PyBaseExceptionRef}
 use Rattle.py_objects.specs.declared.request.Keywords.TheVariants as keywords
 use Rattle.py_objects.specs.declared.request.Request.{Request}
 use Rattle.py_objects.specs.declared.request.Request.TheVariants as request
 use Rattle.py_objects.specs.Objects.{Obj, Name, HasPayload, as_object}
-use Rattle.py_answers.specs.Answers.{Reply, Is, Makes, Fails, IsTypeName, Replies}
+use Rattle.py_answers.specs.Answers.{Reply, Is, Fails, Passes, Replies}
 
--- a function by its parameters, in order
+-- a function by its parameters, in order, and by what its activations are seen as, where they can be suspended: both are its body's
 pub record Signature : Type 0 where
   pub params : List Name
+  pub kind : Option CoroKind
 
--- what a question comes to: a reply at once, or the entry of a function
+-- what a question comes to: a reply at once, or the entry of this function with these arguments
 pub data Course : Type 0 where
   Says : Reply → Course
-  Enters : Course
+  Enters : (f : Obj) → (vs : List Obj) → Course
 
--- the text of the refusal of a callee of the type of this name
-abbrev pub not_callable : Name → Name
-not_callable n = codes "'" ++ (n ++ codes "' object is not callable")
+-- how an activation was left
+pub data Left : Type 0 where
+  ByYield : Obj → Left
+  ByReturn : Obj → Left
+  ByRaise : PyBaseExceptionRef → Left
 
--- that of too many arguments
+-- the text of the refusal of too many arguments
 abbrev pub too_many : Name → ℕ → ℕ → Name
 too_many f takes given = f ++ (codes "() takes " ++ (decimal takes ++ (codes " positional arguments but " ++ (decimal given ++ codes " were given"))))
 
@@ -67,49 +72,51 @@ abbrev pub most_depth : ℕ
 most_depth = 1000
 
 -- an entry while so many activations run
-abbrev pub entry_at : ℕ → Course
-entry_at depth = if nat_le most_depth depth then Says (Fails RecursionError (codes "maximum recursion depth exceeded ")) else Enters
+abbrev pub entry_at : ℕ → Course → Course
+entry_at depth c = if nat_le most_depth depth then Says (Fails RecursionError (codes "maximum recursion depth exceeded ")) else c
 
--- a call of a function whose arguments are refused with this text, if they are
-abbrev pub bound_at : Option Name → ℕ → Course
-bound_at None depth = entry_at depth
-bound_at (Some text) depth = Says (Fails TypeError text)
-
--- the call of what can't be called
-abbrev pub IsRefusedCall : List Payload → Payload → Course → Type 0
-IsRefusedCall objects p c = (n : Name) × IsTypeName objects p n × (c ≡ Says (Fails TypeError (not_callable n)))
-
--- the call of an object of this payload with these arguments, while so many activations run, where functions have these signatures by
--- their codes: a class makes an exception, a function is entered
-abbrev pub CallsAs : List Signature → ℕ → List Payload → Obj → Payload → List Obj → Course → Type 0
-CallsAs signatures depth objects f payload.None vs c = IsRefusedCall objects payload.None c
-CallsAs signatures depth objects f (payload.Bool b) vs c = IsRefusedCall objects (payload.Bool b) c
-CallsAs signatures depth objects f (payload.Int n) vs c = IsRefusedCall objects (payload.Int n) c
-CallsAs signatures depth objects f (payload.Str s) vs c = IsRefusedCall objects (payload.Str s) c
-CallsAs signatures depth objects f (payload.Tuple ws) vs c = IsRefusedCall objects (payload.Tuple ws) c
-CallsAs signatures depth objects f (payload.Dict ps) vs c = IsRefusedCall objects (payload.Dict ps) c
-CallsAs signatures depth objects f (payload.Class b) vs c = c ≡ Says (Makes (record { number = f.number }) vs)
-CallsAs signatures depth objects f (payload.Function b) vs c =
-    (s : Signature) × (slice_get signatures b.code ≡ Some s) × (c ≡ bound_at (refusal b.name s.params (length vs)) depth)
-CallsAs signatures depth objects f (payload.Manager b) vs c = IsRefusedCall objects (payload.Manager b) c
-CallsAs signatures depth objects f (payload.Frame n) vs c = IsRefusedCall objects (payload.Frame n) c
-CallsAs signatures depth objects f (payload.Generator b) vs c = IsRefusedCall objects (payload.Generator b) c
-CallsAs signatures depth objects f (payload.Exception b) vs c = IsRefusedCall objects (payload.Exception b) c
-CallsAs signatures depth objects f (payload.Traceback b) vs c = IsRefusedCall objects (payload.Traceback b) c
-
--- the call of an object
-abbrev pub Calls : List Signature → ℕ → List Payload → Obj → List Obj → Course → Type 0
-Calls signatures depth objects f vs c = (p : Payload) × HasPayload objects f p × CallsAs signatures depth objects f p vs c
+-- what a call comes to where its arguments are refused with this text, if they are: else this course
+abbrev pub bound_by : Option Name → Course → Course
+bound_by None c = c
+bound_by (Some text) c = Says (Fails TypeError text)
 
 -- the reply to who asks for the exception that is handled (Python Language Reference, 7.8): that one, or a raise where there is none
 abbrev pub reraised : Option PyBaseExceptionRef → Reply
 reraised None = Fails RuntimeError (codes "No active exception to reraise")
 reraised (Some e) = Is (as_object e)
 
--- what a question comes to, while so many activations run and this is handled: a reply without an activation, or what its call does, where
--- it is one without keyword arguments, or what is handled
-abbrev pub ComesTo : List Signature → ℕ → Option PyBaseExceptionRef → List Payload → Request → Course → Type 0
-ComesTo signatures depth handled objects r c =
-    ((reply : Reply) × (c ≡ Says reply) × Replies objects r reply)
-    ⊎ ((f : Obj) × (vs : List Obj) × (r ≡ request.Call f vs keywords.None) × Calls signatures depth objects f vs c)
-    ⊎ ((r ≡ request.Handled) × (c ≡ Says (reraised handled)))
+-- what a question comes to depends, besides the objects, on the signatures of functions, by their codes, on how many activations count as
+-- running, and on the innermost exception that is handled
+pub record Setting : Type 0 where
+  pub signatures : List Signature
+  pub depth : ℕ
+  pub handled : Option PyBaseExceptionRef
+
+module _ (at : Setting) (objects : List Payload) where
+  -- the call of a function with these arguments; one whose activations can be suspended isn't called yet
+  pub record CallsFunction (f : Obj) (vs : List Obj) (c : Course) : Type 0 where
+    pub body : FunctionBody
+    pub entry : HasPayload objects f (payload.Function body)
+    pub signature : Signature
+    pub signed : slice_get at.signatures body.code ≡ Some signature
+    pub runs_through : signature.kind ≡ None
+    pub is : c ≡ bound_by (refusal body.name signature.params (length vs)) (entry_at at.depth (Enters f vs))
+
+  -- what a question comes to: a reply without an activation, or what the call of a function does, where it is one without keyword
+  -- arguments, or what is handled
+  abbrev pub ComesTo : Request → Course → Type 0
+  ComesTo r c =
+      ((reply : Reply) × (c ≡ Says reply) × Replies objects r reply)
+      ⊎ ((f : Obj) × (vs : List Obj) × (r ≡ request.Call f vs keywords.None) × CallsFunction f vs c)
+      ⊎ ((r ≡ request.Handled) × (c ≡ Says (reraised at.handled)))
+
+-- a call is answered by how the activation of its callee was left; it yields nowhere
+abbrev pub LeavesCalled : Left → Reply → Type 0
+LeavesCalled (ByYield v) reply = ⊥
+LeavesCalled (ByReturn v) reply = reply ≡ Is v
+LeavesCalled (ByRaise e) reply = reply ≡ Passes e
+
+-- what a question is answered where the activation that it entered was left: a call without keyword arguments alone enters one so far
+abbrev pub IsDue : Request → Left → Reply → Type 0
+IsDue (request.Call f vs named) left reply = (named ≡ keywords.None) × LeavesCalled left reply
+IsDue _ left reply = ⊥

@@ -11,22 +11,18 @@ use Rattle.py_objects.specs.declared.event.ResumeHow.{ResumeHow}
 use Rattle.py_objects.specs.declared.event.ResumeHow.TheVariants as how
 use Rattle.py_objects.specs.declared.event.Ending.{Ending}
 use Rattle.py_objects.specs.declared.event.Ending.TheVariants as ending
-use Rattle.py_objects.specs.declared.event.GotAnswer.{GotAnswer}
-use Rattle.py_objects.specs.declared.event.GotAnswer.TheVariants as got
-use Rattle.py_objects.specs.declared.event.DriveAnswer.{DriveAnswer}
-use Rattle.py_objects.specs.declared.event.DriveAnswer.TheVariants as answer
 use Rattle.py_objects.specs.declared.event.Event.{Event}
 use Rattle.py_objects.specs.declared.event.Event.TheVariants as event
 use Rattle.py_objects.specs.Objects.{Obj, AreNamed}
 use Rattle.py_objects.specs.Own.{Own, own_events}
 use Rattle.py_run.specs.declared.drive.Drive.{Drive}
 use Rattle.py_run.specs.declared.drive.Drive.TheVariants.{Call}
-use Rattle.py_answers.specs.Answers.{Reply, Gives}
-use Rattle.py_run.specs.Calls.{Signature, Says, Enters, Calls, ComesTo}
+use Rattle.py_answers.specs.Answers.{Reply, GivesBody, GivesDrive}
+use Rattle.py_run.specs.Calls.{Signature, Course, Says, Enters, Left, ByYield, ByReturn, ByRaise, Setting, ComesTo, IsDue}
 
--- a drive, made while the host had so many enters that it hadn't left
+-- what a drive asks, while the host had so many enters that it hadn't left
 pub record Posed : Type 0 where
-  pub drive : Drive
+  pub request : Request
   pub entered : ℕ
 
 -- what a run is of: the signatures of functions, by their codes, and the drives that were begun
@@ -34,14 +30,8 @@ pub record Plan : Type 0 where
   pub signatures : List Signature
   pub asked : List Posed
 
--- how an activation was left
-pub data Left : Type 0 where
-  ByYield : Obj → Left
-  ByReturn : Obj → Left
-  ByRaise : PyBaseExceptionRef → Left
-
 -- nothing open; a question open; an activation of this function made; the innermost activation goes on; one was left, and
--- the question that entered it is due
+-- the answer to the question that entered it is due
 pub data Phase : Type 0 where
   Idle Asking Going : Phase
   Made : Obj → Phase
@@ -58,6 +48,7 @@ pub record Activation : Type 0 where
   pub function : Obj
   pub args : List Obj
 
+-- what the events so far come to, but for themselves
 pub record State : Type 0 where
   pub done : ℕ  -- how many drives have their result
   pub phase : Phase
@@ -104,19 +95,21 @@ IsTop n (a ∷ stack) = a.number ≡ n
 abbrev pub request_of : Drive → Request
 request_of (Call f vs) = request.Call f vs keywords.None
 
--- the open question, if there is one: the innermost activation's, or the drive's where none runs
+-- the innermost activation's question, or this drive's where none runs
 abbrev pub open_in : Option Posed → List Act → Option Request
-open_in q [] = option_map (λ (p : Posed). request_of p.drive) q
+open_in q [] = option_map (λ (p : Posed). p.request) q
 open_in q (a ∷ stack) = a.asks
 
+-- the open question, if there is one
 abbrev pub question : Plan → State → Option Request
 question plan s = open_in (slice_get plan.asked s.done) s.stack
 
--- how many activations count as running: those that run, and the host's
+-- how many activations of the host count as running
 abbrev pub entered_in : Option Posed → ℕ
 entered_in None = 0
 entered_in (Some p) = p.entered
 
+-- how many activations count as running: those that run, and the host's
 abbrev pub depth : Plan → State → ℕ
 depth plan s = entered_in (slice_get plan.asked s.done) + length s.stack
 
@@ -129,54 +122,67 @@ handled_among (a ∷ stack) = option_or a.own (handled_among stack)
 abbrev pub GoesOn : State → ℕ → Type 0
 GoesOn s a = (s.phase ≡ Going) × IsTop a s.stack
 
--- a function starts as soon as it is made; nothing else is entered so far
-abbrev pub Starts : ResumeHow → ℕ → State → Type 0
-Starts how.Start a s = (f : Obj) × (s.phase ≡ Made f) × (a ≡ length s.made)
-Starts (how.Send v) a s = ⊥
-Starts (how.Throw e) a s = ⊥
+-- the events so far, and what they come to
+pub record Past : Type 0 where
+  pub events : List Event
+  pub state : State
 
--- the answer to a call, by how the activation that it entered was left
-abbrev pub Passes : Left → GotAnswer → Type 0
-Passes (ByYield v) w = ⊥
-Passes (ByReturn v) w = w ≡ got.Value v
-Passes (ByRaise e) w = w ≡ got.Raise e
+-- nothing happened
+abbrev pub nothing : Past
+nothing = record { events = []; state = start }
 
--- the result of a drive that calls, as the answer to its call
-abbrev pub as_got : DriveAnswer → Option GotAnswer
-as_got (answer.Returns v) = Some (got.Value v)
-as_got (answer.Raises e) = Some (got.Raise e)
-as_got _ = None
+-- one event more
+abbrev pub past_after : Past → Event → Past
+past_after p e = record { events = p.events ++ e ∷ []; state = after p.state e }
+
+-- these events more
+abbrev pub past_behind : Past → List Event → Past
+past_behind p [] = p
+past_behind p (e ∷ es) = past_behind (past_after p e) es
+
+-- where a question stands
+abbrev pub setting : Plan → Past → Setting
+setting plan p = record { signatures = plan.signatures; depth = depth plan p.state; handled = handled_among p.state.stack }
 
 module _ (plan : Plan) (objects : List Payload) where
-  -- the open question gets this answer: at once, or where the activation that it entered was left
-  abbrev pub Answers : List Event → State → Phase → Request → GotAnswer → Type 0
-  Answers before s Idle r w = ⊥
-  Answers before s Asking r w = (reply : Reply) × ComesTo plan.signatures (depth plan s) (handled_among s.stack) objects r (Says reply) × Gives objects before reply w
-  Answers before s Going r w = ⊥
-  Answers before s (Made f) r w = ⊥
-  Answers before s (Due left) r w = (f : Obj) × (vs : List Obj) × (r ≡ request.Call f vs keywords.None) × Passes left w
+  -- the open question comes to this
+  abbrev pub Opens : Past → Course → Type 0
+  Opens p c = (p.state.phase ≡ Asking) × ((r : Request) × (question plan p.state ≡ Some r) × ComesTo (setting plan p) objects r c)
 
-  -- this event is of the one kind that may come next; `before` has the events so far
-  abbrev pub MayCome : List Event → State → Event → Type 0
-  MayCome before s (event.Drive d) = (s.phase ≡ Idle) × (d ≡ suc s.done) × (s.done < length plan.asked)
-  MayCome before s (event.Make a f vs) =
-      (s.phase ≡ Asking) × (a ≡ suc (length s.made)) × (question plan s ≡ Some (request.Call f vs keywords.None))
-      × Calls plan.signatures (depth plan s) objects f vs Enters
-  MayCome before s (event.Resume a h) = Starts h a s
-  MayCome before s (event.Ask a r own at) = GoesOn s a
-  MayCome before s (event.Round a at) = GoesOn s a
-  MayCome before s (event.Yield a v at) = GoesOn s a
-  MayCome before s (event.End a e at) = GoesOn s a
-  MayCome before s (event.Got a w) =
-      IsTop a s.stack × ((r : Request) × (question plan s ≡ Some r) × Answers before s s.phase r w)
-  MayCome before s (event.Result d w) =
-      (d ≡ suc s.done) × (s.stack ≡ [])
-      × ((r : Request) × (g : GotAnswer) × (question plan s ≡ Some r) × (as_got w ≡ Some g) × Answers before s s.phase r g)
+  -- a function starts as soon as it is made; nothing else is entered so far
+  abbrev pub IsEntered : Past → ResumeHow → ℕ → Type 0
+  IsEntered p how.Start a = (f : Obj) × (p.state.phase ≡ Made f) × (a ≡ length p.state.made)
+  IsEntered p (how.Send v) a = ⊥
+  IsEntered p (how.Throw e) a = ⊥
+
+  -- a question is answered this: at once, or where the activation that it entered was left
+  abbrev pub IsReply : Past → Phase → Request → Reply → Type 0
+  IsReply p Idle r reply = ⊥
+  IsReply p Asking r reply = ComesTo (setting plan p) objects r (Says reply)
+  IsReply p Going r reply = ⊥
+  IsReply p (Made f) r reply = ⊥
+  IsReply p (Due left) r reply = IsDue r left reply
+
+  -- the open question is answered this
+  abbrev pub IsAnswered : Past → Reply → Type 0
+  IsAnswered p reply = (r : Request) × (question plan p.state ≡ Some r) × IsReply p p.state.phase r reply
+
+  -- this event is of the one kind that may come next
+  abbrev pub MayCome : Past → Event → Type 0
+  MayCome p (event.Drive d) = (p.state.phase ≡ Idle) × (d ≡ suc p.state.done) × (p.state.done < length plan.asked)
+  MayCome p (event.Make a f vs) = (a ≡ suc (length p.state.made)) × Opens p (Enters f vs)
+  MayCome p (event.Resume a h) = IsEntered p h a
+  MayCome p (event.Ask a r own at) = GoesOn p.state a
+  MayCome p (event.Round a at) = GoesOn p.state a
+  MayCome p (event.Yield a v at) = GoesOn p.state a
+  MayCome p (event.End a e at) = GoesOn p.state a
+  MayCome p (event.Got a w) = IsTop a p.state.stack × ((reply : Reply) × IsAnswered p reply × GivesBody objects p.events reply w)
+  MayCome p (event.Result d w) = (d ≡ suc p.state.done) × (p.state.stack ≡ []) × ((reply : Reply) × IsAnswered p reply × GivesDrive objects p.events reply w)
 
   -- each event may come where it stands, behind those before
-  abbrev pub Comes : List Event → State → List Event → Type 0
-  Comes before s [] = Unit {0}
-  Comes before s (e ∷ es) = MayCome before s e × Comes (before ++ e ∷ []) (after s e) es
+  abbrev pub Comes : Past → List Event → Type 0
+  Comes p [] = Unit {0}
+  Comes p (e ∷ es) = MayCome p e × Comes (past_after p e) es
 
 -- what an activation of a function with these arguments may tell
 abbrev pub May : Type 1
@@ -188,7 +194,7 @@ EachTells may events = (i : ℕ) (a : Activation) → slice_get (state_after sta
 
 -- a prefix of a run, where what activations may tell is given
 pub record IsRunBy (may : May) (plan : Plan) (objects : List Payload) (events : List Event) : Type 0 where
-  pub comes : Comes plan objects [] start events
+  pub comes : Comes plan objects nothing events
   pub tells : EachTells may events
   pub named : AreNamed objects events
 

@@ -11,12 +11,13 @@ use Rattle.py_objects.specs.declared.payload.ManagerBody.{ManagerBody}
 use Rattle.py_objects.specs.declared.error_kind.ErrorKind.{ErrorKind}
 use Rattle.py_objects.specs.ErrorKinds.{name_of, error_kinds}
 use Rattle.py_objects.specs.Objects.{Obj, Name, HasPayload, declares, is_name, declared, declared_from, AllFit}
+use Rattle.py_objects.specs.Singletons.{singletons}
 use Rattle.py_objects.proofs.GrowthLemmas.{slice_get_split}
 use Rattle.py_exceptions.specs.Classes.{class_of, class_payload, first_classes, HaveClasses}
 use Rattle.py_exceptions.proofs.ClassesLemmas.{classes_grown}
 use Rattle.py_tree.specs.Tree.{Tree}
 use Rattle.py_grammar.specs.Rules.{is_builtin_class}
-use Rattle.py_vm.specs.First.{first_objects, singletons}
+use Rattle.py_vm.specs.First.{first_objects}
 use Rattle.py_vm.proofs.FirstLemmas.{each_first, first_have}
 use Rattle.py_script.specs.Whole.{AreObjects}
 

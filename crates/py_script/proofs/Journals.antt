@@ -1,5 +1,5 @@
 -- What is said of every journal worked by hand, whose script has one function.
-use Rattle.std.proofs.Common.{Option, ◌≡◌, ℕ, zero, suc, ◌+◌, List, [], ◌∷◌, ◌++◌, Some, None, Bool, true, false, cond, ◌&&◌, ◌<◌, ◌≤◌, refl, sym, ap, subst, inl, inr, lit<, lit≤, ◌∙◌, arith, length, eqb, eq-eqb, ne_eqb}
+use Rattle.std.proofs.Common.{◌≡◌, ℕ, zero, suc, ◌+◌, List, [], ◌∷◌, ◌++◌, Some, None, Bool, true, false, cond, ◌&&◌, ◌<◌, ◌≤◌, refl, sym, ap, subst, inl, inr, lit<, lit≤, ◌∙◌, arith, length, eqb, eq-eqb, ne_eqb}
 use Rattle.std.proofs.lemmas.Fmt.{decimal_digit, decimal_step}
 use Rattle.std.proofs.lemmas.Bool.{ltb-true}
 use Rattle.std.proofs.lemmas.Str.{encode_ascii}
@@ -32,18 +32,19 @@ use Rattle.py_exceptions.specs.Classes.{class_of, first_classes}
 use Rattle.py_tree.specs.Tree.{Tree}
 use Rattle.py_tree.specs.Scene.{Scene, anywhere}
 use Rattle.py_tree.specs.Trace.{IsTrace, IsBegun}
+use Rattle.py_lines.specs.declared.drive.DriveAtom.{DriveAtom}
 use Rattle.py_lines.specs.declared.drive.DriveLine.{DriveLine}
+use Rattle.py_lines.specs.declared.drive.DriveLine.TheVariants as drive
 use Rattle.py_lines.specs.declared.line.LineRead.{LineRead}
 use Rattle.py_lines.specs.declared.line.LineRead.TheVariants.{Said}
 use Rattle.py_grammar.specs.Grammar.{Row, Item, items_rows}
-use Rattle.py_run.specs.declared.drive.Drive.TheVariants.{Call}
-use Rattle.py_answers.specs.Answers.{Reply, Replies, Gives, IsRaised, sum, whole}
-use Rattle.py_run.specs.Calls.{Signature, Course, Says, Enters, refusal, bound_at, CallsAs, Calls, ComesTo}
-use Rattle.py_run.specs.Run.{Posed, Plan, Activation, Phase, Asking, IsTop, Answers as IsAnswered, MayCome, State, question, start, state_after, Comes, EachTells}
+use Rattle.py_answers.specs.Answers.{Reply, Passes, Replies, CallsAs, GivesBody, IsRaised, sum, whole}
+use Rattle.py_run.specs.Calls.{Signature, Course, Says, Enters, Left, Setting, LeavesCalled, IsDue, refusal, entry_at, bound_by, CallsFunction, ComesTo}
+use Rattle.py_run.specs.Run.{Posed, Plan, Activation, Phase, Asking, IsTop, Past, setting, IsReply, MayCome, question, start, state_after, nothing, past_behind, Comes, EachTells}
 use Rattle.py_vm.specs.First.{first_objects}
 use Rattle.py_vm.proofs.FirstLemmas.{first_fit}
-use Rattle.py_script.specs.Whole.{AreAsked, AreGlobals, AreObjects, Traces, IsRunOf, plan_of, signature_of}
-use Rattle.py_script.specs.Worked.{object, exception, function_entry, loaded, objects_of, entered, asked, greatest, overflowing_of, out_of_range, error_entry, error_objects, raising_by, raised, raises, overflow_by}
+use Rattle.py_script.specs.Whole.{AreOf, AsksThis, AreAsked, AreGlobals, AreObjects, Traces, IsRunOf, plan_of, signature_of}
+use Rattle.py_script.specs.Worked.{call_of, object, exception, function_entry, loaded, objects_of, entered, asked, greatest, overflowing_of, out_of_range, error_entry, error_objects, raising_by, raised, raises, overflow_by}
 use Rattle.py_script.proofs.Behind.{HasFunction, IsOwn, have_classes, script_has}
 
 pub decimal_1 : decimal 1 ≡ codes "1"
@@ -118,7 +119,7 @@ differ m n other same =
 
 -- the question of a drive of the function with the two numbers
 abbrev pub call : Posed
-call = record { drive = Call (object 0) (object 3 ∷ object 4 ∷ []); entered = 0 }
+call = record { request = Calling (object 0) (object 3 ∷ object 4 ∷ []) keywords.None; entered = 0 }
 
 -- the one activation tells what it may
 pub one_tells : (may : Obj → List Obj → List Own → Type 0) (f : Obj) (vs : List Obj) (events : List Event) → (state_after start events).made ≡ record { function = f; args = vs } ∷ [] → may f vs (own_events 1 events) → EachTells may events
@@ -182,7 +183,6 @@ made_exception own kind args arguments are =
     record {
       class = record { name = name_of kind; mro = class.mro };
       is_class = class.entry;
-      is_declared = class.is_declared;
       arguments = arguments;
       are_arguments = are;
       cause = tt;
@@ -242,35 +242,57 @@ reply_of_sum store a b i j reply p q r =
     sym (some_is _ _ r.8) ∙ (ap (λ (x : Payload). sum x r.1 r.2 r.3) left ∙ ap (λ (x : Payload). sum (payload.Int i) x r.2 r.3) right)
 
 -- what is no call, and doesn't ask for what is handled, is replied to
-pub replied : (ss : List Signature) (d : ℕ) (handled : Option PyBaseExceptionRef) (store : List Payload) (r : Request) (reply : Reply) → ((f : Obj) (vs : List Obj) → r ≡ Calling f vs keywords.None → ⊥) → (r ≡ Handled → ⊥)
-    → ComesTo ss d handled store r (Says reply) → Replies store r reply
-replied ss d handled store r reply no_call other (inl (q, is, h)) = let same : reply ≡ q = cc in subst (Replies store r) (sym same) h
-replied ss d handled store r reply no_call other (inr (inl (f, vs, is, h))) = absurd (no_call f vs is)
-replied ss d handled store r reply no_call other (inr (inr (is, says))) = absurd (other is)
+pub replied : (at : Setting) (store : List Payload) (r : Request) (reply : Reply) → ((f : Obj) (vs : List Obj) → r ≡ Calling f vs keywords.None → ⊥) → (r ≡ Handled → ⊥)
+    → ComesTo at store r (Says reply) → Replies store r reply
+replied at store r reply no_call other (inl (q, is, h)) = let same : reply ≡ q = cc in subst (Replies store r) (sym same) h
+replied at store r reply no_call other (inr (inl (f, vs, is, h))) = absurd (no_call f vs is)
+replied at store r reply no_call other (inr (inr (is, says))) = absurd (other is)
 
--- what is called comes to what the call does
-pub called : (ss : List Signature) (d : ℕ) (handled : Option PyBaseExceptionRef) (store : List Payload) (f : Obj) (vs : List Obj) (c : Course) → ComesTo ss d handled store (Calling f vs keywords.None) c → Calls ss d store f vs c
-called ss d handled store f vs c (inl (reply, is, h)) = absurd h
-called ss d handled store f vs c (inr (inr (is, says))) = absurd (cc is)
-called ss d handled store f vs c (inr (inl (g, ws, is, h))) =
+-- the call of a function comes to what the function does
+pub called : (at : Setting) (store : List Payload) (f : Obj) (b : FunctionBody) (vs : List Obj) (c : Course) → HasPayload store f (payload.Function b) → ComesTo at store (Calling f vs keywords.None) c → CallsFunction at store f vs c
+called at store f b vs c entry (inl (reply, is, (positional, (p, has, calls)))) =
+    let same : p ≡ payload.Function b = some_is _ _ (sym has ∙ entry) in
+    absurd (subst (λ (x : Payload). CallsAs store f x vs reply) same calls)
+called at store f b vs c entry (inr (inr (is, says))) = absurd (cc is)
+called at store f b vs c entry (inr (inl (g, ws, is, h))) =
     let function : f ≡ g = cc is in
     let args : vs ≡ ws = cc is in
-    subst (λ (f : Obj). Calls ss d store f vs c) (sym function) (subst (λ (vs : List Obj). Calls ss d store g vs c) (sym args) h)
+    subst (λ (f : Obj). CallsFunction at store f vs c) (sym function) (subst (λ (vs : List Obj). CallsFunction at store g vs c) (sym args) h)
 
 -- a call of a function comes to what its signature says
-pub course_is : (ss : List Signature) (d : ℕ) (store : List Payload) (f : Obj) (b : FunctionBody) (s : Signature) (vs : List Obj) (c : Course) → HasPayload store f (payload.Function b) → slice_get ss b.code ≡ Some s → Calls ss d store f vs c → c ≡ bound_at (refusal b.name s.params (length vs)) d
-course_is ss d store f b s vs c entry signed h =
-    let same : h.0 ≡ payload.Function b = some_is _ _ (sym h.1 ∙ entry) in
-    let by = subst (λ (p : Payload). CallsAs ss d store f p vs c) same h.2 in
-    let is : by.0 ≡ s = some_is _ _ (sym by.1 ∙ signed) in
-    by.2 ∙ ap (λ (s : Signature). bound_at (refusal b.name s.params (length vs)) d) is
+pub course_is : (at : Setting) (store : List Payload) (f : Obj) (b : FunctionBody) (s : Signature) (vs : List Obj) (c : Course) → HasPayload store f (payload.Function b) → slice_get at.signatures b.code ≡ Some s
+    → CallsFunction at store f vs c → c ≡ bound_by (refusal b.name s.params (length vs)) (entry_at at.depth (Enters f vs))
+course_is at store f b s vs c entry signed h =
+    let same : h.body ≡ b = body_of _ _ (some_is _ _ (sym h.entry ∙ entry)) in
+    let is : h.signature ≡ s = some_is _ _ (sym h.signed ∙ ap (λ (x : FunctionBody). slice_get at.signatures x.code) same ∙ signed) in
+    h.is ∙ ap (λ (x : FunctionBody). bound_by (refusal x.name h.signature.params (length vs)) (entry_at at.depth (Enters f vs))) same
+    ∙ ap (λ (x : Signature). bound_by (refusal b.name x.params (length vs)) (entry_at at.depth (Enters f vs))) is
 
-pub gives_sum : (plan : Plan) (store : List Payload) (before : List Event) (s : State) (a b : Obj) (i j : ℤ) (w : GotAnswer) → HasPayload store a (payload.Int i) → HasPayload store b (payload.Int j)
-    → ((r : Request) × (Some (Binary binary.Add a b) ≡ Some r) × IsAnswered plan store before s Asking r w) → Gives store before (whole (i +ℤ j)) w
-gives_sum plan store before s a b i j w p q h =
-    let answered = subst (λ (r : Request). IsAnswered plan store before s Asking r w) (sym (some_is _ _ h.1)) h.2 in
-    subst (λ (reply : Reply). Gives store before reply w)
-    (reply_of_sum store a b i j answered.0 p q (replied _ _ _ store (Binary binary.Add a b) answered.0 (λ f vs e. cc) (λ e. cc) answered.1)) answered.2
+-- a function whose activations run through comes to what its signature says, where it is called
+pub runs : (at : Setting) (store : List Payload) (f : Obj) (vs : List Obj) (c : Course) (b : FunctionBody) (s : Signature) → HasPayload store f (payload.Function b) → slice_get at.signatures b.code ≡ Some s → s.kind ≡ None
+    → c ≡ bound_by (refusal b.name s.params (length vs)) (entry_at at.depth (Enters f vs)) → CallsFunction at store f vs c
+runs at store f vs c b s entry signed through is = record { body = b; entry = entry; signature = s; signed = signed; runs_through = through; is = is }
+
+-- a question whose activation was left is a call
+pub due_leaves : (r : Request) (left : Left) (reply : Reply) → IsDue r left reply → LeavesCalled left reply
+due_leaves (Calling f vs named) left reply due = due.1
+due_leaves _ left reply due = absurd due
+
+-- a line that drives asks for the call of what has its name, with objects of its arguments
+pub asked_for : (store : List Payload) (events : List Event) (x : Name) (args : List DriveAtom) (f : Obj) (vs : List Obj) → AsksThis store events (drive.Call x args) (Calling f vs keywords.None)
+    → (declared store x ≡ Some f) × AreOf store events args vs
+asked_for store events x args f vs (g, ws, is, named, of) =
+    let function : g ≡ f = cc is in
+    let same : ws ≡ vs = cc is in
+    (named ∙ ap Some function, subst (λ (us : List Obj). AreOf store events args us) same of)
+
+-- what answers the question for a sum gives that
+pub gives_sum : (plan : Plan) (store : List Payload) (p : Past) (a b : Obj) (i j : ℤ) (w : GotAnswer) → HasPayload store a (payload.Int i) → HasPayload store b (payload.Int j)
+    → ((reply : Reply) × ((r : Request) × (Some (Binary binary.Add a b) ≡ Some r) × IsReply plan store p Asking r reply) × GivesBody store p.events reply w) → GivesBody store p.events (whole (i +ℤ j)) w
+gives_sum plan store p a b i j w left right (reply, (r, asks, replies), gives) =
+    let says = subst (λ (x : Request). IsReply plan store p Asking x reply) (sym (some_is _ _ asks)) replies in
+    subst (λ (x : Reply). GivesBody store p.events x w)
+    (reply_of_sum store a b i j reply left right (replied (setting plan p) store (Binary binary.Add a b) reply (λ f vs e. cc) (λ e. cc) says)) gives
 
 -- the script's only function
 module _ (t : Tree) where
@@ -310,21 +332,34 @@ module _ (t : Tree) where
 
   -- the two numbers are taken
   abbrev pub Binds : List Payload → Type 0
-  Binds store = Calls (map signature_of (t ∷ [])) 0 store (object 0) (object 3 ∷ object 4 ∷ []) Enters
+  Binds store =
+      CallsFunction (record { signatures = map signature_of (t ∷ []); depth = 0; handled = None }) store (object 0) (object 3 ∷ object 4 ∷ [])
+      (Enters (object 0) (object 3 ∷ object 4 ∷ []))
+
+  -- a drive of the script's call asks for the two numbers
+  pub asks_numbers : (m n : ℤ) (more : List Payload) (events : List Event) → IsDeclared (with_more m n more) → AsksThis (with_more m n more) events (call_of t.name m n) call.request × (call.entered ≡ 0)
+  asks_numbers m n more events d = ((object 0, object 3 ∷ object 4 ∷ [], refl, d, (refl, (refl, tt))), refl)
 
   -- a run of the script whose first drive asks this
   abbrev pub plan_with : List Posed → Plan
   plan_with qs = plan_of (t ∷ []) (call ∷ qs)
 
   -- up to the question for the sum
-  pub asking_comes : (qs : List Posed) (m n : ℤ) (more : List Payload) (rest : List Event) → 0 < length (call ∷ qs) → Binds (with_more m n more) → Comes (plan_with qs) (with_more m n more) (entered 1 (asked 1 (object 3) (object 4) [])) (state_after start (entered 1 (asked 1 (object 3) (object 4) []))) rest → Comes (plan_with qs) (with_more m n more) [] start (entered 1 (asked 1 (object 3) (object 4) rest))
-  asking_comes qs m n more rest few binds k = ((refl, refl, few), ((refl, refl, refl, binds), ((object 0, refl, refl), ((refl, refl), k))))
+  pub asking_comes : (qs : List Posed) (m n : ℤ) (more : List Payload) (rest : List Event) → 0 < length (call ∷ qs) → Binds (with_more m n more)
+      → Comes (plan_with qs) (with_more m n more) (past_behind nothing (entered 1 (asked 1 (object 3) (object 4) []))) rest → Comes (plan_with qs) (with_more m n more) nothing (entered 1 (asked 1 (object 3) (object 4) rest))
+  asking_comes qs m n more rest few binds k = (
+    (refl, refl, few),
+    ((refl, (refl, (call.request, refl, inr (inl (object 0, object 3 ∷ object 4 ∷ [], refl, binds))))), ((object 0, refl, refl), ((refl, refl), k))),
+  )
 
   -- what gives the sum may answer that question
-  pub sum_comes : (plan : Plan) (m n : ℤ) (more : List Payload) (before : List Event) (s : State) (a : ℕ) (w : GotAnswer) → s.phase ≡ Asking → IsTop a s.stack → question plan s ≡ Some (Binary binary.Add (object 3) (object 4)) → Gives (with_more m n more) before (whole (m +ℤ n)) w → MayCome plan (with_more m n more) before s (event.Got a w)
-  sum_comes plan m n more before s a w phase top asks given =
+  pub sum_comes : (plan : Plan) (m n : ℤ) (more : List Payload) (p : Past) (a : ℕ) (w : GotAnswer) → p.state.phase ≡ Asking → IsTop a p.state.stack → question plan p.state ≡ Some (Binary binary.Add (object 3) (object 4))
+      → GivesBody (with_more m n more) p.events (whole (m +ℤ n)) w → MayCome plan (with_more m n more) p (event.Got a w)
+  sum_comes plan m n more p a w phase top asks given =
       let reply = whole (m +ℤ n) in
-      (top, (_, asks, subst (λ (p : Phase). IsAnswered plan (with_more m n more) before s p (Binary binary.Add (object 3) (object 4)) w) (sym phase) (reply, inl (reply, refl, (_, _, codes "int", codes "int", refl, refl, refl, refl, refl)), given)))
+      let request = Binary binary.Add (object 3) (object 4) in
+      let replies = subst (λ (x : Phase). IsReply plan (with_more m n more) p x request reply) (sym phase) (inl (reply, refl, (_, _, codes "int", codes "int", refl, refl, refl, refl, refl))) in
+      (top, (reply, (request, asks, replies), given))
 
   -- an activation of the script's function tells what that may
   pub traced_by : (globals : Obj) (store : List Payload) (f : Obj) (vs : List Obj) (ts : List Own) → HasPayload store f (function_entry t.name 0) → Traces (t ∷ []) globals store f vs ts → IsTrace (anywhere store globals) t vs ts
@@ -360,11 +395,12 @@ module _ (t : Tree) where
       is_raised (own_with (payload.Int greatest ∷ payload.Int (pos 1) ∷ payload.Frame 0 ∷ error_objects OverflowError more)) before OverflowError out_of_range (object 6) (object 7) (exception n) refl refl entry unnamed
 
   -- the first of the drives
-  pub first_raises : (qs : List Posed) (more : List Payload) (rest : List Event) → 0 < length (call ∷ qs) → Binds (overflow_with more) → Comes (plan_with qs) (overflow_with more) (overflow_by (exception 8)) (state_after start (overflow_by (exception 8))) rest → Comes (plan_with qs) (overflow_with more) [] start (raises 1 (exception 8) rest)
+  pub first_raises : (qs : List Posed) (more : List Payload) (rest : List Event) → 0 < length (call ∷ qs) → Binds (overflow_with more) → Comes (plan_with qs) (overflow_with more) (past_behind nothing (overflow_by (exception 8))) rest
+      → Comes (plan_with qs) (overflow_with more) nothing (raises 1 (exception 8) rest)
   first_raises qs more rest few binds k =
-      let asking = entered 1 (asked 1 (object 3) (object 4) []) in
+      let asking : Past = past_behind nothing (entered 1 (asked 1 (object 3) (object 4) [])) in
       asking_comes qs greatest (pos 1) (error_objects OverflowError more) (raised 1 (exception 8) rest) few binds
-      (sum_comes (plan_with qs) greatest (pos 1) (error_objects OverflowError more) asking (state_after start asking) 1 (got.Raise (exception 8)) refl refl refl (overflows 8 more asking refl (refl, (refl, (refl, (refl, tt))))), ((refl, refl), ((refl, refl, (_, got.Raise (exception 8), refl, refl, (_, _, refl, refl))), k)))
+      (sum_comes (plan_with qs) greatest (pos 1) (error_objects OverflowError more) asking 1 (got.Raise (exception 8)) refl refl refl (overflows 8 more asking.events refl (refl, (refl, (refl, (refl, tt))))), ((refl, refl), ((refl, refl, (Passes (exception 8), (_, refl, (refl, refl)), refl)), k)))
 
   -- what the activation of a drive that raises tells, which is entered and answered by the events with these numbers
   abbrev pub RaiseIsTraced : List Payload → ℕ → ℕ → PyBaseExceptionRef → Type 0
@@ -388,7 +424,7 @@ module _ (t : Tree) where
   overflow_is_run d binds h =
       record {
         asked = call ∷ [];
-        are_asked = (((d, (refl, (refl, tt))), refl), tt);
+        are_asked = (asks_numbers greatest (pos 1) (error_objects OverflowError []) (overflow_by (exception 8)) d, tt);
         globals = object 2;
         are_globals = are_globals (payload.Int greatest ∷ payload.Int (pos 1) ∷ payload.Frame 0 ∷ error_objects OverflowError []) d;
         run =

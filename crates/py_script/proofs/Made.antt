@@ -8,7 +8,7 @@ use Rattle.py_objects.specs.declared.event.Event.{Event}
 use Rattle.py_objects.specs.declared.event.Event.TheVariants as event
 use Rattle.py_objects.specs.Objects.{Obj}
 use Rattle.py_objects.specs.Own.{Own, Makes, own_if, told_by, own_from, own_events}
-use Rattle.py_run.specs.Run.{Plan, Activation, State, start, after, state_after, Comes}
+use Rattle.py_run.specs.Run.{Plan, Activation, State, start, after, state_after, Past, nothing, past_after, Comes}
 
 -- some event was told
 pub record HasTold (ts : List Own) : Type 0 where
@@ -44,18 +44,18 @@ make_tells s k a f vs es numbered tell i low high = go (eqb (suc i) a) refl
         above : length (after s (event.Make a f vs)).made ≡ length s.made + 1 → (i ≡ length s.made → ⊥) → length (after s (event.Make a f vs)).made ≤ i
         above grown apart = elim (eqb_tells i (length s.made)) [ inl y ↦ absurd (apart y.1) | inr n ↦ let ne : i ≡ length s.made → ⊥ = n.1 in omega (arith, grown, low, ne) ]
 
-pub made_tell : (plan : Plan) (objects : List Payload) (before : List Event) (s : State) (k : ℕ) (es : List Event) → Comes plan objects before s es → MadeTell s k es
-made_tell plan objects before s k [] comes = λ i low high. absurd (omega (arith, low, high))
-made_tell plan objects before s k (event.Drive d ∷ es) comes = still_tell s k (event.Drive d) es refl (made_tell plan objects _ (after s (event.Drive d)) (suc k) es comes.1)
-made_tell plan objects before s k (event.Result d w ∷ es) comes = still_tell s k (event.Result d w) es refl (made_tell plan objects _ (after s (event.Result d w)) (suc k) es comes.1)
-made_tell plan objects before s k (event.Make a f vs ∷ es) comes = make_tells s k a f vs es comes.0.1 (made_tell plan objects _ (after s (event.Make a f vs)) (suc k) es comes.1)
-made_tell plan objects before s k (event.Resume a h ∷ es) comes = still_tell s k (event.Resume a h) es refl (made_tell plan objects _ (after s (event.Resume a h)) (suc k) es comes.1)
-made_tell plan objects before s k (event.Ask a r own at ∷ es) comes = still_tell s k (event.Ask a r own at) es refl (made_tell plan objects _ (after s (event.Ask a r own at)) (suc k) es comes.1)
-made_tell plan objects before s k (event.Got a w ∷ es) comes = still_tell s k (event.Got a w) es refl (made_tell plan objects _ (after s (event.Got a w)) (suc k) es comes.1)
-made_tell plan objects before s k (event.Round a at ∷ es) comes = still_tell s k (event.Round a at) es refl (made_tell plan objects _ (after s (event.Round a at)) (suc k) es comes.1)
-made_tell plan objects before s k (event.Yield a v at ∷ es) comes = still_tell s k (event.Yield a v at) es refl (made_tell plan objects _ (after s (event.Yield a v at)) (suc k) es comes.1)
-made_tell plan objects before s k (event.End a e at ∷ es) comes = still_tell s k (event.End a e at) es refl (made_tell plan objects _ (after s (event.End a e at)) (suc k) es comes.1)
+pub made_tell : (plan : Plan) (objects : List Payload) (p : Past) (k : ℕ) (es : List Event) → Comes plan objects p es → MadeTell p.state k es
+made_tell plan objects p k [] comes = λ i low high. absurd (omega (arith, low, high))
+made_tell plan objects p k (event.Drive d ∷ es) comes = still_tell p.state k (event.Drive d) es refl (made_tell plan objects (past_after p (event.Drive d)) (suc k) es comes.1)
+made_tell plan objects p k (event.Result d w ∷ es) comes = still_tell p.state k (event.Result d w) es refl (made_tell plan objects (past_after p (event.Result d w)) (suc k) es comes.1)
+made_tell plan objects p k (event.Make a f vs ∷ es) comes = make_tells p.state k a f vs es comes.0.0 (made_tell plan objects (past_after p (event.Make a f vs)) (suc k) es comes.1)
+made_tell plan objects p k (event.Resume a h ∷ es) comes = still_tell p.state k (event.Resume a h) es refl (made_tell plan objects (past_after p (event.Resume a h)) (suc k) es comes.1)
+made_tell plan objects p k (event.Ask a r own at ∷ es) comes = still_tell p.state k (event.Ask a r own at) es refl (made_tell plan objects (past_after p (event.Ask a r own at)) (suc k) es comes.1)
+made_tell plan objects p k (event.Got a w ∷ es) comes = still_tell p.state k (event.Got a w) es refl (made_tell plan objects (past_after p (event.Got a w)) (suc k) es comes.1)
+made_tell plan objects p k (event.Round a at ∷ es) comes = still_tell p.state k (event.Round a at) es refl (made_tell plan objects (past_after p (event.Round a at)) (suc k) es comes.1)
+made_tell plan objects p k (event.Yield a v at ∷ es) comes = still_tell p.state k (event.Yield a v at) es refl (made_tell plan objects (past_after p (event.Yield a v at)) (suc k) es comes.1)
+made_tell plan objects p k (event.End a e at ∷ es) comes = still_tell p.state k (event.End a e at) es refl (made_tell plan objects (past_after p (event.End a e at)) (suc k) es comes.1)
 
 -- each activation of a whole list of events has told
-pub activation_tells : (plan : Plan) (objects : List Payload) (es : List Event) (i : ℕ) (a : Activation) → Comes plan objects [] start es → slice_get (state_after start es).made i ≡ Some a → HasTold (own_events (suc i) es)
-activation_tells plan objects es i a comes made = made_tell plan objects [] start 0 es comes i (omega arith) (slice_get_within (state_after start es).made i a made)
+pub activation_tells : (plan : Plan) (objects : List Payload) (es : List Event) (i : ℕ) (a : Activation) → Comes plan objects nothing es → slice_get (state_after start es).made i ≡ Some a → HasTold (own_events (suc i) es)
+activation_tells plan objects es i a comes made = made_tell plan objects nothing 0 es comes i (omega arith) (slice_get_within (state_after start es).made i a made)

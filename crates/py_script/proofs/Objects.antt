@@ -7,6 +7,7 @@ use Rattle.std.proofs.lemmas.Slice.Eq.{bytes_eq-Decides}
 use Rattle.py_objects.specs.declared.payload.Payload.{Payload}
 use Rattle.py_objects.specs.declared.payload.Payload.TheVariants as payload
 use Rattle.py_objects.specs.declared.error_kind.ErrorKind.{ErrorKind}
+use Rattle.py_objects.specs.declared.request.Request.{Request}
 use Rattle.py_objects.specs.declared.event.DriveAnswer.{DriveAnswer}
 use Rattle.py_objects.specs.declared.event.DriveAnswer.TheVariants as answer
 use Rattle.py_objects.specs.declared.event.Event.{Event}
@@ -24,8 +25,6 @@ use Rattle.py_lines.specs.declared.drive.DriveLine.{DriveLine}
 use Rattle.py_lines.specs.declared.drive.DriveLine.TheVariants as drive
 use Rattle.py_grammar.specs.Rules.{is_builtin_class}
 use Rattle.py_grammar.specs.WellFormed.{IsKnown}
-use Rattle.py_run.specs.declared.drive.Drive.{Drive as Question}
-use Rattle.py_run.specs.declared.drive.Drive.TheVariants as question
 use Rattle.py_run.specs.Run.{Posed}
 use Rattle.py_objects.proofs.NewLemmas.{declared_within}
 use Rattle.py_vm.specs.First.{first_objects}
@@ -166,14 +165,14 @@ module _ (objects objects' : List Payload) (events events' : List Event) (grows 
   are_of_grow (a ∷ atoms) [] of = of
   are_of_grow (a ∷ atoms) (v ∷ vs) of = (of_grows a v of.0, are_of_grow atoms vs of.1)
 
-  asks_this_grows : (d : DriveLine) (q : Question) → AsksThis objects events d q → AsksThis objects' events' d q
-  asks_this_grows (drive.Call x args) (question.Call f vs) asks = (declared_stays objects objects' x grows ∙ asks.0, are_of_grow args vs asks.1)
+  asks_this_grows : (d : DriveLine) (r : Request) → AsksThis objects events d r → AsksThis objects' events' d r
+  asks_this_grows (drive.Call x args) r (f, vs, is, named, of) = (f, vs, is, declared_stays objects objects' x grows ∙ named, are_of_grow args vs of)
 
   -- questions of drives stay so
   pub asked_grow : (ds : List DriveLine) (qs : List Posed) → AreAsked objects events ds qs → AreAsked objects' events' ds qs
   asked_grow ds [] are = tt
   asked_grow [] (q ∷ qs) are = are
-  asked_grow (d ∷ ds) (q ∷ qs) are = ((asks_this_grows d q.drive are.0.0, are.0.1), asked_grow ds qs are.1)
+  asked_grow (d ∷ ds) (q ∷ qs) are = ((asks_this_grows d q.request are.0.0, are.0.1), asked_grow ds qs are.1)
 
   pub bindings_grow : (ts : List Tree) (ps : List (Obj × Obj)) → AreBindings objects ts ps → AreBindings objects' ts ps
   bindings_grow [] [] are = are

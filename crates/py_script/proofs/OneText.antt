@@ -29,18 +29,18 @@ use Rattle.py_objects.specs.Telling.{Given, Failed, AfterValue, Asked, Answered,
 use Rattle.py_tree.specs.Tree.{Tree}
 use Rattle.py_tree.specs.Scene.{anywhere}
 use Rattle.py_tree.specs.Trace.{IsBegun, Ended}
-use Rattle.py_run.specs.declared.drive.Drive.{Drive as Question}
-use Rattle.py_run.specs.declared.drive.Drive.TheVariants.{Call}
-use Rattle.py_run.specs.Calls.{Says, ComesTo, entry_at}
-use Rattle.py_answers.specs.Answers.{Reply, Has, Fails, Gives, IsRaised, whole}
-use Rattle.py_run.specs.Run.{Posed, Plan, Left, left_by, Phase, Idle, Asking, Going, Made, Due, Act, Activation, State, start, after, state_after, request_of, open_in, question, entered_in, depth, handled_among, IsTop, Passes, as_got, Answers as IsAnswered, MayCome, Comes}
-use Rattle.py_script.specs.Whole.{AreAsked, AsksThis, AreObjects, Traces, plan_of, signature_of}
+use Rattle.py_lines.specs.declared.drive.DriveAtom.TheVariants as atom
+use Rattle.py_run.specs.Calls.{Signature, Left, Says, Enters, Setting, LeavesCalled, ComesTo, CallsFunction, entry_at}
+use Rattle.py_answers.specs.Answers.{Reply, Has, Is, Fails, Passes, GivesBody, GivesDrive, IsRaised, whole}
+use Rattle.py_run.specs.Run.{Posed, Plan, left_by, Phase, Idle, Asking, Going, Made, Due, Act, Activation, State, start, after, state_after, open_in, question, entered_in, IsTop, Past, setting, IsReply, MayCome, Comes}
+use Rattle.py_script.specs.Whole.{AreAsked, AreOf, AsksThis, AreObjects, Traces, plan_of, signature_of}
 use Rattle.py_script.specs.Repr.{class_name, items_of, payload_of, repr_within, shown}
 use Rattle.py_script.specs.Said.{said_by}
 use Rattle.py_script.specs.Text.{details, events_text, numbered, raised, result_text, str_by, str_within}
+use Rattle.py_run.proofs.BoundLemmas.{enters_call}
 use Rattle.py_script.proofs.TextLemmas.{plain_text, unchanged}
 use Rattle.py_script.specs.Worked.{Writes, call_of, events, exception, function, greatest, objects, out_of_range, overflow_by, overflow_objects, trees}
-use Rattle.py_script.proofs.Journals.{ascii_bytes, begun, called, course_is, decimal_1, decimal_45, entry_of, few_asked, gives_sum, gotten, some_is, traced_by}
+use Rattle.py_script.proofs.Journals.{ascii_bytes, asked_for, begun, called, course_is, decimal_1, decimal_45, due_leaves, entry_of, few_asked, gives_sum, gotten, some_is, traced_by}
 use Rattle.py_script.proofs.WorkedLemmas.{is_run, overflow_is_run}
 
 -- how a drive's answer tells an ending
@@ -48,23 +48,28 @@ abbrev answer_of : Ending → DriveAnswer
 answer_of (ending.Return v) = answer.Returns v
 answer_of (ending.Raise e) = answer.Raises e
 
-answers : (x : Ending) (w : DriveAnswer) (g : GotAnswer) → as_got w ≡ Some g → Passes (left_by x) g → w ≡ answer_of x
-answers (ending.Return v) (answer.Returns u) g e h = cc
-answers (ending.Return v) (answer.Yields u) g e h = absurd (cc e)
-answers (ending.Return v) (answer.Stops u) g e h = absurd (cc e)
-answers (ending.Return v) answer.Closes g e h = absurd (cc e)
-answers (ending.Return v) (answer.Raises u) g e h = absurd cc
-answers (ending.Return v) (answer.Reported text) g e h = absurd (cc e)
-answers (ending.Raise x) (answer.Returns u) g e h = absurd cc
-answers (ending.Raise x) (answer.Yields u) g e h = absurd (cc e)
-answers (ending.Raise x) (answer.Stops u) g e h = absurd (cc e)
-answers (ending.Raise x) answer.Closes g e h = absurd (cc e)
-answers (ending.Raise x) (answer.Raises u) g e h = cc
-answers (ending.Raise x) (answer.Reported text) g e h = absurd (cc e)
+-- the result of a drive whose activation returned this
+pub returned_so : (store : List Payload) (before : List Event) (v : Obj) (w : DriveAnswer) → GivesDrive store before (Is v) w → w ≡ answer.Returns v
+returned_so store before v (answer.Returns u) gives = ap answer.Returns gives
+returned_so store before v (answer.Yields u) gives = absurd gives
+returned_so store before v (answer.Stops u) gives = absurd gives
+returned_so store before v answer.Closes gives = absurd gives
+returned_so store before v (answer.Raises e) gives = absurd gives
+returned_so store before v (answer.Reported text) gives = absurd gives
 
--- the drive that makes a call
-pub call_is : (d : Question) (f : Obj) (vs : List Obj) → request_of d ≡ Calling f vs keywords.None → d ≡ Call f vs
-call_is (Call g ws) f vs e = cc
+-- of one whose activation raised this
+raised_so : (store : List Payload) (before : List Event) (e : PyBaseExceptionRef) (w : DriveAnswer) → GivesDrive store before (Passes e) w → w ≡ answer.Raises e
+raised_so store before e (answer.Returns u) gives = absurd gives
+raised_so store before e (answer.Yields u) gives = absurd gives
+raised_so store before e (answer.Stops u) gives = absurd gives
+raised_so store before e answer.Closes gives = absurd gives
+raised_so store before e (answer.Raises x) gives = ap answer.Raises gives
+raised_so store before e (answer.Reported text) gives = absurd gives
+
+-- the result of a drive tells how its activation ended
+answers : (store : List Payload) (before : List Event) (x : Ending) (w : DriveAnswer) (reply : Reply) → LeavesCalled (left_by x) reply → GivesDrive store before reply w → w ≡ answer_of x
+answers store before (ending.Return v) w reply is gives = returned_so store before v w (subst (λ (r : Reply). GivesDrive store before r w) is gives)
+answers store before (ending.Raise e) w reply is gives = raised_so store before e w (subst (λ (r : Reply). GivesDrive store before r w) is gives)
 
 -- an answer that ends the body which gets it, by a return or by a raise
 abbrev EndedBy : GotAnswer → List Own → Type 0
@@ -121,37 +126,47 @@ abbrev WritesAt : List Payload → List ℕ → GotAnswer → Type 0
 WritesAt store line w = (x : Ending) × ((ts : List Own) → EndedBy w ts → Ended x ts) × (result_text store 1 (answer_of x) ≡ line)
 
 -- a store, the questions that are asked in a journal, two numbers, and what is written of their sum
-module _ (store : List Payload) (globals : Obj) (journal : List Event) (qs : List Posed) (m n : ℤ) (line : List ℕ) (given : (before : List Event) (w : GotAnswer) → Gives store before (whole (m +ℤ n)) w → WritesAt store line w) where
+module _ (store : List Payload) (globals : Obj) (journal : List Event) (qs : List Posed) (m n : ℤ) (line : List ℕ) (given : (before : List Event) (w : GotAnswer) → GivesBody store before (whole (m +ℤ n)) w → WritesAt store line w) where
   -- what the run is of
   abbrev plan : Plan
   plan = plan_of trees qs
 
-  -- a question is answered in this phase
-  abbrev In : List Event → State → Phase → Request → GotAnswer → Type 0
-  In before s p r w = IsAnswered plan store before s p r w
+  -- the script's function is called with the two numbers
+  abbrev IsCalled : Obj → List Obj → Type 0
+  IsCalled f vs = (declared store (codes "f") ≡ Some f) × AreOf store journal (atom.Int m ∷ atom.Int n ∷ []) vs
 
-  idle_next : (before : List Event) (s : State) (e : Event) → s.phase ≡ Idle → MayCome plan store before s e → (e ≡ event.Drive (suc s.done)) × (s.done < length qs)
+  -- what these events come to, where this is the state behind them
+  abbrev past : List Event → State → Past
+  past before s = record { events = before; state = s }
+
+  -- this is replied to a question in this phase
+  abbrev In : List Event → State → Phase → Request → Reply → Type 0
+  In before s p r reply = IsReply plan store (past before s) p r reply
+
+  idle_next : (before : List Event) (s : State) (e : Event) → s.phase ≡ Idle → MayCome plan store (past before s) e → (e ≡ event.Drive (suc s.done)) × (s.done < length qs)
   idle_next before s (event.Drive d) p h = (ap event.Drive h.1, h.2)
-  idle_next before s (event.Result d w) p h = absurd (subst (λ (x : Phase). In before s x h.2.0 h.2.1) p h.2.4)
-  idle_next before s (event.Make a f vs) p h = absurd (cc h.0)
+  idle_next before s (event.Result d w) p (next, alone, (reply, (r, asks, replies), gives)) = absurd (subst (λ (x : Phase). In before s x r reply) p replies)
+  idle_next before s (event.Make a f vs) p h = absurd (cc h.1.0)
   idle_next before s (event.Resume a how.Start) p h = absurd (cc h.1)
   idle_next before s (event.Resume a (how.Send v)) p h = absurd h
   idle_next before s (event.Resume a (how.Throw x)) p h = absurd h
   idle_next before s (event.Ask a r own at) p h = absurd (cc h.0)
-  idle_next before s (event.Got a w) p h = absurd (subst (λ (x : Phase). In before s x h.1.0 w) p h.1.2)
+  idle_next before s (event.Got a w) p (top, (reply, (r, asks, replies), gives)) = absurd (subst (λ (x : Phase). In before s x r reply) p replies)
   idle_next before s (event.Round a at) p h = absurd (cc h.0)
   idle_next before s (event.Yield a v at) p h = absurd (cc h.0)
   idle_next before s (event.End a x at) p h = absurd (cc h.0)
 
   -- the open question isn't replied to
-  abbrev Enters_only : State → Type 0
-  Enters_only s = (r : Request) (reply : Reply) → question plan s ≡ Some r → ComesTo plan.signatures (depth plan s) (handled_among s.stack) store r (Says reply) → ⊥
+  abbrev Enters_only : List Event → State → Type 0
+  Enters_only before s = (r : Request) (reply : Reply) → question plan s ≡ Some r → ComesTo (setting plan (past before s)) store r (Says reply) → ⊥
 
   -- a drive's question is open
-  asked_next : (before : List Event) (s : State) (e : Event) → s.phase ≡ Asking → s.stack ≡ [] → Enters_only s → MayCome plan store before s e → (f : Obj) × (vs : List Obj) × (e ≡ event.Make (suc (length s.made)) f vs) × (question plan s ≡ Some (Calling f vs keywords.None))
+  asked_next : (before : List Event) (s : State) (e : Event) → s.phase ≡ Asking → s.stack ≡ [] → Enters_only before s → MayCome plan store (past before s) e
+      → (f : Obj) × (vs : List Obj) × (e ≡ event.Make (suc (length s.made)) f vs) × (question plan s ≡ Some (Calling f vs keywords.None))
   asked_next before s (event.Drive d) p q none h = absurd (cc h.0)
-  asked_next before s (event.Result d w) p q none h = let a = subst (λ (x : Phase). In before s x h.2.0 h.2.1) p h.2.4 in absurd (none h.2.0 a.0 h.2.2 a.1)
-  asked_next before s (event.Make a f vs) p q none h = (f, vs, ap (λ (k : ℕ). event.Make k f vs) h.1, h.2)
+  asked_next before s (event.Result d w) p q none (next, alone, (reply, (r, asks, replies), gives)) = absurd (none r reply asks (subst (λ (x : Phase). In before s x r reply) p replies))
+  asked_next before s (event.Make a f vs) p q none (number, (phase, (r, asks, comes))) =
+      (f, vs, ap (λ (k : ℕ). event.Make k f vs) number, asks ∙ ap Some (enters_call (setting plan (past before s)) store r f vs comes).0)
   asked_next before s (event.Resume a how.Start) p q none h = absurd (cc h.1)
   asked_next before s (event.Resume a (how.Send v)) p q none h = absurd h
   asked_next before s (event.Resume a (how.Throw x)) p q none h = absurd h
@@ -161,53 +176,65 @@ module _ (store : List Payload) (globals : Obj) (journal : List Event) (qs : Lis
   asked_next before s (event.Yield a v at) p q none h = absurd (cc h.0)
   asked_next before s (event.End a x at) p q none h = absurd (cc h.0)
 
-  made_next : (before : List Event) (s : State) (e : Event) (f : Obj) → s.phase ≡ Made f → MayCome plan store before s e → e ≡ event.Resume (length s.made) how.Start
+  made_next : (before : List Event) (s : State) (e : Event) (f : Obj) → s.phase ≡ Made f → MayCome plan store (past before s) e → e ≡ event.Resume (length s.made) how.Start
   made_next before s (event.Drive d) f p h = absurd (cc h.0)
-  made_next before s (event.Result d w) f p h = absurd (subst (λ (x : Phase). In before s x h.2.0 h.2.1) p h.2.4)
-  made_next before s (event.Make a g vs) f p h = absurd (cc h.0)
+  made_next before s (event.Result d w) f p (next, alone, (reply, (r, asks, replies), gives)) = absurd (subst (λ (x : Phase). In before s x r reply) p replies)
+  made_next before s (event.Make a g vs) f p h = absurd (cc h.1.0)
   made_next before s (event.Resume a how.Start) f p h = ap (λ (k : ℕ). event.Resume k how.Start) h.2
   made_next before s (event.Resume a (how.Send v)) f p h = absurd h
   made_next before s (event.Resume a (how.Throw x)) f p h = absurd h
   made_next before s (event.Ask a r own at) f p h = absurd (cc h.0)
-  made_next before s (event.Got a w) f p h = absurd (subst (λ (x : Phase). In before s x h.1.0 w) p h.1.2)
+  made_next before s (event.Got a w) f p (top, (reply, (r, asks, replies), gives)) = absurd (subst (λ (x : Phase). In before s x r reply) p replies)
   made_next before s (event.Round a at) f p h = absurd (cc h.0)
   made_next before s (event.Yield a v at) f p h = absurd (cc h.0)
   made_next before s (event.End a x at) f p h = absurd (cc h.0)
 
   -- the innermost activation tells something
-  going_next : (before : List Event) (s : State) (k : ℕ) (e : Event) → s.phase ≡ Going → MayCome plan store before s e → IsTop (whose e) s.stack × ((o : Own) × (own_of k e ≡ o ∷ []))
+  going_next : (before : List Event) (s : State) (k : ℕ) (e : Event) → s.phase ≡ Going → MayCome plan store (past before s) e → IsTop (whose e) s.stack × ((o : Own) × (own_of k e ≡ o ∷ []))
   going_next before s k (event.Drive d) p h = absurd (cc h.0)
-  going_next before s k (event.Result d w) p h = absurd (subst (λ (x : Phase). In before s x h.2.0 h.2.1) p h.2.4)
-  going_next before s k (event.Make a f vs) p h = absurd (cc h.0)
+  going_next before s k (event.Result d w) p (next, alone, (reply, (r, asks, replies), gives)) = absurd (subst (λ (x : Phase). In before s x r reply) p replies)
+  going_next before s k (event.Make a f vs) p h = absurd (cc h.1.0)
   going_next before s k (event.Resume a how.Start) p h = absurd (cc h.1)
   going_next before s k (event.Resume a (how.Send v)) p h = absurd h
   going_next before s k (event.Resume a (how.Throw x)) p h = absurd h
   going_next before s k (event.Ask a r own at) p h = (h.1, (_, refl))
-  going_next before s k (event.Got a w) p h = absurd (subst (λ (x : Phase). In before s x h.1.0 w) p h.1.2)
+  going_next before s k (event.Got a w) p (top, (reply, (r, asks, replies), gives)) = absurd (subst (λ (x : Phase). In before s x r reply) p replies)
   going_next before s k (event.Round a at) p h = (h.1, (_, refl))
   going_next before s k (event.Yield a v at) p h = (h.1, (_, refl))
   going_next before s k (event.End a x at) p h = (h.1, (_, refl))
 
+  -- an open question is answered at once, by this
+  abbrev IsGot : List Event → State → Option Request → GotAnswer → Type 0
+  IsGot before s asked w = (reply : Reply) × ((r : Request) × (asked ≡ Some r) × In before s Asking r reply) × GivesBody store before reply w
+
+  -- what the only activation asks that runs
+  top_asked : (s : State) (top : Act) (r : Request) → s.stack ≡ top ∷ [] → top.asks ≡ Some r → question plan s ≡ Some r
+  top_asked s top r stack asks = ap (open_in (slice_get qs s.done)) stack ∙ asks
+
   -- an activation's question for a sum is open
-  got_next : (before : List Event) (s : State) (e : Event) (top : Act) (a b : Obj) → s.phase ≡ Asking → s.stack ≡ top ∷ [] → top.asks ≡ Some (Binary binary.Add a b) → MayCome plan store before s e
-      → (w : GotAnswer) × (e ≡ event.Got (whose e) w) × IsTop (whose e) s.stack × ((r : Request) × (question plan s ≡ Some r) × In before s Asking r w)
+  got_next : (before : List Event) (s : State) (e : Event) (top : Act) (a b : Obj) → s.phase ≡ Asking → s.stack ≡ top ∷ [] → top.asks ≡ Some (Binary binary.Add a b) → MayCome plan store (past before s) e
+      → (w : GotAnswer) × (e ≡ event.Got (whose e) w) × IsTop (whose e) s.stack × IsGot before s (question plan s) w
   got_next before s (event.Drive d) top x y p q t h = absurd (cc h.0)
   got_next before s (event.Result d w) top x y p q t h = absurd (cc h.1)
-  got_next before s (event.Make a f vs) top x y p q t h = absurd (let c = subst (λ (acts : List Act). open_in (slice_get qs s.done) acts ≡ Some (Calling f vs keywords.None)) q h.2 in cc)
+  got_next before s (event.Make a f vs) top x y p q t (number, (phase, (r, asks, comes))) =
+      let call : Some (Binary binary.Add x y) ≡ Some (Calling f vs keywords.None) = sym (top_asked s top (Binary binary.Add x y) q t) ∙ asks ∙ ap Some (enters_call (setting plan (past before s)) store r f vs comes).0 in
+      absurd (cc call)
   got_next before s (event.Resume a how.Start) top x y p q t h = absurd (cc h.1)
   got_next before s (event.Resume a (how.Send v)) top x y p q t h = absurd h
   got_next before s (event.Resume a (how.Throw u)) top x y p q t h = absurd h
   got_next before s (event.Ask a r own at) top x y p q t h = absurd (cc h.0)
-  got_next before s (event.Got a w) top x y p q t h = (w, refl, h.0, (h.1.0, h.1.1, subst (λ (x : Phase). In before s x h.1.0 w) p h.1.2))
+  got_next before s (event.Got a w) top x y p q t (is_top, (reply, (r, asks, replies), gives)) = (w, refl, is_top, (reply, (r, asks, subst (λ (x : Phase). In before s x r reply) p replies), gives))
   got_next before s (event.Round a at) top x y p q t h = absurd (cc h.0)
   got_next before s (event.Yield a v at) top x y p q t h = absurd (cc h.0)
   got_next before s (event.End a u at) top x y p q t h = absurd (cc h.0)
 
   -- an activation was left
-  due_next : (before : List Event) (s : State) (e : Event) (left : Left) → s.phase ≡ Due left → s.stack ≡ [] → MayCome plan store before s e → (w : DriveAnswer) × (e ≡ event.Result (suc s.done) w) × ((g : GotAnswer) × (as_got w ≡ Some g) × Passes left g)
+  due_next : (before : List Event) (s : State) (e : Event) (left : Left) → s.phase ≡ Due left → s.stack ≡ [] → MayCome plan store (past before s) e
+      → (w : DriveAnswer) × (e ≡ event.Result (suc s.done) w) × ((reply : Reply) × LeavesCalled left reply × GivesDrive store before reply w)
   due_next before s (event.Drive d) left p q h = absurd (cc h.0)
-  due_next before s (event.Result d w) left p q h = (w, ap (λ (k : ℕ). event.Result k w) h.0, let a = subst (λ (x : Phase). In before s x h.2.0 h.2.1) p h.2.4 in (h.2.1, h.2.3, a.3))
-  due_next before s (event.Make a f vs) left p q h = absurd (cc h.0)
+  due_next before s (event.Result d w) left p q (next, alone, (reply, (r, asks, replies), gives)) =
+      (w, ap (λ (k : ℕ). event.Result k w) next, (reply, due_leaves r left reply (subst (λ (x : Phase). In before s x r reply) p replies), gives))
+  due_next before s (event.Make a f vs) left p q h = absurd (cc h.1.0)
   due_next before s (event.Resume a how.Start) left p q h = absurd (cc h.1)
   due_next before s (event.Resume a (how.Send v)) left p q h = absurd h
   due_next before s (event.Resume a (how.Throw x)) left p q h = absurd h
@@ -228,9 +255,9 @@ module _ (store : List Payload) (globals : Obj) (journal : List Event) (qs : Lis
   -- these events may follow, and one drive is done then; in the lemmas on what stands behind an event, its own ones have the numbers
   -- that they have in the journal: the drive 0, and so on
   abbrev Follows : List Event → State → List Event → Type 0
-  Follows before s es = Comes plan store before s es × ((state_after s es).done ≡ 1)
+  Follows before s es = Comes plan store (past before s) es × ((state_after s es).done ≡ 1)
 
-  ended : (made : List Activation) (before es : List Event) → length qs ≤ 1 → Comes plan store before (at 1 Idle [] made) es → es ≡ []
+  ended : (made : List Activation) (before es : List Event) → length qs ≤ 1 → Comes plan store (past before (at 1 Idle [] made)) es → es ≡ []
   ended made before [] few h = refl
   ended made before (e ∷ es) few h = let more = (idle_next before (at 1 Idle [] made) e refl h.0).1 in absurd (omega arith)
 
@@ -238,8 +265,8 @@ module _ (store : List Payload) (globals : Obj) (journal : List Event) (qs : Lis
   result_behind x made before [] few h = absurd (cc h.1)
   result_behind x made before (e ∷ es) few h =
       let c = due_next before (at 0 (Due (left_by x)) [] made) e (left_by x) refl refl h.0.0 in
-      let is : e ≡ event.Result 1 (answer_of x) = c.1 ∙ ap (λ (w : DriveAnswer). event.Result 1 w) (answers x c.0 c.2.0 c.2.1 c.2.2) in
-      let none = ended made (before ++ event.Result 1 (answer_of x) ∷ []) es few (subst (λ (y : Event). Comes plan store (before ++ y ∷ []) (after (at 0 (Due (left_by x)) [] made) y) es) is h.0.1) in
+      let is : e ≡ event.Result 1 (answer_of x) = c.1 ∙ ap (λ (w : DriveAnswer). event.Result 1 w) (answers store before x c.0 c.2.0 c.2.1 c.2.2) in
+      let none = ended made (before ++ event.Result 1 (answer_of x) ∷ []) es few (subst (λ (y : Event). Comes plan store (past (before ++ y ∷ []) (after (at 0 (Due (left_by x)) [] made) y)) es) is h.0.1) in
       subst (λ (y : Event). plain_text store (y ∷ es) ≡ result_text store 1 (answer_of x)) (sym is)
       (subst (λ (ys : List Event). plain_text store (event.Result 1 (answer_of x) ∷ ys) ≡ result_text store 1 (answer_of x)) (sym none) (append-nil (result_text store 1 (answer_of x))))
 
@@ -277,7 +304,7 @@ module _ (store : List Payload) (globals : Obj) (journal : List Event) (qs : Lis
   answer_behind a b K made before [] ab few k t h = absurd (cc h.1)
   answer_behind a b K made before (e ∷ es) ab few k t h =
       let c = got_next before (at 0 Asking (act (Some (Binary binary.Add a b)) ∷ []) made) e (act (Some (Binary binary.Add a b))) a b refl refl refl h.0.0 in
-      let sum = given before c.0 (gives_sum plan store before (at 0 Asking (act (Some (Binary binary.Add a b)) ∷ []) made) a b m n c.0 ab.0 ab.1 c.3) in
+      let sum = given before c.0 (gives_sum plan store (past before (at 0 Asking (act (Some (Binary binary.Add a b)) ∷ []) made)) a b m n c.0 ab.0 ab.1 c.3) in
       let is : e ≡ event.Got 1 c.0 = c.1 ∙ ap (λ (k : ℕ). event.Got k c.0) (sym c.2) in
       subst (λ (x : Event). Answered 2 (own_from 1 4 (x ∷ es)) K → Follows before (at 0 Asking (act (Some (Binary binary.Add a b)) ∷ []) made) (x ∷ es) → plain_text store (x ∷ es) ≡ line) (sym is)
       (λ u l. end_behind sum.0 made _ es few (sum.1 (own_from 1 5 es) (got_it K k c.0 (own_from 1 5 es) u)) (l.0.1, l.1) ∙ sum.2) t h
@@ -305,9 +332,9 @@ module _ (store : List Payload) (globals : Obj) (journal : List Event) (qs : Lis
       (λ u l. question_behind _ a b _ _ _ es ab few (λ v i ts x. ⊎_elim (λ cut. inl cut.0) (λ more. more) x, λ e i ts x. x) (⊎_elim (λ cut. inl (cut.0, refl)) (λ more. more) u.1) (l.0.1, l.1)) t h
 
   -- the first question is the script's
-  first_asked : (xs : List Posed) (f : Obj) (vs : List Obj) → AreAsked store journal (call_of (codes "f") m n ∷ []) xs → open_in (slice_get xs 0) [] ≡ Some (Calling f vs keywords.None) → AsksThis store journal (call_of (codes "f") m n) (Call f vs)
+  first_asked : (xs : List Posed) (f : Obj) (vs : List Obj) → AreAsked store journal (call_of (codes "f") m n ∷ []) xs → open_in (slice_get xs 0) [] ≡ Some (Calling f vs keywords.None) → IsCalled f vs
   first_asked [] f vs h e = absurd cc
-  first_asked (x ∷ xs) f vs h e = subst (AsksThis store journal (call_of (codes "f") m n)) (call_is x.drive f vs (some_is _ _ e)) h.0.0
+  first_asked (x ∷ xs) f vs h e = asked_for store journal (codes "f") (atom.Int m ∷ atom.Int n ∷ []) f vs (subst (AsksThis store journal (call_of (codes "f") m n)) (some_is _ _ e) h.0.0)
 
   -- it is made by a host that has entered nothing
   none_entered : (xs : List Posed) → AreAsked store journal (call_of (codes "f") m n ∷ []) xs → entered_in (slice_get xs 0) ≡ 0
@@ -315,25 +342,29 @@ module _ (store : List Payload) (globals : Obj) (journal : List Event) (qs : Lis
   none_entered (x ∷ xs) h = h.0.1
 
   -- so many arguments as the function takes are not refused
-  not_refused : (d : Question) (r : Request) (reply : Reply) (k : ℕ) → AreObjects trees store → k ≡ 0 → AsksThis store journal (call_of (codes "f") m n) d → request_of d ≡ r → ComesTo (map signature_of trees) k None store r (Says reply) → ⊥
-  not_refused (Call f []) r reply k o at_zero q is h = absurd q.1
-  not_refused (Call f (a ∷ [])) r reply k o at_zero q is h = absurd q.1.1
-  not_refused (Call f (a ∷ b ∷ c ∷ vs)) r reply k o at_zero q is h = absurd q.1.1.1
-  not_refused (Call f (a ∷ b ∷ [])) r reply k o at_zero q is h =
-      let calls = called (map signature_of trees) k None store f (a ∷ b ∷ []) (Says reply) (subst (λ (x : Request). ComesTo (map signature_of trees) k None store x (Says reply)) (sym is) h) in
-      let course : Says reply ≡ entry_at k = course_is (map signature_of trees) k store f (record { name = codes "f"; code = 0 }) (signature_of function) (a ∷ b ∷ []) (Says reply) (entry_of function store f o q.0) refl calls in
-      let enters : Says reply ≡ entry_at 0 = subst (λ (k : ℕ). Says reply ≡ entry_at k) at_zero course in
+  not_refused : (f : Obj) (vs : List Obj) (place : Setting) (reply : Reply) → AreObjects trees store → place.signatures ≡ map signature_of trees → place.depth ≡ 0 → IsCalled f vs → CallsFunction place store f vs (Says reply) → ⊥
+  not_refused f [] place reply o signed at_zero q calls = absurd q.1
+  not_refused f (a ∷ []) place reply o signed at_zero q calls = absurd q.1.1
+  not_refused f (a ∷ b ∷ c ∷ vs) place reply o signed at_zero q calls = absurd q.1.1.1
+  not_refused f (a ∷ b ∷ []) place reply o signed at_zero q calls =
+      let course : Says reply ≡ entry_at place.depth (Enters f (a ∷ b ∷ [])) =
+      course_is place store f (record { name = codes "f"; code = 0 }) (signature_of function) (a ∷ b ∷ []) (Says reply) (entry_of function store f o q.0) (ap (λ (xs : List Signature). slice_get xs 0) signed) calls in
+      let enters : Says reply ≡ entry_at 0 (Enters f (a ∷ b ∷ [])) = subst (λ (k : ℕ). Says reply ≡ entry_at k (Enters f (a ∷ b ∷ []))) at_zero course in
       cc
 
-  enters_only : (xs : List Posed) (r : Request) (reply : Reply) (k : ℕ) → AreObjects trees store → AreAsked store journal (call_of (codes "f") m n ∷ []) xs → k ≡ 0 → open_in (slice_get xs 0) [] ≡ Some r → ComesTo (map signature_of trees) k None store r (Says reply) → ⊥
-  enters_only [] r reply k o h at_zero e c = absurd cc
-  enters_only (x ∷ xs) r reply k o h at_zero e c = not_refused x.drive r reply k o at_zero h.0.0 (some_is _ _ e) c
+  enters_only : (xs : List Posed) (r : Request) (reply : Reply) (place : Setting) → AreObjects trees store → place.signatures ≡ map signature_of trees → AreAsked store journal (call_of (codes "f") m n ∷ []) xs → place.depth ≡ 0
+      → open_in (slice_get xs 0) [] ≡ Some r → ComesTo place store r (Says reply) → ⊥
+  enters_only [] r reply place o signed h at_zero e c = absurd cc
+  enters_only (x ∷ xs) r reply place o signed h at_zero e c =
+      let (f, vs, is, named, of) = h.0.0 in
+      let comes = subst (λ (y : Request). ComesTo place store y (Says reply)) (some_is _ _ (sym e) ∙ is) c in
+      not_refused f vs place reply o signed at_zero (named, of) (called place store f (record { name = codes "f"; code = 0 }) vs (Says reply) (entry_of function store f o named) comes)
 
   -- what the first activation that is made tells among these events, the first of which has this number
   abbrev Tells : State → ℕ → List Event → Type 0
   Tells s i es = (a : Activation) → slice_get (state_after s es).made 0 ≡ Some a → Traces trees globals store a.function a.args (own_from 1 i es)
 
-  making : (f : Obj) (vs : List Obj) (before es : List Event) → AreObjects trees store → length qs ≤ 1 → AsksThis store journal (call_of (codes "f") m n) (Call f vs) → Tells (at 0 Asking [] []) 1 (event.Make 1 f vs ∷ es) → Follows before (at 0 Asking [] []) (event.Make 1 f vs ∷ es) → plain_text store (event.Make 1 f vs ∷ es) ≡ line
+  making : (f : Obj) (vs : List Obj) (before es : List Event) → AreObjects trees store → length qs ≤ 1 → IsCalled f vs → Tells (at 0 Asking [] []) 1 (event.Make 1 f vs ∷ es) → Follows before (at 0 Asking [] []) (event.Make 1 f vs ∷ es) → plain_text store (event.Make 1 f vs ∷ es) ≡ line
   unfolding own_from told_by
   making f [] before es o few q t h = absurd q.1
   making f (a ∷ []) before es o few q t h = absurd q.1.1
@@ -347,7 +378,7 @@ module _ (store : List Payload) (globals : Obj) (journal : List Event) (qs : Lis
   making_behind before [] o asked t h = absurd (cc h.1)
   making_behind before (e ∷ es) o asked t h =
       let none = none_entered qs asked in
-      let c = asked_next before (at 0 Asking [] []) e refl refl (λ r reply q x. enters_only qs r reply _ o asked (omega arith) q x) h.0.0 in
+      let c = asked_next before (at 0 Asking [] []) e refl refl (λ r reply q x. enters_only qs r reply (setting plan (past before (at 0 Asking [] []))) o refl asked (omega arith) q x) h.0.0 in
       subst (λ (x : Event). Tells (at 0 Asking [] []) 1 (x ∷ es) → Follows before (at 0 Asking [] []) (x ∷ es) → plain_text store (x ∷ es) ≡ line) (sym c.2)
       (λ u l. making c.0 c.1 before es o (few_asked store journal (call_of (codes "f") m n ∷ []) qs asked) (first_asked qs c.0 c.1 asked c.3) u l) t h
 
@@ -364,7 +395,7 @@ first_line : (text : List ℕ) → numbered 1 text ≡ codes "1" ++ (text ++ cod
 first_line text = ap (λ (ds : List ℕ). ds ++ (text ++ codes "\n")) decimal_1
 
 -- the value is written
-of_value : (store : List Payload) (i : ℤ) (before : List Event) (w : GotAnswer) → Gives store before (Has (payload.Int i)) w → WritesAt store (codes "1" ++ ((codes " returns " ++ signed_decimal i) ++ codes "\n")) w
+of_value : (store : List Payload) (i : ℤ) (before : List Event) (w : GotAnswer) → GivesBody store before (Has (payload.Int i)) w → WritesAt store (codes "1" ++ ((codes " returns " ++ signed_decimal i) ++ codes "\n")) w
 of_value store i before (got.Value v) h = (
   ending.Return v,
   λ ts t. t,
@@ -377,7 +408,7 @@ of_value store i before (got.Raise e) h = absurd h
 pub text_of_sum : (m n : ℤ) → in_range (m +ℤ n) ≡ true → Writes m n (codes "1 returns " ++ (signed_decimal (m +ℤ n) ++ codes "\n"))
 text_of_sum m n i store es r d =
     unchanged store es ∙ all_behind store r.globals es r.asked m n _
-    (λ before w g. of_value store (m +ℤ n) before w (subst (λ (b : Bool). Gives store before (if b then Has (payload.Int (m +ℤ n)) else Fails OverflowError out_of_range) w) i g))
+    (λ before w g. of_value store (m +ℤ n) before w (subst (λ (b : Bool). GivesBody store before (if b then Has (payload.Int (m +ℤ n)) else Fails OverflowError out_of_range) w) i g))
     es r.are_objects r.are_asked (r.run.tells 0) (r.run.comes, d.done)
 
 -- the class that is declared under the name of a kind has it
@@ -416,7 +447,7 @@ pub overflow_line : (ts : List Tree) (store : List Payload) → AreObjects ts st
 overflow_line ts store o before e h = raise_line ts store OverflowError out_of_range refl refl o before e h
 
 -- so is what a raise ends
-of_raise : (store : List Payload) → AreObjects trees store → (before : List Event) (w : GotAnswer) → Gives store before (Fails OverflowError out_of_range) w → WritesAt store (codes "1 raises OverflowError: integer out of range\n") w
+of_raise : (store : List Payload) → AreObjects trees store → (before : List Event) (w : GotAnswer) → GivesBody store before (Fails OverflowError out_of_range) w → WritesAt store (codes "1 raises OverflowError: integer out of range\n") w
 of_raise store o before (got.Value v) h = absurd h
 of_raise store o before (got.Stop v) h = absurd h
 of_raise store o before (got.Raise e) h = (ending.Raise e, λ ts t. t, overflow_line trees store o before e h)
@@ -425,7 +456,7 @@ of_raise store o before (got.Raise e) h = (ending.Raise e, λ ts t. t, overflow_
 pub text_of_overflow : (m n : ℤ) → in_range (m +ℤ n) ≡ false → Writes m n (codes "1 raises OverflowError: integer out of range\n")
 text_of_overflow m n i store es r d =
     unchanged store es ∙ all_behind store r.globals es r.asked m n _
-    (λ before w g. of_raise store r.are_objects before w (subst (λ (b : Bool). Gives store before (if b then Has (payload.Int (m +ℤ n)) else Fails OverflowError out_of_range) w) i g))
+    (λ before w g. of_raise store r.are_objects before w (subst (λ (b : Bool). GivesBody store before (if b then Has (payload.Int (m +ℤ n)) else Fails OverflowError out_of_range) w) i g))
     es r.are_objects r.are_asked (r.run.tells 0) (r.run.comes, d.done)
 
 -- the text of the worked run, and of the one that raises

@@ -15,7 +15,7 @@ use Rattle.py_tree.specs.Scene.{anywhere}
 use Rattle.py_tree.specs.Trace.{IsTrace}
 use Rattle.py_laid.specs.Fits.{Fits, located}
 use Rattle.py_tree.proofs.Carry.{traces_carry}
-use Rattle.py_run.specs.Run.{Posed, Activation, start, Comes, EachTells}
+use Rattle.py_run.specs.Run.{Posed, Activation, nothing, Comes, EachTells}
 use Rattle.py_vm.specs.RowsOf.{RowsOf}
 use Rattle.py_run.proofs.BoundLemmas.{IsBound, comes_bound}
 use Rattle.py_script.specs.Whole.{AreCompiled, signature_of, plan_of, Traces}
@@ -46,6 +46,6 @@ traced trees globals objects codes act own compiled bound told (b, has, c, is, c
 
 -- what activations tell by their rows they tell by their bodies
 pub tells_traces : (trees : List Tree) (asked : List Posed) (globals : Obj) (objects : List Payload) (codes : Codes) (events : List Event) → AreCompiled trees codes
-    → Comes (plan_of trees asked) objects [] start events → EachTells (RowsOf codes globals objects) events → EachTells (Traces trees globals objects) events
+    → Comes (plan_of trees asked) objects nothing events → EachTells (RowsOf codes globals objects) events → EachTells (Traces trees globals objects) events
 tells_traces trees asked globals objects codes events compiled comes tells i a made =
     traced trees globals objects codes a (own_events (suc i) events) compiled (comes_bound (plan_of trees asked) objects events comes i a made) (activation_tells (plan_of trees asked) objects events i a comes made) (tells i a made)

@@ -1,11 +1,11 @@
 -- What the definitions say of the journal of functions that call.
-use Rattle.std.proofs.Common.{◌≡◌, ℕ, zero, suc, List, [], ◌∷◌, ◌++◌, Some, None, false, refl, sym, ap, subst, inl, inr, lit<, ◌∙◌}
+use Rattle.std.proofs.Common.{◌≡◌, ℕ, zero, suc, Option, List, [], ◌∷◌, ◌++◌, length, drop, Some, None, false, refl, sym, ap, subst, inl, inr, lit<, ◌∙◌, arith}
 use Rattle.std.proofs.lemmas.Fmt.{decimal_digit}
 use Rattle.std.specs.List.{AllZip}
-use Rattle.std.specs.Prelude.{sum_by, pos, codes, decimal, slice_get}
+use Rattle.std.proofs.lemmas.Bool.{le-ltb}
+use Rattle.std.specs.Prelude.{sum_by, pos, codes, decimal, slice_get, nat_lt, if◌then◌else◌}
 use Rattle.py_objects.specs.declared.payload.Payload.{Payload}
-use Rattle.py_objects.specs.declared.payload.Payload.TheVariants as payload
-use Rattle.py_objects.specs.declared.error_kind.ErrorKind.TheVariants.{TypeError}
+use Rattle.py_objects.specs.declared.error_kind.ErrorKind.TheVariants.{RecursionError, TypeError}
 use Rattle.py_objects.specs.declared.request.Keywords.TheVariants as keywords
 use Rattle.py_objects.specs.declared.request.Request.TheVariants.{Call as Calling, Global}
 use Rattle.py_objects.specs.declared.event.ResumeHow.TheVariants.{Start}
@@ -16,7 +16,7 @@ use Rattle.py_objects.specs.declared.event.DriveAnswer.TheVariants as answer
 use Rattle.py_objects.specs.declared.event.Event.{Event}
 use Rattle.py_objects.specs.declared.event.Event.TheVariants as event
 use Rattle.py_objects.specs.ErrorKinds.{name_of}
-use Rattle.py_objects.specs.Objects.{Obj, Name, HasPayload, declared, AllFit}
+use Rattle.py_objects.specs.Objects.{Obj, Name, declared, AllFit}
 use Rattle.py_objects.specs.Own.{Makes, Resumes, Ends, own_events, own_from, told_by}
 use Rattle.py_tree.specs.Tree.{Tree}
 use Rattle.py_tree.specs.Scene.{anywhere}
@@ -27,18 +27,18 @@ use Rattle.py_lines.specs.declared.drive.DriveLine.{DriveLine}
 use Rattle.py_lines.specs.declared.drive.DriveLine.TheVariants as drive
 use Rattle.py_grammar.specs.Lines.{lines}
 use Rattle.py_grammar.specs.Script.{Spells}
-use Rattle.py_run.specs.declared.drive.Drive.TheVariants.{Call}
-use Rattle.py_answers.specs.Answers.{Fails, Is, IsRaised}
-use Rattle.py_run.specs.Calls.{too_many}
-use Rattle.py_run.specs.Run.{Posed, Plan, Activation, open_in, start, state_after, Comes, EachTells}
+use Rattle.py_answers.specs.Answers.{Reply, Fails, Is, GivesDrive, IsRaised}
+use Rattle.py_run.specs.Calls.{Signature, Says, Enters, ByReturn, Setting, too_many, missing_if, refusal, entry_at, bound_by, CallsFunction, ComesTo}
+use Rattle.py_run.specs.Run.{Posed, Plan, Activation, open_in, depth, Past, nothing, past_behind, setting, Comes, EachTells}
 use Rattle.std.proofs.lemmas.List.Sorted.{IsPermutation-refl, IsPermutation-reverse, sum_by-IsPermutation}
-use Rattle.py_script.specs.Whole.{AreAsked, Binds, AreGlobals, AreObjects, AsksThis, IsLeft, Traces, IsRunOf, plan_of}
+use Rattle.py_script.specs.Whole.{AreAsked, Binds, AreGlobals, AreObjects, AsksThis, IsLeft, Traces, IsRunOf, plan_of, signature_of}
 use Rattle.py_script.specs.Text.{events_text, numbered, result_text}
 use Rattle.py_script.specs.Worked.{object, exception, function_entry}
-use Rattle.py_script.specs.WorkedCall.{values, refusal_text, refusal_objects, objects_by, pair_of_g, pair_of_f, script, callee, caller, trees, drives, objects, returned, again, events}
+use Rattle.py_script.specs.WorkedCall.{values, refusal_text, refusal_objects, objects_by, pair_of_g, pair_of_f, script, callee, caller, trees, drives, objects, asking, left, returned, again, events, made_twice, numbered_on, swapped, refused_made, IsFull}
+use Rattle.py_run.proofs.BoundLemmas.{enters_call}
 use Rattle.py_script.proofs.Behind.{HasFunction, IsOwn, script_has}
-use Rattle.py_script.proofs.Journals.{Each, all_fit, are_named, decimal_1, differ, each_at, is_raised, made_exception, reads_of, some_is}
-use Rattle.py_script.proofs.OneText.{call_is, raise_line_of}
+use Rattle.py_script.proofs.Journals.{Each, all_fit, are_named, asked_for, course_is, decimal_1, differ, due_leaves, each_at, is_raised, made_exception, reads_of, runs, some_is}
+use Rattle.py_script.proofs.OneText.{raise_line_of, returned_so}
 
 -- call g $1 9
 abbrev second_drive : DriveLine
@@ -105,12 +105,22 @@ no_name_unbound are =
 
 -- ---- the run
 
+-- a drive that calls this
+abbrev called : Obj → List Obj → Posed
+called f vs = record { request = Calling f vs keywords.None; entered = 0 }
+
 -- the questions of the drives
 abbrev asked : List Posed
-asked = record { drive = Call (object 1) []; entered = 0 } ∷ record { drive = Call (object 0) (object 6 ∷ object 9 ∷ []); entered = 0 } ∷ record { drive = Call (object 1) (object 6 ∷ []); entered = 0 } ∷ []
+asked = called (object 1) [] ∷ called (object 0) (object 6 ∷ object 9 ∷ []) ∷ called (object 1) (object 6 ∷ []) ∷ []
 
 are_asked : AreAsked objects events drives asked
-are_asked = (((refl, tt), refl), (((refl, ((11, answer.Returns (object 6), refl, refl), (refl, tt))), refl), (((refl, ((11, answer.Returns (object 6), refl, refl), tt)), refl), tt)))
+are_asked = (
+  ((object 1, [], refl, refl, tt), refl),
+  (
+    ((object 0, object 6 ∷ object 9 ∷ [], refl, refl, ((11, answer.Returns (object 6), refl, refl), (refl, tt))), refl),
+    (((object 1, object 6 ∷ [], refl, refl, ((11, answer.Returns (object 6), refl, refl), tt)), refl), tt),
+  ),
+)
 
 -- up to the refusal
 abbrev refusing : List Event
@@ -138,7 +148,7 @@ third = event.Drive 3 ∷ event.Result 3 (answer.Raises (exception 13)) ∷ []
 abbrev second : List Event
 second = event.Drive 2 ∷ event.Make 3 (object 0) (object 6 ∷ object 9 ∷ []) ∷ event.Resume 3 Start ∷ event.End 3 (ending.Return (object 6)) 1 ∷ event.Result 2 (answer.Returns (object 6)) ∷ third
 
-third_comes : Comes plan objects (again (object 6) []) (state_after start (again (object 6) [])) third
+third_comes : Comes plan objects (past_behind nothing (again (object 6) [])) third
 third_comes = (
   (refl, refl, lit< tt),
   (
@@ -146,45 +156,42 @@ third_comes = (
       refl,
       refl,
       (
-        _,
-        got.Raise (exception 13),
-        refl,
-        refl,
-        (
-          Fails TypeError (too_many (codes "f") 0 1),
-          inr (inl (object 1, object 6 ∷ [], refl, (_, refl, (_, refl, refl)))),
-          subst (λ (text : Name). IsRaised objects refusing TypeError text (exception 13)) (sym text_is) refused,
-        ),
+        Fails TypeError (too_many (codes "f") 0 1),
+        (_, refl, inr (inl (object 1, object 6 ∷ [], refl, runs _ _ _ _ _ _ _ refl refl refl refl))),
+        subst (λ (text : Name). IsRaised objects refusing TypeError text (exception 13)) (sym text_is) refused,
       ),
     ),
     tt,
   ),
 )
 
-second_comes : Comes plan objects (returned (object 6) []) (state_after start (returned (object 6) [])) second
+second_comes : Comes plan objects (past_behind nothing (returned (object 6) [])) second
 second_comes = (
   (refl, refl, lit< tt),
-  ((refl, refl, refl, (_, refl, (_, refl, refl))), ((object 0, refl, refl), ((refl, refl), ((refl, refl, (_, got.Value (object 6), refl, refl, (_, _, refl, refl))), third_comes)))),
+  (
+    (refl, (refl, (_, refl, inr (inl (object 0, object 6 ∷ object 9 ∷ [], refl, runs _ _ _ _ _ _ _ refl refl refl refl))))),
+    ((object 0, refl, refl), ((refl, refl), ((refl, refl, (Is (object 6), (_, refl, (refl, refl)), refl)), third_comes))),
+  ),
 )
 
-comes : Comes plan objects [] start events
+comes : Comes plan objects nothing events
 comes = (
   (refl, refl, lit< tt),
   (
-    (refl, refl, refl, (_, refl, (_, refl, refl))),
+    (refl, (refl, (_, refl, inr (inl (object 1, [], refl, runs _ _ _ _ _ _ _ refl refl refl refl))))),
     (
       (object 1, refl, refl),
       (
         (refl, refl),
         (
-          (refl, (Global (object 4) (codes "g"), refl, (Is (object 0), inl (Is (object 0), refl, refl), refl))),
+          (refl, (Is (object 0), (Global (object 4) (codes "g"), refl, inl (Is (object 0), refl, refl)), refl)),
           (
             (refl, refl),
             (
-              (refl, refl, refl, (_, refl, (_, refl, refl))),
+              (refl, (refl, (_, refl, inr (inl (object 0, object 6 ∷ object 7 ∷ [], refl, runs _ _ _ _ _ _ _ refl refl refl refl))))),
               (
                 (object 0, refl, refl),
-                ((refl, refl), ((refl, (_, refl, (_, _, refl, refl))), ((refl, refl), ((refl, refl, (_, got.Value (object 6), refl, refl, (_, _, refl, refl))), second_comes)))),
+                ((refl, refl), ((refl, (Is (object 6), (_, refl, (refl, refl)), refl)), ((refl, refl), ((refl, refl, (Is (object 6), (_, refl, (refl, refl)), refl)), second_comes)))),
               ),
             ),
           ),
@@ -265,9 +272,89 @@ not_asked : (qs : List Posed) → AreAsked objects (again (object 0) []) drives 
 not_asked [] h e = absurd cc
 not_asked (p ∷ []) h e = absurd cc
 not_asked (p ∷ q ∷ qs) h e =
-    let asks = subst (AsksThis objects (again (object 0) []) second_drive) (call_is q.drive (object 0) (object 0 ∷ object 9 ∷ []) (some_is _ _ e)) h.1.0.0 in
-    let left = asks.1.0 in
-    differ 0 6 refl (subst (λ (w : DriveAnswer). IsLeft objects w (object 0)) (first_left left.0 left.1 left.2) left.3)
+    let asks = subst (AsksThis objects (again (object 0) []) second_drive) (some_is _ _ e) h.1.0.0 in
+    let (is, args) = asked_for objects (again (object 0) []) (codes "g") (argument.Drive 1 ∷ argument.Int (pos 9) ∷ []) (object 0) (object 0 ∷ object 9 ∷ []) asks in
+    let (i, w, here, leaves) = args.0 in
+    differ 0 6 refl (subst (λ (w : DriveAnswer). IsLeft objects w (object 0)) (first_left i w here) leaves)
 
 pub no_other_object : IsRunOf trees drives objects (again (object 0) []) → ⊥
-no_other_object r = not_asked r.asked r.are_asked r.run.comes.1.1.1.1.1.1.1.1.1.1.1.1.1.0.2
+no_other_object r =
+    let at : Setting = setting (plan_of trees r.asked) (past_behind nothing (returned (object 6) (event.Drive 2 ∷ []))) in
+    let opened = r.run.comes.1.1.1.1.1.1.1.1.1.1.1.1.1.0.1.1 in
+    not_asked r.asked r.are_asked (opened.1 ∙ ap Some (enters_call at objects opened.0 (object 0) (object 0 ∷ object 9 ∷ []) opened.2).0)
+
+pub no_callee_made_twice : IsRunOf trees drives objects made_twice → ⊥
+no_callee_made_twice r = cc r.run.comes.1.1.1.1.1.1.1.0.1.0
+
+pub no_other_number : IsRunOf trees drives objects numbered_on → ⊥
+no_other_number r = let number : 3 ≡ 2 = r.run.comes.1.1.1.1.1.1.0.0 in omega (arith, number)
+
+first_argument : (f a b c d : Obj) → Calling f (a ∷ b ∷ []) keywords.None ≡ Calling f (c ∷ d ∷ []) keywords.None → a ≡ c
+first_argument f a b c d e = cc
+
+pub no_swapped_arguments : IsRunOf trees drives objects swapped → ⊥
+no_swapped_arguments r =
+    let at : Setting = setting (plan_of trees r.asked) (past_behind nothing (asking [])) in
+    let opened = r.run.comes.1.1.1.1.1.1.0.1.1 in
+    let asks = some_is _ _ (opened.1 ∙ ap Some (enters_call at objects opened.0 (object 0) (object 7 ∷ object 6 ∷ []) opened.2).0) in
+    differ 6 7 refl (first_argument (object 0) (object 6) (object 7) (object 7) (object 6) asks)
+
+result_value : (v w : Obj) → answer.Returns v ≡ answer.Returns w → v ≡ w
+result_value v w e = cc
+
+pub no_other_result : IsRunOf trees drives objects (returned (object 0) []) → ⊥
+no_other_result r =
+    let before : List Event = left (event.Got 1 (got.Value (object 6)) ∷ event.End 1 (ending.Return (object 6)) 6 ∷ []) in
+    let (reply, (q, asks, due), gives) = r.run.comes.1.1.1.1.1.1.1.1.1.1.1.0.2 in
+    let is : reply ≡ Is (object 6) = due_leaves q (ByReturn (object 6)) reply due in
+    let same = returned_so objects before (object 6) (answer.Returns (object 0)) (subst (λ (x : Reply). GivesDrive objects before x (answer.Returns (object 0))) is gives) in
+    differ 0 6 refl (result_value (object 0) (object 6) same)
+
+pub no_activation_of_a_refused_drive : IsRunOf trees drives objects refused_made → ⊥
+no_activation_of_a_refused_drive r =
+    let at : Setting = setting (plan_of trees r.asked) (past_behind nothing refusing) in
+    let opened = r.run.comes.1.1.1.1.1.1.1.1.1.1.1.1.1.1.1.1.1.1.0.1.1 in
+    let calls = enters_call at objects opened.0 (object 1) (object 6 ∷ []) opened.2 in
+    let course : Enters (object 1) (object 6 ∷ []) ≡ Says (Fails TypeError (too_many (codes "f") 0 1)) =
+    course_is at objects (object 1) (record { name = codes "f"; code = 1 }) (signature_of caller) (object 6 ∷ []) (Enters (object 1) (object 6 ∷ [])) refl refl calls.1 in
+    cc course
+
+-- ---- how deep calls go
+
+none_missing : (f : Name) (xs : List Name) → missing_if f (drop (length xs) xs) ≡ None
+none_missing f [] = refl
+none_missing f (x ∷ xs) = none_missing f xs
+
+-- as many arguments as there are parameters are not refused
+none_refused : (f : Name) (xs : List Name) (n : ℕ) → n ≡ length xs → refusal f xs n ≡ None
+none_refused f xs n count =
+    let few : nat_lt (length xs) n ≡ false = le-ltb (length xs) n (omega (arith, count)) in
+    ap (λ b. if b then Some (too_many f (length xs) n) else missing_if f (drop n xs)) few ∙ (ap (λ k. missing_if f (drop k xs)) count ∙ none_missing f xs)
+
+-- so what such a call comes to is told by the depth alone
+full_comes : (plan : Plan) (p : Past) (f : Obj) (vs : List Obj) (name : Name) (s : Signature) → length vs ≡ length s.params
+    → bound_by (refusal name s.params (length vs)) (entry_at (depth plan p.state) (Enters f vs)) ≡ entry_at (depth plan p.state) (Enters f vs)
+full_comes plan p f vs name s count = ap (λ (o : Option Name). bound_by o (entry_at (depth plan p.state) (Enters f vs))) (none_refused name s.params (length vs) count)
+
+pub entry_at_999 : (plan : Plan) (p : Past) (store : List Payload) (f : Obj) (vs : List Obj) (full : IsFull plan store f vs) → full.signature.kind ≡ None → depth plan p.state ≡ 999 → CallsFunction (setting plan p) store f vs (Enters f vs)
+entry_at_999 plan p store f vs full through deep =
+    runs (setting plan p) store f vs (Enters f vs) full.body full.signature full.is_function full.signed through
+    (sym (full_comes plan p f vs full.body.name full.signature full.count ∙ ap (λ (k : ℕ). entry_at k (Enters f vs)) deep))
+
+-- a call of it enters nothing where that many run
+no_call_at_1000 : (plan : Plan) (p : Past) (store : List Payload) (f : Obj) (vs : List Obj) (g : Obj) (ws : List Obj) → IsFull plan store f vs → depth plan p.state ≡ 1000 → CallsFunction (setting plan p) store f vs (Enters g ws) → ⊥
+no_call_at_1000 plan p store f vs g ws full deep calls =
+    let course = course_is (setting plan p) store f full.body full.signature vs (Enters g ws) full.is_function full.signed calls in
+    let clash : Enters g ws ≡ Says (Fails RecursionError (codes "maximum recursion depth exceeded ")) =
+    course ∙ (full_comes plan p f vs full.body.name full.signature full.count ∙ ap (λ (k : ℕ). entry_at k (Enters f vs)) deep) in
+    cc clash
+
+-- nor does the question for one
+pub no_entry_at_1000 : (plan : Plan) (p : Past) (store : List Payload) (f : Obj) (vs : List Obj) (g : Obj) (ws : List Obj) → IsFull plan store f vs → depth plan p.state ≡ 1000
+    → ComesTo (setting plan p) store (Calling f vs keywords.None) (Enters g ws) → ⊥
+no_entry_at_1000 plan p store f vs g ws full deep comes =
+    let (is, calls) = enters_call (setting plan p) store (Calling f vs keywords.None) g ws comes in
+    let callee : g ≡ f = cc is in
+    let args : ws ≡ vs = cc is in
+    let own = subst (λ (us : List Obj). CallsFunction (setting plan p) store f us (Enters g ws)) args (subst (λ (x : Obj). CallsFunction (setting plan p) store x ws (Enters g ws)) callee calls) in
+    no_call_at_1000 plan p store f vs g ws full deep own

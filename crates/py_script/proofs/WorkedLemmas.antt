@@ -1,5 +1,5 @@
 -- What the definitions say of the journals that were worked by hand.
-use Rattle.std.proofs.Common.{◌≡◌, ℕ, zero, suc, List, [], ◌∷◌, ◌++◌, Option, ◌<◌, ◌≤◌, refl, ap, subst, inr, lit<, ⊎_elim, arith, length}
+use Rattle.std.proofs.Common.{◌≡◌, ℕ, zero, suc, List, [], ◌∷◌, ◌++◌, Option, ◌<◌, ◌≤◌, refl, subst, inl, inr, lit<, ⊎_elim, arith, length}
 use Rattle.std.specs.Prelude.{pos, codes}
 use Rattle.py_objects.specs.declared.refs.PyBaseExceptionRef.{PyBaseExceptionRef}
 use Rattle.py_objects.specs.declared.payload.Payload.{Payload}
@@ -20,10 +20,11 @@ use Rattle.py_tree.specs.Trace.{IsTrace}
 use Rattle.py_grammar.specs.Grammar.{Declares, Drives}
 use Rattle.py_grammar.specs.Lines.{lines}
 use Rattle.py_grammar.specs.Script.{Spells}
-use Rattle.py_run.specs.Run.{Posed, Plan, Activation, start, state_after, Comes, EachTells}
+use Rattle.py_answers.specs.Answers.{Is, Passes}
+use Rattle.py_run.specs.Run.{Posed, Plan, Activation, Past, nothing, past_behind, Comes, EachTells}
 use Rattle.py_script.specs.Whole.{AreObjects, Traces, IsRunOf, plan_of}
 use Rattle.py_script.specs.Worked.{script, function, trees, call_of, drives, object, exception, function_entry, objects_by, objects, objects_with_manager, entered, asked, events, unfinished, with_round, swapped, driven_twice, greatest, overflowing, error_entry, error_objects, raising_objects, overflow_objects, raises, overflow_by}
-use Rattle.py_script.proofs.Journals.{RaiseIsTraced, are_globals, are_named, are_objects, asking_comes, begun, call, code_of, differ, entry_of, few_asked, first_raises, fits, gives_sum, made_error, one_tells, overflows, plan_with, reads_of, some_is, sum_comes, traced, overflow_is_run as overflow_run}
+use Rattle.py_script.proofs.Journals.{RaiseIsTraced, are_globals, are_named, are_objects, asking_comes, asks_numbers, begun, call, code_of, differ, entry_of, few_asked, first_raises, fits, gives_sum, made_error, one_tells, overflows, plan_with, reads_of, runs, some_is, sum_comes, traced, overflow_is_run as overflow_run}
 
 pub spelled : Spells (lines script) trees drives
 spelled =
@@ -49,11 +50,11 @@ abbrev plan : Plan
 plan = plan_with function []
 
 -- up to the activation's end
-front_comes : (rest : List Event) → Comes plan objects unfinished (state_after start unfinished) rest → Comes plan objects [] start (unfinished ++ rest)
+front_comes : (rest : List Event) → Comes plan objects (past_behind nothing unfinished) rest → Comes plan objects nothing (unfinished ++ rest)
 front_comes rest k =
-    let asking = entered 1 (asked 1 (object 3) (object 4) []) in
-    asking_comes function [] (pos 33) (pos 12) (payload.Int (pos 45) ∷ []) (event.Got 1 (got.Value (object 6)) ∷ event.End 1 (ending.Return (object 6)) 5 ∷ rest) (lit< tt) (_, refl, (_, refl, refl))
-    (sum_comes function plan (pos 33) (pos 12) (payload.Int (pos 45) ∷ []) asking (state_after start asking) 1 (got.Value (object 6)) refl refl refl refl, ((refl, refl), k))
+    let asking : Past = past_behind nothing (entered 1 (asked 1 (object 3) (object 4) [])) in
+    asking_comes function [] (pos 33) (pos 12) (payload.Int (pos 45) ∷ []) (event.Got 1 (got.Value (object 6)) ∷ event.End 1 (ending.Return (object 6)) 5 ∷ rest) (lit< tt) (runs _ _ _ _ _ _ _ refl refl refl refl)
+    (sum_comes function plan (pos 33) (pos 12) (payload.Int (pos 45) ∷ []) asking 1 (got.Value (object 6)) refl refl refl refl, ((refl, refl), k))
 
 sum_traced : IsTrace (anywhere objects (object 2)) function (object 3 ∷ object 4 ∷ []) (own_events 1 events)
 unfolding own_from told_by
@@ -66,10 +67,10 @@ pub is_run : IsRunOf trees drives objects events
 is_run =
     record {
       asked = call ∷ [];
-      are_asked = (((refl, (refl, (refl, tt))), refl), tt);
+      are_asked = (asks_numbers function (pos 33) (pos 12) (payload.Int (pos 45) ∷ []) events refl, tt);
       globals = object 2;
       are_globals = are_globals function (payload.Int (pos 33) ∷ payload.Int (pos 12) ∷ payload.Frame 0 ∷ payload.Int (pos 45) ∷ []) refl;
-      run = record { comes = front_comes (event.Result 1 (answer.Returns (object 6)) ∷ []) ((refl, refl, (_, got.Value (object 6), refl, refl, (_, _, refl, refl))), tt); tells = sum_tells; named = are_named objects events sum_fits refl };
+      run = record { comes = front_comes (event.Result 1 (answer.Returns (object 6)) ∷ []) ((refl, refl, (Is (object 6), (_, refl, (refl, refl)), refl)), tt); tells = sum_tells; named = are_named objects events sum_fits refl };
       are_objects = sum_objects;
     }
 
@@ -81,7 +82,7 @@ pub front_is_run : IsRunOf trees drives objects unfinished
 front_is_run =
     record {
       asked = call ∷ [];
-      are_asked = (((refl, (refl, (refl, tt))), refl), tt);
+      are_asked = (asks_numbers function (pos 33) (pos 12) (payload.Int (pos 45) ∷ []) unfinished refl, tt);
       globals = object 2;
       are_globals = are_globals function (payload.Int (pos 33) ∷ payload.Int (pos 12) ∷ payload.Frame 0 ∷ payload.Int (pos 45) ∷ []) refl;
       run = record { comes = front_comes [] tt; tells = front_tells; named = are_named objects unfinished sum_fits refl };
@@ -123,7 +124,7 @@ raise_traced : (more : List Payload) (i j : ℕ) (e : PyBaseExceptionRef) → Ra
 raise_traced more i j e = (refl, (_, refl, (tt, inr (inr (2, _, refl, refl, inr (j, got.Raise e, _, refl, inr (2, refl)))))))
 
 pub overflow_is_run : IsRunOf trees (overflowing ∷ []) overflow_objects (overflow_by (exception 8))
-overflow_is_run = overflow_run function refl (_, refl, (_, refl, refl)) (raise_traced [] 2 4 (exception 8))
+overflow_is_run = overflow_run function refl (runs _ _ _ _ _ _ _ refl refl refl refl) (raise_traced [] 2 4 (exception 8))
 
 -- the objects of two drives that raise, and their run
 abbrev both_objects : List Payload
@@ -154,35 +155,37 @@ both_plan = plan_with function (call ∷ [])
 abbrev second_asks : List Event
 second_asks = raises 1 (exception 8) (entered 2 (asked 2 (object 3) (object 4) []))
 
-second_raises : Comes both_plan both_objects (overflow_by (exception 8)) (state_after start (overflow_by (exception 8))) (raises 2 (exception 9) [])
-second_raises = (
-  (refl, refl, lit< tt),
-  (
-    (refl, refl, refl, (_, refl, (_, refl, refl))),
-    (
-      (object 0, refl, refl),
+second_raises : Comes both_plan both_objects (past_behind nothing (overflow_by (exception 8))) (raises 2 (exception 9) [])
+second_raises =
+    let asking : Past = past_behind nothing second_asks in (
+      (refl, refl, lit< tt),
       (
-        (refl, refl),
+        (refl, (refl, (call.request, refl, inr (inl (object 0, object 3 ∷ object 4 ∷ [], refl, runs _ _ _ _ _ _ _ refl refl refl refl))))),
         (
-          sum_comes function both_plan greatest (pos 1) (error_objects OverflowError (error_entry OverflowError ∷ [])) second_asks (state_after start second_asks) 2 (got.Raise (exception 9)) refl refl refl
-              (overflows function 9 (error_entry OverflowError ∷ []) second_asks refl (refl, (refl, (refl, (refl, (refl, (refl, (refl, (refl, (refl, (refl, (refl, tt)))))))))))),
-          ((refl, refl), ((refl, refl, (_, got.Raise (exception 9), refl, refl, (_, _, refl, refl))), tt)),
+          (object 0, refl, refl),
+          (
+            (refl, refl),
+            (
+              sum_comes function both_plan greatest (pos 1) (error_objects OverflowError (error_entry OverflowError ∷ [])) asking 2 (got.Raise (exception 9)) refl refl refl
+                  (overflows function 9 (error_entry OverflowError ∷ []) asking.events refl (refl, (refl, (refl, (refl, (refl, (refl, (refl, (refl, (refl, (refl, (refl, tt)))))))))))),
+              ((refl, refl), ((refl, refl, (Passes (exception 9), (_, refl, (refl, refl)), refl)), tt)),
+            ),
+          ),
         ),
       ),
-    ),
-  ),
-)
+    )
 
 pub errors_are_run : IsRunOf trees (overflowing ∷ overflowing ∷ []) both_objects both_raise
 errors_are_run =
+    let asks = asks_numbers function greatest (pos 1) (error_objects OverflowError (error_entry OverflowError ∷ [])) both_raise refl in
     record {
       asked = both_asked;
       globals = object 2;
       are_globals = are_globals function (payload.Int greatest ∷ payload.Int (pos 1) ∷ payload.Frame 0 ∷ error_objects OverflowError (error_entry OverflowError ∷ [])) refl;
-      are_asked = (((refl, (refl, (refl, tt))), refl), (((refl, (refl, (refl, tt))), refl), tt));
+      are_asked = (asks, (asks, tt));
       run =
           record {
-            comes = first_raises function (call ∷ []) (error_entry OverflowError ∷ []) (raises 2 (exception 9) []) (lit< tt) (_, refl, (_, refl, refl)) second_raises;
+            comes = first_raises function (call ∷ []) (error_entry OverflowError ∷ []) (raises 2 (exception 9) []) (lit< tt) (runs _ _ _ _ _ _ _ refl refl refl refl) second_raises;
             tells = both_tell;
             named = are_named both_objects both_raise both_fit refl;
           };
@@ -191,6 +194,6 @@ errors_are_run =
 
 pub no_error_twice : IsRunOf trees (overflowing ∷ overflowing ∷ []) both_objects (raises 1 (exception 8) (raises 2 (exception 8) [])) → ⊥
 no_error_twice r =
-    let given = gives_sum (plan_of trees r.asked) both_objects second_asks (state_after start second_asks) (object 3) (object 4) greatest (pos 1) (got.Raise (exception 8)) refl refl r.run.comes.1.1.1.1.1.1.1.1.1.1.1.0.1 in
+    let given = gives_sum (plan_of trees r.asked) both_objects (past_behind nothing second_asks) (object 3) (object 4) greatest (pos 1) (got.Raise (exception 8)) refl refl r.run.comes.1.1.1.1.1.1.1.1.1.1.1.0.1 in
     let named = given.made.new.unnamed 4 (event.Got 1 (got.Raise (exception 8))) refl in
     cc

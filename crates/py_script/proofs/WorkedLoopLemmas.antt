@@ -4,13 +4,14 @@ use Rattle.std.specs.Prelude.{codes}
 use Rattle.py_objects.specs.declared.payload.Payload.TheVariants as payload
 use Rattle.py_objects.specs.declared.payload.Payload.{Payload}
 use Rattle.py_objects.specs.declared.error_kind.ErrorKind.TheVariants.{NameError}
-use Rattle.py_objects.specs.declared.request.Request.TheVariants.{Truth, Global}
+use Rattle.py_objects.specs.declared.request.Keywords.TheVariants as keywords
+use Rattle.py_objects.specs.declared.request.Request.TheVariants.{Call as Calling, Truth, Global}
 use Rattle.py_objects.specs.declared.event.ResumeHow.TheVariants.{Start}
 use Rattle.py_objects.specs.declared.event.GotAnswer.TheVariants as got
 use Rattle.py_objects.specs.declared.event.Ending.TheVariants as ending
 use Rattle.py_objects.specs.declared.event.DriveAnswer.TheVariants as answer
-use Rattle.py_objects.specs.declared.event.Event.{Event}
 use Rattle.py_objects.specs.Objects.{Obj, Name, HasPayload, AllFit}
+use Rattle.py_objects.specs.Singletons.{none_object}
 use Rattle.py_objects.specs.Own.{Own, Makes, Resumes, Asks, Gets, Rounds, Ends, own_events, own_from, told_by}
 use Rattle.py_tree.specs.declared.expr.Atom.TheVariants as atom
 use Rattle.py_tree.specs.Tree.{Show, nothing, first, Tree}
@@ -21,15 +22,13 @@ use Rattle.py_lines.specs.declared.drive.DriveLine.TheVariants as drive
 use Rattle.py_grammar.specs.Grammar.{Declares, Drives}
 use Rattle.py_grammar.specs.Lines.{lines}
 use Rattle.py_grammar.specs.Script.{Spells}
-use Rattle.py_run.specs.declared.drive.Drive.TheVariants.{Call}
-use Rattle.py_answers.specs.Answers.{Has, Fails, unknown_text, IsRaised}
-use Rattle.py_run.specs.Run.{Posed, Plan, start, Comes}
+use Rattle.py_answers.specs.Answers.{Has, Fails, Passes, unknown_text, IsRaised}
+use Rattle.py_run.specs.Run.{Posed, Plan, nothing as at_first, Comes}
 use Rattle.py_script.specs.Whole.{AreGlobals, Traces, IsRunOf, plan_of}
 use Rattle.py_script.specs.Text.{events_text, result_text}
-use Rattle.py_script.specs.Session.{none_object}
 use Rattle.py_script.specs.Worked.{object, exception}
 use Rattle.py_script.specs.WorkedLoop.{script, function_of, function, trees, drives, objects, events, without_round, untested, left_early, unknown_script, unknown_trees, not_defined, raised_objects, unknown_objects, asked_in, asked, unknown_events}
-use Rattle.py_script.proofs.Journals.{are_globals, are_loaded, are_named, asked_so, begun, fits, is_raised, made_exception, one_tells, own_with, reads_of, traced_with}
+use Rattle.py_script.proofs.Journals.{are_globals, are_loaded, are_named, asked_so, begun, fits, is_raised, made_exception, one_tells, own_with, reads_of, runs, traced_with}
 use Rattle.py_script.proofs.OneText.{raise_line}
 
 pub spelled : Spells (lines script) trees drives
@@ -47,7 +46,7 @@ spelled =
 
 -- the question of the drive
 abbrev call : Posed
-call = record { drive = Call (object 0) []; entered = 0 }
+call = record { request = Calling (object 0) [] keywords.None; entered = 0 }
 
 -- what the run is of
 abbrev plan : Plan
@@ -56,14 +55,14 @@ plan = plan_of trees (call ∷ [])
 loop_fits : AllFit objects
 loop_fits = fits function (payload.Frame 0 ∷ payload.Bool true ∷ payload.Bool true ∷ []) refl (tt, (tt, (tt, tt)))
 
-comes : Comes plan objects [] start events
+comes : Comes plan objects at_first events
 comes = (
   (refl, refl, lit< tt),
   (
-    (refl, refl, refl, (_, refl, (_, refl, refl))),
+    (refl, (refl, (call.request, refl, inr (inl (object 0, [], refl, runs _ _ _ _ _ _ _ refl refl refl refl))))),
     (
       (object 0, refl, refl),
-      ((refl, refl), ((refl, refl), ((refl, (Truth (object 4), refl, (Has (payload.Bool true), inl (Has (payload.Bool true), refl, (payload.Bool true, refl, refl)), refl))), ((refl, refl), tt)))),
+      ((refl, refl), ((refl, refl), ((refl, (Has (payload.Bool true), (Truth (object 4), refl, inl (Has (payload.Bool true), refl, (payload.Bool true, refl, refl))), refl)), ((refl, refl), tt)))),
     ),
   ),
 )
@@ -77,7 +76,7 @@ pub is_run : IsRunOf trees drives objects events
 is_run =
     record {
       asked = call ∷ [];
-      are_asked = (((refl, tt), refl), tt);
+      are_asked = (((object 0, [], refl, refl, tt), refl), tt);
       globals = object 2;
       are_globals = are_globals function (payload.Frame 0 ∷ payload.Bool true ∷ payload.Bool true ∷ []) refl;
       run = record { comes = comes; tells = one_tells (Traces trees (object 2) objects) (object 0) [] events refl (_, refl, (function, refl, loop_traced)); named = are_named objects events loop_fits refl };
@@ -193,18 +192,18 @@ unknown_fits = fits unknown_function (payload.Frame 0 ∷ raised_objects NameErr
 unknown_raised : IsRaised unknown_objects (asked []) NameError not_defined (exception 6)
 unknown_raised = is_raised unknown_own (asked []) NameError not_defined (object 4) (object 5) (exception 6) refl refl refl (refl, (refl, (refl, (refl, tt))))
 
-unknown_comes : Comes (plan_of unknown_trees (call ∷ [])) unknown_objects [] start unknown_events
+unknown_comes : Comes (plan_of unknown_trees (call ∷ [])) unknown_objects at_first unknown_events
 unknown_comes = (
   (refl, refl, lit< tt),
   (
-    (refl, refl, refl, (_, refl, (_, refl, refl))),
+    (refl, (refl, (call.request, refl, inr (inl (object 0, [], refl, runs _ _ _ _ _ _ _ refl refl refl refl))))),
     (
       (object 0, refl, refl),
       (
         (refl, refl),
         (
-          (refl, (Global (object 2) (codes "z"), refl, (Fails NameError (unknown_text (codes "z")), inl (Fails NameError (unknown_text (codes "z")), refl, refl), unknown_raised))),
-          ((refl, refl), ((refl, refl, (_, got.Raise (exception 6), refl, refl, (_, _, refl, refl))), tt)),
+          (refl, (Fails NameError (unknown_text (codes "z")), (Global (object 2) (codes "z"), refl, inl (Fails NameError (unknown_text (codes "z")), refl, refl)), unknown_raised)),
+          ((refl, refl), ((refl, refl, (Passes (exception 6), (_, refl, (refl, refl)), refl)), tt)),
         ),
       ),
     ),
@@ -219,7 +218,7 @@ pub unknown_is_run : IsRunOf unknown_trees drives unknown_objects unknown_events
 unknown_is_run =
     record {
       asked = call ∷ [];
-      are_asked = (((refl, tt), refl), tt);
+      are_asked = (((object 0, [], refl, refl, tt), refl), tt);
       globals = object 2;
       are_globals = are_globals unknown_function (payload.Frame 0 ∷ raised_objects NameError) refl;
       run =

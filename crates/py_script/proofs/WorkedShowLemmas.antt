@@ -1,5 +1,5 @@
 -- What the definitions say of the journal with a shown value.
-use Rattle.std.proofs.Common.{◌≡◌, ℕ, List, [], ◌∷◌, Option, Some, None, ◌<◌, refl, sym, ap, subst, inl, inr, lit<, ⊎_elim, ◌∙◌, append-nil, length}
+use Rattle.std.proofs.Common.{◌≡◌, ℕ, List, [], ◌∷◌, Option, Some, None, ◌<◌, refl, sym, subst, inl, inr, lit<, ⊎_elim, ◌∙◌, append-nil, length}
 use Rattle.std.proofs.lemmas.Option.{slice_get_within}
 use Rattle.std.specs.Prelude.{pos, codes}
 use Rattle.py_objects.specs.declared.refs.PyBaseExceptionRef.{PyBaseExceptionRef}
@@ -16,6 +16,7 @@ use Rattle.py_objects.specs.declared.event.DriveAnswer.TheVariants as answer
 use Rattle.py_objects.specs.declared.event.Event.{Event}
 use Rattle.py_objects.specs.declared.event.Event.TheVariants as event
 use Rattle.py_objects.specs.Objects.{Obj, HasPayload, event_numbers, AllBelow, AllFit, AreNamed}
+use Rattle.py_objects.specs.Singletons.{none_object}
 use Rattle.py_objects.specs.Own.{Own, Makes, Resumes, Asks, Gets, Ends, own_events, own_from, told_by}
 use Rattle.py_objects.specs.Telling.{AfterValue, Answers}
 use Rattle.py_tree.specs.declared.expr.Atom.TheVariants as atom
@@ -27,14 +28,13 @@ use Rattle.py_tree.specs.Trace.{IsTrace, EndsBy}
 use Rattle.py_grammar.specs.Grammar.{Declares, Drives}
 use Rattle.py_grammar.specs.Lines.{lines}
 use Rattle.py_grammar.specs.Script.{Spells}
-use Rattle.py_answers.specs.Answers.{Reply, Has, Gives}
-use Rattle.py_run.specs.Run.{Plan, Asking, State, Answers as IsAnswered, start, state_after, Comes}
+use Rattle.py_answers.specs.Answers.{Reply, Has, Is, GivesBody}
+use Rattle.py_run.specs.Run.{Plan, Asking, Past, setting, IsReply, nothing as at_first, past_behind, Comes}
 use Rattle.py_script.specs.Whole.{Traces, IsRunOf, plan_of}
 use Rattle.py_script.specs.Text.{events_text, result_text}
-use Rattle.py_script.specs.Session.{none_object}
 use Rattle.py_script.specs.Worked.{object, exception, entered, asked, greatest, overflow_by}
 use Rattle.py_script.specs.WorkedShow.{script, function, trees, drive, drives, objects, summed, shows, answered, ended, events_by, events, without_show, shown_twice, overflowing, overflow_objects, shown_behind_raise}
-use Rattle.py_script.proofs.Journals.{RaiseIsTraced, are_globals, are_objects, asked_so, asking_comes, begun, call, decimal_1, decimal_45, differ, each_at, fits, gives_sum, one_tells, plan_with, reads_of, replied, some_is, sum_comes, traced, overflow_is_run as overflow_run}
+use Rattle.py_script.proofs.Journals.{RaiseIsTraced, are_globals, are_objects, asked_so, asking_comes, asks_numbers, begun, call, decimal_1, decimal_45, differ, each_at, fits, gives_sum, one_tells, plan_with, reads_of, replied, runs, some_is, sum_comes, traced, overflow_is_run as overflow_run}
 use Rattle.py_script.proofs.OneText.{overflow_line}
 
 pub spelled : Spells (lines script) trees drives
@@ -61,13 +61,13 @@ IsNone v = HasPayload objects v payload.None
 abbrev plan : Plan
 plan = plan_with function []
 
-comes : (a r : Obj) → IsNone a → IsNone r → Comes plan objects [] start (events_by (object 6) a r)
+comes : (a r : Obj) → IsNone a → IsNone r → Comes plan objects at_first (events_by (object 6) a r)
 comes a r n m =
-    let asking = entered 1 (asked 1 (object 3) (object 4) []) in
+    let asking : Past = past_behind at_first (entered 1 (asked 1 (object 3) (object 4) [])) in
     let more = payload.Int (pos 45) ∷ payload.None ∷ [] in
-    asking_comes function [] (pos 33) (pos 12) more (event.Got 1 (got.Value (object 6)) ∷ shows (object 6) (answered a (ended r))) (lit< tt) (_, refl, (_, refl, refl)) (
-      sum_comes function plan (pos 33) (pos 12) more asking (state_after start asking) 1 (got.Value (object 6)) refl refl refl refl,
-      ((refl, refl), ((refl, (request.Show (object 6), refl, (Has payload.None, inl (Has payload.None, refl, refl), n))), ((refl, refl), ((refl, refl, (_, got.Value r, refl, refl, (_, _, refl, refl))), tt)))),
+    asking_comes function [] (pos 33) (pos 12) more (event.Got 1 (got.Value (object 6)) ∷ shows (object 6) (answered a (ended r))) (lit< tt) (runs _ _ _ _ _ _ _ refl refl refl refl) (
+      sum_comes function plan (pos 33) (pos 12) more asking 1 (got.Value (object 6)) refl refl refl refl,
+      ((refl, refl), ((refl, (Has payload.None, (request.Show (object 6), refl, inl (Has payload.None, refl, refl)), n)), ((refl, refl), ((refl, refl, (Is r, (_, refl, (refl, refl)), refl)), tt)))),
     )
 
 shown_traced : (a r : Obj) → IsNone r → IsTrace (anywhere objects (object 2)) function (object 3 ∷ object 4 ∷ []) (own_events 1 (events_by (object 6) a r))
@@ -90,7 +90,7 @@ pub any_none : (a r : Obj) → IsNone a → IsNone r → IsRunOf trees drives ob
 any_none a r n m =
     record {
       asked = call ∷ [];
-      are_asked = (((refl, (refl, (refl, tt))), refl), tt);
+      are_asked = (asks_numbers function (pos 33) (pos 12) (payload.Int (pos 45) ∷ payload.None ∷ []) (events_by (object 6) a r) refl, tt);
       globals = object 2;
       are_globals = are_globals function (payload.Int (pos 33) ∷ payload.Int (pos 12) ∷ payload.Frame 0 ∷ payload.Int (pos 45) ∷ payload.None ∷ []) refl;
       run =
@@ -159,14 +159,15 @@ no_show_twice r =
     cc e.3
 
 -- what is shown is answered by None
-gives_none : (plan : Plan) (store : List Payload) (before : List Event) (s : State) (v : Obj) (w : GotAnswer) → ((r : Request) × (Some (request.Show v) ≡ Some r) × IsAnswered plan store before s Asking r w) → Gives store before (Has payload.None) w
-gives_none plan store before s v w h =
-    let answered = subst (λ (r : Request). IsAnswered plan store before s Asking r w) (sym (some_is _ _ h.1)) h.2 in
-    subst (λ (reply : Reply). Gives store before reply w) (replied _ _ _ store (request.Show v) answered.0 (λ f vs e. cc) (λ e. cc) answered.1) answered.2
+gives_none : (plan : Plan) (store : List Payload) (p : Past) (v : Obj) (w : GotAnswer)
+    → ((reply : Reply) × ((r : Request) × (Some (request.Show v) ≡ Some r) × IsReply plan store p Asking r reply) × GivesBody store p.events reply w) → GivesBody store p.events (Has payload.None) w
+gives_none plan store p v w (reply, (r, asks, replies), gives) =
+    let says = subst (λ (x : Request). IsReply plan store p Asking x reply) (sym (some_is _ _ asks)) replies in
+    subst (λ (x : Reply). GivesBody store p.events x w) (replied (setting plan p) store (request.Show v) reply (λ f vs e. cc) (λ e. cc) says) gives
 
 pub no_other_answer : IsRunOf trees drives objects (events_by (object 6) (object 6) (object 7)) → ⊥
 no_other_answer r =
-    let e = gives_none (plan_of trees r.asked) objects (summed (shows (object 6) [])) (state_after start (summed (shows (object 6) []))) (object 6) (got.Value (object 6)) r.run.comes.1.1.1.1.1.1.0.1 in
+    let e = gives_none (plan_of trees r.asked) objects (past_behind at_first (summed (shows (object 6) []))) (object 6) (got.Value (object 6)) r.run.comes.1.1.1.1.1.1.0.1 in
     cc
 
 returned_one : (at at' : ℕ) (v w : Obj) → Ends at (ending.Return v) ≡ Ends at' (ending.Return w) → v ≡ w
@@ -183,14 +184,14 @@ raise_traced : RaiseIsTraced function [] 2 4 (exception 8)
 raise_traced = (refl, (_, refl, (tt, inr (inr (2, _, refl, refl, inr (4, got.Raise (exception 8), _, refl, inr (2, refl)))))))
 
 pub raise_ends : IsRunOf trees (overflowing ∷ []) overflow_objects (overflow_by (exception 8))
-raise_ends = overflow_run function refl (_, refl, (_, refl, refl)) raise_traced
+raise_ends = overflow_run function refl (runs _ _ _ _ _ _ _ refl refl refl refl) raise_traced
 
 pub raise_text : events_text overflow_objects [] (overflow_by (exception 8)) ≡ codes "1 raises OverflowError: integer out of range\n"
 raise_text =
-    let asking = entered 1 (asked 1 (object 3) (object 4) []) in
+    let asking : Past = past_behind at_first (entered 1 (asked 1 (object 3) (object 4) [])) in
     append-nil (result_text overflow_objects 1 (answer.Raises (exception 8)))
-    ∙ overflow_line trees overflow_objects raise_ends.are_objects asking (exception 8)
-    (gives_sum (plan_of trees raise_ends.asked) overflow_objects asking (state_after start asking) (object 3) (object 4) greatest (pos 1) (got.Raise (exception 8)) refl refl raise_ends.run.comes.1.1.1.1.0.1)
+    ∙ overflow_line trees overflow_objects raise_ends.are_objects asking.events (exception 8)
+    (gives_sum (plan_of trees raise_ends.asked) overflow_objects asking (object 3) (object 4) greatest (pos 1) (got.Raise (exception 8)) refl refl raise_ends.run.comes.1.1.1.1.0.1)
 
 pub no_show_behind_a_raise : IsRunOf trees (overflowing ∷ []) overflow_objects shown_behind_raise → ⊥
 unfolding own_from told_by

@@ -9,6 +9,9 @@ use Rattle.py_objects.specs.declared.payload.ClassBody.{ClassBody}
 use Rattle.py_objects.specs.declared.payload.FunctionBody.{FunctionBody}
 use Rattle.py_objects.specs.declared.payload.ManagerBody.{ManagerBody}
 use Rattle.py_objects.specs.declared.error_kind.ErrorKind.{ErrorKind}
+use Rattle.py_objects.specs.declared.request.Keywords.TheVariants as keywords
+use Rattle.py_objects.specs.declared.request.Request.{Request}
+use Rattle.py_objects.specs.declared.request.Request.TheVariants as request
 use Rattle.py_objects.specs.declared.event.DriveAnswer.{DriveAnswer}
 use Rattle.py_objects.specs.declared.event.DriveAnswer.TheVariants as answer
 use Rattle.py_objects.specs.declared.event.Event.{Event}
@@ -18,6 +21,7 @@ use Rattle.py_objects.specs.Objects.{Obj, HasPayload, as_object, declared, AllFi
 use Rattle.py_code.specs.Codes.{Codes}
 use Rattle.py_code.specs.declared.code.PyCode.{PyCode}
 use Rattle.py_check.specs.declared.note.Note.{Note}
+use Rattle.py_rows.specs.Signature.{kind_of}
 use Rattle.py_laid.specs.Fits.{Fits}
 use Rattle.py_tree.specs.Tree.{Tree}
 use Rattle.py_tree.specs.Scene.{anywhere}
@@ -28,8 +32,6 @@ use Rattle.py_lines.specs.declared.drive.DriveLine.{DriveLine}
 use Rattle.py_lines.specs.declared.drive.DriveLine.TheVariants as drive
 use Rattle.py_grammar.specs.declared.script.Script.{Script}
 use Rattle.py_grammar.specs.Script.{trees_of, IsScript}
-use Rattle.py_run.specs.declared.drive.Drive.{Drive as Question}
-use Rattle.py_run.specs.declared.drive.Drive.TheVariants as question
 use Rattle.py_exceptions.specs.BuiltIn.{IsClassOf}
 use Rattle.py_vm.specs.declared.journal.Journal.{Journal}
 use Rattle.py_run.specs.Calls.{Signature}
@@ -62,13 +64,13 @@ IsOf objects events (atom.Drive n) v = IsLeftBy objects events n v
 abbrev pub AreOf : List Payload → List Event → List DriveAtom → List Obj → Type 0
 AreOf objects events atoms vs = AllZip (IsOf objects events) atoms vs
 
--- the question that a drive of a script asks
-abbrev pub AsksThis : List Payload → List Event → DriveLine → Question → Type 0
-AsksThis objects events (drive.Call f args) (question.Call g vs) = (declared objects f ≡ Some g) × AreOf objects events args vs
+-- the request that a drive of a script makes
+abbrev pub AsksThis : List Payload → List Event → DriveLine → Request → Type 0
+AsksThis objects events (drive.Call f args) r = (g : Obj) × (vs : List Obj) × (r ≡ request.Call g vs keywords.None) × (declared objects f ≡ Some g) × AreOf objects events args vs
 
--- the same, asked by a host that has entered nothing
+-- the same, made by a host that has entered nothing
 abbrev pub Asks : List Payload → List Event → DriveLine → Posed → Type 0
-Asks objects events d q = AsksThis objects events d q.drive × (q.entered ≡ 0)
+Asks objects events d q = AsksThis objects events d q.request × (q.entered ≡ 0)
 
 -- the questions of a script's drives in order, as far as they were begun
 abbrev pub AreAsked : List Payload → List Event → List DriveLine → List Posed → Type 0
@@ -76,9 +78,9 @@ AreAsked objects events ds [] = Unit {0}
 AreAsked objects events [] (q ∷ qs) = ⊥
 AreAsked objects events (d ∷ ds) (q ∷ qs) = Asks objects events d q × AreAsked objects events ds qs
 
--- the signature of a function
+-- the signature of a function; no activation of a script's functions can be suspended so far, since no statement yields
 abbrev pub signature_of : Tree → Signature
-signature_of t = record { params = t.params }
+signature_of t = record { params = t.params; kind = None }
 
 -- what a run of these declarations is of, where the drives that were begun ask this
 abbrev pub plan_of : List Tree → List Posed → Plan
@@ -130,10 +132,11 @@ pub record IsRun (s : Script) (j : Journal) : Type 0 where
 abbrev pub IsWhole : Script → Journal → Type 0
 IsWhole s j = IsDone (length s.drives) j.events
 
--- there is a code for each body, and the one at its place fits it, with some notes
+-- there is a code for each body, and the one at its place fits it, with some notes; activations of codes can't be suspended, as those of bodies can't
 pub record AreCompiled (ts : List Tree) (cs : Codes) : Type 0 where
   pub count : length cs.codes ≡ length ts
   pub fit : (i : ℕ) (t : Tree) → slice_get ts i ≡ Some t → (c : PyCode) × (slice_get cs.codes i ≡ Some c) × ((notes : List Note) × Fits cs.names (record { code = c; notes = notes }) t)
+  pub run_through : (i : ℕ) (c : PyCode) → slice_get cs.codes i ≡ Some c → kind_of c.code.flags ≡ None
 
 -- the journal's codes are those of the script's bodies, which they fit, and each activation's own events, with their
 -- units, are a run of the rows of its code

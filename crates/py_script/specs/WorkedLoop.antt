@@ -13,11 +13,11 @@ use Rattle.py_objects.specs.declared.event.Event.TheVariants as event
 use Rattle.py_objects.specs.declared.error_kind.ErrorKind.{ErrorKind}
 use Rattle.py_objects.specs.declared.error_kind.ErrorKind.TheVariants.{NameError}
 use Rattle.py_objects.specs.Objects.{Obj, Name}
+use Rattle.py_objects.specs.Singletons.{none_object}
 use Rattle.py_tree.specs.declared.expr.Atom.TheVariants as atom
 use Rattle.py_tree.specs.Tree.{Suite, Show, While, nothing, first, Tree}
 use Rattle.py_lines.specs.declared.drive.DriveLine.{DriveLine}
 use Rattle.py_lines.specs.declared.drive.DriveLine.TheVariants as drive
-use Rattle.py_script.specs.Session.{none_object}
 use Rattle.py_script.specs.Worked.{object, exception, exception_entry, function_entry, loaded}
 
 -- the bytes of the script whose loop doesn't end

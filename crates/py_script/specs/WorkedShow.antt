@@ -10,12 +10,12 @@ use Rattle.py_objects.specs.declared.event.Event.{Event}
 use Rattle.py_objects.specs.declared.event.Event.TheVariants as event
 use Rattle.py_objects.specs.declared.error_kind.ErrorKind.TheVariants.{OverflowError}
 use Rattle.py_objects.specs.Objects.{Obj}
+use Rattle.py_objects.specs.Singletons.{none_object}
 use Rattle.py_tree.specs.declared.expr.Atom.TheVariants as atom
 use Rattle.py_tree.specs.declared.expr.Operation.TheVariants as operation
 use Rattle.py_tree.specs.declared.expr.Expr.TheVariants as expr
 use Rattle.py_tree.specs.Tree.{Tree, Assign, Show, nothing, first}
 use Rattle.py_lines.specs.declared.drive.DriveLine.{DriveLine}
-use Rattle.py_script.specs.Session.{none_object}
 use Rattle.py_script.specs.Worked.{call_of, overflowing_of, object, exception, function_entry, objects_of, entered, asked, raising_by}
 
 -- the bytes of the script

@@ -2,7 +2,7 @@
 
 ghost use Rattle.std.specs.Prelude.{◌≡◌, ◌+◌, ◌≤◌, ◌^◌, ◌⊎◌};
 ghost use Rattle.std.specs.Io.KnownBytes.{Appends};
-ghost use Rattle.py_outside.specs.Faults.{Rose};
+ghost use Rattle.py_exceptions.specs.Faults.{Rose};
 ghost use Rattle.py_script.specs.Causes.{IsAnswer, IsEnding, status_in, note_in};
 
 use crate::fault::{CommandResult, Ended, ScriptFault};
@@ -11,7 +11,8 @@ use crate::read::read_script;
 use crate::session::run_drives;
 use crate::words::{Command, Words, command_of};
 use crate::write::write_text;
-use py_outside::{Sink, Source};
+use py_exceptions::Sink;
+use py_outside::Source;
 use py_vm::{Journal, VmFault};
 use std::alloc::Global;
 

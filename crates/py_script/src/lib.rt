@@ -24,13 +24,11 @@ mod write;
 pub use command::{run_command, run_script};
 pub use fault::{CommandResult, Ended, ScriptFault, Summary};
 pub use journal::journal_text;
+pub use py_exceptions::{Sink, SinkMemory, StdSink, WriteFailed};
 pub use py_grammar::{
     DeclList, Declaration, DriveLine, DriveList, ParseFault, Script, parse_script,
 };
-pub use py_outside::{
-    ReadFailed, Sink, SinkMemory, Source, SourceMemory, StdSink, StdSource, WriteFailed,
-    read_bytes, write_bytes,
-};
+pub use py_outside::{ReadFailed, Source, SourceMemory, StdSource, read_bytes, write_bytes};
 pub use py_vm::Journal;
 pub use words::{Command, Words, command_of};
 pub use worked::worked_journals;

@@ -1,12 +1,14 @@
 //! A journal of functions that call that was worked by hand, and what the definitions say of it.
 
-ghost use Rattle.std.specs.Prelude.{◌≡◌, [], ◌∷◌, List, codes};
+ghost use Rattle.std.specs.Prelude.{◌≡◌, [], ◌∷◌, List, None, codes};
 ghost use Rattle.py_objects.specs.declared.payload.Payload.{Payload};
 ghost use Rattle.py_objects.specs.Objects.{Obj};
 ghost use Rattle.py_grammar.specs.Lines.{lines};
 ghost use Rattle.py_grammar.specs.Script.{Spells};
-ghost use Rattle.py_run.specs.Calls.{Enters, Calls};
-ghost use Rattle.py_run.specs.Run.{Plan, State, depth, IsDone};
+ghost use Rattle.py_objects.specs.declared.request.Keywords.TheVariants as keywords;
+ghost use Rattle.py_objects.specs.declared.request.Request.TheVariants as request;
+ghost use Rattle.py_run.specs.Calls.{Enters, CallsFunction, ComesTo};
+ghost use Rattle.py_run.specs.Run.{Plan, Past, depth, setting, IsDone};
 ghost use Rattle.py_script.specs.Whole.{AreGlobals, IsRunOf};
 ghost use Rattle.py_script.specs.Text.{events_text};
 ghost use Rattle.py_script.specs.Worked.{object};
@@ -34,7 +36,8 @@ pub fn worked_calls()
     ensures no_other_object_of_a_drive { IsRunOf trees drives objects (again (object 0) []) → ⊥ }
     // What is refused is never made.
     ensures no_activation_of_a_refused_drive { IsRunOf trees drives objects refused_made → ⊥ }
-    // A function that gets its own number of arguments is entered where 999 activations run, and not where 1000 do.
-    ensures entry_at_999 { (plan : Plan) → (s : State) → (store : List Payload) → (f : Obj) → (vs : List Obj) → IsFull plan store f vs → depth plan s ≡ 999 → Calls plan.signatures (depth plan s) store f vs Enters }
-    ensures no_entry_at_1000 { (plan : Plan) → (s : State) → (store : List Payload) → (f : Obj) → (vs : List Obj) → IsFull plan store f vs → depth plan s ≡ 1000 → Calls plan.signatures (depth plan s) store f vs Enters → ⊥ }
+    // A function whose activations can't be suspended, and that gets its own number of arguments, is entered where 999 activations run; where
+    // 1000 run, its call enters nothing.
+    ensures entry_at_999 { (plan : Plan) → (p : Past) → (store : List Payload) → (f : Obj) → (vs : List Obj) → (full : IsFull plan store f vs) → full.signature.kind ≡ None → depth plan p.state ≡ 999 → CallsFunction (setting plan p) store f vs (Enters f vs) }
+    ensures no_entry_at_1000 { (plan : Plan) → (p : Past) → (store : List Payload) → (f : Obj) → (vs : List Obj) → (g : Obj) → (ws : List Obj) → IsFull plan store f vs → depth plan p.state ≡ 1000 → ComesTo (setting plan p) store (request.Call f vs keywords.None) (Enters g ws) → ⊥ }
 {}

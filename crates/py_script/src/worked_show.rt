@@ -3,11 +3,11 @@
 ghost use Rattle.std.specs.Prelude.{◌≡◌, [], ◌∷◌, codes};
 ghost use Rattle.py_objects.specs.declared.payload.Payload.TheVariants as payload;
 ghost use Rattle.py_objects.specs.Objects.{Obj, HasPayload};
+ghost use Rattle.py_objects.specs.Singletons.{none_object};
 ghost use Rattle.py_grammar.specs.Lines.{lines};
 ghost use Rattle.py_grammar.specs.Script.{Spells};
 ghost use Rattle.py_run.specs.Run.{IsDone};
 ghost use Rattle.py_script.specs.Whole.{IsRunOf};
-ghost use Rattle.py_script.specs.Session.{none_object};
 ghost use Rattle.py_script.specs.Text.{events_text};
 ghost use Rattle.py_script.specs.Worked.{object, exception, overflow_by};
 ghost use Rattle.py_script.specs.WorkedShow.{script, trees, drives, objects, shows, events_by, events, without_show, shown_twice, overflowing, overflow_objects, shown_behind_raise};

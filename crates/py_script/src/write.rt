@@ -4,7 +4,8 @@ ghost use Rattle.py_script.specs.Steps.{IsWriting};
 
 use crate::fault::ScriptFault;
 use crate::journal::journal_text;
-use py_outside::{Sink, write_bytes};
+use py_exceptions::Sink;
+use py_outside::write_bytes;
 use py_vm::Journal;
 use std::alloc::Global;
 

@@ -3,29 +3,28 @@ use Rattle.std.proofs.Common.{◌≡◌, ◌≤◌, ◌+◌, ◌++◌, ℕ, List
 use Rattle.std.specs.Prelude.{Option, None, slice_get, codes}
 use Rattle.py_objects.specs.declared.payload.Payload.{Payload}
 use Rattle.py_objects.specs.declared.payload.Payload.TheVariants as payload
-use Rattle.py_objects.specs.declared.payload.ClassBody.{ClassBody}
 use Rattle.py_objects.specs.declared.edit.Change.{Change}
 use Rattle.py_objects.specs.declared.edit.Edit.TheVariants as edit
-use Rattle.py_objects.specs.Objects.{Obj, Name, declared, payload_numbers, AllBelow, IsMade, AllFit}
+use Rattle.py_objects.specs.Objects.{Obj, Name, payload_numbers, AllBelow, IsMade, AllFit}
 use Rattle.py_objects.specs.Growth.{Grows, GrowsPlainly, IsGrown, with_object}
 use Rattle.py_objects.specs.Attrs.{Attrs, inserted}
 use Rattle.py_objects.specs.Edits.{Kept}
 use Rattle.py_objects.specs.Originals.{IsDict}
 use Rattle.py_check.specs.declared.annotated.Annotated.{Annotated}
-use Rattle.py_objects.proofs.GrowthLemmas.{made_grown, below_more, length_grown, declared_grown, plainly_grows, grows_plainly_refl, grows_plainly_by, declared_stays}
+use Rattle.py_objects.proofs.GrowthLemmas.{made_grown, below_more, length_grown, plainly_grows, grows_plainly_refl, grows_plainly_by, declared_stays}
 use Rattle.py_vm.specs.declared.stage.Stage.{Stage}
 use Rattle.py_vm.specs.declared.stage.Stage.TheVariants as stage
 use Rattle.py_vm.specs.declared.machinery.Core.{Core}
 use Rattle.py_vm.specs.Codes.{Checked, IsRunnable}
 use Rattle.py_vm.specs.Declaring.{first_name, added_as, IsAddable, IsPutInto}
 use Rattle.py_vm.specs.Holds.{IsCoded, AreRunnable}
-use Rattle.py_answers.specs.Readable.{ChangeDicts, AreFirst}
+use Rattle.py_answers.specs.Readable.{ChangeDicts}
 use Rattle.py_vm.specs.Stands.{AreStored, AreCallers, AtStage, frames_at, IsTold, Keeps, IsIdle}
 use Rattle.py_vm.proofs.RowsOfLemmas.{tells_behind_code}
 use Rattle.py_objects.proofs.GrownLemmas.{objects_grow}
-use Rattle.py_vm.proofs.DeclaringLemmas.{AreDeclared, declared_new, one_more, named_declared, still_declared}
+use Rattle.py_vm.proofs.DeclaringLemmas.{AreDeclared, one_more, named_declared, still_declared}
 use Rattle.py_exceptions.proofs.ClassesLemmas.{classes_grown}
-use Rattle.py_vm.proofs.KeepsLemmas.{truths_stay, dict_grown, first_on, stored_on, runnable_on, told_still}
+use Rattle.py_vm.proofs.KeepsLemmas.{dict_grown, stored_on, runnable_on, told_still}
 use Rattle.py_vm.proofs.NestedLemmas.{frames_still}
 
 -- between drives nothing waits, and no frame is left
@@ -46,7 +45,7 @@ with_parts m entered store codes globals names = record m { store = store; codes
 
 -- between drives it keeps what these keep
 idle_with : (m : Core) (entered : ℕ) (store : Kept) (codes : Checked) (globals : Obj) (names : Attrs) → Grows m.store.made store.made
-    → AreStored m.exceptions globals names store → store.mark ≤ length m.events → AreRunnable codes store.made → IsTold codes globals store.made m.events m.made
+    → AreStored m.zoo globals names store → store.mark ≤ length m.events → AreRunnable codes store.made → IsTold codes globals store.made m.events m.made
     → IsIdle m → IsIdle (with_parts m entered store codes globals names)
 idle_with m entered store codes globals names grows stored marked runnable told idle =
     let k = idle.keeps in
@@ -63,7 +62,7 @@ idle_with m entered store codes globals names grows stored marked runnable told 
           apart = k.nested.apart;
           frames = k.nested.frames;
           are_frames = frames_still m.store.made store.made m.frames grows k.nested.are_frames;
-          slot = k.nested.slot;
+          slots = k.nested.slots;
         };
         at_stage = subst (AtStage codes globals store.made m.events m.made m.callers) (sym idle.idle) none;
       };
@@ -80,7 +79,7 @@ grown_idle m store grown idle =
     let k = idle.keeps in
     let grows : Grows m.store.made store.made = objects_grow m.store store grown in
     let mark : store.mark ≡ m.store.mark = ap (λ (s : Kept). s.mark) grown.others in
-    idle_with m m.entered store m.codes m.globals m.declarations grows (stored_on m.exceptions m.globals m.declarations m.store store grown k.stored)
+    idle_with m m.entered store m.codes m.globals m.declarations grows (stored_on m.zoo m.globals m.declarations m.store store grown k.stored)
     (subst (λ n. n ≤ length m.events) (sym mark) k.marked) (runnable_on m.codes m.store.made store.made grown.objects k.runnable)
     (told_still m.codes m.globals m.store.made store.made m.events m.made grows (grown.objects.fit k.stored.readable.fit) k.told) idle
 
@@ -122,26 +121,13 @@ fit_added objects q fit below made i p here =
       | inr (last, same) ↦ subst (λ r. AllBelow (length (objects ++ q ∷ [])) (payload_numbers r) × IsMade (objects ++ q ∷ []) r) same (below_more _ _ _ longer below, made_grown _ _ q grows made)
     ]
 
--- a class that comes is the first of its name
-class_new : (m : Core) (q : Payload) (b : ClassBody) → q ≡ payload.Class b → IsAddable m.store.made (length m.codes.codes) q → declared m.store.made b.name ≡ None
-class_new m q b is addable = subst (IsAddable m.store.made (length m.codes.codes)) is addable
-
 -- an entry that comes names a code that is there
-addable_coded : (m : Core) (q : Payload) → IsAddable m.store.made (length m.codes.codes) q → IsCoded (length m.codes.codes) q
-addable_coded m (payload.Function b) addable = addable
-addable_coded m _ addable = tt
-
--- each class is the first of its name also among one object more
-first_added : (m : Core) (q : Payload) → IsAddable m.store.made (length m.codes.codes) q → AreFirst m.store.made → AreFirst (m.store.made ++ q ∷ [])
-first_added m q addable first c b here =
-    let objects : List Payload = m.store.made in
-    elim (one_more objects q (payload.Class b) c.number here) [
-      | inl front ↦ declared_grown objects (objects ++ q ∷ []) b.name c (q ∷ [], refl) (first c b front)
-      | inr (last, is) ↦ declared_new objects q b is (class_new m q b is addable) ∙ ap (λ n. let o : Obj = record { number = n } in Some o) (sym last)
-    ]
+addable_coded : (n : ℕ) (q : Payload) → IsAddable n q → IsCoded n q
+addable_coded n (payload.Function b) addable = addable
+addable_coded n _ addable = tt
 
 -- so is a machine with one more object, and the names that are declared then
-object_idle : (m : Core) (names : Attrs) (p : Payload) → AllBelow (length m.store.made) (payload_numbers p) → IsMade m.store.made p → IsAddable m.store.made (length m.codes.codes) p
+object_idle : (m : Core) (names : Attrs) (p : Payload) → AllBelow (length m.store.made) (payload_numbers p) → IsMade m.store.made p → IsAddable (length m.codes.codes) p
     → AreDeclared names (m.store.made ++ p ∷ []) → IsIdle m → IsIdle (record m { store = with_object m.store p; declarations = names })
 object_idle m names p below made addable are idle =
     let k = idle.keeps in
@@ -151,9 +137,8 @@ object_idle m names p below made addable are idle =
     let fit : AllFit more = fit_added objects p k.stored.readable.fit below made in
     idle_with m m.entered (with_object m.store p) m.codes m.globals names grows
     (record {
-      readable = record { dicts = λ i c here. dict_grown objects more c.object grows (k.stored.readable.dicts i c here); fit = fit; first = first_added m p addable k.stored.readable.first };
-      truths = truths_stay objects more grows k.stored.truths;
-      classes = classes_grown m.exceptions objects more grows k.stored.classes;
+      readable = record { dicts = λ i c here. dict_grown objects more c.object grows (k.stored.readable.dicts i c here); fit = fit };
+      classes = classes_grown m.zoo objects more grows k.stored.classes;
       dict = dict_grown objects more m.globals grows k.stored.dict;
       names_are = are;
     }) k.marked
@@ -161,13 +146,13 @@ object_idle m names p below made addable are idle =
       each = k.runnable.each;
       coded = λ i q here. elim (one_more objects p q i here) [
         | inl front ↦ k.runnable.coded i q front
-        | inr (last, same) ↦ subst (IsCoded (length m.codes.codes)) same (addable_coded m p addable)
+        | inr (last, same) ↦ subst (IsCoded (length m.codes.codes)) same (addable_coded (length m.codes.codes) p addable)
       ];
     }) (told_still m.codes m.globals objects more m.events m.made grows fit k.told) idle
 
 -- by the name that it is the first to be declared under
 pub added_idle : (m : Core) (p : Payload) (v : Obj) (d : Option Name) → first_name p m.declarations ≡ d → v.number ≡ length m.store.made
-    → AllBelow (length m.store.made) (payload_numbers p) → IsMade m.store.made p → IsAddable m.store.made (length m.codes.codes) p → IsIdle m → IsIdle (added_as d m p v)
+    → AllBelow (length m.store.made) (payload_numbers p) → IsMade m.store.made p → IsAddable (length m.codes.codes) p → IsIdle m → IsIdle (added_as d m p v)
 added_idle m p v None first last below made addable idle =
     object_idle m m.declarations p below made addable (still_declared m.store.made p m.declarations idle.keeps.stored.names_are first) idle
 added_idle m p v (Some x) first last below made addable idle =
@@ -201,10 +186,8 @@ put_idle m store dict x v put is_dict idle =
       readable = record {
         dicts = put_dicts m.store store (length m.events) dict x v put is_dict k.stored.readable.dicts;
         fit = plainly.fit k.stored.readable.fit;
-        first = first_on m.store.made store.made plainly k.stored.readable.first;
       };
-      truths = truths_stay m.store.made store.made grows k.stored.truths;
-      classes = classes_grown m.exceptions m.store.made store.made grows k.stored.classes;
+      classes = classes_grown m.zoo m.store.made store.made grows k.stored.classes;
       dict = dict_grown m.store.made store.made m.globals grows k.stored.dict;
       names_are = λ y. k.stored.names_are y ∙ sym (declared_stays m.store.made store.made y plainly);
     }) (put_marked m.store store (length m.events) dict x v put) (runnable_on m.codes m.store.made store.made plainly k.runnable)

@@ -1,6 +1,6 @@
 -- Codes of units that ask only what the machine answers.
 use Rattle.std.proofs.Common.{◌≡◌, ◌≢◌, ◌∙◌, ℕ, true, false, refl, sym}
-use Rattle.std.specs.Prelude.{Bool, Option, Some, slice_get}
+use Rattle.std.specs.Prelude.{Bool, Option, Some, None, slice_get}
 use Rattle.py_code.specs.declared.code.PyCode.{PyCode}
 use Rattle.py_code.specs.declared.instruction.Instruction.{Instruction}
 use Rattle.py_code.specs.declared.instruction.Instruction.TheVariants.{LoadFast, DeleteFast, LoadGlobal, BinaryOperation, CompareOperation, TestOperation, CallFunctionPositional, PrintExpr, JumpIfTrue, JumpIfFalse, SetupWith, WithCleanupStart, WithCleanupFinish, Raise, SetupExcept, SetupFinally, YieldValue}
@@ -10,7 +10,9 @@ use Rattle.py_code.specs.declared.unit.CodeUnit.{CodeUnit}
 use Rattle.py_objects.specs.declared.request.Request.{Request}
 use Rattle.py_objects.specs.declared.request.Request.TheVariants as request
 use Rattle.py_rows.specs.Questions.{raise_of, may_raise, may_ask}
-use Rattle.py_vm.specs.Codes.{is_answered, is_later, CodeIsAnswered}
+use Rattle.py_rows.specs.Signature.{kind_of}
+use Rattle.py_answers.specs.Replying.{is_answered}
+use Rattle.py_vm.specs.Codes.{is_later, CodeIsAnswered}
 
 -- what a raise asks that has no cause
 raise_answered : (k : Option RaiseKind) (q : Request) → k ≢ Some raise.RaiseCause → may_raise k q ≡ true → is_answered q ≡ true
@@ -51,6 +53,6 @@ module _ (is_used : Instruction → ℕ → Bool) (no_test : (arg : ℕ) → is_
   unit_runs YieldValue arg used = absurd (never YieldValue arg (no_yield arg) used)
   unit_runs _ arg used = refl
 
-  -- so are all questions of a code whose units are all such
-  pub code_answered : (code : PyCode) → ((at : ℕ) (u : CodeUnit) → slice_get code.code.instructions.items at ≡ Some u → is_used u.op u.arg ≡ true) → CodeIsAnswered code
-  code_answered code uses = λ at u here. (unit_answered u.op u.arg (uses at u here), unit_runs u.op u.arg (uses at u here))
+  -- so are all questions of a code whose units are all such, and whose activations run through
+  pub code_answered : (code : PyCode) → ((at : ℕ) (u : CodeUnit) → slice_get code.code.instructions.items at ≡ Some u → is_used u.op u.arg ≡ true) → kind_of code.code.flags ≡ None → CodeIsAnswered code
+  code_answered code uses through = record { units = λ at u here. (unit_answered u.op u.arg (uses at u here), unit_runs u.op u.arg (uses at u here)); runs_through = through }

@@ -1,7 +1,7 @@
 -- What a machine begins with.
-use Rattle.std.proofs.Common.{◌≡◌, ◌<◌, ◌≤◌, ◌+◌, ◌++◌, ℕ, zero, suc, List, [], ◌∷◌, true, false, Some, inl, inr, refl, sym, ap, subst, ◌∙◌, length, append_assoc, arith}
+use Rattle.std.proofs.Common.{◌≡◌, ◌<◌, ◌≤◌, ◌+◌, ◌^◌, ◌++◌, ℕ, zero, suc, List, [], ◌∷◌, true, false, Some, inl, inr, refl, sym, ap, subst, ◌∙◌, length, append_assoc, arith}
 use Rattle.std.specs.Prelude.{Option, None, slice_get, option_map}
-use Rattle.std.proofs.lemmas.Option.{slice_get-map}
+use Rattle.std.proofs.lemmas.Option.{same_Some, slice_get-map}
 use Rattle.py_objects.specs.declared.payload.Payload.{Payload}
 use Rattle.py_objects.specs.declared.payload.Payload.TheVariants as payload
 use Rattle.py_objects.specs.declared.error_kind.ErrorKind.{ErrorKind}
@@ -18,15 +18,22 @@ use Rattle.py_exceptions.specs.Classes.{class_of, class_payload, class_payloads,
 use Rattle.py_exceptions.proofs.ClassesLemmas.{classes_there, mro_there, mro_below, value_declared}
 use Rattle.py_objects.proofs.ErrorKindsLemmas.{place_at, place_below}
 use Rattle.py_objects.proofs.GrowthLemmas.{below_more, slice_get_split, one_entry}
-use Rattle.py_vm.specs.First.{first_objects, first_globals, singletons, HaveTruths}
+use Rattle.py_objects.specs.Singletons.{singletons}
+use Rattle.py_vm.specs.First.{first_objects, first_globals}
 use Rattle.py_vm.specs.Machine.{Machine, new_machine}
 use Rattle.py_vm.specs.Holds.{IsCoded}
-use Rattle.py_answers.specs.Readable.{AreFirst}
 use Rattle.py_vm.specs.Stands.{AreCallers, AreApart, AtStage, phase_of, acts_of, frames_at, slot_at, IsIdle, seen}
 use Rattle.py_run.proofs.OwnLemmas.{own_events-nil}
 use Rattle.py_objects.proofs.GrownLemmas.{added_made}
 use Rattle.py_objects.specs.Growth.{with_object}
 use Rattle.py_objects.proofs.NewLemmas.{added_has}
+
+-- what holds of None, False and True, each at its place
+pub each_single : (P : ℕ → Payload → Type 0) → P 0 payload.None → P 1 (payload.Bool false) → P 2 (payload.Bool true) → (i : ℕ) (p : Payload) → slice_get singletons i ≡ Some p → P i p
+each_single P at_none at_false at_true zero p is = subst (P 0) (same_Some payload.None p is) at_none
+each_single P at_none at_false at_true (suc zero) p is = subst (P 1) (same_Some (payload.Bool false) p is) at_false
+each_single P at_none at_false at_true (suc (suc zero)) p is = subst (P 2) (same_Some (payload.Bool true) p is) at_true
+each_single P at_none at_false at_true (suc (suc (suc i))) p is = absurd (cc is)
 
 -- what holds of each of the first objects at its place: of what every store begins with, of the class of each kind, and of an empty dict
 pub each_first : (P : ℕ → Payload → Type 0) → ((i : ℕ) (p : Payload) → slice_get singletons i ≡ Some p → P i p)
@@ -51,25 +58,12 @@ each_first P single class dict (suc (suc (suc i))) p is =
         subst (P (3 + i)) same (subst (λ n. P n (class_payload first_classes kind)) place (class kind))
 
 -- None, False and True declare nothing
-pub singles_plain : DeclareNothing singletons
-singles_plain zero p is = ap declares (let same : p ≡ payload.None = cc in same)
-singles_plain (suc zero) p is = ap declares (let same : p ≡ payload.Bool false = cc in same)
-singles_plain (suc (suc zero)) p is = ap declares (let same : p ≡ payload.Bool true = cc in same)
-singles_plain (suc (suc (suc i))) p is = absurd (cc is)
-
-first_truths : HaveTruths first_objects
-first_truths false = refl
-first_truths true = refl
+singles_plain : DeclareNothing singletons
+singles_plain i p is = each_single (λ n q. declares q ≡ None) refl refl refl i p is
 
 -- an entry among the first objects fits
 abbrev FitsFirst : ℕ → Payload → Type 0
 FitsFirst i p = AllBelow (length first_objects) (payload_numbers p) × IsMade first_objects p
-
-single_fits : (i : ℕ) (p : Payload) → slice_get singletons i ≡ Some p → FitsFirst i p
-single_fits zero p is = subst (FitsFirst 0) (let same : payload.None ≡ p = cc in same) (tt, tt)
-single_fits (suc zero) p is = subst (FitsFirst 1) (let same : payload.Bool false ≡ p = cc in same) (tt, tt)
-single_fits (suc (suc zero)) p is = subst (FitsFirst 2) (let same : payload.Bool true ≡ p = cc in same) (tt, tt)
-single_fits (suc (suc (suc i))) p is = absurd (cc is)
 
 class_fits : (kind : ErrorKind) → FitsFirst (class_of first_classes kind).number (class_payload first_classes kind)
 class_fits kind =
@@ -78,7 +72,7 @@ class_fits kind =
 
 -- the objects that a machine begins with fit
 pub first_fit : AllFit first_objects
-first_fit i p is = each_first FitsFirst single_fits class_fits (λ n. (tt, tt)) i p is
+first_fit i p is = each_first FitsFirst (λ j q at. each_single FitsFirst (tt, tt) (tt, tt) (tt, tt) j q at) class_fits (λ n. (tt, tt)) i p is
 
 pub first_have : HaveClasses first_classes first_objects
 first_have = classes_there first_classes singletons (payload.Dict [] ∷ []) refl singles_plain
@@ -89,54 +83,44 @@ first_declared x = value_declared first_classes x (payload.Dict [] ∷ []) (λ j
 
 -- none of them names a code
 first_coded : (i : ℕ) (p : Payload) → slice_get first_objects i ≡ Some p → IsCoded 0 p
-first_coded i p is = each_first (λ n. IsCoded 0) single_coded (λ kind. tt) (λ n. tt) i p is
-  where
-    single_coded : (j : ℕ) (q : Payload) → slice_get singletons j ≡ Some q → IsCoded 0 q
-    single_coded zero q at = subst (IsCoded 0) (let same : payload.None ≡ q = cc in same) tt
-    single_coded (suc zero) q at = subst (IsCoded 0) (let same : payload.Bool false ≡ q = cc in same) tt
-    single_coded (suc (suc zero)) q at = subst (IsCoded 0) (let same : payload.Bool true ≡ q = cc in same) tt
-    single_coded (suc (suc (suc j))) q at = absurd (cc at)
+first_coded i p is = each_first (λ n. IsCoded 0) (λ j q at. each_single (λ n. IsCoded 0) tt tt tt j q at) (λ kind. tt) (λ n. tt) i p is
 
--- each class among them is the first of its name
-abbrev IsFirstAt : ℕ → Payload → Type 0
-IsFirstAt n (payload.Class b) = declared first_objects b.name ≡ Some (record { number = n })
-IsFirstAt n _ = Unit {0}
+-- classes can go behind what every store begins with
+pub singles_take : (made : List Payload) → made ≡ singletons → DeclareNothing made × (length made < 2 ^ 32)
+singles_take made is = (subst DeclareNothing (sym is) singles_plain, let three : length made ≡ 3 = ap length is in omega (arith, three))
 
-are_first_at : (i : ℕ) (p : Payload) → slice_get first_objects i ≡ Some p → IsFirstAt i p
-are_first_at i p is = each_first IsFirstAt single_first (λ kind. (first_have kind).is_declared) (λ n. tt) i p is
-  where
-    single_first : (j : ℕ) (q : Payload) → slice_get singletons j ≡ Some q → IsFirstAt j q
-    single_first zero q at = subst (IsFirstAt 0) (let same : payload.None ≡ q = cc in same) tt
-    single_first (suc zero) q at = subst (IsFirstAt 1) (let same : payload.Bool false ≡ q = cc in same) tt
-    single_first (suc (suc zero)) q at = subst (IsFirstAt 2) (let same : payload.Bool true ≡ q = cc in same) tt
-    single_first (suc (suc (suc j))) q at = absurd (cc at)
-
-first_first : AreFirst first_objects
-first_first c b here = are_first_at c.number (payload.Class b) here
-
--- a store of None, False and True
-pub singles_begin : (s0 s1 s2 : Kept) → s0.made ≡ payload.None ∷ [] → s1 ≡ with_object s0 (payload.Bool false) → s2 ≡ with_object s1 (payload.Bool true) → s2.made ≡ singletons
-singles_begin s0 s1 s2 none is_no is_yes =
-    added_made s1 s2 (payload.Bool true) is_yes ∙ ap (λ os. os ++ payload.Bool true ∷ []) (added_made s0 s1 (payload.Bool false) is_no)
-    ∙ ap (λ os. (os ++ payload.Bool false ∷ []) ++ payload.Bool true ∷ []) none
-
--- and of the classes behind them, which is as unchanged as the one that had None alone
-pub record ClassesBegin (s0 s3 : Kept) (zoo : ExceptionZoo) : Type 0 where
+-- a store of None, False and True and of the classes behind them
+pub record ClassesBegin (s : Kept) (zoo : ExceptionZoo) : Type 0 where
   pub classes : zoo ≡ first_classes
-  pub made : s3.made ≡ singletons ++ class_payloads first_classes
-  pub changes : s3.changes ≡ s0.changes
-  pub mark : s3.mark ≡ s0.mark
+  pub made : s.made ≡ singletons ++ class_payloads first_classes
+  pub unchanged : s.changes ≡ []
+  pub mark : s.mark ≡ 0
 
-pub classes_begin : (s0 s1 s2 s3 : Kept) (zoo : ExceptionZoo) → s0.made ≡ payload.None ∷ [] → s1 ≡ with_object s0 (payload.Bool false) → s2 ≡ with_object s1 (payload.Bool true)
-    → zoo.first ≡ length s2.made → s3 ≡ record s2 { made = s2.made ++ class_payloads zoo } → ClassesBegin s0 s3 zoo
-classes_begin s0 s1 s2 s3 zoo none is_no is_yes first added =
-    let made : s2.made ≡ singletons = singles_begin s0 s1 s2 none is_no is_yes in
+-- what a machine's store has in front of the classes
+pub record SinglesBegin (s : Kept) : Type 0 where
+  pub made : s.made ≡ singletons
+  pub unchanged : s.changes ≡ []
+  pub mark : s.mark ≡ 0
+
+-- a new store that got False and True
+pub singles_begin : (first second third : Kept) → first.made ≡ payload.None ∷ [] → first.changes ≡ [] → first.mark ≡ 0 → second ≡ record first { made = first.made ++ payload.Bool false ∷ [] }
+    → third ≡ record second { made = second.made ++ payload.Bool true ∷ [] } → SinglesBegin third
+singles_begin first second third made unchanged mark one two = record {
+  made = ap (λ (s : Kept). s.made) two ∙ ap (λ (s : Kept). s.made ++ payload.Bool true ∷ []) one ∙ ap (λ os. (os ++ payload.Bool false ∷ []) ++ payload.Bool true ∷ []) made;
+  unchanged = ap (λ (s : Kept). s.changes) two ∙ ap (λ (s : Kept). s.changes) one ∙ unchanged;
+  mark = ap (λ (s : Kept). s.mark) two ∙ ap (λ (s : Kept). s.mark) one ∙ mark;
+}
+
+-- the classes come behind them
+pub classes_begin : (old new : Kept) (zoo : ExceptionZoo) → old.made ≡ singletons → old.changes ≡ [] → old.mark ≡ 0 → zoo.first ≡ length old.made
+    → new ≡ record old { made = old.made ++ class_payloads zoo } → ClassesBegin new zoo
+classes_begin old new zoo made unchanged mark first added =
     let same : zoo ≡ first_classes = ap (λ n. let z : ExceptionZoo = record { first = n } in z) (first ∙ ap length made) in
     record {
       classes = same;
       made = ap (λ (s : Kept). s.made) added ∙ ap (λ os. os ++ class_payloads zoo) made ∙ ap (λ z. singletons ++ class_payloads z) same;
-      changes = ap (λ (s : Kept). s.changes) added ∙ ap (λ (s : Kept). s.changes) is_yes ∙ ap (λ (s : Kept). s.changes) is_no;
-      mark = ap (λ (s : Kept). s.mark) added ∙ ap (λ (s : Kept). s.mark) is_yes ∙ ap (λ (s : Kept). s.mark) is_no;
+      unchanged = ap (λ (s : Kept). s.changes) added ∙ unchanged;
+      mark = ap (λ (s : Kept). s.mark) added ∙ mark;
     }
 
 -- the store that a machine begins with, and the dict of its globals
@@ -145,24 +129,21 @@ pub record Begins (store : Kept) (globals : Obj) : Type 0 where
   pub unchanged : store.changes ≡ []
   pub mark : store.mark ≡ 0
   pub globals_are : HasPayload store.made globals (payload.Dict [])
+  pub place : globals ≡ first_globals
 
 -- an empty dict is put behind the classes
-pub dict_begins : (old new : Kept) (pairs : List (Obj × Obj)) (globals : Obj) → old.made ≡ singletons ++ class_payloads first_classes → old.changes ≡ [] → old.mark ≡ 0
+pub dict_begins : (old new : Kept) (zoo : ExceptionZoo) (pairs : List (Obj × Obj)) (globals : Obj) → ClassesBegin old zoo
     → pairs ≡ [] → new ≡ with_object old (payload.Dict pairs) → globals.number ≡ length old.made → Begins new globals
-dict_begins old new pairs globals made unchanged mark none added last =
+dict_begins old new zoo pairs globals begun none added last =
     let all : new ≡ with_object old (payload.Dict []) = added ∙ ap (λ ps. with_object old (payload.Dict ps)) none in
-    record {
-      objects = added_made old new (payload.Dict []) all ∙ ap (λ os. os ++ payload.Dict [] ∷ []) made ∙ append_assoc singletons (class_payloads first_classes) (payload.Dict [] ∷ []);
-      unchanged = ap (λ (s : Kept). s.changes) all ∙ unchanged;
-      mark = ap (λ (s : Kept). s.mark) all ∙ mark;
-      globals_are = added_has old new (payload.Dict []) globals all last;
-    }
-
--- that dict is the one behind the classes
-pub dict_last : (old : Kept) (globals : Obj) → old.made ≡ singletons ++ class_payloads first_classes → globals.number ≡ length old.made → globals ≡ first_globals
-dict_last old globals made last =
     let long : length (singletons ++ class_payloads first_classes) ≡ 70 = refl in
-    ap (λ n. let v : Obj = record { number = n } in v) (last ∙ ap length made ∙ long)
+    record {
+      objects = added_made old new (payload.Dict []) all ∙ ap (λ os. os ++ payload.Dict [] ∷ []) begun.made ∙ append_assoc singletons (class_payloads first_classes) (payload.Dict [] ∷ []);
+      unchanged = ap (λ (s : Kept). s.changes) all ∙ begun.unchanged;
+      mark = ap (λ (s : Kept). s.mark) all ∙ begun.mark;
+      globals_are = added_has old new (payload.Dict []) globals all last;
+      place = ap (λ n. let v : Obj = record { number = n } in v) (last ∙ ap length begun.made ∙ long);
+    }
 
 -- a machine that has done nothing, as callers see it
 pub seen_first : (m : Core) (names : List Name) → m.store.made ≡ first_objects → m.store.changes ≡ [] → m.codes ≡ record { names = names; codes = [] } → m.globals ≡ first_globals → m.events ≡ [] → m.frames ≡ []
@@ -176,8 +157,8 @@ seen_first m names objects unchanged codes globals no_events no_frames =
     ∙ ap (λ x. let n : Machine = record (new_machine names) { frames = x; entered = m.entered; failed = m.failed; state = m.state } in n) no_frames
 
 -- a machine that has done nothing is between drives
-pub start_idle : (m : Core) → m.events ≡ [] → Begins m.store m.globals → m.codes.codes ≡ [] → m.exceptions ≡ first_classes → m.declarations ≡ declarations_of first_classes → m.done ≡ 0 → m.made ≡ 0
-    → m.callers ≡ [] → m.frames ≡ [] → m.slot ≡ None → m.stage ≡ stage.Idle → IsIdle m
+pub start_idle : (m : Core) → m.events ≡ [] → Begins m.store m.globals → m.codes.codes ≡ [] → m.zoo ≡ first_classes → m.declarations ≡ declarations_of first_classes → m.done ≡ 0 → m.made ≡ 0
+    → m.callers ≡ [] → m.frames ≡ [] → m.slots ≡ None ∷ [] → m.stage ≡ stage.Idle → IsIdle m
 start_idle m no_events begins no_codes classes names none_done none_made no_callers no_frames empty idle =
     let fit : AllFit m.store.made = subst AllFit (sym begins.objects) first_fit in
     let nothing : state_after start m.events ≡ start = ap (state_after start) no_events in
@@ -193,9 +174,7 @@ start_idle m no_events begins no_codes classes names none_done none_made no_call
           readable = record {
             dicts = λ i c here. absurd (let none : None ≡ Some c = sym (ap (λ l. slice_get l i) begins.unchanged) ∙ here in cc none);
             fit = fit;
-            first = subst AreFirst (sym begins.objects) first_first;
           };
-          truths = subst HaveTruths (sym begins.objects) first_truths;
           classes = subst (λ zoo. HaveClasses zoo m.store.made) (sym classes) (subst (HaveClasses first_classes) (sym begins.objects) first_have);
           dict = ([], begins.globals_are);
           names_are = λ x. ap (value_of x) names ∙ first_declared x ∙ ap (λ os. declared os x) (sym begins.objects);
@@ -218,7 +197,7 @@ start_idle m no_events begins no_codes classes names none_done none_made no_call
           apart = subst AreApart (sym no_callers) tt;
           frames = no_frames ∙ ap (λ hs. frames_at hs stage.Idle) (sym no_callers) ∙ ap (frames_at m.callers) (sym idle);
           are_frames = λ i f here. absurd (let none : None ≡ Some f = sym (ap (λ l. slice_get l i) no_frames) ∙ here in cc none);
-          slot = empty ∙ ap (λ hs. slot_at hs stage.Idle) (sym no_callers) ∙ ap (slot_at m.callers) (sym idle);
+          slots = empty ∙ ap (λ hs. slot_at hs stage.Idle ∷ []) (sym no_callers) ∙ ap (λ s. slot_at m.callers s ∷ []) (sym idle);
         };
         at_stage = subst (AtStage m.codes m.globals m.store.made m.events m.made m.callers) (sym idle) no_callers;
       };

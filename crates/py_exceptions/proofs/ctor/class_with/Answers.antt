@@ -1,4 +1,4 @@
-use Rattle.py_exceptions.proofs.ChangesLemmas.{now_within}
+use Rattle.py_objects.proofs.ChangesLemmas.{now_within}
 use Rattle.py_exceptions.proofs.ctor.class_with.Goals as goal
 
 pub get-payload-requires : goal.get-payload-requires

@@ -1,4 +1,4 @@
-use Rattle.py_exceptions.proofs.ChangesLemmas.{now_within}
+use Rattle.py_objects.proofs.ChangesLemmas.{now_within}
 use Rattle.py_exceptions.proofs.reading.class_body.Goals as goal
 
 pub get-requires : goal.get-requires

@@ -1,5 +1,5 @@
 use Rattle.py_objects.specs.Objects.{as_object}
-use Rattle.py_exceptions.proofs.ChangesLemmas.{now_within}
+use Rattle.py_objects.proofs.ChangesLemmas.{now_within}
 use Rattle.py_exceptions.proofs.reading.exception_body.Goals as goal
 
 pub get-requires : goal.get-requires

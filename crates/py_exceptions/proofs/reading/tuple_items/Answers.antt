@@ -1,4 +1,4 @@
-use Rattle.py_exceptions.proofs.ChangesLemmas.{now_within}
+use Rattle.py_objects.proofs.ChangesLemmas.{now_within}
 use Rattle.py_exceptions.proofs.reading.tuple_items.Goals as goal
 
 pub get-requires : goal.get-requires

@@ -1,6 +1,6 @@
 use Rattle.std.proofs.lemmas.Result.{IfOk-weaker}
 use Rattle.py_objects.specs.Objects.{class_object}
-use Rattle.py_exceptions.proofs.ChangesLemmas.{class_object_now, class_made}
+use Rattle.py_objects.proofs.ChangesLemmas.{class_object_now, class_made}
 use Rattle.py_exceptions.proofs.type_names.class_name.Goals as goal
 
 pub class_body-body-requires : goal.class_body-body-requires

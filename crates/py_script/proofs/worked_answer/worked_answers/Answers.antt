@@ -1,7 +1,7 @@
-use Rattle.std.proofs.Common.{◌≡◌, [], List, true, false, subst, sym, ◌∙◌}
+use Rattle.std.proofs.Common.{◌≡◌, List, true, false, subst, sym, ◌∙◌}
 use Rattle.py_objects.specs.declared.event.Event.{Event}
 use Rattle.py_grammar.specs.Script.{trees_of}
-use Rattle.py_run.specs.Run.{Comes, start}
+use Rattle.py_run.specs.Run.{Comes, nothing}
 use Rattle.py_script.specs.Whole.{plan_of}
 use Rattle.py_script.proofs.worked_answer.worked_answers.Goals as goal
 
@@ -27,5 +27,5 @@ pub returns-clause-no_round_before_a_drive : goal.returns-clause-no_round_before
 returns-clause-no_round_before_a_drive c e turns j is answer =
     let (s, of, run, whole, short, codes) = answer.0.claimed in
     let r = run.run in
-    let comes = subst (λ (es : List Event). Comes (plan_of (trees_of s) r.asked) j.objects [] start es) is r.run.comes in
+    let comes = subst (λ (es : List Event). Comes (plan_of (trees_of s) r.asked) j.objects nothing es) is r.run.comes in
     absurd (cc comes.0.0)

@@ -1,5 +1,5 @@
 use Rattle.py_script.proofs.WorkedShowLemmas.{spelled, any_none, text, no_show_dropped, no_show_twice, no_other_value, no_other_answer, no_other_end, raise_ends, raise_text, no_show_behind_a_raise}
-use Rattle.py_script.specs.Session.{none_object}
+use Rattle.py_objects.specs.Singletons.{none_object}
 use Rattle.py_script.specs.Worked.{object}
 use Rattle.std.proofs.Common.{refl}
 use Rattle.py_script.proofs.worked_show.worked_shows.Goals as goal

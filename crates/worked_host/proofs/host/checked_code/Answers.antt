@@ -1,7 +1,9 @@
-use Rattle.std.proofs.Common.{refl, subst, sym}
+use Rattle.std.proofs.Common.{ap, refl, subst, sym}
 use Rattle.py_check.specs.declared.annotated.Annotated.{Annotated}
+use Rattle.py_rows.specs.Signature.{kind_of}
 use Rattle.py_rows.specs.Sound.{AreNames}
 use Rattle.py_tree.specs.Views.{tree_of}
+use Rattle.py_laid.specs.Code.{IsPlain}
 use Rattle.py_laid.specs.Fits.{Fits}
 use Rattle.py_laid.specs.Instructions.{UsesUnguarded, is_unguarded}
 use Rattle.py_laid.proofs.Uses.{unguarded_raise}
@@ -19,4 +21,5 @@ returns-clause-named c =
 pub returns-clause-answered : goal.returns-clause-answered
 returns-clause-answered c =
     let uses = last_of_each (λ (code : Annotated). UsesUnguarded code.code) _ _ _ _ _ c.into_vec.ensures c.pop.ensures.items c.in-Some.is (c.in_ok-codes.ensures.uses c.requires.unguarded) in
-    subst (λ (code : Annotated). CodeIsAnswered code.code) (sym c.of.ensures) (code_answered is_unguarded (λ arg. refl) (λ arg. refl) (λ arg. refl) (λ arg. refl) (λ arg. refl) (λ arg. refl) unguarded_raise c.in-Some.code.code uses)
+    let plain : IsPlain c.in-Some.code (tree_of c.args.body.now) = last_of_each (λ (code : Annotated). IsPlain code (tree_of c.args.body.now)) _ _ _ _ _ c.into_vec.ensures c.pop.ensures.items c.in-Some.is c.in_ok-codes.ensures.plain in
+    subst (λ (code : Annotated). CodeIsAnswered code.code) (sym c.of.ensures) (code_answered is_unguarded (λ arg. refl) (λ arg. refl) (λ arg. refl) (λ arg. refl) (λ arg. refl) (λ arg. refl) unguarded_raise c.in-Some.code.code uses (ap kind_of plain.flags))

@@ -1,4 +1,4 @@
-use Rattle.py_exceptions.proofs.ChangesLemmas.{now_within}
+use Rattle.py_objects.proofs.ChangesLemmas.{now_within}
 use Rattle.py_exceptions.proofs.ctor.ExceptionCtor.instantiate_value.Goals as goal
 
 pub instance_with-outcome-requires : goal.instance_with-outcome-requires

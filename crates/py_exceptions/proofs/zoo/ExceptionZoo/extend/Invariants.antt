@@ -1,4 +1,4 @@
-use Rattle.std.proofs.Common.{◌≡◌, ◌++◌, length, map, take}
+use Rattle.std.proofs.Common.{◌≡◌, ◌++◌, map, take}
 use Rattle.py_objects.specs.ErrorKinds.{error_kinds}
 use Rattle.py_exceptions.specs.Classes.{class_payload}
 use Rattle.py_exceptions.proofs.ClassesLemmas.{declarations}
