@@ -8,7 +8,7 @@ use Rattle.py_objects.specs.declared.payload.ClassBody.{ClassBody}
 use Rattle.py_objects.specs.declared.error_kind.ErrorKind.TheVariants.{OverflowError}
 use Rattle.py_objects.specs.declared.request.Request.{Request}
 use Rattle.py_objects.specs.declared.request.Request.TheVariants as request
-use Rattle.py_code.specs.Literals.{in_range}
+use Rattle.py_code.specs.Range.{in_range}
 use Rattle.py_code.specs.declared.operator.BinaryOperator.{BinaryOperator}
 use Rattle.py_code.specs.declared.operator.BinaryOperator.TheVariants as binary
 use Rattle.py_code.specs.declared.operator.ComparisonOperator.{ComparisonOperator}
@@ -19,7 +19,7 @@ use Rattle.py_answers.specs.Answers.{Reply, Has, Fails, whole, sum, difference, 
 use Rattle.py_answers.specs.Replying.{joined, IsThere, IsSum, IsDifference, IsLess}
 use Rattle.py_exceptions.specs.declared.ctor.ExceptionCtor.{ExceptionCtor}
 use Rattle.py_exceptions.specs.declared.ctor.ExceptionCtor.TheVariants as ctor
-use Rattle.py_exceptions.specs.Constructing.{as_class, IsTakenFor}
+use Rattle.py_exceptions.specs.Raisable.{as_class, IsTakenFor}
 use Rattle.py_objects.proofs.NewLemmas.{declared_within}
 use Rattle.py_exceptions.proofs.TypeNamesLemmas.{has_type_name}
 

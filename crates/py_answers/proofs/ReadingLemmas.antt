@@ -20,13 +20,13 @@ use Rattle.py_objects.proofs.ChangesLemmas.{changes_keep, class_object_now, clas
 use Rattle.py_exceptions.specs.declared.ctor.ExceptionCtor.{ExceptionCtor}
 use Rattle.py_exceptions.specs.declared.ctor.CtorFault.{CtorFault}
 use Rattle.py_exceptions.specs.declared.ctor.CtorFault.TheVariants as ctor_fault
-use Rattle.py_exceptions.specs.Constructing.{ClassTaken, IsTaken, IsTakenFor}
+use Rattle.py_exceptions.specs.Raisable.{ClassTaken, IsTaken, IsTakenFor}
 use Rattle.py_exceptions.specs.Deriving.{IsInstanceOf}
 use Rattle.py_exceptions.specs.Parts.{AreParts}
 use Rattle.py_answers.specs.Readable.{ChangeDicts}
 use Rattle.py_answers.specs.Replying.{IsLike, IsRead, IsOperated, IsLess}
 use Rattle.py_code.specs.declared.operator.ComparisonOperator.TheVariants as comparison
-use Rattle.py_answers.specs.Answers.{Reply, Compares, IsOfExceptions, Matches, Replies, operated, truth}
+use Rattle.py_answers.specs.Answers.{Reply, Compares, Matches, Replies, operated, truth}
 
 -- an entry of a list with one entry set is that one, or was there
 set_gives : {X : Type 0} (xs : List X) (i : ℕ) (x : X) (j : ℕ) (y : X) → slice_get (set xs i x) j ≡ Some y → ((y ≡ x) × (j ≡ i)) ⊎ (slice_get xs j ≡ Some y)
@@ -157,7 +157,7 @@ instance_as_made s _ c b made is = is
 
 -- what a class of exceptions catches, by what is read of both
 pub class_matches : (objects : List Payload) (e c : Obj) (p q : Payload) (d : ClassBody) (b : Bool)
-    → IsRead objects e p → IsRead objects c q → q ≡ payload.Class d → IsOfExceptions objects c true → IsInstanceOf objects p c b → Matches objects e c (truth b)
+    → IsRead objects e p → IsRead objects c q → q ≡ payload.Class d → IsDerived objects c (name_of BaseException) true → IsInstanceOf objects p c b → Matches objects e c (truth b)
 class_matches objects e c p q d b (p', has, like) read is one caught =
     (p', payload.Class d, has, read_class objects c q d read is, (true, one, (b, said_of_made (λ k. IsInstanceOf objects k c b) p' p like (λ ps qs same. same) caught, refl)))
 

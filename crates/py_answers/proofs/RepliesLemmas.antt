@@ -25,7 +25,7 @@ use Rattle.py_objects.specs.declared.refs.PyTypeRef.{PyTypeRef}
 use Rattle.py_exceptions.specs.declared.ctor.ExceptionCtor.{ExceptionCtor}
 use Rattle.py_exceptions.specs.declared.ctor.CtorFault.{CtorFault}
 use Rattle.py_exceptions.specs.declared.ctor.CtorFault.TheVariants as ctor_fault
-use Rattle.py_exceptions.specs.Constructing.{ClassTaken, IsTaken, IsTakenFor}
+use Rattle.py_exceptions.specs.Raisable.{ClassTaken, IsTaken, IsTakenFor}
 use Rattle.py_exceptions.specs.Deriving.{IsInstanceOf}
 use Rattle.py_exceptions.proofs.TypeNamesLemmas.{type_name_grows}
 use Rattle.py_answers.specs.Answers.{Reply, Has, Is, Makes, Fails, Passes, truth, found, Compares, MatchesAs, MatchesClass, Raises, IsRefusedCall, Calls, CallsAs, CallsClass, Replies, IsRaised, IsInstance, IsCalled, GivesValue, GivesRaise, GivesBody, GivesDrive}

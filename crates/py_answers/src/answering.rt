@@ -1,7 +1,7 @@
 //! What requests are answered, one at a time, by the objects of a store.
 
 ghost use Rattle.std.specs.Prelude.{◌≡◌, true, length};
-ghost use Rattle.py_objects.specs.AttrEntries.{value_of};
+ghost use Rattle.py_objects.specs.Attrs.{value_of};
 ghost use Rattle.py_objects.specs.Objects.{Name, declared, request_numbers, AllBelow};
 ghost use Rattle.py_objects.specs.Growth.{IsGrown};
 ghost use Rattle.py_answers.specs.Readable.{IsReadable};

@@ -1,7 +1,7 @@
 //! The replies to names: to what is declared under one, and to a local that is unset.
 
 ghost use Rattle.std.specs.Prelude.{◌≡◌, IfOk};
-ghost use Rattle.py_objects.specs.AttrEntries.{value_of};
+ghost use Rattle.py_objects.specs.Attrs.{value_of};
 ghost use Rattle.py_objects.specs.declared.error_kind.ErrorKind.TheVariants as kind;
 ghost use Rattle.py_answers.specs.Answers.{Fails, found, unbound_text};
 ghost use Rattle.py_answers.specs.Replying.{reply_of, IsSized};

@@ -1,7 +1,7 @@
 //! Replies to requests, by the payloads of the objects that they name.
 
 ghost use Rattle.std.specs.Prelude.{◌≡◌, true, length, IfOk};
-ghost use Rattle.py_objects.specs.AttrEntries.{value_of};
+ghost use Rattle.py_objects.specs.Attrs.{value_of};
 ghost use Rattle.py_objects.specs.Objects.{Name, declared, request_numbers, AllBelow};
 ghost use Rattle.py_answers.specs.Readable.{IsReadable};
 ghost use Rattle.py_answers.specs.Replying.{is_answered, IsReplied};

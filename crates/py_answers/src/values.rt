@@ -1,8 +1,10 @@
 //! What an object is, as the rows of answers read it.
 
 ghost use Rattle.std.specs.Prelude.{◌<◌, length};
+ghost use Rattle.py_objects.specs.declared.error_kind.ErrorKind.TheVariants.{BaseException};
+ghost use Rattle.py_objects.specs.Ancestry.{IsDerived};
+ghost use Rattle.py_objects.specs.ErrorKinds.{name_of};
 ghost use Rattle.py_objects.specs.Objects.{IsClassObject};
-ghost use Rattle.py_answers.specs.Answers.{IsOfExceptions};
 ghost use Rattle.py_answers.specs.Replying.{IsRead};
 ghost use Rattle.py_answers.specs.Readable.{IsReadable};
 
@@ -20,7 +22,7 @@ pub fn entry(store: &Store, object: PyObjectRef) -> &Payload
 /// Whether a class is one of exceptions: it is `BaseException`, or derives from it.
 pub(crate) fn is_of_exceptions(store: &Store, class: PyObjectRef) -> bool
     requires { IsClassObject store.now.made class }
-    ensures { IsOfExceptions store.now.made class result }
+    ensures { IsDerived store.now.made class (name_of BaseException) result }
 {
     let class = PyTypeRef {
         number: class.number,

@@ -3,11 +3,10 @@
 ghost use Rattle.std.specs.Prelude.{◌≡◌, ◌+◌, ◌<◌, ◌≤◌, ◌^◌, suc, false, length, List, IfOk, OnOk};
 ghost use Rattle.py_tree.specs.Tree.{Name};
 ghost use Rattle.py_tree.specs.Compilable.{IsCompilable, SuiteFits, statements};
-ghost use Rattle.py_tree.specs.Unguarded.{IsUnguarded};
 ghost use Rattle.py_tree.specs.Views.{suite_of, tree_of};
 ghost use Rattle.py_laid.specs.Code.{IsLaid, IsPlain};
 ghost use Rattle.py_laid.specs.Fits.{Fits, Continues};
-ghost use Rattle.py_laid.specs.Instructions.{UsesUnguarded};
+ghost use Rattle.py_laid.specs.Instructions.{UsesCompiled};
 ghost use Rattle.py_laid.specs.Naming.{IsNamed};
 ghost use Rattle.py_body.specs.Sizes.{counted, size_body, weights};
 ghost use Rattle.py_body.specs.Codes.{Each};
@@ -42,7 +41,7 @@ pub fn compile_body(
     ensures fits { IfOk result (λ codes. Each (λ code. Fits names.new code (tree_of body.now)) codes) }
     ensures laid { IfOk result (λ codes. Each (λ code. (globals : List Name) × IsLaid globals code (tree_of body.now) × IsNamed names.new globals code.code (tree_of body.now)) codes) }
     ensures plain { IfOk result (λ codes. Each (λ code. IsPlain code (tree_of body.now)) codes) }
-    ensures uses { IfOk result (λ codes. IsUnguarded (suite_of body.now.suite) → Each (λ code. UsesUnguarded code.code) codes) }
+    ensures uses { IfOk result (λ codes. Each (λ code. UsesCompiled code.code) codes) }
     ensures grows { Continues names.old names.new }
 {
     let _first = first;

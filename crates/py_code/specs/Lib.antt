@@ -6,7 +6,8 @@ pub mod Bottom
 -- operators, and their numbers
 pub mod Operators
 pub mod Numbers
--- the constants of a code
+-- whole numbers, and the constants of a code
+pub mod Range
 pub mod Literals
 -- a table of names as a list
 pub mod Names

@@ -9,12 +9,12 @@ use Rattle.py_objects.specs.Refs.{Obj, Name}
 use Rattle.py_objects.specs.declared.refs.PyTypeRef.{PyTypeRef}
 use Rattle.py_objects.specs.declared.payload.Payload.{Payload}
 use Rattle.py_objects.specs.declared.error_kind.ErrorKind.{ErrorKind}
-use Rattle.py_objects.specs.ErrorKinds.{name_of, bases_of, error_kinds, place_in, place_of}
+use Rattle.py_objects.specs.ErrorKinds.{name_of, bases_of, error_kinds}
+use Rattle.py_objects.specs.ErrorPlaces.{place_in, place_of}
 use Rattle.py_objects.specs.Objects.{HasPayload, class_object, declared, declared_from, is_name, numbers, AllBelow, AreClasses}
-use Rattle.py_objects.specs.Attrs.{Attrs, inserted}
+use Rattle.py_objects.specs.Attrs.{Attrs, inserted, value_of}
 use Rattle.py_objects.specs.Edits.{Kept}
 use Rattle.py_objects.specs.Growth.{Grows, with_object}
-use Rattle.py_objects.specs.AttrEntries.{value_of}
 use Rattle.py_objects.proofs.ErrorKindsLemmas.{placed, place_at, each_kind, place_below, are_placed, all_placed}
 use Rattle.py_objects.proofs.GrowthLemmas.{slice_get_grown, slice_get_behind, payload_grown, declared_grown}
 use Rattle.py_exceptions.specs.declared.zoo.ExceptionZoo.{ExceptionZoo}

@@ -3,7 +3,7 @@ pub mod ClassesLemmas
 -- the names of types
 pub mod TypeNamesLemmas
 -- what a class is taken for
-pub mod ConstructingLemmas
+pub mod RaisableLemmas
 -- the objects that new exceptions add
 pub mod MakingLemmas
 -- the topmost exception of slots

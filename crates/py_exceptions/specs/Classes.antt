@@ -4,7 +4,8 @@ use Rattle.py_objects.specs.declared.refs.PyTypeRef.{PyTypeRef}
 use Rattle.py_objects.specs.declared.payload.Payload.{Payload}
 use Rattle.py_objects.specs.declared.payload.Payload.TheVariants as payload
 use Rattle.py_objects.specs.declared.error_kind.ErrorKind.{ErrorKind}
-use Rattle.py_objects.specs.ErrorKinds.{name_of, bases_of, error_kinds, place_of}
+use Rattle.py_objects.specs.ErrorKinds.{name_of, bases_of, error_kinds}
+use Rattle.py_objects.specs.ErrorPlaces.{place_of}
 use Rattle.py_objects.specs.Objects.{Obj, class_object, declares}
 use Rattle.py_objects.specs.Attrs.{Attrs}
 use Rattle.py_objects.specs.Edits.{Kept}

@@ -13,7 +13,8 @@ pub mod Making
 -- the arguments of exceptions
 pub mod Arguments
 -- what may be raised, and what comes of it
-pub mod Constructing
+pub mod Raisable
+pub mod Instantiating
 -- the slots of handled exceptions
 pub mod Slots
 -- what the functions of the crate need of an exception

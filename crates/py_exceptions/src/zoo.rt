@@ -2,7 +2,8 @@
 
 ghost use Rattle.std.specs.Prelude.{◌≡◌, ◌<◌, ◌+◌, ◌^◌, [], ◌∷◌, ◌++◌, length, IfOk, OnOk, OnErr};
 ghost use Rattle.py_objects.specs.Objects.{class_object};
-ghost use Rattle.py_objects.specs.ErrorKinds.{name_of, place_of};
+ghost use Rattle.py_objects.specs.ErrorKinds.{name_of};
+ghost use Rattle.py_objects.specs.ErrorPlaces.{place_of};
 ghost use Rattle.py_objects.specs.Attrs.{inserted};
 ghost use Rattle.py_exceptions.specs.Classes.{class_of, class_payload, class_payloads, declarations_of, mro_of, AreBegun, DeclareNothing, HaveClasses, IsAddedOrNot};
 

@@ -19,7 +19,8 @@ use Rattle.py_rows.specs.declared.block.BlockType.TheVariants.{Loop, TryExcept, 
 use Rattle.py_rows.specs.declared.expect.Expect.{Expect}
 use Rattle.py_rows.specs.declared.expect.Expect.TheVariants as expect
 use Rattle.py_rows.specs.States.{Setting, State, waiting}
-use Rattle.py_rows.specs.Handled.{handled_by, handled_in, Keeps, AllKeep, KeepsSlot}
+use Rattle.py_rows.specs.Handled.{handled_by, handled_in}
+use Rattle.py_rows.specs.Slot.{Keeps, AllKeep, KeepsSlot}
 use Rattle.py_rows.specs.RunOfRows.{Hears, Steps, hearing as hearing_step, Runs, none, on}
 use Rattle.py_rows.specs.Standing.{IsPlaced, IsOf}
 use Rattle.py_rows.specs.Below.{TypeBelow, BlocksBelow, HearsBelow, TellsBelow}

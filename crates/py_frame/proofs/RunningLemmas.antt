@@ -18,7 +18,7 @@ use Rattle.py_check.specs.Depths.{deepest}
 use Rattle.py_rows.specs.declared.expect.Expect.{Expect}
 use Rattle.py_rows.specs.declared.expect.Expect.TheVariants as expect
 use Rattle.py_rows.specs.States.{Setting, State, Step, Goes, Tells, Stuck, Move, Plainly, Loads, Decides, Manages, Exits, begun}
-use Rattle.py_rows.specs.Handled.{KeepsSlot}
+use Rattle.py_rows.specs.Slot.{KeepsSlot}
 use Rattle.py_rows.specs.Receiving.{moves}
 use Rattle.py_rows.specs.RunOfRows.{started, MayLead, Steps, silent, telling, Runs, none, on}
 use Rattle.py_rows.specs.Standing.{IsOf, IsStanding}

@@ -7,7 +7,7 @@ use Rattle.py_check.specs.declared.annotated.Annotated.{Annotated}
 use Rattle.py_check.specs.Depths.{deepest}
 use Rattle.py_rows.specs.declared.expect.Expect.TheVariants as expect
 use Rattle.py_rows.specs.States.{State}
-use Rattle.py_rows.specs.Handled.{KeepsSlot}
+use Rattle.py_rows.specs.Slot.{KeepsSlot}
 use Rattle.py_objects.specs.Own.{Own}
 use Rattle.py_rows.specs.Below.{HoldsBelow, TellsBelow}
 use Rattle.py_rows.specs.RunOfRows.{Runs}

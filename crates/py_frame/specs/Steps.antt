@@ -11,7 +11,8 @@ use Rattle.py_rows.specs.declared.expect.Expect.{Expect}
 use Rattle.py_rows.specs.declared.expect.Expect.TheVariants as expect
 use Rattle.py_rows.specs.States.{Setting, State}
 use Rattle.py_rows.specs.Answers.{wanted}
-use Rattle.py_rows.specs.Handled.{handled_in, KeepsSlot}
+use Rattle.py_rows.specs.Handled.{handled_in}
+use Rattle.py_rows.specs.Slot.{KeepsSlot}
 use Rattle.py_rows.specs.Laws.{IsMoving}
 use Rattle.py_rows.specs.RunOfRows.{Hears, Runs}
 use Rattle.py_frame.specs.declared.input.Input.{Input}

@@ -1,8 +1,10 @@
 -- Which lines scripts begin with: those that the reader takes.
 use Rattle.std.proofs.Common.{◌≡◌, ◌⊎◌, inl, inr, ℕ, suc, List, [], ◌∷◌, ◌++◌, Option, Some, None, refl, sym, ap, ◌∙◌, append_assoc, append-nil, subst}
 use Rattle.std.specs.Prelude.{codes, option_map}
-use Rattle.py_tree.specs.Tree.{Form, If, IfElse, While, Suite, Tree}
+use Rattle.py_tree.specs.Tree.{Form, If, IfElse, While, TryExcept, TryFinally, Suite, nothing, Tree}
 use Rattle.py_lines.specs.declared.drive.DriveLine.{DriveLine}
+use Rattle.py_lines.specs.declared.head.Turn.{Turn}
+use Rattle.py_lines.specs.declared.head.Turn.TheVariants as turn
 use Rattle.py_lines.specs.declared.line.Line.{Line}
 use Rattle.py_lines.specs.declared.line.Line.TheVariants as line
 use Rattle.py_lines.specs.declared.line.LineRead.{LineRead}
@@ -11,7 +13,7 @@ use Rattle.py_lines.specs.Reading.{IsReadAs}
 use Rattle.py_grammar.specs.Grammar.{Row, row, kept_number, items_rows, drives_in}
 use Rattle.py_grammar.specs.Lines.{lines}
 use Rattle.py_grammar.specs.Script.{Text, with_read, rows_from, Spells, Begins}
-use Rattle.py_grammar.specs.Reader.{Began, in_if, in_else, in_while, Block, Open, State, state, start, accept, accept_at, outside, in_body, takes_line, ended, function_of, one_block, ended_in, closed, closes}
+use Rattle.py_grammar.specs.Reader.{Began, in_if, in_else, in_while, in_try, in_except, in_finally, Block, Open, State, state, start, accept, accept_at, outside, in_body, still_inside, takes_line, with_clause, finally_behind, turned, turned_to, ended, function_of, one_block, ended_in, closed, closes}
 use Rattle.py_grammar.proofs.LineReads.{AreReadAs, read_length, one_reading, read_append, read_parts, after, after-one, both_rows, rows_from-append}
 use Rattle.py_grammar.proofs.Whole.{run, run-append, and_then, items_read}
 use Rattle.py_grammar.proofs.Sound.{Came, CameTo, sound}
@@ -23,8 +25,16 @@ outside-kept : (ts : List Tree) (ds : List DriveLine) (n : ℕ) (l : Line) → o
 outside-kept ts ds n line.End = refl
 outside-kept ts ds n l = refl
 
+turned-kept : (o : Open) (n : ℕ) (t : Turn) (bs : List Block) → turned o (kept_number n (line.Turns t)) t bs ≡ turned o n t bs
+turned-kept o n turn.Else [] = refl
+turned-kept o n turn.Else (b ∷ bs) = refl
+turned-kept o n (turn.Except c x) bs = refl
+turned-kept o n turn.Finally [] = refl
+turned-kept o n turn.Finally (b ∷ bs) = refl
+
 in_body-kept : (ts : List Tree) (ds : List DriveLine) (o : Open) (n : ℕ) (l : Line) → in_body ts ds o (kept_number n l) l ≡ in_body ts ds o n l
 in_body-kept ts ds o n line.End = refl
+in_body-kept ts ds o n (line.Turns t) = ap (still_inside ts ds) (turned-kept o n t o.blocks)
 in_body-kept ts ds o n l = refl
 
 accept-kept : (ts : List Tree) (ds : List DriveLine) (i : Option Open) (n : ℕ) (l : Line) → accept_at ts ds i (kept_number n l) l ≡ accept_at ts ds i n l
@@ -116,9 +126,16 @@ begins_whole front ts ds b = ([], ts, ds, subst (λ t. Spells t ts ds) (sym (app
 abbrev end_line : List ℕ
 end_line = codes "end"
 
+abbrev finally_line : List ℕ
+finally_line = codes "finally"
+
 -- a script that begins with lines and an end begins with the lines
 begins_end : (front : Text) → Begins (front ++ end_line ∷ []) → Begins front
 begins_end front b = (end_line ++ 10 ∷ b.0, b.1, b.2, subst (λ t. Spells t b.1 b.2) (append_assoc front (end_line ∷ []) (lines b.0)) b.3)
+
+-- so does one with a finally in place of the end
+begins_finally : (front : Text) → Begins (front ++ finally_line ∷ []) → Begins front
+begins_finally front b = (finally_line ++ 10 ∷ b.0, b.1, b.2, subst (λ t. Spells t b.1 b.2) (append_assoc front (finally_line ∷ []) (lines b.0)) b.3)
 
 -- behind an end
 been_end : (bs : List Block) (front : Text) (ts : List Tree) (ds : List DriveLine) (o : Open) → o.blocks ≡ bs → Been front (state ts ds (Some o))
@@ -126,20 +143,48 @@ been_end : (bs : List Block) (front : Text) (ts : List Tree) (ds : List DriveLin
 been_end bs front ts ds o e b =
     subst (λ x. BeenTo (front ++ end_line ∷ []) (option_map (closes ts ds) (closed o x))) e (one_line front (state ts ds (Some o)) end_line (Said line.End) refl b)
 
--- each block may end, so far
-ends : (g : Began) (s : Suite) → (f : Form) × (ended g s ≡ Some f)
-ends (in_if a) s = (If a s, refl)
-ends (in_else a t) s = (IfElse a t s, refl)
-ends (in_while a) s = (While a s, refl)
+-- behind a finally, where the innermost block is a try
+been_finally : (c : Block) (bs : List Block) (front : Text) (ts : List Tree) (ds : List DriveLine) (o : Open) → o.blocks ≡ c ∷ bs → c.began ≡ in_try
+    → Been front (state ts ds (Some o)) → Been (front ++ finally_line ∷ []) (state ts ds (Some (turned_to o c bs (in_finally o.done))))
+been_finally c bs front ts ds o e is b =
+    subst (λ g. BeenTo (front ++ finally_line ∷ []) (still_inside ts ds (option_map (turned_to o c bs) (finally_behind g o.done)))) is
+    (subst (λ x. BeenTo (front ++ finally_line ∷ []) (still_inside ts ds (turned o (after 1 front) turn.Finally x))) e
+    (one_line front (state ts ds (Some o)) finally_line (Said (line.Turns turn.Finally)) refl b))
 
--- an end for each open block and one for the body close all
+-- each block may end but a try that has neither a clause nor a finally
+ends : (g : Began) (s : Suite) → ((f : Form) × (ended g s ≡ Some f)) ⊎ (g ≡ in_try)
+ends (in_if a) s = inl (If a s, refl)
+ends (in_else a t) s = inl (IfElse a t s, refl)
+ends (in_while a) s = inl (While a s, refl)
+ends in_try s = inr refl
+ends (in_except t cs n c x) s = inl (TryExcept t (with_clause cs n c x s), refl)
+ends (in_finally t) s = inl (TryFinally t s, refl)
+
+-- some script begins with lines behind which these blocks are open
+abbrev BeginsBehind : List Block → List Tree → List DriveLine → Type 0
+BeginsBehind bs ts ds = (front : Text) (o : Open) → o.blocks ≡ bs → Been front (state ts ds (Some o)) → Begins front
+
+-- the innermost block ends
+begins_ended : (c : Block) (bs : List Block) (front : Text) (ts : List Tree) (ds : List DriveLine) (o : Open) (f : Form) → o.blocks ≡ c ∷ bs → ended c.began o.done ≡ Some f
+    → Been front (state ts ds (Some o)) → BeginsBehind bs ts ds → Begins front
+begins_ended c bs front ts ds o f e is b behind =
+    let ends : Been (front ++ end_line ∷ []) (state ts ds (Some (ended_in o c bs f))) =
+    subst (λ q. BeenTo (front ++ end_line ∷ []) (option_map (closes ts ds) (option_map (λ g. one_block (ended_in o c bs g)) q))) is (been_end (c ∷ bs) front ts ds o e b) in
+    begins_end front (behind (front ++ end_line ∷ []) (ended_in o c bs f) refl ends)
+
+-- at once, or behind a finally
+begins_block : (c : Block) (bs : List Block) (front : Text) (ts : List Tree) (ds : List DriveLine) (o : Open) → o.blocks ≡ c ∷ bs
+    → ((f : Form) × (ended c.began o.done ≡ Some f)) ⊎ (c.began ≡ in_try) → Been front (state ts ds (Some o)) → BeginsBehind bs ts ds → Begins front
+begins_block c bs front ts ds o e (inl p) b behind = begins_ended c bs front ts ds o p.0 e p.1 b behind
+begins_block c bs front ts ds o e (inr is) b behind =
+    let next : Open = turned_to o c bs (in_finally o.done) in
+    begins_finally front (begins_ended (record c { began = in_finally o.done }) bs (front ++ finally_line ∷ []) ts ds next (TryFinally o.done nothing) refl refl
+    (been_finally c bs front ts ds o e is b) behind)
+
+-- an end for each open block, some behind a finally, and one for the body close all
 begins_open : (bs : List Block) (front : Text) (ts : List Tree) (ds : List DriveLine) (o : Open) → o.blocks ≡ bs → Been front (state ts ds (Some o)) → Begins front
 begins_open [] front ts ds o e b = begins_end front (begins_whole (front ++ end_line ∷ []) (ts ++ function_of o ∷ []) ds (been_end [] front ts ds o e b))
-begins_open (c ∷ bs) front ts ds o e b =
-    let f = ends c.began o.done in
-    let behind : Been (front ++ end_line ∷ []) (state ts ds (Some (ended_in o c bs f.0))) =
-    subst (λ q. BeenTo (front ++ end_line ∷ []) (option_map (closes ts ds) (option_map (λ g. one_block (ended_in o c bs g)) q))) f.1 (been_end (c ∷ bs) front ts ds o e b) in
-    begins_end front (begins_open bs (front ++ end_line ∷ []) ts ds (ended_in o c bs f.0) refl behind)
+begins_open (c ∷ bs) front ts ds o e b = begins_block c bs front ts ds o e (ends c.began o.done) b (λ more p same been. begins_open bs more ts ds p same been)
 
 pub begins_at : (front : Text) (ts : List Tree) (ds : List DriveLine) (i : Option Open) → Been front (state ts ds i) → Begins front
 begins_at front ts ds None b = begins_whole front ts ds b

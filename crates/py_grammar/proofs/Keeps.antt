@@ -13,9 +13,8 @@ use Rattle.py_tree.specs.declared.expr.Expr.{Expr}
 use Rattle.py_tree.specs.declared.expr.Expr.TheVariants as expr
 use Rattle.py_tree.specs.declared.expr.Operation.{Operation}
 use Rattle.py_tree.specs.declared.expr.Operation.TheVariants as operation
-use Rattle.py_tree.specs.Tree.{Name, Form, Assign, Do, Break, Continue, If, IfElse, While, TryExcept, TryFinally, Suite, nothing, first, Tree}
-use Rattle.py_tree.specs.Compilable.{OperationFits, ExprFits, FormFits, SuiteFits, statements}
-use Rattle.py_tree.specs.Unguarded.{FormIsUnguarded, IsUnguarded}
+use Rattle.py_tree.specs.Tree.{Name, Form, Assign, Do, Break, Continue, If, IfElse, While, TryExcept, TryFinally, Suite, nothing, first, Clauses, no_more, clause, Tree}
+use Rattle.py_tree.specs.Compilable.{OperationFits, ExprFits, FormFits, SuiteFits, ClausesFit, statements}
 use Rattle.py_lines.specs.declared.drive.DriveAtom.{DriveAtom}
 use Rattle.py_lines.specs.declared.drive.DriveAtom.TheVariants as argument
 use Rattle.py_lines.specs.declared.drive.DriveLine.{DriveLine}
@@ -25,7 +24,7 @@ use Rattle.py_grammar.specs.declared.rules.Inside.{Inside}
 use Rattle.py_grammar.specs.declared.script.Kind.TheVariants as kind
 use Rattle.py_grammar.specs.declared.script.Script.{Script}
 use Rattle.py_grammar.specs.Rules.{Declared, is_among, all_differ, declares, declares_callable, is_builtin_class, may_declare, is_drivable, may_drive, may_operate, may_compute, body_of, within}
-use Rattle.py_grammar.specs.Grammar.{Item, Declares, Drives, declared_as, WellForm, WellSuite, WellItems, items_rows, trees_in, drives_in}
+use Rattle.py_grammar.specs.Grammar.{Item, Declares, Drives, declared_as, WellForm, WellSuite, WellClauses, WellItems, items_rows, trees_in, drives_in}
 use Rattle.py_grammar.specs.Script.{IsScript}
 use Rattle.py_grammar.specs.Tables.{names_of}
 use Rattle.py_grammar.specs.WellFormed.{AreDistinct, IsKnown, IsWellDeclared, IsDrivable, IsWellDriven, AreWellFormed, IsWellFormed}
@@ -67,26 +66,27 @@ expr_keeps : (e : Expr) → may_compute e ≡ true → ExprFits e
 expr_keeps (expr.Atom a) w = tt
 expr_keeps (expr.Operation o) w = operation_keeps o w
 
--- statements can be compiled where they stand, and guard nothing
+-- statements can be compiled where they stand
 mutual
-  form_keeps : (i : Inside) (f : Form) → WellForm i f → FormFits i.in_loop f × FormIsUnguarded f
-  form_keeps i (Assign x e) w = (expr_keeps e w, tt)
-  form_keeps i (Do o) w = (operation_keeps o w, tt)
-  form_keeps i Break w = (w, tt)
-  form_keeps i Continue w = (w, tt)
+  form_keeps : (i : Inside) (f : Form) → WellForm i f → FormFits i.in_loop f
+  form_keeps i (Assign x e) w = expr_keeps e w
+  form_keeps i (Do o) w = operation_keeps o w
+  form_keeps i Break w = w
+  form_keeps i Continue w = w
   form_keeps i (If a s) w = suite_keeps (within i (head.If a)) s w.1
-  form_keeps i (IfElse a s t) w =
-      let one = suite_keeps (within i (head.If a)) s w.1.0 in
-      let other = suite_keeps (within i (head.If a)) t w.1.1 in
-      ((one.0, other.0), (one.1, other.1))
+  form_keeps i (IfElse a s t) w = (suite_keeps (within i (head.If a)) s w.1.0, suite_keeps (within i (head.If a)) t w.1.1)
   form_keeps i (While a s) w = suite_keeps (within i (head.While a)) s w.1
-  form_keeps i (TryExcept s cs) w = absurd w
-  form_keeps i (TryFinally s t) w = absurd w
-  form_keeps i f w = (tt, tt)
+  form_keeps i (TryExcept s cs) w = (suite_keeps (within i head.Try) s w.1.1.0, clauses_keep (within i head.Try) cs w.1.1.1)
+  form_keeps i (TryFinally s t) w = (suite_keeps (within i head.Try) s w.1.0, suite_keeps (within i head.Try) t w.1.1)
+  form_keeps i f w = tt
 
-  suite_keeps : (i : Inside) (s : Suite) → WellSuite i s → SuiteFits i.in_loop s × IsUnguarded s
-  suite_keeps i nothing w = (tt, tt)
-  suite_keeps i (first n f more) w = let here = form_keeps i f w.0 in let rest = suite_keeps i more w.1 in ((here.0, rest.0), (here.1, rest.1))
+  suite_keeps : (i : Inside) (s : Suite) → WellSuite i s → SuiteFits i.in_loop s
+  suite_keeps i nothing w = tt
+  suite_keeps i (first n f more) w = (form_keeps i f w.0, suite_keeps i more w.1)
+
+  clauses_keep : (i : Inside) (cs : Clauses) → WellClauses i cs → ClausesFit i.in_loop cs
+  clauses_keep i no_more w = tt
+  clauses_keep i (clause n c x s more) w = (suite_keeps i s w.0, clauses_keep i more w.1)
 
 -- a declaration, behind these
 declared_keeps : (ds : List Declared) (t : Tree) → may_declare ds t.name t.params ≡ true → WellSuite (body_of kind.Function) t.suite
@@ -97,16 +97,14 @@ declared_keeps ds t h w short =
     let differ : Bool = all_differ t.params in
     let few : Bool = nat_le (length t.params) 255 in
     let front : (new && free && differ) ≡ true = (and_parts (new && free && differ) few h).0 in
-    let suite = suite_keeps (body_of kind.Function) t.suite w in
     record {
       no_class = not-true (is_builtin_class t.name) (and_parts new free (and_parts (new && free) differ front).0).1;
       compilable = record {
         distinct = distinct_by_test t.params (and_parts (new && free) differ front).1;
         few = leb-true (length t.params) 255 (and_parts (new && free && differ) few h).1;
-        fits = suite.0;
+        fits = suite_keeps (body_of kind.Function) t.suite w;
         short = short;
       };
-      unguarded = suite.1;
     }
 
 -- all declarations of the items

@@ -5,6 +5,7 @@ mod Tables
 -- the program's reader by the definitions'
 mod Stacks
 mod OpenNames
+mod Clauses
 -- the reader against the grammar
 mod LineReads
 mod Whole

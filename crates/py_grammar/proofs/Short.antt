@@ -1,8 +1,8 @@
 -- Bodies are short: each statement of a script has a row of its own, each row a line, and each line a byte.
 use Rattle.std.proofs.Common.{◌≡◌, ◌≤◌, ◌+◌, ℕ, suc, List, [], ◌∷◌, ◌++◌, length, Bool, true, false, cond, Option, Some, None, refl, ap, arith, length-append}
 use Rattle.std.specs.Prelude.{◌==◌, ◌&&◌}
-use Rattle.py_tree.specs.Tree.{Form, If, IfElse, While, TryExcept, TryFinally, Suite, nothing, first, Tree}
-use Rattle.py_tree.specs.Compilable.{statements_in, statements}
+use Rattle.py_tree.specs.Tree.{Form, If, IfElse, While, TryExcept, TryFinally, Suite, nothing, first, Clauses, no_more, clause, Tree}
+use Rattle.py_tree.specs.Compilable.{statements_in, statements, statements_under}
 use Rattle.py_lines.specs.declared.head.Head.TheVariants as head
 use Rattle.py_lines.specs.declared.line.LineRead.{LineRead}
 use Rattle.py_lines.specs.declared.line.LineRead.TheVariants.{Blank, Said, Malformed}
@@ -11,7 +11,7 @@ use Rattle.py_grammar.specs.declared.script.Kind.TheVariants as kind
 use Rattle.py_grammar.specs.declared.script.Script.{Script}
 use Rattle.py_grammar.specs.Rules.{body_of, within}
 use Rattle.py_grammar.specs.Lines.{lines, in_first, at_lf}
-use Rattle.py_grammar.specs.Grammar.{Row, row, Item, Declares, form_rows, suite_rows, end_row, else_row, item_rows, items_rows, WellForm, WellSuite}
+use Rattle.py_grammar.specs.Grammar.{Row, row, Item, Declares, form_rows, suite_rows, clauses_rows, end_row, else_row, finally_row, item_rows, items_rows, WellForm, WellSuite, WellClauses}
 use Rattle.py_grammar.specs.Script.{with_read, rows_from, IsScript}
 use Rattle.py_grammar.proofs.LineReads.{read_length}
 
@@ -46,7 +46,7 @@ rows_short n (r ∷ rs) rows is = go r (rows_from (suc n) rs) (rows_short (suc n
         let sizes : suc (length more) ≡ length rows = ap length same in
         omega (arith, h, sizes)
 
--- each statement has a row of its own, also one that stands inside others
+-- each statement and each clause has a row of its own, also one that stands inside others
 mutual
   form_size : (i : Inside) (n : ℕ) (f : Form) → WellForm i f → statements_in f ≤ length (form_rows n f)
   form_size i n (If a s) w = let inside = suite_size (within i (head.If a)) s w.1 in let all = length-append (suite_rows s) (end_row ∷ []) in omega (arith, inside, all)
@@ -57,8 +57,18 @@ mutual
       let behind = length-append (suite_rows t) (end_row ∷ []) in
       omega (arith, one, other, all, behind)
   form_size i n (While a s) w = let inside = suite_size (within i (head.While a)) s w.1 in let all = length-append (suite_rows s) (end_row ∷ []) in omega (arith, inside, all)
-  form_size i n (TryExcept s cs) w = absurd w
-  form_size i n (TryFinally s t) w = absurd w
+  form_size i n (TryExcept s cs) w =
+      let one = suite_size (within i head.Try) s w.1.1.0 in
+      let others = clauses_size (within i head.Try) cs w.1.1.1 in
+      let all = length-append (suite_rows s) (clauses_rows cs ++ end_row ∷ []) in
+      let behind = length-append (clauses_rows cs) (end_row ∷ []) in
+      omega (arith, one, others, all, behind)
+  form_size i n (TryFinally s t) w =
+      let one = suite_size (within i head.Try) s w.1.0 in
+      let other = suite_size (within i head.Try) t w.1.1 in
+      let all = length-append (suite_rows s) (finally_row ∷ (suite_rows t ++ end_row ∷ [])) in
+      let behind = length-append (suite_rows t) (end_row ∷ []) in
+      omega (arith, one, other, all, behind)
   form_size i n f w = omega arith
 
   suite_size : (i : Inside) (s : Suite) → WellSuite i s → statements s ≤ length (suite_rows s)
@@ -67,6 +77,14 @@ mutual
       let here = form_size i n f w.0 in
       let rest = suite_size i more w.1 in
       let all = length-append (form_rows n f) (suite_rows more) in
+      omega (arith, here, rest, all)
+
+  clauses_size : (i : Inside) (cs : Clauses) → WellClauses i cs → statements_under cs ≤ length (clauses_rows cs)
+  clauses_size i no_more w = omega arith
+  clauses_size i (clause n c x s more) w =
+      let here = suite_size i s w.0 in
+      let rest = clauses_size i more w.1 in
+      let all = length-append (suite_rows s) (clauses_rows more) in
       omega (arith, here, rest, all)
 
 -- a declaration in front of items has as many rows as its body has statements, or more

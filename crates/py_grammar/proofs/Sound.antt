@@ -1,7 +1,7 @@
 -- What the reader has is what it has read.
 use Rattle.std.proofs.Common.{◌≡◌, ℕ, suc, length, List, [], ◌∷◌, ◌++◌, ◌+◌, arith, Option, Some, None, Bool, true, false, refl, sym, ap, ◌∙◌, append_assoc, append-nil, subst, rules, map}
 use Rattle.std.specs.Prelude.{option_map}
-use Rattle.py_tree.specs.Tree.{Form, Suite, nothing, first, Tree}
+use Rattle.py_tree.specs.Tree.{Name, Form, Suite, nothing, first, Clauses, no_more, clause, Tree}
 use Rattle.py_tree.specs.Suites.{joined, add}
 use Rattle.py_lines.specs.declared.drive.DriveLine.{DriveLine}
 use Rattle.py_lines.specs.declared.head.Head.{Head}
@@ -17,8 +17,8 @@ use Rattle.py_grammar.specs.declared.rules.Inside.{Inside}
 use Rattle.py_grammar.specs.declared.script.Kind.{Kind}
 use Rattle.py_grammar.specs.declared.script.Kind.TheVariants as kind
 use Rattle.py_grammar.specs.Rules.{Declared, may_declare, body_of, within, may_hold, may_open}
-use Rattle.py_grammar.specs.Grammar.{Row, row, Item, Declares, Drives, declared_as, plain_rows, head_row, suite_rows, form_rows, end_row, else_row, item_rows, items_rows, trees_in, drives_in, WellForm, WellSuite, WellItems}
-use Rattle.py_grammar.specs.Reader.{Began, in_if, in_else, in_while, began, opener, Block, Open, State, inside_of, inside, plain_form, accept_at, in_body, outside, goes_on, still_inside, only_if, grown, deeper, turned_by, turned_to, turned, ended, function_of, one_block, ended_in, closed, closes}
+use Rattle.py_grammar.specs.Grammar.{Row, row, Item, Declares, Drives, declared_as, plain_rows, head_row, except_row, suite_rows, form_rows, clauses_rows, end_row, else_row, finally_row, item_rows, items_rows, trees_in, drives_in, HasClause, WellForm, WellSuite, WellClauses, WellItems}
+use Rattle.py_grammar.specs.Reader.{Began, in_if, in_else, in_while, in_try, in_except, in_finally, began, opener, Block, Open, State, inside_of, inside, plain_form, accept_at, in_body, outside, goes_on, still_inside, only_if, grown, deeper, joined_clauses, with_clause, turned_by, turned_to, turned, ended, function_of, one_block, ended_in, closed, closes}
 
 -- ---- what is open
 
@@ -27,6 +27,9 @@ abbrev pub began_rows : ℕ → Began → List Row
 began_rows n (in_if a) = head_row n (head.If a) ∷ []
 began_rows n (in_else a s) = head_row n (head.If a) ∷ (suite_rows s ++ else_row ∷ [])
 began_rows n (in_while a) = head_row n (head.While a) ∷ []
+began_rows n in_try = head_row n head.Try ∷ []
+began_rows n (in_except s cs m c x) = head_row n head.Try ∷ (suite_rows s ++ (clauses_rows cs ++ except_row m c x ∷ []))
+began_rows n (in_finally s) = head_row n head.Try ∷ (suite_rows s ++ finally_row ∷ [])
 
 -- the rows of open blocks, the innermost first
 abbrev pub blocks_rows : List Block → List Row
@@ -46,6 +49,9 @@ abbrev pub WellBegan : Inside → Began → Type 0
 WellBegan i (in_if a) = may_open i ≡ true
 WellBegan i (in_else a s) = (may_open i ≡ true) × WellSuite (within i (head.If a)) s
 WellBegan i (in_while a) = may_open i ≡ true
+WellBegan i in_try = may_open i ≡ true
+WellBegan i (in_except s cs m c x) = (may_open i ≡ true) × (WellSuite (within i head.Try) s × WellClauses (within i head.Try) cs)
+WellBegan i (in_finally s) = (may_open i ≡ true) × WellSuite (within i head.Try) s
 
 abbrev pub WellBlocks : Kind → List Block → Type 0
 WellBlocks k [] = Unit {0}
@@ -71,16 +77,45 @@ head_lays : (i : Inside) (n : ℕ) (h : Head) → may_open i ≡ true → (began
 head_lays i n (head.If a) w = (refl, w)
 head_lays i n h w = (refl, w)
 
+-- the rows and the rules of clauses with one more behind them
+clauses_rows-joined : (a b : Clauses) → clauses_rows (joined_clauses a b) ≡ clauses_rows a ++ clauses_rows b
+clauses_rows-joined no_more b = refl
+clauses_rows-joined (clause n c x s more) b =
+    ap (λ r. except_row n c x ∷ (suite_rows s ++ r)) (clauses_rows-joined more b)
+    ∙ ap (λ r. except_row n c x ∷ r) (sym (append_assoc (suite_rows s) (clauses_rows more) (clauses_rows b)))
+
+well_with_clause : (i : Inside) (cs : Clauses) (n : ℕ) (c : Name) (x : Option Name) (s : Suite) → WellClauses i cs → WellSuite i s → WellClauses i (with_clause cs n c x s)
+well_with_clause i no_more n c x s w v = (v, tt)
+well_with_clause i (clause m d y t more) n c x s w v = (w.0, well_with_clause i more n c x s w.1 v)
+
+has_with_clause : (cs : Clauses) (n : ℕ) (c : Name) (x : Option Name) (s : Suite) → HasClause (with_clause cs n c x s)
+has_with_clause no_more n c x s = tt
+has_with_clause (clause m d y t more) n c x s = tt
+
+clause_parts : (A B C : List Row) (q r : Row) → A ++ ((B ++ q ∷ C) ++ r ∷ []) ≡ (A ++ (B ++ q ∷ [])) ++ (C ++ r ∷ [])
+clause_parts A B C q r = search (rules, append_assoc)
+
+-- the last suite of a try is that of a clause
+clause_laid : (t : Suite) (cs : Clauses) (m : ℕ) (c : Name) (x : Option Name) (s : Suite) (r : Row)
+    → suite_rows t ++ (clauses_rows (with_clause cs m c x s) ++ r ∷ []) ≡ (suite_rows t ++ (clauses_rows cs ++ except_row m c x ∷ [])) ++ (suite_rows s ++ r ∷ [])
+clause_laid t cs m c x s r =
+    ap (λ q. suite_rows t ++ (q ++ r ∷ []))
+    (clauses_rows-joined cs (clause m c x s no_more) ∙ ap (λ q. clauses_rows cs ++ except_row m c x ∷ q) (append-nil (suite_rows s)))
+    ∙ clause_parts (suite_rows t) (clauses_rows cs) (suite_rows s) (except_row m c x) r
+
 -- how a block goes on by a row behind its last suite
 abbrev Turns : Inside → Began → Suite → Row → Option Began → Type 0
 Turns i g s r None = Unit {0}
 Turns i g s r (Some h) = ((n : ℕ) → began_rows n h ≡ began_rows n g ++ (suite_rows s ++ r ∷ [])) × WellBegan i h
 
 turn_lays : (i : Inside) (n : ℕ) (t : Turn) (g : Began) (s : Suite) → WellBegan i g → WellSuite (within i (opener g)) s
-    → Turns i g s (row n (line.Turns t)) (turned_by t g s)
+    → Turns i g s (row n (line.Turns t)) (turned_by n t g s)
 turn_lays i n turn.Else (in_if a) s v w = ((λ m. refl), (v, w))
-turn_lays i n turn.Else (in_else a t) s v w = tt
-turn_lays i n turn.Else (in_while a) s v w = tt
+turn_lays i n (turn.Except c x) in_try s v w = ((λ m. refl), (v, (w, tt)))
+turn_lays i n (turn.Except c x) (in_except t cs k d y) s v w =
+    ((λ m. ap (λ r. head_row m head.Try ∷ r) (clause_laid t cs k d y s (except_row n c x))), (v.0, (v.1.0, well_with_clause (within i head.Try) cs k d y s v.1.1 w)))
+turn_lays i n turn.Finally in_try s v w = ((λ m. refl), (v, w))
+turn_lays i n t g s v w = tt
 
 -- the statement that a block is at its end
 abbrev Ends : Inside → Began → Suite → Option Form → Type 0
@@ -91,6 +126,12 @@ end_lays : (i : Inside) (g : Began) (s : Suite) → WellBegan i g → WellSuite 
 end_lays i (in_if a) s v w = ((λ n. refl), (v, w))
 end_lays i (in_else a t) s v w = ((λ n. ap (λ x. head_row n (head.If a) ∷ x) (sym (append_assoc (suite_rows t) (else_row ∷ []) (suite_rows s ++ end_row ∷ [])))), (v.0, (v.1, w)))
 end_lays i (in_while a) s v w = ((λ n. refl), (v, w))
+end_lays i in_try s v w = tt
+end_lays i (in_except t cs m c x) s v w = (
+  (λ n. ap (λ r. head_row n head.Try ∷ r) (clause_laid t cs m c x s end_row)),
+  (v.0, (has_with_clause cs m c x s, (v.1.0, well_with_clause (within i head.Try) cs m c x s v.1.1 w))),
+)
+end_lays i (in_finally t) s v w = ((λ n. ap (λ x. head_row n head.Try ∷ x) (sym (append_assoc (suite_rows t) (finally_row ∷ []) (suite_rows s ++ end_row ∷ [])))), (v.0, (v.1, w)))
 
 -- ---- lines of a body
 
@@ -153,11 +194,11 @@ turned_to_sound ts o b bs r (Some g) e w k =
     )
 
 -- a turn
-turned_sound : (ts : List Tree) (o : Open) (n : ℕ) (t : Turn) (bs : List Block) → o.blocks ≡ bs → WellOpen ts o → Grows ts o (row n (line.Turns t)) (turned o t bs)
+turned_sound : (ts : List Tree) (o : Open) (n : ℕ) (t : Turn) (bs : List Block) → o.blocks ≡ bs → WellOpen ts o → Grows ts o (row n (line.Turns t)) (turned o n t bs)
 turned_sound ts o n t [] e w = tt
 turned_sound ts o n t (b ∷ bs) e w =
     let v : WellWithin o.kind (b ∷ bs) o.done = subst (λ x. WellWithin o.kind x o.done) e w.1 in
-    turned_to_sound ts o b bs (row n (line.Turns t)) (turned_by t b.began o.done) e w (turn_lays (inside_of o.kind bs) n t b.began o.done v.0.1.1 v.1)
+    turned_to_sound ts o b bs (row n (line.Turns t)) (turned_by n t b.began o.done) e w (turn_lays (inside_of o.kind bs) n t b.began o.done v.0.1.1 v.1)
 
 -- a line other than an end
 goes_on_sound : (ts : List Tree) (o : Open) (n : ℕ) (l : Line) → WellOpen ts o → Grows ts o (row n l) (goes_on o n l)

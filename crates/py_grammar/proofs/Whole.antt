@@ -1,7 +1,7 @@
 -- The reader takes the rows of every script.
 use Rattle.std.proofs.Common.{◌≡◌, ℕ, suc, length, List, [], ◌∷◌, ◌++◌, Option, Some, None, true, refl, sym, ap, ◌∙◌, append_assoc, append-nil, length-append, subst, arith, map}
 use Rattle.std.proofs.lemmas.List.{map-append}
-use Rattle.py_tree.specs.Tree.{Name, Form, Assign, Do, Show, Return, Raise, Reraise, Break, Continue, Pass, If, IfElse, While, Suite, nothing, first, Tree}
+use Rattle.py_tree.specs.Tree.{Name, Form, Assign, Do, Show, Return, Raise, Reraise, Break, Continue, Pass, If, IfElse, While, TryExcept, TryFinally, Suite, nothing, first, Clauses, no_more, clause, Tree}
 use Rattle.py_tree.specs.Suites.{joined, add}
 use Rattle.py_lines.specs.declared.drive.DriveLine.{DriveLine}
 use Rattle.py_lines.specs.declared.head.Head.{Head}
@@ -10,9 +10,10 @@ use Rattle.py_lines.specs.declared.plain.Plain.{Plain}
 use Rattle.py_lines.specs.declared.plain.Plain.TheVariants as plain
 use Rattle.py_grammar.specs.declared.script.Kind.{Kind}
 use Rattle.py_grammar.specs.declared.script.Kind.TheVariants as kind
-use Rattle.py_grammar.specs.Rules.{may_drive, may_hold, may_open}
-use Rattle.py_grammar.specs.Grammar.{Row, Item, Declares, Drives, declared_as, plain_rows, head_row, suite_rows, form_rows, end_row, else_row, items_rows, trees_in, drives_in, WellForm, WellSuite, WellItems}
-use Rattle.py_grammar.specs.Reader.{Began, in_if, in_else, in_while, began, Block, State, state, inside_of, plain_form, accept}
+use Rattle.py_grammar.specs.Rules.{may_drive, within, may_hold, may_open}
+use Rattle.py_grammar.specs.Grammar.{Row, Item, Declares, Drives, declared_as, plain_rows, head_row, suite_rows, form_rows, clauses_rows, end_row, else_row, finally_row, items_rows, trees_in, drives_in, WellForm, WellSuite, WellClauses, WellItems}
+use Rattle.py_grammar.specs.Reader.{Began, in_if, in_else, in_while, in_try, in_except, in_finally, began, Block, State, state, inside_of, plain_form, joined_clauses, with_clause, accept}
+use Rattle.py_grammar.proofs.Clauses.{joined_clauses_assoc, joined_clauses-no_more}
 
 abbrev pub and_then : Option State → (State → Option State) → Option State
 and_then None f = None
@@ -63,6 +64,14 @@ module _ (ts : List Tree) (ds : List DriveLine) (line : ℕ) (k : Kind) (name : 
       → run (body_at (b ∷ bs) nothing) ((suite_rows s ++ more) ++ rest) ≡ run (body_at (b ∷ bs) s) (more ++ rest)
   suite_then b bs s more rest reads = ap (run (body_at (b ∷ bs) nothing)) (append_assoc (suite_rows s) more rest) ∙ reads (more ++ rest)
 
+  -- the suite of a clause, in front of other clauses and the end of their try
+  clause_read : (t : Suite) (b : Block) (bs : List Block) (more : Clauses) (rest : List Row)
+      → ((rows : List Row) → run (body_at (b ∷ bs) nothing) (suite_rows t ++ rows) ≡ run (body_at (b ∷ bs) t) rows)
+      → run (body_at (b ∷ bs) nothing) (((suite_rows t ++ clauses_rows more) ++ end_row ∷ []) ++ rest) ≡ run (body_at (b ∷ bs) t) ((clauses_rows more ++ end_row ∷ []) ++ rest)
+  clause_read t b bs more rest reads =
+      ap (λ r. run (body_at (b ∷ bs) nothing) (r ++ rest)) (append_assoc (suite_rows t) (clauses_rows more) (end_row ∷ []))
+      ∙ suite_then b bs t (clauses_rows more ++ end_row ∷ []) rest reads
+
   mutual
     form_read : (f : Form) (n : ℕ) (bs : List Block) (done : Suite) (rest : List Row) → WellForm (inside_of k bs) f
         → run (body_at bs done) (form_rows n f ++ rest) ≡ run (body_at bs (add done n f)) rest
@@ -87,7 +96,19 @@ module _ (ts : List Tree) (ds : List DriveLine) (line : ℕ) (k : Kind) (name : 
     form_read (While a s) n bs done rest w =
         let b : Block = block done n (in_while a) in
         head_read (head.While a) n bs done ((suite_rows s ++ end_row ∷ []) ++ rest) w.0 ∙ suite_then b bs s (end_row ∷ []) rest (λ rows. suite_read s (b ∷ bs) nothing rows w.1)
-    form_read f n bs done rest w = absurd w
+    form_read (TryExcept s no_more) n bs done rest w = absurd w.1.0
+    form_read (TryExcept s (clause m c x t more)) n bs done rest w =
+        let b : Block = block done n in_try in
+        let behind : List Row = clauses_rows (clause m c x t more) ++ end_row ∷ [] in
+        head_read head.Try n bs done ((suite_rows s ++ behind) ++ rest) w.0 ∙ suite_then b bs s behind rest (λ rows. suite_read s (b ∷ bs) nothing rows w.1.1.0)
+        ∙ clause_read t (block done n (in_except s no_more m c x)) bs more rest (λ rows. suite_read t (block done n (in_except s no_more m c x) ∷ bs) nothing rows w.1.1.1.0)
+        ∙ clauses_read more s no_more m c x t n bs done rest w.1.1.1.1
+    form_read (TryFinally s t) n bs done rest w =
+        let b : Block = block done n in_try in
+        let c : Block = block done n (in_finally s) in
+        let behind : List Row = finally_row ∷ (suite_rows t ++ end_row ∷ []) in
+        head_read head.Try n bs done ((suite_rows s ++ behind) ++ rest) w.0 ∙ suite_then b bs s behind rest (λ rows. suite_read s (b ∷ bs) nothing rows w.1.0)
+        ∙ suite_then c bs t (end_row ∷ []) rest (λ rows. suite_read t (c ∷ bs) nothing rows w.1.1)
 
     pub suite_read : (s : Suite) (bs : List Block) (done : Suite) (rest : List Row) → WellSuite (inside_of k bs) s
         → run (body_at bs done) (suite_rows s ++ rest) ≡ run (body_at bs (joined done s)) rest
@@ -96,6 +117,20 @@ module _ (ts : List Tree) (ds : List DriveLine) (line : ℕ) (k : Kind) (name : 
         ap (run (body_at bs done)) (append_assoc (form_rows n f) (suite_rows more) rest)
         ∙ form_read f n bs done (suite_rows more ++ rest) w.0 ∙ suite_read more bs (add done n f) rest w.1
         ∙ ap (λ c. run (body_at bs c) rest) (joined_assoc done (first n f nothing) more)
+
+    -- the clauses behind the suite of a clause, and the end of their try
+    clauses_read : (cs : Clauses) (s : Suite) (before : Clauses) (m : ℕ) (c : Name) (x : Option Name) (t : Suite) (n : ℕ) (bs : List Block) (done : Suite) (rest : List Row)
+        → WellClauses (within (inside_of k bs) head.Try) cs
+        → run (body_at (block done n (in_except s before m c x) ∷ bs) t) ((clauses_rows cs ++ end_row ∷ []) ++ rest)
+        ≡ run (body_at bs (add done n (TryExcept s (joined_clauses (with_clause before m c x t) cs)))) rest
+    clauses_read no_more s before m c x t n bs done rest w =
+        ap (λ q. run (body_at bs (add done n (TryExcept s q))) rest) (sym (joined_clauses-no_more (with_clause before m c x t)))
+    clauses_read (clause m2 c2 x2 t2 more) s before m c x t n bs done rest w =
+        let front : Clauses = with_clause before m c x t in
+        let b : Block = block done n (in_except s front m2 c2 x2) in
+        clause_read t2 b bs more rest (λ rows. suite_read t2 (b ∷ bs) nothing rows w.0)
+        ∙ clauses_read more s front m2 c2 x2 t2 n bs done rest w.1
+        ∙ ap (λ q. run (body_at bs (add done n (TryExcept s q))) rest) (joined_clauses_assoc front (clause m2 c2 x2 t2 no_more) more)
 
 -- the rules behind one more declaration
 pub well_behind_one : (ts : List Tree) (t : Tree) (made : ℕ) (is : List Item) → WellItems (map declared_as ts ++ declared_as t ∷ []) made is

@@ -1,6 +1,6 @@
 -- Scripts as trees, the rows that a tree prints, and the rules that it keeps.
-use Rattle.std.specs.Prelude.{◌≡◌, ℕ, suc, List, [], ◌∷◌, ◌++◌, true}
-use Rattle.py_tree.specs.Tree.{Form, Assign, Do, Show, Return, Raise, Reraise, Break, Continue, Pass, If, IfElse, While, TryExcept, TryFinally, Suite, nothing, first, Tree}
+use Rattle.std.specs.Prelude.{◌≡◌, ℕ, suc, List, [], ◌∷◌, ◌++◌, Option, true}
+use Rattle.py_tree.specs.Tree.{Name, Form, Assign, Do, Show, Return, Raise, Reraise, Break, Continue, Pass, If, IfElse, While, TryExcept, TryFinally, Suite, nothing, first, Clauses, no_more, clause, Tree}
 use Rattle.py_lines.specs.declared.drive.DriveLine.{DriveLine}
 use Rattle.py_lines.specs.declared.head.Head.{Head}
 use Rattle.py_lines.specs.declared.head.Head.TheVariants as head
@@ -36,6 +36,8 @@ kept_number n line.End = 0
 kept_number n (line.Plain p) = n
 kept_number n (line.Opens h) = n
 kept_number n (line.Turns turn.Else) = 0
+kept_number n (line.Turns (turn.Except c x)) = n
+kept_number n (line.Turns turn.Finally) = 0
 kept_number n (line.Header h) = n
 kept_number n (line.Drive d) = 0
 
@@ -48,6 +50,9 @@ end_row = row 0 line.End
 abbrev pub else_row : Row
 else_row = row 0 (line.Turns turn.Else)
 
+abbrev pub finally_row : Row
+finally_row = row 0 (line.Turns turn.Finally)
+
 -- the row of a plain statement, and the one that opens a block
 abbrev pub plain_rows : ℕ → Plain → List Row
 plain_rows n p = row n (line.Plain p) ∷ []
@@ -55,8 +60,12 @@ plain_rows n p = row n (line.Plain p) ∷ []
 abbrev pub head_row : ℕ → Head → Row
 head_row n h = row n (line.Opens h)
 
+-- the row that begins a clause
+abbrev pub except_row : ℕ → Name → Option Name → Row
+except_row n c x = row n (line.Turns (turn.Except c x))
+
 abbrev mutual
-  -- the rows of a statement; some forms have no line yet
+  -- the rows of a statement
   pub form_rows : ℕ → Form → List Row
   form_rows n (Assign x e) = plain_rows n (plain.Assign x e)
   form_rows n (Do o) = plain_rows n (plain.Do o)
@@ -70,12 +79,16 @@ abbrev mutual
   form_rows n (If a s) = head_row n (head.If a) ∷ (suite_rows s ++ end_row ∷ [])
   form_rows n (IfElse a s t) = head_row n (head.If a) ∷ (suite_rows s ++ else_row ∷ (suite_rows t ++ end_row ∷ []))
   form_rows n (While a s) = head_row n (head.While a) ∷ (suite_rows s ++ end_row ∷ [])
-  form_rows n (TryExcept s cs) = []
-  form_rows n (TryFinally s t) = []
+  form_rows n (TryExcept s cs) = head_row n head.Try ∷ (suite_rows s ++ (clauses_rows cs ++ end_row ∷ []))
+  form_rows n (TryFinally s t) = head_row n head.Try ∷ (suite_rows s ++ finally_row ∷ (suite_rows t ++ end_row ∷ []))
 
   pub suite_rows : Suite → List Row
   suite_rows nothing = []
   suite_rows (first n f more) = form_rows n f ++ suite_rows more
+
+  pub clauses_rows : Clauses → List Row
+  clauses_rows no_more = []
+  clauses_rows (clause n c x s more) = except_row n c x ∷ (suite_rows s ++ clauses_rows more)
 
 abbrev pub item_rows : Item → List Row
 item_rows (Declares t) = row t.line (line.Header (header.Def t.name t.params)) ∷ (suite_rows t.suite ++ end_row ∷ [])
@@ -98,8 +111,13 @@ drives_in (Drives d ∷ is) = d ∷ drives_in is
 
 -- ---- the rules that it keeps
 
+-- there is a clause
+abbrev pub HasClause : Clauses → Type 0
+HasClause no_more = ⊥
+HasClause (clause n c x s more) = Unit {0}
+
 abbrev mutual
-  -- a statement keeps the rules where it stands; a form without a line stands nowhere
+  -- a statement keeps the rules where it stands; a try has a clause or a finally
   pub WellForm : Inside → Form → Type 0
   WellForm i (Assign x e) = may_hold i (plain.Assign x e) ≡ true
   WellForm i (Do o) = may_hold i (plain.Do o) ≡ true
@@ -113,13 +131,18 @@ abbrev mutual
   WellForm i (If a s) = (may_open i ≡ true) × WellSuite (within i (head.If a)) s
   WellForm i (IfElse a s t) = (may_open i ≡ true) × (WellSuite (within i (head.If a)) s × WellSuite (within i (head.If a)) t)
   WellForm i (While a s) = (may_open i ≡ true) × WellSuite (within i (head.While a)) s
-  WellForm i (TryExcept s cs) = ⊥
-  WellForm i (TryFinally s t) = ⊥
+  WellForm i (TryExcept s cs) = (may_open i ≡ true) × (HasClause cs × (WellSuite (within i head.Try) s × WellClauses (within i head.Try) cs))
+  WellForm i (TryFinally s t) = (may_open i ≡ true) × (WellSuite (within i head.Try) s × WellSuite (within i head.Try) t)
 
   -- so do statements in order
   pub WellSuite : Inside → Suite → Type 0
   WellSuite i nothing = Unit {0}
   WellSuite i (first n f more) = WellForm i f × WellSuite i more
+
+  -- and the suites of clauses
+  pub WellClauses : Inside → Clauses → Type 0
+  WellClauses i no_more = Unit {0}
+  WellClauses i (clause n c x s more) = WellSuite i s × WellClauses i more
 
 -- so do the items that follow these declarations and so many drives
 abbrev pub WellItems : List Declared → ℕ → List Item → Type 0

@@ -1,7 +1,7 @@
 -- A reader of lines, by what it has read.
 use Rattle.std.specs.Prelude.{◌≡◌, ℕ, suc, List, [], ◌∷◌, ◌++◌, length, Option, Some, None, option_map, map, Bool, true, false}
 use Rattle.py_tree.specs.declared.expr.Atom.{Atom}
-use Rattle.py_tree.specs.Tree.{Name, Form, Assign, Do, Show, Return, Raise, Reraise, Break, Continue, Pass, If, IfElse, While, Suite, nothing, Tree}
+use Rattle.py_tree.specs.Tree.{Name, Form, Assign, Do, Show, Return, Raise, Reraise, Break, Continue, Pass, If, IfElse, While, TryExcept, TryFinally, Suite, nothing, Clauses, no_more, clause, Tree}
 use Rattle.py_tree.specs.Suites.{add}
 use Rattle.py_lines.specs.declared.drive.DriveLine.{DriveLine}
 use Rattle.py_lines.specs.declared.head.Head.{Head}
@@ -26,20 +26,28 @@ use Rattle.py_grammar.specs.Script.{Text}
 
 -- ---- the body that is open
 
--- how an open block began; behind an else, with the suite of its if
+-- how an open block began: behind an else, with the suite of its if; behind an except, with the suite of its try, the clauses before it,
+-- and its line, its class and the name that it binds; behind a finally, with the suite of its try
 pub data Began : Type 0 where
   in_if in_while : Atom → Began
   in_else : Atom → Suite → Began
+  in_try : Began
+  in_except : Suite → Clauses → ℕ → Name → Option Name → Began
+  in_finally : Suite → Began
 
 abbrev pub began : Head → Began
 began (head.If a) = in_if a
 began (head.While a) = in_while a
+began head.Try = in_try
 
 -- the line that opened it
 abbrev pub opener : Began → Head
 opener (in_if a) = head.If a
 opener (in_else a s) = head.If a
 opener (in_while a) = head.While a
+opener in_try = head.Try
+opener (in_except s cs n c x) = head.Try
+opener (in_finally s) = head.Try
 
 -- an open block: the statements before it in the block around it, its line and how it began
 pub record Block : Type 0 where
@@ -93,34 +101,62 @@ grown o n f = record o { done = add o.done n f }
 abbrev pub deeper : Open → ℕ → Head → Open
 deeper o n h = record o { blocks = record { before = o.done; line = n; began = began h } ∷ o.blocks; done = nothing }
 
--- how a block goes on behind this turn and its last suite, where it may turn so: an if without an else by an else
-abbrev pub turned_by : Turn → Began → Suite → Option Began
-turned_by turn.Else (in_if a) s = Some (in_else a s)
-turned_by turn.Else (in_else a t) s = None
-turned_by turn.Else (in_while a) s = None
+-- clauses behind others
+abbrev pub joined_clauses : Clauses → Clauses → Clauses
+joined_clauses no_more ds = ds
+joined_clauses (clause n c x s more) ds = clause n c x s (joined_clauses more ds)
+
+-- a clause behind others
+abbrev pub with_clause : Clauses → ℕ → Name → Option Name → Suite → Clauses
+with_clause cs n c x s = joined_clauses cs (clause n c x s no_more)
+
+-- how a block goes on behind an else and its last suite, where it may turn so: an if without an else
+abbrev pub else_behind : Began → Suite → Option Began
+else_behind (in_if a) s = Some (in_else a s)
+else_behind g s = None
+
+-- behind an except in this line: a try without a finally
+abbrev pub except_behind : ℕ → Name → Option Name → Began → Suite → Option Began
+except_behind n c x in_try s = Some (in_except s no_more n c x)
+except_behind n c x (in_except t cs m d y) s = Some (in_except t (with_clause cs m d y s) n c x)
+except_behind n c x g s = None
+
+-- behind a finally: a try without a clause or a finally
+abbrev pub finally_behind : Began → Suite → Option Began
+finally_behind in_try s = Some (in_finally s)
+finally_behind g s = None
+
+-- how a block goes on behind this turn, which is the n-th line, and its last suite, where it may turn so
+abbrev pub turned_by : ℕ → Turn → Began → Suite → Option Began
+turned_by n turn.Else g s = else_behind g s
+turned_by n (turn.Except c x) g s = except_behind n c x g s
+turned_by n turn.Finally g s = finally_behind g s
 
 abbrev pub turned_to : Open → Block → List Block → Began → Open
 turned_to o b bs g = record o { blocks = record b { began = g } ∷ bs; done = nothing }
 
 -- a turn, where these blocks are open
-abbrev pub turned : Open → Turn → List Block → Option Open
-turned o t [] = None
-turned o t (b ∷ bs) = option_map (turned_to o b bs) (turned_by t b.began o.done)
+abbrev pub turned : Open → ℕ → Turn → List Block → Option Open
+turned o n t [] = None
+turned o n t (b ∷ bs) = option_map (turned_to o b bs) (turned_by n t b.began o.done)
 
 -- a line of a body other than an end
 abbrev pub goes_on : Open → ℕ → Line → Option Open
 goes_on o n line.End = None
 goes_on o n (line.Plain p) = only_if (may_hold (inside o) p) (grown o n (plain_form p))
 goes_on o n (line.Opens h) = only_if (may_open (inside o)) (deeper o n h)
-goes_on o n (line.Turns t) = turned o t o.blocks
+goes_on o n (line.Turns t) = turned o n t o.blocks
 goes_on o n (line.Header h) = None
 goes_on o n (line.Drive d) = None
 
--- the statement that a block with this last suite is at its end, where it may end
+-- the statement that a block with this last suite is at its end, where it may end: a try needs a clause or a finally
 abbrev pub ended : Began → Suite → Option Form
 ended (in_if a) s = Some (If a s)
 ended (in_else a t) s = Some (IfElse a t s)
 ended (in_while a) s = Some (While a s)
+ended in_try s = None
+ended (in_except t cs n c x) s = Some (TryExcept t (with_clause cs n c x s))
+ended (in_finally t) s = Some (TryFinally t s)
 
 -- what an end closes: the body, or its innermost block
 pub data Closing : Type 0 where

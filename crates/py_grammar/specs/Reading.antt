@@ -2,7 +2,7 @@
 use Rattle.std.specs.Prelude.{ℕ, List, [], ◌∷◌, option_map}
 use Rattle.std.specs.declared.result.Result.{Result}
 use Rattle.std.specs.declared.result.Result.TheVariants.{Ok, Err}
-use Rattle.py_tree.specs.Views.{suite_of, tree_of}
+use Rattle.py_tree.specs.Views.{clauses_of, suite_of, tree_of}
 use Rattle.py_grammar.specs.declared.fault.ParseFault.{ParseFault}
 use Rattle.py_grammar.specs.declared.fault.ParseFault.TheVariants.{Malformed, NoMemory}
 use Rattle.py_grammar.specs.declared.open_body.BlockHead.{BlockHead}
@@ -13,13 +13,16 @@ use Rattle.py_grammar.specs.declared.open_body.Closed.{Closed}
 use Rattle.py_grammar.specs.declared.open_body.Closed.TheVariants as closed
 use Rattle.py_grammar.specs.declared.script.Script.{Script}
 use Rattle.py_grammar.specs.Script.{trees_of, Text}
-use Rattle.py_grammar.specs.Reader.{Began, in_if, in_else, in_while, Block, Open, Closing, whole_body, one_block, State, state, Good, Bad, WalksTo, start}
+use Rattle.py_grammar.specs.Reader.{Began, in_if, in_else, in_while, in_try, in_except, in_finally, Block, Open, Closing, whole_body, one_block, State, state, Good, Bad, WalksTo, start}
 use Rattle.py_grammar.specs.Tables.{SoFar}
 
 abbrev pub began_of : BlockHead → Began
 began_of (block.If a) = in_if a
 began_of (block.Else a s) = in_else a (suite_of s)
 began_of (block.While a) = in_while a
+began_of block.Try = in_try
+began_of (block.Except s cs h) = in_except (suite_of s) (clauses_of cs) h.line h.class h.target
+began_of (block.Finally s) = in_finally (suite_of s)
 
 abbrev pub block_of : OpenBlock → Block
 block_of b = record { before = suite_of b.before; line = b.line; began = began_of b.head }

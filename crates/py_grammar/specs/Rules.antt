@@ -91,6 +91,7 @@ body_of k = record { kind = k; blocks = 1; in_loop = false }
 abbrev pub is_loop : Head → Bool
 is_loop (head.If a) = false
 is_loop (head.While a) = true
+is_loop head.Try = false
 
 -- where those of a block stand that is opened by this line
 abbrev pub within : Inside → Head → Inside

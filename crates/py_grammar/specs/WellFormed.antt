@@ -2,7 +2,6 @@
 use Rattle.std.specs.Prelude.{◌≡◌, ◌≢◌, ◌≤◌, ◌⊎◌, ℕ, List, Some, length, true, false, All, Any, AllPairs, map, slice_get}
 use Rattle.py_tree.specs.Compilable.{IsCompilable}
 use Rattle.py_tree.specs.Tree.{Name, Tree}
-use Rattle.py_tree.specs.Unguarded.{IsUnguarded}
 use Rattle.py_lines.specs.declared.drive.DriveAtom.{DriveAtom}
 use Rattle.py_lines.specs.declared.drive.DriveAtom.TheVariants as argument
 use Rattle.py_lines.specs.declared.drive.DriveLine.{DriveLine}
@@ -15,11 +14,10 @@ use Rattle.py_grammar.specs.Script.{trees_of}
 abbrev pub AreDistinct : List Name → Type 0
 AreDistinct names = AllPairs (λ x y. x ≢ y) names
 
--- a function can be compiled, isn't named like a class, and guards nothing, since no line does so far
+-- a function can be compiled, and isn't named like a class
 pub record IsWellDeclared (t : Tree) : Type 0 where
   pub no_class : is_builtin_class t.name ≡ false
   pub compilable : IsCompilable t
-  pub unguarded : IsUnguarded t.suite
 
 -- a name that stands for something among these declarations: it is that of one, or of a built-in class
 abbrev pub IsKnown : List Tree → Name → Type 0

@@ -3,17 +3,17 @@
 
 ghost use Rattle.std.specs.Prelude.{◌≡◌, IfOk, option_map, Some};
 ghost use Rattle.std.specs.List.{list_any};
-ghost use Rattle.py_tree.specs.Views.{form_of, suite_of};
+ghost use Rattle.py_tree.specs.Views.{clauses_of, form_of, suite_of};
 ghost use Rattle.py_lines.specs.declared.line.Line.TheVariants.{Plain as PlainLine, Opens as OpensLine, Turns as TurnsLine};
 ghost use Rattle.py_grammar.specs.Rules.{is_loop as is_loop_head};
-ghost use Rattle.py_grammar.specs.Reader.{began, closed, deeper, ended, goes_on, grown, inside as is_inside, only_if, opened, opener, plain_form, turned, turned_by};
+ghost use Rattle.py_grammar.specs.Reader.{began, closed, deeper, else_behind, ended, except_behind, finally_behind, goes_on, grown, inside as is_inside, only_if, opened, opener, plain_form, turned, turned_by, with_clause as is_with_clause};
 ghost use Rattle.py_grammar.specs.Reading.{began_of, closing_of, open_of};
 
 use crate::rules::{Inside, may_hold, may_open};
 use crate::script::Kind;
 use py_code::{NoMemory, PyText};
 use py_lines::{Head, Line, Plain, Turn};
-use py_tree::{Atom, Body, ParamList, Stmt, StmtForm, StmtList};
+use py_tree::{Atom, Body, Clause, ClauseList, ParamList, Stmt, StmtForm, StmtList};
 use std::alloc::Global;
 use std::mem;
 
@@ -26,6 +26,20 @@ pub enum BlockHead {
     Else(Atom, StmtList),
     /// `while a`.
     While(Atom),
+    /// `try`, without a clause or a `finally` so far.
+    Try,
+    /// `try`, its suite, the clauses before the last one, and how that began.
+    Except(StmtList, ClauseList, ClauseHead),
+    /// `try`, its suite and `finally`.
+    Finally(StmtList),
+}
+
+/// `except C` or `except C as x`, with its line.
+#[derive(Drop)]
+pub struct ClauseHead {
+    line: u32,
+    class: PyText,
+    target: Option<PyText>,
 }
 
 /// A block that is open, with the line of its head and the statements before it in the block around it.
@@ -74,6 +88,29 @@ fn statement_of(plain: Plain) -> StmtForm
     }
 }
 
+/// Clauses with one more behind them, which began so and has this suite.
+fn with_clause(
+    clauses: ClauseList,
+    last: ClauseHead,
+    suite: StmtList,
+) -> Result<ClauseList, NoMemory>
+    ensures { IfOk result (λ all. clauses_of all ≡ is_with_clause (clauses_of clauses) last.line last.class last.target (suite_of suite)) }
+{
+    let ClauseHead {
+        line,
+        class,
+        target,
+    } = last;
+    let mut clauses = clauses;
+    clauses.push(Clause {
+        line,
+        class,
+        target,
+        suite,
+    })?;
+    Ok(clauses)
+}
+
 impl BlockHead {
     /// How a block begins with the line that opens it.
     fn of(head: Head) -> BlockHead
@@ -82,6 +119,7 @@ impl BlockHead {
         match head {
             Head::If(atom) => BlockHead::If(atom),
             Head::While(atom) => BlockHead::While(atom),
+            Head::Try => BlockHead::Try,
         }
     }
 
@@ -93,30 +131,104 @@ impl BlockHead {
             BlockHead::If(_) => false,
             BlockHead::Else(_, _) => false,
             BlockHead::While(_) => true,
+            BlockHead::Try => false,
+            BlockHead::Except(_, _, _) => false,
+            BlockHead::Finally(_) => false,
         }
     }
 
-    /// How the block goes on behind this turn and its last suite, where it may turn so.
-    fn turned(self, turn: Turn, suite: StmtList) -> Option<BlockHead>
-        ensures { option_map began_of result ≡ turned_by turn (began_of self) (suite_of suite) }
+    /// How the block goes on behind an `else` and its last suite: an `if` without an `else`.
+    fn at_else(self, suite: StmtList) -> Option<BlockHead>
+        ensures { option_map began_of result ≡ else_behind (began_of self) (suite_of suite) }
+    {
+        match self {
+            BlockHead::If(atom) => Some(BlockHead::Else(atom, suite)),
+            BlockHead::Else(_, _) => None,
+            BlockHead::While(_) => None,
+            BlockHead::Try => None,
+            BlockHead::Except(_, _, _) => None,
+            BlockHead::Finally(_) => None,
+        }
+    }
+
+    /// The same behind an `except`: a `try` without a `finally`.
+    fn at_except(
+        self,
+        alloc: Global,
+        next: ClauseHead,
+        suite: StmtList,
+    ) -> Result<Option<BlockHead>, NoMemory>
+        ensures { IfOk result (λ turned. option_map began_of turned ≡ except_behind next.line next.class next.target (began_of self) (suite_of suite)) }
+    {
+        match self {
+            BlockHead::If(_) => Ok(None),
+            BlockHead::Else(_, _) => Ok(None),
+            BlockHead::While(_) => Ok(None),
+            BlockHead::Try => Ok(Some(BlockHead::Except(suite, ClauseList::new(alloc), next))),
+            BlockHead::Except(first, clauses, last) => {
+                let clauses = with_clause(clauses, last, suite)?;
+                Ok(Some(BlockHead::Except(first, clauses, next)))
+            }
+            BlockHead::Finally(_) => Ok(None),
+        }
+    }
+
+    /// The same behind a `finally`: a `try` without a clause or a `finally`.
+    fn at_finally(self, suite: StmtList) -> Option<BlockHead>
+        ensures { option_map began_of result ≡ finally_behind (began_of self) (suite_of suite) }
+    {
+        match self {
+            BlockHead::If(_) => None,
+            BlockHead::Else(_, _) => None,
+            BlockHead::While(_) => None,
+            BlockHead::Try => Some(BlockHead::Finally(suite)),
+            BlockHead::Except(_, _, _) => None,
+            BlockHead::Finally(_) => None,
+        }
+    }
+
+    /// How the block goes on behind this turn, which is the line of this number, and its last suite, where it may turn so.
+    fn turned(
+        self,
+        alloc: Global,
+        number: u32,
+        turn: Turn,
+        suite: StmtList,
+    ) -> Result<Option<BlockHead>, NoMemory>
+        ensures { IfOk result (λ next. option_map began_of next ≡ turned_by number turn (began_of self) (suite_of suite)) }
     {
         match turn {
-            Turn::Else => match self {
-                BlockHead::If(atom) => Some(BlockHead::Else(atom, suite)),
-                BlockHead::Else(_, _) => None,
-                BlockHead::While(_) => None,
-            },
+            Turn::Else => Ok(self.at_else(suite)),
+            Turn::Except(class, target) => {
+                let line = number;
+                self.at_except(
+                    alloc,
+                    ClauseHead {
+                        line,
+                        class,
+                        target,
+                    },
+                    suite,
+                )
+            }
+            Turn::Finally => Ok(self.at_finally(suite)),
         }
     }
 
     /// The statement that the block is at its end with this last suite, where it may end.
-    fn ended(self, suite: StmtList) -> Option<StmtForm>
-        ensures { option_map form_of result ≡ ended (began_of self) (suite_of suite) }
+    fn ended(self, suite: StmtList) -> Result<Option<StmtForm>, NoMemory>
+        ensures { IfOk result (λ form. option_map form_of form ≡ ended (began_of self) (suite_of suite)) }
     {
         match self {
-            BlockHead::If(atom) => Some(StmtForm::If(atom, suite)),
-            BlockHead::Else(atom, first) => Some(StmtForm::IfElse(atom, first, suite)),
-            BlockHead::While(atom) => Some(StmtForm::While(atom, suite)),
+            BlockHead::If(atom) => Ok(Some(StmtForm::If(atom, suite))),
+            BlockHead::Else(atom, first) => Ok(Some(StmtForm::IfElse(atom, first, suite))),
+            BlockHead::While(atom) => Ok(Some(StmtForm::While(atom, suite))),
+            BlockHead::Try => Ok(None),
+            BlockHead::Except(first, clauses, last) => {
+                let clauses = with_clause(clauses, last, suite)?;
+                Ok(Some(StmtForm::TryExcept(first, clauses)))
+            }
+            BlockHead::Finally(first) => Ok(Some(StmtForm::TryFinally(first, suite))),
         }
     }
 }
@@ -188,8 +300,8 @@ impl OpenBody {
 
     /// The innermost block turned to its next suite, where it may turn so.
     #[tactic(auto, using(crate::proofs::Stacks::stack_push))]
-    fn turn(self, alloc: Global, turn: Turn) -> Result<Option<OpenBody>, NoMemory>
-        ensures { IfOk result (λ next. option_map open_of next ≡ turned (open_of self) turn (open_of self).blocks) }
+    fn turn(self, alloc: Global, number: u32, turn: Turn) -> Result<Option<OpenBody>, NoMemory>
+        ensures { IfOk result (λ next. option_map open_of next ≡ turned (open_of self) number turn (open_of self).blocks) }
     {
         let mut body = self;
         let Some(block) = body.blocks.pop() else {
@@ -197,7 +309,7 @@ impl OpenBody {
         };
         let OpenBlock { before, line, head } = block;
         let suite = mem::replace(&mut body.done, StmtList::new(alloc));
-        let Some(head) = head.turned(turn, suite) else {
+        let Some(head) = head.turned(alloc, number, turn, suite)? else {
             return Ok(None);
         };
         body.blocks.push(OpenBlock { before, line, head })?;
@@ -216,7 +328,7 @@ impl OpenBody {
         match line {
             Line::Plain(plain) => self.hold(number, plain),
             Line::Opens(head) => self.open(alloc, number, head),
-            Line::Turns(turn) => self.turn(alloc, turn),
+            Line::Turns(turn) => self.turn(alloc, number, turn),
             Line::End | Line::Header(_) | Line::Drive(_) => Ok(None),
         }
     }
@@ -242,7 +354,7 @@ impl OpenBody {
                 line,
             })));
         };
-        let Some(form) = block.head.ended(done) else {
+        let Some(form) = block.head.ended(done)? else {
             return Ok(None);
         };
         let mut done = block.before;

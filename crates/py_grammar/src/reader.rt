@@ -31,13 +31,14 @@ pub struct Reader {
 impl Model for Reader {
     ghost use Rattle.std.specs.Prelude.{◌≡◌};
     ghost use Rattle.std.specs.Coded.{codes};
-    ghost use Rattle.py_tree.specs.contracts.stmt.StmtList as e;
+    ghost use Rattle.py_tree.specs.contracts.stmt.ClauseList as clauses;
+    ghost use Rattle.py_tree.specs.contracts.stmt.StmtList as suite;
     ghost use Rattle.py_grammar.specs.Script.{trees_of};
     ghost use Rattle.py_grammar.specs.Tables.{SoFar, taken_names};
 
     ghost Value = { SoFar };
 
-    ghost coded = { Prim.hlevel (codes, e.the_row.coded) };
+    ghost coded = { Prim.hlevel (codes, suite.the_row.coded, clauses.the_row.coded) };
 
     ghost view = { λ r. record { whole = r.whole; inside = r.inside } };
 

@@ -44,3 +44,5 @@ pub mod NamingLemmas
 pub mod Fitting
 -- ---- which instructions there are
 pub mod Uses
+-- ---- what questions name as handled
+mod Slot

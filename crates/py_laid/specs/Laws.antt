@@ -1,20 +1,21 @@
 -- What holds of laid code.
-use Rattle.std.specs.Prelude.{ℕ, false, Option, List, ◌∷◌, ◌≡◌, length}
+use Rattle.std.specs.Prelude.{ℕ, false, Option, List, [], ◌∷◌, ◌≡◌, length}
+use Rattle.std.specs.Option.{option_or}
 use Rattle.py_objects.specs.declared.refs.PyBaseExceptionRef.{PyBaseExceptionRef}
 use Rattle.py_objects.specs.declared.payload.Payload.{Payload}
 use Rattle.py_objects.specs.Objects.{Obj}
-use Rattle.py_objects.specs.Own.{Own, Makes}
+use Rattle.py_objects.specs.declared.request.Request.{Request}
+use Rattle.py_objects.specs.Own.{Own, Makes, Asks}
 use Rattle.py_check.specs.declared.annotated.Annotated.{Annotated}
 use Rattle.py_check.specs.Typing.{IsTyped}
-use Rattle.py_rows.specs.States.{State}
-use Rattle.py_rows.specs.RunOfRows.{is_thrown_into, Runs, started}
+use Rattle.py_rows.specs.States.{Setting, State}
+use Rattle.py_rows.specs.RunOfRows.{is_thrown_into, Runs, Steps, started}
 use Rattle.py_tree.specs.Tree.{Name, Tree}
 use Rattle.py_tree.specs.Binding.{locals_of}
 use Rattle.py_tree.specs.Trace.{IsTrace}
-use Rattle.py_tree.specs.Unguarded.{IsUnguarded}
 use Rattle.py_laid.specs.Code.{IsLaid, IsPlain}
 use Rattle.py_laid.specs.Fits.{Fits, located}
-use Rattle.py_laid.specs.Instructions.{UsesUnguarded}
+use Rattle.py_laid.specs.Instructions.{UsesCompiled}
 use Rattle.py_laid.specs.Naming.{NamesAll, IsNamed}
 
 -- each run of laid code, into whose frames no exception is thrown, whole or cut, from any arguments, as many as there are
@@ -35,6 +36,12 @@ LaidCodeIsTyped = (globals : List Name) (code : Annotated) (t : Tree) → IsLaid
 abbrev pub LaidCodeFits : Type 0
 LaidCodeFits = (table : List (List ℕ)) (globals : List Name) (code : Annotated) (t : Tree) → IsLaid globals code t → IsPlain code t → IsNamed table globals code.code t → Fits table code t
 
--- the code of a body that guards nothing has none of the instructions that do
-abbrev pub UnguardedCodeIsPlain : Type 0
-UnguardedCodeIsPlain = (globals : List Name) (code : Annotated) (t : Tree) → IsLaid globals code t → IsUnguarded t.suite → UsesUnguarded code.code
+-- each of its units is of an instruction that bodies are compiled to
+abbrev pub LaidCodeIsCompiled : Type 0
+LaidCodeIsCompiled = (globals : List Name) (code : Annotated) (t : Tree) → IsLaid globals code t → UsesCompiled code.code
+
+-- behind each question of a run of any code the slot holds what the question names as handled, or, where it names nothing, what the
+-- slot held at first
+abbrev pub QuestionsNameSlot : Type 0
+QuestionsNameSlot = (objects : List Payload) (setting : Setting) (slot own : Option PyBaseExceptionRef) (args : List Obj) (ts : List Own) (s t : State) (at : ℕ) (r : Request)
+    → Runs objects setting (started setting.code slot args) ts s → Steps objects setting s (Asks at r own ∷ []) t → t.slot ≡ option_or own slot

@@ -2,7 +2,7 @@
 pub mod Fits
 -- where the code of each form stands, with its notes
 pub mod Code
--- which instructions the code of a body has that guards nothing
+-- which instructions the code of a body has
 pub mod Instructions
 -- the names of a code
 pub mod Naming

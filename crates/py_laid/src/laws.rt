@@ -1,12 +1,14 @@
 //! What follows from how code is laid.
 
-ghost use Rattle.py_laid.specs.Laws.{LaidCodeFits, LaidCodeIsTyped, RunsAreTraces, UnguardedCodeIsPlain};
+ghost use Rattle.py_laid.specs.Laws.{LaidCodeFits, LaidCodeIsCompiled, LaidCodeIsTyped, QuestionsNameSlot, RunsAreTraces};
 
 /// States laws, and does nothing: each run of laid code is a trace of its tree; laid code that is plain keeps the typing rules, and
-/// it fits its tree; the code of a body that guards nothing has no instruction that does.
+/// it fits its tree; laid code has only instructions that bodies are compiled to. What a question of a run names as handled the
+/// slot holds.
 pub fn laws_of_laid_code()
     ensures runs_are_traces { RunsAreTraces }
     ensures typed { LaidCodeIsTyped }
     ensures fits { LaidCodeFits }
-    ensures uses { UnguardedCodeIsPlain }
+    ensures uses { LaidCodeIsCompiled }
+    ensures slot { QuestionsNameSlot }
 {}

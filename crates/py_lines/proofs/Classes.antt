@@ -27,7 +27,10 @@ abbrev pub keyword_class : Keyword → Class
 keyword_class keyword.End = Ends
 keyword_class keyword.If = Opens
 keyword_class keyword.While = Opens
+keyword_class keyword.Try = Opens
 keyword_class keyword.Else = Turns
+keyword_class keyword.Except = Turns
+keyword_class keyword.Finally = Turns
 keyword_class keyword.Def = Headers
 keyword_class k = Plains
 
@@ -60,6 +63,7 @@ head_class h = refl
 
 turn_class : (t : Turn) → tokens_class (turn_tokens t) ≡ Some Turns
 turn_class turn.Else = refl
+turn_class t = refl
 
 header_class : (h : Header) → tokens_class (header_tokens h) ≡ Some Headers
 header_class (header.Def f ps) = refl

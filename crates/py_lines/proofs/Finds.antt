@@ -10,6 +10,7 @@ use Rattle.py_lines.specs.declared.drive.DriveLine.{DriveLine}
 use Rattle.py_lines.specs.declared.drive.DriveLine.TheVariants as drive_line
 use Rattle.py_lines.specs.declared.head.Head.{Head}
 use Rattle.py_lines.specs.declared.head.Turn.{Turn}
+use Rattle.py_lines.specs.declared.head.Turn.TheVariants as turn
 use Rattle.py_lines.specs.declared.header.Header.{Header}
 use Rattle.py_lines.specs.declared.header.Header.TheVariants as header
 use Rattle.py_lines.specs.declared.keyword.Keyword.TheVariants as keyword
@@ -19,8 +20,9 @@ use Rattle.py_lines.specs.declared.meaning.Sense.{Sense}
 use Rattle.py_lines.specs.declared.meaning.Sense.TheVariants as sense
 use Rattle.py_lines.specs.declared.plain.Plain.{Plain}
 use Rattle.py_lines.specs.Finding.{Prints}
-use Rattle.py_lines.specs.Meaning.{Meaning, Key, Word, Drive, meaning_of}
-use Rattle.py_lines.specs.Printing.{atom_token, drive_token, plain_tokens, head_tokens, turn_tokens, header_tokens, drive_tokens, line_tokens}
+use Rattle.py_lines.specs.Meaning.{Meaning, Key, Word, Drive}
+use Rattle.py_lines.specs.Senses.{meaning_of}
+use Rattle.py_lines.specs.Printing.{atom_token, drive_token, plain_tokens, head_tokens, target_tokens, turn_tokens, header_tokens, drive_tokens, line_tokens}
 
 -- where nothing was found, no finding prints these
 pub none_prints : {X T : Type 0} (printing : X → T) (ts : T) (r : Option X) → r ≡ None → Prints printing ts r → (x : X) → ts ≢ printing x
@@ -29,6 +31,11 @@ none_prints printing ts r is found = subst (Prints printing ts) is found
 -- a `def` has a name and names behind it
 pub no_def : (ts : List Meaning) (r : Option (Name × List Name)) → r ≡ None → Prints (λ p. Word p.0 ∷ map Word p.1) ts r → (h : Header) → Key keyword.Def ∷ ts ≢ header_tokens h
 no_def ts r is found (header.Def f ps) e = none_prints (λ p. Word p.0 ∷ map Word p.1) ts r is found (f, ps) (cc)
+
+-- an `except` has a class, and behind it nothing or `as` and a name
+pub no_except : (ts : List Meaning) (r : Option (Name × Option Name)) → r ≡ None → Prints (λ p. Word p.0 ∷ target_tokens p.1) ts r → (t : Turn) → Key keyword.Except ∷ ts ≢ turn_tokens t
+no_except ts r is found (turn.Except c x) e = none_prints (λ p. Word p.0 ∷ target_tokens p.1) ts r is found (c, x) (cc)
+no_except ts r is found t e = cc
 
 -- the drive `call` has a name and arguments behind it
 pub no_call : (ts : List Meaning) (r : Option (Name × List DriveAtom)) → r ≡ None → Prints (λ p. Word p.0 ∷ map drive_token p.1) ts r → (d : DriveLine) → Word (codes "call") ∷ ts ≢ drive_tokens d

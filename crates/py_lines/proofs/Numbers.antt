@@ -13,7 +13,7 @@ use Rattle.std.proofs.lemmas.Bool.{le-leb, leb-true, lt-ltb, ltb-true, eqb-true,
 use Rattle.std.proofs.lemmas.Fmt.{IsAscii-from_digits}
 use Rattle.std.proofs.lemmas.Str.{IsUtf8-from_ascii}
 use Rattle.std.proofs.lemmas.Str.Parse.{IsNumeralModel, numerals_by_fold, parse_plain, parse_signed_minus, parse_signed_plain}
-use Rattle.py_code.specs.Literals.{in_range}
+use Rattle.py_code.specs.Range.{in_range}
 use Rattle.py_lines.specs.Words.{is_digit, value_of, digits_number, passing, number_of, is_short, short_number}
 
 -- the grammar's digits are the library's

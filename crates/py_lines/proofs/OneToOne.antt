@@ -26,7 +26,7 @@ use Rattle.py_lines.specs.declared.line.Line.TheVariants as line
 use Rattle.py_lines.specs.declared.plain.Plain.{Plain}
 use Rattle.py_lines.specs.declared.plain.Plain.TheVariants as plain
 use Rattle.py_lines.specs.Meaning.{Meaning, Close, Key, Word, Number, Text, Drive}
-use Rattle.py_lines.specs.Printing.{atom_token, drive_token, operation_tokens, in_parentheses, expr_tokens, plain_tokens, head_tokens, turn_tokens, header_tokens, drive_tokens, line_tokens}
+use Rattle.py_lines.specs.Printing.{atom_token, drive_token, operation_tokens, in_parentheses, expr_tokens, plain_tokens, head_tokens, target_tokens, turn_tokens, header_tokens, drive_tokens, line_tokens}
 use Rattle.py_lines.proofs.Classes.{line_class, same_class}
 
 -- the atom that prints a token
@@ -122,8 +122,17 @@ same_head : (h k : Head) → head_tokens h ≡ head_tokens k → h ≡ k
 same_head h (head.If a) e = grind (arith, same_atom)
 same_head h k e = grind (arith, same_atom)
 
+same_target : (x y : Option Name) → target_tokens x ≡ target_tokens y → x ≡ y
+same_target None None e = refl
+same_target None (Some y) e = cc
+same_target (Some x) None e = cc
+same_target (Some x) (Some y) e = cc
+
 same_turn : (t u : Turn) → turn_tokens t ≡ turn_tokens u → t ≡ u
 same_turn turn.Else turn.Else e = refl
+same_turn (turn.Except c x) (turn.Except d y) e = let k : x ≡ y = same_target x y (cc) in cc
+same_turn turn.Finally turn.Finally e = refl
+same_turn t u e = cc
 
 same_header : (h k : Header) → header_tokens h ≡ header_tokens k → h ≡ k
 same_header (header.Def f ps) (header.Def g qs) e = let k : ps ≡ qs = same_names ps qs (cc) in cc

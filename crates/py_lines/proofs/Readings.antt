@@ -2,7 +2,7 @@
 use Rattle.std.proofs.Common.{◌≡◌, ◌≢◌, ℕ, List, [], ◌∷◌, Bool, true, false, cond, refl, sym, ap, ◌∙◌, map, length, nat_le, subst}
 use Rattle.std.specs.Prelude.{◌==◌, ◌&&◌, Some, None, option_map, if◌then◌else◌, pos}
 use Rattle.std.proofs.lemmas.Bool.{eqb-true}
-use Rattle.py_code.specs.Literals.{in_range}
+use Rattle.py_code.specs.Range.{in_range}
 use Rattle.py_lines.specs.declared.line.Line.{Line}
 use Rattle.py_lines.specs.declared.line.LineRead.{LineRead}
 use Rattle.py_lines.specs.declared.line.LineRead.TheVariants.{Blank, Said, Malformed}

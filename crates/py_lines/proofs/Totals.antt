@@ -1,5 +1,5 @@
 -- What line prints some tokens, or that none does, from the same of its parts.
-use Rattle.std.proofs.Common.{◌≡◌, ◌≢◌, ℕ, List, [], ◌∷◌, ◌++◌, Bool, Some, true, false, refl, sym, ap, ◌∙◌, bytes_eq}
+use Rattle.std.proofs.Common.{◌≡◌, ◌≢◌, ℕ, List, [], ◌∷◌, ◌++◌, Bool, Some, None, true, false, refl, sym, ap, ◌∙◌, bytes_eq}
 use Rattle.std.specs.Prelude.{codes}
 use Rattle.std.proofs.lemmas.List.{append_cancel_right}
 use Rattle.std.proofs.lemmas.Slice.Eq.{bytes_eq-Decides}
@@ -18,7 +18,7 @@ use Rattle.py_lines.specs.declared.line.Line.TheVariants as line
 use Rattle.py_lines.specs.declared.plain.Plain.TheVariants as plain
 use Rattle.py_lines.specs.Keywords.{keyword_of, keyword_text}
 use Rattle.py_lines.specs.Meaning.{Meaning, Open, Close, Equals, Key, Word, Number, Text, Drive}
-use Rattle.py_lines.specs.Printing.{atom_token, drive_token, operation_tokens, in_parentheses, expr_tokens, plain_tokens, head_tokens, turn_tokens, header_tokens, drive_tokens, line_tokens}
+use Rattle.py_lines.specs.Printing.{atom_token, drive_token, operation_tokens, in_parentheses, expr_tokens, plain_tokens, head_tokens, target_tokens, turn_tokens, header_tokens, drive_tokens, line_tokens}
 use Rattle.py_lines.proofs.Finders.{Finds, Found, Missing, or_else, find_within, find_behind, find_nothing, find_both, find_lone, find_all}
 use Rattle.py_lines.proofs.Finds.{no_line}
 use Rattle.py_lines.proofs.OneToOne.{no_atom, no_drive_atom}
@@ -144,10 +144,21 @@ find_head : (ts : List Meaning) → Finds head_tokens ts
 find_head ts =
     or_else (find_behind (behind_key keyword.If ts) (find_lone find_atom)) (λ a. Found (head.If a)) λ no_if.
     or_else (find_behind (behind_key keyword.While ts) (find_lone find_atom)) (λ a. Found (head.While a)) λ no_while.
-    Missing (elim [ head.If a ↦ no_if a | head.While a ↦ no_while a ])
+    or_else (find_behind (behind_key keyword.Try ts) find_nothing) (λ x. Found head.Try) λ no_try.
+    Missing (elim [ head.If a ↦ no_if a | head.While a ↦ no_while a | head.Try ↦ no_try tt ])
+
+find_target : (ts : List Meaning) → Finds target_tokens ts
+find_target [] = Found None refl
+find_target (t ∷ ts) =
+    or_else (find_behind (behind_word (codes "as") (t ∷ ts)) (find_lone find_name)) (λ x. Found (Some x)) λ no_name.
+    Missing (elim [ None ↦ λ e. cc | Some x ↦ no_name x ])
 
 find_turn : (ts : List Meaning) → Finds turn_tokens ts
-find_turn ts = or_else (find_behind (behind_key keyword.Else ts) find_nothing) (λ x. Found turn.Else) λ no_else. Missing (elim [ turn.Else ↦ no_else tt ])
+find_turn ts =
+    or_else (find_behind (behind_key keyword.Else ts) find_nothing) (λ x. Found turn.Else) λ no_else.
+    or_else (find_behind (behind_key keyword.Except ts) (find_both find_name find_target)) (λ z. Found (turn.Except z.0 z.1)) λ no_except.
+    or_else (find_behind (behind_key keyword.Finally ts) find_nothing) (λ x. Found turn.Finally) λ no_finally.
+    Missing (elim [ turn.Else ↦ no_else tt | turn.Except c x ↦ no_except (c, x) | turn.Finally ↦ no_finally tt ])
 
 find_header : (ts : List Meaning) → Finds header_tokens ts
 find_header ts =

@@ -6,7 +6,7 @@ use Rattle.py_lines.specs.declared.plain.Plain.{Plain}
 use Rattle.py_lines.specs.declared.plain.Plain.TheVariants as plain
 use Rattle.py_lines.specs.Meaning.{Equals, Key, Word, Number, Unknown}
 use Rattle.py_lines.specs.Printing.{plain_tokens}
-use Rattle.py_lines.specs.Worked.{AddIsAName, CallIsADrive, CallIsAName, KeywordIsNoName, NoLargeNumber, NothingBehind, NothingIsBlank}
+use Rattle.py_lines.specs.Worked.{AddIsAName, AsIsAName, CallIsADrive, CallIsAName, KeywordIsNoName, NoLargeNumber, NothingBehind, NothingIsBlank}
 use Rattle.py_lines.proofs.Classes.{no_plain}
 use Rattle.py_lines.proofs.OneToOne.{no_atom}
 
@@ -18,6 +18,9 @@ call_is_a_drive = refl
 
 pub add_is_a_name : AddIsAName
 add_is_a_name = refl
+
+pub as_is_a_name : AsIsAName
+as_is_a_name = refl
 
 pub nothing_is_blank : NothingIsBlank
 nothing_is_blank = refl

@@ -2,6 +2,7 @@
 pub mod Reading
 pub mod Printing
 pub mod Meaning
+pub mod Senses
 pub mod Keywords
 pub mod Words
 pub mod Tokens

@@ -2,8 +2,6 @@
 use Rattle.std.specs.Prelude.{ℕ, List, Option, Some, None, option_map, ℤ, if◌then◌else◌}
 use Rattle.py_tree.specs.Tree.{Name}
 use Rattle.py_lines.specs.declared.keyword.Keyword.{Keyword}
-use Rattle.py_lines.specs.declared.meaning.Sense.{Sense}
-use Rattle.py_lines.specs.declared.meaning.Sense.TheVariants as sense
 use Rattle.py_lines.specs.Tokens.{Lexeme}
 use Rattle.py_lines.specs.Tokens as lexeme
 use Rattle.py_lines.specs.Keywords.{keyword_of}
@@ -39,15 +37,3 @@ meaning lexeme.Open = Open
 meaning lexeme.Close = Close
 meaning lexeme.Equals = Equals
 meaning (lexeme.Word w) = word_meaning w
-
--- a meaning of the program apart from where its bytes stand
-abbrev pub meaning_of : Sense → Meaning
-meaning_of sense.Open = Open
-meaning_of sense.Close = Close
-meaning_of sense.Equals = Equals
-meaning_of (sense.Key k) = Key k
-meaning_of (sense.Word w) = Word w.now
-meaning_of (sense.Number n) = Number n
-meaning_of (sense.Text t) = Text t.now
-meaning_of (sense.Drive n) = Drive n
-meaning_of sense.Unknown = Unknown

@@ -1,11 +1,12 @@
 -- The tokens that a line prints.
-use Rattle.std.specs.Prelude.{List, [], ◌∷◌, ◌++◌, true, false, codes, map}
+use Rattle.std.specs.Prelude.{List, [], ◌∷◌, ◌++◌, true, false, Option, Some, None, codes, map}
 use Rattle.py_tree.specs.declared.expr.Atom.{Atom}
 use Rattle.py_tree.specs.declared.expr.Atom.TheVariants as atom
 use Rattle.py_tree.specs.declared.expr.Expr.{Expr}
 use Rattle.py_tree.specs.declared.expr.Expr.TheVariants as expr
 use Rattle.py_tree.specs.declared.expr.Operation.{Operation}
 use Rattle.py_tree.specs.declared.expr.Operation.TheVariants as operation
+use Rattle.py_tree.specs.Tree.{Name}
 use Rattle.py_lines.specs.declared.drive.DriveAtom.{DriveAtom}
 use Rattle.py_lines.specs.declared.drive.DriveAtom.TheVariants as drive
 use Rattle.py_lines.specs.declared.drive.DriveLine.{DriveLine}
@@ -70,9 +71,17 @@ plain_tokens plain.Pass = Key keyword.Pass ∷ []
 abbrev pub head_tokens : Head → List Meaning
 head_tokens (head.If a) = Key keyword.If ∷ atom_token a ∷ []
 head_tokens (head.While a) = Key keyword.While ∷ atom_token a ∷ []
+head_tokens head.Try = Key keyword.Try ∷ []
+
+-- the name that a clause binds, behind `as`, which is a name too
+abbrev pub target_tokens : Option Name → List Meaning
+target_tokens None = []
+target_tokens (Some x) = Word (codes "as") ∷ Word x ∷ []
 
 abbrev pub turn_tokens : Turn → List Meaning
 turn_tokens turn.Else = Key keyword.Else ∷ []
+turn_tokens (turn.Except c x) = Key keyword.Except ∷ Word c ∷ target_tokens x
+turn_tokens turn.Finally = Key keyword.Finally ∷ []
 
 abbrev pub header_tokens : Header → List Meaning
 header_tokens (header.Def f ps) = Key keyword.Def ∷ Word f ∷ map Word ps

@@ -1,7 +1,7 @@
 -- The words of a script: names, numbers and texts.
 use Rattle.std.specs.Prelude.{ℕ, ◌+◌, ◌-◌, ◌*◌, List, [], ◌∷◌, Bool, false, not, ◌||◌, ◌&&◌, if◌then◌else◌, ◌==◌, ◌^◌, nat_le, nat_lt, length, fold, Option, Some, None, ℤ, pos, neg_ℤ, option_map}
 use Rattle.std.specs.List.{list_all}
-use Rattle.py_code.specs.Literals.{in_range}
+use Rattle.py_code.specs.Range.{in_range}
 
 -- whether a byte is one of these and those between them
 abbrev pub between : ℕ → ℕ → ℕ → Bool

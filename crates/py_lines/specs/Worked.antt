@@ -1,10 +1,11 @@
 -- Small lines, worked by hand.
-use Rattle.std.specs.Prelude.{[], ◌∷◌, true, codes, pos, neg_ℤ}
+use Rattle.std.specs.Prelude.{[], ◌∷◌, Some, true, codes, pos, neg_ℤ}
 use Rattle.py_tree.specs.declared.expr.Atom.TheVariants as atom
 use Rattle.py_tree.specs.declared.expr.Expr.TheVariants as expr
 use Rattle.py_tree.specs.declared.expr.Operation.TheVariants as operation
 use Rattle.py_lines.specs.declared.drive.DriveAtom.TheVariants as drive
 use Rattle.py_lines.specs.declared.drive.DriveLine.TheVariants as drive_line
+use Rattle.py_lines.specs.declared.head.Turn.TheVariants as turn
 use Rattle.py_lines.specs.declared.header.Header.TheVariants as header
 use Rattle.py_lines.specs.declared.line.Line.TheVariants as line
 use Rattle.py_lines.specs.declared.line.LineRead.TheVariants.{Blank, Said, Malformed}
@@ -22,6 +23,10 @@ CallIsADrive = IsReadAs (codes "call f True 'a b' $12") (Said (line.Drive (drive
 -- a function may have the name of an operator, and parameters
 abbrev pub AddIsAName : Type 0
 AddIsAName = IsReadAs (codes "def add x y") (Said (line.Header (header.Def (codes "add") (codes "x" ∷ codes "y" ∷ []))))
+
+-- `as` is a name, too: of a class, and of what is bound to
+abbrev pub AsIsAName : Type 0
+AsIsAName = IsReadAs (codes "except as as as") (Said (line.Turns (turn.Except (codes "as") (Some (codes "as")))))
 
 -- a keyword is no name
 abbrev pub KeywordIsNoName : Type 0

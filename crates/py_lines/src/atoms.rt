@@ -3,7 +3,8 @@
 ghost use Rattle.std.specs.Prelude.{◌≡◌, ◌≢◌, ◌∷◌, List, [], IfOk, MatchOption, map};
 ghost use Rattle.py_tree.specs.Tree.{Name};
 ghost use Rattle.py_lines.specs.Finding.{Prints};
-ghost use Rattle.py_lines.specs.Meaning.{Key, Word, meaning_of};
+ghost use Rattle.py_lines.specs.Meaning.{Key, Word};
+ghost use Rattle.py_lines.specs.Senses.{meaning_of};
 ghost use Rattle.py_lines.specs.Printing.{atom_token};
 
 use crate::keyword::Keyword;
@@ -61,6 +62,17 @@ pub fn lone_atom(alloc: Global, tokens: &[Sense<'_>]) -> Result<Option<Atom>, No
     match tokens {
         [] => Ok(None),
         [atom] => atom_of(alloc, atom),
+        [_, _, ..] => Ok(None),
+    }
+}
+
+/// The name that is the only token.
+pub fn lone_name(alloc: Global, tokens: &[Sense<'_>]) -> Result<Option<PyText>, NoMemory>
+    ensures { IfOk result (Prints (λ x. Word x ∷ []) (map meaning_of tokens.now)) }
+{
+    match tokens {
+        [] => Ok(None),
+        [name] => name_of(alloc, name),
         [_, _, ..] => Ok(None),
     }
 }

@@ -2,7 +2,8 @@
 
 ghost use Rattle.std.specs.Prelude.{◌≡◌, ◌∷◌, IfOk, codes, map};
 ghost use Rattle.py_lines.specs.Finding.{Prints};
-ghost use Rattle.py_lines.specs.Meaning.{Word, meaning_of};
+ghost use Rattle.py_lines.specs.Meaning.{Word};
+ghost use Rattle.py_lines.specs.Senses.{meaning_of};
 ghost use Rattle.py_lines.specs.Printing.{atom_token, drive_token, drive_tokens};
 
 use crate::atoms::{atom_of, name_of};

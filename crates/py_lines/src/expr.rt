@@ -2,7 +2,8 @@
 
 ghost use Rattle.std.specs.Prelude.{◌∷◌, IfOk, codes, map};
 ghost use Rattle.py_lines.specs.Finding.{Prints};
-ghost use Rattle.py_lines.specs.Meaning.{Word, meaning_of};
+ghost use Rattle.py_lines.specs.Meaning.{Word};
+ghost use Rattle.py_lines.specs.Senses.{meaning_of};
 ghost use Rattle.py_lines.specs.Printing.{expr_tokens, in_parentheses, operation_tokens};
 
 use crate::atoms::{atom_and_atoms, lone_atom, two_atoms};

@@ -1,14 +1,16 @@
 //! Lines that open a block, and those that turn it to its next suite.
 
-ghost use Rattle.std.specs.Prelude.{◌∷◌, IfOk, map};
+ghost use Rattle.std.specs.Prelude.{◌∷◌, [], IfOk, codes, map};
+ghost use Rattle.py_lines.specs.declared.keyword.Keyword.TheVariants as keyword;
 ghost use Rattle.py_lines.specs.Finding.{Prints};
-ghost use Rattle.py_lines.specs.Meaning.{Key, meaning_of};
-ghost use Rattle.py_lines.specs.Printing.{head_tokens, turn_tokens};
+ghost use Rattle.py_lines.specs.Meaning.{Key, Word};
+ghost use Rattle.py_lines.specs.Senses.{meaning_of};
+ghost use Rattle.py_lines.specs.Printing.{head_tokens, target_tokens, turn_tokens};
 
-use crate::atoms::{alone, lone_atom};
+use crate::atoms::{alone, lone_atom, lone_name, name_of};
 use crate::keyword::Keyword;
 use crate::meaning::Sense;
-use py_code::NoMemory;
+use py_code::{NoMemory, PyText};
 use py_tree::Atom;
 use std::alloc::Global;
 
@@ -19,6 +21,8 @@ pub enum Head {
     If(Atom),
     /// `while a`.
     While(Atom),
+    /// `try`.
+    Try,
 }
 
 /// A line that ends one suite of an open block, and begins the next.
@@ -26,6 +30,10 @@ pub enum Head {
 pub enum Turn {
     /// `else`.
     Else,
+    /// `except C` or `except C as x`: the class, and the name that is bound.
+    Except(PyText, Option<PyText>),
+    /// `finally`.
+    Finally,
 }
 
 /// The line that opens a block and that tokens are.
@@ -41,17 +49,81 @@ pub fn read_head(alloc: Global, tokens: &[Sense<'_>]) -> Result<Option<Head>, No
     match *keyword {
         Keyword::If => Ok(lone_atom(alloc, rest)?.map(Head::If)),
         Keyword::While => Ok(lone_atom(alloc, rest)?.map(Head::While)),
+        Keyword::Try => Ok(alone(Head::Try, rest)),
         _ => Ok(None),
     }
 }
 
-/// The line that turns a block and that tokens are.
-pub fn read_turn(tokens: &[Sense<'_>]) -> Option<Turn>
-    ensures { Prints turn_tokens (map meaning_of tokens.now) result }
+/// The name that `as` has behind it.
+fn named_by_as(alloc: Global, tokens: &[Sense<'_>]) -> Result<Option<PyText>, NoMemory>
+    ensures { IfOk result (Prints (λ x. Word (codes "as") ∷ Word x ∷ []) (map meaning_of tokens.now)) }
 {
-    let (first, rest) = tokens.split_first()?;
+    let Some((first, rest)) = tokens.split_first() else {
+        return Ok(None);
+    };
+    let Sense::Word(word) = first else {
+        return Ok(None);
+    };
+    if *word == b"as".as_slice() {
+        lone_name(alloc, rest)
+    } else {
+        Ok(None)
+    }
+}
+
+/// The name that a clause binds by the tokens behind its class, which binds none where there are none.
+fn target_of(alloc: Global, tokens: &[Sense<'_>]) -> Result<Option<Option<PyText>>, NoMemory>
+    ensures { IfOk result (Prints target_tokens (map meaning_of tokens.now)) }
+{
+    if tokens.is_empty() {
+        return Ok(Some(None));
+    }
+    match named_by_as(alloc, tokens)? {
+        Some(name) => Ok(Some(Some(name))),
+        None => Ok(None),
+    }
+}
+
+/// A class, and the name that a clause binds behind it.
+fn class_and_target(
+    alloc: Global,
+    tokens: &[Sense<'_>],
+) -> Result<Option<(PyText, Option<PyText>)>, NoMemory>
+    ensures { IfOk result (Prints (λ p. Word p.0 ∷ target_tokens p.1) (map meaning_of tokens.now)) }
+{
+    let Some((first, rest)) = tokens.split_first() else {
+        return Ok(None);
+    };
+    let Some(class) = name_of(alloc, first)? else {
+        return Ok(None);
+    };
+    let Some(target) = target_of(alloc, rest)? else {
+        return Ok(None);
+    };
+    Ok(Some((class, target)))
+}
+
+/// The clause that the tokens behind an `except` make.
+fn except_of(alloc: Global, tokens: &[Sense<'_>]) -> Result<Option<Turn>, NoMemory>
+    ensures { IfOk result (Prints turn_tokens (Key keyword.Except ∷ map meaning_of tokens.now)) }
+{
+    let Some((class, target)) = class_and_target(alloc, tokens)? else {
+        return Ok(None);
+    };
+    Ok(Some(Turn::Except(class, target)))
+}
+
+/// The line that turns a block and that tokens are.
+pub fn read_turn(alloc: Global, tokens: &[Sense<'_>]) -> Result<Option<Turn>, NoMemory>
+    ensures { IfOk result (Prints turn_tokens (map meaning_of tokens.now)) }
+{
+    let Some((first, rest)) = tokens.split_first() else {
+        return Ok(None);
+    };
     match first {
-        Sense::Key(Keyword::Else) => alone(Turn::Else, rest),
-        _ => None,
+        Sense::Key(Keyword::Else) => Ok(alone(Turn::Else, rest)),
+        Sense::Key(Keyword::Except) => except_of(alloc, rest),
+        Sense::Key(Keyword::Finally) => Ok(alone(Turn::Finally, rest)),
+        _ => Ok(None),
     }
 }

@@ -3,7 +3,8 @@
 ghost use Rattle.std.specs.Prelude.{◌∷◌, IfOk, map};
 ghost use Rattle.py_lines.specs.declared.keyword.Keyword.TheVariants as keyword;
 ghost use Rattle.py_lines.specs.Finding.{Prints};
-ghost use Rattle.py_lines.specs.Meaning.{Key, meaning_of};
+ghost use Rattle.py_lines.specs.Meaning.{Key};
+ghost use Rattle.py_lines.specs.Senses.{meaning_of};
 ghost use Rattle.py_lines.specs.Printing.{header_tokens};
 
 use crate::atoms::name_and_names;

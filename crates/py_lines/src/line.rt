@@ -4,7 +4,8 @@ ghost use Rattle.std.specs.Prelude.{◌≡◌, ◌∷◌, [], IfOk, map, true};
 ghost use Rattle.py_lines.specs.declared.keyword.Keyword.TheVariants as keyword;
 ghost use Rattle.py_lines.specs.Comments.{is_comment as is_comment_line};
 ghost use Rattle.py_lines.specs.Finding.{AreReadAs, Prints};
-ghost use Rattle.py_lines.specs.Meaning.{Key, meaning_of};
+ghost use Rattle.py_lines.specs.Meaning.{Key};
+ghost use Rattle.py_lines.specs.Senses.{meaning_of};
 ghost use Rattle.py_lines.specs.Printing.{line_tokens};
 ghost use Rattle.py_lines.specs.Reading.{IsReadAs};
 
@@ -68,7 +69,7 @@ fn line_of(alloc: Global, tokens: &[Sense<'_>]) -> Result<Option<Line>, NoMemory
     if let Some(head) = read_head(alloc, tokens)? {
         return Ok(Some(Line::Opens(head)));
     }
-    if let Some(turn) = read_turn(tokens) {
+    if let Some(turn) = read_turn(alloc, tokens)? {
         return Ok(Some(Line::Turns(turn)));
     }
     if let Some(header) = read_header(alloc, tokens)? {

@@ -2,7 +2,8 @@
 
 ghost use Rattle.std.specs.Prelude.{◌≡◌, IfOk, map};
 ghost use Rattle.py_lines.specs.Tokens.{tokens_of as tokens_in};
-ghost use Rattle.py_lines.specs.Meaning.{literal_meaning as literal_meaning_in, meaning as meaning_in, meaning_of, word_meaning as word_meaning_in};
+ghost use Rattle.py_lines.specs.Meaning.{literal_meaning as literal_meaning_in, meaning as meaning_in, word_meaning as word_meaning_in};
+ghost use Rattle.py_lines.specs.Senses.{meaning_of};
 ghost use Rattle.py_lines.specs.Pieces.{lexeme_of};
 
 use crate::keyword::Keyword;

@@ -2,7 +2,8 @@
 
 ghost use Rattle.std.specs.Prelude.{IfOk, ◌∷◌, map};
 ghost use Rattle.py_lines.specs.Finding.{Prints};
-ghost use Rattle.py_lines.specs.Meaning.{Key, Word, meaning_of};
+ghost use Rattle.py_lines.specs.Meaning.{Key, Word};
+ghost use Rattle.py_lines.specs.Senses.{meaning_of};
 ghost use Rattle.py_lines.specs.Printing.{plain_tokens};
 
 use crate::atoms::{alone, lone_atom};

@@ -5,8 +5,8 @@ use Rattle.std.specs.List.{AllZip}
 use Rattle.std.specs.Map.{lookup, remove_entry}
 use Rattle.indexmap.specs.IndexMap.{insert_entry}
 use Rattle.py_objects.specs.Refs.{Obj, Name}
-use Rattle.py_objects.specs.Attrs.{inserted, without}
-use Rattle.py_objects.specs.AttrEntries.{attrs_of, value_of}
+use Rattle.py_objects.specs.Attrs.{inserted, without, value_of}
+use Rattle.py_objects.specs.AttrEntries.{attrs_of}
 
 module _ {A : Type 0} where
   -- an insertion sets the value of the key's name

@@ -14,7 +14,8 @@ use Rattle.py_objects.specs.declared.error_kind.ErrorKind.TheVariants.{FileExist
 use Rattle.py_objects.specs.declared.error_kind.ErrorKind.TheVariants.{TimeoutError, BrokenPipeError, ConnectionAbortedError, ConnectionRefusedError, ConnectionResetError, NotImplementedError}
 use Rattle.py_objects.specs.declared.error_kind.ErrorKind.TheVariants.{RecursionError, IndentationError, TabError, DeprecationWarning, PendingDeprecationWarning, RuntimeWarning, SyntaxWarning}
 use Rattle.py_objects.specs.declared.error_kind.ErrorKind.TheVariants.{UserWarning, FutureWarning, ImportWarning, UnicodeWarning, BytesWarning, ResourceWarning, EncodingWarning}
-use Rattle.py_objects.specs.ErrorKinds.{error_kinds, place_of}
+use Rattle.py_objects.specs.ErrorKinds.{error_kinds}
+use Rattle.py_objects.specs.ErrorPlaces.{place_of}
 
 -- each class is the one at its place
 pub placed : (kind : ErrorKind) → slice_get error_kinds (place_of kind) ≡ Some kind

@@ -1,9 +1,12 @@
 -- numbers of objects
 pub mod Refs
--- the built-in exception classes by their names
+-- the built-in exception classes by their names, and their places
 pub mod ErrorKinds
+pub mod ErrorPlaces
 -- what objects are, and which are new
 pub mod Objects
+-- calls without keyword arguments
+pub mod Positional
 -- None, False and True among objects
 pub mod Singletons
 -- which classes a class derives from

@@ -1,5 +1,5 @@
 -- What the objects of a run are: by number, by the names that they are declared under, and which are new.
-use Rattle.std.specs.Prelude.{ℕ, suc, ◌<◌, Option, Some, None, List, [], ◌∷◌, ◌++◌, Bool, true, false, ◌≡◌, ◌||◌, slice_get, length, eqb, bytes_eq, if◌then◌else◌}
+use Rattle.std.specs.Prelude.{ℕ, suc, ◌<◌, Option, Some, None, List, [], ◌∷◌, ◌++◌, Bool, false, ◌≡◌, ◌||◌, slice_get, length, eqb, bytes_eq, if◌then◌else◌}
 pub use Rattle.py_objects.specs.Refs.{Obj, Name}
 use Rattle.py_objects.specs.declared.refs.PyTypeRef.{PyTypeRef}
 use Rattle.py_objects.specs.declared.refs.PyBaseExceptionRef.{PyBaseExceptionRef}
@@ -108,11 +108,6 @@ abbrev pub keyword_numbers : Keywords → List ℕ
 keyword_numbers keywords.None = []
 keyword_numbers (keywords.Names names) = names.number ∷ []
 keyword_numbers (keywords.Dict d) = d.number ∷ []
-
--- whether there are no keyword arguments
-abbrev pub is_positional : Keywords → Bool
-is_positional keywords.None = true
-is_positional _ = false
 
 -- the numbers that a request names
 abbrev pub request_numbers : Request → List ℕ

@@ -1,8 +1,7 @@
 //! The attributes of an object.
 
 ghost use Rattle.std.specs.Prelude.{◌≡◌, ◌==◌, [], length, IfOk, OnOk, OnErr};
-ghost use Rattle.py_objects.specs.Attrs.{inserted, without};
-ghost use Rattle.py_objects.specs.AttrEntries.{value_of};
+ghost use Rattle.py_objects.specs.Attrs.{inserted, without, value_of};
 
 use crate::refs::PyObjectRef;
 use indexmap::IndexMap;

@@ -2,7 +2,8 @@
 // The hierarchy of the Python Library Reference, "Built-in Exceptions", where a group of exceptions derives from BaseExceptionGroup alone.
 
 ghost use Rattle.std.specs.Prelude.{◌≡◌, bytes_eq};
-ghost use Rattle.py_objects.specs.ErrorKinds.{bases_of, error_kinds, name_of, place_of};
+ghost use Rattle.py_objects.specs.ErrorKinds.{bases_of, error_kinds, name_of};
+ghost use Rattle.py_objects.specs.ErrorPlaces.{place_of};
 
 use py_code::PyText;
 

@@ -52,7 +52,8 @@ use Rattle.py_rows.specs.declared.expect.Expect.{Expect}
 use Rattle.py_rows.specs.declared.expect.Expect.TheVariants as expect
 use Rattle.py_rows.specs.States.{State, Step, Goes, Move, next, with_stack, opened}
 use Rattle.py_rows.specs.Unwinding.{left}
-use Rattle.py_rows.specs.Answers.{HasKind, Suits}
+use Rattle.py_rows.specs.Answers.{HasKind}
+use Rattle.py_rows.specs.Suits.{Suits}
 use Rattle.py_rows.specs.Answers as answers
 use Rattle.py_rows.specs.Asked.{name_of_local, asked}
 use Rattle.py_rows.specs.Questions.{raise_of, may_raise, may_ask, UnitAsks, UnitYields}

@@ -26,7 +26,8 @@ use Rattle.py_check.specs.Effects.{Effect, Moves, AsksOnce, Other, effect, is_te
 use Rattle.py_check.specs.Sheet.{Sheet, sheet_of}
 use Rattle.py_rows.specs.States.{Setting}
 use Rattle.py_rows.proofs.BelowLemmas.{joined_below, reverse_below}
-use Rattle.py_rows.specs.Answers.{wanted, Suits}
+use Rattle.py_rows.specs.Answers.{wanted}
+use Rattle.py_rows.specs.Suits.{Suits}
 use Rattle.py_rows.specs.Questions.{raise_of, may_ask, UnitAsks}
 use Rattle.py_rows.specs.Fitting.{wanted_of}
 use Rattle.py_rows.specs.Sound.{ArePlaces, AreNames}

@@ -9,7 +9,8 @@ use Rattle.py_check.specs.declared.annotated.Annotated.{Annotated}
 use Rattle.py_rows.specs.declared.expect.Expect.{Expect}
 use Rattle.py_rows.specs.declared.expect.Expect.TheVariants as expect
 use Rattle.py_rows.specs.States.{Setting, State}
-use Rattle.py_rows.specs.Handled.{handled_in, KeepsSlot}
+use Rattle.py_rows.specs.Handled.{handled_in}
+use Rattle.py_rows.specs.Slot.{KeepsSlot}
 use Rattle.py_rows.specs.Standing.{IsPlaced, IsStanding}
 use Rattle.py_rows.specs.RunOfRows.{Runs, none, on, started}
 use Rattle.py_rows.specs.Fitting.{FitsAt}

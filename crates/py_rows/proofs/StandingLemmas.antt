@@ -9,7 +9,7 @@ use Rattle.py_objects.specs.Own.{Own, Resumes, Gets}
 use Rattle.py_rows.specs.declared.expect.Expect.{Expect}
 use Rattle.py_rows.specs.declared.expect.Expect.TheVariants as expect
 use Rattle.py_rows.specs.States.{Setting, State, Step, Goes, Tells, waiting}
-use Rattle.py_rows.specs.Handled.{KeepsSlot}
+use Rattle.py_rows.specs.Slot.{KeepsSlot}
 use Rattle.py_rows.specs.Receiving.{moves}
 use Rattle.py_rows.specs.RunOfRows.{Hears, MayLead, started, Steps, silent, telling, hearing}
 use Rattle.py_rows.specs.Standing.{IsPlaced, IsOf, IsStanding}

@@ -32,7 +32,8 @@ use Rattle.py_rows.specs.declared.block.UnwindReason.TheVariants as reason
 use Rattle.py_rows.specs.declared.expect.Expect.{Expect}
 use Rattle.py_rows.specs.declared.expect.Expect.TheVariants as expect
 use Rattle.py_rows.specs.States.{Setting, State, Step, Goes, Tells, Stuck, Move, Plainly, Loads, Decides, Manages, Exits, begun, next, waiting, with_stack, landed, jumps}
-use Rattle.py_rows.specs.Handled.{entered_by, handled_by, handled_in, AllKeep, Keeps}
+use Rattle.py_rows.specs.Handled.{entered_by, handled_by, handled_in}
+use Rattle.py_rows.specs.Slot.{AllKeep, Keeps}
 use Rattle.py_rows.specs.Unwinding.{left, left_handler, meets, unwind, unwinds}
 use Rattle.py_rows.specs.Asked.{asked}
 use Rattle.py_rows.specs.Rows.{asks, opens, is_there, reaches, loads, or_stuck, payload_of, asks_if, takes_off, where_there, acts_by, load_fast, delete_fast, if_popped, pop_block, pop_type, pop_exception, finally_type, in_finally, goes_on, finishes, raises, act_own, unit_move}

@@ -113,10 +113,6 @@ IsValue objects (want.Items n) v = (vs : List Obj) × IsItems objects n vs v
 IsValue objects (want.Unpacked before after) v = (vs : List Obj) × IsItems objects (suc (before + after)) vs v × ((w : Obj) × (slice_get vs before ≡ Some w) × HasKind objects w kind.List)
 IsValue objects want.NoValue v = ⊥
 
--- whatever is wanted by the first is as the second says
-abbrev pub Suits : Wanted → Wanted → Type 0
-Suits w needed = (objects : List Payload) (v : Obj) → IsValue objects w v → IsValue objects needed v
-
 -- an answer is as wanted; none is a stop, as nothing that runs yet asks for the next item or goes through an iterator
 abbrev pub IsAnswer : List Payload → Wanted → GotAnswer → Type 0
 IsAnswer objects w (got.Value v) = IsValue objects w v

@@ -35,7 +35,8 @@ use Rattle.py_rows.specs.declared.expect.Wanted.TheVariants as want
 use Rattle.py_rows.specs.declared.expect.Expect.{Expect}
 use Rattle.py_rows.specs.declared.expect.Expect.TheVariants as expect
 use Rattle.py_rows.specs.States.{State}
-use Rattle.py_rows.specs.Answers.{HasKind, IsValue, Suits}
+use Rattle.py_rows.specs.Answers.{HasKind, IsValue}
+use Rattle.py_rows.specs.Suits.{Suits}
 
 -- objects are of these kinds, in order
 abbrev pub HaveKinds : List Payload → List Obj → List Kind → Type 0

@@ -2,10 +2,12 @@
 pub mod States
 -- which exception is handled
 pub mod Handled
+pub mod Slot
 -- what leaving blocks does
 pub mod Unwinding
 -- which answers requests want
 pub mod Answers
+pub mod Suits
 -- what instructions ask, what they do, and what they do with an answer
 pub mod Asked
 pub mod Rows

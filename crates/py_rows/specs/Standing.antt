@@ -5,7 +5,8 @@ use Rattle.py_objects.specs.Own.{Own, Makes, Resumes, Asks, Gets, Rounds, Yields
 use Rattle.py_rows.specs.declared.expect.Expect.{Expect}
 use Rattle.py_rows.specs.declared.expect.Expect.TheVariants as expect
 use Rattle.py_rows.specs.States.{State}
-use Rattle.py_rows.specs.Handled.{handled_in, KeepsSlot}
+use Rattle.py_rows.specs.Handled.{handled_in}
+use Rattle.py_rows.specs.Slot.{KeepsSlot}
 use Rattle.py_rows.specs.Answers.{wanted}
 
 -- a frame that waits, that hasn't begun or that has ended is at this place; one that has ended has left its blocks

@@ -16,7 +16,8 @@ use Rattle.py_objects.specs.Objects.{Obj, Name, HasPayload}
 use Rattle.py_objects.proofs.GrowthLemmas.{slice_get_split, one_entry}
 use Rattle.py_answers.specs.Answers.{Reply, Fails}
 use Rattle.py_run.specs.Calls.{Signature, Course, Says, Enters, refusal, missing_if, too_many, most_depth, entry_at, bound_by, Setting, CallsFunction, ComesTo}
-use Rattle.py_run.specs.Run.{Plan, Phase, Asking, Activation, State, start, after, state_after, Past, nothing, past_after, past_behind, setting, Opens, IsReply, IsAnswered, MayCome, Comes}
+use Rattle.py_run.specs.Run.{Plan, Phase, Asking, Activation, State, start, after, state_after, Past, nothing, past_after, setting, Opens, IsReply, IsAnswered, MayCome, Comes}
+use Rattle.py_run.specs.Past.{past_behind}
 use Rattle.py_run.proofs.PastLemmas.{past_state}
 
 -- a function whose activations run through was made with as many arguments as its signature has parameters

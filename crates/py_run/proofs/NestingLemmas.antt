@@ -10,7 +10,8 @@ use Rattle.py_objects.specs.declared.event.Event.{Event}
 use Rattle.py_objects.specs.declared.event.Event.TheVariants as event
 use Rattle.py_objects.specs.Objects.{Obj}
 use Rattle.py_run.specs.Calls.{Left, ByYield}
-use Rattle.py_run.specs.Run.{Plan, Asking, Going, Made, Due, Act, Activation, State, start, after, state_after, top_asks, left_by, IsTop, open_in, entered_in, handled_among, Past, nothing, past_after, past_behind, MayCome, Comes}
+use Rattle.py_run.specs.Run.{Plan, Asking, Going, Made, Due, Act, Activation, State, start, after, state_after, top_asks, left_by, IsTop, open_in, entered_in, handled_among, Past, nothing, past_after, MayCome, Comes}
+use Rattle.py_run.specs.Past.{past_behind}
 use Rattle.py_run.specs.Laws.{Leaves, NoneLeaves, IsBack, ActivationsNest}
 use Rattle.py_run.proofs.PastLemmas.{past_state, past_lists, past_on}
 use Rattle.py_run.proofs.RunLemmas.{comes_front, comes_rest}

@@ -1,7 +1,8 @@
 -- The past behind some events.
 use Rattle.std.proofs.Common.{◌≡◌, List, [], ◌∷◌, ◌++◌, refl, sym, ap, ◌∙◌, append_assoc, append-nil}
 use Rattle.py_objects.specs.declared.event.Event.{Event}
-use Rattle.py_run.specs.Run.{State, start, after, state_after, Past, nothing, past_after, past_behind}
+use Rattle.py_run.specs.Run.{State, start, after, state_after, Past, nothing, past_after}
+use Rattle.py_run.specs.Past.{past_behind}
 
 -- a past of these events, behind which a state is this
 abbrev pub past_of : List Event → State → Past

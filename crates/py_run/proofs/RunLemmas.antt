@@ -12,7 +12,8 @@ use Rattle.py_objects.proofs.GrowthLemmas.{payload_grown, plainly_grows}
 use Rattle.py_answers.specs.Answers.{Reply}
 use Rattle.py_answers.proofs.RepliesLemmas.{gives_body_grow, gives_drive_grow, replies_grow}
 use Rattle.py_run.specs.Calls.{Course, Says, Enters, Setting, CallsFunction, ComesTo}
-use Rattle.py_run.specs.Run.{Posed, Plan, Phase, Idle, Asking, Going, Made, State, start, after, state_after, open_in, entered_in, question, handled_among, Past, nothing, past_after, past_behind, setting, Opens, IsReply, IsAnswered, MayCome, Comes}
+use Rattle.py_run.specs.Run.{Posed, Plan, Phase, Idle, Asking, Going, Made, State, start, after, state_after, open_in, entered_in, question, handled_among, Past, nothing, past_after, setting, Opens, IsReply, IsAnswered, MayCome, Comes}
+use Rattle.py_run.specs.Past.{past_behind}
 
 -- ---- as objects come
 
@@ -114,13 +115,13 @@ same_question : (plan : Plan) (more : List Posed) (s : State) → s.done < lengt
 same_question plan more s within = ap (λ q. open_in q s.stack) (same_drive plan more s within)
 
 -- where a question of this drive stands
-setting_of : Plan → Past → Option Posed → Setting
-setting_of plan p q = record { signatures = plan.signatures; depth = entered_in q + length p.state.stack; handled = handled_among p.state.stack }
+setting_behind : Plan → Past → Option Posed → Setting
+setting_behind plan p q = record { signatures = plan.signatures; depth = entered_in q + length p.state.stack; handled = handled_among p.state.stack }
 
 -- where it stands stays
 same_setting : (plan : Plan) (more : List Posed) (p : Past) → p.state.done < length plan.asked → setting (with_more plan more) p ≡ setting plan p
-unfolding setting_of
-same_setting plan more p within = ap (setting_of plan p) (same_drive plan more p.state within)
+unfolding setting_behind
+same_setting plan more p within = ap (setting_behind plan p) (same_drive plan more p.state within)
 
 -- what the open question comes to is the same among more drives
 opens_more : (plan : Plan) (more : List Posed) (objects : List Payload) (p : Past) (c : Course) → p.state.done < length plan.asked → Opens plan objects p c → Opens (with_more plan more) objects p c

@@ -5,7 +5,8 @@ use Rattle.py_objects.specs.declared.event.ResumeHow.{ResumeHow}
 use Rattle.py_objects.specs.declared.event.Event.{Event}
 use Rattle.py_objects.specs.declared.event.Event.TheVariants as event
 use Rattle.py_objects.specs.Growth.{GrowsPlainly}
-use Rattle.py_run.specs.Run.{Posed, Plan, State, start, state_after, question, depth, handled_among, nothing, past_behind, MayCome, Comes}
+use Rattle.py_run.specs.Run.{Posed, Plan, State, start, state_after, question, depth, handled_among, nothing, MayCome, Comes}
+use Rattle.py_run.specs.Past.{past_behind}
 
 -- the past behind some events has these, and the state behind them
 abbrev pub PastIsOfEvents : Type 0

@@ -4,9 +4,7 @@ use Rattle.std.specs.Prelude.{ℕ, suc, ◌+◌, ◌<◌, Option, Some, None, op
 use Rattle.std.specs.Option.{option_or}
 use Rattle.py_objects.specs.declared.refs.PyBaseExceptionRef.{PyBaseExceptionRef}
 use Rattle.py_objects.specs.declared.payload.Payload.{Payload}
-use Rattle.py_objects.specs.declared.request.Keywords.TheVariants as keywords
 use Rattle.py_objects.specs.declared.request.Request.{Request}
-use Rattle.py_objects.specs.declared.request.Request.TheVariants as request
 use Rattle.py_objects.specs.declared.event.ResumeHow.{ResumeHow}
 use Rattle.py_objects.specs.declared.event.ResumeHow.TheVariants as how
 use Rattle.py_objects.specs.declared.event.Ending.{Ending}
@@ -15,8 +13,6 @@ use Rattle.py_objects.specs.declared.event.Event.{Event}
 use Rattle.py_objects.specs.declared.event.Event.TheVariants as event
 use Rattle.py_objects.specs.Objects.{Obj, AreNamed}
 use Rattle.py_objects.specs.Own.{Own, own_events}
-use Rattle.py_run.specs.declared.drive.Drive.{Drive}
-use Rattle.py_run.specs.declared.drive.Drive.TheVariants.{Call}
 use Rattle.py_answers.specs.Answers.{Reply, GivesBody, GivesDrive}
 use Rattle.py_run.specs.Calls.{Signature, Course, Says, Enters, Left, ByYield, ByReturn, ByRaise, Setting, ComesTo, IsDue}
 
@@ -91,10 +87,6 @@ abbrev pub IsTop : ℕ → List Act → Type 0
 IsTop n [] = ⊥
 IsTop n (a ∷ stack) = a.number ≡ n
 
--- the question of a drive
-abbrev pub request_of : Drive → Request
-request_of (Call f vs) = request.Call f vs keywords.None
-
 -- the innermost activation's question, or this drive's where none runs
 abbrev pub open_in : Option Posed → List Act → Option Request
 open_in q [] = option_map (λ (p : Posed). p.request) q
@@ -135,11 +127,6 @@ nothing = record { events = []; state = start }
 abbrev pub past_after : Past → Event → Past
 past_after p e = record { events = p.events ++ e ∷ []; state = after p.state e }
 
--- these events more
-abbrev pub past_behind : Past → List Event → Past
-past_behind p [] = p
-past_behind p (e ∷ es) = past_behind (past_after p e) es
-
 -- where a question stands
 abbrev pub setting : Plan → Past → Setting
 setting plan p = record { signatures = plan.signatures; depth = depth plan p.state; handled = handled_among p.state.stack }
@@ -152,16 +139,13 @@ module _ (plan : Plan) (objects : List Payload) where
   -- a function starts as soon as it is made; nothing else is entered so far
   abbrev pub IsEntered : Past → ResumeHow → ℕ → Type 0
   IsEntered p how.Start a = (f : Obj) × (p.state.phase ≡ Made f) × (a ≡ length p.state.made)
-  IsEntered p (how.Send v) a = ⊥
-  IsEntered p (how.Throw e) a = ⊥
+  IsEntered p _ a = ⊥
 
   -- a question is answered this: at once, or where the activation that it entered was left
   abbrev pub IsReply : Past → Phase → Request → Reply → Type 0
-  IsReply p Idle r reply = ⊥
   IsReply p Asking r reply = ComesTo (setting plan p) objects r (Says reply)
-  IsReply p Going r reply = ⊥
-  IsReply p (Made f) r reply = ⊥
   IsReply p (Due left) r reply = IsDue r left reply
+  IsReply p _ r reply = ⊥
 
   -- the open question is answered this
   abbrev pub IsAnswered : Past → Reply → Type 0

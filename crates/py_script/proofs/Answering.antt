@@ -30,16 +30,13 @@ part bytes turns j (inr (s, is, run, cut, all, codes)) = (s, is, run, (let most 
 -- a journal that wasn't written whole, whichever run it is of
 unwritten : (e : Ends) (turns : ℕ) (j : Journal) (f : ScriptFault) → Read e (λ bytes. IsWholeRun bytes turns j ⊎ IsCutRun bytes turns j)
     → IsWriting e.taken e.taken' e.write_faults e.write_faults' j (Err f) → IsAnswer e turns (Err f)
-unwritten e turns j fault.ReadFault was is = absurd is
 unwritten e turns j (fault.WriteFault k) was is =
     let P : Journal → Type 0 = λ k. IsAnswer e turns (Err (fault.WriteFault k)) in subst P (sym is.0) (is.1, was, is.2)
-unwritten e turns j fault.TooLong was is = absurd is
-unwritten e turns j (fault.Malformed line) was is = absurd is
 unwritten e turns j (fault.Refused code at) was is = is
-unwritten e turns j (fault.OutOfTurns k) was is = absurd is
 unwritten e turns j (fault.NoMemory k) was is =
     let P : Journal → Type 0 = λ k. IsAnswer e turns (Err (fault.NoMemory k)) in
     subst P (sym is.0) (inr (claims_more _ _ e (λ bytes. part bytes turns j) was), is.1)
+unwritten e turns j _ was is = absurd is
 
 -- a whole run, however it was written
 pub answered_whole : (e : Ends) (turns : ℕ) (s : Script) (j : Journal) (r : Result Journal ScriptFault) → IsReading e.left e.left' e.at_end' e.read_faults e.read_faults' (Ok s)

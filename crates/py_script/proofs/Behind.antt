@@ -1,6 +1,6 @@
 -- Objects behind those that each machine begins with: what the first ones are, what is declared, and when all are a script's.
-use Rattle.std.proofs.Common.{◌≡◌, ◌+◌, ◌-◌, ℕ, zero, suc, List, [], ◌∷◌, ◌++◌, length, Bool, true, false, cond, ◌||◌, Some, None, refl, sym, ap, ◌∙◌, subst}
-use Rattle.std.proofs.Common.{arith, inl, inr}
+use Rattle.std.proofs.Common.{◌≡◌, ◌+◌, ◌-◌, ℕ, zero, suc, List, [], ◌∷◌, ◌++◌, length, Bool, true, false, cond, Some, None, refl, sym, ap, ◌∙◌, subst, arith, inl, inr}
+use Rattle.std.proofs.lemmas.Bool.{or_parts}
 use Rattle.std.specs.Prelude.{slice_get, map, bytes_eq}
 use Rattle.std.specs.List.{list_any}
 use Rattle.py_objects.specs.declared.payload.Payload.{Payload}
@@ -58,28 +58,18 @@ declared_behind i (p ∷ front) own x none =
     let cases : (b : Bool) → P b = λ b. elim b as P [ true ↦ here | false ↦ there ] in
     cases (is_name x (declares p)) none
 
-both_false : (a b : Bool) → (a || b) ≡ false → (a ≡ false) × (b ≡ false)
-both_false true b h = absurd (let e : true ≡ false = h in cc e)
-both_false false b h = (refl, h)
-
 -- a name that none of these kinds has, their classes don't declare
 none_from : (i : ℕ) (kinds : List ErrorKind) (x : Name) → list_any (bytes_eq x) (map name_of kinds) ≡ false
     → declared_from i (map (class_payload first_classes) kinds ++ payload.Dict [] ∷ []) x ≡ None
 none_from i [] x none = refl
 none_from i (kind ∷ kinds) x none =
-    let (other, others) = both_false (bytes_eq x (name_of kind)) (list_any (bytes_eq x) (map name_of kinds)) none in
+    let (other, others) = or_parts (bytes_eq x (name_of kind)) (list_any (bytes_eq x) (map name_of kinds)) none in
     ap (λ b. cond b (Some (record { number = i })) (declared_from (suc i) (map (class_payload first_classes) kinds ++ payload.Dict [] ∷ []) x)) other
     ∙ none_from (suc i) kinds x others
 
 -- a name that no built-in class has is declared as by the objects behind the first ones
 pub declared_own : (own : List Payload) (x : Name) → is_builtin_class x ≡ false → declared (first_objects ++ own) x ≡ declared_from (length first_objects) own x
 declared_own own x none = declared_behind 0 first_objects own x (none_from (length singletons) error_kinds x none)
-
--- where an object behind others stands
-pub entry_behind : {A : Type 0} (front own : List A) (j : ℕ) → slice_get (front ++ own) (length front + j) ≡ slice_get own j
-entry_behind [] own j = ap (slice_get own) (let e : 0 + j ≡ j = omega arith in e)
-entry_behind (x ∷ front) own j =
-    ap (slice_get (x ∷ (front ++ own))) (let e : suc (length front) + j ≡ suc (length front + j) = omega arith in e) ∙ entry_behind front own j
 
 -- ---- the objects of a script
 
@@ -120,11 +110,5 @@ module _ (ts : List Tree) (own : List Payload) (owned : (j : ℕ) (p : Payload) 
 
   -- objects behind the first ones are a script's, where each declaration has its function
   pub script_has : ((i : ℕ) (t : Tree) → slice_get ts i ≡ Some t → HasFunction objects i t) → AllFit objects → AreObjects ts objects
-  script_has functions fit = record {
-    functions = functions;
-    classes = λ kind. (class_of first_classes kind, have_classes own kind);
-    only_functions = only_functions;
-    only_classes = only_classes;
-    no_managers = no_managers;
-    fit = fit;
-  }
+  script_has functions fit =
+      record { functions = functions; classes = λ kind. (class_of first_classes kind, have_classes own kind); only_functions = only_functions; only_classes = only_classes; no_managers = no_managers; fit = fit }

@@ -1,7 +1,7 @@
 -- What is said of every journal worked by hand, whose script has one function.
 use Rattle.std.proofs.Common.{◌≡◌, ℕ, zero, suc, ◌+◌, List, [], ◌∷◌, ◌++◌, Some, None, Bool, true, false, cond, ◌&&◌, ◌<◌, ◌≤◌, refl, sym, ap, subst, inl, inr, lit<, lit≤, ◌∙◌, arith, length, eqb, eq-eqb, ne_eqb}
 use Rattle.std.proofs.lemmas.Fmt.{decimal_digit, decimal_step}
-use Rattle.std.proofs.lemmas.Bool.{ltb-true}
+use Rattle.std.proofs.lemmas.Bool.{and_parts, ltb-true}
 use Rattle.std.proofs.lemmas.Str.{encode_ascii}
 use Rattle.std.proofs.lemmas.List.Sorted.{IsPermutation-refl}
 use Rattle.std.specs.Prelude.{encode_utf8_all, ℤ, pos, ◌+ℤ◌, codes, decimal, slice_get, map, nat_lt}
@@ -40,7 +40,8 @@ use Rattle.py_lines.specs.declared.line.LineRead.TheVariants.{Said}
 use Rattle.py_grammar.specs.Grammar.{Row, Item, items_rows}
 use Rattle.py_answers.specs.Answers.{Reply, Passes, Replies, CallsAs, GivesBody, IsRaised, sum, whole}
 use Rattle.py_run.specs.Calls.{Signature, Course, Says, Enters, Left, Setting, LeavesCalled, IsDue, refusal, entry_at, bound_by, CallsFunction, ComesTo}
-use Rattle.py_run.specs.Run.{Posed, Plan, Activation, Phase, Asking, IsTop, Past, setting, IsReply, MayCome, question, start, state_after, nothing, past_behind, Comes, EachTells}
+use Rattle.py_run.specs.Run.{Posed, Plan, Activation, Phase, Asking, IsTop, Past, setting, IsReply, MayCome, question, start, state_after, nothing, Comes, EachTells}
+use Rattle.py_run.specs.Past.{past_behind}
 use Rattle.py_vm.specs.First.{first_objects}
 use Rattle.py_vm.proofs.FirstLemmas.{first_fit}
 use Rattle.py_script.specs.Whole.{AreOf, AsksThis, AreAsked, AreGlobals, AreObjects, Traces, IsRunOf, plan_of, signature_of}
@@ -76,30 +77,23 @@ abbrev pub are_below : ℕ → List ℕ → Bool
 are_below n [] = true
 are_below n (m ∷ ms) = nat_lt m n && are_below n ms
 
-and_left : (a b : Bool) → (a && b) ≡ true → a ≡ true
-and_left true b h = refl
-and_left false b h = cc
-
-and_right : (a b : Bool) → (a && b) ≡ true → b ≡ true
-and_right true b h = h
-and_right false b h = cc
-
 -- a text of ASCII has the bytes of its characters
 pub ascii_bytes : (s : Name) → list_all (λ c. nat_lt c 128) s ≡ true → encode_utf8_all s ≡ s
 ascii_bytes [] h = refl
 ascii_bytes (c ∷ s) h =
-    let first = encode_ascii c (ltb-true c 128 (and_left (nat_lt c 128) _ h)) in
-    let more = ascii_bytes s (and_right (nat_lt c 128) _ h) in
+    let (low, lower) = and_parts (nat_lt c 128) _ h in
+    let first = encode_ascii c (ltb-true c 128 low) in
+    let more = ascii_bytes s lower in
     cc
 
 all_below : (n : ℕ) (ms : List ℕ) → are_below n ms ≡ true → AllBelow n ms
 all_below n [] h = tt
-all_below n (m ∷ ms) h = (ltb-true m n (and_left (nat_lt m n) _ h), all_below n ms (and_right (nat_lt m n) _ h))
+all_below n (m ∷ ms) h = let (low, lower) = and_parts (nat_lt m n) _ h in (ltb-true m n low, all_below n ms lower)
 
 each_below : {X : Type 0} (f : X → List ℕ) (n : ℕ) (xs : List X) → list_all (λ x. are_below n (f x)) xs ≡ true → (i : ℕ) (x : X) → slice_get xs i ≡ Some x → AllBelow n (f x)
 each_below f n [] h i x e = absurd cc
-each_below f n (y ∷ ys) h zero x e = subst (λ z. AllBelow n (f z)) (some_is y x e) (all_below n (f y) (and_left (are_below n (f y)) _ h))
-each_below f n (y ∷ ys) h (suc i) x e = each_below f n ys (and_right (are_below n (f y)) _ h) i x e
+each_below f n (y ∷ ys) h zero x e = subst (λ z. AllBelow n (f z)) (some_is y x e) (all_below n (f y) (and_parts (are_below n (f y)) _ h).0)
+each_below f n (y ∷ ys) h (suc i) x e = each_below f n ys (and_parts (are_below n (f y)) _ h).1 i x e
 
 pub are_named : (store : List Payload) (events : List Event) → AllFit store → list_all (λ e. are_below (length store) (event_numbers e)) events ≡ true → AreNamed store events
 are_named store events fit h = record { in_events = each_below event_numbers (length store) events h; in_payloads = λ i p e. (fit i p e).0 }
@@ -344,6 +338,18 @@ module _ (t : Tree) where
   abbrev pub plan_with : List Posed → Plan
   plan_with qs = plan_of (t ∷ []) (call ∷ qs)
 
+  -- such a run, where its events are told to be one
+  pub call_runs : (m n : ℤ) (more : List Payload) (events : List Event) → IsDeclared (with_more m n more) → Each (IsOwn (t ∷ [])) more → AllFit (with_more m n more) → Comes (plan_with []) (with_more m n more) nothing events
+      → EachTells (Traces (t ∷ []) (object 2) (with_more m n more)) events → AreNamed (with_more m n more) events → IsRunOf (t ∷ []) (call_of t.name m n ∷ []) (with_more m n more) events
+  call_runs m n more events d own fit comes tells named = record {
+    asked = call ∷ [];
+    are_asked = (asks_numbers m n more events d, tt);
+    globals = object 2;
+    are_globals = are_globals (payload.Int m ∷ payload.Int n ∷ payload.Frame 0 ∷ more) d;
+    run = record { comes = comes; tells = tells; named = named };
+    are_objects = are_objects m n more d own fit;
+  }
+
   -- up to the question for the sum
   pub asking_comes : (qs : List Posed) (m n : ℤ) (more : List Payload) (rest : List Event) → 0 < length (call ∷ qs) → Binds (with_more m n more)
       → Comes (plan_with qs) (with_more m n more) (past_behind nothing (entered 1 (asked 1 (object 3) (object 4) []))) rest → Comes (plan_with qs) (with_more m n more) nothing (entered 1 (asked 1 (object 3) (object 4) rest))
@@ -422,16 +428,5 @@ module _ (t : Tree) where
   -- the run of one drive that overflows
   pub overflow_is_run : IsDeclared (overflow_with []) → Binds (overflow_with []) → RaiseIsTraced [] 2 4 (exception 8) → IsRunOf (t ∷ []) (overflowing_of t.name ∷ []) (overflow_with []) (overflow_by (exception 8))
   overflow_is_run d binds h =
-      record {
-        asked = call ∷ [];
-        are_asked = (asks_numbers greatest (pos 1) (error_objects OverflowError []) (overflow_by (exception 8)) d, tt);
-        globals = object 2;
-        are_globals = are_globals (payload.Int greatest ∷ payload.Int (pos 1) ∷ payload.Frame 0 ∷ error_objects OverflowError []) d;
-        run =
-            record {
-              comes = first_raises [] [] [] (lit< tt) binds tt;
-              tells = overflow_tells h;
-              named = are_named (overflow_with []) (overflow_by (exception 8)) overflow_fits refl;
-            };
-        are_objects = are_objects greatest (pos 1) (error_objects OverflowError []) d (tt, (tt, (tt, tt))) overflow_fits;
-      }
+      call_runs greatest (pos 1) (error_objects OverflowError []) (overflow_by (exception 8)) d (tt, (tt, (tt, tt))) overflow_fits (first_raises [] [] [] (lit< tt) binds tt) (overflow_tells h)
+      (are_named (overflow_with []) (overflow_by (exception 8)) overflow_fits refl)

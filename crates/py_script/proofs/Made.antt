@@ -46,15 +46,8 @@ make_tells s k a f vs es numbered tell i low high = go (eqb (suc i) a) refl
 
 pub made_tell : (plan : Plan) (objects : List Payload) (p : Past) (k : ℕ) (es : List Event) → Comes plan objects p es → MadeTell p.state k es
 made_tell plan objects p k [] comes = λ i low high. absurd (omega (arith, low, high))
-made_tell plan objects p k (event.Drive d ∷ es) comes = still_tell p.state k (event.Drive d) es refl (made_tell plan objects (past_after p (event.Drive d)) (suc k) es comes.1)
-made_tell plan objects p k (event.Result d w ∷ es) comes = still_tell p.state k (event.Result d w) es refl (made_tell plan objects (past_after p (event.Result d w)) (suc k) es comes.1)
 made_tell plan objects p k (event.Make a f vs ∷ es) comes = make_tells p.state k a f vs es comes.0.0 (made_tell plan objects (past_after p (event.Make a f vs)) (suc k) es comes.1)
-made_tell plan objects p k (event.Resume a h ∷ es) comes = still_tell p.state k (event.Resume a h) es refl (made_tell plan objects (past_after p (event.Resume a h)) (suc k) es comes.1)
-made_tell plan objects p k (event.Ask a r own at ∷ es) comes = still_tell p.state k (event.Ask a r own at) es refl (made_tell plan objects (past_after p (event.Ask a r own at)) (suc k) es comes.1)
-made_tell plan objects p k (event.Got a w ∷ es) comes = still_tell p.state k (event.Got a w) es refl (made_tell plan objects (past_after p (event.Got a w)) (suc k) es comes.1)
-made_tell plan objects p k (event.Round a at ∷ es) comes = still_tell p.state k (event.Round a at) es refl (made_tell plan objects (past_after p (event.Round a at)) (suc k) es comes.1)
-made_tell plan objects p k (event.Yield a v at ∷ es) comes = still_tell p.state k (event.Yield a v at) es refl (made_tell plan objects (past_after p (event.Yield a v at)) (suc k) es comes.1)
-made_tell plan objects p k (event.End a e at ∷ es) comes = still_tell p.state k (event.End a e at) es refl (made_tell plan objects (past_after p (event.End a e at)) (suc k) es comes.1)
+made_tell plan objects p k (e ∷ es) comes = still_tell p.state k e es refl (made_tell plan objects (past_after p e) (suc k) es comes.1)
 
 -- each activation of a whole list of events has told
 pub activation_tells : (plan : Plan) (objects : List Payload) (es : List Event) (i : ℕ) (a : Activation) → Comes plan objects nothing es → slice_get (state_after start es).made i ≡ Some a → HasTold (own_events (suc i) es)

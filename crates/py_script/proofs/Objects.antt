@@ -15,7 +15,7 @@ use Rattle.py_objects.specs.declared.event.Event.TheVariants as event
 use Rattle.py_objects.specs.ErrorKinds.{name_of, error_kinds}
 use Rattle.py_objects.specs.Objects.{Obj, Name, HasPayload, class_object, declares, declared, declared_from, pair_numbers, AllBelow, AllFit}
 use Rattle.py_objects.specs.Growth.{GrowsPlainly}
-use Rattle.py_objects.proofs.GrowthLemmas.{slice_get_grown, payload_grown, plainly_grows, slice_get_split, declared_stays}
+use Rattle.py_objects.proofs.GrowthLemmas.{slice_get_behind, slice_get_grown, payload_grown, plainly_grows, slice_get_split, declared_stays}
 use Rattle.py_exceptions.proofs.ClassesLemmas.{class_grown}
 use Rattle.py_laid.specs.Fits.{Continues}
 use Rattle.py_tree.specs.Tree.{Tree}
@@ -31,7 +31,7 @@ use Rattle.py_vm.specs.First.{first_objects}
 use Rattle.py_script.specs.Whole.{IsLeft, IsLeftBy, IsOf, AreOf, AsksThis, Asks, AreAsked, AreGlobals, AreObjects}
 use Rattle.py_script.specs.Session.{AreBindings, AreDeclared}
 use Rattle.py_script.specs.Loaded.{function_entries, script_objects}
-use Rattle.py_script.proofs.Behind.{HasFunction, IsOwn, declared_own, entry_behind, script_has}
+use Rattle.py_script.proofs.Behind.{HasFunction, IsOwn, declared_own, script_has}
 use Rattle.py_script.proofs.Functions.{other_name, same_name, AreDistinct, first_differs, others_differ}
 
 -- the entry of a function, behind those of the ones before it
@@ -69,7 +69,7 @@ functions_are : (ts : List Tree) → AreDistinct ts → (j : ℕ) (t : Tree) →
 functions_are ts differ j t is none = (
   record { number = length first_objects + j },
   declared_own (function_entries 0 ts) t.name none ∙ found_from (length first_objects) 0 ts j t differ is,
-  entry_behind first_objects (function_entries 0 ts) j ∙ entry_at 0 ts j t is
+  slice_get_behind first_objects (function_entries 0 ts) j ∙ entry_at 0 ts j t is
       ∙ ap (λ n. Some (payload.Function (record { name = t.name; code = n }))) (let e : 0 + j ≡ j = omega arith in e),
 )
 
@@ -139,13 +139,10 @@ module _ (objects objects' : List Payload) (events events' : List Event) (grows 
   stays v p has = payload_grown objects objects' v p (plainly_grows objects objects' grows) has
 
   left_grows : (w : DriveAnswer) (v : Obj) → IsLeft objects w v → IsLeft objects' w v
-  left_grows (answer.Returns w) v is = is
-  left_grows (answer.Yields w) v is = is
   left_grows (answer.Stops None) v is = stays v payload.None is
-  left_grows (answer.Stops (Some w)) v is = is
   left_grows answer.Closes v is = stays v payload.None is
-  left_grows (answer.Raises e) v is = is
   left_grows (answer.Reported text) v is = stays v payload.None is
+  left_grows w v is = is
 
   -- so is what a drive left
   pub left_by_grows : (n : ℕ) (v : Obj) → IsLeftBy objects events n v → IsLeftBy objects' events' n v
@@ -160,10 +157,8 @@ module _ (objects objects' : List Payload) (events events' : List Event) (grows 
   of_grows (atom.Drive n) v is = left_by_grows n v is
 
   pub are_of_grow : (atoms : List DriveAtom) (vs : List Obj) → AreOf objects events atoms vs → AreOf objects' events' atoms vs
-  are_of_grow [] [] of = of
-  are_of_grow [] (v ∷ vs) of = of
-  are_of_grow (a ∷ atoms) [] of = of
   are_of_grow (a ∷ atoms) (v ∷ vs) of = (of_grows a v of.0, are_of_grow atoms vs of.1)
+  are_of_grow _ _ of = of
 
   asks_this_grows : (d : DriveLine) (r : Request) → AsksThis objects events d r → AsksThis objects' events' d r
   asks_this_grows (drive.Call x args) r (f, vs, is, named, of) = (f, vs, is, declared_stays objects objects' x grows ∙ named, are_of_grow args vs of)
@@ -175,27 +170,19 @@ module _ (objects objects' : List Payload) (events events' : List Event) (grows 
   asked_grow (d ∷ ds) (q ∷ qs) are = ((asks_this_grows d q.request are.0.0, are.0.1), asked_grow ds qs are.1)
 
   pub bindings_grow : (ts : List Tree) (ps : List (Obj × Obj)) → AreBindings objects ts ps → AreBindings objects' ts ps
-  bindings_grow [] [] are = are
-  bindings_grow [] (p ∷ ps) are = are
-  bindings_grow (t ∷ ts) [] are = are
   bindings_grow (t ∷ ts) (p ∷ ps) are = ((stays p.0 (payload.Str t.name) are.0.0, declared_stays objects objects' t.name grows ∙ are.0.1), bindings_grow ts ps are.1)
+  bindings_grow _ _ are = are
 
   -- the globals stay so
   pub globals_grow : (ts : List Tree) (globals : Obj) → AreGlobals ts objects globals → AreGlobals ts objects' globals
-  globals_grow ts globals are = record {
-    pairs = are.pairs;
-    dict = stays globals (payload.Dict are.pairs) are.dict;
-    bindings = are.bindings;
-    bind = bindings_grow ts are.bindings are.bind;
-    same = are.same;
-  }
+  globals_grow ts globals are =
+      record { pairs = are.pairs; dict = stays globals (payload.Dict are.pairs) are.dict; bindings = are.bindings; bind = bindings_grow ts are.bindings are.bind; same = are.same }
 
 -- one more atom has its object
 pub are_of_more : (objects : List Payload) (events : List Event) (atoms : List DriveAtom) (vs : List Obj) (a : DriveAtom) (v : Obj) → AreOf objects events atoms vs → IsOf objects events a v → AreOf objects events (atoms ++ a ∷ []) (vs ++ v ∷ [])
 are_of_more objects events [] [] a v of is = (is, tt)
-are_of_more objects events [] (w ∷ vs) a v of is = absurd of
-are_of_more objects events (b ∷ atoms) [] a v of is = absurd of
 are_of_more objects events (b ∷ atoms) (w ∷ vs) a v of is = (of.0, are_of_more objects events atoms vs a v of.1 is)
+are_of_more objects events _ _ a v of is = absurd of
 
 -- one more drive is begun
 pub asked_more : (objects : List Payload) (events : List Event) (ds : List DriveLine) (qs : List Posed) (d : DriveLine) (q : Posed) → AreAsked objects events ds qs → slice_get ds (length qs) ≡ Some d → Asks objects events d q → AreAsked objects events ds (qs ++ q ∷ [])
@@ -208,14 +195,12 @@ asked_more objects events (e ∷ ds) (p ∷ qs) d q are is asks = (are.0, asked_
 pub bindings_more : (objects : List Payload) (ts : List Tree) (ps : List (Obj × Obj)) (t : Tree) (p : Obj × Obj) → AreBindings objects ts ps → HasPayload objects p.0 (payload.Str t.name) → declared objects t.name ≡ Some p.1
     → AreBindings objects (ts ++ t ∷ []) (ps ++ p ∷ [])
 bindings_more objects [] [] t p are key value = ((key, value), tt)
-bindings_more objects [] (q ∷ ps) t p are key value = absurd are
-bindings_more objects (u ∷ ts) [] t p are key value = absurd are
 bindings_more objects (u ∷ ts) (q ∷ ps) t p are key value = (are.0, bindings_more objects ts ps t p are.1 key value)
+bindings_more objects _ _ t p are key value = absurd are
 
 -- they name objects
 pub bindings_below : (objects : List Payload) (ts : List Tree) (ps : List (Obj × Obj)) → AreBindings objects ts ps → AllBelow (length objects) (pair_numbers ps)
 bindings_below objects [] [] are = tt
-bindings_below objects [] (p ∷ ps) are = absurd are
-bindings_below objects (t ∷ ts) [] are = absurd are
 bindings_below objects (t ∷ ts) (p ∷ ps) are =
     (slice_get_within objects p.0.number (payload.Str t.name) are.0.0, (declared_within objects t.name p.1 are.0.1, bindings_below objects ts ps are.1))
+bindings_below objects _ _ are = absurd are

@@ -9,7 +9,7 @@ use Rattle.py_objects.specs.declared.payload.Payload.TheVariants as payload
 use Rattle.py_objects.specs.declared.error_kind.ErrorKind.{ErrorKind}
 use Rattle.py_objects.specs.declared.error_kind.ErrorKind.TheVariants.{OverflowError}
 use Rattle.py_code.specs.declared.operator.BinaryOperator.TheVariants as binary
-use Rattle.py_code.specs.Literals.{in_range}
+use Rattle.py_code.specs.Range.{in_range}
 use Rattle.py_objects.specs.declared.request.Keywords.TheVariants as keywords
 use Rattle.py_objects.specs.declared.request.Request.{Request}
 use Rattle.py_objects.specs.declared.request.Request.TheVariants.{Binary, Call as Calling}
@@ -51,20 +51,12 @@ answer_of (ending.Raise e) = answer.Raises e
 -- the result of a drive whose activation returned this
 pub returned_so : (store : List Payload) (before : List Event) (v : Obj) (w : DriveAnswer) → GivesDrive store before (Is v) w → w ≡ answer.Returns v
 returned_so store before v (answer.Returns u) gives = ap answer.Returns gives
-returned_so store before v (answer.Yields u) gives = absurd gives
-returned_so store before v (answer.Stops u) gives = absurd gives
-returned_so store before v answer.Closes gives = absurd gives
-returned_so store before v (answer.Raises e) gives = absurd gives
-returned_so store before v (answer.Reported text) gives = absurd gives
+returned_so store before v _ gives = absurd gives
 
 -- of one whose activation raised this
 raised_so : (store : List Payload) (before : List Event) (e : PyBaseExceptionRef) (w : DriveAnswer) → GivesDrive store before (Passes e) w → w ≡ answer.Raises e
-raised_so store before e (answer.Returns u) gives = absurd gives
-raised_so store before e (answer.Yields u) gives = absurd gives
-raised_so store before e (answer.Stops u) gives = absurd gives
-raised_so store before e answer.Closes gives = absurd gives
 raised_so store before e (answer.Raises x) gives = ap answer.Raises gives
-raised_so store before e (answer.Reported text) gives = absurd gives
+raised_so store before e _ gives = absurd gives
 
 -- the result of a drive tells how its activation ended
 answers : (store : List Payload) (before : List Event) (x : Ending) (w : DriveAnswer) (reply : Reply) → LeavesCalled (left_by x) reply → GivesDrive store before reply w → w ≡ answer_of x
@@ -78,26 +70,12 @@ EndedBy (got.Stop v) ts = ⊥
 EndedBy (got.Raise e) ts = Ended (ending.Raise e) ts
 
 asks_of : (k : ℕ) (e : Event) (at : ℕ) (r : Request) (own : Option PyBaseExceptionRef) → own_of k e ≡ Asks at r own ∷ [] → e ≡ event.Ask (whose e) r own at
-asks_of k (event.Drive d) at r own h = cc
-asks_of k (event.Result d w) at r own h = cc
-asks_of k (event.Make a f vs) at r own h = cc
-asks_of k (event.Resume a x) at r own h = cc
 asks_of k (event.Ask a r' own' at') at r own h = cc
-asks_of k (event.Got a w) at r own h = cc
-asks_of k (event.Round a at') at r own h = cc
-asks_of k (event.Yield a v at') at r own h = cc
-asks_of k (event.End a x at') at r own h = cc
+asks_of k _ at r own h = cc
 
 ends_of : (k : ℕ) (e : Event) (at : ℕ) (x : Ending) → own_of k e ≡ Ends at x ∷ [] → e ≡ event.End (whose e) x at
-ends_of k (event.Drive d) at x h = cc
-ends_of k (event.Result d w) at x h = cc
-ends_of k (event.Make a f vs) at x h = cc
-ends_of k (event.Resume a y) at x h = cc
-ends_of k (event.Ask a r own at') at x h = cc
-ends_of k (event.Got a w) at x h = cc
-ends_of k (event.Round a at') at x h = cc
-ends_of k (event.Yield a v at') at x h = cc
 ends_of k (event.End a y at') at x h = cc
+ends_of k _ at x h = cc
 
 -- an event of the first activation stands in front of its own events
 told : (k : ℕ) (e : Event) (o : Own) (es : List Event) → 1 ≡ whose e → own_of k e ≡ o ∷ [] → own_from 1 k (e ∷ es) ≡ o ∷ own_from 1 (suc k) es
@@ -107,19 +85,12 @@ told k e o es w h = rw (sym w, h) refl
 -- made activations stay
 kept : (s : State) (es : List Event) (a : Activation) → slice_get s.made 0 ≡ Some a → slice_get (state_after s es).made 0 ≡ Some a
 kept s [] a h = h
-kept s (event.Drive d ∷ es) a h = kept (after s (event.Drive d)) es a h
-kept s (event.Result d w ∷ es) a h = kept (after s (event.Result d w)) es a h
 kept s (event.Make b f vs ∷ es) a h = kept (after s (event.Make b f vs)) es a (front s.made (record { function = f; args = vs } ∷ []) a h)
   where
     front : (xs ys : List Activation) (a : Activation) → slice_get xs 0 ≡ Some a → slice_get (xs ++ ys) 0 ≡ Some a
     front [] ys a h = cc
     front (x ∷ xs) ys a h = h
-kept s (event.Resume b x ∷ es) a h = kept (after s (event.Resume b x)) es a h
-kept s (event.Ask b r own at ∷ es) a h = kept (after s (event.Ask b r own at)) es a h
-kept s (event.Got b w ∷ es) a h = kept (after s (event.Got b w)) es a h
-kept s (event.Round b at ∷ es) a h = kept (after s (event.Round b at)) es a h
-kept s (event.Yield b v at ∷ es) a h = kept (after s (event.Yield b v at)) es a h
-kept s (event.End b x at ∷ es) a h = kept (after s (event.End b x at)) es a h
+kept s (e ∷ es) a h = kept (after s e) es a h
 
 -- an answer that may be given ends the body so that this line is written
 abbrev WritesAt : List Payload → List ℕ → GotAnswer → Type 0
@@ -148,13 +119,9 @@ module _ (store : List Payload) (globals : Obj) (journal : List Event) (qs : Lis
   idle_next before s (event.Result d w) p (next, alone, (reply, (r, asks, replies), gives)) = absurd (subst (λ (x : Phase). In before s x r reply) p replies)
   idle_next before s (event.Make a f vs) p h = absurd (cc h.1.0)
   idle_next before s (event.Resume a how.Start) p h = absurd (cc h.1)
-  idle_next before s (event.Resume a (how.Send v)) p h = absurd h
-  idle_next before s (event.Resume a (how.Throw x)) p h = absurd h
-  idle_next before s (event.Ask a r own at) p h = absurd (cc h.0)
+  idle_next before s (event.Resume a _) p h = absurd h
   idle_next before s (event.Got a w) p (top, (reply, (r, asks, replies), gives)) = absurd (subst (λ (x : Phase). In before s x r reply) p replies)
-  idle_next before s (event.Round a at) p h = absurd (cc h.0)
-  idle_next before s (event.Yield a v at) p h = absurd (cc h.0)
-  idle_next before s (event.End a x at) p h = absurd (cc h.0)
+  idle_next before s _ p h = absurd (cc h.0)
 
   -- the open question isn't replied to
   abbrev Enters_only : List Event → State → Type 0
@@ -163,31 +130,21 @@ module _ (store : List Payload) (globals : Obj) (journal : List Event) (qs : Lis
   -- a drive's question is open
   asked_next : (before : List Event) (s : State) (e : Event) → s.phase ≡ Asking → s.stack ≡ [] → Enters_only before s → MayCome plan store (past before s) e
       → (f : Obj) × (vs : List Obj) × (e ≡ event.Make (suc (length s.made)) f vs) × (question plan s ≡ Some (Calling f vs keywords.None))
-  asked_next before s (event.Drive d) p q none h = absurd (cc h.0)
   asked_next before s (event.Result d w) p q none (next, alone, (reply, (r, asks, replies), gives)) = absurd (none r reply asks (subst (λ (x : Phase). In before s x r reply) p replies))
   asked_next before s (event.Make a f vs) p q none (number, (phase, (r, asks, comes))) =
       (f, vs, ap (λ (k : ℕ). event.Make k f vs) number, asks ∙ ap Some (enters_call (setting plan (past before s)) store r f vs comes).0)
   asked_next before s (event.Resume a how.Start) p q none h = absurd (cc h.1)
-  asked_next before s (event.Resume a (how.Send v)) p q none h = absurd h
-  asked_next before s (event.Resume a (how.Throw x)) p q none h = absurd h
-  asked_next before s (event.Ask a r own at) p q none h = absurd (cc h.0)
+  asked_next before s (event.Resume a _) p q none h = absurd h
   asked_next before s (event.Got a w) p q none h = absurd (subst (IsTop a) q h.0)
-  asked_next before s (event.Round a at) p q none h = absurd (cc h.0)
-  asked_next before s (event.Yield a v at) p q none h = absurd (cc h.0)
-  asked_next before s (event.End a x at) p q none h = absurd (cc h.0)
+  asked_next before s _ p q none h = absurd (cc h.0)
 
   made_next : (before : List Event) (s : State) (e : Event) (f : Obj) → s.phase ≡ Made f → MayCome plan store (past before s) e → e ≡ event.Resume (length s.made) how.Start
-  made_next before s (event.Drive d) f p h = absurd (cc h.0)
   made_next before s (event.Result d w) f p (next, alone, (reply, (r, asks, replies), gives)) = absurd (subst (λ (x : Phase). In before s x r reply) p replies)
   made_next before s (event.Make a g vs) f p h = absurd (cc h.1.0)
   made_next before s (event.Resume a how.Start) f p h = ap (λ (k : ℕ). event.Resume k how.Start) h.2
-  made_next before s (event.Resume a (how.Send v)) f p h = absurd h
-  made_next before s (event.Resume a (how.Throw x)) f p h = absurd h
-  made_next before s (event.Ask a r own at) f p h = absurd (cc h.0)
+  made_next before s (event.Resume a _) f p h = absurd h
   made_next before s (event.Got a w) f p (top, (reply, (r, asks, replies), gives)) = absurd (subst (λ (x : Phase). In before s x r reply) p replies)
-  made_next before s (event.Round a at) f p h = absurd (cc h.0)
-  made_next before s (event.Yield a v at) f p h = absurd (cc h.0)
-  made_next before s (event.End a x at) f p h = absurd (cc h.0)
+  made_next before s _ f p h = absurd (cc h.0)
 
   -- the innermost activation tells something
   going_next : (before : List Event) (s : State) (k : ℕ) (e : Event) → s.phase ≡ Going → MayCome plan store (past before s) e → IsTop (whose e) s.stack × ((o : Own) × (own_of k e ≡ o ∷ []))
@@ -195,13 +152,9 @@ module _ (store : List Payload) (globals : Obj) (journal : List Event) (qs : Lis
   going_next before s k (event.Result d w) p (next, alone, (reply, (r, asks, replies), gives)) = absurd (subst (λ (x : Phase). In before s x r reply) p replies)
   going_next before s k (event.Make a f vs) p h = absurd (cc h.1.0)
   going_next before s k (event.Resume a how.Start) p h = absurd (cc h.1)
-  going_next before s k (event.Resume a (how.Send v)) p h = absurd h
-  going_next before s k (event.Resume a (how.Throw x)) p h = absurd h
-  going_next before s k (event.Ask a r own at) p h = (h.1, (_, refl))
+  going_next before s k (event.Resume a _) p h = absurd h
   going_next before s k (event.Got a w) p (top, (reply, (r, asks, replies), gives)) = absurd (subst (λ (x : Phase). In before s x r reply) p replies)
-  going_next before s k (event.Round a at) p h = (h.1, (_, refl))
-  going_next before s k (event.Yield a v at) p h = (h.1, (_, refl))
-  going_next before s k (event.End a x at) p h = (h.1, (_, refl))
+  going_next before s k _ p h = (h.1, (_, refl))
 
   -- an open question is answered at once, by this
   abbrev IsGot : List Event → State → Option Request → GotAnswer → Type 0
@@ -214,35 +167,25 @@ module _ (store : List Payload) (globals : Obj) (journal : List Event) (qs : Lis
   -- an activation's question for a sum is open
   got_next : (before : List Event) (s : State) (e : Event) (top : Act) (a b : Obj) → s.phase ≡ Asking → s.stack ≡ top ∷ [] → top.asks ≡ Some (Binary binary.Add a b) → MayCome plan store (past before s) e
       → (w : GotAnswer) × (e ≡ event.Got (whose e) w) × IsTop (whose e) s.stack × IsGot before s (question plan s) w
-  got_next before s (event.Drive d) top x y p q t h = absurd (cc h.0)
   got_next before s (event.Result d w) top x y p q t h = absurd (cc h.1)
   got_next before s (event.Make a f vs) top x y p q t (number, (phase, (r, asks, comes))) =
       let call : Some (Binary binary.Add x y) ≡ Some (Calling f vs keywords.None) = sym (top_asked s top (Binary binary.Add x y) q t) ∙ asks ∙ ap Some (enters_call (setting plan (past before s)) store r f vs comes).0 in
       absurd (cc call)
   got_next before s (event.Resume a how.Start) top x y p q t h = absurd (cc h.1)
-  got_next before s (event.Resume a (how.Send v)) top x y p q t h = absurd h
-  got_next before s (event.Resume a (how.Throw u)) top x y p q t h = absurd h
-  got_next before s (event.Ask a r own at) top x y p q t h = absurd (cc h.0)
+  got_next before s (event.Resume a _) top x y p q t h = absurd h
   got_next before s (event.Got a w) top x y p q t (is_top, (reply, (r, asks, replies), gives)) = (w, refl, is_top, (reply, (r, asks, subst (λ (x : Phase). In before s x r reply) p replies), gives))
-  got_next before s (event.Round a at) top x y p q t h = absurd (cc h.0)
-  got_next before s (event.Yield a v at) top x y p q t h = absurd (cc h.0)
-  got_next before s (event.End a u at) top x y p q t h = absurd (cc h.0)
+  got_next before s _ top x y p q t h = absurd (cc h.0)
 
   -- an activation was left
   due_next : (before : List Event) (s : State) (e : Event) (left : Left) → s.phase ≡ Due left → s.stack ≡ [] → MayCome plan store (past before s) e
       → (w : DriveAnswer) × (e ≡ event.Result (suc s.done) w) × ((reply : Reply) × LeavesCalled left reply × GivesDrive store before reply w)
-  due_next before s (event.Drive d) left p q h = absurd (cc h.0)
   due_next before s (event.Result d w) left p q (next, alone, (reply, (r, asks, replies), gives)) =
       (w, ap (λ (k : ℕ). event.Result k w) next, (reply, due_leaves r left reply (subst (λ (x : Phase). In before s x r reply) p replies), gives))
   due_next before s (event.Make a f vs) left p q h = absurd (cc h.1.0)
   due_next before s (event.Resume a how.Start) left p q h = absurd (cc h.1)
-  due_next before s (event.Resume a (how.Send v)) left p q h = absurd h
-  due_next before s (event.Resume a (how.Throw x)) left p q h = absurd h
-  due_next before s (event.Ask a r own at) left p q h = absurd (cc h.0)
+  due_next before s (event.Resume a _) left p q h = absurd h
   due_next before s (event.Got a w) left p q h = absurd (subst (IsTop a) q h.0)
-  due_next before s (event.Round a at) left p q h = absurd (cc h.0)
-  due_next before s (event.Yield a v at) left p q h = absurd (cc h.0)
-  due_next before s (event.End a x at) left p q h = absurd (cc h.0)
+  due_next before s _ left p q h = absurd (cc h.0)
 
   -- a state in which so many drives are done
   abbrev at : ℕ → Phase → List Act → List Activation → State
@@ -401,8 +344,7 @@ of_value store i before (got.Value v) h = (
   λ ts t. t,
   subst (λ (p : Option Payload). numbered 1 (codes " returns " ++ shown (Some (repr_within 999 store)) store p) ≡ codes "1" ++ ((codes " returns " ++ signed_decimal i) ++ codes "\n")) (sym h) (first_line (codes " returns " ++ signed_decimal i)),
 )
-of_value store i before (got.Stop v) h = absurd h
-of_value store i before (got.Raise e) h = absurd h
+of_value store i before _ h = absurd h
 
 -- the text of each sum in range
 pub text_of_sum : (m n : ℤ) → in_range (m +ℤ n) ≡ true → Writes m n (codes "1 returns " ++ (signed_decimal (m +ℤ n) ++ codes "\n"))
@@ -448,9 +390,8 @@ overflow_line ts store o before e h = raise_line ts store OverflowError out_of_r
 
 -- so is what a raise ends
 of_raise : (store : List Payload) → AreObjects trees store → (before : List Event) (w : GotAnswer) → GivesBody store before (Fails OverflowError out_of_range) w → WritesAt store (codes "1 raises OverflowError: integer out of range\n") w
-of_raise store o before (got.Value v) h = absurd h
-of_raise store o before (got.Stop v) h = absurd h
 of_raise store o before (got.Raise e) h = (ending.Raise e, λ ts t. t, overflow_line trees store o before e h)
+of_raise store o before _ h = absurd h
 
 -- the text of each sum out of range
 pub text_of_overflow : (m n : ℤ) → in_range (m +ℤ n) ≡ false → Writes m n (codes "1 raises OverflowError: integer out of range\n")

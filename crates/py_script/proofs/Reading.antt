@@ -16,9 +16,6 @@ pub parsed_is_read : (left left' : Option (List ℕ)) (at_end' : Bool) (faults f
     → IsReading left left' at_end' faults faults' r
 parsed_is_read left left' at_end' faults faults' bytes (Ok s) has ended short is = was_read _ left left' at_end' bytes has ended short is
 parsed_is_read left left' at_end' faults faults' bytes (Err fault.ReadFault) has ended short is = absurd is
-parsed_is_read left left' at_end' faults faults' bytes (Err (fault.WriteFault j)) has ended short is = is
 parsed_is_read left left' at_end' faults faults' bytes (Err fault.TooLong) has ended short is = absurd is
 parsed_is_read left left' at_end' faults faults' bytes (Err (fault.Malformed line)) has ended short is = was_read _ left left' at_end' bytes has ended short is
-parsed_is_read left left' at_end' faults faults' bytes (Err (fault.Refused code at)) has ended short is = is
-parsed_is_read left left' at_end' faults faults' bytes (Err (fault.OutOfTurns j)) has ended short is = is
-parsed_is_read left left' at_end' faults faults' bytes (Err (fault.NoMemory j)) has ended short is = is
+parsed_is_read left left' at_end' faults faults' bytes (Err _) has ended short is = is

@@ -1,17 +1,14 @@
 -- The objects at an event, by those in front of it and the changes that come due.
-use Rattle.std.proofs.Common.{◌≡◌, ◌+◌, ℕ, Bool, true, false, List, [], ◌∷◌, ◌++◌, refl, ap, arith}
-use Rattle.std.specs.Prelude.{◌||◌, filter, flat_map, nat_eq, nat_le, nat_lt}
+use Rattle.std.proofs.Common.{◌≡◌, ◌+◌, ℕ, false, List, [], ◌∷◌, ◌++◌, refl, ap, arith}
+use Rattle.std.specs.Prelude.{filter, flat_map, nat_eq, nat_le, nat_lt}
 use Rattle.std.specs.List.{list_any}
+use Rattle.std.proofs.lemmas.Bool.{or_parts}
 use Rattle.py_objects.specs.declared.edit.Change.{Change}
 use Rattle.py_objects.specs.declared.payload.Payload.{Payload}
 use Rattle.py_objects.specs.Edits.{changed_by, store_at}
 use Rattle.py_objects.specs.declared.event.Event.{Event}
 use Rattle.py_script.specs.Text.{event_text, events_text, text_from}
 use Rattle.py_script.specs.Writing.{store_before}
-
-neither : (a b : Bool) → (a || b) ≡ false → (a ≡ false) × (b ≡ false)
-neither false b none = (refl, none)
-neither true b none = absurd cc
 
 apart : (a k : ℕ) → nat_eq a k ≡ false → nat_lt a k ≡ nat_le a k
 apart a k other = grind arith
@@ -20,7 +17,7 @@ apart a k other = grind arith
 none_due : (k : ℕ) (cs : List Change) → list_any (λ c. nat_eq c.after k) cs ≡ false → filter (λ c. nat_lt c.after k) cs ≡ filter (λ c. nat_le c.after k) cs
 none_due k [] none = refl
 none_due k (c ∷ cs) none =
-    let each = neither (nat_eq c.after k) (list_any (λ d. nat_eq d.after k) cs) none in
+    let each = or_parts (nat_eq c.after k) (list_any (λ d. nat_eq d.after k) cs) none in
     rw (apart c.after k each.0, none_due k cs each.1) refl
 
 pub store_stays : (made : List Payload) (cs : List Change) (k : ℕ) → list_any (λ c. nat_eq c.after k) cs ≡ false → store_before made cs k ≡ store_at made cs k

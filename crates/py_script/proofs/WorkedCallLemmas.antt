@@ -29,7 +29,8 @@ use Rattle.py_grammar.specs.Lines.{lines}
 use Rattle.py_grammar.specs.Script.{Spells}
 use Rattle.py_answers.specs.Answers.{Reply, Fails, Is, GivesDrive, IsRaised}
 use Rattle.py_run.specs.Calls.{Signature, Says, Enters, ByReturn, Setting, too_many, missing_if, refusal, entry_at, bound_by, CallsFunction, ComesTo}
-use Rattle.py_run.specs.Run.{Posed, Plan, Activation, open_in, depth, Past, nothing, past_behind, setting, Comes, EachTells}
+use Rattle.py_run.specs.Run.{Posed, Plan, Activation, open_in, depth, Past, nothing, setting, Comes, EachTells}
+use Rattle.py_run.specs.Past.{past_behind}
 use Rattle.std.proofs.lemmas.List.Sorted.{IsPermutation-refl, IsPermutation-reverse, sum_by-IsPermutation}
 use Rattle.py_script.specs.Whole.{AreAsked, Binds, AreGlobals, AreObjects, AsksThis, IsLeft, Traces, IsRunOf, plan_of, signature_of}
 use Rattle.py_script.specs.Text.{events_text, numbered, result_text}
@@ -232,14 +233,7 @@ tells (suc (suc (suc i))) a e = absurd cc
 
 pub is_run : IsRunOf trees drives objects events
 is_run =
-    record {
-      asked = asked;
-      are_asked = are_asked;
-      globals = object 4;
-      are_globals = are_globals;
-      run = record { comes = comes; tells = tells; named = are_named objects events fits refl };
-      are_objects = are_objects;
-    }
+    record { asked = asked; are_asked = are_asked; globals = object 4; are_globals = are_globals; run = record { comes = comes; tells = tells; named = are_named objects events fits refl }; are_objects = are_objects }
 
 -- the line of a drive that returns 7
 line_of : (d : ℕ) (digits : List ℕ) → decimal d ≡ digits → numbered d (codes " returns " ++ decimal 7) ≡ digits ++ (codes " returns 7" ++ codes "\n")

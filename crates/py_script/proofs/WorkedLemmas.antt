@@ -21,29 +21,19 @@ use Rattle.py_grammar.specs.Grammar.{Declares, Drives}
 use Rattle.py_grammar.specs.Lines.{lines}
 use Rattle.py_grammar.specs.Script.{Spells}
 use Rattle.py_answers.specs.Answers.{Is, Passes}
-use Rattle.py_run.specs.Run.{Posed, Plan, Activation, Past, nothing, past_behind, Comes, EachTells}
-use Rattle.py_script.specs.Whole.{AreObjects, Traces, IsRunOf, plan_of}
+use Rattle.py_run.specs.Run.{Plan, Activation, Past, nothing, Comes, EachTells}
+use Rattle.py_run.specs.Past.{past_behind}
+use Rattle.py_script.specs.Whole.{Traces, IsRunOf, plan_of}
 use Rattle.py_script.specs.Worked.{script, function, trees, call_of, drives, object, exception, function_entry, objects_by, objects, objects_with_manager, entered, asked, events, unfinished, with_round, swapped, driven_twice, greatest, overflowing, error_entry, error_objects, raising_objects, overflow_objects, raises, overflow_by}
-use Rattle.py_script.proofs.Journals.{RaiseIsTraced, are_globals, are_named, are_objects, asking_comes, asks_numbers, begun, call, code_of, differ, entry_of, few_asked, first_raises, fits, gives_sum, made_error, one_tells, overflows, plan_with, reads_of, runs, some_is, sum_comes, traced, overflow_is_run as overflow_run}
+use Rattle.py_script.proofs.Journals.{RaiseIsTraced, are_globals, are_named, are_objects, asking_comes, asks_numbers, begun, call, call_runs, code_of, differ, entry_of, few_asked, first_raises, fits, gives_sum, made_error, one_tells, overflows, plan_with, reads_of, runs, some_is, sum_comes, traced, overflow_is_run as overflow_run}
 
 pub spelled : Spells (lines script) trees drives
 spelled =
     let items = Declares function ∷ Drives (call_of (codes "f") (pos 33) (pos 12)) ∷ [] in
-    record {
-      items = items;
-      reads = reads_of items;
-      read = (refl, (refl, (refl, (refl, (refl, tt)))));
-      spelled = refl;
-      well = (refl, ((refl, (refl, tt)), (refl, tt)));
-      declared = refl;
-      driven = refl;
-    }
+    record { items = items; reads = reads_of items; read = (refl, (refl, (refl, (refl, (refl, tt))))); spelled = refl; well = (refl, ((refl, (refl, tt)), (refl, tt))); declared = refl; driven = refl }
 
 sum_fits : AllFit objects
 sum_fits = fits function (payload.Int (pos 33) ∷ payload.Int (pos 12) ∷ payload.Frame 0 ∷ payload.Int (pos 45) ∷ []) refl (tt, (tt, (tt, (tt, tt))))
-
-sum_objects : AreObjects trees objects
-sum_objects = are_objects function (pos 33) (pos 12) (payload.Int (pos 45) ∷ []) refl (tt, tt) sum_fits
 
 -- what the run is of
 abbrev plan : Plan
@@ -60,34 +50,17 @@ sum_traced : IsTrace (anywhere objects (object 2)) function (object 3 ∷ object
 unfolding own_from told_by
 sum_traced = (refl, (_, refl, (tt, inr (inr (2, _, refl, refl, inr (4, got.Value (object 6), _, refl, inr (inr (5, refl))))))))
 
-sum_tells : EachTells (Traces trees (object 2) objects) events
-sum_tells = one_tells (Traces trees (object 2) objects) (object 0) (object 3 ∷ object 4 ∷ []) events refl (_, refl, (function, refl, sum_traced))
-
 pub is_run : IsRunOf trees drives objects events
 is_run =
-    record {
-      asked = call ∷ [];
-      are_asked = (asks_numbers function (pos 33) (pos 12) (payload.Int (pos 45) ∷ []) events refl, tt);
-      globals = object 2;
-      are_globals = are_globals function (payload.Int (pos 33) ∷ payload.Int (pos 12) ∷ payload.Frame 0 ∷ payload.Int (pos 45) ∷ []) refl;
-      run = record { comes = front_comes (event.Result 1 (answer.Returns (object 6)) ∷ []) ((refl, refl, (Is (object 6), (_, refl, (refl, refl)), refl)), tt); tells = sum_tells; named = are_named objects events sum_fits refl };
-      are_objects = sum_objects;
-    }
+    call_runs function (pos 33) (pos 12) (payload.Int (pos 45) ∷ []) events refl (tt, tt) sum_fits (front_comes (event.Result 1 (answer.Returns (object 6)) ∷ []) ((refl, refl, (Is (object 6), (_, refl, (refl, refl)), refl)), tt))
+    (one_tells (Traces trees (object 2) objects) (object 0) (object 3 ∷ object 4 ∷ []) events refl (_, refl, (function, refl, sum_traced))) (are_named objects events sum_fits refl)
 
 front_tells : EachTells (Traces trees (object 2) objects) unfinished
 unfolding own_from told_by
 front_tells = one_tells (Traces trees (object 2) objects) (object 0) (object 3 ∷ object 4 ∷ []) unfinished refl (_, refl, (function, refl, sum_traced))
 
 pub front_is_run : IsRunOf trees drives objects unfinished
-front_is_run =
-    record {
-      asked = call ∷ [];
-      are_asked = (asks_numbers function (pos 33) (pos 12) (payload.Int (pos 45) ∷ []) unfinished refl, tt);
-      globals = object 2;
-      are_globals = are_globals function (payload.Int (pos 33) ∷ payload.Int (pos 12) ∷ payload.Frame 0 ∷ payload.Int (pos 45) ∷ []) refl;
-      run = record { comes = front_comes [] tt; tells = front_tells; named = are_named objects unfinished sum_fits refl };
-      are_objects = sum_objects;
-    }
+front_is_run = call_runs function (pos 33) (pos 12) (payload.Int (pos 45) ∷ []) unfinished refl (tt, tt) sum_fits (front_comes [] tt) front_tells (are_named objects unfinished sum_fits refl)
 
 pub no_round : IsRunOf trees drives objects with_round → ⊥
 unfolding own_from told_by
@@ -144,10 +117,7 @@ both_tell zero a e = subst (λ (a : Activation). Traces trees (object 2) both_ob
 both_tell (suc zero) a e = subst (λ (a : Activation). Traces trees (object 2) both_objects a.function a.args (own_events 2 both_raise)) (some_is _ a e) (_, refl, (function, refl, raise_traced (error_entry OverflowError ∷ []) 9 11 (exception 9)))
 both_tell (suc (suc i)) a e = absurd cc
 
--- the questions of the two drives
-abbrev both_asked : List Posed
-both_asked = call ∷ call ∷ []
-
+-- what it is of
 abbrev both_plan : Plan
 both_plan = plan_with function (call ∷ [])
 
@@ -179,7 +149,7 @@ pub errors_are_run : IsRunOf trees (overflowing ∷ overflowing ∷ []) both_obj
 errors_are_run =
     let asks = asks_numbers function greatest (pos 1) (error_objects OverflowError (error_entry OverflowError ∷ [])) both_raise refl in
     record {
-      asked = both_asked;
+      asked = call ∷ call ∷ [];
       globals = object 2;
       are_globals = are_globals function (payload.Int greatest ∷ payload.Int (pos 1) ∷ payload.Frame 0 ∷ error_objects OverflowError (error_entry OverflowError ∷ [])) refl;
       are_asked = (asks, (asks, tt));

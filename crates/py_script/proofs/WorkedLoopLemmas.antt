@@ -34,15 +34,7 @@ use Rattle.py_script.proofs.OneText.{raise_line}
 pub spelled : Spells (lines script) trees drives
 spelled =
     let items = Declares function ∷ Drives (drive.Call (codes "f") []) ∷ [] in
-    record {
-      items = items;
-      reads = reads_of items;
-      read = (refl, (refl, (refl, (refl, (refl, tt)))));
-      spelled = refl;
-      well = (refl, (((refl, tt), tt), (refl, tt)));
-      declared = refl;
-      driven = refl;
-    }
+    record { items = items; reads = reads_of items; read = (refl, (refl, (refl, (refl, (refl, tt))))); spelled = refl; well = (refl, (((refl, tt), tt), (refl, tt))); declared = refl; driven = refl }
 
 -- the question of the drive
 abbrev call : Posed
@@ -171,15 +163,7 @@ unknown_function = function_of (first 2 (Show (atom.Name (codes "z"))) nothing)
 pub unknown_spelled : Spells (lines unknown_script) unknown_trees drives
 unknown_spelled =
     let items = Declares unknown_function ∷ Drives (drive.Call (codes "f") []) ∷ [] in
-    record {
-      items = items;
-      reads = reads_of items;
-      read = (refl, (refl, (refl, (refl, tt))));
-      spelled = refl;
-      well = (refl, ((refl, tt), (refl, tt)));
-      declared = refl;
-      driven = refl;
-    }
+    record { items = items; reads = reads_of items; read = (refl, (refl, (refl, (refl, tt)))); spelled = refl; well = (refl, ((refl, tt), (refl, tt))); declared = refl; driven = refl }
 
 -- its objects behind the first ones
 abbrev unknown_own : List Payload

@@ -29,26 +29,19 @@ use Rattle.py_grammar.specs.Grammar.{Declares, Drives}
 use Rattle.py_grammar.specs.Lines.{lines}
 use Rattle.py_grammar.specs.Script.{Spells}
 use Rattle.py_answers.specs.Answers.{Reply, Has, Is, GivesBody}
-use Rattle.py_run.specs.Run.{Plan, Asking, Past, setting, IsReply, nothing as at_first, past_behind, Comes}
+use Rattle.py_run.specs.Run.{Plan, Asking, Past, setting, IsReply, nothing as at_first, Comes}
+use Rattle.py_run.specs.Past.{past_behind}
 use Rattle.py_script.specs.Whole.{Traces, IsRunOf, plan_of}
 use Rattle.py_script.specs.Text.{events_text, result_text}
 use Rattle.py_script.specs.Worked.{object, exception, entered, asked, greatest, overflow_by}
 use Rattle.py_script.specs.WorkedShow.{script, function, trees, drive, drives, objects, summed, shows, answered, ended, events_by, events, without_show, shown_twice, overflowing, overflow_objects, shown_behind_raise}
-use Rattle.py_script.proofs.Journals.{RaiseIsTraced, are_globals, are_objects, asked_so, asking_comes, asks_numbers, begun, call, decimal_1, decimal_45, differ, each_at, fits, gives_sum, one_tells, plan_with, reads_of, replied, runs, some_is, sum_comes, traced, overflow_is_run as overflow_run}
+use Rattle.py_script.proofs.Journals.{RaiseIsTraced, asked_so, asking_comes, begun, call_runs, decimal_1, decimal_45, differ, each_at, fits, gives_sum, one_tells, plan_with, reads_of, replied, runs, some_is, sum_comes, traced, overflow_is_run as overflow_run}
 use Rattle.py_script.proofs.OneText.{overflow_line}
 
 pub spelled : Spells (lines script) trees drives
 spelled =
     let items = Declares function ∷ Drives drive ∷ [] in
-    record {
-      items = items;
-      reads = reads_of items;
-      read = (refl, (refl, (refl, (refl, (refl, tt)))));
-      spelled = refl;
-      well = (refl, ((refl, (refl, tt)), (refl, tt)));
-      declared = refl;
-      driven = refl;
-    }
+    record { items = items; reads = reads_of items; read = (refl, (refl, (refl, (refl, (refl, tt))))); spelled = refl; well = (refl, ((refl, (refl, tt)), (refl, tt))); declared = refl; driven = refl }
 
 all_fit : AllFit objects
 all_fit = fits function (payload.Int (pos 33) ∷ payload.Int (pos 12) ∷ payload.Frame 0 ∷ payload.Int (pos 45) ∷ payload.None ∷ []) refl (tt, (tt, (tt, (tt, (tt, tt)))))
@@ -88,19 +81,8 @@ named a r n m =
 -- any None answers the show, and any None is returned
 pub any_none : (a r : Obj) → IsNone a → IsNone r → IsRunOf trees drives objects (events_by (object 6) a r)
 any_none a r n m =
-    record {
-      asked = call ∷ [];
-      are_asked = (asks_numbers function (pos 33) (pos 12) (payload.Int (pos 45) ∷ payload.None ∷ []) (events_by (object 6) a r) refl, tt);
-      globals = object 2;
-      are_globals = are_globals function (payload.Int (pos 33) ∷ payload.Int (pos 12) ∷ payload.Frame 0 ∷ payload.Int (pos 45) ∷ payload.None ∷ []) refl;
-      run =
-          record {
-            comes = comes a r n m;
-            tells = one_tells (Traces trees (object 2) objects) (object 0) (object 3 ∷ object 4 ∷ []) (events_by (object 6) a r) refl (_, refl, (function, refl, shown_traced a r m));
-            named = named a r n m;
-          };
-      are_objects = are_objects function (pos 33) (pos 12) (payload.Int (pos 45) ∷ payload.None ∷ []) refl (tt, (tt, tt)) all_fit;
-    }
+    call_runs function (pos 33) (pos 12) (payload.Int (pos 45) ∷ payload.None ∷ []) (events_by (object 6) a r) refl (tt, (tt, tt)) all_fit (comes a r n m)
+    (one_tells (Traces trees (object 2) objects) (object 0) (object 3 ∷ object 4 ∷ []) (events_by (object 6) a r) refl (_, refl, (function, refl, shown_traced a r m))) (named a r n m)
 
 pub text : events_text objects [] events ≡ codes "45\n1 returns None\n"
 text = simp (decimal_45, decimal_1)

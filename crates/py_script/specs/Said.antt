@@ -7,7 +7,7 @@ use Rattle.py_objects.specs.declared.payload.ExceptionBody.{ExceptionBody}
 use Rattle.py_objects.specs.declared.error_kind.ErrorKind.TheVariants.{KeyError, OSError, SyntaxError}
 use Rattle.py_objects.specs.ErrorKinds.{name_of}
 use Rattle.py_objects.specs.Objects.{Obj, Name, class_object}
-use Rattle.py_objects.specs.AttrEntries.{value_of}
+use Rattle.py_objects.specs.Attrs.{value_of}
 use Rattle.py_objects.specs.Values.{text_of}
 use Rattle.py_objects.specs.Ancestry.{derives_from}
 use Rattle.py_script.specs.Repr.{payload_of, has, in_parentheses}
@@ -62,8 +62,8 @@ abbrev pub found_at : (Obj → List ℕ) → Option Name → Option Obj → List
 found_at str None line = line_between str (codes " (line ") (codes ")") line
 found_at str (Some path) line = codes " (" ++ (encode_utf8_all (base_name path) ++ (line_between str (codes ", line ") [] line ++ codes ")"))
 
-abbrev pub found : (Obj → List ℕ) → List Payload → ExceptionBody → List ℕ
-found str objects e = found_at str (text_at objects (attribute objects e (codes "filename"))) (attribute objects e (codes "lineno"))
+abbrev pub whereabouts : (Obj → List ℕ) → List Payload → ExceptionBody → List ℕ
+whereabouts str objects e = found_at str (text_at objects (attribute objects e (codes "filename"))) (attribute objects e (codes "lineno"))
 
 -- any exception with these arguments: nothing without one, a single one as a text, several in parentheses
 abbrev pub said : (Obj → List ℕ) → (Obj → List ℕ) → List Obj → List ℕ
@@ -84,7 +84,7 @@ module _ (str repr : Obj → List ℕ) (objects : List Payload) (e : ExceptionBo
 
   -- a SyntaxError with one argument: what represents it, and where it was found
   abbrev pub syntax_said : List Obj → List ℕ
-  syntax_said (v ∷ []) = repr v ++ found str objects e
+  syntax_said (v ∷ []) = repr v ++ whereabouts str objects e
   syntax_said vs = said str repr vs
 
   -- an exception with these arguments, by its class

@@ -4,7 +4,7 @@ ghost use Rattle.std.specs.Prelude.{false, ◌≡◌, ◌≤◌, ◌<◌, [], If
 ghost use Rattle.py_objects.specs.Objects.{HasPayload, declared, pair_numbers, AllBelow};
 ghost use Rattle.py_laid.specs.Code.{IsPlain};
 ghost use Rattle.py_laid.specs.Fits.{Fits, Continues};
-ghost use Rattle.py_laid.specs.Instructions.{UsesUnguarded};
+ghost use Rattle.py_laid.specs.Instructions.{UsesCompiled};
 ghost use Rattle.py_body.specs.Codes.{Each};
 ghost use Rattle.py_rows.specs.Sound.{AreNames};
 ghost use Rattle.py_vm.specs.Codes.{CodeIsAnswered};
@@ -33,7 +33,7 @@ fn compile_declaration(
     ensures one { IfOk result (λ codes. length codes ≡ 1) }
     ensures fits { IfOk result (λ codes. Each (λ code. Fits names.new code (declared_tree declaration.now)) codes) }
     ensures plain { IfOk result (λ codes. Each (λ code. IsPlain code (declared_tree declaration.now)) codes) }
-    ensures uses { IfOk result (λ codes. Each (λ code. UsesUnguarded code.code) codes) }
+    ensures uses { IfOk result (λ codes. Each (λ code. UsesCompiled code.code) codes) }
     ensures grows { Continues names.old names.new }
 {
     match declaration {

@@ -2,7 +2,7 @@
 
 ghost use Rattle.std.specs.Prelude.{◌≡◌, ◌++◌, Some, OnOk, string_bytes, codes};
 ghost use Rattle.py_script.specs.Repr.{repr_within};
-ghost use Rattle.py_script.specs.Said.{found, line_between};
+ghost use Rattle.py_script.specs.Said.{line_between, whereabouts};
 ghost use Rattle.py_script.specs.Text.{str_by, str_within};
 ghost use Rattle.py_script.specs.Writing.{args_text, exception_text, key_text, os_text, says_at, syntax_text};
 
@@ -147,7 +147,7 @@ fn push_found(
     exception: &ExceptionBody,
     depth: u32,
 ) -> Result<(), NoMemory>
-    ensures { OnOk result (string_bytes out.new ≡ string_bytes out.old ++ found (str_within depth objects.now) objects.now exception.now) }
+    ensures { OnOk result (string_bytes out.new ≡ string_bytes out.old ++ whereabouts (str_within depth objects.now) objects.now exception.now) }
 {
     let file = attribute(*out.allocator(), objects, exception, b"filename")?;
     let line = attribute(*out.allocator(), objects, exception, b"lineno")?;

@@ -5,7 +5,7 @@ ghost use Rattle.std.specs.Fmt.{signed_decimal};
 ghost use Rattle.py_objects.specs.declared.error_kind.ErrorKind.TheVariants.{OverflowError, TypeError};
 ghost use Rattle.py_grammar.specs.Lines.{lines};
 ghost use Rattle.py_grammar.specs.Script.{Spells};
-ghost use Rattle.py_code.specs.Literals.{in_range};
+ghost use Rattle.py_code.specs.Range.{in_range};
 ghost use Rattle.py_run.specs.Run.{IsDone};
 ghost use Rattle.py_script.specs.Whole.{IsRunOf};
 ghost use Rattle.py_script.specs.Text.{events_text};

@@ -2,3 +2,5 @@ mod Trees
 pub mod Carry
 mod WorkedLemmas
 mod WorkedHandlerLemmas
+mod Reaching
+mod EndingLemmas

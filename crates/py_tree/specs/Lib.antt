@@ -9,6 +9,8 @@ pub mod Outcome
 pub mod Trace
 -- what holds of every trace
 pub mod Laws
+-- what tries with a finally and clauses come to
+pub mod Endings
 -- small trees, worked by hand
 pub mod Worked
 pub mod WorkedHandlers
@@ -16,5 +18,3 @@ pub mod WorkedHandlers
 pub mod Suites
 -- which bodies can be compiled
 pub mod Compilable
--- bodies that guard nothing
-pub mod Unguarded

@@ -6,11 +6,11 @@ use Rattle.py_objects.specs.declared.event.ResumeHow.TheVariants as how
 use Rattle.py_objects.specs.declared.event.Ending.{Ending}
 use Rattle.py_objects.specs.declared.event.Ending.TheVariants as ending
 use Rattle.py_objects.specs.Objects.{Obj, HasPayload}
-use Rattle.py_objects.specs.Own.{Own, Makes, Resumes, Asks, Gets, Rounds, Yields, Ends}
+use Rattle.py_objects.specs.Own.{Own, Makes, Resumes, Ends}
 use Rattle.py_tree.specs.Tree.{Tree}
 use Rattle.py_tree.specs.Binding.{Env, start_env}
 use Rattle.py_tree.specs.Scene.{Scene}
-use Rattle.py_tree.specs.Outcome.{Outcome, Normal, Breaks, Continues, Returns, Raises, Cut, RunsSuite}
+use Rattle.py_tree.specs.Outcome.{Outcome, Normal, Returns, Raises, Cut, RunsSuite}
 
 -- the end of an activation, by whatever unit, or nothing where the trace is cut in front of it
 abbrev pub Ended : Ending → List Own → Type 0
@@ -19,28 +19,21 @@ Ended e ts = (ts ≡ []) ⊎ ((at : ℕ) × (ts ≡ Ends at e ∷ []))
 -- how an outcome of a body ends its trace: a body that comes to its end returns None
 abbrev pub EndsBy : Scene → Env → Outcome → ℕ → List Own → Type 0
 EndsBy scene env Normal k ts = (ts ≡ []) ⊎ ((v : Obj) × HasPayload scene.objects v payload.None × Ended (ending.Return v) ts)
-EndsBy scene env Breaks k ts = ⊥
-EndsBy scene env Continues k ts = ⊥
 EndsBy scene env (Returns v) k ts = Ended (ending.Return v) ts
 EndsBy scene env (Raises e) k ts = Ended (ending.Raise e) ts
 EndsBy scene env Cut k ts = ts ≡ []
+EndsBy scene env _ k ts = ⊥
 
 -- how a function is entered: it starts
 abbrev pub Entered : ResumeHow → Type 0
 Entered how.Start = Unit {0}
-Entered (how.Send v) = ⊥
-Entered (how.Throw e) = ⊥
+Entered _ = ⊥
 
 -- what may follow the making of an activation
 abbrev pub IsBegun : Scene → Tree → List Obj → List Own → Type 0
 IsBegun scene t args [] = Unit {0}
-IsBegun scene t args (Makes ∷ ts) = ⊥
 IsBegun scene t args (Resumes k h ∷ ts) = Entered h × RunsSuite scene t.suite (start_env t args) None k ts (EndsBy scene)
-IsBegun scene t args (Asks at r own ∷ ts) = ⊥
-IsBegun scene t args (Gets k w ∷ ts) = ⊥
-IsBegun scene t args (Rounds at ∷ ts) = ⊥
-IsBegun scene t args (Yields at v ∷ ts) = ⊥
-IsBegun scene t args (Ends at e ∷ ts) = ⊥
+IsBegun scene t args _ = ⊥
 
 -- the own events of an activation of the function with these arguments: it is made with as many as it has parameters,
 -- entered, tells what its body may tell, and ends by the body's outcome

@@ -9,6 +9,6 @@ mod worked;
 
 pub use body::{Body, ParamList};
 pub use expr::{Atom, AtomList, Expr, Operation};
-pub use laws::laws_of_traces;
+pub use laws::{laws_of_endings, laws_of_traces};
 pub use stmt::{Clause, ClauseList, Stmt, StmtForm, StmtList};
 pub use worked::{worked_handlers, worked_trees};

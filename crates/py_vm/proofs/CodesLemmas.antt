@@ -3,7 +3,7 @@ use Rattle.std.proofs.Common.{◌≡◌, ◌≢◌, ◌∙◌, ℕ, true, false,
 use Rattle.std.specs.Prelude.{Bool, Option, Some, None, slice_get}
 use Rattle.py_code.specs.declared.code.PyCode.{PyCode}
 use Rattle.py_code.specs.declared.instruction.Instruction.{Instruction}
-use Rattle.py_code.specs.declared.instruction.Instruction.TheVariants.{LoadFast, DeleteFast, LoadGlobal, BinaryOperation, CompareOperation, TestOperation, CallFunctionPositional, PrintExpr, JumpIfTrue, JumpIfFalse, SetupWith, WithCleanupStart, WithCleanupFinish, Raise, SetupExcept, SetupFinally, YieldValue}
+use Rattle.py_code.specs.declared.instruction.Instruction.TheVariants.{LoadFast, DeleteFast, LoadGlobal, BinaryOperation, CompareOperation, TestOperation, CallFunctionPositional, PrintExpr, JumpIfTrue, JumpIfFalse, SetupWith, WithCleanupStart, WithCleanupFinish, Raise, YieldValue}
 use Rattle.py_code.specs.declared.operator.RaiseKind.{RaiseKind}
 use Rattle.py_code.specs.declared.operator.RaiseKind.TheVariants as raise
 use Rattle.py_code.specs.declared.unit.CodeUnit.{CodeUnit}
@@ -14,6 +14,14 @@ use Rattle.py_rows.specs.Signature.{kind_of}
 use Rattle.py_answers.specs.Replying.{is_answered}
 use Rattle.py_vm.specs.Codes.{is_later, CodeIsAnswered}
 
+-- instructions, each with some arguments, that the machine answers and runs: none enters or leaves a manager, none yields, and no raise
+-- has a cause
+pub record AreAnswered (is_used : Instruction → ℕ → Bool) : Type 0 where
+  pub no_enter : (arg : ℕ) → is_used SetupWith arg ≡ false
+  pub no_exit : (arg : ℕ) → is_used WithCleanupStart arg ≡ false
+  pub no_yield : (arg : ℕ) → is_used YieldValue arg ≡ false
+  pub no_cause : (arg : ℕ) → is_used Raise arg ≡ true → raise_of arg ≢ Some raise.RaiseCause
+
 -- what a raise asks that has no cause
 raise_answered : (k : Option RaiseKind) (q : Request) → k ≢ Some raise.RaiseCause → may_raise k q ≡ true → is_answered q ≡ true
 raise_answered (Some raise.Reraise) request.Handled plain asks = refl
@@ -21,9 +29,7 @@ raise_answered (Some raise.Raise) (request.Raisable v) plain asks = refl
 raise_answered (Some raise.RaiseCause) q plain asks = absurd (plain refl)
 raise_answered _ _ plain asks = absurd (cc asks)
 
-module _ (is_used : Instruction → ℕ → Bool) (no_test : (arg : ℕ) → is_used TestOperation arg ≡ false) (no_with : (arg : ℕ) → is_used SetupWith arg ≡ false) (no_exit : (arg : ℕ) → is_used WithCleanupStart arg ≡ false)
-    (no_except : (arg : ℕ) → is_used SetupExcept arg ≡ false) (no_finally : (arg : ℕ) → is_used SetupFinally arg ≡ false) (no_yield : (arg : ℕ) → is_used YieldValue arg ≡ false)
-    (no_cause : (arg : ℕ) → is_used Raise arg ≡ true → raise_of arg ≢ Some raise.RaiseCause) where
+module _ (is_used : Instruction → ℕ → Bool) (answered : AreAnswered is_used) where
   -- a unit that is used isn't one that isn't
   never : (op : Instruction) (arg : ℕ) → is_used op arg ≡ false → is_used op arg ≡ true → ⊥
   never op arg unused used = absurd (let clash : true ≡ false = sym used ∙ unused in cc clash)
@@ -35,22 +41,20 @@ module _ (is_used : Instruction → ℕ → Bool) (no_test : (arg : ℕ) → is_
   unit_answered LoadGlobal arg used (request.Global globals x) asks = refl
   unit_answered BinaryOperation arg used (request.Binary op a b) asks = asks
   unit_answered CompareOperation arg used (request.Compare op a b) asks = asks
+  unit_answered TestOperation arg used (request.Match e c) asks = refl
   unit_answered CallFunctionPositional arg used (request.Call f vs named) asks = asks
   unit_answered PrintExpr arg used (request.Show v) asks = refl
   unit_answered JumpIfTrue arg used (request.Truth v) asks = refl
   unit_answered JumpIfFalse arg used (request.Truth v) asks = refl
   unit_answered WithCleanupFinish arg used (request.Truth v) asks = refl
-  unit_answered TestOperation arg used q asks = absurd (never TestOperation arg (no_test arg) used)
-  unit_answered SetupWith arg used q asks = absurd (never SetupWith arg (no_with arg) used)
-  unit_answered WithCleanupStart arg used q asks = absurd (never WithCleanupStart arg (no_exit arg) used)
-  unit_answered Raise arg used q asks = raise_answered (raise_of arg) q (no_cause arg used) asks
+  unit_answered SetupWith arg used q asks = absurd (never SetupWith arg (answered.no_enter arg) used)
+  unit_answered WithCleanupStart arg used q asks = absurd (never WithCleanupStart arg (answered.no_exit arg) used)
+  unit_answered Raise arg used q asks = raise_answered (raise_of arg) q (answered.no_cause arg used) asks
   unit_answered _ arg used _ asks = absurd (cc asks)
 
   -- and it runs such a unit
   unit_runs : (op : Instruction) (arg : ℕ) → is_used op arg ≡ true → is_later op ≡ false
-  unit_runs SetupExcept arg used = absurd (never SetupExcept arg (no_except arg) used)
-  unit_runs SetupFinally arg used = absurd (never SetupFinally arg (no_finally arg) used)
-  unit_runs YieldValue arg used = absurd (never YieldValue arg (no_yield arg) used)
+  unit_runs YieldValue arg used = absurd (never YieldValue arg (answered.no_yield arg) used)
   unit_runs _ arg used = refl
 
   -- so are all questions of a code whose units are all such, and whose activations run through

@@ -5,9 +5,10 @@ use Rattle.std.proofs.lemmas.Option.{same_Some, slice_get-map}
 use Rattle.py_objects.specs.declared.payload.Payload.{Payload}
 use Rattle.py_objects.specs.declared.payload.Payload.TheVariants as payload
 use Rattle.py_objects.specs.declared.error_kind.ErrorKind.{ErrorKind}
-use Rattle.py_objects.specs.ErrorKinds.{error_kinds, place_of}
+use Rattle.py_objects.specs.ErrorKinds.{error_kinds}
+use Rattle.py_objects.specs.ErrorPlaces.{place_of}
 use Rattle.py_objects.specs.Objects.{Obj, Name, HasPayload, declared, declares, payload_numbers, AllBelow, IsMade, AllFit}
-use Rattle.py_objects.specs.AttrEntries.{value_of}
+use Rattle.py_objects.specs.Attrs.{value_of}
 use Rattle.py_objects.specs.Own.{own_events}
 use Rattle.py_objects.specs.Edits.{Kept}
 use Rattle.py_vm.specs.declared.stage.Stage.TheVariants as stage
@@ -20,7 +21,7 @@ use Rattle.py_objects.proofs.ErrorKindsLemmas.{place_at, place_below}
 use Rattle.py_objects.proofs.GrowthLemmas.{below_more, slice_get_split, one_entry}
 use Rattle.py_objects.specs.Singletons.{singletons}
 use Rattle.py_vm.specs.First.{first_objects, first_globals}
-use Rattle.py_vm.specs.Machine.{Machine, new_machine}
+use Rattle.py_vm.specs.Machine.{new_machine}
 use Rattle.py_vm.specs.Holds.{IsCoded}
 use Rattle.py_vm.specs.Stands.{AreCallers, AreApart, AtStage, phase_of, acts_of, frames_at, slot_at, IsIdle, seen}
 use Rattle.py_run.proofs.OwnLemmas.{own_events-nil}
@@ -148,13 +149,7 @@ dict_begins old new zoo pairs globals begun none added last =
 -- a machine that has done nothing, as callers see it
 pub seen_first : (m : Core) (names : List Name) → m.store.made ≡ first_objects → m.store.changes ≡ [] → m.codes ≡ record { names = names; codes = [] } → m.globals ≡ first_globals → m.events ≡ [] → m.frames ≡ []
     → seen m ≡ record (new_machine names) { entered = m.entered; failed = m.failed; state = m.state }
-seen_first m names objects unchanged codes globals no_events no_frames =
-    ap (λ x. let n : Machine = record (seen m) { objects = x } in n) objects
-    ∙ ap (λ x. let n : Machine = record (seen m) { objects = first_objects; changes = x } in n) unchanged
-    ∙ ap (λ x. let n : Machine = record (seen m) { objects = first_objects; changes = []; checked = x } in n) codes
-    ∙ ap (λ x. let n : Machine = record (seen m) { objects = first_objects; changes = []; checked = record { names = names; codes = [] }; globals = x } in n) globals
-    ∙ ap (λ x. let n : Machine = record (new_machine names) { events = x; frames = m.frames; entered = m.entered; failed = m.failed; state = m.state } in n) no_events
-    ∙ ap (λ x. let n : Machine = record (new_machine names) { frames = x; entered = m.entered; failed = m.failed; state = m.state } in n) no_frames
+seen_first m names objects unchanged codes globals no_events no_frames = rw (objects, unchanged, codes, globals, no_events, no_frames)
 
 -- a machine that has done nothing is between drives
 pub start_idle : (m : Core) → m.events ≡ [] → Begins m.store m.globals → m.codes.codes ≡ [] → m.zoo ≡ first_classes → m.declarations ≡ declarations_of first_classes → m.done ≡ 0 → m.made ≡ 0

@@ -1,6 +1,6 @@
 -- What the functions of a turn come to.
 use Rattle.std.proofs.Common.{◌≡◌, ◌+◌, ◌-◌, ◌++◌, ℕ, List, [], ◌∷◌, Some, inl, inr, refl, sym, ap, subst, ◌∙◌, length}
-use Rattle.std.specs.Prelude.{Option, None, Result, Ok, Err, OnOk, OnErr, slice_get}
+use Rattle.std.specs.Prelude.{Option, None, slice_get}
 use Rattle.py_objects.specs.declared.refs.FrameRef.{FrameRef}
 use Rattle.py_objects.specs.declared.refs.PyBaseExceptionRef.{PyBaseExceptionRef}
 use Rattle.py_objects.specs.declared.payload.Payload.{Payload}
@@ -27,7 +27,7 @@ use Rattle.py_frame.specs.Running.{IsRunning, IsSame}
 use Rattle.py_frame.specs.Steps.{Extends, IfTold, NamesHandled, events as own_of_step, expected, told}
 use Rattle.py_run.specs.declared.drive.Drive.{Drive}
 use Rattle.py_run.specs.Calls.{Setting}
-use Rattle.py_run.specs.Run.{request_of}
+use Rattle.py_run.specs.Drives.{request_of}
 use Rattle.py_vm.specs.declared.calls.Course.{Course as MadeCourse}
 use Rattle.py_vm.specs.declared.calls.Course.TheVariants as course
 use Rattle.py_vm.specs.declared.stage.Running.{Running}
@@ -37,23 +37,8 @@ use Rattle.py_vm.specs.declared.stage.Stage.TheVariants as stage
 use Rattle.py_vm.specs.declared.machinery.Core.{Core}
 use Rattle.py_vm.specs.Codes.{Checked, CodeIsAnswered, IsRunnable}
 use Rattle.py_vm.specs.Courses.{IsCourse}
-use Rattle.py_vm.specs.Turns.{fresh, next_frame, got_by, result_of, result_by, setting_at, IsPlain, IsTaken, MadeOne, IsFreshFor, IsSaid, IsOpened, Opened, Answered, Halts}
+use Rattle.py_vm.specs.Turns.{fresh, next_frame, got_by, result_of, result_by, setting_at, IsPlain, IsToldStep, MadeOne, IsFreshFor, IsSaid, IsOpened, Opened, AnsweredOne, Halts}
 use Rattle.py_vm.proofs.WantedLemmas.{steps_plainly}
-
--- what holds where a call answered, or failed
-pub on_ok : {A E : Type 0} (result : Result A E) (P Q : Type 0) → (P → Q) → OnOk result P → OnOk result Q
-on_ok (Ok value) P Q step holds = step holds
-on_ok (Err fault) P Q step holds = tt
-
--- the same of a call that failed
-pub on_err : {A E : Type 0} (result : Result A E) (P Q : Type 0) → (P → Q) → OnErr result P → OnErr result Q
-on_err (Ok value) P Q step holds = tt
-on_err (Err fault) P Q step holds = step holds
-
--- what holds anyway holds where a call failed
-pub err_is : {A E : Type 0} (result : Result A E) (P : Type 0) → P → OnErr result P
-err_is (Ok value) P holds = tt
-err_is (Err fault) P holds = holds
 
 -- a machine that got no more than objects, callers and what is in its slots halts
 pub grew_halts : (m : Core) (store : Kept) (callers : List Halted) (slots : Slots) → IsGrown m.store store → Halts m (record m { store = store; callers = callers; slots = slots })
@@ -110,7 +95,7 @@ module _ (codes : Checked) (objects : List Payload) (r : Running) (s : FrameStep
   -- and with what is in the slot
   pub step_taken : (slot : Option PyBaseExceptionRef) (names : List (List ℕ)) → names ≡ codes.names → slot ≡ r.frame.state.slot
       → IfTold s (Extends objects (setting_of names c r.frame) (handed slot r.frame.state) (own_of_step (told (f.state.last - 1) s)) f.state)
-      → TellsBelow (length objects) (own_of_step (told (f.state.last - 1) s)) → f.state.wants ≡ expected s → NamesHandled f.state s → IsRunning objects names c f → IsSame r.frame f → IsTaken codes objects r s f
+      → TellsBelow (length objects) (own_of_step (told (f.state.last - 1) s)) → f.state.wants ≡ expected s → NamesHandled f.state s → IsRunning objects names c f → IsSame r.frame f → IsToldStep codes objects r s f
   step_taken slot names table shares extends below wants own running same =
       let Told : List (List ℕ) → Option PyBaseExceptionRef → Type 0 = λ ns x. IfTold s (Extends objects (setting_of ns c r.frame) (handed x r.frame.state) (own_of_step (told (f.state.last - 1) s)) f.state) in
       record {
@@ -155,15 +140,15 @@ opened_enters m d q store f vs m' asks opened made = inr (f, vs, refl, subst (λ
 
 -- the same of what an activation asked
 module _ (m : Core) (h : Halted) (n : ℕ) (q : Request) (own : Option PyBaseExceptionRef) (at : ℕ) (e : Event) (found : Some e ≡ slice_get m.events h.place) (is : e ≡ event.Ask n q own at) (store : Kept) where
-  pub answered_says : (w : Answer) (m' : Core) → IsSaid m q store w → m' ≡ got_by (record m { store = store }) h.running w → Answered m h m'
+  pub answered_says : (w : Answer) (m' : Core) → IsSaid m q store w → m' ≡ got_by (record m { store = store }) h.running w → AnsweredOne m h m'
   answered_says w m' said gets = (n, q, own, at, sym found ∙ ap Some is, inl (store, w, said, gets))
 
-  pub answered_enters : (hs : List Halted) (f : Obj) (vs : List Obj) (m' : Core) → IsOpened m q f vs × (store ≡ m.store) → hs ≡ h ∷ m.callers → MadeOne (record m { store = store; callers = hs }) f vs m' → Answered m h m'
+  pub answered_enters : (hs : List Halted) (f : Obj) (vs : List Obj) (m' : Core) → IsOpened m q f vs × (store ≡ m.store) → hs ≡ h ∷ m.callers → MadeOne (record m { store = store; callers = hs }) f vs m' → AnsweredOne m h m'
   answered_enters hs f vs m' opened callers made =
       let waits : MadeOne (record m { store = store; callers = h ∷ m.callers }) f vs m' = subst (λ l. MadeOne (record m { store = store; callers = l }) f vs m') callers made in
       (n, q, own, at, sym found ∙ ap Some is, inr (f, vs, opened.0, subst (λ s. MadeOne (record m { store = s; callers = h ∷ m.callers }) f vs m') opened.1 waits))
 
 -- whatever stage it was at
-pub answered_at : (m : Core) (s : Stage) (h : Halted) (m' : Core) → Answered (record m { stage = s }) h m' → Answered m h m'
+pub answered_at : (m : Core) (s : Stage) (h : Halted) (m' : Core) → AnsweredOne (record m { stage = s }) h m' → AnsweredOne m h m'
 answered_at m s h m' (n, q, own, at, entry, inl (store, w, said, is)) = (n, q, own, at, entry, inl (store, w, record { reply = said.reply; says = said.says; grown = said.grown; given = said.given }, is))
 answered_at m s h m' (n, q, own, at, entry, inr entered) = (n, q, own, at, entry, inr entered)

@@ -11,7 +11,7 @@ use Rattle.py_objects.specs.declared.event.Ending.{Ending}
 use Rattle.py_objects.specs.declared.event.Ending.TheVariants as ending
 use Rattle.py_objects.specs.declared.event.GotAnswer.{GotAnswer}
 use Rattle.py_objects.specs.declared.error_kind.ErrorKind.TheVariants.{RecursionError}
-use Rattle.py_objects.specs.Objects.{Obj, Name, HasPayload, numbers, request_numbers, AllBelow}
+use Rattle.py_objects.specs.Objects.{Obj, Name, HasPayload, IsFunction, numbers, request_numbers, AllBelow}
 use Rattle.py_objects.specs.Growth.{IsGrown}
 use Rattle.py_objects.specs.Edits.{Kept}
 use Rattle.py_frame.specs.declared.input.Answer.{Answer}
@@ -21,17 +21,17 @@ use Rattle.py_answers.specs.Answers.{Reply, Is, Fails, Passes, GivesBody, GivesD
 use Rattle.py_run.specs.declared.drive.Drive.{Drive}
 use Rattle.py_run.specs.declared.drive.Drive.TheVariants.{Call}
 use Rattle.py_run.specs.Calls.{Course, Says, Enters, Setting, most_depth, entry_at, bound_by, ComesTo, IsDue, LeavesCalled}
-use Rattle.py_run.specs.Run.{Act, Phase, Asking, Due, Posed, State, start, state_after, left_by, request_of, open_in, question, handled_among, setting, Opens, IsReply, IsAnswered}
+use Rattle.py_run.specs.Run.{Act, Phase, Asking, Due, Posed, State, start, state_after, left_by, open_in, question, handled_among, setting, Opens, IsReply, IsAnswered}
+use Rattle.py_run.specs.Drives.{request_of}
 use Rattle.py_run.proofs.RunLemmas.{comes_to_grows}
 use Rattle.py_vm.specs.declared.stage.Halted.{Halted}
 use Rattle.py_vm.specs.declared.stage.Stage.{Stage}
 use Rattle.py_vm.specs.declared.stage.Stage.TheVariants as stage
 use Rattle.py_vm.specs.declared.machinery.Core.{Core}
-use Rattle.py_vm.specs.Courses.{IsCallee}
 use Rattle.py_vm.specs.Machine.{posed, plan_of, drive_numbers}
 use Rattle.py_vm.specs.Stands.{IsHalted, slot_in, asking, caller_acts, Keeps}
 use Rattle.py_vm.specs.Turns.{result_of, passed, setting_at, IsSaid, IsOpened}
-use Rattle.py_vm.proofs.NestedLemmas.{callers_handle, halted_handles, past_at, setting_is, IsNext}
+use Rattle.py_vm.proofs.NextLemmas.{callers_handle, halted_handles, past_at, setting_is, IsNext}
 
 -- the question of a run in which a drive has asked, where no activation runs
 pub drive_asks : (m : Core) (d : Drive) (asked : List Posed) → (state_after start m.events).done ≡ m.done → (state_after start m.events).stack ≡ [] → IsNext m d asked
@@ -123,7 +123,7 @@ bound_same None depth f g vs ws is = unless_deep (nat_le most_depth depth) is
     unless_deep false is = (cc, cc)
 
 -- what enters a function is its call with these arguments
-pub opened_call : (at : Setting) (objects : List Payload) (q : Request) (f : Obj) (vs : List Obj) → ComesTo at objects q (Enters f vs) → (q ≡ request.Call f vs keywords.None) × IsCallee objects f
+pub opened_call : (at : Setting) (objects : List Payload) (q : Request) (f : Obj) (vs : List Obj) → ComesTo at objects q (Enters f vs) → (q ≡ request.Call f vs keywords.None) × IsFunction objects f
 opened_call at objects q f vs (inl (reply, is, replies)) = absurd (cc is)
 opened_call at objects q f vs (inr (inl (g, ws, is_call, calls))) =
     let (function, args) = bound_same _ at.depth f g vs ws calls.is in

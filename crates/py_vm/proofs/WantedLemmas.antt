@@ -3,7 +3,7 @@ use Rattle.std.proofs.Common.{◌≡◌, ◌∙◌, ℕ, List, Bool, true, false
 use Rattle.std.specs.Prelude.{Option, ◌+ℤ◌, ◌-ℤ◌, codes, length, nat_le, slice_get}
 use Rattle.std.proofs.lemmas.Bool.{cond_both}
 use Rattle.std.proofs.lemmas.Option.{same_Some}
-use Rattle.py_code.specs.Literals.{in_range}
+use Rattle.py_code.specs.Range.{in_range}
 use Rattle.py_code.specs.declared.code.PyCode.{PyCode}
 use Rattle.py_code.specs.declared.unit.CodeUnit.{CodeUnit}
 use Rattle.py_code.specs.declared.operator.BinaryOperator.{BinaryOperator}
@@ -29,7 +29,7 @@ use Rattle.py_rows.specs.Answers.{HasKind, wanted, IsValue, IsAnswer}
 use Rattle.py_rows.specs.Questions.{UnitAsks, UnitYields}
 use Rattle.py_rows.specs.Laws.{RaisedThere, AllMayTell}
 use Rattle.py_exceptions.specs.declared.ctor.ExceptionCtor.TheVariants as ctor
-use Rattle.py_exceptions.specs.Constructing.{ClassTaken, IsTakenFor}
+use Rattle.py_exceptions.specs.Raisable.{ClassTaken, IsTakenFor}
 use Rattle.py_frame.specs.declared.input.FrameStep.{FrameStep}
 use Rattle.py_frame.specs.declared.input.FrameStep.TheVariants as step
 use Rattle.py_frame.specs.Steps.{events, told}

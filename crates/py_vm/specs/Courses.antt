@@ -2,13 +2,11 @@
 use Rattle.std.specs.Prelude.{ℕ, Option, Some, None, List, ◌≡◌, length, map}
 use Rattle.py_code.specs.declared.names.NameId.{NameId}
 use Rattle.py_objects.specs.declared.payload.Payload.{Payload}
-use Rattle.py_objects.specs.declared.payload.Payload.TheVariants as payload
-use Rattle.py_objects.specs.declared.payload.FunctionBody.{FunctionBody}
 use Rattle.py_objects.specs.declared.payload.Fault.{Fault}
 use Rattle.py_objects.specs.Edits.{Kept}
 use Rattle.py_objects.specs.declared.request.Request.{Request}
 use Rattle.py_objects.specs.declared.event.Event.{Event}
-use Rattle.py_objects.specs.Objects.{Obj, Name, HasPayload, AllBelow, AreNamed, got_numbers}
+use Rattle.py_objects.specs.Objects.{Obj, Name, AllBelow, AreNamed, got_numbers}
 use Rattle.py_rows.specs.Asked.{name_in}
 use Rattle.py_rows.specs.Signature.{characters}
 use Rattle.py_answers.specs.Answers.{Reply, Fails, GivesBody}
@@ -29,28 +27,24 @@ IsHeard (given.Fresh e) = Unit {0}
 IsHeard (given.Passed e) = ⊥
 
 -- an answer gives the reply, whatever happened before, and names objects
-pub record IsGiven (old new : List Payload) (reply : Reply) (w : Answer) : Type 0 where
+pub record GivesReply (old new : List Payload) (reply : Reply) (w : Answer) : Type 0 where
   pub gives : (before : List Event) → AreNamed old before → GivesBody new before reply (got_of w)
   pub below : AllBelow (length new) (got_numbers (got_of w))
   pub heard : IsHeard w
 
 -- where a question stands, among these codes
-abbrev pub setting_of : Checked → Standing → Setting
-setting_of codes at = record { signatures = signatures_of codes; depth = at.depth; handled = at.handled }
-
--- a callee is a function
-abbrev pub IsCallee : List Payload → Obj → Type 0
-IsCallee objects f = (b : FunctionBody) × HasPayload objects f (payload.Function b)
+abbrev pub setting_by : Checked → Standing → Setting
+setting_by codes at = record { signatures = signatures_of codes; depth = at.depth; handled = at.handled }
 
 -- a course that was made for a request, by which a store may have got more objects: what it says gives the reply, and what it enters is the
 -- function, with the arguments, and no object is new
 abbrev pub IsCourse : Setting → (old new : Kept) → Request → MadeCourse → Type 0
-IsCourse at old new r (course.Says w) = (reply : Reply) × ComesTo at old.made r (Says reply) × IsGiven old.made new.made reply w
+IsCourse at old new r (course.Says w) = (reply : Reply) × ComesTo at old.made r (Says reply) × GivesReply old.made new.made reply w
 IsCourse at old new r (course.Enters f vs) = ComesTo at old.made r (Enters f vs) × (new ≡ old)
 
 -- the same of the call of a function
 abbrev pub IsCourseOf : Setting → (old new : Kept) → Obj → List Obj → MadeCourse → Type 0
-IsCourseOf at old new f vs (course.Says w) = (reply : Reply) × CallsFunction at old.made f vs (Says reply) × IsGiven old.made new.made reply w
+IsCourseOf at old new f vs (course.Says w) = (reply : Reply) × CallsFunction at old.made f vs (Says reply) × GivesReply old.made new.made reply w
 IsCourseOf at old new f vs (course.Enters g ws) = CallsFunction at old.made f vs (Enters g ws) × (new ≡ old)
 
 -- the course of a call that is refused like this, if it is

@@ -2,7 +2,6 @@
 
 ghost use Rattle.std.specs.Prelude.{◌≡◌, IfOk, false};
 ghost use Rattle.py_tree.specs.Compilable.{IsCompilable, SuiteFits, statements};
-ghost use Rattle.py_tree.specs.Unguarded.{IsUnguarded};
 ghost use Rattle.py_tree.specs.Views.{suite_of, tree_of};
 
 use py_body::{Atom, AtomList, Body, Expr, Operation, ParamList, Stmt, StmtForm, StmtList};
@@ -22,8 +21,7 @@ use std::alloc::Global;
 /// end
 /// ```
 pub(crate) fn count_down(alloc: Global) -> Result<Body, NoMemory>
-    ensures compilable { IfOk result (λ body. IsCompilable (tree_of body)) }
-    ensures unguarded { IfOk result (λ body. IsUnguarded (suite_of body.suite)) }
+    ensures { IfOk result (λ body. IsCompilable (tree_of body)) }
 {
     let mut params = ParamList::new(alloc);
     params.push(text(alloc, b"n")?)?;
@@ -43,7 +41,6 @@ pub(crate) fn count_down(alloc: Global) -> Result<Body, NoMemory>
 /// The two lines in the `if`.
 fn call_of_less(alloc: Global) -> Result<StmtList, NoMemory>
     ensures fits { IfOk result (λ suite. SuiteFits false (suite_of suite)) }
-    ensures unguarded { IfOk result (λ suite. IsUnguarded (suite_of suite)) }
     ensures counted { IfOk result (λ suite. statements (suite_of suite) ≡ 2) }
 {
     let less = Operation::Sub(name(alloc, b"n")?, Atom::Int(1));

@@ -4,8 +4,7 @@ ghost use Rattle.std.specs.Prelude.{◌≡◌, ◌<◌, false, length, IfOk, OnO
 ghost use Rattle.py_rows.specs.Sound.{AreNames};
 ghost use Rattle.py_vm.specs.Codes.{CodeIsAnswered};
 ghost use Rattle.py_tree.specs.Compilable.{IsCompilable};
-ghost use Rattle.py_tree.specs.Unguarded.{IsUnguarded};
-ghost use Rattle.py_tree.specs.Views.{suite_of, tree_of};
+ghost use Rattle.py_tree.specs.Views.{tree_of};
 ghost use Rattle.worked_host.specs.Host.{IsReady};
 
 use crate::fault::HostFault;
@@ -27,8 +26,7 @@ pub(crate) struct Host {
 
 /// The code of a body, whose names go into the table: the machine answers all that it may ask.
 fn checked_code(alloc: Global, names: &mut Names, body: &Body) -> Result<CheckedCode, HostFault>
-    requires compilable { IsCompilable (tree_of body.now) }
-    requires unguarded { IsUnguarded (suite_of body.now.suite) }
+    requires { IsCompilable (tree_of body.now) }
     ensures named { IfOk result (λ code. AreNames names.new code.code) }
     ensures answered { IfOk result (λ code. CodeIsAnswered code.code) }
 {
@@ -70,8 +68,7 @@ impl Host {
 
     /// A machine that holds the function of a body.
     fn load(alloc: Global, body: &Body) -> Result<Host, HostFault>
-        requires compilable { IsCompilable (tree_of body.now) }
-        requires unguarded { IsUnguarded (suite_of body.now.suite) }
+        requires { IsCompilable (tree_of body.now) }
         ensures { IfOk result IsReady }
     {
         let mut names = Names::new(alloc);

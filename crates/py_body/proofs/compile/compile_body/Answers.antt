@@ -3,10 +3,10 @@ use Rattle.py_tree.specs.Tree.{Name}
 use Rattle.py_tree.specs.Views.{tree_of}
 use Rattle.py_laid.specs.Code.{IsLaid, IsPlain}
 use Rattle.py_laid.specs.Fits.{Fits}
-use Rattle.py_laid.specs.Instructions.{UsesUnguarded}
+use Rattle.py_laid.specs.Instructions.{UsesCompiled}
 use Rattle.py_laid.specs.Naming.{IsNamed}
 use Rattle.py_laid.proofs.Fitting.{laid_code_fits}
-use Rattle.py_laid.proofs.Uses.{unguarded_code_is_plain}
+use Rattle.py_laid.proofs.Uses.{laid_code_is_compiled}
 use Rattle.py_body.proofs.BodyLemmas.{each_one}
 use Rattle.py_body.proofs.compile.compile_body.Goals as goal
 
@@ -27,7 +27,7 @@ returns-clause-plain c =
     each_one (λ code. IsPlain code (tree_of c.args.body.now)) c.push.new.self c.new-codes.result c.in_ok-code.code c.new-codes.ensures c.in_ok-push.ensures.added c.in_ok-code.ensures.plain
 
 pub returns-clause-uses : goal.returns-clause-uses
-returns-clause-uses c unguarded =
+returns-clause-uses c =
     let laid = c.in_ok-code.ensures.laid in
-    each_one (λ code. UsesUnguarded code.code) c.push.new.self c.new-codes.result c.in_ok-code.code c.new-codes.ensures c.in_ok-push.ensures.added
-    (unguarded_code_is_plain laid.0 c.in_ok-code.code (tree_of c.args.body.now) laid.1 unguarded)
+    each_one (λ code. UsesCompiled code.code) c.push.new.self c.new-codes.result c.in_ok-code.code c.new-codes.ensures c.in_ok-push.ensures.added
+    (laid_code_is_compiled laid.0 c.in_ok-code.code (tree_of c.args.body.now) laid.1)

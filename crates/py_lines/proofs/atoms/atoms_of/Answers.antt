@@ -1,4 +1,4 @@
-use Rattle.py_lines.specs.Meaning.{meaning_of}
+use Rattle.py_lines.specs.Senses.{meaning_of}
 use Rattle.py_lines.specs.Printing.{atom_token}
 use Rattle.py_lines.proofs.Eachs.{none_at, push_at}
 use Rattle.py_lines.proofs.atoms.atoms_of.Goals as goal

@@ -1,5 +1,5 @@
 use Rattle.std.proofs.Common.{◌≡◌, take, map}
-use Rattle.py_lines.specs.Meaning.{meaning_of}
+use Rattle.py_lines.specs.Senses.{meaning_of}
 use Rattle.py_lines.specs.Printing.{atom_token}
 use Rattle.py_lines.proofs.atoms.atoms_of.Given as goal
 

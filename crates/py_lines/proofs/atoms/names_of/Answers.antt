@@ -1,4 +1,5 @@
-use Rattle.py_lines.specs.Meaning.{Word, meaning_of}
+use Rattle.py_lines.specs.Meaning.{Word}
+use Rattle.py_lines.specs.Senses.{meaning_of}
 use Rattle.py_lines.proofs.Eachs.{none_at, push_at}
 use Rattle.py_lines.proofs.atoms.names_of.Goals as goal
 

@@ -1,4 +1,4 @@
-use Rattle.py_lines.specs.Meaning.{meaning_of}
+use Rattle.py_lines.specs.Senses.{meaning_of}
 use Rattle.py_lines.specs.Printing.{drive_token}
 use Rattle.py_lines.proofs.Eachs.{none_at, push_at}
 use Rattle.py_lines.proofs.drive.drive_atoms_of.Goals as goal

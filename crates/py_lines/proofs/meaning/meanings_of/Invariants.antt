@@ -1,6 +1,7 @@
 use Rattle.std.proofs.Common.{◌≡◌, ◌++◌, length, map}
 use Rattle.py_lines.specs.Tokens.{tokens_of}
-use Rattle.py_lines.specs.Meaning.{meaning, meaning_of}
+use Rattle.py_lines.specs.Meaning.{meaning}
+use Rattle.py_lines.specs.Senses.{meaning_of}
 use Rattle.py_lines.proofs.meaning.meanings_of.Given as goal
 
 abbrev pub invariant-loop-token : goal.invariant-loop-token

@@ -5,11 +5,11 @@ use Rattle.py_rows.specs.Sound.{AreNames}
 use Rattle.py_tree.specs.Views.{tree_of}
 use Rattle.py_laid.specs.Code.{IsPlain}
 use Rattle.py_laid.specs.Fits.{Fits}
-use Rattle.py_laid.specs.Instructions.{UsesUnguarded, is_unguarded}
-use Rattle.py_laid.proofs.Uses.{unguarded_raise}
+use Rattle.py_laid.specs.Instructions.{UsesCompiled, is_compiled}
+use Rattle.py_laid.proofs.Uses.{compiled_raise}
 use Rattle.py_body.proofs.CodesLemmas.{last_of_each}
 use Rattle.py_vm.specs.Codes.{CodeIsAnswered}
-use Rattle.py_vm.proofs.CodesLemmas.{code_answered}
+use Rattle.py_vm.proofs.CodesLemmas.{AreAnswered, code_answered}
 use Rattle.worked_host.proofs.host.checked_code.Goals as goal
 
 pub returns-clause-named : goal.returns-clause-named
@@ -18,8 +18,12 @@ returns-clause-named c =
     let fits = last_of_each (λ (code : Annotated). Fits names code (tree_of c.args.body.now)) _ _ _ _ _ c.into_vec.ensures c.pop.ensures.items c.in-Some.is c.in_ok-codes.ensures.fits in
     subst (λ (code : Annotated). AreNames names code.code) (sym c.of.ensures) fits.sound.named
 
+-- the machine answers what code asks that bodies are compiled to
+compiled_answered : AreAnswered is_compiled
+compiled_answered = record { no_enter = λ arg. refl; no_exit = λ arg. refl; no_yield = λ arg. refl; no_cause = compiled_raise }
+
 pub returns-clause-answered : goal.returns-clause-answered
 returns-clause-answered c =
-    let uses = last_of_each (λ (code : Annotated). UsesUnguarded code.code) _ _ _ _ _ c.into_vec.ensures c.pop.ensures.items c.in-Some.is (c.in_ok-codes.ensures.uses c.requires.unguarded) in
+    let uses = last_of_each (λ (code : Annotated). UsesCompiled code.code) _ _ _ _ _ c.into_vec.ensures c.pop.ensures.items c.in-Some.is c.in_ok-codes.ensures.uses in
     let plain : IsPlain c.in-Some.code (tree_of c.args.body.now) = last_of_each (λ (code : Annotated). IsPlain code (tree_of c.args.body.now)) _ _ _ _ _ c.into_vec.ensures c.pop.ensures.items c.in-Some.is c.in_ok-codes.ensures.plain in
-    subst (λ (code : Annotated). CodeIsAnswered code.code) (sym c.of.ensures) (code_answered is_unguarded (λ arg. refl) (λ arg. refl) (λ arg. refl) (λ arg. refl) (λ arg. refl) (λ arg. refl) unguarded_raise c.in-Some.code.code uses (ap kind_of plain.flags))
+    subst (λ (code : Annotated). CodeIsAnswered code.code) (sym c.of.ensures) (code_answered is_compiled compiled_answered c.in-Some.code.code uses (ap kind_of plain.flags))

@@ -1,4 +1,4 @@
-use Rattle.py_exceptions.proofs.ConstructingLemmas.{class_taken, class_refused}
+use Rattle.py_exceptions.proofs.RaisableLemmas.{class_taken, class_refused}
 use Rattle.py_exceptions.proofs.TypeNamesLemmas.{other_type_name, class_type_name}
 use Rattle.py_exceptions.proofs.ctor.ExceptionCtor.try_from_object.Goals as goal
 

@@ -1,7 +1,7 @@
 use Rattle.std.proofs.Common.{◌≡◌, ◌+◌, length}
 use Rattle.std.specs.Prelude.{Option}
 use Rattle.py_objects.specs.declared.refs.PyBaseExceptionRef.{PyBaseExceptionRef}
-use Rattle.py_rows.specs.Handled.{KeepsSlot}
+use Rattle.py_rows.specs.Slot.{KeepsSlot}
 use Rattle.py_frame.proofs.frame_core.FrameCore.gives_up.Given as goal
 
 abbrev pub invariant-blocks_left : goal.invariant-blocks_left

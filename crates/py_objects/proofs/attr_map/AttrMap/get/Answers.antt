@@ -1,5 +1,6 @@
 use Rattle.std.proofs.Common.{ap, ◌∙◌}
-use Rattle.py_objects.specs.AttrEntries.{attrs_of, value_of}
+use Rattle.py_objects.specs.AttrEntries.{attrs_of}
+use Rattle.py_objects.specs.Attrs.{value_of}
 use Rattle.py_objects.proofs.AttrsLemmas.{value_of-attrs_of}
 use Rattle.py_objects.proofs.attr_map.AttrMap.get.Goals as goal
 

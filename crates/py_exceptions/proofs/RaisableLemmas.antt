@@ -13,7 +13,7 @@ use Rattle.py_objects.proofs.AncestryLemmas.{changed_derives}
 use Rattle.py_exceptions.specs.declared.ctor.CtorFault.{CtorFault}
 use Rattle.py_exceptions.specs.declared.ctor.CtorFault.TheVariants as fault
 use Rattle.py_exceptions.specs.declared.ctor.ExceptionCtor.TheVariants as ctor
-use Rattle.py_exceptions.specs.Constructing.{as_class, IsNotException, IsTaken}
+use Rattle.py_exceptions.specs.Raisable.{as_class, IsNotException, IsTaken}
 
 -- a class is refused alike among all objects
 refused_alike : (objects objects' : List Payload) (c : ClassBody) (f : CtorFault) → IsNotException objects (payload.Class c) f → IsNotException objects' (payload.Class c) f

@@ -1,0 +1,10 @@
+-- What the drives of a host ask.
+use Rattle.py_objects.specs.declared.request.Keywords.TheVariants as keywords
+use Rattle.py_objects.specs.declared.request.Request.{Request}
+use Rattle.py_objects.specs.declared.request.Request.TheVariants as request
+use Rattle.py_run.specs.declared.drive.Drive.{Drive}
+use Rattle.py_run.specs.declared.drive.Drive.TheVariants.{Call}
+
+-- the question of a drive
+abbrev pub request_of : Drive → Request
+request_of (Call f vs) = request.Call f vs keywords.None
