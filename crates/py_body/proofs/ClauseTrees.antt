@@ -7,11 +7,10 @@ use Rattle.py_tree.specs.Tree.{Name, Suite, Clauses, no_more, clause}
 use Rattle.py_tree.specs.declared.stmt.StmtForm.TheViews.{the_lemmas}
 use Rattle.py_tree.specs.Views.{suite_of}
 use Rattle.py_tree.specs.Binding.{bound_by, bound_if, bound_under}
-use Rattle.py_tree.specs.Suites.{add_clause, list_clauses}
+use Rattle.py_tree.specs.Suites.{add_clause, joined_clauses, list_clauses}
 use Rattle.py_body.specs.declared.sizes.Weights.{Weights}
 use Rattle.py_tree.specs.Compilable.{ClausesFit, SuiteFits, statements, statements_under}
 use Rattle.py_body.specs.Sizes.{size_clause, size_clauses, size_suite}
-use Rattle.py_body.specs.Emitting.{behind_clauses}
 
 list_clauses_append : (clauses : List Clause) (c : Clause) → list_clauses (clauses ++ c ∷ []) ≡ add_clause (list_clauses clauses) c
 list_clauses_append [] (Clause' line class target suite) = refl
@@ -109,13 +108,13 @@ suite_in_clause w (Some x) body = omega arith
 
 -- ---- one clause behind others
 
-add_behind : (cs : Clauses) (c : Clause) → add_clause cs c ≡ behind_clauses cs (clause (line_of c) (class_of c) (target_of c) (body_of c) no_more)
+add_behind : (cs : Clauses) (c : Clause) → add_clause cs c ≡ joined_clauses cs (clause (line_of c) (class_of c) (target_of c) (body_of c) no_more)
 add_behind no_more (Clause' line class target suite) = refl
 add_behind (clause n x t s more) c = ap (clause n x t s) (add_behind more c)
 
 -- a clause stands behind those in front of it, by its parts
 pub clauses_behind : (clauses : List Clause) (i : ℕ) (c : Clause) → i < length clauses → c ≡ get_or clauses i c
-    → list_clauses (take (i + 1) clauses) ≡ behind_clauses (list_clauses (take i clauses))
+    → list_clauses (take (i + 1) clauses) ≡ joined_clauses (list_clauses (take i clauses))
     (clause (out-Clause c).line (out-Clause c).class (out-Clause c).target (suite_of (out-Clause c).suite) no_more)
 clauses_behind clauses i c low is =
     let line = line_out c in
@@ -123,7 +122,7 @@ clauses_behind clauses i c low is =
     let target = target_out c in
     let body = body_out c in
     clauses_more clauses i c low is ∙ add_behind (list_clauses (take i clauses)) c
-    ∙ sym (λ k. behind_clauses (list_clauses (take i clauses)) (clause (line k) (class k) (target k) (body k) no_more))
+    ∙ sym (λ k. joined_clauses (list_clauses (take i clauses)) (clause (line k) (class k) (target k) (body k) no_more))
 
 -- ---- what clauses bind
 

@@ -8,9 +8,10 @@ use Rattle.py_code.specs.declared.operator.TestOperator.TheVariants as test
 use Rattle.py_code.specs.Numbers.{raise_number, test_number}
 use Rattle.py_tree.specs.declared.expr.Atom.TheVariants as atom
 use Rattle.py_tree.specs.Tree.{Name, TryExcept, TryFinally, Suite, Clauses, no_more, clause}
+use Rattle.py_tree.specs.Suites.{joined_clauses}
 use Rattle.py_laid.specs.Code.{Scope, on, over, before_finally, in_clauses, in_finally, in_try, LaidClauses}
 use Rattle.py_body.specs.Sizes.{size_clause, size_clauses, size_form, size_opening, size_suite, size_tried}
-use Rattle.py_body.specs.Emitting.{Draft, end_of, weights_of, ClausesPlaced, LaidMatch, LaidOpening, LaidTried, behind_clauses, EmitsAtom, EmitsClause, EmitsClauses, EmitsConst}
+use Rattle.py_body.specs.Emitting.{Draft, end_of, weights_of, ClausesPlaced, LaidMatch, LaidOpening, LaidTried, EmitsAtom, EmitsClause, EmitsClauses, EmitsConst}
 use Rattle.py_body.specs.Emitting.{EmitsForget, EmitsForm, EmitsHandler, EmitsJump, EmitsLocal, EmitsMatch, EmitsOpening, EmitsPlain, EmitsSuite, EmitsTarget, EmitsTried}
 use Rattle.py_body.proofs.BlockLemmas.{label_fits}
 use Rattle.py_body.proofs.EmittingLemmas.{emits_as, emits_none, emits_then}
@@ -102,24 +103,24 @@ clauses_none labels d scope end =
 
 -- clauses behind a clause behind clauses
 behind_behind : (cs : Clauses) (n : ℕ) (c_name : Name) (x : Option Name) (s : Suite) (more : Clauses)
-    → behind_clauses (behind_clauses cs (clause n c_name x s no_more)) more ≡ behind_clauses cs (clause n c_name x s more)
+    → joined_clauses (joined_clauses cs (clause n c_name x s no_more)) more ≡ joined_clauses cs (clause n c_name x s more)
 behind_behind no_more n c_name x s more = refl
 behind_behind (clause m d y t others) n c_name x s more = ap (clause m d y t) (behind_behind others n c_name x s more)
 
 size_behind : (w : _) (cs : Clauses) (n : ℕ) (c_name : Name) (x : Option Name) (s : Suite)
-    → size_clauses w cs + size_clause w x (size_suite w s) ≡ size_clauses w (behind_clauses cs (clause n c_name x s no_more))
+    → size_clauses w cs + size_clause w x (size_suite w s) ≡ size_clauses w (joined_clauses cs (clause n c_name x s no_more))
 size_behind w no_more n c_name x s = omega arith
 size_behind w (clause m d y t others) n c_name x s = omega (arith, size_behind w others n c_name x s)
 
 -- all targets have places if those of the first and of the last have
-placed_behind : (vars : List Name) (cs : Clauses) (n : ℕ) (c_name : Name) (x : Option Name) (s : Suite) → ClausesPlaced vars (behind_clauses cs (clause n c_name x s no_more))
+placed_behind : (vars : List Name) (cs : Clauses) (n : ℕ) (c_name : Name) (x : Option Name) (s : Suite) → ClausesPlaced vars (joined_clauses cs (clause n c_name x s no_more))
     → ClausesPlaced vars cs × ClausesPlaced vars (clause n c_name x s no_more)
 placed_behind vars no_more n c_name x s placed = (tt, placed)
 placed_behind vars (clause m d y t others) n c_name x s placed = let later = placed_behind vars others n c_name x s placed.2 in ((placed.0, placed.1, later.0), later.1)
 
 pub clauses_add : {a b c : Draft} (scope : Scope) (end : ℕ) (cs : Clauses) (n : ℕ) (c_name : Name) (x : Option Name) (s : Suite) → EmitsClauses a.labels a b scope end cs
     → EmitsClause b.labels b c scope end n c_name x s
-    → EmitsClauses a.labels a c scope end (behind_clauses cs (clause n c_name x s no_more))
+    → EmitsClauses a.labels a c scope end (joined_clauses cs (clause n c_name x s no_more))
 clauses_add {a} {b} {c} scope end cs n c_name x s so_far one =
     let one_here : EmitsClause a.labels b c scope end n c_name x s = subst (λ (l : ℕ). EmitsClause l b c scope end n c_name x s) so_far.labels one in
     emits_as (emits_then so_far one_here) (λ w. size_behind w cs n c_name x s)
@@ -129,7 +130,7 @@ clauses_add {a} {b} {c} scope end cs n c_name x s so_far one =
     (front end_fits around both.0 line (clause n c_name x s more) (last end_fits around both.1.0 both.1.1 line more rest)))
 
 -- nothing follows
-behind_none : (cs : Clauses) → behind_clauses cs no_more ≡ cs
+behind_none : (cs : Clauses) → joined_clauses cs no_more ≡ cs
 behind_none no_more = refl
 behind_none (clause n c_name x s more) = ap (clause n c_name x s) (behind_none more)
 
@@ -165,7 +166,7 @@ try_except_emits {a} {b} {c} {d} scope within line s cs handler end is cut cut_e
     (subst (λ (n : ℕ). LaidTried whole scope line s handler n (end_of a) there) ends.0 (tried fits.1 ends.1 around placed.0)) in
     let (begins, leaves, jumps, setup, suite, pops, jump) = laid in
     let raised : LaidClauses whole scope line no_more last end = subst (λ (n : ℕ). LaidClauses whole scope line no_more last n) (sym ends.0) raises in
-    let handled : LaidClauses whole scope line (behind_clauses cs no_more) there end = clauses ends.1 around placed.1 line no_more raised in (
+    let handled : LaidClauses whole scope line (joined_clauses cs no_more) there end = clauses ends.1 around placed.1 line no_more raised in (
       begins,
       leaves,
       jumps,

@@ -20,6 +20,7 @@ use Rattle.py_tree.specs.declared.expr.Expr.{Expr}
 use Rattle.py_tree.specs.declared.expr.Operation.{Operation}
 use Rattle.py_tree.specs.Tree.{Name, Form, Assign, If, IfElse, While, TryExcept, TryFinally, Suite, nothing, first}
 use Rattle.py_tree.specs.Tree.{Clauses, no_more, clause, Tree}
+use Rattle.py_tree.specs.Suites.{joined_clauses}
 use Rattle.py_tree.specs.Binding.{bound, locals_of}
 use Rattle.py_laid.specs.Fits.{Continues}
 use Rattle.py_laid.specs.Code.{Parts, Labels, Around, Scope, note_of, place, Stands, StandsConst, StandsLocal, LaidAtom, LaidTaken, LaidAtoms, LaidTwo, LaidOperation, LaidExpr, LaidTarget}
@@ -283,16 +284,11 @@ EmitsHandler labels old new scope line x s =
     Emits old new (λ w. size_handler w x (size_suite w s)) (λ whole at next. AroundFits labels scope.around → TargetPlaced whole.vars x → SuitePlaced whole.vars s
     → LaidHandler whole scope line x (λ within begins ends. LaidSuite whole within s begins ends) at next)
 
--- clauses behind others
-abbrev pub behind_clauses : Clauses → Clauses → Clauses
-behind_clauses no_more more = more
-behind_clauses (clause n c x s others) more = clause n c x s (behind_clauses others more)
-
 -- clauses whose suites are left for this label; whatever clauses follow
 abbrev pub EmitsClauses : ℕ → Draft → Draft → Scope → ℕ → Clauses → Type 0
 EmitsClauses labels old new scope end cs =
     Emits old new (λ w. size_clauses w cs) (λ whole at next. end < 256 ^ suc labels → AroundFits labels scope.around → ClausesPlaced whole.vars cs
-    → (line : ℕ) (more : Clauses) → LaidClauses whole scope line more next end → LaidClauses whole scope line (behind_clauses cs more) at end)
+    → (line : ℕ) (more : Clauses) → LaidClauses whole scope line more next end → LaidClauses whole scope line (joined_clauses cs more) at end)
 
 -- one clause
 abbrev pub EmitsClause : ℕ → Draft → Draft → Scope → ℕ → ℕ → Name → Option Name → Suite → Type 0

@@ -13,7 +13,8 @@ use Rattle.py_lines.specs.Reading.{IsReadAs}
 use Rattle.py_grammar.specs.Grammar.{Row, row, kept_number, items_rows, drives_in}
 use Rattle.py_grammar.specs.Lines.{lines}
 use Rattle.py_grammar.specs.Script.{Text, with_read, rows_from, Spells, Begins}
-use Rattle.py_grammar.specs.Reader.{Began, in_if, in_else, in_while, in_try, in_except, in_finally, Block, Open, State, state, start, accept, accept_at, outside, in_body, still_inside, takes_line, with_clause, finally_behind, turned, turned_to, ended, function_of, one_block, ended_in, closed, closes}
+use Rattle.py_grammar.specs.Reader.{Began, in_if, in_else, in_while, in_try, in_except, in_finally, Block, Open, State, state, start, accept, accept_at, outside, in_body, still_inside, takes_line, finally_behind, turned, turned_to, ended, function_of, one_block, ended_in, closed, closes}
+use Rattle.py_tree.specs.Suites.{with_clause}
 use Rattle.py_grammar.proofs.LineReads.{AreReadAs, read_length, one_reading, read_append, read_parts, after, after-one, both_rows, rows_from-append}
 use Rattle.py_grammar.proofs.Whole.{run, run-append, and_then, items_read}
 use Rattle.py_grammar.proofs.Sound.{Came, CameTo, sound}

@@ -3,9 +3,8 @@ use Rattle.std.proofs.Common.{◌≡◌, ℕ, Option, refl, ap}
 use Rattle.py_tree.specs.declared.stmt.Clause.{Clause'}
 use Rattle.py_tree.specs.declared.stmt.StmtList.{StmtList}
 use Rattle.py_tree.specs.Tree.{Name, Clauses, no_more, clause}
-use Rattle.py_tree.specs.Suites.{add_clause}
+use Rattle.py_tree.specs.Suites.{add_clause, joined_clauses, with_clause}
 use Rattle.py_tree.specs.Views.{suite_of}
-use Rattle.py_grammar.specs.Reader.{joined_clauses, with_clause}
 
 -- a clause of the program behind others
 pub clause_added : (cs : Clauses) (line : ℕ) (class : Name) (target : Option Name) (suite : StmtList)

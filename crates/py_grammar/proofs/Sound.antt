@@ -2,7 +2,7 @@
 use Rattle.std.proofs.Common.{◌≡◌, ℕ, suc, length, List, [], ◌∷◌, ◌++◌, ◌+◌, arith, Option, Some, None, Bool, true, false, refl, sym, ap, ◌∙◌, append_assoc, append-nil, subst, rules, map}
 use Rattle.std.specs.Prelude.{option_map}
 use Rattle.py_tree.specs.Tree.{Name, Form, Suite, nothing, first, Clauses, no_more, clause, Tree}
-use Rattle.py_tree.specs.Suites.{joined, add}
+use Rattle.py_tree.specs.Suites.{joined, add, joined_clauses, with_clause}
 use Rattle.py_lines.specs.declared.drive.DriveLine.{DriveLine}
 use Rattle.py_lines.specs.declared.head.Head.{Head}
 use Rattle.py_lines.specs.declared.head.Head.TheVariants as head
@@ -18,7 +18,7 @@ use Rattle.py_grammar.specs.declared.script.Kind.{Kind}
 use Rattle.py_grammar.specs.declared.script.Kind.TheVariants as kind
 use Rattle.py_grammar.specs.Rules.{Declared, may_declare, body_of, within, may_hold, may_open}
 use Rattle.py_grammar.specs.Grammar.{Row, row, Item, Declares, Drives, declared_as, plain_rows, head_row, except_row, suite_rows, form_rows, clauses_rows, end_row, else_row, finally_row, item_rows, items_rows, trees_in, drives_in, HasClause, WellForm, WellSuite, WellClauses, WellItems}
-use Rattle.py_grammar.specs.Reader.{Began, in_if, in_else, in_while, in_try, in_except, in_finally, began, opener, Block, Open, State, inside_of, inside, plain_form, accept_at, in_body, outside, goes_on, still_inside, only_if, grown, deeper, joined_clauses, with_clause, turned_by, turned_to, turned, ended, function_of, one_block, ended_in, closed, closes}
+use Rattle.py_grammar.specs.Reader.{Began, in_if, in_else, in_while, in_try, in_except, in_finally, began, opener, Block, Open, State, inside_of, inside, plain_form, accept_at, in_body, outside, goes_on, still_inside, only_if, grown, deeper, turned_by, turned_to, turned, ended, function_of, one_block, ended_in, closed, closes}
 
 -- ---- what is open
 

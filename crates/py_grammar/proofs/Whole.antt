@@ -2,7 +2,7 @@
 use Rattle.std.proofs.Common.{◌≡◌, ℕ, suc, length, List, [], ◌∷◌, ◌++◌, Option, Some, None, true, refl, sym, ap, ◌∙◌, append_assoc, append-nil, length-append, subst, arith, map}
 use Rattle.std.proofs.lemmas.List.{map-append}
 use Rattle.py_tree.specs.Tree.{Name, Form, Assign, Do, Show, Return, Raise, Reraise, Break, Continue, Pass, If, IfElse, While, TryExcept, TryFinally, Suite, nothing, first, Clauses, no_more, clause, Tree}
-use Rattle.py_tree.specs.Suites.{joined, add}
+use Rattle.py_tree.specs.Suites.{joined, add, joined_clauses, with_clause}
 use Rattle.py_lines.specs.declared.drive.DriveLine.{DriveLine}
 use Rattle.py_lines.specs.declared.head.Head.{Head}
 use Rattle.py_lines.specs.declared.head.Head.TheVariants as head
@@ -12,7 +12,7 @@ use Rattle.py_grammar.specs.declared.script.Kind.{Kind}
 use Rattle.py_grammar.specs.declared.script.Kind.TheVariants as kind
 use Rattle.py_grammar.specs.Rules.{may_drive, within, may_hold, may_open}
 use Rattle.py_grammar.specs.Grammar.{Row, Item, Declares, Drives, declared_as, plain_rows, head_row, suite_rows, form_rows, clauses_rows, end_row, else_row, finally_row, items_rows, trees_in, drives_in, WellForm, WellSuite, WellClauses, WellItems}
-use Rattle.py_grammar.specs.Reader.{Began, in_if, in_else, in_while, in_try, in_except, in_finally, began, Block, State, state, inside_of, plain_form, joined_clauses, with_clause, accept}
+use Rattle.py_grammar.specs.Reader.{Began, in_if, in_else, in_while, in_try, in_except, in_finally, began, Block, State, state, inside_of, plain_form, accept}
 use Rattle.py_grammar.proofs.Clauses.{joined_clauses_assoc, joined_clauses-no_more}
 
 abbrev pub and_then : Option State → (State → Option State) → Option State

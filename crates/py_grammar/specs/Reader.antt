@@ -2,7 +2,7 @@
 use Rattle.std.specs.Prelude.{◌≡◌, ℕ, suc, List, [], ◌∷◌, ◌++◌, length, Option, Some, None, option_map, map, Bool, true, false}
 use Rattle.py_tree.specs.declared.expr.Atom.{Atom}
 use Rattle.py_tree.specs.Tree.{Name, Form, Assign, Do, Show, Return, Raise, Reraise, Break, Continue, Pass, If, IfElse, While, TryExcept, TryFinally, Suite, nothing, Clauses, no_more, clause, Tree}
-use Rattle.py_tree.specs.Suites.{add}
+use Rattle.py_tree.specs.Suites.{add, with_clause}
 use Rattle.py_lines.specs.declared.drive.DriveLine.{DriveLine}
 use Rattle.py_lines.specs.declared.head.Head.{Head}
 use Rattle.py_lines.specs.declared.head.Head.TheVariants as head
@@ -100,15 +100,6 @@ grown o n f = record o { done = add o.done n f }
 -- one more open block
 abbrev pub deeper : Open → ℕ → Head → Open
 deeper o n h = record o { blocks = record { before = o.done; line = n; began = began h } ∷ o.blocks; done = nothing }
-
--- clauses behind others
-abbrev pub joined_clauses : Clauses → Clauses → Clauses
-joined_clauses no_more ds = ds
-joined_clauses (clause n c x s more) ds = clause n c x s (joined_clauses more ds)
-
--- a clause behind others
-abbrev pub with_clause : Clauses → ℕ → Name → Option Name → Suite → Clauses
-with_clause cs n c x s = joined_clauses cs (clause n c x s no_more)
 
 -- how a block goes on behind an else and its last suite, where it may turn so: an if without an else
 abbrev pub else_behind : Began → Suite → Option Began

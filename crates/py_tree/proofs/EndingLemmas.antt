@@ -1,11 +1,11 @@
 -- Where tries with a finally come to, what a clause leaves unset, and which clause runs.
-use Rattle.std.proofs.Common.{◌≡◌, ◌≢◌, ◌⊎◌, ℕ, List, [], ◌∷◌, ◌++◌, Bool, true, false, cond, Option, Some, None, inl, inr, refl, sym, ap, subst, ◌∙◌}
+use Rattle.std.proofs.Common.{◌≡◌, ◌≢◌, ◌⊎◌, ℕ, List, [], ◌∷◌, Bool, true, false, cond, Option, Some, None, inl, inr, refl, sym, ap, subst, ◌∙◌}
 use Rattle.std.specs.Prelude.{bytes_eq}
 use Rattle.std.proofs.lemmas.Slice.Eq.{bytes_eq-Decides}
-use Rattle.py_objects.specs.Own.{Own, Asks, Gets}
+use Rattle.py_objects.specs.Own.{Own, Gets}
 use Rattle.py_objects.specs.declared.refs.PyBaseExceptionRef.{PyBaseExceptionRef}
 use Rattle.py_objects.specs.declared.request.Request.TheVariants as request
-use Rattle.py_objects.specs.Objects.{Obj, as_object}
+use Rattle.py_objects.specs.Objects.{Obj, as_exception, as_object}
 use Rattle.py_objects.specs.declared.request.Request.{Request}
 use Rattle.py_objects.specs.declared.event.GotAnswer.{GotAnswer}
 use Rattle.py_objects.specs.declared.event.GotAnswer.TheVariants as got
@@ -15,7 +15,7 @@ use Rattle.py_tree.specs.Binding.{Env, find_local, set_local, bind, start_env}
 use Rattle.py_tree.specs.Scene.{Scene}
 use Rattle.py_tree.specs.Trace.{EndsBy}
 use Rattle.py_tree.specs.Outcome.{Outcome, Normal, Breaks, Continues, Returns, Raises, Cut, Handled, After, Runner, Behind_finally, On_finally, Finally, Forgets, Handles, RunsSuite, Tries, Use, By_truth, On_raise, Requests, Named, On_normal, Runs}
-use Rattle.py_tree.specs.Endings.{Point, ComesTo, TracesComeToPoints, StatementsGoOn, handled_behind, IsPassedOn, FinallyPassesOn, CutStaysCut, FinallyIsRun, NameIsUnset, IsButFor, ClauseEndsAsSuite, SuiteEndsClause, ClausesRunOnRaise, IsStopped, FirstDecides, FirstClauseDecides}
+use Rattle.py_tree.specs.Endings.{Point, Reaches, TracesComeToPoints, StatementsGoOn, handled_behind, IsPassedOn, FinallyPassesOn, CutStaysCut, FinallyIsRun, NameIsUnset, IsButFor, ClauseEndsAsSuite, SuiteEndsClause, ClausesRunOnRaise, IsStopped, Gives, FirstDecides, FirstClauseDecides, NoClauseRaises}
 use Rattle.py_tree.proofs.Reaching.{RunnerEnds, runs_end, suite_ends, forgets_end}
 
 -- just at a point
@@ -27,14 +27,14 @@ abbrev Here : After → Point → Type 0
 Here K e = K e.env e.outcome e.event e.left
 
 -- a part of a tree comes to a point where what follows holds
-comes : (part : Runner) → RunnerEnds part → (env : Env) (h : Handled) (event : ℕ) (ts : List Own) (K : After) → part env h event ts K → (e : Point) × ComesTo part env h event ts e × Here K e
+comes : (part : Runner) → RunnerEnds part → (env : Env) (h : Handled) (event : ℕ) (ts : List Own) (K : After) → part env h event ts K → (e : Point) × Reaches part env h event ts e × Here K e
 comes part ends env h event ts K k =
     let c = ends env h event ts K k in
     let e : Point = record { env = c.env; outcome = c.outcome; event = c.event; left = c.left } in
     (e, c.instead (At e) refl, c.here)
 
 -- and where it comes to one at which something holds, that may follow
-follows : (part : Runner) → RunnerEnds part → (env : Env) (h : Handled) (event : ℕ) (ts : List Own) (e : Point) (K : After) → ComesTo part env h event ts e → Here K e → part env h event ts K
+follows : (part : Runner) → RunnerEnds part → (env : Env) (h : Handled) (event : ℕ) (ts : List Own) (e : Point) (K : After) → Reaches part env h event ts e → Here K e → part env h event ts K
 follows part ends env h event ts e K k here =
     let c = ends env h event ts (At e) k in
     c.instead K (subst (λ (a : Point). Here K a) c.here here)
@@ -62,7 +62,7 @@ statements_go_on scene n f more env h event ts whole (inr run) =
 
 -- ---- a finally behind each outcome
 
--- the outcomes but that of what is cut
+-- whether an outcome is that of what is cut
 is_cut : (o : Outcome) → (o ≡ Cut) ⊎ (o ≢ Cut)
 is_cut Normal = inr (λ e. absurd (cc e))
 is_cut Breaks = inr (λ e. absurd (cc e))
@@ -98,7 +98,7 @@ passes pending Cut env event ts whole (inr (other, k)) = k
 module _ (final : Runner) (ends : RunnerEnds final) (h : Handled) (whole : Point) where
   -- the finally runs behind an outcome
   abbrev RunsBehind : Outcome → Env → ℕ → List Own → Type 0
-  RunsBehind o env event ts = (e : Point) × ComesTo final env (handled_behind o h) event ts e × IsPassedOn o e whole
+  RunsBehind o env event ts = (e : Point) × Reaches final env (handled_behind o h) event ts e × IsPassedOn o e whole
 
   runs_behind : (o : Outcome) (env : Env) (event : ℕ) (ts : List Own) → final env (handled_behind o h) event ts (Behind_finally (At whole) o) → RunsBehind o env event ts
   runs_behind o env event ts k =
@@ -143,8 +143,8 @@ module _ (final : Runner) (ends : RunnerEnds final) (h : Handled) (whole : Point
   on_cut Cut env event ts cut k = k
 
   -- what a body and its finally come to
-  whole_comes : (body : Runner) → RunnerEnds body → (env : Env) (event : ℕ) (ts : List Own) → ComesTo (Finally body final) env h event ts whole
-      → (e : Point) × ComesTo body env h event ts e × (((e.outcome ≡ Cut) × (whole ≡ e)) ⊎ ((e.outcome ≢ Cut) × RunsBehind e.outcome e.env e.event e.left))
+  whole_comes : (body : Runner) → RunnerEnds body → (env : Env) (event : ℕ) (ts : List Own) → Reaches (Finally body final) env h event ts whole
+      → (e : Point) × Reaches body env h event ts e × (((e.outcome ≡ Cut) × (whole ≡ e)) ⊎ ((e.outcome ≢ Cut) × RunsBehind e.outcome e.env e.event e.left))
   whole_comes body bodies env event ts k =
       let (e, run, here) = comes body bodies env h event ts (On_finally final h (At whole)) k in
       (e, run, elim (is_cut e.outcome) [ inl cut ↦ inl (cut, cut_on e.outcome e.env e.event e.left cut here) | inr ended ↦ inr (ended, on_runs e.outcome e.env e.event e.left ended here) ])
@@ -213,8 +213,8 @@ forgotten x suite whole e run (inl (normal, is)) = is ∙ ap (λ (a : Point). le
 forgotten x suite whole e run (inr (other, is)) = absurd (other (ap (λ (a : Point). a.outcome) run))
 
 clause_comes : (scene : Scene) (x : Name) (s : Suite) (env : Env) (h : Handled) (event : ℕ) (ts : List Own) (whole : Point)
-    → ComesTo (Handles (Some x) (RunsSuite scene s)) env h event ts whole → whole.outcome ≢ Cut
-    → (suite : Point) × ComesTo (RunsSuite scene s) env h event ts suite × (whole ≡ without x suite)
+    → Reaches (Handles (Some x) (RunsSuite scene s)) env h event ts whole → whole.outcome ≢ Cut
+    → (suite : Point) × Reaches (RunsSuite scene s) env h event ts suite × (whole ≡ without x suite)
 clause_comes scene x s env h event ts whole run ended =
     let (suite, comes_to, behind) = whole_comes (Forgets x) (forgets_end x) h whole (RunsSuite scene s) (suite_ends scene s) env event ts run in
     (suite, comes_to, elim behind [ inl cut ↦ absurd (ended (ap (λ (e : Point). e.outcome) cut.1 ∙ cut.0)) | inr last ↦ forgotten x suite whole last.1.0 last.1.1 last.1.2 ])
@@ -262,23 +262,22 @@ stopped_at env whole event rest k = (ap (λ (p : Point). p.env) k, inl (ap (λ (
 module _ (scene : Scene) (env : Env) (h : Handled) (whole : Point) (R : Type 0) where
   -- what follows the value that answers a request
   answered : (line : ℕ) (r : Request) (event : ℕ) (ts : List Own) (Next : Obj → ℕ → List Own → Type 0) → Requests scene line r h event ts (Use env (At whole) Next)
-      → ((at : ℕ) (v : Obj) (i : ℕ) (rest : List Own) → ts ≡ Asks at r h ∷ Gets i (got.Value v) ∷ rest → Next v i rest → IsStopped env whole ⊎ R) → IsStopped env whole ⊎ R
+      → ((v : Obj) (i : ℕ) (rest : List Own) → Requests scene line r h event ts (Gives v i rest) → Next v i rest → IsStopped env whole ⊎ R) → IsStopped env whole ⊎ R
   answered line r event ts Next (inl (e, k)) on = inl (stopped_at env whole event [] k)
   answered line r event ts Next (inr (at, mid, is, e, inl (e2, k))) on = inl (stopped_at env whole event [] k)
-  answered line r event ts Next (inr (at, mid, is, e, inr (i, w, rest, e2, k))) on = by w (e ∙ ap (λ (us : List Own). Asks at r h ∷ us) e2) k
+  answered line r event ts Next (inr (at, mid, is, e, inr (i, w, rest, e2, k))) on = by w e2 k
     where
-      by : (w : GotAnswer) → ts ≡ Asks at r h ∷ Gets i w ∷ rest → Answers w i rest (Use env (At whole) Next) → IsStopped env whole ⊎ R
-      by (got.Value v) told k = on at v i rest told k
+      by : (w : GotAnswer) → mid ≡ Gets i w ∷ rest → Answers w i rest (Use env (At whole) Next) → IsStopped env whole ⊎ R
+      by (got.Value v) told k = on v i rest (inr (at, mid, is, e, inr (i, got.Value v, rest, told, (refl, refl, refl)))) k
       by (got.Stop v) told k = absurd k
       by (got.Raise f) told k = inl (ap (λ (p : Point). p.env) k, inr (f, ap (λ (p : Point). p.outcome) k))
 
   -- what follows a name that is loaded
   loaded : (line : ℕ) (found : Option (Option Obj)) (x : Name) (event : ℕ) (ts : List Own) (Next : Obj → ℕ → List Own → Type 0) → Named scene line found x h event ts (Use env (At whole) Next)
-      → ((before : List Own) (v : Obj) (i : ℕ) (rest : List Own) → ts ≡ before ++ rest → Next v i rest → IsStopped env whole ⊎ R) → IsStopped env whole ⊎ R
-  loaded line None x event ts Next k on =
-      answered line (request.Global scene.globals x) event ts Next k (λ at v i rest told. on (Asks at (request.Global scene.globals x) h ∷ Gets i (got.Value v) ∷ []) v i rest told)
-  loaded line (Some None) x event ts Next k on = answered line (request.Unbound x) event ts Next k (λ at v i rest told. on (Asks at (request.Unbound x) h ∷ Gets i (got.Value v) ∷ []) v i rest told)
-  loaded line (Some (Some v)) x event ts Next k on = on [] v event ts refl k
+      → ((v : Obj) (i : ℕ) (rest : List Own) → Named scene line found x h event ts (Gives v i rest) → Next v i rest → IsStopped env whole ⊎ R) → IsStopped env whole ⊎ R
+  loaded line None x event ts Next k on = answered line (request.Global scene.globals x) event ts Next k on
+  loaded line (Some None) x event ts Next k on = answered line (request.Unbound x) event ts Next k on
+  loaded line (Some (Some v)) x event ts Next k on = on v event ts (refl, refl, refl) k
 
 -- by whether it matched
 decided : (scene : Scene) (line : ℕ) (x : Option Name) (s : Suite) (more : Clauses) (e : PyBaseExceptionRef) (env : Env) (h : Handled) (whole : Point) (b : Bool) (i : ℕ) (rest : List Own)
@@ -288,23 +287,30 @@ decided scene line x s more e env h whole false i rest k = k
 
 pub first_clause_decides : FirstClauseDecides
 first_clause_decides scene line n c x s more e env h event ts whole k =
-    loaded scene env h whole _ n (find_local c env) c event ts _ k (λ before v i mid told k1.
-    answered scene env h whole _ n (request.Match (as_object e) v) i mid _ k1 (λ at m j mid2 told2 k2.
-    answered scene env h whole _ n (request.Truth m) j mid2 _ k2 (λ at2 u l rest told3 k3.
+    loaded scene env h whole _ n (find_local c env) c event ts _ k (λ v i mid loads k1.
+    answered scene env h whole _ n (request.Match (as_object e) v) i mid _ k1 (λ m j mid2 matches k2.
+    answered scene env h whole _ n (request.Truth m) j mid2 _ k2 (λ u l rest tests k3.
     inr (
       k3.0,
       l,
       rest,
       record {
         class = v;
+        loaded = i;
+        behind_class = mid;
+        loads = loads;
         answer = m;
+        answered = j;
+        behind_answer = mid2;
+        matches = matches;
         truth = u;
         is = k3.1;
-        before = before;
-        matches = at;
-        answered = j;
-        tests = at2;
-        told = told ∙ ap (λ (us : List Own). before ++ us) (told2 ∙ ap (λ (us : List Own). Asks at (request.Match (as_object e) v) h ∷ Gets j (got.Value m) ∷ us) told3);
+        tests = tests;
       },
       decided scene line x s more e env h whole k3.0 l rest k3.2,
     ))))
+
+pub no_clause_raises : NoClauseRaises
+no_clause_raises scene line e env h event ts whole k =
+    elim (answered scene env h whole (IsStopped env whole) line request.Handled event ts _ k (λ v i rest asked raised. inr (ap (λ (p : Point). p.env) raised, inr (as_exception v, ap (λ (p : Point). p.outcome) raised))))
+    [ inl stopped ↦ stopped | inr stopped ↦ stopped ]

@@ -1,18 +1,18 @@
--- Where tries with a finally come to, clauses, and tries with clauses.
-use Rattle.std.specs.Prelude.{ℕ, Bool, true, false, Option, Some, None, List, [], ◌∷◌, ◌++◌, ◌≡◌, ◌≢◌, ◌⊎◌}
+-- Where parts of a tree come to: bodies of traces, statements in order, tries with a finally, clauses, and tries with clauses.
+use Rattle.std.specs.Prelude.{ℕ, Bool, true, false, Option, Some, None, List, [], ◌∷◌, ◌≡◌, ◌≢◌, ◌⊎◌}
 use Rattle.py_objects.specs.declared.refs.PyBaseExceptionRef.{PyBaseExceptionRef}
-use Rattle.py_objects.specs.declared.payload.Payload.{Payload}
 use Rattle.py_objects.specs.declared.payload.Payload.TheVariants as payload
 use Rattle.py_objects.specs.declared.request.Request.TheVariants as request
-use Rattle.py_objects.specs.declared.event.GotAnswer.TheVariants as got
 use Rattle.py_objects.specs.declared.event.ResumeHow.{ResumeHow}
 use Rattle.py_objects.specs.Objects.{Obj, HasPayload, as_object}
-use Rattle.py_objects.specs.Own.{Own, Resumes, Asks, Gets}
-use Rattle.py_tree.specs.Tree.{Name, Form, TryExcept, TryFinally, Suite, first, Clauses, clause, Tree}
+use Rattle.py_objects.specs.Own.{Own, Resumes}
+use Rattle.py_objects.specs.Telling.{Given, AfterValue}
+use Rattle.py_tree.specs.declared.expr.Atom.TheVariants as atom
+use Rattle.py_tree.specs.Tree.{Name, Form, TryExcept, TryFinally, Suite, first, Clauses, no_more, clause, Tree}
 use Rattle.py_tree.specs.Binding.{Env, find_local, bind, start_env}
 use Rattle.py_tree.specs.Scene.{Scene}
 use Rattle.py_tree.specs.Trace.{EndsBy, IsBegun}
-use Rattle.py_tree.specs.Outcome.{Outcome, Normal, Breaks, Continues, Returns, Raises, Cut, Handled, Runner, Handles, Runs, RunsSuite, Tries}
+use Rattle.py_tree.specs.Outcome.{Outcome, Normal, Breaks, Continues, Returns, Raises, Cut, Handled, Runner, Handles, Requests, Loads, Runs, RunsSuite, Tries}
 
 -- a point of a run: the locals, the outcome, the number of the event heard last, and the events that are left
 pub record Point : Type 0 where
@@ -22,8 +22,8 @@ pub record Point : Type 0 where
   pub left : List Own
 
 -- a part of a tree may come to this point, from these locals, while h is handled
-abbrev pub ComesTo : Runner → Env → Handled → ℕ → List Own → Point → Type 0
-ComesTo part env h event ts p = part env h event ts (λ env1 o i rest. p ≡ record { env = env1; outcome = o; event = i; left = rest })
+abbrev pub Reaches : Runner → Env → Handled → ℕ → List Own → Point → Type 0
+Reaches part env h event ts p = part env h event ts (λ env1 o i rest. p ≡ record { env = env1; outcome = o; event = i; left = rest })
 
 -- what is handled behind an outcome, where h was handled before
 abbrev pub handled_behind : Outcome → Handled → Handled
@@ -41,40 +41,40 @@ IsPassedOn pending final whole = ((final.outcome ≡ Normal) × (whole ≡ recor
 -- a trace that is entered comes from a point that the body comes to
 abbrev pub TracesComeToPoints : Type 0
 TracesComeToPoints = (scene : Scene) (t : Tree) (args : List Obj) (k : ℕ) (how : ResumeHow) (ts : List Own) → IsBegun scene t args (Resumes k how ∷ ts)
-    → (p : Point) × ComesTo (RunsSuite scene t.suite) (start_env t args) None k ts p × EndsBy scene p.env p.outcome p.event p.left
+    → (p : Point) × Reaches (RunsSuite scene t.suite) (start_env t args) None k ts p × EndsBy scene p.env p.outcome p.event p.left
 
 -- statements in order come to what those behind the first come to, from where it came to its end, or to what it came to else; or they are cut in front
 abbrev pub StatementsGoOn : Type 0
 StatementsGoOn = (scene : Scene) (n : ℕ) (f : Form) (more : Suite) (env : Env) (h : Handled) (event : ℕ) (ts : List Own) (whole : Point)
-    → ComesTo (RunsSuite scene (first n f more)) env h event ts whole
+    → Reaches (RunsSuite scene (first n f more)) env h event ts whole
     → ((ts ≡ []) × (whole ≡ record { env = env; outcome = Cut; event = event; left = [] }))
-    ⊎ ((p : Point) × ComesTo (Runs scene n f) env h event ts p
-    × (((p.outcome ≡ Normal) × ComesTo (RunsSuite scene more) p.env h p.event p.left whole) ⊎ ((p.outcome ≢ Normal) × (whole ≡ p))))
+    ⊎ ((p : Point) × Reaches (Runs scene n f) env h event ts p
+    × (((p.outcome ≡ Normal) × Reaches (RunsSuite scene more) p.env h p.event p.left whole) ⊎ ((p.outcome ≢ Normal) × (whole ≡ p))))
 
 -- where the body of a try comes to a point, whatever its outcome, and its finally goes on from there to another, the try comes to what is
 -- passed on; and where its body is cut, so is the try
 abbrev pub FinallyPassesOn : Type 0
 FinallyPassesOn = (scene : Scene) (line : ℕ) (s t : Suite) (env : Env) (h : Handled) (event : ℕ) (ts : List Own) (body final whole : Point)
-    → ComesTo (RunsSuite scene s) env h event ts body → body.outcome ≢ Cut
-    → ComesTo (RunsSuite scene t) body.env (handled_behind body.outcome h) body.event body.left final → IsPassedOn body.outcome final whole
-    → ComesTo (Runs scene line (TryFinally s t)) env h event ts whole
+    → Reaches (RunsSuite scene s) env h event ts body → body.outcome ≢ Cut
+    → Reaches (RunsSuite scene t) body.env (handled_behind body.outcome h) body.event body.left final → IsPassedOn body.outcome final whole
+    → Reaches (Runs scene line (TryFinally s t)) env h event ts whole
 
 abbrev pub CutStaysCut : Type 0
 CutStaysCut = (scene : Scene) (line : ℕ) (s t : Suite) (env : Env) (h : Handled) (event : ℕ) (ts : List Own) (body : Point)
-    → ComesTo (RunsSuite scene s) env h event ts body → body.outcome ≡ Cut → ComesTo (Runs scene line (TryFinally s t)) env h event ts body
+    → Reaches (RunsSuite scene s) env h event ts body → body.outcome ≡ Cut → Reaches (Runs scene line (TryFinally s t)) env h event ts body
 
 -- and it comes to nothing else: behind each outcome of its body its finally has run
 abbrev pub FinallyIsRun : Type 0
 FinallyIsRun = (scene : Scene) (line : ℕ) (s t : Suite) (env : Env) (h : Handled) (event : ℕ) (ts : List Own) (whole : Point)
-    → ComesTo (Runs scene line (TryFinally s t)) env h event ts whole
-    → (body : Point) × ComesTo (RunsSuite scene s) env h event ts body
+    → Reaches (Runs scene line (TryFinally s t)) env h event ts whole
+    → (body : Point) × Reaches (RunsSuite scene s) env h event ts body
     × (((body.outcome ≡ Cut) × (whole ≡ body))
-    ⊎ ((body.outcome ≢ Cut) × ((final : Point) × ComesTo (RunsSuite scene t) body.env (handled_behind body.outcome h) body.event body.left final × IsPassedOn body.outcome final whole)))
+    ⊎ ((body.outcome ≢ Cut) × ((final : Point) × Reaches (RunsSuite scene t) body.env (handled_behind body.outcome h) body.event body.left final × IsPassedOn body.outcome final whole)))
 
 -- however the suite of a clause ends, behind it the name that the clause binds is unset
 abbrev pub NameIsUnset : Type 0
 NameIsUnset = (scene : Scene) (x : Name) (s : Suite) (env : Env) (h : Handled) (event : ℕ) (ts : List Own) (whole : Point)
-    → ComesTo (Handles (Some x) (RunsSuite scene s)) env h event ts whole → whole.outcome ≢ Cut → find_local x whole.env ≡ Some None
+    → Reaches (Handles (Some x) (RunsSuite scene s)) env h event ts whole → whole.outcome ≢ Cut → find_local x whole.env ≡ Some None
 
 -- all else is as the suite left it
 pub record IsButFor (x : Name) (suite whole : Point) : Type 0 where
@@ -85,49 +85,60 @@ pub record IsButFor (x : Name) (suite whole : Point) : Type 0 where
 
 abbrev pub ClauseEndsAsSuite : Type 0
 ClauseEndsAsSuite = (scene : Scene) (x : Name) (s : Suite) (env : Env) (h : Handled) (event : ℕ) (ts : List Own) (whole : Point)
-    → ComesTo (Handles (Some x) (RunsSuite scene s)) env h event ts whole → whole.outcome ≢ Cut
-    → (suite : Point) × ComesTo (RunsSuite scene s) env h event ts suite × IsButFor x suite whole
+    → Reaches (Handles (Some x) (RunsSuite scene s)) env h event ts whole → whole.outcome ≢ Cut
+    → (suite : Point) × Reaches (RunsSuite scene s) env h event ts suite × IsButFor x suite whole
 
 -- and wherever the suite may end, the clause does
 abbrev pub SuiteEndsClause : Type 0
 SuiteEndsClause = (scene : Scene) (x : Name) (s : Suite) (env : Env) (h : Handled) (event : ℕ) (ts : List Own) (suite : Point)
-    → ComesTo (RunsSuite scene s) env h event ts suite → suite.outcome ≢ Cut
-    → (whole : Point) × ComesTo (Handles (Some x) (RunsSuite scene s)) env h event ts whole × IsButFor x suite whole
+    → Reaches (RunsSuite scene s) env h event ts suite → suite.outcome ≢ Cut
+    → (whole : Point) × Reaches (Handles (Some x) (RunsSuite scene s)) env h event ts whole × IsButFor x suite whole
 
 -- ---- tries with clauses
 
 -- a try with clauses comes to what its body came to, unless that raised; then to what its clauses come to, while the exception is handled
 abbrev pub ClausesRunOnRaise : Type 0
 ClausesRunOnRaise = (scene : Scene) (line : ℕ) (s : Suite) (cs : Clauses) (env : Env) (h : Handled) (event : ℕ) (ts : List Own) (whole : Point)
-    → ComesTo (Runs scene line (TryExcept s cs)) env h event ts whole
-    → (body : Point) × ComesTo (RunsSuite scene s) env h event ts body
-    × (((e : PyBaseExceptionRef) × (body.outcome ≡ Raises e) × ComesTo (Tries scene line cs e) body.env (Some e) body.event body.left whole)
+    → Reaches (Runs scene line (TryExcept s cs)) env h event ts whole
+    → (body : Point) × Reaches (RunsSuite scene s) env h event ts body
+    × (((e : PyBaseExceptionRef) × (body.outcome ≡ Raises e) × Reaches (Tries scene line cs e) body.env (Some e) body.event body.left whole)
     ⊎ (((e : PyBaseExceptionRef) → body.outcome ≢ Raises e) × (whole ≡ body)))
 
 -- a question was cut, or its answer was a raise, and the locals are as before
 abbrev pub IsStopped : Env → Point → Type 0
 IsStopped env whole = (whole.env ≡ env) × ((whole.outcome ≡ Cut) ⊎ ((f : PyBaseExceptionRef) × (whole.outcome ≡ Raises f)))
 
--- these events ask, behind some others, whether the exception is of a class, and for the truth of the answer, which is b; that truth is heard by
--- the event of this number, behind which these are left
-pub record IsMatched (objects : List Payload) (e : PyBaseExceptionRef) (h : Handled) (ts : List Own) (b : Bool) (event : ℕ) (left : List Own) : Type 0 where
+-- a value is given, by the time that the event of this number was heard last, and these events are left
+abbrev pub Gives : Obj → ℕ → List Own → AfterValue
+Gives v i rest w j ts = (w ≡ Given v) × (j ≡ i) × (ts ≡ rest)
+
+-- the class that a clause of this line names is loaded, whether the exception is of it is asked, and then the truth of the answer, which is b;
+-- by then the event of this number was heard last, and these are left
+pub record IsMatched (scene : Scene) (line : ℕ) (c : Name) (e : PyBaseExceptionRef) (env : Env) (h : Handled) (event : ℕ) (ts : List Own) (b : Bool) (i : ℕ) (rest : List Own) : Type 0 where
   pub class : Obj
+  pub loaded : ℕ
+  pub behind_class : List Own
+  pub loads : Loads scene line env h (atom.Name c) event ts (Gives class loaded behind_class)
   pub answer : Obj
-  pub truth : Obj
-  pub is : HasPayload objects truth (payload.Bool b)
-  pub before : List Own
-  pub matches : ℕ
   pub answered : ℕ
-  pub tests : ℕ
-  pub told : ts ≡ before ++ Asks matches (request.Match (as_object e) class) h ∷ Gets answered (got.Value answer) ∷ Asks tests (request.Truth answer) h ∷ Gets event (got.Value truth) ∷ left
+  pub behind_answer : List Own
+  pub matches : Requests scene line (request.Match (as_object e) class) h loaded behind_class (Gives answer answered behind_answer)
+  pub truth : Obj
+  pub is : HasPayload scene.objects truth (payload.Bool b)
+  pub tests : Requests scene line (request.Truth answer) h answered behind_answer (Gives truth i rest)
 
 -- what the first clause comes to, whose suite is begun with the exception bound, or those behind it, by whether it matched
 abbrev pub FirstDecides : Scene → ℕ → Option Name → Suite → Clauses → PyBaseExceptionRef → Env → Handled → Bool → ℕ → List Own → Point → Type 0
-FirstDecides scene line x s more e env h true event ts whole = ComesTo (Handles x (RunsSuite scene s)) (bind x (as_object e) env) h event ts whole
-FirstDecides scene line x s more e env h false event ts whole = ComesTo (Tries scene line more e) env h event ts whole
+FirstDecides scene line x s more e env h true event ts whole = Reaches (Handles x (RunsSuite scene s)) (bind x (as_object e) env) h event ts whole
+FirstDecides scene line x s more e env h false event ts whole = Reaches (Tries scene line more e) env h event ts whole
 
 -- clauses come to what stopped a question of the first one, or else its suite runs where it matched, and those behind it are tried where it didn't
 abbrev pub FirstClauseDecides : Type 0
 FirstClauseDecides = (scene : Scene) (line n : ℕ) (c : Name) (x : Option Name) (s : Suite) (more : Clauses) (e : PyBaseExceptionRef) (env : Env) (h : Handled) (event : ℕ) (ts : List Own) (whole : Point)
-    → ComesTo (Tries scene line (clause n c x s more) e) env h event ts whole
-    → IsStopped env whole ⊎ ((b : Bool) × (i : ℕ) × (rest : List Own) × IsMatched scene.objects e h ts b i rest × FirstDecides scene line x s more e env h b i rest whole)
+    → Reaches (Tries scene line (clause n c x s more) e) env h event ts whole
+    → IsStopped env whole ⊎ ((b : Bool) × (i : ℕ) × (rest : List Own) × IsMatched scene n c e env h event ts b i rest × FirstDecides scene line x s more e env h b i rest whole)
+
+-- where no clause is left the exception is raised again, unless that is cut
+abbrev pub NoClauseRaises : Type 0
+NoClauseRaises = (scene : Scene) (line : ℕ) (e : PyBaseExceptionRef) (env : Env) (h : Handled) (event : ℕ) (ts : List Own) (whole : Point)
+    → Reaches (Tries scene line no_more e) env h event ts whole → IsStopped env whole

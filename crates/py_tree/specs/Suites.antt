@@ -1,8 +1,8 @@
 -- How suites and clauses are put together.
-use Rattle.std.specs.Prelude.{ℕ, List, [], ◌∷◌}
+use Rattle.std.specs.Prelude.{ℕ, Option, List, [], ◌∷◌}
 use Rattle.py_tree.specs.declared.stmt.Stmt.{Stmt}
 use Rattle.py_tree.specs.declared.stmt.Clause.{Clause, Clause'}
-use Rattle.py_tree.specs.Tree.{Form, Suite, nothing, first, Clauses, no_more, clause}
+use Rattle.py_tree.specs.Tree.{Name, Form, Suite, nothing, first, Clauses, no_more, clause}
 use Rattle.py_tree.specs.Views.{form_of, suite_of}
 
 -- the suite of statements in order
@@ -24,7 +24,16 @@ abbrev pub list_clauses : List Clause → Clauses
 list_clauses [] = no_more
 list_clauses (Clause' line class target suite ∷ cs) = clause line class target (suite_of suite) (list_clauses cs)
 
+-- clauses behind others
+abbrev pub joined_clauses : Clauses → Clauses → Clauses
+joined_clauses no_more more = more
+joined_clauses (clause n c x s others) more = clause n c x s (joined_clauses others more)
+
 -- a clause behind others
+abbrev pub with_clause : Clauses → ℕ → Name → Option Name → Suite → Clauses
+with_clause cs n c x s = joined_clauses cs (clause n c x s no_more)
+
+-- one of the program's
 abbrev pub add_clause : Clauses → Clause → Clauses
 add_clause no_more (Clause' line class target suite) = clause line class target (suite_of suite) no_more
 add_clause (clause n x t s more) c = clause n x t s (add_clause more c)

@@ -1,7 +1,7 @@
 //! What follows from how trees tell their events.
 
 ghost use Rattle.py_tree.specs.Laws.{TracesCarry};
-ghost use Rattle.py_tree.specs.Endings.{ClauseEndsAsSuite, ClausesRunOnRaise, CutStaysCut, FinallyIsRun, FinallyPassesOn, FirstClauseDecides, NameIsUnset, StatementsGoOn, SuiteEndsClause, TracesComeToPoints};
+ghost use Rattle.py_tree.specs.Endings.{ClauseEndsAsSuite, ClausesRunOnRaise, CutStaysCut, FinallyIsRun, FinallyPassesOn, FirstClauseDecides, NameIsUnset, NoClauseRaises, StatementsGoOn, SuiteEndsClause, TracesComeToPoints};
 
 /// States a law, and does nothing: a trace may be cut anywhere behind the making of its activation, and goes over to more objects
 /// and to more units that may ask.
@@ -9,12 +9,12 @@ pub fn laws_of_traces()
     ensures carry { TracesCarry }
 {}
 
-/// States laws, and does nothing, of where statements may come to: a trace comes from a point that its body comes to, and statements in
-/// order from one to the next. Behind each outcome of its body, and behind no cut, a finally
-/// runs: where it ends normally it passes that outcome on, and any other ending replaces it. Behind a clause that binds a name
-/// this is unset at every ending, and all else is as its suite left it. A try with clauses comes to what its body came to, unless that
-/// raised: then, while the exception is handled, its clauses are tried in order. The suite of the first one runs where its class matched,
-/// by the truth of the answer, and those behind it are tried where it didn't.
+/// States laws, and does nothing, of where statements may come to: a trace comes from a point that its body comes to, and
+/// statements in order from one to the next. Behind each outcome of its body, and behind no cut, a finally runs: where it ends
+/// normally it passes that outcome on, and any other ending replaces it. Behind a clause that binds a name this is unset at every
+/// ending, and all else is as its suite left it. A try with clauses comes to what its body came to, unless that raised: then, while
+/// the exception is handled, its clauses are tried in order. The suite of the first one runs where the exception is of the class that
+/// it names, those behind it are tried where it isn't, and where none is left there is a raise.
 pub fn laws_of_endings()
     ensures traces { TracesComeToPoints }
     ensures goes_on { StatementsGoOn }
@@ -26,4 +26,5 @@ pub fn laws_of_endings()
     ensures suite_ends { SuiteEndsClause }
     ensures on_raise { ClausesRunOnRaise }
     ensures decides { FirstClauseDecides }
+    ensures none_fits { NoClauseRaises }
 {}
