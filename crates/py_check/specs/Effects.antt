@@ -1,8 +1,8 @@
 -- The table of effects: what instructions do to the stack that only move its entries, or that take operands, ask one question
 -- and push its answer.
-use Rattle.std.specs.Prelude.{ℕ, suc, List, [], ◌∷◌, Bool, true, false, Option, Some, None, nat_lt, slice_get, replicate}
+use Rattle.std.specs.Prelude.{ℕ, List, [], ◌∷◌, Bool, true, false, Option, Some, None, nat_lt, slice_get, replicate}
 use Rattle.py_code.specs.declared.instruction.Instruction.{Instruction}
-use Rattle.py_code.specs.declared.instruction.Instruction.TheVariants.{LoadGlobal, Pop, Duplicate, Rotate2, Rotate3, BinaryOperation, CompareOperation, TestOperation, CallFunctionPositional, PrintExpr}
+use Rattle.py_code.specs.declared.instruction.Instruction.TheVariants.{LoadGlobal, Pop, Duplicate, Rotate2, Rotate3, BinaryOperation, CompareOperation, TestOperation, PrintExpr}
 use Rattle.py_code.specs.declared.operator.BinaryOperator.{BinaryOperator}
 use Rattle.py_code.specs.declared.operator.BinaryOperator.TheVariants as binary
 use Rattle.py_code.specs.declared.operator.ComparisonOperator.{ComparisonOperator}
@@ -41,7 +41,6 @@ effect Rotate3 i = Moves 3 (1 ∷ 2 ∷ 0 ∷ [])
 effect BinaryOperation i = gives 2
 effect CompareOperation i = gives 2
 effect TestOperation i = gives 2
-effect CallFunctionPositional k = gives (suc k)
 effect PrintExpr i = does 1
 effect _ i = Other
 

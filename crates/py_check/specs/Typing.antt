@@ -1,8 +1,8 @@
 -- The rules that notes keep, unit by unit, and codes whose notes keep them.
-use Rattle.std.specs.Prelude.{◌≡◌, ℕ, suc, ◌+◌, ◌<◌, nat_lt, List, [], ◌∷◌, ◌++◌, length, drop, slice_get, Bool, true, false, ◌&&◌, ◌==◌, Option, Some, None}
+use Rattle.std.specs.Prelude.{◌≡◌, ℕ, suc, ◌+◌, ◌<◌, nat_lt, List, [], ◌∷◌, ◌++◌, length, drop, replicate, slice_get, Bool, true, false, ◌&&◌, ◌==◌, Option, Some, None}
 use Rattle.py_code.specs.declared.unit.CodeUnit.{CodeUnit}
 use Rattle.py_code.specs.declared.instruction.Instruction.{Instruction}
-use Rattle.py_code.specs.declared.instruction.Instruction.TheVariants.{LoadConst, LoadFast, StoreFast, DeleteFast, Jump, JumpIfTrue, JumpIfFalse, SetupLoop, SetupExcept, SetupFinally, EnterFinally, EndFinally, SetupWith, WithCleanupStart, WithCleanupFinish, PopBlock, PopException, Raise, Break, Continue, ReturnValue, ReturnConst, YieldValue, ExtendedArg}
+use Rattle.py_code.specs.declared.instruction.Instruction.TheVariants.{LoadConst, LoadFast, StoreFast, DeleteFast, CallFunctionPositional, Jump, JumpIfTrue, JumpIfFalse, SetupLoop, SetupExcept, SetupFinally, EnterFinally, EndFinally, SetupWith, WithCleanupStart, WithCleanupFinish, PopBlock, PopException, Raise, Break, Continue, ReturnValue, ReturnConst, YieldValue, ExtendedArg}
 use Rattle.py_code.specs.declared.flags.TheConstants.CodeFlags.{IS_GENERATOR, IS_COROUTINE}
 use Rattle.py_code.specs.declared.operator.RaiseKind.{RaiseKind}
 use Rattle.py_code.specs.declared.operator.RaiseKind.TheVariants as raise
@@ -47,6 +47,7 @@ keeps_own sheet at LoadConst i kinds blocks = loads (slice_get sheet.constants i
 keeps_own sheet at LoadFast i kinds blocks = nat_lt i sheet.varnames && goes_on sheet (at + 1) (Any ∷ kinds) blocks
 keeps_own sheet at StoreFast i kinds blocks = nat_lt i sheet.varnames && takes_top kinds blocks (λ rest. goes_on sheet (at + 1) rest blocks)
 keeps_own sheet at DeleteFast i kinds blocks = nat_lt i sheet.varnames && goes_on sheet (at + 1) kinds blocks
+keeps_own sheet at CallFunctionPositional k kinds blocks = takes (replicate (suc k) Any) kinds blocks (λ rest. goes_on sheet (at + 1) (Any ∷ rest) blocks)
 keeps_own sheet at Jump to kinds blocks = jumps sheet to kinds blocks
 keeps_own sheet at JumpIfTrue to kinds blocks = takes_top kinds blocks (λ rest. jumps sheet to rest blocks && goes_on sheet (at + 1) rest blocks)
 keeps_own sheet at JumpIfFalse to kinds blocks = takes_top kinds blocks (λ rest. jumps sheet to rest blocks && goes_on sheet (at + 1) rest blocks)

@@ -1,6 +1,6 @@
 //! Codes that were worked by hand, and what the rules say of them.
 
-ghost use Rattle.std.specs.Prelude.{◌≡◌, ℕ, ℤ, Bool, pos, negsuc, List, [], ◌∷◌};
+ghost use Rattle.std.specs.Prelude.{◌≡◌, ℕ, ℤ, Bool, true, false, pos, negsuc, List, [], ◌∷◌};
 ghost use Rattle.py_code.specs.declared.literal.Literal.{Bool as BoolOf, Builtin, Code, Int, Str, Tuple};
 ghost use Rattle.py_code.specs.declared.literal.BuiltinFn.{BuiltinFn};
 ghost use Rattle.py_code.specs.declared.literal.LiteralList.{LiteralList};
@@ -9,7 +9,7 @@ ghost use Rattle.py_check.specs.declared.note.Kind.TheVariants as kind;
 ghost use Rattle.py_check.specs.declared.note.Pending.TheVariants as pending;
 ghost use Rattle.py_check.specs.declared.note.BlockNote.TheVariants as block;
 ghost use Rattle.py_check.specs.declared.note.Note.TheVariants as note;
-ghost use Rattle.py_check.specs.Constants.{tuple_kind};
+ghost use Rattle.py_check.specs.Constants.{is_driving, tuple_kind};
 ghost use Rattle.py_check.specs.Worked.{Typed, Breaks, unit, sheet, holds, nothing, one, two, sum, sum_notes, calling, in_loop, looping, loop_notes, loop_units, prefixed, loaded, loaded_later, returned_later, behind_the_end, guarded, handles};
 
 /// The code of a small function keeps the rules on units, and others break them, each first at a certain unit.
@@ -38,10 +38,11 @@ pub fn worked_notes()
     ensures no_global { Breaks (sheet (unit op.LoadGlobal 1 ∷ unit op.ReturnValue 0 ∷ []) (nothing ∷ one ∷ [])) 0 }
     ensures loads_truth { (truth : Bool) → Typed (loaded_later (BoolOf truth) kind.Any) }
     ensures loads_tuple { (items : LiteralList) → Breaks (loaded (Tuple items) kind.Tuple) 0 }
-    ensures loads_builtin { (f : BuiltinFn) → Breaks (loaded_later (Builtin f) kind.Any) 2 }
+    ensures loads_driving { (f : BuiltinFn) → is_driving f ≡ true → Typed (loaded_later (Builtin f) kind.Any) }
+    ensures loads_builtin { (f : BuiltinFn) → is_driving f ≡ false → Breaks (loaded_later (Builtin f) kind.Any) 2 }
     ensures loads_code { (c : ℕ) → Breaks (loaded_later (Code c) (kind.Code c)) 0 }
     ensures returns_tuple { (items : LiteralList) → Breaks (record (sheet (unit op.ReturnConst 0 ∷ []) (nothing ∷ [])) { constants = Tuple items ∷ [] }) 0 }
-    ensures returns_builtin { (f : BuiltinFn) → Breaks (returned_later (Builtin f)) 2 }
+    ensures returns_builtin { (f : BuiltinFn) → is_driving f ≡ false → Breaks (returned_later (Builtin f)) 2 }
     // A prefix counts for the unit behind it, and three may stand in a row.
     ensures three_prefixes { Typed (prefixed 0 (prefixed 0 (prefixed 0 sum))) }
     ensures four_prefixes { Breaks (prefixed 0 (prefixed 0 (prefixed 0 (prefixed 0 sum)))) 3 }

@@ -9,6 +9,8 @@ pub mod Numbers
 -- whole numbers, and the constants of a code
 pub mod Range
 pub mod Literals
+-- the functions that the machine itself carries out, by their names
+pub mod BuiltinNames
 -- a table of names as a list
 pub mod Names
 -- codes with the names that they use

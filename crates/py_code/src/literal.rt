@@ -2,6 +2,7 @@
 
 ghost use Rattle.std.specs.Prelude.{◌≡◌, ◌==◌, [], ◌∷◌, ◌++◌, length, slice_get, OnOk, OnErr, option_copied};
 ghost use Rattle.std.specs.Slice.Iter.{iter_rest};
+ghost use Rattle.py_code.specs.BuiltinNames.{builtin_name};
 ghost use Rattle.py_code.specs.Literals.{literals_of};
 
 use crate::list::NoMemory;
@@ -33,6 +34,30 @@ pub enum BuiltinFn {
     AThrow,
     /// An asynchronous generator's `aclose`.
     AClose,
+}
+
+impl BuiltinFn {
+    /// Its name.
+    pub fn name(self) -> &'static [u8]
+        ensures { result.now ≡ builtin_name self }
+    {
+        match self {
+            BuiltinFn::Len => b"len".as_slice(),
+            BuiltinFn::Repr => b"repr".as_slice(),
+            BuiltinFn::Str => b"str".as_slice(),
+            BuiltinFn::IsInstance => b"isinstance".as_slice(),
+            BuiltinFn::Iter => b"iter".as_slice(),
+            BuiltinFn::Next => b"next".as_slice(),
+            BuiltinFn::Range => b"range".as_slice(),
+            BuiltinFn::BuildClass => b"buildclass".as_slice(),
+            BuiltinFn::Send => b"send".as_slice(),
+            BuiltinFn::Throw => b"throw".as_slice(),
+            BuiltinFn::Close => b"close".as_slice(),
+            BuiltinFn::ASend => b"asend".as_slice(),
+            BuiltinFn::AThrow => b"athrow".as_slice(),
+            BuiltinFn::AClose => b"aclose".as_slice(),
+        }
+    }
 }
 
 /// A constant.

@@ -27,6 +27,7 @@ edited_class objects x (payload.Tuple vs) = refl
 edited_class objects x (payload.Dict ps) = refl
 edited_class objects x (payload.Class c) = refl
 edited_class objects x (payload.Function f) = refl
+edited_class objects x (payload.Builtin f) = refl
 edited_class objects x (payload.Manager m) = refl
 edited_class objects x (payload.Frame c) = refl
 edited_class objects x (payload.Generator g) = refl

@@ -76,6 +76,7 @@ module _ (objects : List Payload) (p : Payload) where
   edited_append x (payload.Dict ps) named below = ap payload.Dict (pairs_append x ps named below)
   edited_append x (payload.Class c) named below = refl
   edited_append x (payload.Function f) named below = refl
+  edited_append x (payload.Builtin f) named below = refl
   edited_append x (payload.Manager m) named below = refl
   edited_append x (payload.Frame c) named below = refl
   edited_append x (payload.Generator g) named below = refl

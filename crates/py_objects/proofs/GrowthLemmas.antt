@@ -75,6 +75,7 @@ made_grown objects objects' (payload.Tuple vs) grows made = tt
 made_grown objects objects' (payload.Dict ps) grows made = tt
 made_grown objects objects' (payload.Class c) grows made = classes_grown objects objects' c.mro grows made
 made_grown objects objects' (payload.Function f) grows made = tt
+made_grown objects objects' (payload.Builtin f) grows made = tt
 made_grown objects objects' (payload.Manager m) grows ((f, is_enter), (g, is_exit)) =
     ((f, payload_grown objects objects' _ _ grows is_enter), (g, payload_grown objects objects' _ _ grows is_exit))
 made_grown objects objects' (payload.Frame c) grows made = tt

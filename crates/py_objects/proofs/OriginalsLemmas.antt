@@ -111,6 +111,7 @@ may_change-fits x (payload.Tuple vs) fits = absurd fits
 may_change-fits x (payload.Dict ps) fits = refl
 may_change-fits x (payload.Class c) fits = absurd fits
 may_change-fits x (payload.Function f) fits = absurd fits
+may_change-fits x (payload.Builtin f) fits = absurd fits
 may_change-fits x (payload.Manager m) fits = absurd fits
 may_change-fits x (payload.Frame c) fits = absurd fits
 may_change-fits x (payload.Generator g) fits = absurd fits

@@ -28,6 +28,7 @@ edited_truth b objects x (payload.Tuple vs) = refl
 edited_truth b objects x (payload.Dict ps) = refl
 edited_truth b objects x (payload.Class c) = refl
 edited_truth b objects x (payload.Function f) = refl
+edited_truth b objects x (payload.Builtin f) = refl
 edited_truth b objects x (payload.Manager m) = refl
 edited_truth b objects x (payload.Frame c) = refl
 edited_truth b objects x (payload.Generator g) = refl

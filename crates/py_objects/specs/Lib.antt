@@ -7,6 +7,8 @@ pub mod ErrorPlaces
 pub mod Objects
 -- calls without keyword arguments
 pub mod Positional
+-- what a call asks
+pub mod Callees
 -- None, False and True among objects
 pub mod Singletons
 -- which classes a class derives from

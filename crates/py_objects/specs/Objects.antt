@@ -96,6 +96,7 @@ payload_numbers (payload.Tuple vs) = numbers vs
 payload_numbers (payload.Dict ps) = pair_numbers ps
 payload_numbers (payload.Class c) = numbers c.mro
 payload_numbers (payload.Function f) = []
+payload_numbers (payload.Builtin f) = []
 payload_numbers (payload.Manager m) = m.enter.number ∷ m.exit.number ∷ []
 payload_numbers (payload.Frame c) = []
 payload_numbers (payload.Generator g) = []

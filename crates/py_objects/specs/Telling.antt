@@ -7,8 +7,10 @@ use Rattle.py_objects.specs.declared.payload.Payload.{Payload}
 use Rattle.py_objects.specs.declared.request.Request.{Request}
 use Rattle.py_objects.specs.declared.event.GotAnswer.{GotAnswer}
 use Rattle.py_objects.specs.declared.event.GotAnswer.TheVariants as got
+use Rattle.py_objects.specs.declared.event.ResumeHow.{ResumeHow}
+use Rattle.py_objects.specs.declared.event.ResumeHow.TheVariants as how
 use Rattle.py_objects.specs.Objects.{Obj, HasPayload}
-use Rattle.py_objects.specs.Own.{Own, Asks, Gets, Rounds}
+use Rattle.py_objects.specs.Own.{Own, Resumes, Asks, Gets, Rounds, Yields}
 
 -- what comes of a load or a request: a value, a raise, or the end of what is told
 pub data Value : Type 0 where
@@ -38,6 +40,21 @@ Answered event ts K = ((ts ≡ []) × K Stopped event []) ⊎ ((i : ℕ) × (w :
 abbrev pub Asked : (ℕ → Bool) → Request → Option PyBaseExceptionRef → ℕ → List Own → AfterValue → Type 0
 Asked units r h event ts K =
     ((ts ≡ []) × K Stopped event []) ⊎ ((at : ℕ) × (mid : List Own) × (units at ≡ true) × (ts ≡ Asks at r h ∷ mid) × Answered event mid K)
+
+-- a body that yielded goes on with what was sent as a value, or with what was thrown in as a raise; it doesn't start again
+abbrev pub GoesOn : ResumeHow → ℕ → List Own → AfterValue → Type 0
+GoesOn how.Start event ts K = ⊥
+GoesOn (how.Send v) event ts K = K (Given v) event ts
+GoesOn (how.Throw e) event ts K = K (Failed e) event ts
+
+-- how it goes on, by an event with a number of its own, or the end of what is told
+abbrev pub Resumed : ℕ → List Own → AfterValue → Type 0
+Resumed event ts K = ((ts ≡ []) × K Stopped event []) ⊎ ((i : ℕ) × (w : ResumeHow) × (mid : List Own) × (ts ≡ Resumes i w ∷ mid) × GoesOn w i mid K)
+
+-- a yield of a value, from one of these units, and how the body goes on (Python Language Reference, 6.2.9)
+abbrev pub Yielded : (ℕ → Bool) → Obj → ℕ → List Own → AfterValue → Type 0
+Yielded units v event ts K =
+    ((ts ≡ []) × K Stopped event []) ⊎ ((at : ℕ) × (mid : List Own) × (units at ≡ true) × (ts ≡ Yields at v ∷ mid) × Resumed event mid K)
 
 -- a round of a loop, or the end of what is told
 abbrev pub Rounded : List Own → Type 0 → (List Own → Type 0) → Type 0

@@ -24,6 +24,7 @@ impl Payload {
             | Payload::Tuple(_)
             | Payload::Dict(_)
             | Payload::Function(_)
+            | Payload::Builtin(_)
             | Payload::Manager(_)
             | Payload::Frame(_)
             | Payload::Generator(_)

@@ -128,6 +128,7 @@ impl Payload {
             | Payload::Tuple(_)
             | Payload::Class(_)
             | Payload::Function(_)
+            | Payload::Builtin(_)
             | Payload::Manager(_)
             | Payload::Frame(_)
             | Payload::Generator(_) => Ok(None),
@@ -150,6 +151,7 @@ impl Payload {
             | Payload::Dict(_)
             | Payload::Class(_)
             | Payload::Function(_)
+            | Payload::Builtin(_)
             | Payload::Manager(_)
             | Payload::Frame(_)
             | Payload::Generator(_)
@@ -174,6 +176,7 @@ impl Payload {
             | Payload::Dict(_)
             | Payload::Class(_)
             | Payload::Function(_)
+            | Payload::Builtin(_)
             | Payload::Manager(_)
             | Payload::Frame(_)
             | Payload::Generator(_) => unreachable!(),

@@ -77,6 +77,7 @@ impl Payload {
                 Payload::Class(Boxed::new(alloc, class.value().copy(alloc)?)?)
             }
             Payload::Function(function) => Payload::Function(function.copy(alloc)?),
+            Payload::Builtin(function) => Payload::Builtin(*function),
             Payload::Manager(manager) => Payload::Manager(manager.copy(alloc)?),
             Payload::Frame(code) => Payload::Frame(*code),
             Payload::Generator(coro) => Payload::Generator(coro.copy(alloc)?),
@@ -172,6 +173,7 @@ fn fits(edit: &Edit, payload: &Payload) -> bool
         | Payload::Tuple(_)
         | Payload::Class(_)
         | Payload::Function(_)
+        | Payload::Builtin(_)
         | Payload::Manager(_)
         | Payload::Frame(_)
         | Payload::Generator(_) => false,

@@ -5,7 +5,7 @@ use crate::boxed::Boxed;
 use crate::error_kind::ErrorKind;
 use crate::pair_list::PairList;
 use crate::refs::{FrameRef, ObjList, PyObjectRef, PyTypeRef};
-use py_code::{ItemList, PyText};
+use py_code::{BuiltinFn, ItemList, PyText};
 
 /// What an object is. Names are texts; other objects are named by their numbers. A store has one of these for each object, so they are small.
 #[derive(Debug, Drop)]
@@ -19,6 +19,8 @@ pub enum Payload {
     Dict(PairList),
     Class(Boxed<ClassBody>),
     Function(FunctionBody),
+    /// A function that the machine itself carries out.
+    Builtin(BuiltinFn),
     Manager(ManagerBody),
     /// A frame, by the number of its code among the codes of the run.
     Frame(u64),

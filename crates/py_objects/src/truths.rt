@@ -21,6 +21,7 @@ impl Payload {
             | Payload::Dict(_)
             | Payload::Class(_)
             | Payload::Function(_)
+            | Payload::Builtin(_)
             | Payload::Manager(_)
             | Payload::Frame(_)
             | Payload::Generator(_)

@@ -1,4 +1,10 @@
-use Rattle.std.proofs.Common.{refl}
+use Rattle.std.proofs.Common.{◌≡◌, true, false, refl}
+use Rattle.py_code.specs.declared.literal.BuiltinFn.{BuiltinFn}
+use Rattle.py_code.specs.declared.literal.BuiltinFn.TheVariants.{Send, Throw, Close}
+use Rattle.py_code.specs.declared.literal.Literal.{Builtin}
+use Rattle.py_check.specs.declared.note.Kind.TheVariants as kind
+use Rattle.py_check.specs.Constants.{is_driving}
+use Rattle.py_check.specs.Worked.{Typed, Breaks, loaded_later, returned_later}
 use Rattle.py_check.proofs.WorkedLemmas.{typed, breaks, breaks_first, breaks_whole}
 use Rattle.py_check.proofs.worked.worked_notes.Goals as goal
 
@@ -59,8 +65,29 @@ returns-clause-loads_truth c truth = typed _ refl refl
 pub returns-clause-loads_tuple : goal.returns-clause-loads_tuple
 returns-clause-loads_tuple c items = breaks_first _ refl
 
+driving_typed : (f : BuiltinFn) → is_driving f ≡ true → Typed (loaded_later (Builtin f) kind.Any)
+driving_typed Send is = typed _ refl refl
+driving_typed Throw is = typed _ refl refl
+driving_typed Close is = typed _ refl refl
+driving_typed _ is = cc
+
+others_break : (f : BuiltinFn) → is_driving f ≡ false → Breaks (loaded_later (Builtin f) kind.Any) 2
+others_break Send other = cc
+others_break Throw other = cc
+others_break Close other = cc
+others_break _ other = breaks _ _ refl refl refl
+
+others_return : (f : BuiltinFn) → is_driving f ≡ false → Breaks (returned_later (Builtin f)) 2
+others_return Send other = cc
+others_return Throw other = cc
+others_return Close other = cc
+others_return _ other = breaks _ _ refl refl refl
+
+pub returns-clause-loads_driving : goal.returns-clause-loads_driving
+returns-clause-loads_driving c f is = driving_typed f is
+
 pub returns-clause-loads_builtin : goal.returns-clause-loads_builtin
-returns-clause-loads_builtin c f = breaks _ _ refl refl refl
+returns-clause-loads_builtin c f other = others_break f other
 
 pub returns-clause-loads_code : goal.returns-clause-loads_code
 returns-clause-loads_code c n = breaks_whole _ refl
@@ -69,7 +96,7 @@ pub returns-clause-returns_tuple : goal.returns-clause-returns_tuple
 returns-clause-returns_tuple c items = breaks_first _ refl
 
 pub returns-clause-returns_builtin : goal.returns-clause-returns_builtin
-returns-clause-returns_builtin c f = breaks _ _ refl refl refl
+returns-clause-returns_builtin c f other = others_return f other
 
 pub returns-clause-three_prefixes : goal.returns-clause-three_prefixes
 returns-clause-three_prefixes c = typed _ refl refl
