@@ -21,9 +21,19 @@ instantiated (ctor.Instance e) = comes.Done e
 -- else the value alone
 abbrev pub StandsFor : List Payload → Obj → Payload → List Obj → Type 0
 StandsFor objects v payload.None args = args ≡ []
+StandsFor objects v (payload.Bool b) args = args ≡ v ∷ []
+StandsFor objects v (payload.Int n) args = args ≡ v ∷ []
+StandsFor objects v (payload.Str s) args = args ≡ v ∷ []
 StandsFor objects v (payload.Tuple items) args = args ≡ items
+StandsFor objects v (payload.Dict ps) args = args ≡ v ∷ []
+StandsFor objects v (payload.Class c) args = args ≡ v ∷ []
+StandsFor objects v (payload.Function f) args = args ≡ v ∷ []
+StandsFor objects v (payload.Builtin f) args = args ≡ v ∷ []
+StandsFor objects v (payload.Manager m) args = args ≡ v ∷ []
+StandsFor objects v (payload.Frame n) args = args ≡ v ∷ []
+StandsFor objects v (payload.Generator g) args = args ≡ v ∷ []
 StandsFor objects v (payload.Exception e) args = HasPayload objects e.args (payload.Tuple args)
-StandsFor objects v p args = args ≡ v ∷ []
+StandsFor objects v (payload.Traceback t) args = args ≡ v ∷ []
 
 -- the refusal of an exception with another one as its value
 abbrev pub separate_value : Fault
@@ -37,16 +47,21 @@ ClassWith objects class v p false outcome = (args : List Obj) × StandsFor objec
 -- with a value of a payload: an exception with another exception is refused, and stays itself with any other value
 abbrev pub InstantiatesAs : List Payload → ExceptionCtor → Obj → Payload → Instantiate → Type 0
 InstantiatesAs objects (ctor.Class class) v p outcome = (b : Bool) × IsInstanceOf objects p (class_object class) b × ClassWith objects class v p b outcome
-InstantiatesAs objects (ctor.Instance e) v (payload.Exception f) outcome = outcome ≡ comes.Fault separate_value
-InstantiatesAs objects (ctor.Instance e) v p outcome = outcome ≡ comes.Done e
+InstantiatesAs objects (ctor.Instance e) v payload.None outcome = outcome ≡ comes.Done e
+InstantiatesAs objects (ctor.Instance e) v (payload.Bool b) outcome = outcome ≡ comes.Done e
+InstantiatesAs objects (ctor.Instance e) v (payload.Int n) outcome = outcome ≡ comes.Done e
+InstantiatesAs objects (ctor.Instance e) v (payload.Str s) outcome = outcome ≡ comes.Done e
+InstantiatesAs objects (ctor.Instance e) v (payload.Tuple vs) outcome = outcome ≡ comes.Done e
+InstantiatesAs objects (ctor.Instance e) v (payload.Dict ps) outcome = outcome ≡ comes.Done e
+InstantiatesAs objects (ctor.Instance e) v (payload.Class c) outcome = outcome ≡ comes.Done e
+InstantiatesAs objects (ctor.Instance e) v (payload.Function f) outcome = outcome ≡ comes.Done e
+InstantiatesAs objects (ctor.Instance e) v (payload.Builtin f) outcome = outcome ≡ comes.Done e
+InstantiatesAs objects (ctor.Instance e) v (payload.Manager m) outcome = outcome ≡ comes.Done e
+InstantiatesAs objects (ctor.Instance e) v (payload.Frame n) outcome = outcome ≡ comes.Done e
+InstantiatesAs objects (ctor.Instance e) v (payload.Generator g) outcome = outcome ≡ comes.Done e
+InstantiatesAs objects (ctor.Instance e) v (payload.Exception x) outcome = outcome ≡ comes.Fault separate_value
+InstantiatesAs objects (ctor.Instance e) v (payload.Traceback t) outcome = outcome ≡ comes.Done e
 
 -- with a value
 abbrev pub Instantiates : List Payload → ExceptionCtor → Obj → Instantiate → Type 0
 Instantiates objects c v outcome = (p : Payload) × HasPayload objects v p × InstantiatesAs objects c v p outcome
-
--- what is said of an outcome, unless memory ran out
-abbrev pub UnlessNoMemory : (Instantiate → Type 0) → Instantiate → Type 0
-UnlessNoMemory P (comes.Done e) = P (comes.Done e)
-UnlessNoMemory P (comes.Make class args) = P (comes.Make class args)
-UnlessNoMemory P (comes.Fault f) = P (comes.Fault f)
-UnlessNoMemory P comes.NoMemory = Unit {0}

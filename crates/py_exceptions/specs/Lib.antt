@@ -15,6 +15,10 @@ pub mod Arguments
 -- what may be raised, and what comes of it
 pub mod Raisable
 pub mod Instantiating
+-- what comes of what is thrown
+pub mod Normalizing
+-- what is said where memory may run out
+pub mod Memory
 -- the slots of handled exceptions
 pub mod Slots
 -- what the functions of the crate need of an exception

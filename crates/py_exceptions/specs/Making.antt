@@ -1,9 +1,10 @@
 -- New exceptions among the objects of a run.
-use Rattle.std.specs.Prelude.{◌<◌, ◌≤◌, List, [], ◌∷◌, Bool, length}
+use Rattle.std.specs.Prelude.{◌<◌, ◌≤◌, Option, Some, None, List, [], ◌∷◌, Bool, length, is_some}
 use Rattle.py_objects.specs.declared.refs.PyTypeRef.{PyTypeRef}
 use Rattle.py_objects.specs.declared.refs.PyBaseExceptionRef.{PyBaseExceptionRef}
 use Rattle.py_objects.specs.declared.payload.Payload.{Payload}
 use Rattle.py_objects.specs.declared.payload.Payload.TheVariants as payload
+use Rattle.py_objects.specs.declared.payload.ExceptionBody.{ExceptionBody}
 use Rattle.py_objects.specs.declared.error_kind.ErrorKind.TheVariants.{OSError}
 use Rattle.py_objects.specs.ErrorKinds.{name_of}
 use Rattle.py_objects.specs.Objects.{Obj, Name, HasPayload, as_object, class_object}
@@ -16,20 +17,37 @@ use Rattle.py_exceptions.specs.Keeping.{kept_args, kept_attrs}
 abbrev pub is_os : List Payload → PyTypeRef → Bool
 is_os objects class = derives_from objects (class_object class) (name_of OSError)
 
--- an exception of a class, with these arguments and attributes and nothing else, that is none of the old objects
-pub record IsNewInstance (old new : List Payload) (class : PyTypeRef) (arguments : List Obj) (attrs : Attrs) (e : PyBaseExceptionRef) : Type 0 where
+-- an exception as it is made, with these attributes and maybe with a cause, which keeps its context from being printed (Python Language
+-- Reference, 7.8)
+abbrev pub exception_from : PyTypeRef → Obj → Option Obj → Attrs → ExceptionBody
+exception_from class args cause attrs = record (new_exception class args) { cause = cause; suppress = is_some cause; attrs = attrs }
+
+-- an exception of a class, with these arguments, this cause and these attributes and nothing else, that is none of the old objects
+pub record IsNewInstanceFrom (old new : List Payload) (class : PyTypeRef) (arguments : List Obj) (cause : Option Obj) (attrs : Attrs) (e : PyBaseExceptionRef) : Type 0 where
   pub later : length old ≤ e.number
   pub below : e.number < length new
   pub args : Obj
-  pub entry : HasPayload new (as_object e) (payload.Exception (record (new_exception class args) { attrs = attrs }))
+  pub entry : HasPayload new (as_object e) (payload.Exception (exception_from class args cause attrs))
   pub are : HasPayload new args (payload.Tuple arguments)
+
+-- one without a cause
+abbrev pub IsNewInstance : List Payload → List Payload → PyTypeRef → List Obj → Attrs → PyBaseExceptionRef → Type 0
+IsNewInstance old new class arguments attrs e = IsNewInstanceFrom old new class arguments None attrs e
 
 -- one that a call of its class with these arguments makes
 abbrev pub IsNewCalled : List Payload → List Payload → PyTypeRef → List Obj → PyBaseExceptionRef → Type 0
 IsNewCalled old new class arguments e = IsNewInstance old new class (kept_args (is_os old class) arguments) (kept_attrs (is_os old class) arguments) e
 
--- one whose one argument is a text
-pub record IsNewException (old new : List Payload) (class : PyTypeRef) (text : Name) (e : PyBaseExceptionRef) : Type 0 where
+-- one whose one argument is a text, with a cause or without one
+pub record IsNewText (old new : List Payload) (class : PyTypeRef) (text : Name) (cause : Option Obj) (e : PyBaseExceptionRef) : Type 0 where
   pub argument : Obj
   pub message : HasPayload new argument (payload.Str text)
-  pub made : IsNewInstance old new class (argument ∷ []) [] e
+  pub made : IsNewInstanceFrom old new class (argument ∷ []) cause [] e
+
+-- without a cause
+abbrev pub IsNewException : List Payload → List Payload → PyTypeRef → Name → PyBaseExceptionRef → Type 0
+IsNewException old new class text e = IsNewText old new class text None e
+
+-- with one
+abbrev pub IsNewExceptionFrom : List Payload → List Payload → PyTypeRef → Name → (cause e : PyBaseExceptionRef) → Type 0
+IsNewExceptionFrom old new class text cause e = IsNewText old new class text (Some (as_object cause)) e

@@ -35,9 +35,20 @@ ClassTaken objects v c false taken = IsErrAnd taken (IsNotException objects (pay
 
 -- what an object with a payload is taken for: a class that is BaseException or derives from it, and an exception, for themselves, and nothing else
 abbrev pub IsTakenFor : List Payload → Obj → Payload → Result ExceptionCtor CtorFault → Type 0
+IsTakenFor objects v payload.None taken = IsErrAnd taken (IsNotException objects payload.None)
+IsTakenFor objects v (payload.Bool b) taken = IsErrAnd taken (IsNotException objects (payload.Bool b))
+IsTakenFor objects v (payload.Int n) taken = IsErrAnd taken (IsNotException objects (payload.Int n))
+IsTakenFor objects v (payload.Str s) taken = IsErrAnd taken (IsNotException objects (payload.Str s))
+IsTakenFor objects v (payload.Tuple vs) taken = IsErrAnd taken (IsNotException objects (payload.Tuple vs))
+IsTakenFor objects v (payload.Dict ps) taken = IsErrAnd taken (IsNotException objects (payload.Dict ps))
 IsTakenFor objects v (payload.Class c) taken = (b : Bool) × IsDerived objects v (name_of BaseException) b × ClassTaken objects v c b taken
+IsTakenFor objects v (payload.Function f) taken = IsErrAnd taken (IsNotException objects (payload.Function f))
+IsTakenFor objects v (payload.Builtin f) taken = IsErrAnd taken (IsNotException objects (payload.Builtin f))
+IsTakenFor objects v (payload.Manager m) taken = IsErrAnd taken (IsNotException objects (payload.Manager m))
+IsTakenFor objects v (payload.Frame n) taken = IsErrAnd taken (IsNotException objects (payload.Frame n))
+IsTakenFor objects v (payload.Generator g) taken = IsErrAnd taken (IsNotException objects (payload.Generator g))
 IsTakenFor objects v (payload.Exception e) taken = taken ≡ Ok (ctor.Instance (as_exception v))
-IsTakenFor objects v p taken = IsErrAnd taken (IsNotException objects p)
+IsTakenFor objects v (payload.Traceback t) taken = IsErrAnd taken (IsNotException objects (payload.Traceback t))
 
 -- what an object is taken for
 abbrev pub IsTaken : List Payload → Obj → Result ExceptionCtor CtorFault → Type 0

@@ -2,12 +2,14 @@
 
 ghost use Rattle.std.specs.Prelude.{◌≡◌, ◌<◌, length, IfOk};
 ghost use Rattle.py_objects.specs.Edits.{objects_of};
-ghost use Rattle.py_objects.specs.Objects.{Name, class_object};
+ghost use Rattle.py_objects.specs.Objects.{Name, class_object, IfThere};
 ghost use Rattle.py_objects.specs.Ancestry.{derives_from};
 ghost use Rattle.py_objects.specs.ErrorKinds.{name_of};
 ghost use Rattle.py_objects.specs.declared.error_kind.ErrorKind.TheVariants.{BaseException};
 ghost use Rattle.py_exceptions.specs.Raisable.{not_exception, IsNotException, IsTaken};
-ghost use Rattle.py_exceptions.specs.Instantiating.{instantiated, Instantiates, StandsFor, UnlessNoMemory};
+ghost use Rattle.py_exceptions.specs.Instantiating.{instantiated, Instantiates, StandsFor};
+ghost use Rattle.py_exceptions.specs.Memory.{UnlessNoMemory};
+ghost use Rattle.py_exceptions.specs.Normalizing.{Normalizes};
 ghost use Rattle.py_exceptions.specs.Deriving.{IsInstanceOf};
 ghost use Rattle.py_exceptions.specs.Parts.{AreParts, HasParts};
 ghost use Rattle.py_exceptions.specs.TypeNames.{IsTypeName};
@@ -74,7 +76,18 @@ impl ExceptionCtor {
             Payload::Exception(_) => Ok(ExceptionCtor::Instance(PyBaseExceptionRef {
                 number: obj.number,
             })),
-            _ => Err(not_exception(alloc, store, payload)),
+            Payload::None
+            | Payload::Bool(_)
+            | Payload::Int(_)
+            | Payload::Str(_)
+            | Payload::Tuple(_)
+            | Payload::Dict(_)
+            | Payload::Function(_)
+            | Payload::Builtin(_)
+            | Payload::Manager(_)
+            | Payload::Frame(_)
+            | Payload::Generator(_)
+            | Payload::Traceback(_) => Err(not_exception(alloc, store, payload)),
         }
     }
 
@@ -98,6 +111,27 @@ impl ExceptionCtor {
             ExceptionCtor::Instance(exception) => instance_with(alloc, store, exception, value),
         };
         outcome.unwrap_or(Instantiate::NoMemory)
+    }
+}
+
+/// What comes of an object that is thrown, with a value or without one (Python Language Reference, 6.2.9.1).
+pub fn normalized(
+    alloc: Global,
+    store: &Store,
+    thrown: PyObjectRef,
+    value: Option<PyObjectRef>,
+) -> Instantiate
+    requires below { thrown.number < length store.now.made }
+    requires value { IfThere (HasParts (objects_of store.now)) value }
+    ensures { UnlessNoMemory (Normalizes (objects_of store.now) thrown value) result }
+{
+    match ExceptionCtor::try_from_object(alloc, store, thrown) {
+        Ok(ctor) => match value {
+            None => ctor.instantiate(alloc),
+            Some(value) => ctor.instantiate_value(alloc, store, value),
+        },
+        Err(CtorFault::NotException(fault)) => Instantiate::Fault(fault),
+        Err(CtorFault::NoMemory) => Instantiate::NoMemory,
     }
 }
 
@@ -162,6 +196,7 @@ fn instance_with(
         | Payload::Dict(_)
         | Payload::Class(_)
         | Payload::Function(_)
+        | Payload::Builtin(_)
         | Payload::Manager(_)
         | Payload::Frame(_)
         | Payload::Generator(_)
@@ -231,6 +266,7 @@ fn arguments(
         | Payload::Dict(_)
         | Payload::Class(_)
         | Payload::Function(_)
+        | Payload::Builtin(_)
         | Payload::Manager(_)
         | Payload::Frame(_)
         | Payload::Generator(_)

@@ -15,9 +15,9 @@ mod type_names;
 mod zoo;
 
 pub use arguments::{args, get_arg};
-pub use ctor::{CtorFault, ExceptionCtor, Instantiate, is_instance};
+pub use ctor::{CtorFault, ExceptionCtor, Instantiate, is_instance, normalized};
 pub use kinds::{is_gen_exit, is_kind};
-pub use making::{make_exception, new_exception};
+pub use making::{make_exception, new_exception, new_exception_from};
 pub use sink::{Sink, WriteFailed};
 pub use sink_memory::SinkMemory;
 pub use stack::ExceptionStack;

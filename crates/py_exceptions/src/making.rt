@@ -1,11 +1,11 @@
-//! New exceptions: of a class, with what that keeps of its arguments, and with no links.
+//! New exceptions: of a class, with what that keeps of its arguments, and with no links but a cause where they have one.
 
 ghost use Rattle.std.specs.Prelude.{◌≡◌, [], ◌∷◌, length, codes, IfOk};
-ghost use Rattle.py_objects.specs.Objects.{attr_numbers, class_object, numbers, AllBelow, IsClassObject};
+ghost use Rattle.py_objects.specs.Objects.{as_object, attr_numbers, class_object, numbers, AllBelow, IfThere, IsClassObject, IsException};
 ghost use Rattle.py_objects.specs.Growth.{IsGrown};
 ghost use Rattle.py_exceptions.specs.Classes.{class_of, HaveClasses};
 ghost use Rattle.py_exceptions.specs.Keeping.{kept_args as args_kept, kept_attrs as attrs_kept, os_args as args_of_os, os_attrs as attrs_of_os};
-ghost use Rattle.py_exceptions.specs.Making.{IsNewCalled, IsNewInstance, IsNewException};
+ghost use Rattle.py_exceptions.specs.Making.{IsNewCalled, IsNewException, IsNewExceptionFrom, IsNewInstanceFrom, IsNewText};
 
 use crate::zoo::ExceptionZoo;
 use py_code::{NoMemory, text_of};
@@ -26,12 +26,48 @@ pub fn new_exception(
     ensures grows { IsGrown store.old store.new }
     ensures made { IfOk result (λ e. IsNewException store.old.made store.new.made (class_of zoo.now fault.now.kind) fault.now.text e) }
 {
+    with_text(alloc, store, zoo, fault, None)
+}
+
+/// A new exception of a fault's kind and text, raised from a cause, which keeps its context from being printed (Python Language
+/// Reference, 7.8).
+pub fn new_exception_from(
+    alloc: Global,
+    store: &mut Store,
+    zoo: &ExceptionZoo,
+    fault: &Fault,
+    cause: PyBaseExceptionRef,
+) -> Result<PyBaseExceptionRef, NoMemory>
+    requires classes { HaveClasses zoo.now store.old.made }
+    requires cause { IsException store.old.made (as_object cause) }
+    ensures grows { IsGrown store.old store.new }
+    ensures made { IfOk result (λ e. IsNewExceptionFrom store.old.made store.new.made (class_of zoo.now fault.now.kind) fault.now.text cause e) }
+{
+    let cause = PyObjectRef {
+        number: cause.number,
+    };
+    with_text(alloc, store, zoo, fault, Some(cause))
+}
+
+/// A new exception of a fault's kind and text, maybe with a cause.
+fn with_text(
+    alloc: Global,
+    store: &mut Store,
+    zoo: &ExceptionZoo,
+    fault: &Fault,
+    cause: Option<PyObjectRef>,
+) -> Result<PyBaseExceptionRef, NoMemory>
+    requires classes { HaveClasses zoo.now store.old.made }
+    requires cause { IfThere (IsException store.old.made) cause }
+    ensures grows { IsGrown store.old store.new }
+    ensures made { IfOk result (λ e. IsNewText store.old.made store.new.made (class_of zoo.now fault.now.kind) fault.now.text cause e) }
+{
     let class = zoo.class(fault.kind);
     let text = fault.text.copy(alloc)?;
     let argument = store.add(Payload::Str(text))?;
     let mut items = ObjList::new(alloc);
     items.push(argument)?;
-    add_exception(alloc, store, class, items, AttrMap::new(alloc))
+    add_exception(alloc, store, class, items, cause, AttrMap::new(alloc))
 }
 
 /// The exception that a call of a class with these arguments makes.
@@ -49,30 +85,32 @@ pub fn make_exception(
     let os = store.derives_from(class, ErrorKind::OSError);
     let attrs = kept_attrs(alloc, os, args.as_slice())?;
     let args = kept_args(alloc, os, args)?;
-    add_exception(alloc, store, class, args, attrs)
+    add_exception(alloc, store, class, args, None, attrs)
 }
 
-/// A new exception of a class, with these arguments and attributes.
+/// A new exception of a class, with these arguments and attributes, and maybe with a cause.
 fn add_exception(
     alloc: Global,
     store: &mut Store,
     class: PyTypeRef,
     args: ObjList,
+    cause: Option<PyObjectRef>,
     attrs: AttrMap,
 ) -> Result<PyBaseExceptionRef, NoMemory>
     requires class { IsClassObject store.old.made (class_object class) }
     requires args { AllBelow (length store.old.made) (numbers args) }
+    requires cause { IfThere (IsException store.old.made) cause }
     requires attrs { AllBelow (length store.old.made) (attr_numbers attrs) }
     ensures grows { IsGrown store.old store.new }
-    ensures made { IfOk result (λ e. IsNewInstance store.old.made store.new.made class args attrs e) }
+    ensures made { IfOk result (λ e. IsNewInstanceFrom store.old.made store.new.made class args cause attrs e) }
 {
     let args = store.add(Payload::Tuple(args))?;
     let body = ExceptionBody {
         class,
         args,
-        cause: None,
+        cause,
         context: None,
-        suppress: false,
+        suppress: cause.is_some(),
         traceback: None,
         attrs,
     };
