@@ -1,0 +1,58 @@
+-- What a generator answers that was entered and left, and its mode by then (Python Language Reference, 6.2.9.1; PEP 479).
+use Rattle.std.specs.Prelude.{Option, Some, None, List, Bool, true, false, ◌≡◌}
+use Rattle.py_objects.specs.declared.refs.PyBaseExceptionRef.{PyBaseExceptionRef}
+use Rattle.py_objects.specs.declared.payload.Payload.{Payload}
+use Rattle.py_objects.specs.declared.payload.Payload.TheVariants as payload
+use Rattle.py_objects.specs.declared.payload.ExceptionBody.{ExceptionBody}
+use Rattle.py_objects.specs.declared.error_kind.ErrorKind.{ErrorKind}
+use Rattle.py_objects.specs.declared.error_kind.ErrorKind.TheVariants.{GeneratorExit, StopIteration}
+use Rattle.py_objects.specs.ErrorKinds.{name_of}
+use Rattle.py_objects.specs.Objects.{Obj, HasPayload, as_object, class_object}
+use Rattle.py_objects.specs.Ancestry.{IsDerived}
+use Rattle.py_objects.specs.Values.{is_none}
+use Rattle.py_coro.specs.declared.coro.CoroEnd.{CoroEnd}
+use Rattle.py_coro.specs.declared.coro.CoroEnd.TheVariants as left
+use Rattle.py_coro.specs.declared.coro.CoroAnswer.{CoroAnswer}
+use Rattle.py_coro.specs.declared.coro.CoroAnswer.TheVariants as answer
+use Rattle.py_coro.specs.Modes.{Mode, Suspended, Closed}
+
+-- the mode of one that was left like this: only a yield leaves it to be entered again, and not under a close
+abbrev pub mode_behind : (closing : Bool) → CoroEnd → Mode
+mode_behind true how = Closed
+mode_behind false (left.Yield v) = Suspended
+mode_behind false (left.Return v) = Closed
+mode_behind false (left.Raise e) = Closed
+
+-- whether an exception is of a built-in class
+abbrev pub IsOfClass : List Payload → PyBaseExceptionRef → ErrorKind → Bool → Type 0
+IsOfClass objects e kind b =
+    (body : ExceptionBody) × HasPayload objects (as_object e) (payload.Exception body) × IsDerived objects (class_object body.class) (name_of kind) b
+
+-- what a yield is answered by
+abbrev pub yielded : (closing : Bool) → Obj → CoroAnswer
+yielded true v = answer.Ignored
+yielded false v = answer.Value v
+
+-- a value that is None stands for none
+abbrev pub value_if : Obj → Bool → Option Obj
+value_if v true = None
+value_if v false = Some v
+
+-- what a return of a value of a payload is answered by
+abbrev pub returned : (closing : Bool) → Obj → Payload → CoroAnswer
+returned true v p = answer.Closed
+returned false v p = answer.Stop (value_if v (is_none p))
+
+-- what a raise is answered by: one that stops is converted, and a close is done where one exits
+abbrev pub raised : (closing : Bool) → PyBaseExceptionRef → (stops exits : Bool) → CoroAnswer
+raised closing e true exits = answer.Convert e
+raised true e false true = answer.Closed
+raised true e false false = answer.Raise e
+raised false e false exits = answer.Raise e
+
+-- one that was left like this answers so
+abbrev pub Finishes : List Payload → (closing : Bool) → CoroEnd → CoroAnswer → Type 0
+Finishes objects closing (left.Yield v) a = a ≡ yielded closing v
+Finishes objects closing (left.Return v) a = (p : Payload) × HasPayload objects v p × (a ≡ returned closing v p)
+Finishes objects closing (left.Raise e) a =
+    (stops : Bool) × (exits : Bool) × IsOfClass objects e StopIteration stops × IsOfClass objects e GeneratorExit exits × (a ≡ raised closing e stops exits)

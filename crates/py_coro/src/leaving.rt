@@ -1,0 +1,131 @@
+//! What a call that entered an activation is answered where that was left, and how the activation stands by then.
+
+ghost use Rattle.std.specs.Prelude.{◌≡◌, ◌<◌, false, length};
+ghost use Rattle.py_objects.specs.Edits.{objects_of};
+ghost use Rattle.py_objects.specs.Objects.{AllFit, HasPayload, as_object, IsException};
+ghost use Rattle.py_objects.specs.Values.{is_none as is_none_of};
+ghost use Rattle.py_objects.specs.declared.payload.ExceptionBody.{ExceptionBody};
+ghost use Rattle.py_objects.specs.declared.payload.Payload.{Payload as PayloadOf};
+ghost use Rattle.py_objects.specs.declared.payload.Payload.TheVariants.{Exception};
+ghost use Rattle.py_coro.specs.declared.coro.CoroEnd.TheVariants as left;
+ghost use Rattle.py_coro.specs.Leaving.{mode_behind, yielded as yield_answer, returned as return_answer, raised as raise_answer, Finishes, IsOfClass};
+ghost use Rattle.py_coro.specs.Coros.{AreRead};
+ghost use Rattle.py_coro.specs.Stages.{mode_of, closing_of};
+
+use crate::coro::{CoroAnswer, CoroEnd};
+use crate::stage::Stage;
+use py_objects::{ErrorKind, Payload, PyBaseExceptionRef, PyObjectRef, PyTypeRef, Store};
+
+/// How one stands that was left like this: only a yield leaves it to be entered again, and not under a close.
+pub(crate) fn stage_behind(closing: bool, how: CoroEnd) -> Stage
+    ensures mode { mode_of result ≡ mode_behind closing how }
+    ensures closing { closing_of result ≡ false }
+{
+    if closing {
+        return Stage::Closed;
+    }
+    match how {
+        CoroEnd::Yield(_) => Stage::Suspended,
+        CoroEnd::Return(_) => Stage::Closed,
+        CoroEnd::Raise(_) => Stage::Closed,
+    }
+}
+
+/// What the call that entered one is answered, to be closed or not, where that was left like this.
+pub(crate) fn answer_to(store: &Store, closing: bool, how: CoroEnd) -> CoroAnswer
+    requires fit { AllFit store.now.made }
+    requires read { AreRead store.now.made how }
+    ensures { Finishes store.now.made closing how result }
+{
+    match how {
+        CoroEnd::Yield(value) => yielded(closing, value),
+        CoroEnd::Return(value) => returned(store, closing, value),
+        CoroEnd::Raise(exc) => raised(store, closing, exc),
+    }
+}
+
+/// What a yield is answered by.
+fn yielded(closing: bool, value: PyObjectRef) -> CoroAnswer
+    ensures { result ≡ yield_answer closing value }
+{
+    if closing {
+        return CoroAnswer::Ignored;
+    }
+    CoroAnswer::Value(value)
+}
+
+/// What a return is answered by.
+fn returned(store: &Store, closing: bool, value: PyObjectRef) -> CoroAnswer
+    requires { value.number < length store.now.made }
+    ensures { Finishes store.now.made closing (left.Return value) result }
+{
+    let is_none = is_none(store, value);
+    answer_of_return(closing, value, is_none)
+}
+
+/// What a return of a value is answered by that is None or isn't.
+fn answer_of_return(closing: bool, value: PyObjectRef, is_none: bool) -> CoroAnswer
+    ensures { (p : PayloadOf) → is_none ≡ is_none_of p → result ≡ return_answer closing value p }
+{
+    if closing {
+        return CoroAnswer::Closed;
+    }
+    if is_none {
+        return CoroAnswer::Stop(None);
+    }
+    CoroAnswer::Stop(Some(value))
+}
+
+/// Whether an object is None.
+fn is_none(store: &Store, object: PyObjectRef) -> bool
+    requires { object.number < length store.now.made }
+    ensures { (p : PayloadOf) × HasPayload store.now.made object p × (result ≡ is_none_of p) }
+{
+    matches!(store.get(object), Payload::None)
+}
+
+/// What a raise is answered by.
+fn raised(store: &Store, closing: bool, exc: PyBaseExceptionRef) -> CoroAnswer
+    requires fit { AllFit store.now.made }
+    requires exception { IsException store.now.made (as_object exc) }
+    ensures { Finishes store.now.made closing (left.Raise exc) result }
+{
+    let stops = is_of_class(store, exc, ErrorKind::StopIteration);
+    let exits = is_of_class(store, exc, ErrorKind::GeneratorExit);
+    answer_of_raise(closing, exc, stops, exits)
+}
+
+/// What the raise of an exception is answered by that is a StopIteration, or a GeneratorExit, or neither.
+fn answer_of_raise(closing: bool, exc: PyBaseExceptionRef, stops: bool, exits: bool) -> CoroAnswer
+    ensures { result ≡ raise_answer closing exc stops exits }
+{
+    if stops {
+        return CoroAnswer::Convert(exc);
+    }
+    if closing && exits {
+        return CoroAnswer::Closed;
+    }
+    CoroAnswer::Raise(exc)
+}
+
+/// Whether an exception is of a built-in class.
+fn is_of_class(store: &Store, exc: PyBaseExceptionRef, kind: ErrorKind) -> bool
+    requires fit { AllFit store.now.made }
+    requires exception { IsException store.now.made (as_object exc) }
+    ensures { IsOfClass store.now.made exc kind result }
+{
+    let class = class_of(store, exc);
+    store.derives_from(class, kind)
+}
+
+/// The class of an exception.
+fn class_of(store: &Store, exc: PyBaseExceptionRef) -> PyTypeRef
+    requires { IsException (objects_of store.now) (as_object exc) }
+    ensures { (body : ExceptionBody) × HasPayload (objects_of store.now) (as_object exc) (Exception body) × (result ≡ body.class) }
+{
+    let object = PyObjectRef { number: exc.number };
+    let Payload::Exception(body) = store.get(object) else {
+        unreachable!();
+    };
+    body.value().class
+}
