@@ -1,7 +1,8 @@
 -- Codes as tables.
 use Rattle.std.specs.Prelude.{◌≡◌, Option, Some, None, List, [], ◌∷◌, Bool, ◌&&◌, map, length, replicate}
 use Rattle.py_code.specs.declared.unit.CodeUnit.{CodeUnit}
-use Rattle.py_code.specs.declared.literal.Literal.{None as NoneLiteral}
+use Rattle.py_code.specs.declared.literal.Literal.{None as NoneLiteral, Builtin}
+use Rattle.py_code.specs.declared.literal.BuiltinFn.TheVariants.{Send, Throw, Close}
 use Rattle.py_check.specs.declared.note.BlockNote.{BlockNote}
 use Rattle.py_check.specs.declared.note.BlockNote.TheVariants as block
 use Rattle.py_check.specs.declared.note.Note.{Note}
@@ -34,8 +35,8 @@ unit_of row = record { op = row.0; arg = row.1 }
 abbrev pub note_of : Row → Note
 note_of row = Live row.2.now (map block_of row.3.now)
 
--- what the rules read of a table's code: a generator's, of two parameters and one more local, with the constant None and the name of a
--- global
+-- what the rules read of a table's code: a generator's, of two parameters and one more local, with None and the functions that drive
+-- generators as constants, and with the name of a global
 abbrev pub sheet : List Row → Sheet
 sheet rows =
     record {
@@ -46,9 +47,9 @@ sheet rows =
       posonlyarg_count = 0;
       arg_count = 2;
       kwonlyarg_count = 0;
-      max_stackdepth = 4;
+      max_stackdepth = 5;
       cell2arg = [];
-      constants = NoneLiteral ∷ [];
+      constants = NoneLiteral ∷ Builtin Send ∷ Builtin Throw ∷ Builtin Close ∷ [];
       names = 1;
       varnames = 3;
       cellvars = 0;

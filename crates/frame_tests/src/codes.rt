@@ -11,8 +11,8 @@ use py_check::{
     PendingSet,
 };
 use py_code::{
-    CodeFlags, CodeObject, CodeUnit, Instruction, ItemList, Literal, LiteralList, NameId, NoMemory,
-    PyCode,
+    BuiltinFn, CodeFlags, CodeObject, CodeUnit, Instruction, ItemList, Literal, LiteralList,
+    NameId, NoMemory, PyCode,
 };
 use std::alloc::Global;
 use std::test::Fail;
@@ -103,13 +103,16 @@ fn units(alloc: Global, rows: &[Row]) -> Result<Vec<CodeUnit>, NoMemory>
     Ok(made)
 }
 
-/// A generator's code of two parameters and one more local, with the constant None.
+/// A generator's code of two parameters and one more local, with None and the functions that drive generators as constants.
 fn annotated(alloc: Global, rows: &[Row]) -> Result<Annotated, NoMemory>
     ensures { IfOk result (λ code. IsCodeOf rows.now code) }
 {
     let name = NameId { index: 0 };
     let mut constants = LiteralList::new(alloc);
     constants.push(Literal::None)?;
+    constants.push(Literal::Builtin(BuiltinFn::Send))?;
+    constants.push(Literal::Builtin(BuiltinFn::Throw))?;
+    constants.push(Literal::Builtin(BuiltinFn::Close))?;
     let code = PyCode::new(CodeObject {
         instructions: units(alloc, rows)?,
         locations: vec![in alloc; 1; rows.len()]?,
@@ -121,7 +124,7 @@ fn annotated(alloc: Global, rows: &[Row]) -> Result<Annotated, NoMemory>
         kwonlyarg_count: 0,
         source_path: name,
         first_line_number: None,
-        max_stackdepth: 4,
+        max_stackdepth: 5,
         obj_name: name,
         cell2arg: Vec::new(alloc),
         constants,

@@ -17,10 +17,27 @@ use py_check::CheckedCode;
 use py_code::{Names, NoMemory, utf8_of};
 use py_exceptions::{ExceptionStack, ExceptionZoo};
 use py_frame::{Frame, FrameStep, OwnStack, positional};
-use py_objects::{FrameRef, ObjList, PyBaseExceptionRef, Request, Scope, Store};
+use py_objects::{FrameRef, ObjList, PyBaseExceptionRef, PyObjectRef, Request, Scope, Store};
 use std::alloc::Global;
 use std::process::Abort;
 use std::test::Fail;
+
+/// An object that may be there as a word.
+fn word_of(alloc: Global, object: Option<PyObjectRef>) -> Result<String, NoMemory> {
+    match object {
+        Some(object) => Ok(format!(in alloc; " {}", object.number)?),
+        None => Ok(String::new(alloc)),
+    }
+}
+
+/// A call as words.
+fn call(alloc: Global, callee: PyObjectRef, args: &[PyObjectRef]) -> Result<String, NoMemory> {
+    let mut words = format!(in alloc; "Call {}", callee.number)?;
+    for arg in args {
+        words.push_str(&word_of(alloc, Some(*arg))?)?;
+    }
+    Ok(words)
+}
 
 /// A question as words.
 fn question(alloc: Global, request: &Request) -> Result<String, NoMemory> {
@@ -39,6 +56,14 @@ fn question(alloc: Global, request: &Request) -> Result<String, NoMemory> {
         Request::Exit(m, t, v, b) => {
             format!(in alloc; "Exit {} {} {} {}", m.number, t.number, v.number, b.number)?
         }
+        Request::Call(callee, args, _) => call(alloc, *callee, args.as_slice())?,
+        Request::Send(g, v) => format!(in alloc; "Send {} {}", g.number, v.number)?,
+        Request::Throw(g, c, v, t) => {
+            let value = word_of(alloc, *v)?;
+            let traceback = word_of(alloc, *t)?;
+            format!(in alloc; "Throw {} {}{value}{traceback}", g.number, c.number)?
+        }
+        Request::Close(g) => format!(in alloc; "Close {}", g.number)?,
         other => format!(in alloc; "{other:?}")?,
     };
     Ok(words)

@@ -1,5 +1,5 @@
-//! Frames run by codes written by hand: a code for each kind of block by each reason to leave it, and for managers, raises, throws and
-//! moves, each with the events that come. The tests stand apart so that no crate is proved again with them.
+//! Frames run by codes written by hand: a code for each kind of block by each reason to leave it, and for managers, raises, throws, calls
+//! and moves, each with the events that come. The tests stand apart so that no crate is proved again with them.
 #![tactic(auto)]
 
 mod tables;
@@ -8,6 +8,8 @@ pub use tables::{Case, FIRST, First, Open, Row, Said};
 
 #[cfg(test)]
 mod blocks;
+#[cfg(test)]
+mod calls;
 #[cfg(test)]
 mod codes;
 #[cfg(test)]

@@ -12,8 +12,8 @@ mod ExitLemmas
 mod LocationLemmas
 -- objects among more
 pub mod MoreLemmas
--- managers
-mod ManagerLemmas
+-- what rows look at
+mod SeenLemmas
 -- frames that run
 pub mod RunningLemmas
 -- inputs that are taken

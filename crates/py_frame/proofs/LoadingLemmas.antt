@@ -23,7 +23,7 @@ bare objects (IntLiteral n) p is = let same : payload.Int n ≡ p = cc in subst 
 bare objects (StrLiteral s) p is = let same : payload.Str s ≡ p = cc in subst (IsBare objects) same (grows_plainly_by objects (payload.Str s) refl (λ _. tt) (λ _. tt), refl)
 bare objects (TupleLiteral shape items) p is = cc
 bare objects (CodeLiteral c) p is = cc
-bare objects (BuiltinLiteral f) p is = cc
+bare objects (BuiltinLiteral f) p is = let same : payload.Builtin f ≡ p = cc in subst (IsBare objects) same (grows_plainly_by objects (payload.Builtin f) refl (λ _. tt) (λ _. tt), refl)
 
 pub bare_below : (n : ℕ) (objects : List Payload) (p : Payload) → IsBare objects p → AllBelow n (payload_numbers p)
 bare_below n objects p is = subst (AllBelow n) (sym is.1) tt

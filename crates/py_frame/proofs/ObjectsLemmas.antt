@@ -1,6 +1,7 @@
--- What no edit changes: truth values stay such, and so do managers, exceptions and their classes.
+-- What no edit changes: truth values stay such, and so do managers, functions of the machine's own, exceptions and their classes.
 use Rattle.std.proofs.Common.{◌≡◌, ◌∙◌, ℕ, zero, suc, List, [], ◌∷◌, Bool, true, false, Some, refl, sym, ap}
 use Rattle.std.specs.Prelude.{Option, None, slice_get, slice_set}
+use Rattle.py_code.specs.declared.literal.BuiltinFn.{BuiltinFn}
 use Rattle.py_objects.specs.declared.payload.Payload.{Payload}
 use Rattle.py_objects.specs.declared.payload.Payload.TheVariants as payload
 use Rattle.py_objects.specs.declared.payload.ExceptionBody.{ExceptionBody}
@@ -12,6 +13,7 @@ use Rattle.py_objects.specs.declared.edit.Edit.TheVariants as edit
 use Rattle.py_objects.specs.declared.edit.LinkField.TheVariants as link
 use Rattle.py_objects.specs.declared.edit.Change.{Change}
 use Rattle.py_objects.specs.Objects.{Obj, HasPayload}
+use Rattle.py_objects.specs.Callees.{builtin_of}
 use Rattle.py_objects.specs.Edits.{edited, edited_exception, edited_entry, with_edit, changed_by}
 use Rattle.py_rows.specs.RunOfRows.{is_manager}
 
@@ -68,13 +70,13 @@ is_traceback _ = false
 
 -- all of these
 abbrev Traits : Type 0
-Traits = Option Bool × Bool × Option PyTypeRef × Bool
+Traits = Option Bool × Bool × Option PyTypeRef × Bool × Option BuiltinFn
 
 abbrev traits_of : Payload → Traits
-traits_of p = (truth_of p, is_manager p, class_of p, is_traceback p)
+traits_of p = (truth_of p, is_manager p, class_of p, is_traceback p, builtin_of p)
 
 traits_stay : (objects : List Payload) (x : Edit) (p : Payload) → traits_of (edited objects x p) ≡ traits_of p
-traits_stay objects x (payload.Exception e) = ap (λ (c : PyTypeRef). (None, false, Some c, false)) (class_stays x e)
+traits_stay objects x (payload.Exception e) = ap (λ (c : PyTypeRef). (None, false, Some c, false, None)) (class_stays x e)
 traits_stay objects x _ = refl
 
 traits_now : (made : List Payload) (cs : List Change) (v : Obj) (p found : Payload) → HasPayload made v p → slice_get (changed_by made cs) v.number ≡ Some found → traits_of found ≡ traits_of p
@@ -93,6 +95,15 @@ is_truth _ b is = cc
 pub manager_found : (made : List Payload) (cs : List Change) (v : Obj) (found : Payload) → ((p : Payload) × HasPayload made v p) → slice_get (changed_by made cs) v.number ≡ Some found
     → (p : Payload) × HasPayload made v p × (is_manager p ≡ is_manager found)
 manager_found made cs v found (p, has) here = (p, has, sym (ap (λ (t : Traits). t.1) (traits_now made cs v p found has here)))
+
+-- a function of the machine's own is found as it was made, and nothing else is one
+pub builtin_found : (made : List Payload) (cs : List Change) (v : Obj) (found : Payload) → ((p : Payload) × HasPayload made v p) → slice_get (changed_by made cs) v.number ≡ Some found
+    → (p : Payload) × HasPayload made v p × (builtin_of p ≡ builtin_of found)
+builtin_found made cs v found (p, has) here = (p, has, sym (ap (λ (t : Traits). t.4) (traits_now made cs v p found has here)))
+
+pub no_builtin : (p : Payload) → ((f : BuiltinFn) → p ≡ payload.Builtin f → ⊥) → builtin_of p ≡ None
+no_builtin (payload.Builtin f) not = absurd (not f refl)
+no_builtin _ not = refl
 
 -- an exception is found as one of its class
 pub class_found : (made : List Payload) (cs : List Change) (v : Obj) (e : ExceptionBody) (found : Payload) → HasPayload made v (payload.Exception e) → slice_get (changed_by made cs) v.number ≡ Some found → class_of found ≡ Some e.class

@@ -17,7 +17,7 @@ use Rattle.py_check.specs.declared.annotated.Annotated.{Annotated}
 use Rattle.py_check.specs.Depths.{deepest}
 use Rattle.py_rows.specs.declared.expect.Expect.{Expect}
 use Rattle.py_rows.specs.declared.expect.Expect.TheVariants as expect
-use Rattle.py_rows.specs.States.{Setting, State, Step, Goes, Tells, Stuck, Move, Plainly, Loads, Decides, Manages, Exits, begun}
+use Rattle.py_rows.specs.States.{Setting, State, Step, Goes, Tells, Stuck, Move, Plainly, Loads, Decides, Manages, Resolves, Exits, begun}
 use Rattle.py_rows.specs.Slot.{KeepsSlot}
 use Rattle.py_rows.specs.Receiving.{moves}
 use Rattle.py_rows.specs.RunOfRows.{started, MayLead, Steps, silent, telling, Runs, none, on}
@@ -40,7 +40,7 @@ use Rattle.py_frame.specs.declared.input.FrameStep.{FrameStep}
 use Rattle.py_frame.specs.declared.input.FrameStep.TheVariants as frame_step
 use Rattle.py_objects.proofs.GrowthLemmas.{length_grown}
 use Rattle.py_frame.proofs.MoreLemmas.{holds_more}
-use Rattle.py_frame.proofs.ManagerLemmas.{ManagerBelow, manager_there}
+use Rattle.py_frame.proofs.SeenLemmas.{SeenBelow, seen_there}
 
 pub same_joined : (f g h : Framed) → IsSame f g → IsSame g h → IsSame f h
 same_joined f g h x y = record {
@@ -137,17 +137,18 @@ module _ (names : List (List ℕ)) (code : Annotated) (sound : IsSound names cod
     step_done objects (Tells x t) fits = state_done objects t fits
     step_done objects Stuck fits = fits
 
-    move_done : (objects : List Payload) (m : Move) → ManagerBelow (length objects) m → ((objects' : List Payload) → Grows objects objects' → AlwaysLeads objects' (λ t. FitsAt objects' code t.wants t) m) → CanMove objects g m
+    move_done : (objects : List Payload) (m : Move) → SeenBelow (length objects) m → ((objects' : List Payload) → Grows objects objects' → AlwaysLeads objects' (λ t. FitsAt objects' code t.wants t) m) → CanMove objects g m
     move_done objects (Plainly step) there all = step_done objects step (all objects ([], sym (append-nil objects)))
     move_done objects (Loads p f) there all = λ objects' v grows has. step_done objects' (f v) (all objects' grows v has)
     move_done objects (Decides v f) there all = let here = all objects ([], sym (append-nil objects)) in (here.0, λ b. step_done objects (f b) (here.1 b))
     move_done objects (Manages m f) there all = ((_, slice_get-get_or objects m.number payload.None there), λ b. step_done objects (f b) (all objects ([], sym (append-nil objects)) b))
+    move_done objects (Resolves v f) there all = ((_, slice_get-get_or objects v.number payload.None there), λ p. step_done objects (f p) (all objects ([], sym (append-nil objects)) p))
     move_done objects (Exits e f) there all = let here = all objects ([], sym (append-nil objects)) in (here.0, λ t v b. step_done objects (f t v b) (here.1 t v b))
 
     -- a frame that goes on can do what it does next
     pub can_move : (objects : List Payload) → FitsAt objects code g.state.wants g.state → HoldsBelow (length objects) g.state → IsMoving g.state.wants → CanMove objects g (moves (setting_of names code g) g.state.wants g.state)
     can_move objects fits below moving =
-        move_done objects (moves (setting_of names code g) g.state.wants g.state) (manager_there (length objects) (setting_of names code g) g.state.wants g.state below.in_stack)
+        move_done objects (moves (setting_of names code g) g.state.wants g.state) (seen_there (length objects) (setting_of names code g) g.state.wants g.state below.in_stack)
         (λ objects' grows. next_fits objects' names g.scope.globals g.closure code sound g.state g.state.wants (fits_grown objects objects' grows code g.state.wants g.state fits) moving)
 
   never_stuck : (objects : List Payload) (P : State → Type 0) (m : Move) → AlwaysLeads objects P m → MayLead objects m Stuck → ⊥
@@ -155,6 +156,7 @@ module _ (names : List (List ℕ)) (code : Annotated) (sound : IsSound names cod
   never_stuck objects P (Loads p f) all (v, has, is) = subst (LeadsTo P) is (all v has)
   never_stuck objects P (Decides v f) all (b, has, is) = subst (LeadsTo P) is (all.1 b)
   never_stuck objects P (Manages m f) all (b, manages, is) = subst (LeadsTo P) is (all b)
+  never_stuck objects P (Resolves v f) all (p, has, is) = subst (LeadsTo P) is (all p)
   never_stuck objects P (Exits e f) all (t, v, b, exits, is) = subst (LeadsTo P) is (all.1 t v b)
 
   -- silent steps, and one more step of the same frame

@@ -1,24 +1,20 @@
 -- Steps that can be made.
 use Rattle.std.proofs.Common.{◌≡◌, ◌∙◌, ◌≤◌, ◌<◌, ℕ, zero, suc, List, [], ◌∷◌, ◌++◌, Bool, true, false, cond, refl, ap, subst, length, take, drop, reverse, arith}
-use Rattle.std.specs.Prelude.{Option, nat_lt, replicate}
-use Rattle.std.proofs.Math.ListN.{length-replicate}
+use Rattle.std.specs.Prelude.{nat_lt, ◌+◌, Option, None, Some, is_some}
 use Rattle.std.proofs.lemmas.List.{reverse-append}
+use Rattle.py_code.specs.declared.literal.Literal.{Literal}
 use Rattle.py_code.specs.declared.instruction.Instruction.{Instruction}
 use Rattle.py_code.specs.declared.instruction.Instruction.TheVariants.{WithCleanupFinish}
 use Rattle.py_objects.specs.declared.payload.Payload.{Payload}
-use Rattle.py_objects.specs.declared.request.Request.{Request}
-use Rattle.py_objects.specs.declared.request.Request.TheVariants.{Call}
-use Rattle.py_objects.specs.declared.request.Keywords.TheVariants as keywords
 use Rattle.py_objects.specs.Objects.{Obj}
 use Rattle.py_objects.specs.Own.{Rounds}
-use Rattle.py_check.specs.declared.note.Kind.TheVariants.{Any}
-use Rattle.py_rows.specs.States.{State, Step, Goes, Tells, landed, with_stack, jumps}
-use Rattle.py_rows.specs.Asked.{calls}
-use Rattle.py_rows.specs.Rows.{asks, asks_if, asks_once, reaches, takes_off, where_there}
+use Rattle.py_objects.specs.Callees.{call_request}
+use Rattle.py_rows.specs.States.{State, Step, Goes, Tells, Resolves, landed, with_stack, jumps}
+use Rattle.py_rows.specs.Rows.{asks, reaches, calls, call_function, loads, or_stuck, payload_of, takes_off, where_there}
 use Rattle.py_rows.specs.Receiving.{answered, entered, enters, enters_top, passes_if}
 use Rattle.py_rows.specs.Laws.{LeadsTo, IsWithin}
 use Rattle.py_frame.specs.Frames.{Framed}
-use Rattle.py_frame.specs.UnitSteps.{CanDo, CanMove}
+use Rattle.py_frame.specs.UnitSteps.{CanDo, CanMove, IsLoaded}
 
 -- where a transfer can be made
 pub safe_jump : (max depth to : ℕ) (s : State) → LeadsTo (IsWithin max depth) (jumps to s) → IsWithin max depth s
@@ -37,11 +33,22 @@ there_is : (P : State → Type 0) (b : Bool) (step : Step) → LeadsTo P (where_
 there_is P true step safe = refl
 there_is P false step safe = absurd safe
 
+-- a constant of which an object is loaded is one of which it can be made
+pub can_load : (objects : List Payload) (f : Framed) (o : Option Literal) (k : Obj → Step) → CanMove objects f (loads o k) → IsLoaded o
+can_load objects f None k can = absurd can
+can_load objects f (Some l) k can = by_payload (payload_of l) can
+  where
+    by_payload : (p : Option Payload) → CanMove objects f (or_stuck p k) → is_some p ≡ true
+    by_payload None can = absurd can
+    by_payload (Some p) can = refl
+
 -- a call finds its callee under its arguments
-pub call_there : (max depth k : ℕ) (f : List Obj → Option Request) (s : State) → LeadsTo (IsWithin max depth) (asks_once (length (replicate (suc k) Any)) f s) → k < length s.stack
-call_there max depth k f s safe =
-    let more = reach_there (length (replicate (suc k) Any)) s.stack (there_is (IsWithin max depth) (reaches (length (replicate (suc k) Any)) s.stack) _ safe) in
-    omega (arith, more, length-replicate (suc k) Any)
+pub call_there : (objects : List Payload) (g : Framed) (k : ℕ) (s : State) → CanMove objects g (call_function k s) → k < length s.stack
+call_there objects g k s can = omega (arith, reach_there (suc k) s.stack (by_values (reverse (take (suc k) s.stack)) (reaches (suc k) s.stack) (with_stack (drop (suc k) s.stack) s) can))
+  where
+    by_values : (vs : List Obj) (there : Bool) (t : State) → CanMove objects g (calls vs there t) → there ≡ true
+    by_values [] there t can = absurd can
+    by_values (f ∷ args) there t can = there_is (IsWithin (length g.state.stack + g.room) (length g.state.blocks + g.block_room)) there (asks (call_request can.0.0 f args) t) (can.1 can.0.0)
 
 one_more : (k : ℕ) (stack : List Obj) (f : Obj) (under : List Obj) → drop k stack ≡ f ∷ under → take (suc k) stack ≡ take k stack ++ (f ∷ [])
 one_more zero [] f under is = cc
@@ -55,16 +62,15 @@ one_less zero (v ∷ stack) f under is = (cc, refl)
 one_less (suc k) [] f under is = cc
 one_less (suc k) (v ∷ stack) f under is = one_less k stack f under is
 
--- what it asks
+-- what it goes by, and asks
 pub call_row : (k : ℕ) (s : State) (f : Obj) (under : List Obj) → drop k s.stack ≡ f ∷ under
-    → asks_once (length (replicate (suc k) Any)) (λ vs. calls (reverse vs)) s ≡ asks (Call f (reverse (take k s.stack)) keywords.None) (with_stack under s)
+    → call_function k s ≡ Resolves f (λ (p : Payload). asks (call_request p f (reverse (take k s.stack))) (with_stack under s))
 call_row k s f under is =
-    let count : length (replicate (suc k) Any) ≡ suc k = length-replicate (suc k) Any in
     let args : reverse (take (suc k) s.stack) ≡ f ∷ reverse (take k s.stack) = ap reverse (one_more k s.stack f under is) ∙ reverse-append (take k s.stack) (f ∷ []) in
     let less = one_less k s.stack f under is in
-    ap (λ (n : ℕ). asks_once n (λ vs. calls (reverse vs)) s) count
-    ∙ ap (λ (b : Bool). where_there b (asks_if (calls (reverse (take (suc k) s.stack))) (with_stack (drop (suc k) s.stack) s))) less.1
-    ∙ ap (λ (vs : List Obj). asks_if (calls vs) (with_stack (drop (suc k) s.stack) s)) args ∙ ap (λ (vs : List Obj). asks (Call f (reverse (take k s.stack)) keywords.None) (with_stack vs s)) less.0
+    ap (λ (b : Bool). calls (reverse (take (suc k) s.stack)) b (with_stack (drop (suc k) s.stack) s)) less.1
+    ∙ ap (λ (vs : List Obj). calls vs true (with_stack (drop (suc k) s.stack) s)) args
+    ∙ ap (λ (vs : List Obj). Resolves f (λ (p : Payload). asks (call_request p f (reverse (take k s.stack))) (with_stack vs s))) less.0
 
 -- what is entered is the top, and this is the first answer
 pub can_enter : (objects : List Payload) (f : Framed) (n to : ℕ) (v : Obj) → CanMove objects f (enters n to v f.state) → CanDo f (entered to v f.state)

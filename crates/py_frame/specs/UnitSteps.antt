@@ -1,5 +1,5 @@
 -- What a unit did, as its row says it.
-use Rattle.std.specs.Prelude.{ℕ, ◌+◌, ◌≡◌, Bool, true, Option, None, Some, List, [], ◌∷◌, length}
+use Rattle.std.specs.Prelude.{ℕ, ◌+◌, ◌≡◌, Bool, true, Option, None, Some, is_some, List, [], ◌∷◌, length}
 use Rattle.py_code.specs.declared.literal.Literal.{Literal}
 use Rattle.py_objects.specs.declared.payload.Payload.{Payload}
 use Rattle.py_objects.specs.declared.payload.Payload.TheVariants as payload
@@ -8,10 +8,9 @@ use Rattle.py_objects.specs.Growth.{Grows}
 use Rattle.py_objects.specs.Own.{Own}
 use Rattle.py_objects.specs.declared.request.Request.{Request}
 use Rattle.py_check.specs.Effects.{Effect, Moves, AsksOnce, Other}
-use Rattle.py_check.specs.Constants.{is_loaded}
 use Rattle.py_rows.specs.declared.block.Block.{Block}
 use Rattle.py_rows.specs.declared.block.UnwindReason.{UnwindReason}
-use Rattle.py_rows.specs.States.{State, Step, Goes, Tells, Stuck, Move, Plainly, Loads, Decides, Manages, Exits}
+use Rattle.py_rows.specs.States.{State, Step, Goes, Tells, Stuck, Move, Plainly, Loads, Decides, Manages, Resolves, Exits}
 use Rattle.py_rows.specs.Unwinding.{unwind}
 use Rattle.py_rows.specs.Rows.{payload_of, moves_entries, asks_once}
 use Rattle.py_rows.specs.RunOfRows.{MayLead}
@@ -32,6 +31,7 @@ CanMove objects f (Plainly step) = CanDo f step
 CanMove objects f (Loads p g) = (objects' : List Payload) (v : Obj) → Grows objects objects' → HasPayload objects' v p → CanDo f (g v)
 CanMove objects f (Decides v g) = ((b : Bool) × HasPayload objects v (payload.Bool b)) × ((b : Bool) → CanDo f (g b))
 CanMove objects f (Manages m g) = ((p : Payload) × HasPayload objects m p) × ((b : Bool) → CanDo f (g b))
+CanMove objects f (Resolves v g) = ((p : Payload) × HasPayload objects v p) × ((p : Payload) → CanDo f (g p))
 CanMove objects f (Exits e g) = RaisedThere objects e × ((t v b : Obj) → CanDo f (g t v b))
 
 -- an event that is told, as a step; it has to be one
@@ -85,7 +85,7 @@ abbrev pub IsConstant : List Payload → Option Literal → Obj → Type 0
 IsConstant objects None v = ⊥
 IsConstant objects (Some l) v = HasIf objects (payload_of l) v
 
--- a constant that is there and loaded so far
+-- a constant that is there, and of which an object can be made so far
 abbrev pub IsLoaded : Option Literal → Type 0
 IsLoaded None = ⊥
-IsLoaded (Some l) = is_loaded l ≡ true
+IsLoaded (Some l) = is_some (payload_of l) ≡ true

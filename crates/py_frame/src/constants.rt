@@ -1,9 +1,8 @@
 //! Instructions that load constants.
 
-ghost use Rattle.std.specs.Prelude.{◌≡◌, ◌+◌, ◌^◌, ◌<◌, slice_get, Some, true, IfOk, OnErr};
+ghost use Rattle.std.specs.Prelude.{◌≡◌, ◌+◌, ◌^◌, ◌<◌, slice_get, Some, is_some, true, IfOk, OnErr};
 ghost use Rattle.py_code.specs.Literals.{literals_of};
 ghost use Rattle.py_objects.specs.Growth.{GrowsPlainly};
-ghost use Rattle.py_check.specs.Constants.{is_loaded};
 ghost use Rattle.py_rows.specs.States.{Goes, next, pushed};
 ghost use Rattle.py_rows.specs.Unwinding.{unwinds};
 ghost use Rattle.py_rows.specs.Rows.{loads, payload_of};
@@ -83,7 +82,7 @@ fn load(
 
 /// A new object of this constant's payload.
 fn add(alloc: Global, store: &mut Store, literal: &Literal) -> Result<PyObjectRef, NoMemory>
-    requires { is_loaded literal.now ≡ true }
+    requires { is_some (payload_of literal.now) ≡ true }
     ensures constant { IfOk result (λ object. IsConstant store.new.made (Some literal.now) object) }
     ensures objects { GrowsPlainly store.old.made store.new.made }
     ensures unchanged { store.new ≡ record store.old { made = store.new.made } }
@@ -94,7 +93,7 @@ fn add(alloc: Global, store: &mut Store, literal: &Literal) -> Result<PyObjectRe
 
 /// What an object of a constant is. Its text is a copy.
 fn payload_of(alloc: Global, literal: &Literal) -> Result<Payload, NoMemory>
-    requires { is_loaded literal.now ≡ true }
+    requires { is_some (payload_of literal.now) ≡ true }
     ensures { IfOk result (λ payload. payload_of literal.now ≡ Some payload) }
 {
     match literal {
@@ -102,8 +101,8 @@ fn payload_of(alloc: Global, literal: &Literal) -> Result<Payload, NoMemory>
         Literal::Bool(truth) => Ok(Payload::Bool(*truth)),
         Literal::Int(number) => Ok(Payload::Int(*number)),
         Literal::Str(text) => Ok(Payload::Str(text.copy(alloc)?)),
+        Literal::Builtin(function) => Ok(Payload::Builtin(*function)),
         Literal::Tuple(_) => unreachable!(),
         Literal::Code(_) => unreachable!(),
-        Literal::Builtin(_) => unreachable!(),
     }
 }

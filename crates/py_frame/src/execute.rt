@@ -66,6 +66,9 @@ impl FrameCore {
             Instruction::LoadFast => self.load_fast(stack, alloc, code, names, arg as usize),
             Instruction::StoreFast => Ok(self.store_fast(stack, arg as usize)),
             Instruction::DeleteFast => self.delete_fast(stack, alloc, code, names, arg as usize),
+            Instruction::CallFunctionPositional => {
+                self.call_function(stack, alloc, store, arg as usize)
+            }
             Instruction::Jump => Ok(self.transfers(stack, arg)),
             Instruction::JumpIfTrue | Instruction::JumpIfFalse => Ok(self.asks_truth(stack)),
             Instruction::SetupLoop => Ok(self.setup_loop(stack)),
@@ -96,7 +99,6 @@ impl FrameCore {
             | Instruction::BinaryOperation
             | Instruction::CompareOperation
             | Instruction::TestOperation
-            | Instruction::CallFunctionPositional
             | Instruction::PrintExpr => self.ask_once(stack, alloc, code, names, op, arg),
             _ => unreachable!(),
         }

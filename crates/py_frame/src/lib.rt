@@ -3,6 +3,7 @@
 
 mod answering;
 mod blocks;
+mod calls;
 mod cleanup;
 mod constants;
 mod execute;

@@ -5,11 +5,12 @@ ghost use Rattle.py_code.specs.declared.literal.Literal.{Literal as LiteralOf};
 ghost use Rattle.py_objects.specs.declared.payload.Payload.{Payload as PayloadOf};
 ghost use Rattle.py_objects.specs.declared.payload.Payload.TheVariants as payload;
 ghost use Rattle.py_objects.specs.Objects.{HasPayload, IsTraceback, as_exception, as_object};
+ghost use Rattle.py_objects.specs.Callees.{builtin_of};
 ghost use Rattle.py_objects.specs.Growth.{GrowsPlainly};
 ghost use Rattle.py_rows.specs.Rows.{payload_of};
 ghost use Rattle.py_rows.specs.RunOfRows.{is_manager};
 
-use py_code::NoMemory;
+use py_code::{BuiltinFn, NoMemory};
 use py_objects::{Payload, PyBaseExceptionRef, PyObjectRef, Store};
 
 /// An exception as an object.
@@ -47,6 +48,17 @@ pub(crate) fn is_manager(store: &Store, value: PyObjectRef) -> bool
     ensures { (p : PayloadOf) × HasPayload store.now.made value p × (is_manager p ≡ result) }
 {
     matches!(store.get(value), Payload::Manager(_))
+}
+
+/// Which function of the machine's own an object is, if any.
+pub(crate) fn builtin(store: &Store, value: PyObjectRef) -> Option<BuiltinFn>
+    requires { (p : PayloadOf) × HasPayload store.now.made value p }
+    ensures { (p : PayloadOf) × HasPayload store.now.made value p × (builtin_of p ≡ result) }
+{
+    match store.get(value) {
+        Payload::Builtin(function) => Some(*function),
+        _ => None,
+    }
 }
 
 /// Whether an object is there and a traceback.

@@ -1,23 +1,22 @@
 //! Instructions that the table of effects describes.
 
-ghost use Rattle.std.specs.Prelude.{◌≡◌, ◌+◌, ◌^◌, ◌<◌, length, reverse, slice_get, Some, true, IfOk, OnOk, OnErr};
-ghost use Rattle.py_code.specs.declared.instruction.Instruction.TheVariants as instruction;
+ghost use Rattle.std.specs.Prelude.{◌≡◌, ◌+◌, ◌^◌, ◌<◌, length, slice_get, Some, true, IfOk, OnOk, OnErr};
 ghost use Rattle.py_code.specs.Operators.{test_operators};
 ghost use Rattle.py_check.specs.Effects.{effect};
-ghost use Rattle.py_rows.specs.Asked.{asked, calls, name_in, on_two, tests};
+ghost use Rattle.py_rows.specs.Asked.{asked, name_in, on_two, tests};
 ghost use Rattle.py_rows.specs.States.{with_stack};
 ghost use Rattle.py_rows.specs.Rows.{asks, asks_once, is_there};
 ghost use Rattle.py_frame.specs.Frames.{over, setting_in};
 ghost use Rattle.py_frame.specs.UnitSteps.{CanDo, Does, asks_by, moves_by};
 
 use crate::frame_core::FrameCore;
-use crate::stacks::{pop_many, pop_two};
+use crate::stacks::pop_two;
 use crate::unit_step::UnitStep;
 use py_code::{
     BinaryOperator, ComparisonOperator, Instruction, Names, NoMemory, PyCode, PyText, TestOperator,
     text_of_str,
 };
-use py_objects::{Keywords, Request};
+use py_objects::Request;
 use py_stack::ValueStack;
 use std::alloc::Global;
 
@@ -113,7 +112,6 @@ impl FrameCore {
                 Ok(Request::Compare(operator, left, right))
             }
             Instruction::TestOperation => Ok(self.test_request(stack, arg)),
-            Instruction::CallFunctionPositional => self.call_request(stack, alloc, arg as usize),
             Instruction::PrintExpr => Ok(Request::Show(stack.pop())),
             _ => unreachable!(),
         }
@@ -133,24 +131,6 @@ impl FrameCore {
             TestOperator::ExceptionMatch => Request::Match(left, right),
             _ => unreachable!(),
         }
-    }
-
-    /// A call with the top `count` values in order, whose callee lies under them.
-    fn call_request<S: ValueStack>(
-        &self,
-        stack: &mut S,
-        alloc: Global,
-        count: usize,
-    ) -> Result<Request, NoMemory>
-        requires safe { let f = over self.now (S.list stack.old) (S.room stack.old) in CanDo f (asks_by (effect instruction.CallFunctionPositional count) (λ vs. calls (reverse vs)) f.state) }
-        ensures request { IfOk result (λ request. asks_by (effect instruction.CallFunctionPositional count) (λ vs. calls (reverse vs)) (with_stack (S.list stack.old) self.now.state) ≡ asks request (with_stack (S.list stack.new) self.now.state)) }
-        ensures places { OnOk result (length (S.list stack.new) + S.room stack.new ≡ length (S.list stack.old) + S.room stack.old) }
-        ensures err_list { OnErr result (S.list stack.new ≡ S.list stack.old) }
-        ensures err_room { OnErr result (S.room stack.new ≡ S.room stack.old) }
-    {
-        let arguments = pop_many(stack, alloc, count)?;
-        let callee = stack.pop();
-        Ok(Request::Call(callee, arguments, Keywords::None))
     }
 }
 

@@ -1,13 +1,13 @@
 -- A frame that fits its note isn't stuck, and fits behind the unit that runs.
-use Rattle.std.proofs.Common.{◌≡◌, ◌∙◌, ◌+◌, ◌-◌, ◌<◌, ◌≤◌, ℕ, suc, List, [], ◌∷◌, ◌++◌, Bool, Option, None, Some, true, false, ◌&&◌, ◌⊎◌, inl, inr, refl, sym, ap, subst, length, take, drop, length-drop, arith}
-use Rattle.std.specs.Prelude.{slice_get, slice_set, nat_lt, nat_le, option_map, ◌==◌}
+use Rattle.std.proofs.Common.{◌≡◌, ◌∙◌, ◌+◌, ◌-◌, ◌<◌, ◌≤◌, ℕ, suc, List, [], ◌∷◌, ◌++◌, Bool, Option, None, Some, true, false, ◌&&◌, ◌⊎◌, inl, inr, refl, sym, ap, subst, length, reverse, take, drop, length-drop, arith}
+use Rattle.std.specs.Prelude.{slice_get, slice_set, nat_lt, nat_le, option_map, replicate, ◌==◌}
 use Rattle.std.specs.List.{list_all}
 use Rattle.std.proofs.Math.ListN.{length-set}
 use Rattle.std.proofs.lemmas.Bool.{and_parts, le-leb, and_from, eqb-true, eq-eqb, ltb-true, leb-true}
-use Rattle.std.proofs.lemmas.List.{length-take-le}
+use Rattle.std.proofs.lemmas.List.{length-take-le, length-reverse}
 use Rattle.py_code.specs.declared.unit.CodeUnit.{CodeUnit}
 use Rattle.py_code.specs.declared.instruction.Instruction.{Instruction}
-use Rattle.py_code.specs.declared.instruction.Instruction.TheVariants.{LoadConst, LoadFast, StoreFast, DeleteFast, Jump, JumpIfTrue, JumpIfFalse, SetupLoop, SetupExcept, SetupFinally, EnterFinally, EndFinally, SetupWith, WithCleanupStart, WithCleanupFinish, PopBlock, PopException, Raise, Break, Continue, ReturnValue, ReturnConst, YieldValue, ExtendedArg}
+use Rattle.py_code.specs.declared.instruction.Instruction.TheVariants.{LoadConst, LoadFast, StoreFast, DeleteFast, CallFunctionPositional, Jump, JumpIfTrue, JumpIfFalse, SetupLoop, SetupExcept, SetupFinally, EnterFinally, EndFinally, SetupWith, WithCleanupStart, WithCleanupFinish, PopBlock, PopException, Raise, Break, Continue, ReturnValue, ReturnConst, YieldValue, ExtendedArg}
 use Rattle.py_code.specs.declared.literal.Literal.{Literal, None as NoneLiteral, Bool as BoolLiteral, Int as IntLiteral, Str as StrLiteral, Tuple' as TupleLiteral, Code as CodeLiteral, Builtin as BuiltinLiteral}
 use Rattle.py_code.specs.declared.operator.RaiseKind.{RaiseKind}
 use Rattle.py_code.specs.declared.operator.RaiseKind.TheVariants as raise
@@ -20,6 +20,7 @@ use Rattle.py_objects.specs.declared.payload.Payload.TheVariants as payload
 use Rattle.py_objects.specs.declared.request.Request.{Request}
 use Rattle.py_objects.specs.declared.request.Request.TheVariants as request
 use Rattle.py_objects.specs.Objects.{Obj, Name, HasPayload, as_object}
+use Rattle.py_objects.specs.Callees.{call_request}
 use Rattle.py_check.specs.declared.note.Kind.{Kind}
 use Rattle.py_check.specs.declared.note.Kind.TheVariants as kind
 use Rattle.py_check.specs.declared.note.Note.TheVariants.{Live}
@@ -31,7 +32,7 @@ use Rattle.py_check.specs.Constants.{kind_of, is_loaded}
 use Rattle.py_check.specs.Notes.{kind_fits, block_number, level_of, pending_of}
 use Rattle.py_check.specs.Operands.{carried, is_label, prefixes}
 use Rattle.py_check.specs.Effects.{Effect, Moves, AsksOnce, Other, effect, has_operand}
-use Rattle.py_rows.specs.Rows.{is_there, reaches, payload_of, or_stuck, loads, asks, asks_if, takes_off, where_there, acts_by, load_fast, delete_fast, if_popped, pop_block, pop_type, pop_exception, finally_type, in_finally, goes_on as goes_on_with, end_finally, raised_by, raised_of, raised_in, asks_exit, finishes, finish_cleanup, raises, act_own, act}
+use Rattle.py_rows.specs.Rows.{is_there, reaches, payload_of, or_stuck, loads, asks, asks_if, takes_off, where_there, acts_by, load_fast, delete_fast, if_popped, pop_block, pop_type, pop_exception, finally_type, in_finally, goes_on as goes_on_with, end_finally, raised_by, raised_of, raised_in, asks_exit, finishes, finish_cleanup, raises, calls, call_function, act_own, act}
 use Rattle.py_check.specs.Sheet.{Sheet, sheet_of}
 use Rattle.py_check.specs.Landing.{top_level, has_room, lands, goes_on, jumps as may_jump, handlers_land}
 use Rattle.py_code.specs.Bottom.{bottom}
@@ -66,8 +67,8 @@ use Rattle.py_rows.proofs.TypingLemmas.{prefix_carried}
 use Rattle.py_rows.proofs.LandingLemmas.{Fits, StepFits, arrived, on_fits, may_jumped}
 use Rattle.py_rows.proofs.BehindLemmas.{arrives_behind, fits_behind}
 use Rattle.py_rows.proofs.UnwindingLemmas.{leaves, leaves_with}
-use Rattle.py_rows.proofs.TakingLemmas.{bottom-cons, bottom-drop, handlers_same, reached, places_there, takes_rest, has_under, off, EndsExit, ends_exit}
-use Rattle.py_rows.proofs.AskingLemmas.{unit_asks, raise_is, got_there, Wants, AsksAs, named, asked_there}
+use Rattle.py_rows.proofs.TakingLemmas.{bottom-cons, bottom-drop, handlers_same, reached, places_there, takes_rest, takes_any, has_under, off, EndsExit, ends_exit}
+use Rattle.py_rows.proofs.AskingLemmas.{unit_asks, raise_is, got_there, Wants, AsksAs, named, asked_there, call_asked}
 
 -- a loaded constant has a payload, and an object of it is of the constant's kind
 literal_kind : (objects : List Payload) (l : Literal) → is_loaded l ≡ true → (p : Payload) × (payload_of l ≡ Some p) × ((v : Obj) → HasPayload objects v p → HasKind objects v (kind_of l))
@@ -77,7 +78,7 @@ literal_kind objects (IntLiteral n) loaded = (payload.Int n, refl, λ v has. tt)
 literal_kind objects (StrLiteral s) loaded = (payload.Str s, refl, λ v has. (s, has))
 literal_kind objects (TupleLiteral shape items) loaded = cc
 literal_kind objects (CodeLiteral c) loaded = cc
-literal_kind objects (BuiltinLiteral f) loaded = cc
+literal_kind objects (BuiltinLiteral f) loaded = (payload.Builtin f, refl, λ v has. tt)
 
 pub where_true : (P : Step → Type 0) (b : Bool) (step : Step) → b ≡ true → P step → P (where_there b step)
 where_true P true step is led = led
@@ -394,6 +395,24 @@ module _ (objects : List Payload) (names : List (List ℕ)) (globals : Obj) (clo
       (λ c vs has' keeps count holds.
       (may_be_asked Raise is_op (request.Cause c) (may_be_raised i raise.RaiseCause (request.Cause c) operand here refl), waits_but Raise i is_op operand want.ExceptionOrNone (drop 1 kinds) blocks want.ExceptionOrNone vs s.blocks s.slot (expect.Answer want.ExceptionOrNone) (ap (λ k. raise_left k 0 kinds blocks) here) (λ o v is. is) has'))
 
+  -- a call takes its callee and its arguments
+  calls_fit : (k : ℕ) → unit.op ≡ CallFunctionPositional → with_byte s.prefix unit.arg ≡ k → (vs : List Obj) → 1 ≤ length vs → (there : Bool) → there ≡ true → Has objects code (drop (suc k) kinds) blocks (with_stack (drop (suc k) s.stack) s)
+      → Always objects (StepFits objects code) (calls vs there (with_stack (drop (suc k) s.stack) s))
+  calls_fit k is_op operand [] some there is has' = absurd (omega (arith, some))
+  calls_fit k is_op operand (f ∷ args) some there is has' =
+      λ p. where_true (StepFits objects code) there _ is (
+        may_be_asked CallFunctionPositional is_op (call_request p f args) (call_asked p f args unit.arg),
+        waits_but CallFunctionPositional k is_op operand (answers.wanted (call_request p f args)) (drop (suc k) kinds) blocks (want.Of kind.Any) (drop (suc k) s.stack) s.blocks s.slot (expect.Answer (answers.wanted (call_request p f args))) refl (λ o v is. tt) has',
+      )
+
+  call_fits : (k : ℕ) → unit.op ≡ CallFunctionPositional → with_byte s.prefix unit.arg ≡ k → takes (replicate (suc k) kind.Any) kinds blocks (λ rest. goes_with (kind.Any ∷ rest) blocks) ≡ true
+      → Always objects (StepFits objects code) (call_function k s)
+  call_fits k is_op operand keeps =
+      let below = takes_any (suc k) kinds blocks (λ rest. goes_with (kind.Any ∷ rest) blocks) keeps in
+      let enough : suc k ≤ length s.stack = omega (arith, kinds_counted objects s.stack kinds has.holds, below.2) in
+      let some : 1 ≤ length (reverse (take (suc k) s.stack)) = omega (arith, length-reverse (take (suc k) s.stack), length-take-le (suc k) s.stack enough) in
+      calls_fit k is_op operand (reverse (take (suc k) s.stack)) some (reaches (suc k) s.stack) (reached (suc k) s.stack enough) (has_under objects code (suc k) kinds blocks s below.1 has)
+
   -- an instruction that isn't in the table leads to frames that fit
   own_fits : (op : Instruction) (i : ℕ) → unit.op ≡ op → with_byte s.prefix unit.arg ≡ i → keeps_own (sheet_of code) s.at op i kinds blocks ≡ true
       → Always objects (StepFits objects code) (act_own (record { code = code.code; names = names; globals = globals; closure = closure }) op i s)
@@ -411,6 +430,7 @@ module _ (objects : List Payload) (names : List (List ℕ)) (globals : Obj) (clo
   own_fits DeleteFast i is_op operand keeps =
       let parts = and_parts (nat_lt i (length code.code.code.varnames.items)) (goes_with kinds blocks) keeps in
       delete_fast_fits i is_op operand parts.0 parts.1 (slice_get s.locals i) refl
+  own_fits CallFunctionPositional k is_op operand keeps = call_fits k is_op operand keeps
   own_fits Jump to is_op operand keeps = may_jumped objects code to kinds blocks s goes keeps has.holds has.blocks has.locals
   own_fits JumpIfTrue to is_op operand keeps =
       off objects code kinds blocks (λ rest. may_jump (sheet_of code) to rest blocks && goes_with rest blocks) s (StepFits objects code) _ keeps has
@@ -447,7 +467,7 @@ module _ (objects : List Payload) (names : List (List ℕ)) (globals : Obj) (clo
   own_fits YieldValue i is_op operand keeps =
       let parts = and_parts (is_generator code.code.code.flags) (takes_top kinds blocks (λ rest. goes_with (kind.Any ∷ rest) blocks)) keeps in
       off objects code kinds blocks (λ rest. goes_with (kind.Any ∷ rest) blocks) s (StepFits objects code) _ parts.1 has
-      (λ v vs has' may count holds. (subst UnitYields (sym is) is_op, waits_but YieldValue i is_op operand (want.Of kind.Any) (drop 1 kinds) blocks (want.Of kind.Any) vs s.blocks s.slot expect.Resume refl (λ o v is. is) has'))
+      (λ v vs has' may count holds. ((subst UnitYields (sym is) is_op, parts.0), waits_but YieldValue i is_op operand (want.Of kind.Any) (drop 1 kinds) blocks (want.Of kind.Any) vs s.blocks s.slot expect.Resume refl (λ o v is. is) has'))
   own_fits ExtendedArg i is_op operand keeps =
       let parts = and_parts (nat_lt (prefixes code.code.code.instructions.items s.at) 3) (goes_with kinds blocks) keeps in
       let t : State = record (next s) { prefix = i } in

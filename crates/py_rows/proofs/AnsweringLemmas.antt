@@ -4,7 +4,7 @@ use Rattle.std.specs.Prelude.{slice_get, nat_lt, ◌==◌}
 use Rattle.std.proofs.lemmas.Bool.{and_parts}
 use Rattle.py_code.specs.declared.unit.CodeUnit.{CodeUnit}
 use Rattle.py_code.specs.declared.instruction.Instruction.{Instruction}
-use Rattle.py_code.specs.declared.instruction.Instruction.TheVariants.{LoadFast, DeleteFast, JumpIfTrue, JumpIfFalse, SetupWith, WithCleanupStart, WithCleanupFinish, Raise, YieldValue}
+use Rattle.py_code.specs.declared.instruction.Instruction.TheVariants.{LoadFast, DeleteFast, CallFunctionPositional, JumpIfTrue, JumpIfFalse, SetupWith, WithCleanupStart, WithCleanupFinish, Raise, YieldValue}
 use Rattle.py_code.specs.declared.operator.RaiseKind.{RaiseKind}
 use Rattle.py_code.specs.declared.operator.RaiseKind.TheVariants as raise
 use Rattle.py_code.specs.Operators.{raise_kinds}
@@ -44,7 +44,7 @@ use Rattle.py_rows.proofs.KindLemmas.{kinds_counted}
 use Rattle.py_rows.proofs.LandingLemmas.{Fits, StepFits, may_jumped}
 use Rattle.py_rows.proofs.BehindLemmas.{fits_behind}
 use Rattle.py_rows.proofs.UnwindingLemmas.{leaves, leaves_with}
-use Rattle.py_rows.proofs.TakingLemmas.{off, bottom-cons, handlers_same, takes_rest, ends_exit}
+use Rattle.py_rows.proofs.TakingLemmas.{off, bottom-cons, handlers_same, takes_rest, takes_any, ends_exit}
 use Rattle.py_rows.proofs.AskingLemmas.{unit_asks, raise_is}
 use Rattle.py_rows.proofs.ActingLemmas.{second_taken, drop_two, other_or_plain, listed_asks}
 
@@ -164,6 +164,9 @@ module _ (objects : List Payload) (code : Annotated) (s : State) (kinds : List K
   own_answered : (op : Instruction) (i : ℕ) (v : Obj) → unit.op ≡ op → with_byte s.prefix unit.arg ≡ i → keeps_own (sheet_of code) s.at op i kinds blocks ≡ true → Given v (left_own op i s.phase kinds blocks) → Always objects (StepFits objects code) (answered_own op i v s)
   own_answered LoadFast i v is_op operand keeps given = absurd given.1
   own_answered DeleteFast i v is_op operand keeps given = absurd given.1
+  own_answered CallFunctionPositional k v is_op operand keeps given =
+      let rest = takes_any (suc k) kinds blocks (λ rest. goes_with (kind.Any ∷ rest) blocks) keeps in
+      goes_behind (ap is_prefix is_op) (kind.Any ∷ drop (suc k) kinds) blocks (v ∷ s.stack) s.blocks rest.0 (tt, given.0.holds) given.0.blocks given.0.locals
   own_answered JumpIfTrue to v is_op operand keeps given = (given.1, λ b. ways_fit (ap is_prefix is_op) to keeps given.0 b)
   own_answered JumpIfFalse to v is_op operand keeps given = (given.1, λ b. ways_fit (ap is_prefix is_op) to keeps given.0 (not b))
   own_answered SetupWith to v is_op operand keeps given = enters_fit to v s.phase is_op operand keeps given

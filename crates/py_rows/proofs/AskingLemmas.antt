@@ -1,10 +1,8 @@
 -- What instructions ask of the operands that they take is there, and wants what the table of effects says.
-use Rattle.std.proofs.Common.{◌≡◌, ◌∙◌, ◌<◌, ℕ, zero, suc, List, [], ◌∷◌, Option, None, Some, Bool, true, false, cond, ◌⊎◌, inl, inr, ⊎_elim, subst, refl, sym, ap, length, reverse, arith}
-use Rattle.std.proofs.lemmas.List.{length-reverse}
-use Rattle.std.specs.Prelude.{◌%◌, slice_get, nat_lt, option_map, chars, replicate}
+use Rattle.std.proofs.Common.{◌≡◌, ◌∙◌, ◌<◌, ℕ, zero, suc, List, [], ◌∷◌, Option, None, Some, Bool, true, false, cond, ◌⊎◌, inl, inr, ⊎_elim, subst, refl, sym, ap, length, arith}
+use Rattle.std.specs.Prelude.{◌%◌, slice_get, nat_lt, option_map, chars}
 use Rattle.std.proofs.lemmas.Bool.{both_ways, cases_lt, le-ltb}
 use Rattle.std.proofs.lemmas.Option.{slice_get_within}
-use Rattle.std.proofs.Math.ListN.{length-replicate}
 use Rattle.py_code.specs.declared.unit.CodeUnit.{CodeUnit}
 use Rattle.py_code.specs.declared.instruction.Instruction.{Instruction}
 use Rattle.py_code.specs.declared.instruction.Instruction.TheVariants.{LoadGlobal, BinaryOperation, CompareOperation, TestOperation, CallFunctionPositional, PrintExpr}
@@ -12,20 +10,24 @@ use Rattle.py_code.specs.declared.operator.TestOperator.{TestOperator}
 use Rattle.py_code.specs.declared.operator.TestOperator.TheVariants as test
 use Rattle.py_code.specs.declared.operator.BinaryOperator.{BinaryOperator}
 use Rattle.py_code.specs.declared.operator.ComparisonOperator.{ComparisonOperator}
-use Rattle.py_rows.specs.Asked.{name_of_global, asked_operator, asked_comparison, name_in, on_none, on_one, on_two, calls, tests, asked}
+use Rattle.py_rows.specs.Asked.{name_of_global, asked_operator, asked_comparison, name_in, on_none, on_one, on_two, tests, asked}
 use Rattle.py_code.specs.declared.names.NameId.{NameId}
 use Rattle.py_code.specs.declared.operator.RaiseKind.{RaiseKind}
 use Rattle.py_code.specs.Operators.{binary_operators, comparison_operators, test_operators, raise_kinds}
 use Rattle.py_code.specs.Units.{with_byte}
 use Rattle.py_objects.specs.declared.request.Request.{Request}
+use Rattle.py_objects.specs.declared.payload.Payload.{Payload}
 use Rattle.py_objects.specs.Objects.{Obj, Name, AllBelow, numbers, request_numbers}
+use Rattle.py_objects.specs.Callees.{send_request, throw_request, close_request, builtin_of, own_request, or_call, call_request}
+use Rattle.py_code.specs.declared.literal.BuiltinFn.{BuiltinFn}
+use Rattle.py_code.specs.declared.literal.BuiltinFn.TheVariants as builtin
 use Rattle.py_check.specs.declared.note.Kind.{Kind}
 use Rattle.py_check.specs.declared.note.Kind.TheVariants as kind
 use Rattle.py_check.specs.declared.annotated.Annotated.{Annotated}
 use Rattle.py_check.specs.Effects.{Effect, Moves, AsksOnce, Other, effect, is_tested, has_operand, asks_operator, asks_comparison, is_asked, is_compared}
 use Rattle.py_check.specs.Sheet.{Sheet, sheet_of}
 use Rattle.py_rows.specs.States.{Setting}
-use Rattle.py_rows.proofs.BelowLemmas.{joined_below, reverse_below}
+use Rattle.py_rows.proofs.BelowLemmas.{joined_below}
 use Rattle.py_rows.specs.Answers.{wanted}
 use Rattle.py_rows.specs.Suits.{Suits}
 use Rattle.py_rows.specs.Questions.{raise_of, may_ask, UnitAsks}
@@ -93,11 +95,6 @@ module _ (Gap : Type 0) (setting : Setting) (sheet : Sheet) (places : (i : ℕ) 
   two_asked op pushes f (b ∷ a ∷ []) gap asks = asks a b
   two_asked op pushes f (b ∷ a ∷ v ∷ vs) gap asks = gap (λ count. absurd (omega (arith, count)))
 
-  called : (k : ℕ) (ws vs : List Obj) → reverse vs ≡ ws → ((length vs ≡ length (replicate (suc k) kind.Any) → ⊥) → Gap) → Asks CallFunctionPositional (Some kind.Any) vs (calls ws)
-  called k [] vs is gap = gap (λ count. let none : length (reverse vs) ≡ 0 = ap length is in absurd (omega (arith, none, length-reverse vs, count, length-replicate (suc k) kind.Any)))
-  called k (f ∷ args) vs is gap =
-      (λ objects v is. tt, λ n there low. let all : AllBelow n (numbers (f ∷ args)) = subst (λ (ws : List Obj). AllBelow n (numbers ws)) is (reverse_below n vs low) in (all.0, joined_below n (numbers args) [] all.1 tt), λ arg. refl)
-
   tested : (op : Option TestOperator) (a b : Obj) → (is_tested op ≡ false → Gap) → Asks TestOperation (Some kind.Any) (b ∷ a ∷ []) (tests op a b)
   tested (Some test.ExceptionMatch) a b gap = (λ objects v is. tt, λ n there low. (low.1.0, (low.0, tt)), λ arg. refl)
   tested _ a b gap = gap refl
@@ -109,9 +106,43 @@ module _ (Gap : Type 0) (setting : Setting) (sheet : Sheet) (places : (i : ℕ) 
   asked_as CompareOperation i =
       λ vs gap. two_asked CompareOperation (Some kind.Any) _ vs (λ no. gap (inl no)) (λ a b. by_comparison CompareOperation (Some kind.Any) (b ∷ a ∷ []) (slice_get comparison_operators i) _ (λ no. gap (inr no)) (λ x runs. (λ objects v is. tt, λ n there low. (low.1.0, (low.0, tt)), λ arg. runs)))
   asked_as TestOperation i = λ vs gap. two_asked TestOperation (Some kind.Any) _ vs (λ no. gap (inl no)) (λ a b. tested (slice_get test_operators i) a b (λ no. gap (inr no)))
-  asked_as CallFunctionPositional k = λ vs gap. called k (reverse vs) vs refl (λ no. gap (inl no))
   asked_as PrintExpr i = λ vs gap. one_asked PrintExpr None _ vs (λ no. gap (inl no)) (λ v. (λ objects v is. tt, λ n there low. low, λ arg. refl))
   asked_as _ i = tt
+
+-- a call may ask whatever it comes to, and that names the callee and the arguments at most
+pub record IsCall (f : Obj) (vs : List Obj) (r : Request) : Type 0 where
+  pub asked : (arg : ℕ) → may_ask CallFunctionPositional arg r ≡ true
+  pub named : (n : ℕ) → AllBelow n (numbers (f ∷ vs)) → AllBelow n (request_numbers r)
+
+module _ (f : Obj) where
+  plain_call : (vs : List Obj) → IsCall f vs (or_call f vs None)
+  plain_call vs = record { asked = λ arg. refl; named = λ n low. (low.0, joined_below n (numbers vs) [] low.1 tt) }
+
+  sends : (vs : List Obj) → IsCall f vs (or_call f vs (send_request vs))
+  sends (g ∷ v ∷ []) = record { asked = λ arg. refl; named = λ n low. low.1 }
+  sends vs = plain_call vs
+
+  throws : (vs : List Obj) → IsCall f vs (or_call f vs (throw_request vs))
+  throws (g ∷ c ∷ []) = record { asked = λ arg. refl; named = λ n low. low.1 }
+  throws (g ∷ c ∷ v ∷ []) = record { asked = λ arg. refl; named = λ n low. low.1 }
+  throws vs = plain_call vs
+
+  closes : (vs : List Obj) → IsCall f vs (or_call f vs (close_request vs))
+  closes (g ∷ []) = record { asked = λ arg. refl; named = λ n low. low.1 }
+  closes vs = plain_call vs
+
+  pub is_call : (b : Option BuiltinFn) (vs : List Obj) → IsCall f vs (or_call f vs (own_request b vs))
+  is_call None vs = plain_call vs
+  is_call (Some builtin.Send) vs = sends vs
+  is_call (Some builtin.Throw) vs = throws vs
+  is_call (Some builtin.Close) vs = closes vs
+  is_call (Some _) vs = plain_call vs
+
+pub call_asked : (p : Payload) (f : Obj) (vs : List Obj) (arg : ℕ) → may_ask CallFunctionPositional arg (call_request p f vs) ≡ true
+call_asked p f vs arg = (is_call f (builtin_of p) vs).asked arg
+
+pub call_below : (n : ℕ) (p : Payload) (f : Obj) (vs : List Obj) → AllBelow n (numbers (f ∷ vs)) → AllBelow n (request_numbers (call_request p f vs))
+call_below n p f vs low = (is_call f (builtin_of p) vs).named n low
 
 -- what an instruction may ask, its unit may
 pub unit_asks : (units : List CodeUnit) (at : ℕ) (unit : CodeUnit) → slice_get units at ≡ Some unit → (op : Instruction) → unit.op ≡ op → (r : Request) → may_ask op unit.arg r ≡ true → UnitAsks (slice_get units at) r

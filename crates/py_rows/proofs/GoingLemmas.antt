@@ -10,7 +10,7 @@ use Rattle.py_objects.specs.Objects.{Obj, HasPayload, as_object, class_object}
 use Rattle.py_objects.specs.Growth.{Grows}
 use Rattle.py_objects.specs.Own.{Own}
 use Rattle.py_check.specs.declared.annotated.Annotated.{Annotated}
-use Rattle.py_rows.specs.States.{Setting, State, Step, Goes, Tells, Stuck, Move, Plainly, Loads, Decides, Manages, Exits}
+use Rattle.py_rows.specs.States.{Setting, State, Step, Goes, Tells, Stuck, Move, Plainly, Loads, Decides, Manages, Resolves, Exits}
 use Rattle.py_rows.specs.Receiving.{moves}
 use Rattle.py_rows.specs.RunOfRows.{is_manager, MayLead, Steps, silent, telling}
 use Rattle.py_rows.specs.Fitting.{FitsAt}
@@ -54,6 +54,9 @@ module _ (objects : List Payload) (P : List Payload → State → Type 0) where
   found (Manages m f) leads =
       let (p, has) = padded_there objects m.number in
       (padded objects m.number, padded_grows objects m.number, (f (is_manager p), (is_manager p, (p, has, refl), refl), leads (padded objects m.number) (padded_grows objects m.number) (is_manager p)))
+  found (Resolves v f) leads =
+      let (p, has) = padded_there objects v.number in
+      (padded objects v.number, padded_grows objects v.number, (f p, (p, has, refl), leads (padded objects v.number) (padded_grows objects v.number) p))
   found (Exits None f) leads =
       let v : Obj = record { number = length objects } in
       let grows : Grows objects (objects ++ payload.None ∷ []) = (payload.None ∷ [], refl) in

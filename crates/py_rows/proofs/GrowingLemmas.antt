@@ -19,7 +19,7 @@ use Rattle.py_rows.specs.declared.expect.Wanted.{Wanted}
 use Rattle.py_rows.specs.declared.expect.Wanted.TheVariants as want
 use Rattle.py_rows.specs.declared.expect.Expect.{Expect}
 use Rattle.py_rows.specs.declared.expect.Expect.TheVariants as expect
-use Rattle.py_rows.specs.States.{State, Setting, Step, Goes, Tells, Move, Plainly, Loads, Decides, Manages, Exits}
+use Rattle.py_rows.specs.States.{State, Setting, Step, Goes, Tells, Move, Plainly, Loads, Decides, Manages, Resolves, Exits}
 use Rattle.py_rows.specs.Answers.{HasKind, IsValue, IsAnswer}
 use Rattle.py_objects.specs.declared.event.GotAnswer.{GotAnswer}
 use Rattle.py_objects.specs.declared.event.ResumeHow.TheVariants as how
@@ -126,6 +126,7 @@ lead_grown objects objects' grows (Plainly done) step may = may
 lead_grown objects objects' grows (Loads p f) step (v, has, is) = (v, payload_grown objects objects' v p grows has, is)
 lead_grown objects objects' grows (Decides v f) step (b, has, is) = (b, payload_grown objects objects' v _ grows has, is)
 lead_grown objects objects' grows (Manages m f) step (b, (p, has, manages), is) = (b, (p, payload_grown objects objects' m p grows has, manages), is)
+lead_grown objects objects' grows (Resolves v f) step (p, has, is) = (p, payload_grown objects objects' v p grows has, is)
 lead_grown objects objects' grows (Exits e f) step (t, v, b, exits, is) = (t, v, b, exit_grown e exits, is)
   where
     exit_grown : (e : _) → IsExit objects e t v b → IsExit objects' e t v b

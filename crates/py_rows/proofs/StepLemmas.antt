@@ -23,7 +23,7 @@ use Rattle.py_rows.specs.declared.expect.Wanted.TheVariants as want
 use Rattle.py_rows.specs.declared.expect.Expect.{Expect}
 use Rattle.py_rows.specs.declared.expect.Expect.TheVariants as expect
 use Rattle.py_rows.specs.declared.block.UnwindReason.TheVariants as reason
-use Rattle.py_rows.specs.States.{State, Step, Goes, Tells, Stuck, Move, Plainly, Loads, Decides, Manages, Exits, begun, waiting}
+use Rattle.py_rows.specs.States.{State, Step, Goes, Tells, Stuck, Move, Plainly, Loads, Decides, Manages, Resolves, Exits, begun, waiting}
 use Rattle.py_rows.specs.Answers.{IsValue}
 use Rattle.py_rows.specs.Rows.{unit_move}
 use Rattle.py_rows.specs.Receiving.{unit_answered, moves}
@@ -119,6 +119,7 @@ module _ (objects : List Payload) (names : List (List ℕ)) (globals : Obj) (clo
       leads (Loads p f) all = λ v has. step_leads (f v) (all v has)
       leads (Decides v f) all = (all.0, λ b. step_leads (f b) (all.1 b))
       leads (Manages m f) all = λ b. step_leads (f b) (all b)
+      leads (Resolves v f) all = λ p. step_leads (f p) (all p)
       leads (Exits e f) all = (all.0, λ t v b. step_leads (f t v b) (all.1 t v b))
 
   -- a step that a move may lead to
@@ -127,6 +128,7 @@ module _ (objects : List Payload) (names : List (List ℕ)) (globals : Obj) (clo
   led (Loads p f) step all (v, has, is) = subst (StepFits objects code) is (all v has)
   led (Decides v f) step all (b, has, is) = subst (StepFits objects code) is (all.1 b)
   led (Manages m f) step all (b, manages, is) = subst (StepFits objects code) is (all b)
+  led (Resolves v f) step all (p, has, is) = subst (StepFits objects code) is (all p)
   led (Exits e f) step all (t, v, b, exits, is) = subst (StepFits objects code) is (all.1 t v b)
 
   -- a frame that expects an input does nothing by itself

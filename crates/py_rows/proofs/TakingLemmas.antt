@@ -1,6 +1,7 @@
 -- Operands that are taken off the stack.
 use Rattle.std.proofs.Common.{◌≡◌, ◌∙◌, ◌-◌, ◌<◌, ◌≤◌, ℕ, zero, suc, List, [], ◌∷◌, Bool, true, ◌&&◌, refl, sym, ap, subst, length, drop, length-drop, arith}
-use Rattle.std.specs.Prelude.{nat_le, nat_lt, slice_get, ◌==◌}
+use Rattle.std.specs.Prelude.{nat_le, nat_lt, slice_get, replicate, ◌==◌}
+use Rattle.std.proofs.Math.ListN.{length-replicate}
 use Rattle.std.specs.List.{list_all}
 use Rattle.std.proofs.lemmas.Bool.{and_parts, and_from, eqb-true, leb-true, ltb-true}
 use Rattle.py_objects.specs.declared.payload.Payload.{Payload}
@@ -46,6 +47,11 @@ takes_rest [] kinds blocks rest may =
 takes_rest (w ∷ wanted) [] blocks rest may = cc
 takes_rest (w ∷ wanted) (k ∷ kinds) blocks rest may =
     let more = takes_rest wanted kinds blocks rest (and_parts _ (takes wanted kinds blocks rest) may).1 in (more.0, more.1, omega (arith, more.2))
+
+-- the same of so many operands of any kind
+pub takes_any : (n : ℕ) (kinds : List Kind) (blocks : List BlockNote) (rest : List Kind → Bool) → takes (replicate n kind.Any) kinds blocks rest ≡ true → (rest (drop n kinds) ≡ true) × (top_level blocks ≤ length (drop n kinds)) × (n ≤ length kinds)
+takes_any n kinds blocks rest may =
+    subst (λ (m : ℕ). (rest (drop m kinds) ≡ true) × (top_level blocks ≤ length (drop m kinds)) × (m ≤ length kinds)) (length-replicate n kind.Any) (takes_rest (replicate n kind.Any) kinds blocks rest may)
 
 -- a frame whose operands are taken
 pub has_under : (objects : List Payload) (code : Annotated) (n : ℕ) (kinds : List Kind) (blocks : List BlockNote) (s : State) → top_level blocks ≤ length (drop n kinds)

@@ -1,6 +1,6 @@
 -- Where every row leads to: silently to a later unit, or behind an event of the unit that runs; the slot is kept; and where all that goes
 -- in is among the first n objects, so is all that comes out.
-use Rattle.std.proofs.Common.{◌≡◌, ◌<◌, ◌-◌, ℕ, zero, suc, List, [], ◌∷◌, ◌++◌, Bool, Option, None, Some, true, false, ◌&&◌, not, cond, ⊎_elim, refl, sym, ap, subst, length, take, drop, arith}
+use Rattle.std.proofs.Common.{◌≡◌, ◌<◌, ◌-◌, ℕ, zero, suc, List, [], ◌∷◌, ◌++◌, Bool, Option, None, Some, true, false, ◌&&◌, not, cond, ⊎_elim, refl, sym, ap, subst, length, reverse, take, drop, arith}
 use Rattle.std.specs.Prelude.{slice_get, slice_set, nat_lt}
 use Rattle.std.specs.List.{list_all}
 use Rattle.std.proofs.lemmas.Bool.{ltb-true}
@@ -8,7 +8,7 @@ use Rattle.std.proofs.lemmas.Option.{slice_get_within}
 use Rattle.py_code.specs.Bottom.{bottom}
 use Rattle.py_code.specs.declared.unit.CodeUnit.{CodeUnit}
 use Rattle.py_code.specs.declared.instruction.Instruction.{Instruction}
-use Rattle.py_code.specs.declared.instruction.Instruction.TheVariants.{LoadConst, LoadFast, StoreFast, DeleteFast, Jump, JumpIfTrue, JumpIfFalse, SetupLoop, SetupExcept, SetupFinally, EnterFinally, EndFinally, SetupWith, WithCleanupStart, WithCleanupFinish, PopBlock, PopException, Raise, Break, Continue, ReturnValue, ReturnConst, YieldValue, ExtendedArg}
+use Rattle.py_code.specs.declared.instruction.Instruction.TheVariants.{LoadConst, LoadFast, StoreFast, DeleteFast, CallFunctionPositional, Jump, JumpIfTrue, JumpIfFalse, SetupLoop, SetupExcept, SetupFinally, EnterFinally, EndFinally, SetupWith, WithCleanupStart, WithCleanupFinish, PopBlock, PopException, Raise, Break, Continue, ReturnValue, ReturnConst, YieldValue, ExtendedArg}
 use Rattle.py_code.specs.declared.literal.Literal.{Literal}
 use Rattle.py_code.specs.declared.operator.RaiseKind.{RaiseKind}
 use Rattle.py_code.specs.declared.operator.RaiseKind.TheVariants as raise
@@ -22,6 +22,7 @@ use Rattle.py_objects.specs.declared.request.Request.TheVariants as request
 use Rattle.py_objects.specs.declared.event.GotAnswer.TheVariants as got
 use Rattle.py_objects.specs.Objects.{Obj, Name, AllBelow, numbers, number_if, request_numbers, as_object}
 use Rattle.py_objects.specs.Own.{Rounds}
+use Rattle.py_objects.specs.Callees.{call_request}
 use Rattle.py_check.specs.Effects.{Effect, Moves, AsksOnce, Other, effect}
 use Rattle.py_check.specs.Taking.{picked}
 use Rattle.py_rows.specs.declared.block.Block.{Block}
@@ -31,17 +32,18 @@ use Rattle.py_rows.specs.declared.block.UnwindReason.{UnwindReason}
 use Rattle.py_rows.specs.declared.block.UnwindReason.TheVariants as reason
 use Rattle.py_rows.specs.declared.expect.Expect.{Expect}
 use Rattle.py_rows.specs.declared.expect.Expect.TheVariants as expect
-use Rattle.py_rows.specs.States.{Setting, State, Step, Goes, Tells, Stuck, Move, Plainly, Loads, Decides, Manages, Exits, begun, next, waiting, with_stack, landed, jumps}
+use Rattle.py_rows.specs.States.{Setting, State, Step, Goes, Tells, Stuck, Move, Plainly, Loads, Decides, Manages, Resolves, Exits, begun, next, waiting, with_stack, landed, jumps}
 use Rattle.py_rows.specs.Handled.{entered_by, handled_by, handled_in}
 use Rattle.py_rows.specs.Slot.{AllKeep, Keeps}
 use Rattle.py_rows.specs.Unwinding.{left, left_handler, meets, unwind, unwinds}
 use Rattle.py_rows.specs.Asked.{asked}
-use Rattle.py_rows.specs.Rows.{asks, opens, is_there, reaches, loads, or_stuck, payload_of, asks_if, takes_off, where_there, acts_by, load_fast, delete_fast, if_popped, pop_block, pop_type, pop_exception, finally_type, in_finally, goes_on, finishes, raises, act_own, unit_move}
+use Rattle.py_rows.specs.Rows.{asks, opens, is_there, reaches, loads, or_stuck, payload_of, asks_if, takes_off, where_there, acts_by, load_fast, delete_fast, if_popped, pop_block, pop_type, pop_exception, finally_type, in_finally, goes_on, finishes, raises, calls, act_own, unit_move}
 use Rattle.py_rows.specs.Receiving.{entered, asks_again, enters_top, enters, jumps_if, passes_if, causes, raised, answered_by, answered_own, unit_answered, moves}
 use Rattle.py_rows.specs.RunOfRows.{IsExit, MayLead}
 use Rattle.py_rows.specs.Standing.{IsPlaced, IsOf}
 use Rattle.py_rows.specs.Below.{told_numbers, ReasonBelow, IfBelow, TypeBelow, BlocksBelow, ExpectBelow}
-use Rattle.py_rows.proofs.BelowLemmas.{joined_below, drop_below, take_below, values_below, picked_below}
+use Rattle.py_rows.proofs.BelowLemmas.{joined_below, reverse_below, drop_below, take_below, values_below, picked_below}
+use Rattle.py_rows.proofs.AskingLemmas.{call_below}
 use Rattle.py_rows.proofs.HandledBelowLemmas.{set_there, handled_below, entered_below, raised_below, RequestBelow, mapped_unbound, AsksBelow, asked_below}
 
 -- a frame that goes on may be anywhere, and names nothing
@@ -95,6 +97,7 @@ module _ (first : Option PyBaseExceptionRef) (n : ℕ) (Kept Low : Type 0) where
     AllLed (Loads p f) = (v : Obj) → (Low → v.number < n) → Led (f v)
     AllLed (Decides v f) = (b : Bool) → Led (f b)
     AllLed (Manages m f) = (b : Bool) → Led (f b)
+    AllLed (Resolves v f) = (p : Payload) → Led (f p)
     AllLed (Exits e f) = (Low → AllBelow n (number_if e)) × ((t v b : Obj) → (Low → AllBelow n (t.number ∷ v.number ∷ b.number ∷ [])) → Led (f t v b))
 
     -- the unit still runs, with another stack, other blocks and another slot, or other locals
@@ -249,6 +252,10 @@ module _ (first : Option PyBaseExceptionRef) (n : ℕ) (Kept Low : Type 0) where
     raises_led (Some raise.Raise) k = off_led _ k (λ v rest low under. asks_led (request.Raisable v) (λ m. (low m, tt)) under)
     raises_led (Some raise.RaiseCause) k = off_led _ k (λ c rest low under. asks_led (request.Cause c) (λ m. (low m, tt)) under)
 
+    calls_led : {s : State} (vs : List Obj) (there : Bool) → (Low → AllBelow n (numbers vs)) → Stands s → AllLed (calls vs there s)
+    calls_led [] there low k = tt
+    calls_led (f ∷ args) there low k = λ p. where_led there _ (asks_led (call_request p f args) (λ m. call_below n p f args (low m)) k)
+
     -- a block that is opened behind the unit
     opened : {s : State} (typ : BlockType) → (Kept → Keeps typ (handled_in first s.blocks)) → (Kept → s.slot ≡ handled_by typ (handled_in first s.blocks)) → (Low → TypeBelow n typ) → Stands s → Led (opens typ s)
     opened {s = s} typ keeps is low k =
@@ -259,6 +266,9 @@ module _ (first : Option PyBaseExceptionRef) (n : ℕ) (Kept Low : Type 0) where
     own_led setting LoadFast i s k = load_fast_led _ (slice_get s.locals i) (λ m. k.holds.locals m i) k
     own_led setting StoreFast i s k = where_led _ _ (off_led _ k (λ v rest low under. behind 0 (set i (Some v) (λ m w is. let same : v ≡ w = cc in subst (λ (u : Obj). u.number < n) same (low m)) under)))
     own_led setting DeleteFast i s k = delete_fast_led _ i (slice_get s.locals i) k
+    own_led setting CallFunctionPositional c s k =
+        calls_led (reverse (take (suc c) s.stack)) (reaches (suc c) s.stack) (λ m. reverse_below n (take (suc c) s.stack) (take_below n (suc c) s.stack (k.holds.stack m)))
+        (stacked (drop (suc c) s.stack) (λ m. drop_below n (suc c) s.stack (k.holds.stack m)) k)
     own_led setting Jump to s k = jumps_led to k
     own_led setting JumpIfTrue to s k = off_led _ k (λ v rest low under. asks_led (request.Truth v) (λ m. (low m, tt)) under)
     own_led setting JumpIfFalse to s k = off_led _ k (λ v rest low under. asks_led (request.Truth v) (λ m. (low m, tt)) under)
@@ -329,6 +339,7 @@ module _ (first : Option PyBaseExceptionRef) (n : ℕ) (Kept Low : Type 0) where
     enters_led (suc c) to v low k = tt
 
     own_answer_led : (op : Instruction) (i : ℕ) (v : Obj) (s : State) → (Low → v.number < n) → Stands s → AllLed (answered_own op i v s)
+    own_answer_led CallFunctionPositional c v s low k = behind 0 (topped v low k)
     own_answer_led JumpIfTrue to v s low k = λ b. jumps_if_led b to k
     own_answer_led JumpIfFalse to v s low k = λ b. jumps_if_led (not b) to k
     own_answer_led SetupWith to v s low k = enters_led s.phase to v low k
@@ -394,6 +405,7 @@ module _ (first : Option PyBaseExceptionRef) (Kept Low : Type 0) (objects : List
   may_led x (Loads p f) step all (v, has, is) = subst (Led first (length objects) Kept Low s.at (begun_by x s)) is (all v (λ m. slice_get_within objects v.number p has))
   may_led x (Decides v f) step all (b, has, is) = subst (Led first (length objects) Kept Low s.at (begun_by x s)) is (all b)
   may_led x (Manages o f) step all (b, manages, is) = subst (Led first (length objects) Kept Low s.at (begun_by x s)) is (all b)
+  may_led x (Resolves v f) step all (p, has, is) = subst (Led first (length objects) Kept Low s.at (begun_by x s)) is (all p)
   may_led x (Exits e f) step all (t, v, b, exits, is) = subst (Led first (length objects) Kept Low s.at (begun_by x s)) is (all.1 t v b (λ m. exit_low e (all.0 m) exits))
     where
       exit_low : (e : Option PyBaseExceptionRef) → AllBelow (length objects) (number_if e) → IsExit objects e t v b → AllBelow (length objects) (t.number ∷ v.number ∷ b.number ∷ [])

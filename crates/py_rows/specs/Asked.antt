@@ -1,14 +1,13 @@
 -- What instructions ask of the operands that they take.
-use Rattle.std.specs.Prelude.{ℕ, Option, Some, None, List, [], ◌∷◌, slice_get, reverse, option_map, chars, if◌then◌else◌}
+use Rattle.std.specs.Prelude.{ℕ, Option, Some, None, List, [], ◌∷◌, slice_get, option_map, chars, if◌then◌else◌}
 use Rattle.py_code.specs.declared.instruction.Instruction.{Instruction}
-use Rattle.py_code.specs.declared.instruction.Instruction.TheVariants.{LoadGlobal, BinaryOperation, CompareOperation, TestOperation, CallFunctionPositional, PrintExpr}
+use Rattle.py_code.specs.declared.instruction.Instruction.TheVariants.{LoadGlobal, BinaryOperation, CompareOperation, TestOperation, PrintExpr}
 use Rattle.py_code.specs.declared.operator.TestOperator.{TestOperator}
 use Rattle.py_code.specs.declared.operator.TestOperator.TheVariants as test
 use Rattle.py_code.specs.declared.names.NameId.{NameId}
 use Rattle.py_code.specs.Operators.{binary_operators, comparison_operators, test_operators}
 use Rattle.py_objects.specs.declared.request.Request.{Request}
 use Rattle.py_objects.specs.declared.request.Request.TheVariants as request
-use Rattle.py_objects.specs.declared.request.Keywords.TheVariants as keywords
 use Rattle.py_objects.specs.Objects.{Obj, Name}
 use Rattle.py_rows.specs.States.{Setting}
 use Rattle.py_code.specs.declared.operator.BinaryOperator.{BinaryOperator}
@@ -46,11 +45,6 @@ on_two f (b ∷ []) = None
 on_two f (b ∷ a ∷ []) = f a b
 on_two f (b ∷ a ∷ v ∷ vs) = None
 
--- a call, whose callee lies under its arguments
-abbrev pub calls : List Obj → Option Request
-calls [] = None
-calls (f ∷ args) = Some (request.Call f args keywords.None)
-
 -- a test, where it runs so far
 abbrev pub tests : Option TestOperator → Obj → Obj → Option Request
 tests (Some test.ExceptionMatch) a b = Some (request.Match a b)
@@ -72,6 +66,5 @@ asked setting LoadGlobal i vs = on_none (option_map (λ x. request.Global settin
 asked setting BinaryOperation i vs = on_two (λ a b. option_map (λ op. request.Binary op a b) (asked_operator (slice_get binary_operators i))) vs
 asked setting CompareOperation i vs = on_two (λ a b. option_map (λ op. request.Compare op a b) (asked_comparison (slice_get comparison_operators i))) vs
 asked setting TestOperation i vs = on_two (λ a b. tests (slice_get test_operators i) a b) vs
-asked setting CallFunctionPositional k vs = calls (reverse vs)
 asked setting PrintExpr i vs = on_one (λ v. Some (request.Show v)) vs
 asked setting _ i vs = None

@@ -3,7 +3,7 @@ use Rattle.std.specs.Prelude.{ℕ, zero, suc, ◌≤◌, ◌<◌, Bool, true, Op
 use Rattle.std.specs.List.{list_any}
 use Rattle.py_code.specs.declared.unit.CodeUnit.{CodeUnit}
 use Rattle.py_code.specs.declared.instruction.Instruction.{Instruction}
-use Rattle.py_code.specs.declared.instruction.Instruction.TheVariants.{LoadFast, DeleteFast, JumpIfTrue, JumpIfFalse, SetupWith, WithCleanupStart, WithCleanupFinish, Raise, YieldValue}
+use Rattle.py_code.specs.declared.instruction.Instruction.TheVariants.{LoadFast, DeleteFast, CallFunctionPositional, JumpIfTrue, JumpIfFalse, SetupWith, WithCleanupStart, WithCleanupFinish, Raise, YieldValue}
 use Rattle.py_code.specs.declared.operator.RaiseKind.{RaiseKind}
 use Rattle.py_code.specs.declared.operator.RaiseKind.TheVariants as raise
 use Rattle.py_code.specs.Operators.{raise_kinds}
@@ -150,6 +150,7 @@ with_left (suc n) ks bs = Some (record { kinds = ks; blocks = bs; wanted = want.
 abbrev pub left_own : Instruction → ℕ → ℕ → List Kind → List BlockNote → Option Waiting
 left_own LoadFast i phase ks bs = Some (record { kinds = ks; blocks = bs; wanted = want.NoValue })
 left_own DeleteFast i phase ks bs = Some (record { kinds = ks; blocks = bs; wanted = want.NoValue })
+left_own CallFunctionPositional k phase ks bs = Some (record { kinds = drop (suc k) ks; blocks = bs; wanted = want.Of kind.Any })
 left_own JumpIfTrue i phase ks bs = Some (record { kinds = drop 1 ks; blocks = bs; wanted = want.Truth })
 left_own JumpIfFalse i phase ks bs = Some (record { kinds = drop 1 ks; blocks = bs; wanted = want.Truth })
 left_own SetupWith i phase ks bs = with_left phase ks bs

@@ -1,5 +1,5 @@
 -- What holds of every step and every run.
-use Rattle.std.specs.Prelude.{ℕ, ◌≤◌, ◌<◌, ◌-◌, ◌≡◌, Bool, Option, Some, None, List, [], ◌∷◌, slice_get, length}
+use Rattle.std.specs.Prelude.{ℕ, ◌≤◌, ◌<◌, ◌-◌, ◌≡◌, Bool, true, Option, Some, None, List, [], ◌∷◌, slice_get, length}
 use Rattle.py_code.specs.declared.code.PyCode.{PyCode}
 use Rattle.py_objects.specs.declared.refs.PyBaseExceptionRef.{PyBaseExceptionRef}
 use Rattle.py_objects.specs.declared.payload.Payload.{Payload}
@@ -12,11 +12,12 @@ use Rattle.py_check.specs.declared.annotated.Annotated.{Annotated}
 use Rattle.py_check.specs.Depths.{deepest}
 use Rattle.py_rows.specs.declared.expect.Expect.{Expect}
 use Rattle.py_rows.specs.declared.expect.Expect.TheVariants as expect
-use Rattle.py_rows.specs.States.{Setting, State, Step, Goes, Tells, Stuck, Move, Plainly, Loads, Decides, Manages, Exits}
+use Rattle.py_rows.specs.States.{Setting, State, Step, Goes, Tells, Stuck, Move, Plainly, Loads, Decides, Manages, Resolves, Exits}
 use Rattle.py_rows.specs.Slot.{KeepsSlot}
 use Rattle.py_check.specs.declared.note.Kind.TheVariants as kind
 use Rattle.py_rows.specs.Answers.{HasKind}
 use Rattle.py_rows.specs.Receiving.{moves}
+use Rattle.py_check.specs.Typing.{is_generator}
 use Rattle.py_rows.specs.Questions.{UnitAsks, UnitYields}
 use Rattle.py_rows.specs.RunOfRows.{Steps, Runs, started}
 use Rattle.py_rows.specs.Below.{HearsBelow, TellsBelow, HoldsBelow}
@@ -35,20 +36,21 @@ abbrev pub RaisedThere : List Payload → Option PyBaseExceptionRef → Type 0
 RaisedThere objects None = Unit {0}
 RaisedThere objects (Some e) = HasKind objects (as_object e) kind.Exc
 
--- a step that a move leads to has a property, whichever object it loads or is told, and whether or not one is a manager; what it decides
--- by is a truth value
+-- a step that a move leads to has a property, whichever object it loads or is told, whether or not one is a manager, and whatever payload it
+-- has; what it decides by is a truth value
 abbrev pub Always : List Payload → (Step → Type 0) → Move → Type 0
 Always objects P (Plainly step) = P step
 Always objects P (Loads p f) = (v : Obj) → HasPayload objects v p → P (f v)
 Always objects P (Decides v f) = ((b : Bool) × HasPayload objects v (payload.Bool b)) × ((b : Bool) → P (f b))
 Always objects P (Manages m f) = (b : Bool) → P (f b)
+Always objects P (Resolves v f) = (p : Payload) → P (f p)
 Always objects P (Exits e f) = RaisedThere objects e × ((t v b : Obj) → P (f t v b))
 
 -- so has the state that it leads to
 abbrev pub AlwaysLeads : List Payload → (State → Type 0) → Move → Type 0
 AlwaysLeads objects P m = Always objects (LeadsTo P) m
 
--- an event is one that its unit may tell: what is asked, its instruction may ask; only YieldValue yields; and a frame that ends by a raise
+-- an event is one that its unit may tell: what is asked, its instruction may ask; only YieldValue yields, in a generator's code; and a frame that ends by a raise
 -- ends by an exception
 abbrev pub MayTell : List Payload → PyCode → Own → Type 0
 MayTell objects code Makes = Unit {0}
@@ -56,7 +58,7 @@ MayTell objects code (Resumes k h) = Unit {0}
 MayTell objects code (Asks at r own) = UnitAsks (slice_get code.code.instructions.items at) r
 MayTell objects code (Gets k w) = Unit {0}
 MayTell objects code (Rounds at) = Unit {0}
-MayTell objects code (Yields at v) = UnitYields (slice_get code.code.instructions.items at)
+MayTell objects code (Yields at v) = UnitYields (slice_get code.code.instructions.items at) × (is_generator code.code.flags ≡ true)
 MayTell objects code (Ends at (ending.Return v)) = Unit {0}
 MayTell objects code (Ends at (ending.Raise e)) = HasKind objects (as_object e) kind.Exc
 

@@ -8,7 +8,7 @@ use Rattle.py_code.specs.declared.unit.CodeUnit.{CodeUnit}
 use Rattle.py_code.specs.Operators.{raise_kinds}
 use Rattle.py_objects.specs.declared.request.Request.{Request}
 use Rattle.py_objects.specs.declared.request.Request.TheVariants as request
-use Rattle.py_objects.specs.Positional.{is_positional}
+use Rattle.py_objects.specs.Positional.{is_positional, is_bare}
 use Rattle.py_check.specs.Effects.{is_asked, is_compared}
 
 -- the kind of raise that a unit with this argument is: prefixes in front of it change nothing of its low byte
@@ -32,6 +32,9 @@ may_ask BinaryOperation arg (request.Binary op a b) = is_asked op
 may_ask CompareOperation arg (request.Compare op a b) = is_compared op
 may_ask TestOperation arg (request.Match e c) = true
 may_ask CallFunctionPositional arg (request.Call f vs named) = is_positional named
+may_ask CallFunctionPositional arg (request.Send g v) = true
+may_ask CallFunctionPositional arg (request.Throw g c v t) = is_bare t
+may_ask CallFunctionPositional arg (request.Close g) = true
 may_ask PrintExpr arg (request.Show v) = true
 may_ask JumpIfTrue arg (request.Truth v) = true
 may_ask JumpIfFalse arg (request.Truth v) = true

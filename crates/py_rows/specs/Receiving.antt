@@ -1,7 +1,7 @@
 -- What a frame does by what it hears, an equation an instruction that waits.
 use Rattle.std.specs.Prelude.{ℕ, zero, suc, Option, Some, None, List, [], ◌∷◌, ◌++◌, slice_get, length, Bool, not, option_map, if◌then◌else◌}
 use Rattle.py_code.specs.declared.instruction.Instruction.{Instruction}
-use Rattle.py_code.specs.declared.instruction.Instruction.TheVariants.{JumpIfTrue, JumpIfFalse, SetupWith, WithCleanupStart, WithCleanupFinish, Raise, YieldValue}
+use Rattle.py_code.specs.declared.instruction.Instruction.TheVariants.{CallFunctionPositional, JumpIfTrue, JumpIfFalse, SetupWith, WithCleanupStart, WithCleanupFinish, Raise, YieldValue}
 use Rattle.py_code.specs.declared.unit.CodeUnit.{CodeUnit}
 use Rattle.py_code.specs.declared.operator.RaiseKind.{RaiseKind}
 use Rattle.py_code.specs.declared.operator.RaiseKind.TheVariants as raise
@@ -69,6 +69,7 @@ raised (Some raise.RaiseCause) v s = causes s.phase v s
 
 -- what the unit that asked, or that yielded, does with the value that it is answered or sent
 abbrev pub answered_own : Instruction → ℕ → Obj → State → Move
+answered_own CallFunctionPositional k v s = Plainly (Goes (pushed v (next s)))
 answered_own JumpIfTrue to v s = Decides v (λ b. jumps_if b to s)
 answered_own JumpIfFalse to v s = Decides v (λ b. jumps_if (not b) to s)
 answered_own SetupWith to v s = enters s.phase to v s

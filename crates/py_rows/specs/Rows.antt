@@ -1,10 +1,10 @@
 -- What units of code do, an equation an instruction.
-use Rattle.std.specs.Prelude.{ℕ, zero, suc, Option, Some, None, List, [], ◌∷◌, ◌++◌, slice_get, slice_set, length, take, drop, nat_lt, Bool, true, false, ◌&&◌, ◌==◌, option_map, if◌then◌else◌}
+use Rattle.std.specs.Prelude.{ℕ, zero, suc, Option, Some, None, List, [], ◌∷◌, ◌++◌, slice_get, slice_set, length, reverse, take, drop, nat_lt, Bool, true, false, ◌&&◌, ◌==◌, option_map, if◌then◌else◌}
 use Rattle.std.specs.List.{list_all}
 use Rattle.py_code.specs.declared.instruction.Instruction.{Instruction}
-use Rattle.py_code.specs.declared.instruction.Instruction.TheVariants.{LoadConst, LoadFast, StoreFast, DeleteFast, Jump, JumpIfTrue, JumpIfFalse, SetupLoop, SetupExcept, SetupFinally, EnterFinally, EndFinally, SetupWith, WithCleanupStart, WithCleanupFinish, PopBlock, PopException, Raise, Break, Continue, ReturnValue, ReturnConst, YieldValue, ExtendedArg}
+use Rattle.py_code.specs.declared.instruction.Instruction.TheVariants.{LoadConst, LoadFast, StoreFast, DeleteFast, CallFunctionPositional, Jump, JumpIfTrue, JumpIfFalse, SetupLoop, SetupExcept, SetupFinally, EnterFinally, EndFinally, SetupWith, WithCleanupStart, WithCleanupFinish, PopBlock, PopException, Raise, Break, Continue, ReturnValue, ReturnConst, YieldValue, ExtendedArg}
 use Rattle.py_code.specs.declared.unit.CodeUnit.{CodeUnit}
-use Rattle.py_code.specs.declared.literal.Literal.{Literal, None as NoneLiteral, Bool as BoolLiteral, Int as IntLiteral, Str as StrLiteral}
+use Rattle.py_code.specs.declared.literal.Literal.{Literal, None as NoneLiteral, Bool as BoolLiteral, Int as IntLiteral, Str as StrLiteral, Builtin as BuiltinLiteral}
 use Rattle.py_code.specs.declared.operator.RaiseKind.{RaiseKind}
 use Rattle.py_code.specs.declared.operator.RaiseKind.TheVariants as raise
 use Rattle.py_code.specs.Literals.{literals_of}
@@ -18,6 +18,7 @@ use Rattle.py_objects.specs.declared.request.Request.{Request}
 use Rattle.py_objects.specs.declared.request.Request.TheVariants as request
 use Rattle.py_objects.specs.Objects.{Obj, Name, as_object}
 use Rattle.py_objects.specs.Own.{Asks, Rounds, Yields}
+use Rattle.py_objects.specs.Callees.{call_request}
 use Rattle.py_check.specs.Effects.{Effect, Moves, AsksOnce, Other, effect}
 use Rattle.py_check.specs.Taking.{picked}
 use Rattle.py_rows.specs.declared.block.Block.{Block}
@@ -26,7 +27,7 @@ use Rattle.py_rows.specs.declared.block.BlockType.TheVariants.{Loop, TryExcept, 
 use Rattle.py_rows.specs.declared.block.UnwindReason.{UnwindReason}
 use Rattle.py_rows.specs.declared.block.UnwindReason.TheVariants as reason
 use Rattle.py_rows.specs.declared.expect.Expect.TheVariants as expect
-use Rattle.py_rows.specs.States.{Setting, State, Step, Goes, Tells, Stuck, Move, Plainly, Loads, Exits, begun, next, waiting, with_stack, pushed, opened, jumps}
+use Rattle.py_rows.specs.States.{Setting, State, Step, Goes, Tells, Stuck, Move, Plainly, Loads, Resolves, Exits, begun, next, waiting, with_stack, pushed, opened, jumps}
 use Rattle.py_rows.specs.Handled.{handled_in}
 use Rattle.py_rows.specs.Unwinding.{left, left_handler, unwinds}
 use Rattle.py_rows.specs.Answers.{wanted}
@@ -38,6 +39,7 @@ payload_of NoneLiteral = Some payload.None
 payload_of (BoolLiteral b) = Some (payload.Bool b)
 payload_of (IntLiteral n) = Some (payload.Int n)
 payload_of (StrLiteral s) = Some (payload.Str s)
+payload_of (BuiltinLiteral f) = Some (payload.Builtin f)
 payload_of _ = None
 
 -- a constant that is loaded, where it has a payload
@@ -207,6 +209,15 @@ store_fast i s = where_there (nat_lt i (length s.locals)) (takes_off s.stack (λ
 abbrev pub asks_truth : State → Step
 asks_truth s = takes_off s.stack (λ v rest. asks (request.Truth v) (with_stack rest s))
 
+-- what these values call is asked, the first of them with the others, where all of them are there
+abbrev pub calls : List Obj → Bool → State → Move
+calls [] there s = Plainly Stuck
+calls (f ∷ args) there s = Resolves f (λ p. where_there there (asks (call_request p f args) s))
+
+-- a call with so many arguments, under which its callee lies
+abbrev pub call_function : ℕ → State → Move
+call_function k s = calls (reverse (take (suc k) s.stack)) (reaches (suc k) s.stack) (with_stack (drop (suc k) s.stack) s)
+
 -- a block begins at the depth of the stack
 abbrev pub opens : BlockType → State → Step
 opens typ s = Goes (opened (record { typ = typ; level = length s.stack }) (next s))
@@ -233,6 +244,7 @@ act_own setting LoadConst i s = loads (slice_get (literals_of setting.code.code.
 act_own setting LoadFast i s = Plainly (load_fast (name_of_local setting i) (slice_get s.locals i) s)
 act_own setting StoreFast i s = Plainly (store_fast i s)
 act_own setting DeleteFast i s = Plainly (delete_fast (name_of_local setting i) i (slice_get s.locals i) s)
+act_own setting CallFunctionPositional k s = call_function k s
 act_own setting Jump to s = Plainly (jumps to s)
 act_own setting JumpIfTrue to s = Plainly (asks_truth s)
 act_own setting JumpIfFalse to s = Plainly (asks_truth s)

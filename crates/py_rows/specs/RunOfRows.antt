@@ -14,7 +14,7 @@ use Rattle.py_check.specs.WholeCode.{counts_if}
 use Rattle.py_check.specs.declared.note.Kind.TheVariants as kind
 use Rattle.py_rows.specs.declared.expect.Expect.{Expect}
 use Rattle.py_rows.specs.declared.expect.Expect.TheVariants as expect
-use Rattle.py_rows.specs.States.{Setting, State, Step, Goes, Tells, Move, Plainly, Loads, Decides, Manages, Exits, waiting}
+use Rattle.py_rows.specs.States.{Setting, State, Step, Goes, Tells, Move, Plainly, Loads, Decides, Manages, Resolves, Exits, waiting}
 use Rattle.py_rows.specs.Answers.{HasKind, IsAnswer}
 use Rattle.py_rows.specs.Receiving.{moves}
 
@@ -35,6 +35,7 @@ MayLead objects (Plainly step) done = step ≡ done
 MayLead objects (Loads p f) done = (v : Obj) × HasPayload objects v p × (f v ≡ done)
 MayLead objects (Decides v f) done = (b : Bool) × HasPayload objects v (payload.Bool b) × (f b ≡ done)
 MayLead objects (Manages m f) done = (b : Bool) × ((p : Payload) × HasPayload objects m p × (is_manager p ≡ b)) × (f b ≡ done)
+MayLead objects (Resolves v f) done = (p : Payload) × HasPayload objects v p × (f p ≡ done)
 MayLead objects (Exits e f) done = (t : Obj) × (v : Obj) × (b : Obj) × IsExit objects e t v b × (f t v b ≡ done)
 
 -- the flags of generators and coroutines: an exception may be thrown into their frames, also into one that hasn't begun

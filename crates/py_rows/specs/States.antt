@@ -38,13 +38,14 @@ pub data Step : Type 0 where
   Tells : Own → State → Step
   Stuck : Step
 
--- a step, which may need an object of a payload, go by which truth value an object is or whether it is a manager, or need an
--- exception's class and traceback
+-- a step, which may need an object of a payload, go by which truth value an object is, by whether it is a manager or by its payload, or
+-- need an exception's class and traceback
 pub data Move : Type 0 where
   Plainly : Step → Move
   Loads : Payload → (Obj → Step) → Move
   Decides : Obj → (Bool → Step) → Move
   Manages : Obj → (Bool → Step) → Move
+  Resolves : Obj → (Payload → Step) → Move
   Exits : Option PyBaseExceptionRef → (Obj → Obj → Obj → Step) → Move
 
 -- the unit runs
