@@ -7,10 +7,13 @@ use Rattle.py_code.specs.declared.code.CodeObject.{CodeObject}
 use Rattle.py_code.specs.Literals.{literals_of}
 use Rattle.py_check.specs.declared.annotated.Annotated.{Annotated}
 use Rattle.py_check.specs.Operands.{prefixes}
+use Rattle.py_rows.specs.Signature.{kind_of}
+use Rattle.py_tree.specs.declared.body.BodyKind.{BodyKind}
+use Rattle.py_tree.specs.declared.body.BodyKind.TheVariants.{Function, Generator}
 use Rattle.py_tree.specs.Tree.{Name, Form, Assign, If, IfElse, While, TryExcept, TryFinally, Suite, nothing, first}
-use Rattle.py_tree.specs.Tree.{Clauses, no_more, clause, Tree}
+use Rattle.py_tree.specs.Tree.{Clauses, no_more, clause, Tree, seen_as}
 use Rattle.py_tree.specs.Binding.{bound_if, bound_in, bound_by, bound_under, locals_of}
-use Rattle.py_laid.specs.Code.{Parts, LaidBody, IsLaid, entry, parts_with}
+use Rattle.py_laid.specs.Code.{Parts, LaidBody, IsLaid, entry, flags_of, parts_with}
 use Rattle.py_body.specs.Codes.{Each}
 use Rattle.py_tree.specs.Compilable.{IsCompilable, statements, statements_in, statements_under}
 use Rattle.py_body.specs.Sizes.{counted, size_body, weights}
@@ -66,7 +69,7 @@ few_locals t vars compilable is = omega (arith, ap (λ (names : List Name). leng
 -- ---- all of a body
 
 -- the statements, and the return of None behind them
-pub body_emits : {a b c : Draft} (t : Tree) → EmitsSuite a.labels a b entry t.suite → EmitsConst b c entry t.line op.ReturnConst NoneLiteral → EmitsBody a c t
+pub body_emits : {a b c : Draft} (t : Tree) → EmitsSuite a.labels a b (entry t.kind) t.suite → EmitsConst b c (entry t.kind) t.line op.ReturnConst NoneLiteral → EmitsBody a c t
 body_emits t suite returns = emits_as (emits_then suite returns) (λ w. refl) (λ room whole same (ends, _, _, laid, stands) placed. (ends, laid tt placed, stands))
 
 -- nothing matches
@@ -126,14 +129,20 @@ same_parts d code object t same notes vars same_units same_locations same_consta
     let constants : literals_of code.code.code.constants ≡ d.parts.constants = ap (λ (o : CodeObject). literals_of o.constants) same ∙ same_constants in
     λ k. record { units = units k; locations = locations k; notes = notes k; constants = constants k; names = d.parts.names; vars = sym vars k }
 
+-- the flags of a kind say it
+flags_kind : (kind : BodyKind) → kind_of (flags_of kind) ≡ seen_as kind
+flags_kind Function = refl
+flags_kind Generator = refl
+
 -- it is laid
-pub laid_code : (d : Draft) (code : Annotated) (t : Tree) → IsEmitted d t → parts_with d.parts.names (locals_of t) code ≡ d.parts → code.code.code.arg_count ≡ length t.params
+pub laid_code : (d : Draft) (code : Annotated) (t : Tree) → IsEmitted d t → parts_with d.parts.names (locals_of t) code ≡ d.parts → code.code.code.flags ≡ flags_of t.kind → code.code.code.arg_count ≡ length t.params
     → length code.code.code.varnames.items ≡ length (locals_of t) → length code.code.code.names.items ≡ length d.parts.names → IsLaid d.parts.names code t
-laid_code d code t emitted same arity locals globals = record {
+laid_code d code t emitted same flags arity locals globals = record {
+  kind = ap kind_of flags ∙ flags_kind t.kind;
   arity = arity;
   locals = locals;
   globals = globals;
-  laid = subst (λ (p : Parts). LaidBody p t.line t.suite (length p.units)) (sym same) emitted.laid;
+  laid = subst (λ (p : Parts). LaidBody p t (length p.units)) (sym same) emitted.laid;
   short = subst (λ (p : Parts). length p.units < 2 ^ 32) (sym same) emitted.short;
   located = subst (λ (p : Parts). length p.locations ≡ length p.units) (sym same) emitted.matched.located;
   noted = subst (λ (p : Parts). length p.notes ≡ length p.units) (sym same) emitted.matched.noted;

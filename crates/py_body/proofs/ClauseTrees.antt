@@ -9,6 +9,7 @@ use Rattle.py_tree.specs.Views.{suite_of}
 use Rattle.py_tree.specs.Binding.{bound_by, bound_if, bound_under}
 use Rattle.py_tree.specs.Suites.{add_clause, joined_clauses, list_clauses}
 use Rattle.py_body.specs.declared.sizes.Weights.{Weights}
+use Rattle.py_tree.specs.declared.body.BodyKind.{BodyKind}
 use Rattle.py_tree.specs.Compilable.{ClausesFit, SuiteFits, statements, statements_under}
 use Rattle.py_body.specs.Sizes.{size_clause, size_clauses, size_suite}
 
@@ -91,15 +92,15 @@ pub clause_statements_at : (clauses : List Clause) (i : ℕ) (c : Clause) → i 
     → statements (suite_of (out-Clause c).suite) < statements_under (list_clauses clauses)
 clause_statements_at clauses i c low is = omega (arith, statements_in_at clauses i c low is, ap statements (body_out c))
 
-fits_in_at : (in_loop : Bool) (clauses : List Clause) (i : ℕ) (c : Clause) → i < length clauses → c ≡ get_or clauses i c → ClausesFit in_loop (list_clauses clauses) → SuiteFits in_loop (body_of c)
-fits_in_at in_loop [] i c low is fits = absurd (omega arith)
-fits_in_at in_loop (Clause' line class target suite ∷ clauses) zero c low is fits = subst (λ (d : Clause). SuiteFits in_loop (body_of d)) (sym is) fits.0
-fits_in_at in_loop (Clause' line class target suite ∷ clauses) (suc i) c low is fits = fits_in_at in_loop clauses i c (omega (arith, low)) is fits.1
+fits_in_at : (kind : BodyKind) (in_loop : Bool) (clauses : List Clause) (i : ℕ) (c : Clause) → i < length clauses → c ≡ get_or clauses i c → ClausesFit kind in_loop (list_clauses clauses) → SuiteFits kind in_loop (body_of c)
+fits_in_at kind in_loop [] i c low is fits = absurd (omega arith)
+fits_in_at kind in_loop (Clause' line class target suite ∷ clauses) zero c low is fits = subst (λ (d : Clause). SuiteFits kind in_loop (body_of d)) (sym is) fits.0
+fits_in_at kind in_loop (Clause' line class target suite ∷ clauses) (suc i) c low is fits = fits_in_at kind in_loop clauses i c (omega (arith, low)) is fits.1
 
 -- it fits if all do
-pub clause_fits_at : (in_loop : Bool) (clauses : List Clause) (i : ℕ) (c : Clause) → i < length clauses → c ≡ get_or clauses i c → ClausesFit in_loop (list_clauses clauses)
-    → SuiteFits in_loop (suite_of (out-Clause c).suite)
-clause_fits_at in_loop clauses i c low is fits = subst (SuiteFits in_loop) (sym (body_out c)) (fits_in_at in_loop clauses i c low is fits)
+pub clause_fits_at : (kind : BodyKind) (in_loop : Bool) (clauses : List Clause) (i : ℕ) (c : Clause) → i < length clauses → c ≡ get_or clauses i c → ClausesFit kind in_loop (list_clauses clauses)
+    → SuiteFits kind in_loop (suite_of (out-Clause c).suite)
+clause_fits_at kind in_loop clauses i c low is fits = subst (SuiteFits kind in_loop) (sym (body_out c)) (fits_in_at kind in_loop clauses i c low is fits)
 
 -- the suite of a clause takes no more than the clause
 pub suite_in_clause : (w : Weights) (x : Option Name) (body : ℕ) → body ≤ size_clause w x body

@@ -1,12 +1,17 @@
 -- What is emitted for expressions.
 use Rattle.std.proofs.Common.{◌≡◌, ◌<◌, ◌+◌, ◌*◌, ℕ, suc, List, [], ◌∷◌, ◌++◌, refl, sym, ap, ◌∙◌, subst, length, take, get_or, arith, length-append, length-take, add-one}
+use Rattle.std.specs.Prelude.{Result, Ok, Err, OnOk}
 use Rattle.std.proofs.lemmas.List.{take_more}
 use Rattle.py_code.specs.declared.instruction.Instruction.{Instruction}
-use Rattle.py_code.specs.declared.instruction.Instruction.TheVariants.{CallFunctionPositional}
+use Rattle.py_code.specs.declared.instruction.Instruction.TheVariants.{CallFunctionPositional, LoadConst, YieldValue}
+use Rattle.py_code.specs.declared.literal.Literal.{Builtin as BuiltinLiteral}
+use Rattle.py_code.specs.declared.literal.BuiltinFn.{BuiltinFn}
+use Rattle.py_code.specs.declared.literal.BuiltinFn.TheVariants as builtin
+use Rattle.py_tree.specs.declared.body.BodyKind.TheVariants.{Generator}
 use Rattle.py_tree.specs.declared.expr.Atom.{Atom}
 use Rattle.py_tree.specs.declared.expr.Operation.TheVariants as operation
 use Rattle.py_laid.specs.Code.{Parts, Scope, on, over, LaidAtom, LaidAtoms, Stands}
-use Rattle.py_body.specs.Emitting.{Draft, end_of, EmitsAtom, EmitsAtoms, EmitsOperation, EmitsPlain, EmitsTwo}
+use Rattle.py_body.specs.Emitting.{Draft, end_of, EmitsAtom, EmitsAtoms, EmitsConst, EmitsDriven, EmitsOperation, EmitsPlain, EmitsTaken, EmitsTwo}
 use Rattle.py_body.proofs.EmittingLemmas.{emits_as, emits_none, emits_then}
 
 -- ---- atoms
@@ -51,3 +56,22 @@ call_emits {c = c} {d = d} scope line f atoms one two asks =
     emits_as (emits_then (emits_then one two) asks) (λ w. refl)
     (λ room whole same (asks, _, _, (mid, _, _, first, second), stands).
     (mid, asks, first, second, subst (λ (n : ℕ). Stands whole (over n scope) line asks CallFunctionPositional (length atoms) (end_of d)) (add-one (length atoms)) stands))
+
+-- a call of a function of the machine's own
+pub driven_emits : {a b c d e : Draft} (scope : Scope) (line : ℕ) (fn : BuiltinFn) (left right : Atom) → EmitsConst a b scope line LoadConst (BuiltinLiteral fn)
+    → EmitsAtom b c (over 1 scope) line left → EmitsAtom c d (over 2 scope) line right → EmitsPlain d e (over 3 scope) line CallFunctionPositional 2 → EmitsDriven a e scope line fn left right
+driven_emits scope line fn left right callee one two asks =
+    emits_as (emits_then (emits_then (emits_then callee one) two) asks) (λ w. refl)
+    (λ room whole same (calls, _, _, (mid, _, _, (begins, _, _, loads, first), second), stands). (begins, loads, (mid, calls, first, second, stands)))
+
+pub close_emits : {a b c d : Draft} (scope : Scope) (line : ℕ) (x : Atom) → EmitsConst a b scope line LoadConst (BuiltinLiteral builtin.Close) → EmitsAtom b c (over 1 scope) line x
+    → EmitsPlain c d (over 2 scope) line CallFunctionPositional 1 → EmitsOperation a d scope line (operation.Close x)
+close_emits scope line x callee one asks =
+    emits_as (emits_then (emits_then callee one) asks) (λ w. refl)
+    (λ room whole same (calls, _, _, (begins, _, _, loads, first), stands). (begins, loads, (calls, first, stands)))
+
+-- a yield, where the body is a generator's
+pub yield_emits : {A E : Type 0} (r : Result A E) (a b : Draft) (scope : Scope) (line : ℕ) (x : Atom) → scope.kind ≡ Generator → OnOk r (EmitsTaken a b scope line x YieldValue 0)
+    → OnOk r (EmitsOperation a b scope line (operation.Yield x))
+yield_emits (Ok done) a b scope line x generator taken = emits_as taken (λ w. refl) (λ room whole same laid. (generator, laid))
+yield_emits (Err e) a b scope line x generator taken = tt

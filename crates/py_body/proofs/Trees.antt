@@ -6,6 +6,7 @@ use Rattle.py_tree.specs.Tree.{Form, Suite, nothing, first}
 use Rattle.py_tree.specs.Views.{form_of}
 use Rattle.py_tree.specs.Suites.{add, list_suite}
 use Rattle.py_body.specs.declared.sizes.Weights.{Weights}
+use Rattle.py_tree.specs.declared.body.BodyKind.{BodyKind}
 use Rattle.py_tree.specs.Compilable.{FormFits, SuiteFits, statements, statements_in}
 use Rattle.py_body.specs.Sizes.{size_form, size_suite}
 
@@ -36,7 +37,7 @@ statements_at (t ∷ stmts) zero s low is = omega (arith, ap (λ (u : Stmt). sta
 statements_at (t ∷ stmts) (suc i) s low is = let later = statements_at stmts i s (omega (arith, low)) is in omega (arith, later)
 
 -- it fits if all do
-pub fits_at : (in_loop : Bool) (stmts : List Stmt) (i : ℕ) (s : Stmt) → i < length stmts → s ≡ get_or stmts i s → SuiteFits in_loop (list_suite stmts) → FormFits in_loop (form_of s.form)
-fits_at in_loop [] i s low is fits = absurd (omega arith)
-fits_at in_loop (t ∷ stmts) zero s low is fits = subst (λ (u : Stmt). FormFits in_loop (form_of u.form)) (sym is) fits.0
-fits_at in_loop (t ∷ stmts) (suc i) s low is fits = fits_at in_loop stmts i s (omega (arith, low)) is fits.1
+pub fits_at : (kind : BodyKind) (in_loop : Bool) (stmts : List Stmt) (i : ℕ) (s : Stmt) → i < length stmts → s ≡ get_or stmts i s → SuiteFits kind in_loop (list_suite stmts) → FormFits kind in_loop (form_of s.form)
+fits_at kind in_loop [] i s low is fits = absurd (omega arith)
+fits_at kind in_loop (t ∷ stmts) zero s low is fits = subst (λ (u : Stmt). FormFits kind in_loop (form_of u.form)) (sym is) fits.0
+fits_at kind in_loop (t ∷ stmts) (suc i) s low is fits = fits_at kind in_loop stmts i s (omega (arith, low)) is fits.1

@@ -6,6 +6,7 @@ use Rattle.py_code.specs.declared.unit.CodeUnit.{CodeUnit}
 use Rattle.py_code.specs.declared.instruction.Instruction.{Instruction}
 use Rattle.py_code.specs.declared.instruction.Instruction.TheVariants as op
 use Rattle.py_code.specs.declared.literal.Literal.{Literal, None as NoneLiteral}
+use Rattle.py_code.specs.declared.literal.BuiltinFn.{BuiltinFn}
 use Rattle.py_code.specs.Literals.{literals_of}
 use Rattle.py_check.specs.declared.note.Kind.{Kind}
 use Rattle.py_check.specs.declared.note.BlockNote.{BlockNote}
@@ -22,14 +23,15 @@ use Rattle.py_tree.specs.Tree.{Name, Form, Assign, If, IfElse, While, TryExcept,
 use Rattle.py_tree.specs.Tree.{Clauses, no_more, clause, Tree}
 use Rattle.py_tree.specs.Suites.{joined_clauses}
 use Rattle.py_tree.specs.Binding.{bound, locals_of}
+use Rattle.py_tree.specs.Compilable.{FormFits, SuiteFits, ClausesFit}
 use Rattle.py_laid.specs.Fits.{Continues}
-use Rattle.py_laid.specs.Code.{Parts, Labels, Around, Scope, note_of, place, Stands, StandsConst, StandsLocal, LaidAtom, LaidTaken, LaidAtoms, LaidTwo, LaidOperation, LaidExpr, LaidTarget}
+use Rattle.py_laid.specs.Code.{Parts, Labels, Around, Scope, note_of, place, Stands, StandsConst, StandsLocal, LaidAtom, LaidTaken, LaidAtoms, LaidTwo, LaidDriven, LaidOperation, LaidExpr, LaidTarget}
 use Rattle.py_laid.specs.Code.{LaidForget, LaidHandler, LaidBranch, LaidForm, LaidSuite, LaidClauses, LaidBody, on, in_try, before_finally, entry}
 use Rattle.py_body.specs.declared.sizes.Weights.{Weights}
 use Rattle.py_body.specs.declared.scope.Labels.{Labels as OwnLabels}
 use Rattle.py_body.specs.declared.scope.Scope.{Scope as OwnScope}
 use Rattle.py_body.specs.declared.emitter.Emitter.{Emitter}
-use Rattle.py_body.specs.Sizes.{weights, counted, size_two, size_operation, size_expr, size_target, size_form, size_suite, size_clauses, size_forget, size_clause, size_handler}
+use Rattle.py_body.specs.Sizes.{weights, counted, size_two, size_driven, size_operation, size_expr, size_target, size_form, size_suite, size_clauses, size_forget, size_clause, size_handler}
 use Rattle.py_body.specs.Sizes.{size_match, size_opening, size_tried, size_body}
 
 -- ---- scopes
@@ -43,12 +45,22 @@ around_of (Some l) = Some (labels_of l)
 
 -- a scope of the program as one of laid code
 abbrev pub scope_of : OwnScope → Scope
-scope_of s = record { around = around_of s.around; depth = s.depth; blocks = s.blocks }
+scope_of s = record { kind = s.kind; around = around_of s.around; depth = s.depth; blocks = s.blocks }
 
 -- whether there is a loop around
 abbrev pub is_inside : Around → Bool
 is_inside None = false
 is_inside (Some l) = true
+
+-- a statement, a suite and clauses that can be compiled in a scope
+abbrev pub FormIn : Scope → Form → Type 0
+FormIn scope f = FormFits scope.kind (is_inside scope.around) f
+
+abbrev pub SuiteIn : Scope → Suite → Type 0
+SuiteIn scope s = SuiteFits scope.kind (is_inside scope.around) s
+
+abbrev pub ClausesIn : Scope → Clauses → Type 0
+ClausesIn scope cs = ClausesFit scope.kind (is_inside scope.around) cs
 
 -- ---- what an emitter has so far
 
@@ -187,6 +199,9 @@ EmitsAtoms old new scope line atoms = Emits old new (λ w. length atoms * w.inde
 abbrev pub EmitsTwo : Draft → Draft → Scope → ℕ → Atom → Atom → Instruction → ℕ → Type 0
 EmitsTwo old new scope line a b i arg = Emits old new size_two (λ whole at next. LaidTwo whole scope line a b i arg at next)
 
+abbrev pub EmitsDriven : Draft → Draft → Scope → ℕ → BuiltinFn → Atom → Atom → Type 0
+EmitsDriven old new scope line fn a b = Emits old new size_driven (λ whole at next. LaidDriven whole scope line fn a b at next)
+
 abbrev pub EmitsOperation : Draft → Draft → Scope → ℕ → Operation → Type 0
 EmitsOperation old new scope line o = Emits old new (λ w. size_operation w o) (λ whole at next. LaidOperation whole scope line o at next)
 
@@ -300,11 +315,11 @@ EmitsClause labels old new scope end n c x s =
 abbrev pub EmitsBody : Draft → Draft → Tree → Type 0
 EmitsBody old new t =
     Emits old new (λ w. size_body w t.suite)
-    (λ whole at next. SuitePlaced whole.vars t.suite → (ends : ℕ) × LaidSuite whole entry t.suite at ends × StandsConst whole entry t.line ends op.ReturnConst NoneLiteral next)
+    (λ whole at next. SuitePlaced whole.vars t.suite → (ends : ℕ) × LaidSuite whole (entry t.kind) t.suite at ends × StandsConst whole (entry t.kind) t.line ends op.ReturnConst NoneLiteral next)
 
 -- all of a body is emitted
 pub record IsEmitted (d : Draft) (t : Tree) : Type 0 where
   pub vars : d.parts.vars ≡ locals_of t
-  pub laid : LaidBody d.parts t.line t.suite (end_of d)
+  pub laid : LaidBody d.parts t (end_of d)
   pub short : end_of d < 2 ^ 32
   pub matched : IsMatched d

@@ -20,11 +20,19 @@ counted = record { jump = 0; index = 1; plain = 0 }
 abbrev pub size_two : Weights → ℕ
 size_two w = w.index + w.index + w.plain
 
+-- a function of the machine's own, two atoms, and its call with them
+abbrev pub size_driven : Weights → ℕ
+size_driven w = w.index + w.index + w.index + w.plain
+
 abbrev pub size_operation : Weights → Operation → ℕ
 size_operation w (operation.Add a b) = size_two w
 size_operation w (operation.Sub a b) = size_two w
 size_operation w (operation.Lt a b) = size_two w
 size_operation w (operation.Eq a b) = size_two w
+size_operation w (operation.Send a b) = size_driven w
+size_operation w (operation.Throw a b) = size_driven w
+size_operation w (operation.Close a) = w.index + w.index + w.plain
+size_operation w (operation.Yield a) = w.index + w.plain
 size_operation w (operation.Call f atoms) = w.index + length atoms * w.index + w.plain
 
 abbrev pub size_expr : Weights → Expr → ℕ

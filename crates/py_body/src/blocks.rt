@@ -5,9 +5,9 @@ ghost use Rattle.py_code.specs.Units.{is_prefix};
 ghost use Rattle.py_laid.specs.Code.{in_loop};
 ghost use Rattle.py_tree.specs.Tree.{IfElse, TryExcept, TryFinally, While};
 ghost use Rattle.py_tree.specs.Views.{clauses_of, form_of, suite_of};
-ghost use Rattle.py_tree.specs.Compilable.{FormFits, SuiteFits, statements, statements_in};
+ghost use Rattle.py_tree.specs.Compilable.{SuiteFits, statements, statements_in};
 ghost use Rattle.py_body.specs.Sizes.{size_form, size_rounds};
-ghost use Rattle.py_body.specs.Emitting.{draft_of, end_of, is_inside, labels_of, scope_of, weights_of, EmitsBranch, EmitsForm, EmitsSuite};
+ghost use Rattle.py_body.specs.Emitting.{draft_of, end_of, labels_of, scope_of, weights_of, EmitsBranch, EmitsForm, EmitsSuite, FormIn, SuiteIn};
 
 use crate::emitter::Emitter;
 use crate::scope::{Labels, Scope, in_loop};
@@ -20,7 +20,7 @@ impl Emitter {
     #[cycle(compile)]
     pub fn compile_suite(&mut self, suite: &StmtList, scope: &Scope) -> Result<(), NoMemory>
         requires few { statements (suite_of suite.now) ≤ 1048576 }
-        requires fits { SuiteFits (is_inside (scope_of scope.now).around) (suite_of suite.now) }
+        requires fits { SuiteIn (scope_of scope.now) (suite_of suite.now) }
         requires low { (self.old.labels ≤ 3) × (self.old.others ≤ 3) }
         requires depth { scope.now.depth ≤ 1000 }
         ensures code { OnOk result (EmitsSuite self.old.labels (draft_of self.old) (draft_of self.new) (scope_of scope.now) (suite_of suite.now)) }
@@ -36,7 +36,7 @@ impl Emitter {
     #[cycle(compile)]
     fn compile_form(&mut self, form: &StmtForm, scope: &Scope, line: u32) -> Result<(), NoMemory>
         requires few { statements_in (form_of form.now) ≤ 1048576 }
-        requires fits { FormFits (is_inside (scope_of scope.now).around) (form_of form.now) }
+        requires fits { FormIn (scope_of scope.now) (form_of form.now) }
         requires low { (self.old.labels ≤ 3) × (self.old.others ≤ 3) }
         requires depth { scope.now.depth ≤ 1000 }
         ensures code { OnOk result (EmitsForm self.old.labels (draft_of self.old) (draft_of self.new) (scope_of scope.now) line (form_of form.now)) }
@@ -92,7 +92,7 @@ impl Emitter {
     ) -> Result<(), NoMemory>
         requires plain { is_prefix op ≡ false }
         requires few { statements (suite_of suite.now) ≤ 1048575 }
-        requires fits { SuiteFits (is_inside (scope_of scope.now).around) (suite_of suite.now) }
+        requires fits { SuiteIn (scope_of scope.now) (suite_of suite.now) }
         requires low { (self.old.labels ≤ 3) × (self.old.others ≤ 3) }
         requires depth { scope.now.depth ≤ 1000 }
         ensures code { OnOk result (EmitsBranch self.old.labels (draft_of self.old) (draft_of self.new) (scope_of scope.now) line atom.now op (suite_of suite.now)) }
@@ -118,8 +118,8 @@ impl Emitter {
         line: u32,
     ) -> Result<(), NoMemory>
         requires few { statements (suite_of suite.now) + statements (suite_of other.now) ≤ 1048575 }
-        requires fits { SuiteFits (is_inside (scope_of scope.now).around) (suite_of suite.now) }
-        requires fits_other { SuiteFits (is_inside (scope_of scope.now).around) (suite_of other.now) }
+        requires fits { SuiteIn (scope_of scope.now) (suite_of suite.now) }
+        requires fits_other { SuiteIn (scope_of scope.now) (suite_of other.now) }
         requires low { (self.old.labels ≤ 3) × (self.old.others ≤ 3) }
         requires depth { scope.now.depth ≤ 1000 }
         ensures code { OnOk result (EmitsForm self.old.labels (draft_of self.old) (draft_of self.new) (scope_of scope.now) line (IfElse atom.now (suite_of suite.now) (suite_of other.now))) }
@@ -149,7 +149,7 @@ impl Emitter {
         line: u32,
     ) -> Result<(), NoMemory>
         requires few { statements (suite_of suite.now) ≤ 1048575 }
-        requires fits { SuiteFits true (suite_of suite.now) }
+        requires fits { SuiteFits scope.now.kind true (suite_of suite.now) }
         requires low { (self.old.labels ≤ 3) × (self.old.others ≤ 3) }
         requires depth { scope.now.depth ≤ 1000 }
         ensures code { OnOk result (EmitsForm self.old.labels (draft_of self.old) (draft_of self.new) (scope_of scope.now) line (While atom.now (suite_of suite.now))) }
@@ -181,7 +181,7 @@ impl Emitter {
         line: u32,
     ) -> Result<(), NoMemory>
         requires few { statements (suite_of suite.now) ≤ 1048575 }
-        requires fits { SuiteFits true (suite_of suite.now) }
+        requires fits { SuiteFits scope.now.kind true (suite_of suite.now) }
         requires low { (self.old.labels ≤ 3) × (self.old.others ≤ 3) }
         requires depth { scope.now.depth ≤ 1000 }
         requires inner { scope_of inner.now ≡ in_loop (labels_of labels) (scope_of scope.now) }

@@ -1,10 +1,11 @@
 //! The compiler: the code of a body.
 
 ghost use Rattle.std.specs.Prelude.{◌≡◌, ◌+◌, ◌<◌, ◌≤◌, ◌^◌, suc, false, length, List, IfOk, OnOk};
+ghost use Rattle.py_tree.specs.declared.body.BodyKind.{BodyKind};
 ghost use Rattle.py_tree.specs.Tree.{Name};
 ghost use Rattle.py_tree.specs.Compilable.{IsCompilable, SuiteFits, statements};
 ghost use Rattle.py_tree.specs.Views.{suite_of, tree_of};
-ghost use Rattle.py_laid.specs.Code.{IsLaid, IsPlain};
+ghost use Rattle.py_laid.specs.Code.{flags_of, IsLaid, IsPlain};
 ghost use Rattle.py_laid.specs.Fits.{Fits, Continues};
 ghost use Rattle.py_laid.specs.Instructions.{UsesCompiled};
 ghost use Rattle.py_laid.specs.Naming.{IsNamed};
@@ -21,7 +22,7 @@ use py_check::Annotated;
 use py_code::{
     CodeFlags, CodeObject, Instruction, ItemList, Literal, NameSet, Names, NoMemory, PyCode,
 };
-use py_tree::{Body, StmtList};
+use py_tree::{Body, BodyKind, StmtList};
 use std::alloc::Global;
 
 /// Codes in order, each with its notes.
@@ -68,7 +69,7 @@ fn compile_code(alloc: Global, names: &mut Names, body: &Body) -> Result<Annotat
     let code = PyCode::new(CodeObject {
         instructions: emitter.units,
         locations: emitter.locations,
-        flags: CodeFlags::new(CodeFlags::NEW_LOCALS | CodeFlags::IS_OPTIMIZED),
+        flags: flags_of(body.kind),
         posonlyarg_count: 0,
         arg_count: body.params.len() as u32,
         kwonlyarg_count: 0,
@@ -87,6 +88,17 @@ fn compile_code(alloc: Global, names: &mut Names, body: &Body) -> Result<Annotat
         code,
         notes: emitter.notes,
     })
+}
+
+/// What the code of a body of a kind says of itself: it makes a scope, and knows its locals by their places.
+fn flags_of(kind: BodyKind) -> CodeFlags
+    ensures { result ≡ flags_of kind }
+{
+    let flags = CodeFlags::NEW_LOCALS | CodeFlags::IS_OPTIMIZED;
+    match kind {
+        BodyKind::Function => CodeFlags::new(flags),
+        BodyKind::Generator => CodeFlags::new(flags | CodeFlags::IS_GENERATOR),
+    }
 }
 
 /// The units of a body with all that they refer to.
@@ -108,7 +120,7 @@ fn emit_all(emitter: &mut Emitter, body: &Body) -> Result<(), NoMemory>
     requires low { (emitter.old.labels ≤ 3) × (emitter.old.others ≤ 3) }
     ensures { OnOk result (EmitsBody (draft_of emitter.old) (draft_of emitter.new) (tree_of body.now)) }
 {
-    let scope = entry();
+    let scope = entry(body.kind);
     emitter.compile_suite(&body.suite, &scope)?;
     emitter.put_const(
         Instruction::ReturnConst,
@@ -123,7 +135,7 @@ fn emit_all(emitter: &mut Emitter, body: &Body) -> Result<(), NoMemory>
 /// How many prefixes the places of constants, names and locals need: no more of them are used than instructions that have one.
 fn others_for(locals: &NameSet, suite: &StmtList) -> u32
     requires few { statements (suite_of suite.now) ≤ 1048576 }
-    requires fits { SuiteFits false (suite_of suite.now) }
+    requires fits { (kind : BodyKind) × SuiteFits kind false (suite_of suite.now) }
     requires locals { length locals.now ≤ 2097152 }
     ensures low { result ≤ 3 }
     ensures used { size_body counted (suite_of suite.now) ≤ 256 ^ suc result }
@@ -159,7 +171,7 @@ fn width_for(most: u32) -> u32
 /// How many prefixes the labels need, the least number that is enough for each place up to the end.
 fn labels_for(others: u32, suite: &StmtList) -> u32
     requires few { statements (suite_of suite.now) ≤ 1048576 }
-    requires fits { SuiteFits false (suite_of suite.now) }
+    requires fits { (kind : BodyKind) × SuiteFits kind false (suite_of suite.now) }
     requires others { others ≤ 3 }
     ensures low { result ≤ 3 }
     ensures room { size_body (weights result others) (suite_of suite.now) < 256 ^ suc result }
@@ -176,7 +188,7 @@ fn labels_for(others: u32, suite: &StmtList) -> u32
 /// The size of a body where labels and other operands have so many prefixes.
 fn size_with(labels: u32, others: u32, suite: &StmtList) -> u32
     requires few { statements (suite_of suite.now) ≤ 1048576 }
-    requires fits { SuiteFits false (suite_of suite.now) }
+    requires fits { (kind : BodyKind) × SuiteFits kind false (suite_of suite.now) }
     requires low { (labels ≤ 3) × (others ≤ 3) }
     ensures size { result ≡ size_body (weights labels others) (suite_of suite.now) }
     ensures most { result ≤ 1082130436 }

@@ -7,11 +7,11 @@ ghost use Rattle.py_code.specs.declared.instruction.Instruction.TheVariants.{Loa
 ghost use Rattle.py_tree.specs.declared.expr.Operation.TheVariants as operation;
 ghost use Rattle.py_laid.specs.Code.{over};
 ghost use Rattle.py_tree.specs.Compilable.{ExprFits, OperationFits};
-ghost use Rattle.py_body.specs.Emitting.{draft_of, scope_of, EmitsAtom, EmitsAtoms, EmitsConst, EmitsExpr, EmitsOperation, EmitsTwo};
+ghost use Rattle.py_body.specs.Emitting.{draft_of, scope_of, EmitsAtom, EmitsAtoms, EmitsConst, EmitsDriven, EmitsExpr, EmitsOperation, EmitsTwo};
 
 use crate::emitter::Emitter;
 use crate::scope::Scope;
-use py_code::{BinaryOperator, ComparisonOperator, Instruction, Literal, NoMemory};
+use py_code::{BinaryOperator, BuiltinFn, ComparisonOperator, Instruction, Literal, NoMemory};
 use py_tree::{Atom, AtomList, Expr, Operation};
 
 impl Emitter {
@@ -123,6 +123,40 @@ impl Emitter {
         Ok(())
     }
 
+    /// Adds the call of a function of the machine's own with two atoms.
+    fn compile_driven(
+        &mut self,
+        function: BuiltinFn,
+        left: &Atom,
+        right: &Atom,
+        scope: &Scope,
+        line: u32,
+    ) -> Result<(), NoMemory>
+        requires low { self.old.others ≤ 3 }
+        requires depth { scope.now.depth ≤ 1000 }
+        ensures code { OnOk result (EmitsDriven (draft_of self.old) (draft_of self.new) (scope_of scope.now) line function left.now right.now) }
+        ensures widths { (self.new.labels ≡ self.old.labels) × (self.new.others ≡ self.old.others) }
+    {
+        self.load_literal(Literal::Builtin(function), scope, 0, line)?;
+        self.compile_atom(left, scope, 1, line)?;
+        self.compile_atom(right, scope, 2, line)?;
+        self.put_plain(Instruction::CallFunctionPositional, 2, scope, 3, line)?;
+        Ok(())
+    }
+
+    /// Adds the call that closes a generator.
+    fn compile_close(&mut self, atom: &Atom, scope: &Scope, line: u32) -> Result<(), NoMemory>
+        requires low { self.old.others ≤ 3 }
+        requires depth { scope.now.depth ≤ 1000 }
+        ensures code { OnOk result (EmitsOperation (draft_of self.old) (draft_of self.new) (scope_of scope.now) line (operation.Close atom.now)) }
+        ensures widths { (self.new.labels ≡ self.old.labels) × (self.new.others ≡ self.old.others) }
+    {
+        self.load_literal(Literal::Builtin(BuiltinFn::Close), scope, 0, line)?;
+        self.compile_atom(atom, scope, 1, line)?;
+        self.put_plain(Instruction::CallFunctionPositional, 1, scope, 2, line)?;
+        Ok(())
+    }
+
     /// Adds an operator with its operands.
     pub fn compile_operation(
         &mut self,
@@ -130,7 +164,7 @@ impl Emitter {
         scope: &Scope,
         line: u32,
     ) -> Result<(), NoMemory>
-        requires fits { OperationFits operation.now }
+        requires fits { OperationFits scope.now.kind operation.now }
         requires low { self.old.others ≤ 3 }
         requires depth { scope.now.depth ≤ 1000 }
         ensures code { OnOk result (EmitsOperation (draft_of self.old) (draft_of self.new) (scope_of scope.now) line operation.now) }
@@ -165,13 +199,19 @@ impl Emitter {
                     line,
                 )
             }
+            Operation::Send(a, b) => self.compile_driven(BuiltinFn::Send, a, b, scope, line),
+            Operation::Throw(a, b) => self.compile_driven(BuiltinFn::Throw, a, b, scope, line),
+            Operation::Close(atom) => self.compile_close(atom, scope, line),
+            Operation::Yield(atom) => {
+                self.compile_taken(atom, Instruction::YieldValue, 0, scope, line)
+            }
             Operation::Call(callee, atoms) => self.compile_call(callee, atoms, scope, line),
         }
     }
 
     /// Adds an expression.
     pub fn compile_expr(&mut self, expr: &Expr, scope: &Scope, line: u32) -> Result<(), NoMemory>
-        requires fits { ExprFits expr.now }
+        requires fits { ExprFits scope.now.kind expr.now }
         requires low { self.old.others ≤ 3 }
         requires depth { scope.now.depth ≤ 1000 }
         ensures code { OnOk result (EmitsExpr (draft_of self.old) (draft_of self.new) (scope_of scope.now) line expr.now) }

@@ -14,5 +14,6 @@ mod statements;
 
 pub use compile::{AnnotatedList, compile_body};
 pub use py_tree::{
-    Atom, AtomList, Body, Clause, ClauseList, Expr, Operation, ParamList, Stmt, StmtForm, StmtList,
+    Atom, AtomList, Body, BodyKind, Clause, ClauseList, Expr, Operation, ParamList, Stmt, StmtForm,
+    StmtList,
 };

@@ -2,11 +2,12 @@
 
 ghost use Rattle.std.specs.Prelude.{◌≡◌, ◌+◌, ◌%◌, ◌≤◌, ◌^◌, Bool, Some, OnOk};
 ghost use Rattle.py_laid.specs.Code.{in_clauses};
+ghost use Rattle.py_tree.specs.declared.body.BodyKind.{BodyKind};
 ghost use Rattle.py_tree.specs.Tree.{TryExcept, TryFinally};
 ghost use Rattle.py_tree.specs.Views.{clauses_of, suite_of};
-ghost use Rattle.py_tree.specs.Compilable.{ClausesFit, SuiteFits, statements, statements_under};
+ghost use Rattle.py_tree.specs.Compilable.{SuiteFits, statements, statements_under};
 ghost use Rattle.py_body.specs.Sizes.{size_clause, size_opening, size_suite};
-ghost use Rattle.py_body.specs.Emitting.{draft_of, end_of, is_inside, scope_of, weights_of, EmitsClauses, EmitsForget, EmitsForm, EmitsHandler, EmitsMatch, EmitsOpening, EmitsTarget, EmitsTried};
+ghost use Rattle.py_body.specs.Emitting.{draft_of, end_of, scope_of, weights_of, ClausesIn, EmitsClauses, EmitsForget, EmitsForm, EmitsHandler, EmitsMatch, EmitsOpening, EmitsTarget, EmitsTried, SuiteIn};
 
 use crate::emitter::Emitter;
 use crate::scope::{Scope, before_finally, in_clauses, in_finally, in_try};
@@ -25,8 +26,8 @@ impl Emitter {
         line: u32,
     ) -> Result<(), NoMemory>
         requires few { statements (suite_of suite.now) + statements (suite_of last.now) ≤ 1048575 }
-        requires fits { SuiteFits (is_inside (scope_of scope.now).around) (suite_of suite.now) }
-        requires fits_last { SuiteFits (is_inside (scope_of scope.now).around) (suite_of last.now) }
+        requires fits { SuiteIn (scope_of scope.now) (suite_of suite.now) }
+        requires fits_last { SuiteIn (scope_of scope.now) (suite_of last.now) }
         requires low { (self.old.labels ≤ 3) × (self.old.others ≤ 3) }
         requires depth { scope.now.depth ≤ 1000 }
         ensures code { OnOk result (EmitsForm self.old.labels (draft_of self.old) (draft_of self.new) (scope_of scope.now) line (TryFinally (suite_of suite.now) (suite_of last.now))) }
@@ -43,7 +44,7 @@ impl Emitter {
     /// The label of the finally of a try with this suite, which begins here.
     fn handler_label(&self, suite: &StmtList) -> u32
         requires few { statements (suite_of suite.now) ≤ 1048575 }
-        requires fits { (in_loop : Bool) × SuiteFits in_loop (suite_of suite.now) }
+        requires fits { (kind : BodyKind) × (in_loop : Bool) × SuiteFits kind in_loop (suite_of suite.now) }
         requires low { (self.now.labels ≤ 3) × (self.now.others ≤ 3) }
         ensures { result ≡ (end_of (draft_of self.now) + size_opening (weights_of (draft_of self.now)) (size_suite (weights_of (draft_of self.now)) (suite_of suite.now))) % 2 ^ 32 }
     {
@@ -62,7 +63,7 @@ impl Emitter {
         line: u32,
     ) -> Result<(), NoMemory>
         requires few { statements (suite_of suite.now) ≤ 1048575 }
-        requires fits { SuiteFits (is_inside (scope_of scope.now).around) (suite_of suite.now) }
+        requires fits { SuiteIn (scope_of scope.now) (suite_of suite.now) }
         requires low { (self.old.labels ≤ 3) × (self.old.others ≤ 3) }
         requires depth { scope.now.depth ≤ 1000 }
         ensures code { OnOk result (EmitsOpening self.old.labels (draft_of self.old) (draft_of self.new) (scope_of scope.now) line (suite_of suite.now) handler) }
@@ -99,8 +100,8 @@ impl Emitter {
         line: u32,
     ) -> Result<(), NoMemory>
         requires few { statements (suite_of suite.now) + statements_under (clauses_of clauses.now) ≤ 1048575 }
-        requires fits { SuiteFits (is_inside (scope_of scope.now).around) (suite_of suite.now) }
-        requires fits_clauses { ClausesFit (is_inside (scope_of scope.now).around) (clauses_of clauses.now) }
+        requires fits { SuiteIn (scope_of scope.now) (suite_of suite.now) }
+        requires fits_clauses { ClausesIn (scope_of scope.now) (clauses_of clauses.now) }
         requires low { (self.old.labels ≤ 3) × (self.old.others ≤ 3) }
         requires depth { scope.now.depth ≤ 1000 }
         ensures code { OnOk result (EmitsForm self.old.labels (draft_of self.old) (draft_of self.new) (scope_of scope.now) line (TryExcept (suite_of suite.now) (clauses_of clauses.now))) }
@@ -130,7 +131,7 @@ impl Emitter {
         line: u32,
     ) -> Result<(), NoMemory>
         requires few { statements (suite_of suite.now) ≤ 1048575 }
-        requires fits { SuiteFits (is_inside (scope_of scope.now).around) (suite_of suite.now) }
+        requires fits { SuiteIn (scope_of scope.now) (suite_of suite.now) }
         requires low { (self.old.labels ≤ 3) × (self.old.others ≤ 3) }
         requires depth { scope.now.depth ≤ 1000 }
         ensures code { OnOk result (EmitsTried self.old.labels (draft_of self.old) (draft_of self.new) (scope_of scope.now) line (suite_of suite.now) handler end) }
@@ -154,7 +155,7 @@ impl Emitter {
         end: u32,
     ) -> Result<(), NoMemory>
         requires few { statements_under (clauses_of clauses.now) ≤ 1048575 }
-        requires fits { ClausesFit (is_inside (scope_of scope.now).around) (clauses_of clauses.now) }
+        requires fits { ClausesIn (scope_of scope.now) (clauses_of clauses.now) }
         requires within { scope_of within.now ≡ in_clauses (scope_of scope.now) }
         requires low { (self.old.labels ≤ 3) × (self.old.others ≤ 3) }
         requires depth { scope.now.depth ≤ 1000 }
@@ -175,7 +176,7 @@ impl Emitter {
     /// The label behind a clause with this target and suite, which begins here.
     fn clause_label(&self, target: &Option<PyText>, suite: &StmtList) -> u32
         requires few { statements (suite_of suite.now) ≤ 1048574 }
-        requires fits { (in_loop : Bool) × SuiteFits in_loop (suite_of suite.now) }
+        requires fits { (kind : BodyKind) × (in_loop : Bool) × SuiteFits kind in_loop (suite_of suite.now) }
         requires low { (self.now.labels ≤ 3) × (self.now.others ≤ 3) }
         ensures { result ≡ (end_of (draft_of self.now) + size_clause (weights_of (draft_of self.now)) target.now (size_suite (weights_of (draft_of self.now)) (suite_of suite.now))) % 2 ^ 32 }
     {
@@ -235,7 +236,7 @@ impl Emitter {
         line: u32,
     ) -> Result<(), NoMemory>
         requires few { statements (suite_of suite.now) ≤ 1048574 }
-        requires fits { SuiteFits (is_inside (scope_of scope.now).around) (suite_of suite.now) }
+        requires fits { SuiteIn (scope_of scope.now) (suite_of suite.now) }
         requires low { (self.old.labels ≤ 3) × (self.old.others ≤ 3) }
         requires depth { scope.now.depth ≤ 1000 }
         ensures code { OnOk result (EmitsHandler self.old.labels (draft_of self.old) (draft_of self.new) (scope_of scope.now) line target.now (suite_of suite.now)) }
@@ -257,7 +258,7 @@ impl Emitter {
         line: u32,
     ) -> Result<(), NoMemory>
         requires few { statements (suite_of suite.now) ≤ 1048574 }
-        requires fits { SuiteFits (is_inside (scope_of scope.now).around) (suite_of suite.now) }
+        requires fits { SuiteIn (scope_of scope.now) (suite_of suite.now) }
         requires low { (self.old.labels ≤ 3) × (self.old.others ≤ 3) }
         requires depth { scope.now.depth ≤ 1000 }
         ensures code { OnOk result (EmitsHandler self.old.labels (draft_of self.old) (draft_of self.new) (scope_of scope.now) line (Some name.now) (suite_of suite.now)) }

@@ -6,6 +6,7 @@ ghost use Rattle.py_body.specs.Emitting.{around_of, labels_of, scope_of};
 
 use py_check::{BlockList, BlockNote, Kind, KindList, Note, Pending, PendingSet};
 use py_code::NoMemory;
+use py_tree::BodyKind;
 use std::alloc::Global;
 
 /// The labels of a loop: the place behind its end, and that of its test.
@@ -15,9 +16,10 @@ pub struct Labels {
     pub again: u32,
 }
 
-/// The innermost loop around a statement, how many values lie on the stack under it, and which blocks are open.
+/// The kind of the body, the innermost loop around a statement, how many values lie on the stack under it, and which blocks are open.
 #[derive(Debug, Drop)]
 pub struct Scope {
+    pub kind: BodyKind,
     pub around: Option<Labels>,
     pub depth: u32,
     pub blocks: BlockList,
@@ -41,21 +43,23 @@ fn with_block(
     around: Option<Labels>,
     block: BlockNote,
 ) -> Result<Scope, NoMemory>
-    ensures { IfOk result (λ inner. scope_of inner ≡ record { around = around_of around; depth = scope.now.depth; blocks = block ∷ scope.now.blocks }) }
+    ensures { IfOk result (λ inner. scope_of inner ≡ record { kind = scope.now.kind; around = around_of around; depth = scope.now.depth; blocks = block ∷ scope.now.blocks }) }
 {
     let blocks = scope.blocks.with(alloc, block)?;
     Ok(Scope {
+        kind: scope.kind,
         around,
         depth: scope.depth,
         blocks,
     })
 }
 
-/// Where a body is entered.
-pub fn entry() -> Scope
-    ensures { scope_of result ≡ entry }
+/// Where a body of a kind is entered.
+pub fn entry(kind: BodyKind) -> Scope
+    ensures { scope_of result ≡ entry kind }
 {
     Scope {
+        kind,
         around: None,
         depth: 0,
         blocks: BlockList::new(),

@@ -148,6 +148,10 @@ fn size_of_operation(weights: Weights, operation: &Operation) -> u32
         Operation::Sub(_a, _b) => index + index + plain,
         Operation::Lt(_a, _b) => index + index + plain,
         Operation::Eq(_a, _b) => index + index + plain,
+        Operation::Send(_a, _b) => index + index + index + plain,
+        Operation::Throw(_a, _b) => index + index + index + plain,
+        Operation::Close(_atom) => index + index + plain,
+        Operation::Yield(_atom) => index + plain,
         Operation::Call(_callee, atoms) => {
             let loads = atoms.len() as u64 * u64::from(index);
             index + loads as u32 + plain

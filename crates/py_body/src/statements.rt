@@ -23,7 +23,7 @@ impl Emitter {
         scope: &Scope,
         line: u32,
     ) -> Result<(), NoMemory>
-        requires fits { ExprFits expr.now }
+        requires fits { ExprFits scope.now.kind expr.now }
         requires low { (self.old.labels ≤ 3) × (self.old.others ≤ 3) }
         requires depth { scope.now.depth ≤ 1000 }
         ensures code { OnOk result (EmitsForm self.old.labels (draft_of self.old) (draft_of self.new) (scope_of scope.now) line (Assign name.now expr.now)) }
@@ -41,7 +41,7 @@ impl Emitter {
         scope: &Scope,
         line: u32,
     ) -> Result<(), NoMemory>
-        requires fits { OperationFits operation.now }
+        requires fits { OperationFits scope.now.kind operation.now }
         requires low { (self.old.labels ≤ 3) × (self.old.others ≤ 3) }
         requires depth { scope.now.depth ≤ 1000 }
         ensures code { OnOk result (EmitsForm self.old.labels (draft_of self.old) (draft_of self.new) (scope_of scope.now) line (Do operation.now)) }

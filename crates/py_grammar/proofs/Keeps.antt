@@ -7,8 +7,10 @@ use Rattle.std.proofs.lemmas.List.Quantifiers.{all_pairs_push}
 use Rattle.std.proofs.lemmas.List.Folds.{Any-from_list_any, list_any-append}
 use Rattle.std.proofs.lemmas.Bool.{leb-true, and_parts, not-true, or_parts, or_left}
 use Rattle.std.proofs.lemmas.Slice.Eq.{bytes_eq-Decides}
-use Rattle.std.specs.Prelude.{All, Any, bytes_eq, nat_le}
+use Rattle.std.specs.Prelude.{All, Any, Option, None, bytes_eq, nat_le}
 use Rattle.std.specs.List.{list_any, list_all}
+use Rattle.py_tree.specs.declared.body.BodyKind.{BodyKind}
+use Rattle.py_tree.specs.declared.body.BodyKind.TheVariants as body
 use Rattle.py_tree.specs.declared.expr.Expr.{Expr}
 use Rattle.py_tree.specs.declared.expr.Expr.TheVariants as expr
 use Rattle.py_tree.specs.declared.expr.Operation.{Operation}
@@ -21,13 +23,12 @@ use Rattle.py_lines.specs.declared.drive.DriveLine.{DriveLine}
 use Rattle.py_lines.specs.declared.drive.DriveLine.TheVariants as drive
 use Rattle.py_lines.specs.declared.head.Head.TheVariants as head
 use Rattle.py_grammar.specs.declared.rules.Inside.{Inside}
-use Rattle.py_grammar.specs.declared.script.Kind.TheVariants as kind
 use Rattle.py_grammar.specs.declared.script.Script.{Script}
-use Rattle.py_grammar.specs.Rules.{Declared, is_among, all_differ, declares, declares_callable, is_builtin_class, may_declare, is_drivable, may_drive, may_operate, may_compute, body_of, within}
+use Rattle.py_grammar.specs.Rules.{Declared, is_among, all_differ, declares, declares_callable, is_builtin_class, may_declare, numbers_drive, is_drivable, is_thrown, may_drive, may_yield, may_operate, may_compute, body_of, within}
 use Rattle.py_grammar.specs.Grammar.{Item, Declares, Drives, declared_as, WellForm, WellSuite, WellClauses, WellItems, items_rows, trees_in, drives_in}
 use Rattle.py_grammar.specs.Script.{IsScript}
 use Rattle.py_grammar.specs.Tables.{names_of}
-use Rattle.py_grammar.specs.WellFormed.{AreDistinct, IsKnown, IsWellDeclared, IsDrivable, IsWellDriven, AreWellFormed, IsWellFormed}
+use Rattle.py_grammar.specs.WellFormed.{AreDistinct, IsKnown, IsWellDeclared, NumbersDrive, IsDrivable, IsThrowable, IsWellDriven, AreWellFormed, IsWellFormed}
 use Rattle.py_grammar.proofs.Short.{tree_size, script_size}
 use Rattle.py_grammar.proofs.Tables.{declares-names, callable-names}
 use Rattle.py_grammar.proofs.Whole.{well_behind_one}
@@ -57,20 +58,26 @@ all_by_test p P f (x ∷ xs) h = let parts = and_parts (p x) (list_all p xs) h i
 
 -- ---- bodies
 
--- calls have few arguments
-operation_keeps : (o : Operation) → may_operate o ≡ true → OperationFits o
-operation_keeps (operation.Call f args) w = leb-true (length args) 255 w
-operation_keeps o w = tt
+-- only generators yield
+yield_keeps : (k : BodyKind) → may_yield k ≡ true → k ≡ body.Generator
+yield_keeps body.Function w = cc w
+yield_keeps body.Generator w = refl
 
-expr_keeps : (e : Expr) → may_compute e ≡ true → ExprFits e
-expr_keeps (expr.Atom a) w = tt
-expr_keeps (expr.Operation o) w = operation_keeps o w
+-- and calls have few arguments
+operation_keeps : (k : BodyKind) (o : Operation) → may_operate k o ≡ true → OperationFits k o
+operation_keeps k (operation.Yield a) w = yield_keeps k w
+operation_keeps k (operation.Call f args) w = leb-true (length args) 255 w
+operation_keeps k o w = tt
+
+expr_keeps : (k : BodyKind) (e : Expr) → may_compute k e ≡ true → ExprFits k e
+expr_keeps k (expr.Atom a) w = tt
+expr_keeps k (expr.Operation o) w = operation_keeps k o w
 
 -- statements can be compiled where they stand
 mutual
-  form_keeps : (i : Inside) (f : Form) → WellForm i f → FormFits i.in_loop f
-  form_keeps i (Assign x e) w = expr_keeps e w
-  form_keeps i (Do o) w = operation_keeps o w
+  form_keeps : (i : Inside) (f : Form) → WellForm i f → FormFits i.kind i.in_loop f
+  form_keeps i (Assign x e) w = expr_keeps i.kind e w
+  form_keeps i (Do o) w = operation_keeps i.kind o w
   form_keeps i Break w = w
   form_keeps i Continue w = w
   form_keeps i (If a s) w = suite_keeps (within i (head.If a)) s w.1
@@ -80,16 +87,16 @@ mutual
   form_keeps i (TryFinally s t) w = (suite_keeps (within i head.Try) s w.1.0, suite_keeps (within i head.Try) t w.1.1)
   form_keeps i f w = tt
 
-  suite_keeps : (i : Inside) (s : Suite) → WellSuite i s → SuiteFits i.in_loop s
+  suite_keeps : (i : Inside) (s : Suite) → WellSuite i s → SuiteFits i.kind i.in_loop s
   suite_keeps i nothing w = tt
   suite_keeps i (first n f more) w = (form_keeps i f w.0, suite_keeps i more w.1)
 
-  clauses_keep : (i : Inside) (cs : Clauses) → WellClauses i cs → ClausesFit i.in_loop cs
+  clauses_keep : (i : Inside) (cs : Clauses) → WellClauses i cs → ClausesFit i.kind i.in_loop cs
   clauses_keep i no_more w = tt
   clauses_keep i (clause n c x s more) w = (suite_keeps i s w.0, clauses_keep i more w.1)
 
 -- a declaration, behind these
-declared_keeps : (ds : List Declared) (t : Tree) → may_declare ds t.name t.params ≡ true → WellSuite (body_of kind.Function) t.suite
+declared_keeps : (ds : List Declared) (t : Tree) → may_declare ds t.name t.params ≡ true → WellSuite (body_of t.kind) t.suite
     → statements t.suite ≤ 1048576 → IsWellDeclared t
 declared_keeps ds t h w short =
     let new : Bool = not (declares t.name ds) in
@@ -102,7 +109,7 @@ declared_keeps ds t h w short =
       compilable = record {
         distinct = distinct_by_test t.params (and_parts (new && free) differ front).1;
         few = leb-true (length t.params) 255 (and_parts (new && free && differ) few h).1;
-        fits = suite_keeps (body_of kind.Function) t.suite w;
+        fits = suite_keeps (body_of t.kind) t.suite w;
         short = short;
       };
     }
@@ -165,10 +172,17 @@ known_by_test x ts more h = go (declares x (map declared_as ts)) refl h
     go true is known = inl (declared_by_test x ts more (sym (declares-names x ts) ∙ sym is))
     go false is known = inr known
 
+numbers_by_test : (made n : ℕ) → numbers_drive made n ≡ true → NumbersDrive made n
+numbers_by_test made n h = let parts = and_parts (nat_le 1 n) (nat_le n made) h in (leb-true 1 n parts.0, leb-true n made parts.1)
+
 drivable_by_test : (ts more : List Tree) (made : ℕ) (a : DriveAtom) → is_drivable (map declared_as ts) made a ≡ true → IsDrivable (ts ++ more) made a
 drivable_by_test ts more made (argument.Name x) h = known_by_test x ts more h
-drivable_by_test ts more made (argument.Drive n) h = (leb-true 1 n (and_parts (nat_le 1 n) (nat_le n made) h).0, leb-true n made (and_parts (nat_le 1 n) (nat_le n made) h).1)
+drivable_by_test ts more made (argument.Drive n) h = numbers_by_test made n h
 drivable_by_test ts more made a h = tt
+
+throwable_by_test : (ts more : List Tree) (made : ℕ) (v : Option DriveAtom) → is_thrown (map declared_as ts) made v ≡ true → IsThrowable (ts ++ more) made v
+throwable_by_test ts more made None h = tt
+throwable_by_test ts more made (Some a) h = drivable_by_test ts more made a h
 
 -- a drive, behind these declarations and with others to follow
 drive_keeps : (ts more : List Tree) (made : ℕ) (d : DriveLine) → may_drive (map declared_as ts) made d ≡ true → IsWellDriven (ts ++ more) made d
@@ -182,6 +196,16 @@ drive_keeps ts more made (drive.Call f args) h =
       few = leb-true (length args) 255 (and_parts called few front).1;
       args = all_by_test (is_drivable (map declared_as ts) made) (IsDrivable (ts ++ more) made) (drivable_by_test ts more made) args (and_parts (called && few) drivable h).1;
     }
+drive_keeps ts more made (drive.Next n) h = numbers_by_test made n h
+drive_keeps ts more made (drive.Send n a) h =
+    let parts = and_parts (numbers_drive made n) (is_drivable (map declared_as ts) made a) h in
+    record { drive = numbers_by_test made n parts.0; value = drivable_by_test ts more made a parts.1 }
+drive_keeps ts more made (drive.Throw n c v) h =
+    let front : Bool = numbers_drive made n && is_builtin_class c in
+    let parts = and_parts front (is_thrown (map declared_as ts) made v) h in
+    let both = and_parts (numbers_drive made n) (is_builtin_class c) parts.0 in
+    record { drive = numbers_by_test made n both.0; class = both.1; value = throwable_by_test ts more made v parts.1 }
+drive_keeps ts more made (drive.Close n) h = numbers_by_test made n h
 
 -- each drive of the items, behind the declarations and the drives in front of it
 drives_keep : (is : List Item) (ts : List Tree) (made : ℕ) → WellItems (map declared_as ts) made is → (i : ℕ) (d : DriveLine)

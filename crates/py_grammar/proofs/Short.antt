@@ -7,7 +7,6 @@ use Rattle.py_lines.specs.declared.head.Head.TheVariants as head
 use Rattle.py_lines.specs.declared.line.LineRead.{LineRead}
 use Rattle.py_lines.specs.declared.line.LineRead.TheVariants.{Blank, Said, Malformed}
 use Rattle.py_grammar.specs.declared.rules.Inside.{Inside}
-use Rattle.py_grammar.specs.declared.script.Kind.TheVariants as kind
 use Rattle.py_grammar.specs.declared.script.Script.{Script}
 use Rattle.py_grammar.specs.Rules.{body_of, within}
 use Rattle.py_grammar.specs.Lines.{lines, in_first, at_lf}
@@ -88,10 +87,10 @@ mutual
       omega (arith, here, rest, all)
 
 -- a declaration in front of items has as many rows as its body has statements, or more
-pub tree_size : (t : Tree) (is : List Item) → WellSuite (body_of kind.Function) t.suite
+pub tree_size : (t : Tree) (is : List Item) → WellSuite (body_of t.kind) t.suite
     → statements t.suite + length (items_rows is) ≤ length (items_rows (Declares t ∷ is))
 tree_size t is w =
-    let size = suite_size (body_of kind.Function) t.suite w in
+    let size = suite_size (body_of t.kind) t.suite w in
     let whole = length-append (item_rows (Declares t)) (items_rows is) in
     let body = length-append (suite_rows t.suite) (end_row ∷ []) in
     omega (arith, size, whole, body)

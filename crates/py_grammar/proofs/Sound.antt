@@ -1,6 +1,7 @@
 -- What the reader has is what it has read.
 use Rattle.std.proofs.Common.{◌≡◌, ℕ, suc, length, List, [], ◌∷◌, ◌++◌, ◌+◌, arith, Option, Some, None, Bool, true, false, refl, sym, ap, ◌∙◌, append_assoc, append-nil, subst, rules, map}
 use Rattle.std.specs.Prelude.{option_map}
+use Rattle.py_tree.specs.declared.body.BodyKind.{BodyKind}
 use Rattle.py_tree.specs.Tree.{Name, Form, Suite, nothing, first, Clauses, no_more, clause, Tree}
 use Rattle.py_tree.specs.Suites.{joined, add, joined_clauses, with_clause}
 use Rattle.py_lines.specs.declared.drive.DriveLine.{DriveLine}
@@ -14,8 +15,6 @@ use Rattle.py_lines.specs.declared.line.Line.TheVariants as line
 use Rattle.py_lines.specs.declared.plain.Plain.{Plain}
 use Rattle.py_lines.specs.declared.plain.Plain.TheVariants as plain
 use Rattle.py_grammar.specs.declared.rules.Inside.{Inside}
-use Rattle.py_grammar.specs.declared.script.Kind.{Kind}
-use Rattle.py_grammar.specs.declared.script.Kind.TheVariants as kind
 use Rattle.py_grammar.specs.Rules.{Declared, may_declare, body_of, within, may_hold, may_open}
 use Rattle.py_grammar.specs.Grammar.{Row, row, Item, Declares, Drives, declared_as, plain_rows, head_row, except_row, suite_rows, form_rows, clauses_rows, end_row, else_row, finally_row, item_rows, items_rows, trees_in, drives_in, HasClause, WellForm, WellSuite, WellClauses, WellItems}
 use Rattle.py_grammar.specs.Reader.{Began, in_if, in_else, in_while, in_try, in_except, in_finally, began, opener, Block, Open, State, inside_of, inside, plain_form, accept_at, in_body, outside, goes_on, still_inside, only_if, grown, deeper, turned_by, turned_to, turned, ended, function_of, one_block, ended_in, closed, closes}
@@ -38,7 +37,7 @@ blocks_rows (b ∷ bs) = blocks_rows bs ++ (suite_rows b.before ++ began_rows b.
 
 -- rows behind the header of an open body
 abbrev behind_header : Open → List Row → List Row
-behind_header o rows = row o.line (line.Header (header.Def o.name o.params)) ∷ rows
+behind_header o rows = row o.line (line.Header (header.Def o.kind o.name o.params)) ∷ rows
 
 -- the rows of an open body
 abbrev pub open_rows : Open → List Row
@@ -53,12 +52,12 @@ WellBegan i in_try = may_open i ≡ true
 WellBegan i (in_except s cs m c x) = (may_open i ≡ true) × (WellSuite (within i head.Try) s × WellClauses (within i head.Try) cs)
 WellBegan i (in_finally s) = (may_open i ≡ true) × WellSuite (within i head.Try) s
 
-abbrev pub WellBlocks : Kind → List Block → Type 0
+abbrev pub WellBlocks : BodyKind → List Block → Type 0
 WellBlocks k [] = Unit {0}
 WellBlocks k (b ∷ bs) = WellBlocks k bs × (WellSuite (inside_of k bs) b.before × WellBegan (inside_of k bs) b.began)
 
 -- the blocks and the statements of the innermost do, in a body of this kind
-abbrev pub WellWithin : Kind → List Block → Suite → Type 0
+abbrev pub WellWithin : BodyKind → List Block → Suite → Type 0
 WellWithin k bs s = WellBlocks k bs × WellSuite (inside_of k bs) s
 
 -- an open body keeps the rules, behind these declarations
@@ -284,9 +283,9 @@ came_if rows false s f = tt
 -- a line outside of bodies
 outside_sound : (rows : List Row) (ts : List Tree) (ds : List DriveLine) (n : ℕ) (l : Line) → Came rows ts ds None
     → CameTo (rows ++ row n l ∷ []) (outside ts ds n l)
-outside_sound rows ts ds n (line.Header (header.Def f ps)) c = came_if _ _ _ (λ e. record {
+outside_sound rows ts ds n (line.Header (header.Def k f ps)) c = came_if _ _ _ (λ e. record {
   items = c.items;
-  spelled = ap (λ r. r ++ row n (line.Header (header.Def f ps)) ∷ []) (c.spelled ∙ append-nil _);
+  spelled = ap (λ r. r ++ row n (line.Header (header.Def k f ps)) ∷ []) (c.spelled ∙ append-nil _);
   declared = c.declared;
   driven = c.driven;
   well = c.well;
@@ -326,10 +325,6 @@ block_sound : (rows : List Row) (ts : List Tree) (ds : List DriveLine) (o : Open
 block_sound rows ts ds o b bs None e c k = tt
 block_sound rows ts ds o b bs (Some f) e c k = still_sound rows ts ds o end_row (Some (ended_in o b bs f)) c (ended_in_sound ts o b bs f e c.well_open k)
 
--- all bodies are of functions so far
-one_kind : (k : Kind) → k ≡ kind.Function
-one_kind kind.Function = refl
-
 -- the body ends
 body_sound : (rows : List Row) (ts : List Tree) (ds : List DriveLine) (o : Open) → o.blocks ≡ [] → Came rows ts ds (Some o)
     → Came (rows ++ end_row ∷ []) (ts ++ function_of o ∷ []) ds None
@@ -339,7 +334,7 @@ body_sound rows ts ds o e c =
     (one_item rows _ ts ds (Some o) (Declares (function_of o)) c
     (ap (λ x. x ++ end_row ∷ []) c.spelled ∙ append_assoc (items_rows c.items) (open_rows o) (end_row ∷ [])
     ∙ ap (λ x. items_rows c.items ++ (behind_header o (blocks_rows x ++ suite_rows o.done) ++ end_row ∷ [])) e)
-    (c.well_open.0, (subst (λ k. WellSuite (body_of k) o.done) (one_kind o.kind) w, tt)))
+    (c.well_open.0, (w, tt)))
 
 end_sound : (rows : List Row) (ts : List Tree) (ds : List DriveLine) (o : Open) (bs : List Block) → o.blocks ≡ bs → Came rows ts ds (Some o)
     → CameTo (rows ++ end_row ∷ []) (option_map (closes ts ds) (closed o bs))

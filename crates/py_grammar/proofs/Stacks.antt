@@ -1,9 +1,9 @@
 -- The stack of open blocks, by its last element, and where the statements of its innermost block stand.
 use Rattle.std.proofs.Common.{◌≡◌, ◌+◌, ℕ, suc, List, [], ◌∷◌, ◌++◌, Bool, true, false, ◌||◌, refl, ap, ◌∙◌, length, arith}
 use Rattle.std.specs.List.{list_any}
+use Rattle.py_tree.specs.declared.body.BodyKind.{BodyKind}
 use Rattle.py_grammar.specs.declared.open_body.OpenBlock.{OpenBlock}
 use Rattle.py_grammar.specs.declared.rules.Inside.{Inside}
-use Rattle.py_grammar.specs.declared.script.Kind.{Kind}
 use Rattle.py_grammar.specs.Rules.{is_loop}
 use Rattle.py_grammar.specs.Reader.{Block, opener, inside_of}
 use Rattle.py_grammar.specs.Reading.{began_of, block_of, onto, stack_of}
@@ -30,7 +30,7 @@ or_turn true false c = refl
 or_turn false true c = refl
 or_turn false false c = refl
 
-onto-inside : (k : Kind) (around : List Block) (bs : List OpenBlock) → inside_of k (onto around bs) ≡ in_blocks (inside_of k around) bs
+onto-inside : (k : BodyKind) (around : List Block) (bs : List OpenBlock) → inside_of k (onto around bs) ≡ in_blocks (inside_of k around) bs
 onto-inside k around [] =
     let i : Inside = inside_of k around in
     let none : i.blocks ≡ 0 + i.blocks = omega arith in
@@ -47,5 +47,5 @@ or_none true = refl
 or_none false = refl
 
 -- where the statements of the innermost block stand
-pub stack_inside : (k : Kind) (bs : List OpenBlock) → inside_of k (stack_of bs) ≡ record { kind = k; blocks = length bs + 1; in_loop = list_any loops bs }
+pub stack_inside : (k : BodyKind) (bs : List OpenBlock) → inside_of k (stack_of bs) ≡ record { kind = k; blocks = length bs + 1; in_loop = list_any loops bs }
 stack_inside k bs = onto-inside k [] bs ∙ ap (λ (l : Bool). record { kind = k; blocks = length bs + 1; in_loop = l }) (or_none (list_any loops bs))

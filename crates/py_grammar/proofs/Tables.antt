@@ -1,6 +1,6 @@
 -- What tables of names have.
 use Rattle.std.proofs.Common.{◌≡◌, ℕ, List, [], ◌∷◌, Bool, true, false, ◌||◌, ◌&&◌, refl, sym, ap, ◌∙◌, length, map}
-use Rattle.std.specs.Prelude.{bytes_eq, nat_le, not}
+use Rattle.std.specs.Prelude.{Option, Some, None, bytes_eq, nat_le, not}
 use Rattle.std.specs.List.{list_all}
 use Rattle.py_tree.specs.Tree.{Name, Tree}
 use Rattle.py_lines.specs.declared.drive.DriveAtom.{DriveAtom}
@@ -8,8 +8,8 @@ use Rattle.py_lines.specs.declared.drive.DriveAtom.TheVariants as argument
 use Rattle.py_lines.specs.declared.drive.DriveLine.{DriveLine}
 use Rattle.py_lines.specs.declared.drive.DriveLine.TheVariants as drive
 use Rattle.py_grammar.specs.Grammar.{declared_as}
-use Rattle.py_grammar.specs.Rules.{Declared, is_among, all_differ, declares, declares_callable, is_builtin_class, may_declare, is_drivable, may_drive}
-use Rattle.py_grammar.specs.Tables.{names_of, may_head, is_drivable_by, may_drive_by}
+use Rattle.py_grammar.specs.Rules.{Declared, is_among, all_differ, declares, declares_callable, is_builtin_class, may_declare, numbers_drive, is_drivable, is_thrown, may_drive}
+use Rattle.py_grammar.specs.Tables.{names_of, may_head, is_drivable_by, is_thrown_by, may_drive_by}
 
 -- the declarations' names, as the rules ask for them
 pub declares-names : (x : Name) (ts : List Tree) → declares x (map declared_as ts) ≡ is_among x (names_of ts)
@@ -48,6 +48,11 @@ drivable-names : (ts : List Tree) (names : List Name) (made : ℕ) (a : DriveAto
 drivable-names ts names made (argument.Name x) is = ap (λ b. b || is_builtin_class x) (ap (is_among x) is ∙ sym (declares-names x ts))
 drivable-names ts names made a is = refl
 
+thrown-names : (ts : List Tree) (names : List Name) (made : ℕ) (v : Option DriveAtom) → names ≡ names_of ts
+    → is_thrown_by names made v ≡ is_thrown (map declared_as ts) made v
+thrown-names ts names made None is = refl
+thrown-names ts names made (Some a) is = drivable-names ts names made a is
+
 all_alike : {X : Type 0} (p q : X → Bool) → ((x : X) → p x ≡ q x) → (xs : List X) → list_all p xs ≡ list_all q xs
 all_alike p q f [] = refl
 all_alike p q f (x ∷ xs) = ap (λ b. b && list_all p xs) (f x) ∙ ap (λ b. q x && b) (all_alike p q f xs)
@@ -66,3 +71,7 @@ may_drive_names ts names made (drive.Call f args) is =
     turn true false c = refl
     turn false true c = refl
     turn false false c = refl
+may_drive_names ts names made (drive.Next n) is = refl
+may_drive_names ts names made (drive.Send n a) is = ap (λ b. numbers_drive made n && b) (drivable-names ts names made a is)
+may_drive_names ts names made (drive.Throw n c v) is = ap (λ b. numbers_drive made n && is_builtin_class c && b) (thrown-names ts names made v is)
+may_drive_names ts names made (drive.Close n) is = refl

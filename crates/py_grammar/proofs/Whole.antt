@@ -1,6 +1,7 @@
 -- The reader takes the rows of every script.
 use Rattle.std.proofs.Common.{◌≡◌, ℕ, suc, length, List, [], ◌∷◌, ◌++◌, Option, Some, None, true, refl, sym, ap, ◌∙◌, append_assoc, append-nil, length-append, subst, arith, map}
 use Rattle.std.proofs.lemmas.List.{map-append}
+use Rattle.py_tree.specs.declared.body.BodyKind.{BodyKind}
 use Rattle.py_tree.specs.Tree.{Name, Form, Assign, Do, Show, Return, Raise, Reraise, Break, Continue, Pass, If, IfElse, While, TryExcept, TryFinally, Suite, nothing, first, Clauses, no_more, clause, Tree}
 use Rattle.py_tree.specs.Suites.{joined, add, joined_clauses, with_clause}
 use Rattle.py_lines.specs.declared.drive.DriveLine.{DriveLine}
@@ -8,8 +9,6 @@ use Rattle.py_lines.specs.declared.head.Head.{Head}
 use Rattle.py_lines.specs.declared.head.Head.TheVariants as head
 use Rattle.py_lines.specs.declared.plain.Plain.{Plain}
 use Rattle.py_lines.specs.declared.plain.Plain.TheVariants as plain
-use Rattle.py_grammar.specs.declared.script.Kind.{Kind}
-use Rattle.py_grammar.specs.declared.script.Kind.TheVariants as kind
 use Rattle.py_grammar.specs.Rules.{may_drive, within, may_hold, may_open}
 use Rattle.py_grammar.specs.Grammar.{Row, Item, Declares, Drives, declared_as, plain_rows, head_row, suite_rows, form_rows, clauses_rows, end_row, else_row, finally_row, items_rows, trees_in, drives_in, WellForm, WellSuite, WellClauses, WellItems}
 use Rattle.py_grammar.specs.Reader.{Began, in_if, in_else, in_while, in_try, in_except, in_finally, began, Block, State, state, inside_of, plain_form, accept}
@@ -42,7 +41,7 @@ pub joined-nothing : (a : Suite) → joined a nothing ≡ a
 joined-nothing nothing = refl
 joined-nothing (first n s more) = ap (first n s) (joined-nothing more)
 
-module _ (ts : List Tree) (ds : List DriveLine) (line : ℕ) (k : Kind) (name : Name) (params : List Name) where
+module _ (ts : List Tree) (ds : List DriveLine) (line : ℕ) (k : BodyKind) (name : Name) (params : List Name) where
   -- this body is open, with these blocks and these statements in the innermost
   abbrev body_at : List Block → Suite → State
   body_at bs done = state ts ds (Some (record { line = line; kind = k; name = name; params = params; blocks = bs; done = done }))
@@ -142,8 +141,8 @@ pub items_read : (is : List Item) (ts : List Tree) (ds : List DriveLine) (made :
     → run (state ts ds None) (items_rows is) ≡ Some (state (ts ++ trees_in is) (ds ++ drives_in is) None)
 items_read [] ts ds made e w = rw (append-nil ts, append-nil ds) refl
 items_read (Declares t ∷ is) ts ds made e w =
-    rw w.0 (ap (run (body_at ts ds t.line kind.Function t.name t.params [] nothing)) (append_assoc (suite_rows t.suite) (end_row ∷ []) (items_rows is))
-    ∙ suite_read ts ds t.line kind.Function t.name t.params t.suite [] nothing (end_row ∷ items_rows is) w.1.0
+    rw w.0 (ap (run (body_at ts ds t.line t.kind t.name t.params [] nothing)) (append_assoc (suite_rows t.suite) (end_row ∷ []) (items_rows is))
+    ∙ suite_read ts ds t.line t.kind t.name t.params t.suite [] nothing (end_row ∷ items_rows is) w.1.0
     ∙ items_read is (ts ++ t ∷ []) ds made e (well_behind_one ts t made is w.1.1)
     ∙ ap (λ x. Some (state x (ds ++ drives_in is) None)) (append_assoc ts (t ∷ []) (trees_in is)))
 items_read (Drives d ∷ is) ts ds made e w =

@@ -91,7 +91,7 @@ abbrev mutual
   clauses_rows (clause n c x s more) = except_row n c x ∷ (suite_rows s ++ clauses_rows more)
 
 abbrev pub item_rows : Item → List Row
-item_rows (Declares t) = row t.line (line.Header (header.Def t.name t.params)) ∷ (suite_rows t.suite ++ end_row ∷ [])
+item_rows (Declares t) = row t.line (line.Header (header.Def t.kind t.name t.params)) ∷ (suite_rows t.suite ++ end_row ∷ [])
 item_rows (Drives d) = row 0 (line.Drive d) ∷ []
 
 -- the rows of a whole script
@@ -147,5 +147,5 @@ abbrev mutual
 -- so do the items that follow these declarations and so many drives
 abbrev pub WellItems : List Declared → ℕ → List Item → Type 0
 WellItems ds made [] = Unit {0}
-WellItems ds made (Declares t ∷ is) = (may_declare ds t.name t.params ≡ true) × (WellSuite (body_of kind.Function) t.suite × WellItems (ds ++ declared_as t ∷ []) made is)
+WellItems ds made (Declares t ∷ is) = (may_declare ds t.name t.params ≡ true) × (WellSuite (body_of t.kind) t.suite × WellItems (ds ++ declared_as t ∷ []) made is)
 WellItems ds made (Drives d ∷ is) = (may_drive ds made d ≡ true) × WellItems ds (suc made) is

@@ -1,7 +1,8 @@
 -- A reader of lines, by what it has read.
 use Rattle.std.specs.Prelude.{◌≡◌, ℕ, suc, List, [], ◌∷◌, ◌++◌, length, Option, Some, None, option_map, map, Bool, true, false}
+use Rattle.py_tree.specs.declared.body.BodyKind.{BodyKind}
 use Rattle.py_tree.specs.declared.expr.Atom.{Atom}
-use Rattle.py_tree.specs.Tree.{Name, Form, Assign, Do, Show, Return, Raise, Reraise, Break, Continue, Pass, If, IfElse, While, TryExcept, TryFinally, Suite, nothing, Clauses, no_more, clause, Tree}
+use Rattle.py_tree.specs.Tree.{Name, Form, Assign, Do, Show, Return, Raise, Reraise, Break, Continue, Pass, If, IfElse, While, TryExcept, TryFinally, Suite, nothing, Clauses, no_more, Tree}
 use Rattle.py_tree.specs.Suites.{add, with_clause}
 use Rattle.py_lines.specs.declared.drive.DriveLine.{DriveLine}
 use Rattle.py_lines.specs.declared.head.Head.{Head}
@@ -18,8 +19,6 @@ use Rattle.py_lines.specs.declared.plain.Plain.{Plain}
 use Rattle.py_lines.specs.declared.plain.Plain.TheVariants as plain
 use Rattle.py_lines.specs.Reading.{IsReadAs}
 use Rattle.py_grammar.specs.declared.rules.Inside.{Inside}
-use Rattle.py_grammar.specs.declared.script.Kind.{Kind}
-use Rattle.py_grammar.specs.declared.script.Kind.TheVariants as kind
 use Rattle.py_grammar.specs.Grammar.{declared_as}
 use Rattle.py_grammar.specs.Rules.{may_declare, may_drive, body_of, within, may_hold, may_open}
 use Rattle.py_grammar.specs.Script.{Text}
@@ -58,22 +57,22 @@ pub record Block : Type 0 where
 -- an open body: its header, its open blocks from the innermost out, and the statements of the innermost read so far
 pub record Open : Type 0 where
   pub line : ℕ
-  pub kind : Kind
+  pub kind : BodyKind
   pub name : Name
   pub params : List Name
   pub blocks : List Block
   pub done : Suite
 
 -- where the statements of the innermost block stand, in a body of this kind
-abbrev pub inside_of : Kind → List Block → Inside
+abbrev pub inside_of : BodyKind → List Block → Inside
 inside_of k [] = body_of k
 inside_of k (b ∷ bs) = within (inside_of k bs) (opener b.began)
 
 abbrev pub inside : Open → Inside
 inside o = inside_of o.kind o.blocks
 
-abbrev pub opened : ℕ → Name → List Name → Open
-opened n f ps = record { line = n; kind = kind.Function; name = f; params = ps; blocks = []; done = nothing }
+abbrev pub opened : ℕ → BodyKind → Name → List Name → Open
+opened n k f ps = record { line = n; kind = k; name = f; params = ps; blocks = []; done = nothing }
 
 -- ---- lines of a body
 
@@ -156,7 +155,7 @@ pub data Closing : Type 0 where
 
 -- the function that an open body is at its end
 abbrev pub function_of : Open → Tree
-function_of o = record { name = o.name; params = o.params; suite = o.done; line = o.line }
+function_of o = record { kind = o.kind; name = o.name; params = o.params; suite = o.done; line = o.line }
 
 abbrev pub ended_in : Open → Block → List Block → Form → Open
 ended_in o b bs f = record o { blocks = bs; done = add b.before b.line f }
@@ -199,7 +198,7 @@ in_body ts ds o n (line.Drive d) = None
 
 -- the body that a header opens
 abbrev pub headed : List Tree → List DriveLine → ℕ → Header → Option State
-headed ts ds n (header.Def f ps) = only_if (may_declare (map declared_as ts) f ps) (state ts ds (Some (opened n f ps)))
+headed ts ds n (header.Def k f ps) = only_if (may_declare (map declared_as ts) f ps) (state ts ds (Some (opened n k f ps)))
 
 -- a line outside of bodies
 abbrev pub outside : List Tree → List DriveLine → ℕ → Line → Option State

@@ -1,7 +1,9 @@
 -- The rules on lines that look at what stands around them, each a test.
-use Rattle.std.specs.Prelude.{ℕ, suc, List, [], ◌∷◌, length, Bool, true, false, ◌&&◌, ◌||◌, not, nat_le, nat_lt, bytes_eq, map}
+use Rattle.std.specs.Prelude.{ℕ, suc, List, [], ◌∷◌, length, Bool, Option, Some, None, true, false, ◌&&◌, ◌||◌, not, nat_le, nat_lt, bytes_eq, map}
 use Rattle.std.specs.List.{list_any, list_all}
 use Rattle.py_objects.specs.ErrorKinds.{error_kinds, name_of}
+use Rattle.py_tree.specs.declared.body.BodyKind.{BodyKind}
+use Rattle.py_tree.specs.declared.body.BodyKind.TheVariants as body
 use Rattle.py_tree.specs.declared.expr.Expr.{Expr}
 use Rattle.py_tree.specs.declared.expr.Expr.TheVariants as expr
 use Rattle.py_tree.specs.declared.expr.Operation.{Operation}
@@ -53,6 +55,10 @@ is_builtin_class f = is_among f (map name_of error_kinds)
 abbrev pub may_declare : List Declared → Name → List Name → Bool
 may_declare ds f ps = not (declares f ds) && not (is_builtin_class f) && all_differ ps && nat_le (length ps) 255
 
+-- whether a number is that of one of so many drives, which are numbered from 1
+abbrev pub numbers_drive : ℕ → ℕ → Bool
+numbers_drive made n = nat_le 1 n && nat_le n made
+
 -- whether, behind these declarations and so many drives, a drive may have this argument:
 -- a literal, the name of a declaration or of a built-in class, or the number of a drive
 abbrev pub is_drivable : List Declared → ℕ → DriveAtom → Bool
@@ -61,31 +67,50 @@ is_drivable ds made (argument.Bool b) = true
 is_drivable ds made (argument.Int n) = true
 is_drivable ds made (argument.Str s) = true
 is_drivable ds made (argument.Name x) = declares x ds || is_builtin_class x
-is_drivable ds made (argument.Drive n) = nat_le 1 n && nat_le n made
+is_drivable ds made (argument.Drive n) = numbers_drive made n
+
+-- whether it may throw this value with a class, where there is one
+abbrev pub is_thrown : List Declared → ℕ → Option DriveAtom → Bool
+is_thrown ds made None = true
+is_thrown ds made (Some a) = is_drivable ds made a
 
 -- whether, behind these declarations and so many drives, this drive may stand: it calls what can be called,
--- with at most 255 arguments, each of which may stand here
+-- with at most 255 arguments, each of which may stand here; or it goes on with what an earlier drive returned, where that
+-- is a generator (Python Language Reference, 6.2.9.1). What is thrown is of a built-in class
 abbrev pub may_drive : List Declared → ℕ → DriveLine → Bool
 may_drive ds made (drive.Call f args) = declares_callable f ds && nat_le (length args) 255 && list_all (is_drivable ds made) args
+may_drive ds made (drive.Next n) = numbers_drive made n
+may_drive ds made (drive.Send n a) = numbers_drive made n && is_drivable ds made a
+may_drive ds made (drive.Throw n c v) = numbers_drive made n && is_builtin_class c && is_thrown ds made v
+may_drive ds made (drive.Close n) = numbers_drive made n
 
 -- ---- what stands in a body
 
--- whether an operation may stand in a body: a call has at most 255 arguments
-abbrev pub may_operate : Operation → Bool
-may_operate (operation.Add a b) = true
-may_operate (operation.Sub a b) = true
-may_operate (operation.Lt a b) = true
-may_operate (operation.Eq a b) = true
-may_operate (operation.Call f atoms) = nat_le (length atoms) 255
+-- whether a yield may stand in a body of this kind (Python Language Reference, 6.2.9)
+abbrev pub may_yield : BodyKind → Bool
+may_yield body.Function = false
+may_yield body.Generator = true
 
-abbrev pub may_compute : Expr → Bool
-may_compute (expr.Atom a) = true
-may_compute (expr.Operation o) = may_operate o
+-- whether an operation may stand in a body of this kind: a call has at most 255 arguments
+abbrev pub may_operate : BodyKind → Operation → Bool
+may_operate k (operation.Add a b) = true
+may_operate k (operation.Sub a b) = true
+may_operate k (operation.Lt a b) = true
+may_operate k (operation.Eq a b) = true
+may_operate k (operation.Send a b) = true
+may_operate k (operation.Throw a b) = true
+may_operate k (operation.Close a) = true
+may_operate k (operation.Yield a) = may_yield k
+may_operate k (operation.Call f atoms) = nat_le (length atoms) 255
+
+abbrev pub may_compute : BodyKind → Expr → Bool
+may_compute k (expr.Atom a) = true
+may_compute k (expr.Operation o) = may_operate k o
 
 -- ---- where it stands
 
 -- where the statements of a body of this kind stand: the body is open alone
-abbrev pub body_of : Kind → Inside
+abbrev pub body_of : BodyKind → Inside
 body_of k = record { kind = k; blocks = 1; in_loop = false }
 
 abbrev pub is_loop : Head → Bool
@@ -99,8 +124,8 @@ within i h = record { kind = i.kind; blocks = suc i.blocks; in_loop = is_loop h 
 
 -- whether a plain statement may stand somewhere
 abbrev pub may_hold : Inside → Plain → Bool
-may_hold i (plain.Assign x e) = may_compute e
-may_hold i (plain.Do o) = may_operate o
+may_hold i (plain.Assign x e) = may_compute i.kind e
+may_hold i (plain.Do o) = may_operate i.kind o
 may_hold i (plain.Show a) = true
 may_hold i (plain.Return a) = true
 may_hold i (plain.Raise a) = true

@@ -8,7 +8,7 @@ use Rattle.py_lines.specs.declared.drive.DriveLine.{DriveLine}
 use Rattle.py_lines.specs.declared.drive.DriveLine.TheVariants as drive
 use Rattle.py_grammar.specs.declared.open_body.OpenBody.{OpenBody}
 use Rattle.py_grammar.specs.declared.script.Script.{Script}
-use Rattle.py_grammar.specs.Rules.{is_among, all_differ, is_builtin_class}
+use Rattle.py_grammar.specs.Rules.{is_among, all_differ, is_builtin_class, numbers_drive}
 
 -- the lines of a text so far
 pub record SoFar : Type 0 where
@@ -35,8 +35,17 @@ is_drivable_by names made (argument.Bool b) = true
 is_drivable_by names made (argument.Int n) = true
 is_drivable_by names made (argument.Str s) = true
 is_drivable_by names made (argument.Name x) = is_among x names || is_builtin_class x
-is_drivable_by names made (argument.Drive n) = nat_le 1 n && nat_le n made
+is_drivable_by names made (argument.Drive n) = numbers_drive made n
+
+-- this value with a class
+abbrev pub is_thrown_by : List Name → ℕ → Option DriveAtom → Bool
+is_thrown_by names made None = true
+is_thrown_by names made (Some a) = is_drivable_by names made a
 
 -- and whether a drive may stand
 abbrev pub may_drive_by : List Name → ℕ → DriveLine → Bool
 may_drive_by names made (drive.Call f args) = nat_le (length args) 255 && is_among f names && list_all (is_drivable_by names made) args
+may_drive_by names made (drive.Next n) = numbers_drive made n
+may_drive_by names made (drive.Send n a) = numbers_drive made n && is_drivable_by names made a
+may_drive_by names made (drive.Throw n c v) = numbers_drive made n && is_builtin_class c && is_thrown_by names made v
+may_drive_by names made (drive.Close n) = numbers_drive made n

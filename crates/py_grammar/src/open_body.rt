@@ -11,10 +11,9 @@ ghost use Rattle.py_tree.specs.Suites.{with_clause as is_with_clause};
 ghost use Rattle.py_grammar.specs.Reading.{began_of, closing_of, open_of};
 
 use crate::rules::{Inside, may_hold, may_open};
-use crate::script::Kind;
 use py_code::{NoMemory, PyText};
 use py_lines::{Head, Line, Plain, Turn};
-use py_tree::{Atom, Body, Clause, ClauseList, ParamList, Stmt, StmtForm, StmtList};
+use py_tree::{Atom, Body, BodyKind, Clause, ClauseList, ParamList, Stmt, StmtForm, StmtList};
 use std::alloc::Global;
 use std::mem;
 
@@ -56,7 +55,7 @@ pub struct OpenBlock {
 #[derive(Drop)]
 pub struct OpenBody {
     line: u32,
-    kind: Kind,
+    kind: BodyKind,
     name: PyText,
     params: ParamList,
     blocks: Vec<OpenBlock>,
@@ -243,12 +242,18 @@ fn have_loop(blocks: &[OpenBlock]) -> bool
 
 impl OpenBody {
     /// The body of a function of which the header alone was read.
-    pub fn new(alloc: Global, line: u32, name: PyText, params: ParamList) -> OpenBody
-        ensures { open_of result ≡ opened line name params }
+    pub fn new(
+        alloc: Global,
+        line: u32,
+        kind: BodyKind,
+        name: PyText,
+        params: ParamList,
+    ) -> OpenBody
+        ensures { open_of result ≡ opened line kind name params }
     {
         OpenBody {
             line,
-            kind: Kind::Function,
+            kind,
             name,
             params,
             blocks: Vec::new(alloc),
@@ -349,6 +354,7 @@ impl OpenBody {
         } = self;
         let Some(block) = blocks.pop() else {
             return Ok(Some(Closed::Function(Body {
+                kind,
                 name,
                 params,
                 suite: done,

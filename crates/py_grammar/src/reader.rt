@@ -15,7 +15,7 @@ use crate::rules::{may_declare, may_drive};
 use crate::script::{DeclList, Declaration, DriveList, Script};
 use py_code::{NameSet, NoMemory, PyText};
 use py_lines::{DriveLine, Header, Line};
-use py_tree::{Body, ParamList};
+use py_tree::{Body, BodyKind, ParamList};
 use std::alloc::Global;
 use std::marker::Model;
 
@@ -121,18 +121,19 @@ impl Reader {
         whole: Script,
         names: NameSet,
         number: u32,
+        kind: BodyKind,
         name: PyText,
         params: ParamList,
     ) -> Result<Reader, NoMemory>
         requires table { names ≡ names_of (trees_of whole) }
         requires allowed { may_head names name params ≡ true }
-        ensures { IfOk result (λ next. state_of next ≡ state (trees_of whole) whole.drives (Some (opened number name params))) }
+        ensures { IfOk result (λ next. state_of next ≡ state (trees_of whole) whole.drives (Some (opened number kind name params))) }
     {
         let mut names = names;
         names.insert(&name)?;
         Ok(Reader {
             whole,
-            inside: Some(OpenBody::new(alloc, number, name, params)),
+            inside: Some(OpenBody::new(alloc, number, kind, name, params)),
             names,
         })
     }
@@ -144,14 +145,15 @@ impl Reader {
         whole: Script,
         names: NameSet,
         number: u32,
+        kind: BodyKind,
         name: PyText,
         params: ParamList,
     ) -> Result<Option<Reader>, NoMemory>
         requires { names ≡ taken_names (trees_of whole) None }
-        ensures { IfOk result (λ next. option_map state_of next ≡ headed (trees_of whole) whole.drives number (DefHeader name params)) }
+        ensures { IfOk result (λ next. option_map state_of next ≡ headed (trees_of whole) whole.drives number (DefHeader kind name params)) }
     {
         if may_declare(&names, &name, &params) {
-            Reader::begin(alloc, whole, names, number, name, params).map(Some)
+            Reader::begin(alloc, whole, names, number, kind, name, params).map(Some)
         } else {
             Ok(None)
         }
@@ -195,8 +197,8 @@ impl Reader {
         ensures { IfOk result (λ next. option_map state_of next ≡ outside (trees_of whole) whole.drives number line) }
     {
         match line {
-            Line::Header(Header::Def(name, params)) => {
-                Reader::open(alloc, whole, names, number, name, params)
+            Line::Header(Header::Def(kind, name, params)) => {
+                Reader::open(alloc, whole, names, number, kind, name, params)
             }
             Line::Drive(drive) => Reader::drive(whole, names, drive),
             Line::End | Line::Plain(_) | Line::Opens(_) | Line::Turns(_) => Ok(None),

@@ -6,14 +6,14 @@ ghost use Rattle.py_objects.specs.ErrorKinds.{name_of};
 ghost use Rattle.py_grammar.specs.Grammar.{declared_as};
 ghost use Rattle.py_grammar.specs.Script.{trees_of};
 ghost use Rattle.py_grammar.specs.Rules.{is_among as is_among_names, all_differ as do_all_differ, is_builtin_class as is_builtin};
-ghost use Rattle.py_grammar.specs.Rules.{may_compute as may_be_computed, may_drive as may_be_driven, may_hold as may_be_held, may_open as may_be_opened, may_operate as may_be_operated};
-ghost use Rattle.py_grammar.specs.Tables.{may_head, names_of, is_drivable_by, may_drive_by};
+ghost use Rattle.py_grammar.specs.Rules.{may_compute as may_be_computed, may_drive as may_be_driven, may_hold as may_be_held, may_open as may_be_opened, may_operate as may_be_operated, may_yield as may_be_yielded_in, numbers_drive as numbers_a_drive};
+ghost use Rattle.py_grammar.specs.Tables.{may_head, names_of, is_drivable_by, is_thrown_by, may_drive_by};
 
-use crate::script::{Kind, Script};
+use crate::script::Script;
 use py_code::{NameSet, PyText, same_text};
 use py_lines::{DriveAtom, DriveLine, Plain};
 use py_objects::ErrorKind;
-use py_tree::{Expr, Operation, ParamList};
+use py_tree::{BodyKind, Expr, Operation, ParamList};
 
 /// How many blocks may be open at once, the body among them.
 const MOST_BLOCKS: usize = 64;
@@ -22,7 +22,7 @@ const MOST_BLOCKS: usize = 64;
 #[derive(Clone, Copy, Debug, PartialEq, Eq)]
 pub struct Inside {
     /// What the body is of.
-    pub kind: Kind,
+    pub kind: BodyKind,
     /// How many blocks are open, the body among them.
     pub blocks: usize,
     /// Whether a loop is one of them.
@@ -73,6 +73,13 @@ pub fn may_declare(names: &NameSet, name: &PyText, params: &ParamList) -> bool
         && all_differ(params.as_slice())
 }
 
+/// Whether a number is that of one of so many drives.
+fn numbers_drive(made: usize, number: u128) -> bool
+    ensures { result ≡ numbers_a_drive made number }
+{
+    1 <= number && number <= made as u128
+}
+
 /// Whether a drive may have this argument, behind functions with the names of the table and so many drives.
 fn is_drivable(names: &NameSet, made: usize, atom: &DriveAtom) -> bool
     ensures { result ≡ is_drivable_by names.now made atom.now }
@@ -83,7 +90,7 @@ fn is_drivable(names: &NameSet, made: usize, atom: &DriveAtom) -> bool
         DriveAtom::Int(_) => true,
         DriveAtom::Str(_) => true,
         DriveAtom::Name(name) => names.contains(name) || is_builtin_class(name),
-        DriveAtom::Drive(number) => 1 <= *number && *number <= made as u64,
+        DriveAtom::Drive(number) => numbers_drive(made, u128::from(*number)),
     }
 }
 
@@ -91,6 +98,16 @@ fn are_drivable(names: &NameSet, made: usize, atoms: &[DriveAtom]) -> bool
     ensures { result ≡ list_all (is_drivable_by names.now made) atoms.now }
 {
     atoms.iter().all(|atom| is_drivable(names, made, atom))
+}
+
+/// Whether a drive may throw this value with a class, where there is one.
+fn is_thrown(names: &NameSet, made: usize, value: &Option<DriveAtom>) -> bool
+    ensures { result ≡ is_thrown_by names.now made value.now }
+{
+    match value {
+        None => true,
+        Some(atom) => is_drivable(names, made, atom),
+    }
 }
 
 /// Whether a drive may stand behind functions with the names of the table and so many drives.
@@ -101,6 +118,14 @@ fn may_follow(names: &NameSet, made: usize, drive: &DriveLine) -> bool
         DriveLine::Call(name, args) => {
             args.len() <= 255 && names.contains(name) && are_drivable(names, made, args.as_slice())
         }
+        DriveLine::Next(number) => numbers_drive(made, *number),
+        DriveLine::Send(number, atom) => {
+            numbers_drive(made, *number) && is_drivable(names, made, atom)
+        }
+        DriveLine::Throw(number, class, value) => {
+            numbers_drive(made, *number) && is_builtin_class(class) && is_thrown(names, made, value)
+        }
+        DriveLine::Close(number) => numbers_drive(made, *number),
     }
 }
 
@@ -113,23 +138,35 @@ pub fn may_drive(names: &NameSet, whole: &Script, drive: &DriveLine) -> bool
     may_follow(names, whole.drives.len(), drive)
 }
 
-/// Whether an operation may stand in a body.
-fn may_operate(operation: &Operation) -> bool
-    ensures { result ≡ may_be_operated operation.now }
+/// Whether a yield may stand in a body of this kind.
+fn may_yield(kind: BodyKind) -> bool
+    ensures { result ≡ may_be_yielded_in kind }
+{
+    match kind {
+        BodyKind::Function => false,
+        BodyKind::Generator => true,
+    }
+}
+
+/// Whether an operation may stand in a body of this kind.
+fn may_operate(kind: BodyKind, operation: &Operation) -> bool
+    ensures { result ≡ may_be_operated kind operation.now }
 {
     match operation {
         Operation::Add(_, _) | Operation::Sub(_, _) | Operation::Lt(_, _) | Operation::Eq(_, _) =>
             true,
+        Operation::Send(_, _) | Operation::Throw(_, _) | Operation::Close(_) => true,
+        Operation::Yield(_) => may_yield(kind),
         Operation::Call(_, args) => args.len() <= 255,
     }
 }
 
-fn may_compute(value: &Expr) -> bool
-    ensures { result ≡ may_be_computed value.now }
+fn may_compute(kind: BodyKind, value: &Expr) -> bool
+    ensures { result ≡ may_be_computed kind value.now }
 {
     match value {
         Expr::Atom(_) => true,
-        Expr::Operation(operation) => may_operate(operation),
+        Expr::Operation(operation) => may_operate(kind, operation),
     }
 }
 
@@ -138,8 +175,8 @@ pub fn may_hold(inside: Inside, plain: &Plain) -> bool
     ensures { result ≡ may_be_held inside plain.now }
 {
     match plain {
-        Plain::Assign(_, value) => may_compute(value),
-        Plain::Do(operation) => may_operate(operation),
+        Plain::Assign(_, value) => may_compute(inside.kind, value),
+        Plain::Do(operation) => may_operate(inside.kind, operation),
         Plain::Show(_) => true,
         Plain::Return(_) => true,
         Plain::Raise(_) => true,

@@ -10,14 +10,14 @@ use py_tree::Body;
 /// What a declaration declares.
 #[derive(Clone, Copy, Debug, PartialEq, Eq)]
 pub enum Kind {
-    /// `def`: a function.
+    /// `def` or `gen`: a function, or one whose calls make generators.
     Function,
 }
 
 /// What a script declares.
 #[derive(Debug, Drop)]
 pub enum Declaration {
-    /// `def f p ..`, its statements and `end`.
+    /// `def f p ..` or `gen f p ..`, its statements and `end`.
     Function(Body),
 }
 

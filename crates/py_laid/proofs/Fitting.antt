@@ -1,6 +1,4 @@
 -- Laid code that is plain fits its tree.
-use Rattle.std.proofs.Common.{ap}
-use Rattle.py_rows.specs.RunOfRows.{is_thrown_into}
 use Rattle.py_laid.specs.Laws.{LaidCodeFits}
 use Rattle.py_laid.proofs.NamingLemmas.{NamesAll-below, NamesAll-grown, params_named}
 use Rattle.py_tree.specs.Binding.{locals_of}
@@ -9,6 +7,7 @@ use Rattle.py_laid.proofs.TypingCode.{laid_code_is_typed}
 
 pub laid_code_fits : LaidCodeFits
 laid_code_fits table globals code t laid plain named = record {
+  kind = laid.kind;
   arity = laid.arity;
   params = params_named table globals code.code t laid.arity named;
   sound = record {
@@ -20,5 +19,5 @@ laid_code_fits table globals code t laid plain named = record {
   };
   traces = λ grown dict closure objects slot args ts s grows same run.
       runs_are_traces globals code t grown dict closure objects slot args ts s laid (NamesAll-grown table grown _ globals grows named.names)
-      (NamesAll-grown table grown _ (locals_of t) grows named.varnames) (ap is_thrown_into plain.flags) same run;
+      (NamesAll-grown table grown _ (locals_of t) grows named.varnames) same run;
 }

@@ -57,6 +57,11 @@ module _ (parts : Parts) where
   operation_bound scope line (operation.Sub a b) at next laid = two_bound scope line a b _ _ at next laid
   operation_bound scope line (operation.Lt a b) at next laid = two_bound scope line a b _ _ at next laid
   operation_bound scope line (operation.Eq a b) at next laid = two_bound scope line a b _ _ at next laid
+  operation_bound scope line (operation.Send a b) at next (begins, loads, laid) = omega (arith, stands_bound loads.1, two_bound (on scope) line a b _ _ begins next laid)
+  operation_bound scope line (operation.Throw a b) at next (begins, loads, laid) = omega (arith, stands_bound loads.1, two_bound (on scope) line a b _ _ begins next laid)
+  operation_bound scope line (operation.Close a) at next (begins, loads, (asks, one, stands)) =
+      omega (arith, stands_bound loads.1, atom_bound (on scope) line a begins asks one, stands_bound stands)
+  operation_bound scope line (operation.Yield a) at next (generator, (asks, one, stands)) = omega (arith, atom_bound scope line a at asks one, stands_bound stands)
   operation_bound scope line (operation.Call f atoms) at next (mid, asks, one, rest, stands) =
       omega (arith, atom_bound scope line f at mid one, atoms_bound (on scope) line atoms mid asks rest, stands_bound stands)
 

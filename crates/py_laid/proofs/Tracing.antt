@@ -1,13 +1,14 @@
 -- A run of code that is laid for a tree is a trace of it: the frame starts, its suite runs where no block is open, and its end
--- is the outcome's.
-use Rattle.std.proofs.Common.{◌≡◌, ℕ, zero, suc, List, [], ◌∷◌, ◌++◌, false, refl, sym, ap, ◌∙◌, subst, length, le_refl, inl, inr}
-use Rattle.std.specs.Prelude.{Option, None}
+-- is the outcome's; or it ends by what is thrown in before its start.
+use Rattle.std.proofs.Common.{◌≡◌, ℕ, zero, suc, List, [], ◌∷◌, ◌++◌, Bool, true, false, ◌||◌, refl, sym, ap, ◌∙◌, subst, length, le_refl, inl, inr}
+use Rattle.std.specs.Prelude.{Option, None, ◌==◌}
 use Rattle.py_code.specs.declared.instruction.Instruction.TheVariants.{ReturnConst}
 use Rattle.py_code.specs.declared.literal.Literal.{None as NoneLiteral}
 use Rattle.py_objects.specs.declared.refs.PyBaseExceptionRef.{PyBaseExceptionRef}
 use Rattle.py_objects.specs.declared.payload.Payload.{Payload}
 use Rattle.py_objects.specs.declared.payload.Payload.TheVariants as payload
 use Rattle.py_objects.specs.declared.event.ResumeHow.TheVariants as how
+use Rattle.py_objects.specs.declared.event.GotAnswer.TheVariants as got
 use Rattle.py_objects.specs.declared.event.Ending.TheVariants as ending
 use Rattle.py_objects.specs.Objects.{Obj}
 use Rattle.py_objects.specs.Own.{Own, Resumes, Ends}
@@ -16,13 +17,18 @@ use Rattle.py_rows.specs.declared.block.UnwindReason.{UnwindReason}
 use Rattle.py_rows.specs.declared.block.UnwindReason.TheVariants as reason
 use Rattle.py_rows.specs.declared.expect.Expect.{Expect}
 use Rattle.py_rows.specs.declared.expect.Expect.TheVariants as expect
-use Rattle.py_rows.specs.States.{Setting, State, Stuck, waiting}
+use Rattle.py_rows.specs.States.{State, Stuck, waiting}
 use Rattle.py_rows.specs.Unwinding.{unwind, unwinds}
-use Rattle.py_rows.specs.RunOfRows.{is_thrown_into, Hears, filled, started}
-use Rattle.py_tree.specs.Tree.{Name, Tree}
+use Rattle.py_rows.specs.RunOfRows.{Hears, filled, started}
+use Rattle.py_rows.specs.Signature.{kind_by}
+use Rattle.py_code.specs.declared.flags.TheConstants.CodeFlags.{IS_GENERATOR, IS_COROUTINE}
+use Rattle.py_check.specs.WholeCode.{counts_if}
+use Rattle.py_tree.specs.declared.body.BodyKind.{BodyKind}
+use Rattle.py_tree.specs.declared.body.BodyKind.TheVariants.{Function, Generator}
+use Rattle.py_tree.specs.Tree.{Name, Tree, seen_as}
 use Rattle.py_tree.specs.Binding.{Env, locals_of, start_env}
 use Rattle.py_tree.specs.Outcome.{Outcome, Normal, Breaks, Continues, Returns, Raises, Cut, RunsSuite}
-use Rattle.py_tree.specs.Trace.{EndsBy, IsBegun}
+use Rattle.py_tree.specs.Trace.{Ended, EndsBy, IsBegun}
 use Rattle.py_laid.specs.Code.{Scope, entry, StandsConst, IsLaid}
 use Rattle.py_laid.specs.Naming.{NamesAll}
 use Rattle.py_laid.specs.Laws.{RunsAreTraces}
@@ -35,12 +41,13 @@ use Rattle.py_laid.proofs.Asking.{unwinds_left}
 use Rattle.py_laid.proofs.Loads.{const_run}
 use Rattle.py_laid.proofs.Running.{suite_run}
 
--- a frame that hasn't begun starts, where no exception is thrown into it
-entered : (objects : List Payload) (setting : Setting) (x : Own) (y : Expect) → is_thrown_into setting.code.code.flags ≡ false → Hears objects setting expect.Start x y
-    → (event : ℕ) × (x ≡ Resumes event how.Start) × (y ≡ expect.Go)
-entered objects setting (Resumes event how.Start) y flags is = (event, refl, is)
-entered objects setting (Resumes event (how.Throw e)) y flags (exception, is, thrown) = absurd (cc)
-entered objects setting _ y flags never = absurd never
+-- a code into whose frames exceptions are thrown before they begin is that of a generator, where its flags are those of the kind
+thrown_kind : (generator coroutine : Bool) (kind : BodyKind) → kind_by generator coroutine ≡ seen_as kind → (generator || coroutine) ≡ true → kind ≡ Generator
+thrown_kind false false kind is thrown = absurd (cc thrown)
+thrown_kind generator coroutine Generator is thrown = refl
+thrown_kind true false Function is thrown = absurd (cc is)
+thrown_kind false true Function is thrown = absurd (cc is)
+thrown_kind true true Function is thrown = absurd (cc is)
 
 module _ (ex : Execution) where
   -- a frame that has ended tells no more
@@ -102,21 +109,38 @@ module _ (globals : List Name) (code : Annotated) (t : Tree) (table : List (List
       let long : length now.locals ≡ length (locals_of t) = length-filled (length code.code.code.varnames.items) args ∙ laid.locals in
       let env : env_of (locals_of t) now.locals ≡ start_env t args = ap (λ (k : ℕ). env_of (locals_of t) (filled k args)) laid.locals ∙ sym (begun-env_of (locals_of t) args) in
       let (ends, suite, stands) = laid.laid in
-      let told = suite_run ex t.suite entry 0 ends suite (end_context ex ends n) (le_refl 0) (le_refl ends) (none_run ex entry t.line ends _ n stands) now 0 n event ts (le_refl n) long run in
+      let told = suite_run ex t.suite (entry t.kind) 0 ends suite (end_context ex ends n) (le_refl 0) (le_refl ends) (none_run ex (entry t.kind) t.line ends _ n stands) now 0 n event ts (le_refl n) long run in
       subst (λ (e : Env). RunsSuite (scene_of ex) t.suite e None event ts (EndsBy (scene_of ex))) env told
 
+  -- what is thrown into a frame that hasn't begun ends it
+  thrown_told : (slot : Option PyBaseExceptionRef) (args : List Obj) (e : PyBaseExceptionRef) (n : ℕ) (ts : List Own) → Told ex n (waiting (expect.Heard (got.Raise e)) (started code.code slot args)) ts
+      → Ended (ending.Raise e) ts
+  unfolding unwinds
+  thrown_told slot args e zero ts none = inl none
+  thrown_told slot args e (suc n) ts (inl move) =
+      let (mid, is, rest) = step_left ex n (unwinds (reason.Raising e) (waiting expect.Go (started code.code slot args))) ts move in
+      inr (0, is ∙ ap (λ (us : List Own). Ends 0 (ending.Raise e) ∷ us) (ended_run ex n (waiting expect.Go (started code.code slot args)) mid rest))
+  thrown_told slot args e (suc n) ts (inr (x, w, mid, never, is, run)) = absurd never
+
+  -- a frame that hasn't begun starts, or ends by what is thrown in
+  entered_told : (slot : Option PyBaseExceptionRef) (args : List Obj) (n : ℕ) (x : Own) (y : Expect) (ts : List Own) → Hears objects (setting_of ex) expect.Start x y
+      → Told ex n (waiting y (started code.code slot args)) ts → IsBegun (scene_of ex) t args (x ∷ ts)
+  entered_told slot args n (Resumes event how.Start) y ts is run =
+      suite_told slot args n event ts (subst (λ (z : Expect). Told ex n (waiting z (started code.code slot args)) ts) is run)
+  entered_told slot args n (Resumes event (how.Throw e)) y ts (exception, is, thrown) run = (
+    thrown_kind (counts_if code.code.code.flags IS_GENERATOR == 1) (counts_if code.code.code.flags IS_COROUTINE == 1) t.kind laid.kind thrown,
+    thrown_told slot args e n ts (subst (λ (z : Expect). Told ex n (waiting z (started code.code slot args)) ts) is run),
+  )
+  entered_told slot args n _ y ts never run = absurd never
+
   -- a run of the code has told a beginning of what the body tells
-  begun_run : (slot : Option PyBaseExceptionRef) (args : List Obj) (n : ℕ) (ts : List Own) → is_thrown_into code.code.code.flags ≡ false
-      → Told ex n (started code.code slot args) ts → IsBegun (scene_of ex) t args ts
-  begun_run slot args zero ts flags none = subst (IsBegun (scene_of ex) t args) (sym none) tt
-  begun_run slot args (suc n) ts flags (inl stuck) = absurd (step_left ex n Stuck ts stuck)
-  begun_run slot args (suc n) ts flags (inr (x, w, mid, hears, is, run)) =
-      let (event, starts, goes) = entered objects (setting_of ex) x w flags hears in
-      let told = suite_told slot args n event mid (subst (λ (y : Expect). Told ex n (waiting y (started code.code slot args)) mid) goes run) in
-      subst (IsBegun (scene_of ex) t args) (sym (is ∙ ap (λ (y : Own). y ∷ mid) starts)) (tt, told)
+  begun_run : (slot : Option PyBaseExceptionRef) (args : List Obj) (n : ℕ) (ts : List Own) → Told ex n (started code.code slot args) ts → IsBegun (scene_of ex) t args ts
+  begun_run slot args zero ts none = subst (IsBegun (scene_of ex) t args) (sym none) tt
+  begun_run slot args (suc n) ts (inl stuck) = absurd (step_left ex n Stuck ts stuck)
+  begun_run slot args (suc n) ts (inr (x, w, mid, hears, is, run)) = subst (IsBegun (scene_of ex) t args) (sym is) (entered_told slot args n x w mid hears run)
 
 -- each run of the rows, whole or cut, is a trace in which each unit asks for a statement of its line
 pub runs_are_traces : RunsAreTraces
-runs_are_traces globals code t table dict closure objects slot args ts s laid globals_named locals_named flags same run =
+runs_are_traces globals code t table dict closure objects slot args ts s laid globals_named locals_named same run =
     let (n, told) = run_steps objects (record { code = code.code; names = table; globals = dict; closure = closure }) (started code.code slot args) s ts run in
-    (same, (ts, refl, begun_run globals code t table dict closure objects laid globals_named locals_named slot args n ts flags told))
+    (same, (ts, refl, begun_run globals code t table dict closure objects laid globals_named locals_named slot args n ts told))

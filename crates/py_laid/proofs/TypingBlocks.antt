@@ -53,6 +53,7 @@ module _ (code : Noted) where
   safe_inside : (b : BlockNote) (scope : Scope) → Safe code scope → level_of b ≡ scope.depth → ((kinds : List Kind) → length kinds ≡ scope.depth → handler_lands code.sheet b kinds scope.blocks ≡ true)
       → is_subset (pending_of b) (pending_of b) ≡ true → Safe code (inside b scope)
   safe_inside b scope safe level lands waiting = record {
+    yields = safe.yields;
     nest = and_from _ _ (le-leb _ _ (omega (arith, level))) (subst (λ (n : ℕ). levels_nest n scope.blocks ≡ true) (sym level) safe.nest);
     land = (λ kinds long. lands kinds (long ∙ level), safe.land);
     same = and_from _ _ (block_fits-self b waiting) safe.same;
@@ -122,7 +123,7 @@ module _ (code : Noted) where
   fine_loop scope l fine stops again =
       let within : Safe code (inside (Loop scope.depth) scope) = safe_inside (Loop scope.depth) scope fine.safe refl (λ kinds long. refl) refl in
       record {
-        safe = record { nest = within.nest; land = within.land; same = within.same };
+        safe = record { yields = within.yields; nest = within.nest; land = within.land; same = within.same };
         walk = (
           labels code scope l.stop stops,
           labels code (in_loop l scope) l.again again,

@@ -1,5 +1,5 @@
 -- Laid code that is plain keeps the typing rules with its notes: those on the whole code, and those on each unit.
-use Rattle.std.proofs.Common.{◌≡◌, ◌≤◌, ℕ, List, true, refl, ap, length, arith}
+use Rattle.std.proofs.Common.{◌≡◌, ◌≤◌, ℕ, List, true, refl, ap, ◌∙◌, length, arith}
 use Rattle.std.specs.Prelude.{Option}
 use Rattle.std.proofs.lemmas.Bool.{and_from, lt-ltb, le-leb, eq-eqb}
 use Rattle.py_code.specs.declared.flags.TheConstants.CodeFlags.{HAS_VARARGS, HAS_VARKEYWORDS}
@@ -9,10 +9,12 @@ use Rattle.py_check.specs.declared.annotated.Annotated.{Annotated}
 use Rattle.py_check.specs.Constants.{loads}
 use Rattle.py_check.specs.Sheet.{Sheet, sheet_of}
 use Rattle.py_check.specs.WholeCode.{is_start, counts_match, counts_if, parameters, parameters_fit, cells_fit, keeps_whole}
-use Rattle.py_check.specs.Typing.{IsTyped}
-use Rattle.py_tree.specs.Tree.{Name, Suite, Tree}
+use Rattle.py_check.specs.Typing.{is_generator, IsTyped}
+use Rattle.py_tree.specs.declared.body.BodyKind.{BodyKind}
+use Rattle.py_tree.specs.declared.body.BodyKind.TheVariants.{Function, Generator}
+use Rattle.py_tree.specs.Tree.{Name, Tree}
 use Rattle.py_tree.specs.Binding.{locals_of}
-use Rattle.py_laid.specs.Code.{entry, StandsConst, LaidBody, IsLaid, IsPlain}
+use Rattle.py_laid.specs.Code.{entry, StandsConst, LaidBody, IsLaid, flags_of, IsPlain}
 use Rattle.py_laid.specs.Laws.{LaidCodeIsTyped}
 use Rattle.py_laid.proofs.TypingUnits.{Noted, parts_of, Free, In, Keeps, keeps_then, stands_in, stands_kept}
 use Rattle.py_laid.proofs.TypingBlocks.{Fine}
@@ -21,26 +23,39 @@ use Rattle.py_laid.proofs.BindingLemmas.{bound_by-longer}
 
 -- ---- bodies
 
-module _ (code : Noted) where
+-- whether a code of these flags may yield, by the kind of its body
+yields_by : (kind : BodyKind) (flags : ℕ) → flags ≡ flags_of kind → kind ≡ Generator → is_generator flags ≡ true
+yields_by kind flags is generator = ap is_generator (is ∙ ap flags_of generator)
+
+module _ (code : Noted) (t : Tree) (flags : code.sheet.flags ≡ flags_of t.kind) where
   -- statements may stand at the entry
-  fine_entry : Fine code entry
-  fine_entry = record { safe = record { nest = refl; land = tt; same = refl }; walk = tt }
+  fine_entry : Fine code (entry t.kind)
+  fine_entry = record { safe = record { yields = yields_by t.kind code.sheet.flags flags; nest = refl; land = tt; same = refl }; walk = tt }
 
   -- the return of None, behind which nothing stands
-  return_keeps : (header at next : ℕ) → StandsConst (parts_of code) entry header at op.ReturnConst NoneLiteral next → Free code at → In code entry at × Keeps code at next
+  return_keeps : (header at next : ℕ) → StandsConst (parts_of code) (entry t.kind) header at op.ReturnConst NoneLiteral next → Free code at → In code (entry t.kind) at × Keeps code at next
   return_keeps header at next (i, stands, here) free = (
-    stands_in code entry header at i next op.ReturnConst stands free,
-    stands_kept code entry header at i next op.ReturnConst stands free fine_entry.safe (λ k is_next. ap (λ (o : Option Literal). loads o (λ kind. true)) here),
+    stands_in code (entry t.kind) header at i next op.ReturnConst stands free,
+    stands_kept code (entry t.kind) header at i next op.ReturnConst stands free fine_entry.safe (λ k is_next. ap (λ (o : Option Literal). loads o (λ kind. true)) here),
   )
 
   -- the first unit is entered without values and blocks, and each keeps the rules
-  body_keeps : (header : ℕ) (s : Suite) (end : ℕ) → LaidBody (parts_of code) header s end → In code entry 0 × Keeps code 0 end
-  body_keeps header s end (ends, laid, ret) =
-      let typed = suite_typed code s entry 0 ends laid refl in
-      let (there, kept) = return_keeps header ends end ret typed.free in
+  body_keeps : (end : ℕ) → LaidBody (parts_of code) t end → In code (entry t.kind) 0 × Keeps code 0 end
+  body_keeps end (ends, laid, ret) =
+      let typed = suite_typed code t.suite (entry t.kind) 0 ends laid refl in
+      let (there, kept) = return_keeps t.line ends end ret typed.free in
       (typed.enters there, keeps_then code 0 ends end (typed.kept fine_entry there) kept)
 
 -- ---- codes
+
+-- no kind of body has further arguments
+no_varargs : (kind : BodyKind) → counts_if (flags_of kind) HAS_VARARGS ≡ 0
+no_varargs Function = refl
+no_varargs Generator = refl
+
+no_varkeywords : (kind : BodyKind) → counts_if (flags_of kind) HAS_VARKEYWORDS ≡ 0
+no_varkeywords Function = refl
+no_varkeywords Generator = refl
 
 module _ (globals : List Name) (code : Annotated) (t : Tree) (laid : IsLaid globals code t) (plain : IsPlain code t) where
   abbrev noted : Noted
@@ -55,8 +70,8 @@ module _ (globals : List Name) (code : Annotated) (t : Tree) (laid : IsLaid glob
     spelled = plain.spelled;
   }
 
-  body : In noted entry 0 × Keeps noted 0 (length code.code.code.instructions.items)
-  body = body_keeps noted t.line t.suite (length code.code.code.instructions.items) laid.laid
+  body : In noted (entry t.kind) 0 × Keeps noted 0 (length code.code.code.instructions.items)
+  body = body_keeps noted t plain.flags (length code.code.code.instructions.items) laid.laid
 
   counts : counts_match (sheet_of code) ≡ true
   counts = and_from _ _ (and_from _ _ (and_from _ _ (lt-ltb _ _ body.0.low) (lt-ltb _ _ laid.short)) (eq-eqb _ _ laid.located)) (eq-eqb _ _ laid.noted)
@@ -66,8 +81,8 @@ module _ (globals : List Name) (code : Annotated) (t : Tree) (laid : IsLaid glob
     arith,
     laid.arity,
     plain.kwonlyarg_count,
-    ap (λ (flags : ℕ). counts_if flags HAS_VARARGS) plain.flags,
-    ap (λ (flags : ℕ). counts_if flags HAS_VARKEYWORDS) plain.flags,
+    ap (λ (flags : ℕ). counts_if flags HAS_VARARGS) plain.flags ∙ no_varargs t.kind,
+    ap (λ (flags : ℕ). counts_if flags HAS_VARKEYWORDS) plain.flags ∙ no_varkeywords t.kind,
   )
 
   parameters_within : parameters_fit (sheet_of code) ≡ true

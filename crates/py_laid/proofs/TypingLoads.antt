@@ -8,15 +8,18 @@ use Rattle.std.proofs.lemmas.List.{length-drop, length-replicate}
 use Rattle.std.proofs.lemmas.Option.{slice_get_within}
 use Rattle.py_code.specs.declared.instruction.Instruction.{Instruction}
 use Rattle.py_code.specs.declared.instruction.Instruction.TheVariants as op
-use Rattle.py_code.specs.declared.literal.Literal.{Literal, None as NoneLiteral, Bool as BoolLiteral, Int as IntLiteral, Str as StrLiteral}
+use Rattle.py_code.specs.declared.literal.Literal.{Literal, None as NoneLiteral, Bool as BoolLiteral, Int as IntLiteral, Str as StrLiteral, Builtin as BuiltinLiteral}
+use Rattle.py_code.specs.declared.literal.BuiltinFn.{BuiltinFn}
+use Rattle.py_code.specs.declared.literal.BuiltinFn.TheVariants as builtin
 use Rattle.py_check.specs.declared.note.Kind.{Kind}
 use Rattle.py_check.specs.declared.note.Kind.TheVariants.{Any}
 use Rattle.py_check.specs.declared.note.BlockNote.{BlockNote}
 use Rattle.py_check.specs.Constants.{is_loaded, kind_of, loads}
 use Rattle.py_check.specs.Landing.{goes_on, jumps, top_level}
 use Rattle.py_check.specs.Effects.{Effect, gives, effect, has_operand}
-use Rattle.py_check.specs.Taking.{takes_top, may_move}
+use Rattle.py_check.specs.Taking.{takes, takes_top, may_move}
 use Rattle.py_check.specs.Typing.{keeps_own, keeps_by, keeps_op}
+use Rattle.py_tree.specs.declared.body.BodyKind.TheVariants.{Generator}
 use Rattle.py_tree.specs.declared.expr.Atom.{Atom}
 use Rattle.py_tree.specs.declared.expr.Atom.TheVariants as atom
 use Rattle.py_tree.specs.declared.expr.Expr.{Expr}
@@ -24,7 +27,7 @@ use Rattle.py_tree.specs.declared.expr.Expr.TheVariants as expr
 use Rattle.py_tree.specs.declared.expr.Operation.{Operation}
 use Rattle.py_tree.specs.declared.expr.Operation.TheVariants as operation
 use Rattle.py_tree.specs.Tree.{Name}
-use Rattle.py_laid.specs.Code.{Scope, on, over, place, Stands, StandsConst, LaidName, LaidAtom, LaidAtoms, LaidTwo, LaidOperation, LaidExpr, LaidTarget}
+use Rattle.py_laid.specs.Code.{Scope, on, over, place, Stands, StandsConst, LaidName, LaidAtom, LaidAtoms, LaidTwo, LaidDriven, LaidOperation, LaidExpr, LaidTarget}
 use Rattle.py_laid.proofs.NoteLemmas.{kinds_of, length-kinds_of, takes-Any, top_level-low}
 use Rattle.py_laid.proofs.TypingUnits.{Noted, parts_of, Free, In, Safe, safe_on, Keeps, keeps_none, keeps_then, goes, jumps_to, Asks, stands_free, stands_in, stands_kept}
 
@@ -104,15 +107,15 @@ module _ (code : Noted) where
   raised_safe zero scope safe = safe
   raised_safe (suc n) scope safe = raised_safe n (on scope) (safe_on code scope safe)
 
-  -- so many values are taken, and the answer is pushed
-  pub answer_typed : (scope : Scope) (n line at arg next : ℕ) (i : Instruction) → effect i arg ≡ gives n → has_operand code.sheet i arg ≡ true
+  -- so many values are taken, and the answer is pushed, which is all that an instruction asks of the notes
+  given_typed : (scope : Scope) (n line at arg next : ℕ) (i : Instruction)
+      → ((k : ℕ) (kinds : List Kind) → takes (replicate n Any) kinds scope.blocks (λ rest. goes_on code.sheet (k + 1) (Any ∷ rest) scope.blocks) ≡ true → keeps_op code.sheet k i arg kinds scope.blocks ≡ true)
       → Stands (parts_of code) (over n scope) line at i arg next → Free code at → Typed (Safe code scope) (over n scope) (on scope) at next
-  answer_typed scope n line at arg next i is there stands free =
+  given_typed scope n line at arg next i keeps stands free =
       subst (λ (from : Scope). Typed (Safe code scope) from (on scope) at next) (sym (over-raised n scope))
       (unit_typed (Safe code scope) (raised n scope) (on scope) line at arg next i (subst (λ (from : Scope). Stands (parts_of code) from line at i arg next) (over-raised n scope) stands) free
       (λ safe. subst (Safe code) (over-raised n scope) (raised_safe n scope safe))
-      (λ safe enters k is_next. ap (λ (e : Effect). keeps_by code.sheet k e (has_operand code.sheet i arg) (keeps_own code.sheet k i arg kinds scope.blocks) kinds scope.blocks) is
-      ∙ and_from _ _ there (takes-Any n kinds scope.blocks (λ rest. goes_on code.sheet (k + 1) (Any ∷ rest) scope.blocks) (omega (arith, many, top_level-low scope.depth scope.blocks safe.nest))
+      (λ safe enters k is_next. keeps k kinds (takes-Any n kinds scope.blocks (λ rest. goes_on code.sheet (k + 1) (Any ∷ rest) scope.blocks) (omega (arith, many, top_level-low scope.depth scope.blocks safe.nest))
       (goes_as (on scope) (safe_on code scope safe) (Any ∷ drop n kinds) k next is_next enters (omega (arith, many, length-drop n kinds))))))
     where
       kinds : List Kind
@@ -120,6 +123,18 @@ module _ (code : Noted) where
 
       many : length kinds ≡ n + scope.depth
       many = length-replicate (n + scope.depth) Any
+
+  -- the same of an instruction of the table of effects
+  pub answer_typed : (scope : Scope) (n line at arg next : ℕ) (i : Instruction) → effect i arg ≡ gives n → has_operand code.sheet i arg ≡ true
+      → Stands (parts_of code) (over n scope) line at i arg next → Free code at → Typed (Safe code scope) (over n scope) (on scope) at next
+  answer_typed scope n line at arg next i is there stands free =
+      given_typed scope n line at arg next i
+      (λ k kinds taken. ap (λ (e : Effect). keeps_by code.sheet k e (has_operand code.sheet i arg) (keeps_own code.sheet k i arg kinds scope.blocks) kinds scope.blocks) is ∙ and_from _ _ there taken) stands free
+
+  -- and of a call, which takes its callee besides
+  pub call_typed : (scope : Scope) (n line at next : ℕ) → Stands (parts_of code) (over (suc n) scope) line at op.CallFunctionPositional n next → Free code at
+      → Typed (Safe code scope) (over (suc n) scope) (on scope) at next
+  call_typed scope n line at next stands free = given_typed scope (suc n) line at n next op.CallFunctionPositional (λ k kinds taken. taken) stands free
 
   -- ---- loads
 
@@ -175,18 +190,48 @@ module _ (code : Noted) where
       joined (Safe code scope) scope (on scope) (on scope) at mid next front
       (joined (Safe code scope) (on scope) (on (on scope)) (on scope) mid asks next second (answer_typed scope 2 line asks arg next i is there stands second.free))
 
+  -- the value on top is yielded, and what is sent is pushed
+  yield_typed : (scope : Scope) (line at next : ℕ) → scope.kind ≡ Generator → Stands (parts_of code) (on scope) line at op.YieldValue 0 next → Free code at
+      → Typed (Safe code scope) (on scope) (on scope) at next
+  yield_typed scope line at next generator stands free =
+      unit_typed (Safe code scope) (on scope) (on scope) line at 0 next op.YieldValue stands free (safe_on code scope)
+      (λ safe there k is_next. and_from _ _ (safe.yields generator)
+      (takes_one scope safe (λ rest. goes_on code.sheet (k + 1) (Any ∷ rest) scope.blocks)
+      (goes_as (on scope) (safe_on code scope safe) (Any ∷ kinds_of scope) k next is_next there (ap suc (length-kinds_of scope)))))
+
+  -- the call of a function of the machine's own with two atoms
+  driven_typed : (scope : Scope) (line : ℕ) (fn : BuiltinFn) (a b : Atom) (at next : ℕ) → is_loaded (BuiltinLiteral fn) ≡ true → LaidDriven (parts_of code) scope line fn a b at next → Free code at
+      → Typed (Safe code scope) scope (on scope) at next
+  driven_typed scope line fn a b at next loaded (begins, callee, (mid, asks, one, other, stands)) free =
+      let front = const_typed scope line at begins (BuiltinLiteral fn) loaded callee free in
+      let second = atom_typed_on scope line a begins mid one front.free in
+      let third = typed_by (Safe code (on scope)) (Safe code scope) (on (on scope)) (on (on (on scope))) mid asks (safe_on code scope) (atom_typed_on (on scope) line b mid asks other second.free) in
+      joined (Safe code scope) scope (on scope) (on scope) at begins next front
+      (joined (Safe code scope) (on scope) (on (on scope)) (on scope) begins mid next second
+      (joined (Safe code scope) (on (on scope)) (on (on (on scope))) (on scope) mid asks next third (call_typed scope 2 line asks next stands third.free)))
+
   pub operation_typed : (scope : Scope) (line : ℕ) (o : Operation) (at next : ℕ) → LaidOperation (parts_of code) scope line o at next → Free code at → Typed (Safe code scope) scope (on scope) at next
   operation_typed scope line (operation.Add a b) at next laid free = two_typed scope line a b op.BinaryOperation _ at next refl refl laid free
   operation_typed scope line (operation.Sub a b) at next laid free = two_typed scope line a b op.BinaryOperation _ at next refl refl laid free
   operation_typed scope line (operation.Lt a b) at next laid free = two_typed scope line a b op.CompareOperation _ at next refl refl laid free
   operation_typed scope line (operation.Eq a b) at next laid free = two_typed scope line a b op.CompareOperation _ at next refl refl laid free
+  operation_typed scope line (operation.Send a b) at next laid free = driven_typed scope line builtin.Send a b at next refl laid free
+  operation_typed scope line (operation.Throw a b) at next laid free = driven_typed scope line builtin.Throw a b at next refl laid free
+  operation_typed scope line (operation.Close a) at next (begins, callee, (asks, one, stands)) free =
+      let front = const_typed scope line at begins (BuiltinLiteral builtin.Close) refl callee free in
+      let second = atom_typed_on scope line a begins asks one front.free in
+      joined (Safe code scope) scope (on scope) (on scope) at begins next front
+      (joined (Safe code scope) (on scope) (on (on scope)) (on scope) begins asks next second (call_typed scope 1 line asks next stands second.free))
+  operation_typed scope line (operation.Yield a) at next (generator, (asks, loads, stands)) free =
+      let front = atom_typed scope line a at asks loads free in
+      joined (Safe code scope) scope (on scope) (on scope) at asks next front (yield_typed scope line asks next generator stands front.free)
   operation_typed scope line (operation.Call f atoms) at next (mid, asks, callee, loads_all, stands) free =
       let front = atom_typed scope line f at mid callee free in
       let behind : Scope = over (length atoms) (on scope) in
       let args = typed_by (Safe code (on scope)) (Safe code scope) (on scope) behind mid asks (safe_on code scope) (atoms_typed atoms (on scope) line mid asks loads_all front.free) in
       joined (Safe code scope) scope (on scope) (on scope) at mid next front
       (joined (Safe code scope) (on scope) behind (on scope) mid asks next args
-      (answer_typed scope (suc (length atoms)) line asks (length atoms) next op.CallFunctionPositional refl refl stands args.free))
+      (call_typed scope (length atoms) line asks next stands args.free))
 
   pub expr_typed : (scope : Scope) (line : ℕ) (e : Expr) (at next : ℕ) → LaidExpr (parts_of code) scope line e at next → Free code at → Typed (Safe code scope) scope (on scope) at next
   expr_typed scope line (expr.Atom a) at next laid free = atom_typed scope line a at next laid free

@@ -14,7 +14,8 @@ use Rattle.py_check.specs.Notes.{level_of, blocks_fit, note_fits}
 use Rattle.py_check.specs.Operands.{is_prefixed, prefixes, carried, carried_by, operand, is_label}
 use Rattle.py_check.specs.Sheet.{Sheet}
 use Rattle.py_check.specs.Landing.{has_room, levels_nest, lands, goes_on, jumps, handler_lands, handlers_land}
-use Rattle.py_check.specs.Typing.{keeps_op, keeps_both, keeps_at}
+use Rattle.py_check.specs.Typing.{is_generator, keeps_op, keeps_both, keeps_at}
+use Rattle.py_tree.specs.declared.body.BodyKind.TheVariants.{Generator}
 use Rattle.py_tree.specs.Tree.{Name}
 use Rattle.py_laid.specs.Code.{Parts, Scope, on, note_of, Holds, Stands}
 use Rattle.py_laid.proofs.NoteLemmas.{kinds_of, length-kinds_of, kinds_fit-Any, length-bottom, levels_nest-on}
@@ -54,8 +55,9 @@ module _ (code : Noted) where
   Lands [] = Unit {0}
   Lands (b ∷ blocks) = ((kinds : List Kind) → length kinds ≡ level_of b → handler_lands code.sheet b kinds blocks ≡ true) × Lands blocks
 
-  -- the levels of a scope nest, what leaves its blocks comes to their handlers, and its blocks fit themselves
+  -- only a generator's scope may yield, its levels nest, what leaves its blocks comes to their handlers, and its blocks fit themselves
   pub record Safe (scope : Scope) : Type 0 where
+    pub yields : scope.kind ≡ Generator → is_generator code.sheet.flags ≡ true
     pub nest : levels_nest scope.depth scope.blocks ≡ true
     pub land : Lands scope.blocks
     pub same : blocks_fit scope.blocks scope.blocks ≡ true
@@ -72,7 +74,7 @@ module _ (code : Noted) where
 
   -- a scope stays safe with one more value
   pub safe_on : (scope : Scope) → Safe scope → Safe (on scope)
-  safe_on scope safe = record { nest = levels_nest-on scope.depth scope.blocks safe.nest; land = safe.land; same = safe.same }
+  safe_on scope safe = record { yields = safe.yields; nest = levels_nest-on scope.depth scope.blocks safe.nest; land = safe.land; same = safe.same }
 
   -- each unit from one place up to another keeps the rules
   abbrev pub Keeps : ℕ → ℕ → Type 0

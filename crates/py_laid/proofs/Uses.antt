@@ -19,7 +19,7 @@ use Rattle.py_tree.specs.declared.expr.Expr.{Expr}
 use Rattle.py_tree.specs.declared.expr.Expr.TheVariants as expr
 use Rattle.py_tree.specs.declared.expr.Operation.{Operation}
 use Rattle.py_tree.specs.declared.expr.Operation.TheVariants as operation
-use Rattle.py_tree.specs.Tree.{Name, Form, Assign, Do, Show, Return, Raise, Reraise, Break, Continue, Pass, If, IfElse, While, TryExcept, TryFinally, Suite, nothing, first, Clauses, no_more, clause}
+use Rattle.py_tree.specs.Tree.{Name, Form, Assign, Do, Show, Return, Raise, Reraise, Break, Continue, Pass, If, IfElse, While, TryExcept, TryFinally, Suite, nothing, first, Clauses, no_more, clause, Tree}
 use Rattle.py_tree.specs.Binding.{locals_of}
 use Rattle.py_laid.specs.Code.{Parts, Around, Scope, on, over, in_loop, in_try, in_clauses, before_finally, in_finally, Stands, LaidName, LaidAtom, LaidAtoms, LaidTaken, LaidTwo, LaidOperation, LaidExpr, LaidTarget}
 use Rattle.py_laid.specs.Code.{LaidBreak, LaidContinue, LaidForget, LaidFinally, LaidHandler, LaidForm, LaidSuite, LaidClauses, LaidBody, parts_with}
@@ -101,6 +101,10 @@ module _ (parts : Parts) where
   atoms_uses scope line [] at next is_at = uses_none at next is_at
   atoms_uses scope line (a ∷ atoms) at next (mid, one, rest) = uses_then at mid next (atom_uses scope line a at mid one) (atoms_uses (on scope) line atoms mid next rest)
 
+  -- an atom, and the unit that takes it
+  taken_uses : (scope : Scope) (line : ℕ) (a : Atom) (op : Instruction) (arg at next : ℕ) → is_compiled op arg ≡ true → LaidTaken parts scope line a op arg at next → Uses at next
+  taken_uses scope line a op arg at next used (asks, laid, stands) = uses_then at asks next (atom_uses scope line a at asks laid) (stands_uses (on scope) line asks arg next op stands used)
+
   two_uses : (scope : Scope) (line : ℕ) (a b : Atom) (op : Instruction) (arg at next : ℕ) → is_compiled op arg ≡ true → LaidTwo parts scope line a b op arg at next → Uses at next
   two_uses scope line a b op arg at next used (mid, asks, one, other, stands) =
       uses_then at mid next (atom_uses scope line a at mid one)
@@ -111,6 +115,10 @@ module _ (parts : Parts) where
   operation_uses scope line (operation.Sub a b) at next laid = two_uses scope line a b _ _ at next refl laid
   operation_uses scope line (operation.Lt a b) at next laid = two_uses scope line a b _ _ at next refl laid
   operation_uses scope line (operation.Eq a b) at next laid = two_uses scope line a b _ _ at next refl laid
+  operation_uses scope line (operation.Send a b) at next (begins, (i, loads, here), laid) = uses_then at begins next (stands_uses scope line at i begins _ loads refl) (two_uses _ line a b _ _ begins next refl laid)
+  operation_uses scope line (operation.Throw a b) at next (begins, (i, loads, here), laid) = uses_then at begins next (stands_uses scope line at i begins _ loads refl) (two_uses _ line a b _ _ begins next refl laid)
+  operation_uses scope line (operation.Close a) at next (begins, (i, loads, here), laid) = uses_then at begins next (stands_uses scope line at i begins _ loads refl) (taken_uses _ line a _ _ begins next refl laid)
+  operation_uses scope line (operation.Yield a) at next (generator, laid) = taken_uses scope line a _ _ at next refl laid
   operation_uses scope line (operation.Call f atoms) at next (mid, asks, callee, args, stands) =
       uses_then at mid next (atom_uses scope line f at mid callee)
       (uses_then mid asks next (atoms_uses (on scope) line atoms mid asks args) (stands_uses _ line asks _ next _ stands refl))
@@ -132,10 +140,6 @@ module _ (parts : Parts) where
   continue_uses : (around : Around) (scope : Scope) (line at next : ℕ) → LaidContinue parts scope around line at next → Uses at next
   continue_uses None scope line at next laid = absurd laid
   continue_uses (Some l) scope line at next stands = stands_uses scope line at l.again next _ stands refl
-
-  -- an atom, and the unit that takes it
-  taken_uses : (scope : Scope) (line : ℕ) (a : Atom) (op : Instruction) (arg at next : ℕ) → is_compiled op arg ≡ true → LaidTaken parts scope line a op arg at next → Uses at next
-  taken_uses scope line a op arg at next used (asks, laid, stands) = uses_then at asks next (atom_uses scope line a at asks laid) (stands_uses (on scope) line asks arg next op stands used)
 
   -- a local is unset
   forget_uses : (scope : Scope) (line : ℕ) (x : Name) (at next : ℕ) → LaidForget parts scope line x at next → Uses at next
@@ -212,10 +216,10 @@ module _ (parts : Parts) where
         (uses_then jumps other end (stands_uses scope n jumps end other _ leave refl) (clauses_uses more scope line other end others))))))))
 
   -- the statements of a body, and the return of None
-  body_uses : (header : ℕ) (s : Suite) (end : ℕ) → LaidBody parts header s end → Uses 0 end
-  body_uses header s end (ends, laid, (i, stands, here)) = uses_then 0 ends end (suite_uses s _ 0 ends laid) (stands_uses _ header ends i end _ stands refl)
+  body_uses : (t : Tree) (end : ℕ) → LaidBody parts t end → Uses 0 end
+  body_uses t end (ends, laid, (i, stands, here)) = uses_then 0 ends end (suite_uses t.suite _ 0 ends laid) (stands_uses _ t.line ends i end _ stands refl)
 
 pub laid_code_is_compiled : LaidCodeIsCompiled
 laid_code_is_compiled globals code t laid at u here =
     let units = code.code.code.instructions.items in
-    body_uses (parts_with globals (locals_of t) code) t.line t.suite (length units) laid.laid at (omega arith) (slice_get_within units at u here) u here
+    body_uses (parts_with globals (locals_of t) code) t (length units) laid.laid at (omega arith) (slice_get_within units at u here) u here

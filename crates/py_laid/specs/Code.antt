@@ -4,7 +4,9 @@ use Rattle.std.specs.List.{list_all, list_any}
 use Rattle.py_code.specs.declared.unit.CodeUnit.{CodeUnit}
 use Rattle.py_code.specs.declared.instruction.Instruction.{Instruction}
 use Rattle.py_code.specs.declared.instruction.Instruction.TheVariants as op
-use Rattle.py_code.specs.declared.literal.Literal.{Literal, None as NoneLiteral, Bool as BoolLiteral, Int as IntLiteral, Str as StrLiteral}
+use Rattle.py_code.specs.declared.literal.Literal.{Literal, None as NoneLiteral, Bool as BoolLiteral, Int as IntLiteral, Str as StrLiteral, Builtin as BuiltinLiteral}
+use Rattle.py_code.specs.declared.literal.BuiltinFn.{BuiltinFn}
+use Rattle.py_code.specs.declared.literal.BuiltinFn.TheVariants as builtin
 use Rattle.py_code.specs.declared.operator.BinaryOperator.TheVariants as binary
 use Rattle.py_code.specs.declared.operator.ComparisonOperator.TheVariants as comparison
 use Rattle.py_code.specs.declared.operator.TestOperator.TheVariants as test
@@ -23,6 +25,9 @@ use Rattle.py_check.specs.declared.note.Note.{Note}
 use Rattle.py_check.specs.declared.note.Note.TheVariants.{Live}
 use Rattle.py_check.specs.Constants.{has_code}
 use Rattle.py_check.specs.Operands.{prefixes}
+use Rattle.py_rows.specs.Signature.{kind_of}
+use Rattle.py_tree.specs.declared.body.BodyKind.{BodyKind}
+use Rattle.py_tree.specs.declared.body.BodyKind.TheVariants.{Function, Generator}
 use Rattle.py_tree.specs.declared.expr.Atom.{Atom}
 use Rattle.py_tree.specs.declared.expr.Atom.TheVariants as atom
 use Rattle.py_tree.specs.declared.expr.Expr.{Expr}
@@ -30,7 +35,7 @@ use Rattle.py_tree.specs.declared.expr.Expr.TheVariants as expr
 use Rattle.py_tree.specs.declared.expr.Operation.{Operation}
 use Rattle.py_tree.specs.declared.expr.Operation.TheVariants as operation
 use Rattle.py_tree.specs.Tree.{Name, Form, Assign, Do, Show, Return, Raise, Reraise, Break, Continue, Pass, If, IfElse, While, TryExcept, TryFinally, Suite, nothing, first}
-use Rattle.py_tree.specs.Tree.{Clauses, no_more, clause, Tree}
+use Rattle.py_tree.specs.Tree.{Clauses, no_more, clause, Tree, seen_as}
 use Rattle.py_tree.specs.Binding.{locals_of}
 
 -- the parts of a code that its units refer to, with the line and the note of each unit
@@ -53,8 +58,9 @@ pub record Labels : Type 0 where
 abbrev pub Around : Type 0
 Around = Option Labels
 
--- the loop around it, how many values lie on the stack, and which blocks are open
+-- the kind of the body, the loop around it, how many values lie on the stack, and which blocks are open
 pub record Scope : Type 0 where
+  pub kind : BodyKind
   pub around : Around
   pub depth : ℕ
   pub blocks : List BlockNote
@@ -74,7 +80,7 @@ inside b scope = record scope { blocks = b ∷ scope.blocks }
 
 -- inside of a loop with these labels
 abbrev pub in_loop : Labels → Scope → Scope
-in_loop labels scope = record { around = Some labels; depth = scope.depth; blocks = block.Loop scope.depth ∷ scope.blocks }
+in_loop labels scope = record { kind = scope.kind; around = Some labels; depth = scope.depth; blocks = block.Loop scope.depth ∷ scope.blocks }
 
 -- inside of a try whose handler is at a label
 abbrev pub in_try : ℕ → Scope → Scope
@@ -97,9 +103,9 @@ leaving (Some l) = pending.Break l.stop ∷ pending.Continue l.again ∷ []
 abbrev pub in_finally : Scope → Scope
 in_finally scope = inside (block.FinallyHandler scope.depth (leaving scope.around)) scope
 
--- a body is entered without values and blocks
-abbrev pub entry : Scope
-entry = record { around = None; depth = 0; blocks = [] }
+-- a body of a kind is entered without values and blocks
+abbrev pub entry : BodyKind → Scope
+entry kind = record { kind = kind; around = None; depth = 0; blocks = [] }
 
 -- of the values nothing is known
 abbrev pub note_of : Scope → Note
@@ -162,12 +168,22 @@ module _ (parts : Parts) where
   LaidTwo scope line a b i arg at next =
       (mid : ℕ) × (asks : ℕ) × LaidAtom scope line a at mid × LaidAtom (on scope) line b mid asks × Stands (on (on scope)) line asks i arg next
 
-  -- the operands in order, and the unit that asks
+  -- a function of the machine's own, two atoms, and its call with them
+  abbrev pub LaidDriven : Scope → ℕ → BuiltinFn → Atom → Atom → ℕ → ℕ → Type 0
+  LaidDriven scope line fn a b at next =
+      (begins : ℕ) × StandsConst scope line at op.LoadConst (BuiltinLiteral fn) begins × LaidTwo (on scope) line a b op.CallFunctionPositional 2 begins next
+
+  -- the operands in order, and the unit that asks, or that yields, which stands in generators alone
   abbrev pub LaidOperation : Scope → ℕ → Operation → ℕ → ℕ → Type 0
   LaidOperation scope line (operation.Add a b) at next = LaidTwo scope line a b op.BinaryOperation (binary_number binary.Add) at next
   LaidOperation scope line (operation.Sub a b) at next = LaidTwo scope line a b op.BinaryOperation (binary_number binary.Subtract) at next
   LaidOperation scope line (operation.Lt a b) at next = LaidTwo scope line a b op.CompareOperation (comparison_number comparison.Less) at next
   LaidOperation scope line (operation.Eq a b) at next = LaidTwo scope line a b op.CompareOperation (comparison_number comparison.Equal) at next
+  LaidOperation scope line (operation.Send a b) at next = LaidDriven scope line builtin.Send a b at next
+  LaidOperation scope line (operation.Throw a b) at next = LaidDriven scope line builtin.Throw a b at next
+  LaidOperation scope line (operation.Close a) at next =
+      (begins : ℕ) × StandsConst scope line at op.LoadConst (BuiltinLiteral builtin.Close) begins × LaidTaken (on scope) line a op.CallFunctionPositional 1 begins next
+  LaidOperation scope line (operation.Yield a) at next = (scope.kind ≡ Generator) × LaidTaken scope line a op.YieldValue 0 at next
   LaidOperation scope line (operation.Call f atoms) at next =
       (mid : ℕ) × (asks : ℕ) × LaidAtom scope line f at mid × LaidAtoms (on scope) line atoms mid asks
       × Stands (over (length atoms) (on scope)) line asks op.CallFunctionPositional (length atoms) next
@@ -266,8 +282,8 @@ module _ (parts : Parts) where
         × Stands (in_clauses scope) n leaves op.PopException 0 jumps × Stands scope n jumps op.Jump end other × LaidClauses scope line more other end
 
   -- the code of a body's statements, and at their end the return of None, which comes from no statement: its line is the header's
-  abbrev pub LaidBody : ℕ → Suite → ℕ → Type 0
-  LaidBody header s end = (ends : ℕ) × LaidSuite entry s 0 ends × StandsConst entry header ends op.ReturnConst NoneLiteral end
+  abbrev pub LaidBody : Tree → ℕ → Type 0
+  LaidBody t end = (ends : ℕ) × LaidSuite (entry t.kind) t.suite 0 ends × StandsConst (entry t.kind) t.line ends op.ReturnConst NoneLiteral end
 
 -- the parts of a code whose globals and locals have these names
 abbrev pub parts_with : List Name → List Name → Annotated → Parts
@@ -280,21 +296,26 @@ parts_with names vars code = record {
   vars = vars;
 }
 
--- the code is that of a body, and its globals have these names
+-- the code is that of a body of its kind, and its globals have these names
 pub record IsLaid (names : List Name) (code : Annotated) (t : Tree) : Type 0 where
+  pub kind : kind_of code.code.code.flags ≡ seen_as t.kind
   pub arity : code.code.code.arg_count ≡ length t.params
   pub locals : length code.code.code.varnames.items ≡ length (locals_of t)
   pub globals : length code.code.code.names.items ≡ length names
-  pub laid : LaidBody (parts_with names (locals_of t) code) t.line t.suite (length code.code.code.instructions.items)
+  pub laid : LaidBody (parts_with names (locals_of t) code) t (length code.code.code.instructions.items)
   pub short : length code.code.code.instructions.items < 2 ^ 32
   pub located : length code.code.code.locations.items ≡ length code.code.code.instructions.items
   pub noted : length code.notes ≡ length code.code.code.instructions.items
 
--- what the code of a body says of itself: it makes a scope (flag 1) and knows its locals by their places (flag 32), it takes
--- arguments by position only, it has no cells, its stack has room for each note, at most three prefixes stand in a row in
--- front of any place, and no constant is a code or holds one
+-- a code makes a scope (flag 1) and knows its locals by their places (flag 32); that of a generator says so (flag 2)
+abbrev pub flags_of : BodyKind → ℕ
+flags_of Function = 33
+flags_of Generator = 35
+
+-- what the code of a body says of itself: it has the flags of its kind, it takes arguments by position only, it has no cells, its stack has
+-- room for each note, at most three prefixes stand in a row in front of any place, and no constant is a code or holds one
 pub record IsPlain (code : Annotated) (t : Tree) : Type 0 where
-  pub flags : code.code.code.flags ≡ 33
+  pub flags : code.code.code.flags ≡ flags_of t.kind
   pub first_line_number : code.code.code.first_line_number ≡ Some t.line
   pub posonlyarg_count : code.code.code.posonlyarg_count ≡ 0
   pub kwonlyarg_count : code.code.code.kwonlyarg_count ≡ 0

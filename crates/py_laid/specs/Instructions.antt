@@ -5,7 +5,7 @@ use Rattle.py_code.specs.declared.unit.CodeUnit.{CodeUnit}
 use Rattle.py_code.specs.declared.instruction.Instruction.{Instruction}
 use Rattle.py_code.specs.declared.instruction.Instruction.TheVariants.{LoadConst, LoadFast, StoreFast, DeleteFast, LoadGlobal, Pop, Duplicate, BinaryOperation, CompareOperation, TestOperation}
 use Rattle.py_code.specs.declared.instruction.Instruction.TheVariants.{CallFunctionPositional, PrintExpr, Jump, JumpIfFalse, SetupLoop, SetupExcept, SetupFinally, EnterFinally, EndFinally}
-use Rattle.py_code.specs.declared.instruction.Instruction.TheVariants.{PopBlock, PopException, Raise, Break, Continue, ReturnValue, ReturnConst, ExtendedArg}
+use Rattle.py_code.specs.declared.instruction.Instruction.TheVariants.{PopBlock, PopException, Raise, Break, Continue, YieldValue, ReturnValue, ReturnConst, ExtendedArg}
 use Rattle.py_code.specs.declared.operator.TestOperator.{TestOperator}
 use Rattle.py_code.specs.declared.operator.TestOperator.TheVariants as test
 use Rattle.py_code.specs.declared.operator.RaiseKind.{RaiseKind}
@@ -54,6 +54,7 @@ is_compiled PopException arg = true
 is_compiled Raise arg = is_compiled_raise (raise_of arg)
 is_compiled Break arg = true
 is_compiled Continue arg = true
+is_compiled YieldValue arg = true
 is_compiled ReturnValue arg = true
 is_compiled ReturnConst arg = true
 is_compiled ExtendedArg arg = true

@@ -1,5 +1,5 @@
 -- What holds of laid code.
-use Rattle.std.specs.Prelude.{ℕ, false, Option, List, [], ◌∷◌, ◌≡◌, length}
+use Rattle.std.specs.Prelude.{ℕ, Option, List, [], ◌∷◌, ◌≡◌, length}
 use Rattle.std.specs.Option.{option_or}
 use Rattle.py_objects.specs.declared.refs.PyBaseExceptionRef.{PyBaseExceptionRef}
 use Rattle.py_objects.specs.declared.payload.Payload.{Payload}
@@ -9,7 +9,7 @@ use Rattle.py_objects.specs.Own.{Own, Makes, Asks}
 use Rattle.py_check.specs.declared.annotated.Annotated.{Annotated}
 use Rattle.py_check.specs.Typing.{IsTyped}
 use Rattle.py_rows.specs.States.{Setting, State}
-use Rattle.py_rows.specs.RunOfRows.{is_thrown_into, Runs, Steps, started}
+use Rattle.py_rows.specs.RunOfRows.{Runs, Steps, started}
 use Rattle.py_tree.specs.Tree.{Name, Tree}
 use Rattle.py_tree.specs.Binding.{locals_of}
 use Rattle.py_tree.specs.Trace.{IsTrace}
@@ -18,14 +18,14 @@ use Rattle.py_laid.specs.Fits.{Fits, located}
 use Rattle.py_laid.specs.Instructions.{UsesCompiled}
 use Rattle.py_laid.specs.Naming.{NamesAll, IsNamed}
 
--- each run of laid code, into whose frames no exception is thrown, whole or cut, from any arguments, as many as there are
--- parameters, with any closure, whatever the slot holds at first and whatever answers of the wanted kinds come, is a trace of its
--- tree behind the making of its activation, in which each unit asks for a statement of its line
+-- each run of laid code, whole or cut, from any arguments, as many as there are parameters, with any closure, whatever the slot holds
+-- at first, however its frame is entered and whatever answers of the wanted kinds come, is a trace of its tree behind the making of
+-- its activation, in which each unit asks and yields for a statement of its line
 abbrev pub RunsAreTraces : Type 0
 RunsAreTraces = (globals : List Name) (code : Annotated) (t : Tree) (table : List (List ℕ)) (dict : Obj) (closure : List Obj) (objects : List Payload)
     (slot : Option PyBaseExceptionRef) (args : List Obj) (ts : List Own) (s : State)
     → IsLaid globals code t → NamesAll table code.code.code.names.items globals → NamesAll table code.code.code.varnames.items (locals_of t)
-    → is_thrown_into code.code.code.flags ≡ false → length args ≡ length t.params
+    → length args ≡ length t.params
     → Runs objects (record { code = code.code; names = table; globals = dict; closure = closure }) (started code.code slot args) ts s → IsTrace (located code.code objects dict) t args (Makes ∷ ts)
 
 -- laid code that is plain keeps the typing rules with its notes

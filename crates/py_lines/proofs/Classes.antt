@@ -1,6 +1,7 @@
 -- Of which class a line is, by the tokens that it prints.
 use Rattle.std.proofs.Common.{◌≡◌, ◌≢◌, List, ◌∷◌, Some, None, refl, sym, ap, ◌∙◌}
 use Rattle.std.specs.Prelude.{Option}
+use Rattle.py_tree.specs.declared.body.BodyKind.TheVariants as body
 use Rattle.py_lines.specs.declared.drive.DriveLine.{DriveLine}
 use Rattle.py_lines.specs.declared.drive.DriveLine.TheVariants as drive_line
 use Rattle.py_lines.specs.declared.head.Head.{Head}
@@ -32,6 +33,7 @@ keyword_class keyword.Else = Turns
 keyword_class keyword.Except = Turns
 keyword_class keyword.Finally = Turns
 keyword_class keyword.Def = Headers
+keyword_class keyword.Gen = Headers
 keyword_class k = Plains
 
 -- the class of a line that another word begins, by what stands behind it
@@ -66,10 +68,12 @@ turn_class turn.Else = refl
 turn_class t = refl
 
 header_class : (h : Header) → tokens_class (header_tokens h) ≡ Some Headers
-header_class (header.Def f ps) = refl
+header_class (header.Def body.Function f ps) = refl
+header_class (header.Def body.Generator f ps) = refl
 
 drive_class : (d : DriveLine) → tokens_class (drive_tokens d) ≡ Some Drives
 drive_class (drive_line.Call f args) = refl
+drive_class d = refl
 
 pub class_shown : (l : Line) → tokens_class (line_tokens l) ≡ Some (line_class l)
 class_shown line.End = refl
@@ -92,4 +96,12 @@ no_plain ts class none l e = go l (sym class ∙ ap tokens_class e ∙ class_sho
   where
     go : (l : Line) → Some Plains ≡ Some (line_class l) → ts ≢ line_tokens l
     go (line.Plain p) c h = none p h
+    go l c h = cc
+
+-- nor a drive's
+pub no_drive_line : (ts : List Meaning) → tokens_class ts ≡ Some Drives → ((d : DriveLine) → ts ≢ drive_tokens d) → (l : Line) → ts ≢ line_tokens l
+no_drive_line ts class none l e = go l (sym class ∙ ap tokens_class e ∙ class_shown l) e
+  where
+    go : (l : Line) → Some Drives ≡ Some (line_class l) → ts ≢ line_tokens l
+    go (line.Drive d) c h = none d h
     go l c h = cc

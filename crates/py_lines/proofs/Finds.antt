@@ -1,6 +1,7 @@
 -- What is not found among tokens, from what is not found among those behind the first.
 use Rattle.std.proofs.Common.{◌≡◌, ◌≢◌, ℕ, List, [], ◌∷◌, None, true, false, map, refl, subst}
 use Rattle.std.specs.Prelude.{Option, codes}
+use Rattle.py_tree.specs.declared.body.BodyKind.{BodyKind}
 use Rattle.py_tree.specs.Tree.{Name}
 use Rattle.py_tree.specs.declared.expr.Atom.{Atom}
 use Rattle.py_tree.specs.declared.expr.Atom.TheVariants as atom
@@ -22,15 +23,17 @@ use Rattle.py_lines.specs.declared.plain.Plain.{Plain}
 use Rattle.py_lines.specs.Finding.{Prints}
 use Rattle.py_lines.specs.Meaning.{Meaning, Key, Word, Drive}
 use Rattle.py_lines.specs.Senses.{meaning_of}
-use Rattle.py_lines.specs.Printing.{atom_token, drive_token, plain_tokens, head_tokens, target_tokens, turn_tokens, header_tokens, drive_tokens, line_tokens}
+use Rattle.py_lines.specs.Printing.{atom_token, drive_token, number_token, plain_tokens, head_tokens, target_tokens, turn_tokens, body_keyword, header_tokens, thrown_tokens, drive_tokens, line_tokens}
+use Rattle.py_lines.proofs.OneToOne.{other_word}
 
 -- where nothing was found, no finding prints these
 pub none_prints : {X T : Type 0} (printing : X → T) (ts : T) (r : Option X) → r ≡ None → Prints printing ts r → (x : X) → ts ≢ printing x
 none_prints printing ts r is found = subst (Prints printing ts) is found
 
--- a `def` has a name and names behind it
-pub no_def : (ts : List Meaning) (r : Option (Name × List Name)) → r ≡ None → Prints (λ p. Word p.0 ∷ map Word p.1) ts r → (h : Header) → Key keyword.Def ∷ ts ≢ header_tokens h
-no_def ts r is found (header.Def f ps) e = none_prints (λ p. Word p.0 ∷ map Word p.1) ts r is found (f, ps) (cc)
+-- a header has a name and names behind its word
+pub no_def : (k : BodyKind) (ts : List Meaning) (r : Option (Name × List Name)) → r ≡ None → Prints (λ p. Word p.0 ∷ map Word p.1) ts r
+    → (h : Header) → Key (body_keyword k) ∷ ts ≢ header_tokens h
+no_def k ts r is found (header.Def j f ps) e = none_prints (λ p. Word p.0 ∷ map Word p.1) ts r is found (f, ps) (cc)
 
 -- an `except` has a class, and behind it nothing or `as` and a name
 pub no_except : (ts : List Meaning) (r : Option (Name × Option Name)) → r ≡ None → Prints (λ p. Word p.0 ∷ target_tokens p.1) ts r → (t : Turn) → Key keyword.Except ∷ ts ≢ turn_tokens t
@@ -40,6 +43,18 @@ no_except ts r is found t e = cc
 -- the drive `call` has a name and arguments behind it
 pub no_call : (ts : List Meaning) (r : Option (Name × List DriveAtom)) → r ≡ None → Prints (λ p. Word p.0 ∷ map drive_token p.1) ts r → (d : DriveLine) → Word (codes "call") ∷ ts ≢ drive_tokens d
 no_call ts r is found (drive_line.Call f args) e = none_prints (λ p. Word p.0 ∷ map drive_token p.1) ts r is found (f, args) (cc)
+no_call ts r is found d e = other_word _ _ refl _ _ e
+
+-- `send` has a number and an argument
+pub no_send : (ts : List Meaning) (r : Option (ℕ × DriveAtom)) → r ≡ None → Prints (λ p. number_token p.0 ∷ drive_token p.1 ∷ []) ts r → (d : DriveLine) → Word (codes "send") ∷ ts ≢ drive_tokens d
+no_send ts r is found (drive_line.Send n a) e = none_prints (λ p. number_token p.0 ∷ drive_token p.1 ∷ []) ts r is found (n, a) (cc)
+no_send ts r is found d e = other_word _ _ refl _ _ e
+
+-- `throw` has a number, and behind it a class, and a value or none
+pub no_throw : (m : ℕ) (ts : List Meaning) (r : Option (Name × Option DriveAtom)) → r ≡ None → Prints (λ p. Word p.0 ∷ thrown_tokens p.1) ts r
+    → (d : DriveLine) → Word (codes "throw") ∷ number_token m ∷ ts ≢ drive_tokens d
+no_throw m ts r is found (drive_line.Throw n c v) e = none_prints (λ p. Word p.0 ∷ thrown_tokens p.1) ts r is found (c, v) (cc)
+no_throw m ts r is found d e = other_word _ _ refl _ _ e
 
 -- an argument of a drive is an atom, or the number of a drive
 pub no_argument : (m : Meaning) → ((a : Atom) → m ≢ atom_token a) → ((n : ℕ) → m ≢ Drive n) → (x : DriveAtom) → m ≢ drive_token x

@@ -9,6 +9,7 @@ use Rattle.py_tree.specs.declared.expr.Expr.{Expr}
 use Rattle.py_tree.specs.declared.expr.Expr.TheVariants as expr
 use Rattle.py_tree.specs.declared.expr.Operation.{Operation}
 use Rattle.py_tree.specs.declared.expr.Operation.TheVariants as operation
+use Rattle.py_tree.specs.declared.body.BodyKind.TheVariants as body
 use Rattle.py_tree.specs.Tree.{Name}
 use Rattle.py_lines.specs.declared.drive.DriveAtom.{DriveAtom}
 use Rattle.py_lines.specs.declared.drive.DriveAtom.TheVariants as drive
@@ -26,7 +27,7 @@ use Rattle.py_lines.specs.declared.line.Line.TheVariants as line
 use Rattle.py_lines.specs.declared.plain.Plain.{Plain}
 use Rattle.py_lines.specs.declared.plain.Plain.TheVariants as plain
 use Rattle.py_lines.specs.Meaning.{Meaning, Close, Key, Word, Number, Text, Drive}
-use Rattle.py_lines.specs.Printing.{atom_token, drive_token, operation_tokens, in_parentheses, expr_tokens, plain_tokens, head_tokens, target_tokens, turn_tokens, header_tokens, drive_tokens, line_tokens}
+use Rattle.py_lines.specs.Printing.{atom_token, drive_token, operation_tokens, in_parentheses, expr_tokens, plain_tokens, head_tokens, target_tokens, turn_tokens, header_tokens, thrown_tokens, drive_tokens, line_tokens}
 use Rattle.py_lines.proofs.Classes.{line_class, same_class}
 
 -- the atom that prints a token
@@ -87,7 +88,7 @@ same_names : (xs ys : List Name) → map Word xs ≡ map Word ys → xs ≡ ys
 same_names = same_all Word (λ x y e. cc)
 
 -- words that differ begin tokens that do
-other_word : (v w : List ℕ) → bytes_eq v w ≡ false → (ts us : List Meaning) → Word v ∷ ts ≢ Word w ∷ us
+pub other_word : (v w : List ℕ) → bytes_eq v w ≡ false → (ts us : List Meaning) → Word v ∷ ts ≢ Word w ∷ us
 other_word v w other ts us e = let same : v ≡ w = cc in let h : false ≡ true = sym other ∙ (bytes_eq-Decides v w).1 same in cc h
 
 same_operation : (o p : Operation) → operation_tokens o ≡ operation_tokens p → o ≡ p
@@ -95,6 +96,10 @@ same_operation (operation.Add a b) (operation.Add c d) e = let h : a ≡ c = sam
 same_operation (operation.Sub a b) (operation.Sub c d) e = let h : a ≡ c = same_atom a c (cc) in let k : b ≡ d = same_atom b d (cc) in cc
 same_operation (operation.Lt a b) (operation.Lt c d) e = let h : a ≡ c = same_atom a c (cc) in let k : b ≡ d = same_atom b d (cc) in cc
 same_operation (operation.Eq a b) (operation.Eq c d) e = let h : a ≡ c = same_atom a c (cc) in let k : b ≡ d = same_atom b d (cc) in cc
+same_operation (operation.Send a b) (operation.Send c d) e = let h : a ≡ c = same_atom a c (cc) in let k : b ≡ d = same_atom b d (cc) in cc
+same_operation (operation.Throw a b) (operation.Throw c d) e = let h : a ≡ c = same_atom a c (cc) in let k : b ≡ d = same_atom b d (cc) in cc
+same_operation (operation.Close a) (operation.Close b) e = let h : a ≡ b = same_atom a b (cc) in cc
+same_operation (operation.Yield a) (operation.Yield b) e = let h : a ≡ b = same_atom a b (cc) in cc
 same_operation (operation.Call f xs) (operation.Call g ys) e = let h : f ≡ g = same_atom f g (cc) in let k : xs ≡ ys = same_atoms xs ys (cc) in cc
 same_operation o p e = absurd (other_word _ _ refl _ _ e)
 
@@ -135,10 +140,24 @@ same_turn turn.Finally turn.Finally e = refl
 same_turn t u e = cc
 
 same_header : (h k : Header) → header_tokens h ≡ header_tokens k → h ≡ k
-same_header (header.Def f ps) (header.Def g qs) e = let k : ps ≡ qs = same_names ps qs (cc) in cc
+same_header (header.Def body.Function f ps) (header.Def body.Function g qs) e = let k : ps ≡ qs = same_names ps qs (cc) in cc
+same_header (header.Def body.Function f ps) (header.Def body.Generator g qs) e = cc
+same_header (header.Def body.Generator f ps) (header.Def body.Function g qs) e = cc
+same_header (header.Def body.Generator f ps) (header.Def body.Generator g qs) e = let k : ps ≡ qs = same_names ps qs (cc) in cc
+
+same_thrown : (v w : Option DriveAtom) → thrown_tokens v ≡ thrown_tokens w → v ≡ w
+same_thrown None None e = refl
+same_thrown None (Some b) e = cc
+same_thrown (Some a) None e = cc
+same_thrown (Some a) (Some b) e = let h : a ≡ b = same_drive_atom a b (cc) in cc
 
 same_drive : (d e : DriveLine) → drive_tokens d ≡ drive_tokens e → d ≡ e
 same_drive (drive_line.Call f xs) (drive_line.Call g ys) h = let k : xs ≡ ys = same_all drive_token same_drive_atom xs ys (cc) in cc
+same_drive (drive_line.Next m) (drive_line.Next n) h = cc
+same_drive (drive_line.Send m a) (drive_line.Send n b) h = let k : a ≡ b = same_drive_atom a b (cc) in cc
+same_drive (drive_line.Throw m c v) (drive_line.Throw n d w) h = let k : v ≡ w = same_thrown v w (cc) in cc
+same_drive (drive_line.Close m) (drive_line.Close n) h = cc
+same_drive d e h = absurd (other_word _ _ refl _ _ h)
 
 -- no two lines print the same tokens
 pub same_line : (l m : Line) → line_tokens l ≡ line_tokens m → l ≡ m

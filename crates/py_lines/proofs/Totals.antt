@@ -1,12 +1,15 @@
 -- What line prints some tokens, or that none does, from the same of its parts.
-use Rattle.std.proofs.Common.{◌≡◌, ◌≢◌, ℕ, List, [], ◌∷◌, ◌++◌, Bool, Some, None, true, false, refl, sym, ap, ◌∙◌, bytes_eq}
-use Rattle.std.specs.Prelude.{codes}
+use Rattle.std.proofs.Common.{◌≡◌, ◌≢◌, ℕ, List, [], ◌∷◌, ◌++◌, Bool, Some, None, true, false, refl, sym, ap, ◌∙◌, bytes_eq, map}
+use Rattle.std.specs.Prelude.{codes, pos, negsuc}
 use Rattle.std.proofs.lemmas.List.{append_cancel_right}
 use Rattle.std.proofs.lemmas.Slice.Eq.{bytes_eq-Decides}
+use Rattle.py_tree.specs.declared.body.BodyKind.{BodyKind}
+use Rattle.py_tree.specs.declared.body.BodyKind.TheVariants as body
 use Rattle.py_tree.specs.declared.expr.Atom.{Atom}
 use Rattle.py_tree.specs.declared.expr.Atom.TheVariants as atom
 use Rattle.py_tree.specs.declared.expr.Expr.TheVariants as expr
 use Rattle.py_tree.specs.declared.expr.Operation.TheVariants as operation
+use Rattle.py_tree.specs.Tree.{Name}
 use Rattle.py_lines.specs.declared.drive.DriveAtom.TheVariants as drive
 use Rattle.py_lines.specs.declared.drive.DriveLine.TheVariants as drive_line
 use Rattle.py_lines.specs.declared.head.Head.TheVariants as head
@@ -18,12 +21,12 @@ use Rattle.py_lines.specs.declared.line.Line.TheVariants as line
 use Rattle.py_lines.specs.declared.plain.Plain.TheVariants as plain
 use Rattle.py_lines.specs.Keywords.{keyword_of, keyword_text}
 use Rattle.py_lines.specs.Meaning.{Meaning, Open, Close, Equals, Key, Word, Number, Text, Drive}
-use Rattle.py_lines.specs.Printing.{atom_token, drive_token, operation_tokens, in_parentheses, expr_tokens, plain_tokens, head_tokens, target_tokens, turn_tokens, header_tokens, drive_tokens, line_tokens}
+use Rattle.py_lines.specs.Printing.{atom_token, drive_token, number_token, operation_tokens, in_parentheses, expr_tokens, plain_tokens, head_tokens, target_tokens, turn_tokens, body_keyword, header_tokens, thrown_tokens, drive_tokens, line_tokens}
 use Rattle.py_lines.proofs.Finders.{Finds, Found, Missing, or_else, find_within, find_behind, find_nothing, find_both, find_lone, find_all}
 use Rattle.py_lines.proofs.Finds.{no_line}
 use Rattle.py_lines.proofs.OneToOne.{no_atom, no_drive_atom}
 
--- one token: a name, an atom, or an argument of a drive
+-- one token: a name, an atom, an argument of a drive, or the number of one
 find_name : (t : Meaning) → Finds Word t
 find_name (Word x) = Found x refl
 find_name t = Missing λ x e. cc
@@ -46,6 +49,11 @@ find_argument (Text s) = Found (drive.Str s) refl
 find_argument (Word x) = Found (drive.Name x) refl
 find_argument (Drive n) = Found (drive.Drive n) refl
 find_argument t = Missing (no_drive_atom t refl)
+
+find_number : (t : Meaning) → Finds number_token t
+find_number (Number (pos n)) = Found n refl
+find_number (Number (negsuc n)) = Missing λ m e. cc
+find_number t = Missing λ m e. cc
 
 -- the tokens behind a word
 same_word : (v w : List ℕ) → Dec (v ≡ w)
@@ -94,12 +102,20 @@ find_operation ts =
     or_else (find_behind (behind_word (codes "sub") ts) find_two) (λ z. Found (operation.Sub z.0 z.1)) λ no_sub.
     or_else (find_behind (behind_word (codes "lt") ts) find_two) (λ z. Found (operation.Lt z.0 z.1)) λ no_lt.
     or_else (find_behind (behind_word (codes "eq") ts) find_two) (λ z. Found (operation.Eq z.0 z.1)) λ no_eq.
+    or_else (find_behind (behind_word (codes "send") ts) find_two) (λ z. Found (operation.Send z.0 z.1)) λ no_send.
+    or_else (find_behind (behind_word (codes "throw") ts) find_two) (λ z. Found (operation.Throw z.0 z.1)) λ no_throw.
+    or_else (find_behind (behind_word (codes "close") ts) (find_lone find_atom)) (λ a. Found (operation.Close a)) λ no_close.
+    or_else (find_behind (behind_word (codes "yield") ts) (find_lone find_atom)) (λ a. Found (operation.Yield a)) λ no_yield.
     or_else (find_behind (behind_word (codes "call") ts) (find_both find_atom (find_all find_atom))) (λ z. Found (operation.Call z.0 z.1)) λ no_call.
     Missing (elim [
       | operation.Add a b ↦ no_add (a, b)
       | operation.Sub a b ↦ no_sub (a, b)
       | operation.Lt a b ↦ no_lt (a, b)
       | operation.Eq a b ↦ no_eq (a, b)
+      | operation.Send a b ↦ no_send (a, b)
+      | operation.Throw a b ↦ no_throw (a, b)
+      | operation.Close a ↦ no_close a
+      | operation.Yield a ↦ no_yield a
       | operation.Call f args ↦ no_call (f, args)
     ])
 
@@ -160,15 +176,33 @@ find_turn ts =
     or_else (find_behind (behind_key keyword.Finally ts) find_nothing) (λ x. Found turn.Finally) λ no_finally.
     Missing (elim [ turn.Else ↦ no_else tt | turn.Except c x ↦ no_except (c, x) | turn.Finally ↦ no_finally tt ])
 
+find_names : (k : BodyKind) (ts : List Meaning) → Finds (λ (z : Name × List Name). Key (body_keyword k) ∷ Word z.0 ∷ map Word z.1) ts
+find_names k ts = find_behind (behind_key (body_keyword k) ts) (find_both find_name (find_all find_name))
+
 find_header : (ts : List Meaning) → Finds header_tokens ts
 find_header ts =
-    or_else (find_behind (behind_key keyword.Def ts) (find_both find_name (find_all find_name))) (λ z. Found (header.Def z.0 z.1)) λ no_def.
-    Missing (elim [ header.Def f ps ↦ no_def (f, ps) ])
+    or_else (find_names body.Function ts) (λ z. Found (header.Def body.Function z.0 z.1)) λ no_def.
+    or_else (find_names body.Generator ts) (λ z. Found (header.Def body.Generator z.0 z.1)) λ no_gen.
+    Missing (elim [ header.Def body.Function f ps ↦ no_def (f, ps) | header.Def body.Generator f ps ↦ no_gen (f, ps) ])
+
+find_thrown : (ts : List Meaning) → Finds thrown_tokens ts
+find_thrown [] = Found None refl
+find_thrown (t ∷ ts) = or_else (find_lone find_argument (t ∷ ts)) (λ a. Found (Some a)) λ no_value. Missing (elim [ None ↦ λ e. cc | Some a ↦ no_value a ])
 
 find_drive : (ts : List Meaning) → Finds drive_tokens ts
 find_drive ts =
     or_else (find_behind (behind_word (codes "call") ts) (find_both find_name (find_all find_argument))) (λ z. Found (drive_line.Call z.0 z.1)) λ no_call.
-    Missing (elim [ drive_line.Call f args ↦ no_call (f, args) ])
+    or_else (find_behind (behind_word (codes "next") ts) (find_lone find_number)) (λ n. Found (drive_line.Next n)) λ no_next.
+    or_else (find_behind (behind_word (codes "send") ts) (find_both find_number (find_lone find_argument))) (λ z. Found (drive_line.Send z.0 z.1)) λ no_send.
+    or_else (find_behind (behind_word (codes "throw") ts) (find_both find_number (find_both find_name find_thrown))) (λ z. Found (drive_line.Throw z.0 z.1.0 z.1.1)) λ no_throw.
+    or_else (find_behind (behind_word (codes "close") ts) (find_lone find_number)) (λ n. Found (drive_line.Close n)) λ no_close.
+    Missing (elim [
+      | drive_line.Call f args ↦ no_call (f, args)
+      | drive_line.Next n ↦ no_next n
+      | drive_line.Send n a ↦ no_send (n, a)
+      | drive_line.Throw n c v ↦ no_throw (n, (c, v))
+      | drive_line.Close n ↦ no_close n
+    ])
 
 pub find_line : (ts : List Meaning) → Finds line_tokens ts
 find_line ts =

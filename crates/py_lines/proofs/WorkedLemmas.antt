@@ -1,13 +1,15 @@
 -- How small lines read, by computing their tokens.
 use Rattle.std.proofs.Common.{◌≢◌, [], ◌∷◌, refl}
-use Rattle.std.specs.Prelude.{codes, pos}
+use Rattle.std.specs.Prelude.{codes, pos, neg_ℤ}
+use Rattle.py_lines.specs.declared.drive.DriveLine.{DriveLine}
+use Rattle.py_lines.specs.declared.drive.DriveLine.TheVariants as drive_line
 use Rattle.py_lines.specs.declared.keyword.Keyword.TheVariants as keyword
 use Rattle.py_lines.specs.declared.plain.Plain.{Plain}
 use Rattle.py_lines.specs.declared.plain.Plain.TheVariants as plain
 use Rattle.py_lines.specs.Meaning.{Equals, Key, Word, Number, Unknown}
-use Rattle.py_lines.specs.Printing.{plain_tokens}
-use Rattle.py_lines.specs.Worked.{AddIsAName, AsIsAName, CallIsADrive, CallIsAName, KeywordIsNoName, NoLargeNumber, NothingBehind, NothingIsBlank}
-use Rattle.py_lines.proofs.Classes.{no_plain}
+use Rattle.py_lines.specs.Printing.{plain_tokens, drive_tokens}
+use Rattle.py_lines.specs.Worked.{AddIsAName, AsIsAName, CallIsADrive, CallIsAName, CloseIsAName, KeywordIsNoName, NextNothing, NoLargeNumber, NoNumberBelow, NothingBehind, NothingIsBlank, ThrowIsADrive, YieldIsAName}
+use Rattle.py_lines.proofs.Classes.{no_plain, no_drive_line}
 use Rattle.py_lines.proofs.OneToOne.{no_atom}
 
 pub call_is_a_name : CallIsAName
@@ -19,6 +21,25 @@ call_is_a_drive = refl
 pub add_is_a_name : AddIsAName
 add_is_a_name = refl
 
+pub yield_is_a_name : YieldIsAName
+yield_is_a_name = refl
+
+pub close_is_a_name : CloseIsAName
+close_is_a_name = refl
+
+pub throw_is_a_drive : ThrowIsADrive
+throw_is_a_drive = refl
+
+pub next_nothing : NextNothing
+next_nothing = refl
+
+pub no_number_below : NoNumberBelow
+no_number_below = (refl, no_drive_line _ refl drives)
+  where
+    drives : (d : DriveLine) → Word (codes "close") ∷ Number (neg_ℤ (pos 1)) ∷ [] ≢ drive_tokens d
+    drives (drive_line.Close n) e = cc
+    drives d e = cc
+
 pub as_is_a_name : AsIsAName
 as_is_a_name = refl
 
@@ -28,7 +49,7 @@ nothing_is_blank = refl
 pub keyword_is_no_name : KeywordIsNoName
 keyword_is_no_name = (refl, no_plain _ refl plains)
   where
-    plains : (p : Plain) → Key keyword.Gen ∷ Equals ∷ Number (pos 1) ∷ [] ≢ plain_tokens p
+    plains : (p : Plain) → Key keyword.In ∷ Equals ∷ Number (pos 1) ∷ [] ≢ plain_tokens p
     plains plain.Pass e = cc
     plains p e = cc
 

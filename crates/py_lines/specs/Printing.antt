@@ -1,5 +1,7 @@
 -- The tokens that a line prints.
-use Rattle.std.specs.Prelude.{List, [], ◌∷◌, ◌++◌, true, false, Option, Some, None, codes, map}
+use Rattle.std.specs.Prelude.{ℕ, List, [], ◌∷◌, ◌++◌, true, false, Option, Some, None, codes, map, pos}
+use Rattle.py_tree.specs.declared.body.BodyKind.{BodyKind}
+use Rattle.py_tree.specs.declared.body.BodyKind.TheVariants as body
 use Rattle.py_tree.specs.declared.expr.Atom.{Atom}
 use Rattle.py_tree.specs.declared.expr.Atom.TheVariants as atom
 use Rattle.py_tree.specs.declared.expr.Expr.{Expr}
@@ -17,6 +19,7 @@ use Rattle.py_lines.specs.declared.head.Turn.{Turn}
 use Rattle.py_lines.specs.declared.head.Turn.TheVariants as turn
 use Rattle.py_lines.specs.declared.header.Header.{Header}
 use Rattle.py_lines.specs.declared.header.Header.TheVariants as header
+use Rattle.py_lines.specs.declared.keyword.Keyword.{Keyword}
 use Rattle.py_lines.specs.declared.keyword.Keyword.TheVariants as keyword
 use Rattle.py_lines.specs.declared.line.Line.{Line}
 use Rattle.py_lines.specs.declared.line.Line.TheVariants as line
@@ -43,11 +46,19 @@ drive_token (drive.Str s) = Text s
 drive_token (drive.Name x) = Word x
 drive_token (drive.Drive n) = Drive n
 
+-- the number of the drive that another one goes on with
+abbrev pub number_token : ℕ → Meaning
+number_token n = Number (pos n)
+
 abbrev pub operation_tokens : Operation → List Meaning
 operation_tokens (operation.Add a b) = Word (codes "add") ∷ atom_token a ∷ atom_token b ∷ []
 operation_tokens (operation.Sub a b) = Word (codes "sub") ∷ atom_token a ∷ atom_token b ∷ []
 operation_tokens (operation.Lt a b) = Word (codes "lt") ∷ atom_token a ∷ atom_token b ∷ []
 operation_tokens (operation.Eq a b) = Word (codes "eq") ∷ atom_token a ∷ atom_token b ∷ []
+operation_tokens (operation.Send a b) = Word (codes "send") ∷ atom_token a ∷ atom_token b ∷ []
+operation_tokens (operation.Throw a b) = Word (codes "throw") ∷ atom_token a ∷ atom_token b ∷ []
+operation_tokens (operation.Close a) = Word (codes "close") ∷ atom_token a ∷ []
+operation_tokens (operation.Yield a) = Word (codes "yield") ∷ atom_token a ∷ []
 operation_tokens (operation.Call f args) = Word (codes "call") ∷ atom_token f ∷ map atom_token args
 
 abbrev pub in_parentheses : List Meaning → List Meaning
@@ -83,11 +94,25 @@ turn_tokens turn.Else = Key keyword.Else ∷ []
 turn_tokens (turn.Except c x) = Key keyword.Except ∷ Word c ∷ target_tokens x
 turn_tokens turn.Finally = Key keyword.Finally ∷ []
 
+-- the word that declares a body of this kind
+abbrev pub body_keyword : BodyKind → Keyword
+body_keyword body.Function = keyword.Def
+body_keyword body.Generator = keyword.Gen
+
 abbrev pub header_tokens : Header → List Meaning
-header_tokens (header.Def f ps) = Key keyword.Def ∷ Word f ∷ map Word ps
+header_tokens (header.Def k f ps) = Key (body_keyword k) ∷ Word f ∷ map Word ps
+
+-- the value that is thrown with a class, where there is one
+abbrev pub thrown_tokens : Option DriveAtom → List Meaning
+thrown_tokens None = []
+thrown_tokens (Some a) = drive_token a ∷ []
 
 abbrev pub drive_tokens : DriveLine → List Meaning
 drive_tokens (drive_line.Call f args) = Word (codes "call") ∷ Word f ∷ map drive_token args
+drive_tokens (drive_line.Next n) = Word (codes "next") ∷ number_token n ∷ []
+drive_tokens (drive_line.Send n a) = Word (codes "send") ∷ number_token n ∷ drive_token a ∷ []
+drive_tokens (drive_line.Throw n c v) = Word (codes "throw") ∷ number_token n ∷ Word c ∷ thrown_tokens v
+drive_tokens (drive_line.Close n) = Word (codes "close") ∷ number_token n ∷ []
 
 -- the tokens of a line
 abbrev pub line_tokens : Line → List Meaning

@@ -1,5 +1,6 @@
 -- Small lines, worked by hand.
 use Rattle.std.specs.Prelude.{[], ◌∷◌, Some, true, codes, pos, neg_ℤ}
+use Rattle.py_tree.specs.declared.body.BodyKind.TheVariants as body
 use Rattle.py_tree.specs.declared.expr.Atom.TheVariants as atom
 use Rattle.py_tree.specs.declared.expr.Expr.TheVariants as expr
 use Rattle.py_tree.specs.declared.expr.Operation.TheVariants as operation
@@ -22,7 +23,25 @@ CallIsADrive = IsReadAs (codes "call f True 'a b' $12") (Said (line.Drive (drive
 
 -- a function may have the name of an operator, and parameters
 abbrev pub AddIsAName : Type 0
-AddIsAName = IsReadAs (codes "def add x y") (Said (line.Header (header.Def (codes "add") (codes "x" ∷ codes "y" ∷ []))))
+AddIsAName = IsReadAs (codes "def add x y") (Said (line.Header (header.Def body.Function (codes "add") (codes "x" ∷ codes "y" ∷ []))))
+
+-- so may a generator, and in front of `=` a drive's word is a name
+abbrev pub YieldIsAName : Type 0
+YieldIsAName = IsReadAs (codes "gen yield next") (Said (line.Header (header.Def body.Generator (codes "yield") (codes "next" ∷ []))))
+
+abbrev pub CloseIsAName : Type 0
+CloseIsAName = IsReadAs (codes "close = (yield close)") (Said (line.Plain (plain.Assign (codes "close") (expr.Operation (operation.Yield (atom.Name (codes "close")))))))
+
+-- else it begins a drive; the number of a drive may begin with zeros, and whether there is such a drive the grammar says
+abbrev pub ThrowIsADrive : Type 0
+ThrowIsADrive = IsReadAs (codes "throw 007 E 'x'") (Said (line.Drive (drive_line.Throw 7 (codes "E") (Some (drive.Str (codes "x"))))))
+
+abbrev pub NextNothing : Type 0
+NextNothing = IsReadAs (codes "next -0") (Said (line.Drive (drive_line.Next 0)))
+
+-- no drive has a number below 0
+abbrev pub NoNumberBelow : Type 0
+NoNumberBelow = IsReadAs (codes "close -1") Malformed
 
 -- `as` is a name, too: of a class, and of what is bound to
 abbrev pub AsIsAName : Type 0
@@ -30,7 +49,7 @@ AsIsAName = IsReadAs (codes "except as as as") (Said (line.Turns (turn.Except (c
 
 -- a keyword is no name
 abbrev pub KeywordIsNoName : Type 0
-KeywordIsNoName = IsReadAs (codes "gen = 1") Malformed
+KeywordIsNoName = IsReadAs (codes "in = 1") Malformed
 
 -- nothing may stand behind the end of a line
 abbrev pub NothingBehind : Type 0

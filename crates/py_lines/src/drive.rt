@@ -1,10 +1,10 @@
 //! Drives: what a script asks of its functions from outside.
 
-ghost use Rattle.std.specs.Prelude.{◌≡◌, ◌∷◌, IfOk, codes, map};
+ghost use Rattle.std.specs.Prelude.{◌≡◌, ◌∷◌, [], IfOk, codes, map};
 ghost use Rattle.py_lines.specs.Finding.{Prints};
 ghost use Rattle.py_lines.specs.Meaning.{Word};
 ghost use Rattle.py_lines.specs.Senses.{meaning_of};
-ghost use Rattle.py_lines.specs.Printing.{atom_token, drive_token, drive_tokens};
+ghost use Rattle.py_lines.specs.Printing.{atom_token, drive_token, drive_tokens, number_token, thrown_tokens};
 
 use crate::atoms::{atom_of, name_of};
 use crate::meaning::Sense;
@@ -37,6 +37,15 @@ pub type DriveAtomList = ItemList<DriveAtom>;
 pub enum DriveLine {
     /// `call f a ..`.
     Call(PyText, DriveAtomList),
+    /// `next N`: what the drive of this number returned goes on. Any number up to 2^127 - 1 may be spelled; whether it is a
+    /// drive's the grammar says.
+    Next(u128),
+    /// `send N a`: it goes on with a value.
+    Send(u128, DriveAtom),
+    /// `throw N C` or `throw N C a`: an exception of a class is thrown into it, with a value or without.
+    Throw(u128, PyText, Option<DriveAtom>),
+    /// `close N`: it is closed.
+    Close(u128),
 }
 
 impl DriveAtom {
@@ -110,12 +119,164 @@ fn call_of(alloc: Global, tokens: &[Sense<'_>]) -> Result<Option<DriveLine>, NoM
     Ok(Some(DriveLine::Call(name, atoms)))
 }
 
+/// The number of a drive that a token is.
+fn number_of(token: &Sense<'_>) -> Option<u128>
+    ensures { Prints number_token (meaning_of token.now) result }
+{
+    let Sense::Number(number) = token else {
+        return None;
+    };
+    u128::try_from(*number).ok()
+}
+
+/// The number of a drive that is the only token.
+fn lone_number(tokens: &[Sense<'_>]) -> Option<u128>
+    ensures { Prints (λ n. number_token n ∷ []) (map meaning_of tokens.now) result }
+{
+    match tokens {
+        [] => None,
+        [number] => number_of(number),
+        [_, _, ..] => None,
+    }
+}
+
+/// The argument of a drive that is the only token.
+fn lone_drive_atom(alloc: Global, tokens: &[Sense<'_>]) -> Result<Option<DriveAtom>, NoMemory>
+    ensures { IfOk result (Prints (λ a. drive_token a ∷ []) (map meaning_of tokens.now)) }
+{
+    match tokens {
+        [] => Ok(None),
+        [atom] => drive_atom_of(alloc, atom),
+        [_, _, ..] => Ok(None),
+    }
+}
+
+/// The drive that the tokens behind a `next` make.
+fn next_of(tokens: &[Sense<'_>]) -> Option<DriveLine>
+    ensures { Prints drive_tokens (Word (codes "next") ∷ map meaning_of tokens.now) result }
+{
+    let Some(number) = lone_number(tokens) else {
+        return None;
+    };
+    Some(DriveLine::Next(number))
+}
+
+/// The drive that the tokens behind a `close` make.
+fn close_of(tokens: &[Sense<'_>]) -> Option<DriveLine>
+    ensures { Prints drive_tokens (Word (codes "close") ∷ map meaning_of tokens.now) result }
+{
+    let Some(number) = lone_number(tokens) else {
+        return None;
+    };
+    Some(DriveLine::Close(number))
+}
+
+/// The number of a drive, and the argument behind it.
+fn number_and_atom(
+    alloc: Global,
+    tokens: &[Sense<'_>],
+) -> Result<Option<(u128, DriveAtom)>, NoMemory>
+    ensures { IfOk result (Prints (λ p. number_token p.0 ∷ drive_token p.1 ∷ []) (map meaning_of tokens.now)) }
+{
+    let Some((first, rest)) = tokens.split_first() else {
+        return Ok(None);
+    };
+    let Some(number) = number_of(first) else {
+        return Ok(None);
+    };
+    let Some(atom) = lone_drive_atom(alloc, rest)? else {
+        return Ok(None);
+    };
+    Ok(Some((number, atom)))
+}
+
+/// The drive that the tokens behind a `send` make.
+fn send_of(alloc: Global, tokens: &[Sense<'_>]) -> Result<Option<DriveLine>, NoMemory>
+    ensures { IfOk result (Prints drive_tokens (Word (codes "send") ∷ map meaning_of tokens.now)) }
+{
+    let Some((number, atom)) = number_and_atom(alloc, tokens)? else {
+        return Ok(None);
+    };
+    Ok(Some(DriveLine::Send(number, atom)))
+}
+
+/// The value that is thrown with a class by the tokens behind it, which is none where there are none.
+fn thrown_of(alloc: Global, tokens: &[Sense<'_>]) -> Result<Option<Option<DriveAtom>>, NoMemory>
+    ensures { IfOk result (Prints thrown_tokens (map meaning_of tokens.now)) }
+{
+    if tokens.is_empty() {
+        return Ok(Some(None));
+    }
+    match lone_drive_atom(alloc, tokens)? {
+        Some(value) => Ok(Some(Some(value))),
+        None => Ok(None),
+    }
+}
+
+/// A class, and the value that is thrown with it.
+fn class_and_value(
+    alloc: Global,
+    tokens: &[Sense<'_>],
+) -> Result<Option<(PyText, Option<DriveAtom>)>, NoMemory>
+    ensures { IfOk result (Prints (λ p. Word p.0 ∷ thrown_tokens p.1) (map meaning_of tokens.now)) }
+{
+    let Some((first, rest)) = tokens.split_first() else {
+        return Ok(None);
+    };
+    let Some(class) = name_of(alloc, first)? else {
+        return Ok(None);
+    };
+    let Some(value) = thrown_of(alloc, rest)? else {
+        return Ok(None);
+    };
+    Ok(Some((class, value)))
+}
+
+/// The drive that a number and the tokens behind it make, which stand behind a `throw`.
+fn throw_at(
+    alloc: Global,
+    number: u128,
+    tokens: &[Sense<'_>],
+) -> Result<Option<DriveLine>, NoMemory>
+    ensures { IfOk result (Prints drive_tokens (Word (codes "throw") ∷ number_token number ∷ map meaning_of tokens.now)) }
+{
+    let Some((class, value)) = class_and_value(alloc, tokens)? else {
+        return Ok(None);
+    };
+    Ok(Some(DriveLine::Throw(number, class, value)))
+}
+
+/// The drive that the tokens behind a `throw` make.
+fn throw_of(alloc: Global, tokens: &[Sense<'_>]) -> Result<Option<DriveLine>, NoMemory>
+    ensures { IfOk result (Prints drive_tokens (Word (codes "throw") ∷ map meaning_of tokens.now)) }
+{
+    let Some((first, rest)) = tokens.split_first() else {
+        return Ok(None);
+    };
+    let Some(number) = number_of(first) else {
+        return Ok(None);
+    };
+    throw_at(alloc, number, rest)
+}
+
 /// The drive that a word begins with these tokens behind it.
 fn drive_by(alloc: Global, word: &[u8], rest: &[Sense<'_>]) -> Result<Option<DriveLine>, NoMemory>
     ensures { IfOk result (Prints drive_tokens (Word word.now ∷ map meaning_of rest.now)) }
 {
     if word == b"call".as_slice() {
         return call_of(alloc, rest);
+    }
+    if word == b"next".as_slice() {
+        return Ok(next_of(rest));
+    }
+    if word == b"send".as_slice() {
+        return send_of(alloc, rest);
+    }
+    if word == b"throw".as_slice() {
+        return throw_of(alloc, rest);
+    }
+    if word == b"close".as_slice() {
+        return Ok(close_of(rest));
     }
     Ok(None)
 }

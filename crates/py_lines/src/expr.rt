@@ -22,6 +22,20 @@ fn call_of(alloc: Global, operands: &[Sense<'_>]) -> Result<Option<Operation>, N
     Ok(Some(Operation::Call(callee, args)))
 }
 
+/// The closing of a generator that the operand of a `close` names.
+fn close_of(alloc: Global, operands: &[Sense<'_>]) -> Result<Option<Operation>, NoMemory>
+    ensures { IfOk result (Prints operation_tokens (Word (codes "close") ∷ map meaning_of operands.now)) }
+{
+    Ok(lone_atom(alloc, operands)?.map(Operation::Close))
+}
+
+/// The yield of what the operand of a `yield` names.
+fn yield_of(alloc: Global, operands: &[Sense<'_>]) -> Result<Option<Operation>, NoMemory>
+    ensures { IfOk result (Prints operation_tokens (Word (codes "yield") ∷ map meaning_of operands.now)) }
+{
+    Ok(lone_atom(alloc, operands)?.map(Operation::Yield))
+}
+
 /// The operation whose operator is this word, with these tokens behind it.
 fn operation_by(
     alloc: Global,
@@ -32,6 +46,12 @@ fn operation_by(
 {
     if operator == b"call".as_slice() {
         return call_of(alloc, operands);
+    }
+    if operator == b"close".as_slice() {
+        return close_of(alloc, operands);
+    }
+    if operator == b"yield".as_slice() {
+        return yield_of(alloc, operands);
     }
     let Some((left, right)) = two_atoms(alloc, operands)? else {
         return Ok(None);
@@ -47,6 +67,12 @@ fn operation_by(
     }
     if operator == b"eq".as_slice() {
         return Ok(Some(Operation::Eq(left, right)));
+    }
+    if operator == b"send".as_slice() {
+        return Ok(Some(Operation::Send(left, right)));
+    }
+    if operator == b"throw".as_slice() {
+        return Ok(Some(Operation::Throw(left, right)));
     }
     Ok(None)
 }

@@ -1,24 +1,23 @@
 //! Lines that open a declaration.
 
 ghost use Rattle.std.specs.Prelude.{◌∷◌, IfOk, map};
-ghost use Rattle.py_lines.specs.declared.keyword.Keyword.TheVariants as keyword;
 ghost use Rattle.py_lines.specs.Finding.{Prints};
 ghost use Rattle.py_lines.specs.Meaning.{Key};
 ghost use Rattle.py_lines.specs.Senses.{meaning_of};
-ghost use Rattle.py_lines.specs.Printing.{header_tokens};
+ghost use Rattle.py_lines.specs.Printing.{body_keyword, header_tokens};
 
 use crate::atoms::name_and_names;
 use crate::keyword::Keyword;
 use crate::meaning::Sense;
 use py_code::{NoMemory, PyText};
-use py_tree::ParamList;
+use py_tree::{BodyKind, ParamList};
 use std::alloc::Global;
 
 /// The header of a declaration.
 #[derive(Debug, Drop)]
 pub enum Header {
-    /// `def f p ..`.
-    Def(PyText, ParamList),
+    /// `def f p ..`, or `gen f p ..`: the kind of the body, its name and its parameters.
+    Def(BodyKind, PyText, ParamList),
 }
 
 /// The header that tokens are.
@@ -29,17 +28,18 @@ pub fn read_header(alloc: Global, tokens: &[Sense<'_>]) -> Result<Option<Header>
         return Ok(None);
     };
     match first {
-        Sense::Key(Keyword::Def) => def_of(alloc, rest),
+        Sense::Key(Keyword::Def) => def_of(alloc, BodyKind::Function, rest),
+        Sense::Key(Keyword::Gen) => def_of(alloc, BodyKind::Generator, rest),
         _ => Ok(None),
     }
 }
 
-/// The `def` of a name and its parameters.
-fn def_of(alloc: Global, tokens: &[Sense<'_>]) -> Result<Option<Header>, NoMemory>
-    ensures { IfOk result (Prints header_tokens (Key keyword.Def ∷ map meaning_of tokens.now)) }
+/// The header of a body of this kind, by its name and its parameters.
+fn def_of(alloc: Global, kind: BodyKind, tokens: &[Sense<'_>]) -> Result<Option<Header>, NoMemory>
+    ensures { IfOk result (Prints header_tokens (Key (body_keyword kind) ∷ map meaning_of tokens.now)) }
 {
     let Some((name, params)) = name_and_names(alloc, tokens)? else {
         return Ok(None);
     };
-    Ok(Some(Header::Def(name, params)))
+    Ok(Some(Header::Def(kind, name, params)))
 }

@@ -1,12 +1,17 @@
 //! Small lines, worked by hand.
 
-ghost use Rattle.py_lines.specs.Worked.{AddIsAName, AsIsAName, CallIsADrive, CallIsAName, KeywordIsNoName, NoLargeNumber, NothingBehind, NothingIsBlank};
+ghost use Rattle.py_lines.specs.Worked.{AddIsAName, AsIsAName, CallIsADrive, CallIsAName, CloseIsAName, KeywordIsNoName, NextNothing, NoLargeNumber, NoNumberBelow, NothingBehind, NothingIsBlank, ThrowIsADrive, YieldIsAName};
 
 /// States how small lines read, and does nothing.
 pub fn worked_lines()
     ensures call_is_a_name { CallIsAName }
     ensures call_is_a_drive { CallIsADrive }
     ensures add_is_a_name { AddIsAName }
+    ensures yield_is_a_name { YieldIsAName }
+    ensures close_is_a_name { CloseIsAName }
+    ensures throw_is_a_drive { ThrowIsADrive }
+    ensures next_nothing { NextNothing }
+    ensures no_number_below { NoNumberBelow }
     ensures as_is_a_name { AsIsAName }
     ensures keyword_is_no_name { KeywordIsNoName }
     ensures nothing_behind { NothingBehind }

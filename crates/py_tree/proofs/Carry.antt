@@ -6,15 +6,17 @@ use Rattle.py_code.specs.declared.operator.ComparisonOperator.TheVariants as com
 use Rattle.py_objects.specs.declared.refs.PyBaseExceptionRef.{PyBaseExceptionRef}
 use Rattle.py_objects.specs.declared.payload.Payload.{Payload}
 use Rattle.py_objects.specs.declared.payload.Payload.TheVariants as payload
-use Rattle.py_objects.specs.declared.request.Keywords.TheVariants as keywords
 use Rattle.py_objects.specs.declared.request.Request.{Request}
 use Rattle.py_objects.specs.declared.request.Request.TheVariants as request
 use Rattle.py_objects.specs.declared.event.GotAnswer.{GotAnswer}
 use Rattle.py_objects.specs.declared.event.GotAnswer.TheVariants as got
+use Rattle.py_objects.specs.declared.event.ResumeHow.{ResumeHow}
+use Rattle.py_objects.specs.declared.event.ResumeHow.TheVariants as how
 use Rattle.py_objects.specs.declared.event.Ending.{Ending}
 use Rattle.py_objects.specs.Objects.{Obj, as_exception, as_object}
+use Rattle.py_objects.specs.Callees.{call_request}
 use Rattle.py_objects.specs.Own.{Own, Makes, Resumes, Asks, Gets, Rounds, Yields, Ends}
-use Rattle.py_objects.specs.Telling.{Value, Given, Failed, Stopped, AfterValue, IsLiteral, Answers, Answered, Rounded}
+use Rattle.py_objects.specs.Telling.{Value, Given, Failed, Stopped, AfterValue, IsLiteral, Answers, Answered, GoesOn, Resumed, Rounded}
 use Rattle.py_tree.specs.declared.expr.Atom.{Atom}
 use Rattle.py_tree.specs.declared.expr.Atom.TheVariants as atom
 use Rattle.py_tree.specs.declared.expr.Expr.{Expr}
@@ -24,8 +26,8 @@ use Rattle.py_tree.specs.declared.expr.Operation.TheVariants as operation
 use Rattle.py_tree.specs.Tree.{Name, Form, Assign, Do, Show, Return, Raise, Reraise, Break, Continue, Pass, If, IfElse, While, TryExcept, TryFinally, Suite, nothing, first, Clauses, no_more, clause, Tree}
 use Rattle.py_tree.specs.Binding.{Env, find_local, set_local, bind}
 use Rattle.py_tree.specs.Scene.{Scene}
-use Rattle.py_tree.specs.Outcome.{Outcome, Normal, Breaks, Continues, Returns, Raises, Cut, Handled, After, Runner, With, Use, By_truth, Requests, Named, Loads, LoadsAll, RequestsTwo, Operates, Evaluates, Tests, Chooses, On_normal, On_turn, On_raise, behind, Behind_finally, On_finally, Finally, Forgets, Handles, Loops, Reraises, Runs, RunsSuite, Tries}
-use Rattle.py_tree.specs.Trace.{Ended, EndsBy, IsBegun, IsTrace}
+use Rattle.py_tree.specs.Outcome.{Outcome, Normal, Breaks, Continues, Returns, Raises, Cut, Handled, After, Runner, With, Use, By_truth, Requests, Suspends, throws, Named, Loads, LoadsAll, RequestsTwo, Calls, Operates, Evaluates, Tests, Chooses, On_normal, On_turn, On_raise, behind, Behind_finally, On_finally, Finally, Forgets, Handles, Loops, Reraises, Runs, RunsSuite, Tries}
+use Rattle.py_tree.specs.Trace.{Ended, EndsBy, Entered, IsBegun, IsTrace}
 use Rattle.py_tree.specs.Laws.{Widens, TracesCarry}
 use Rattle.py_objects.proofs.GrowthLemmas.{payload_grown}
 
@@ -60,6 +62,19 @@ answered_goes event (t ∷ ts) more K K' goes cut (inr (i, w, mid, e, k)) =
     let same : t ≡ Gets i w = cc e in
     let behind : mid ≡ ts ++ more = cc e in
     inr (i, w, ts, ap (λ x. x ∷ ts) same, answers_go w i ts more K K' goes (subst (λ (l : List Own). Answers w i l K) behind k))
+
+on_goes : (w : ResumeHow) (event : ℕ) (ts more : List Own) (K K' : AfterValue) → ValueGoes more K K' → GoesOn w event (ts ++ more) K → GoesOn w event ts K'
+on_goes how.Start event ts more K K' goes k = k
+on_goes (how.Send v) event ts more K K' goes k = goes (Given v) event ts k
+on_goes (how.Throw e) event ts more K K' goes k = goes (Failed e) event ts k
+
+resumed_goes : (event : ℕ) (ts more : List Own) (K K' : AfterValue) → ValueGoes more K K' → K' Stopped event [] → Resumed event (ts ++ more) K → Resumed event ts K'
+resumed_goes event [] more K K' goes cut told = inl (refl, cut)
+resumed_goes event (t ∷ ts) more K K' goes cut (inl (e, k)) = absurd (cc e)
+resumed_goes event (t ∷ ts) more K K' goes cut (inr (i, w, mid, e, k)) =
+    let same : t ≡ Resumes i w = cc e in
+    let behind : mid ≡ ts ++ more = cc e in
+    inr (i, w, ts, ap (λ x. x ∷ ts) same, on_goes w i ts more K K' goes (subst (λ (l : List Own). GoesOn w i l K) behind k))
 
 rounded_goes : (ts more : List Own) (cut cut' : Type 0) (next next' : List Own → Type 0) → cut' → ((rest : List Own) → next (rest ++ more) → next' rest) → Rounded (ts ++ more) cut next → Rounded ts cut' next'
 rounded_goes [] more cut cut' next next' stops on told = inl (refl, stops)
@@ -123,6 +138,20 @@ module _ (scene scene' : Scene) (widens : Widens scene scene') (more : List Own)
       let behind : mid ≡ ts ++ more = cc e in
       inr (at, ts, widens.units at line is, ap (λ x. x ∷ ts) same, answered_goes event ts more K K' goes cut (subst (λ (l : List Own). Answered event l K) behind k))
 
+  suspends_go : (line : ℕ) (v : Obj) (event : ℕ) (ts : List Own) (K K' : AfterValue) → ValueGoes more K K' → K' Stopped event []
+      → Suspends scene line v event (ts ++ more) K → Suspends scene' line v event ts K'
+  suspends_go line v event [] K K' goes cut told = inl (refl, cut)
+  suspends_go line v event (t ∷ ts) K K' goes cut (inl (e, k)) = absurd (cc e)
+  suspends_go line v event (t ∷ ts) K K' goes cut (inr (at, mid, is, e, k)) =
+      let same : t ≡ Yields at v = cc e in
+      let behind : mid ≡ ts ++ more = cc e in
+      inr (at, ts, widens.units at line is, ap (λ x. x ∷ ts) same, resumed_goes event ts more K K' goes cut (subst (λ (l : List Own). Resumed event l K) behind k))
+
+  calls_go : (line : ℕ) (f : Obj) (vs : List Obj) (h : Handled) (event : ℕ) (ts : List Own) (K K' : AfterValue) → ValueGoes more K K' → K' Stopped event []
+      → Calls scene line f vs h event (ts ++ more) K → Calls scene' line f vs h event ts K'
+  calls_go line f vs h event ts K K' goes cut (inl (e, k)) = inl (empty_front ts more e, cut)
+  calls_go line f vs h event ts K K' goes cut (inr (p, has, told)) = inr (p, payload_grown scene.objects scene'.objects f p widens.objects has, requests_go line (call_request p f vs) h event ts K K' goes cut told)
+
   named_goes : (line : ℕ) (found : Option (Option Obj)) (x : Name) (h : Handled) (event : ℕ) (ts : List Own) (K K' : AfterValue) → ValueGoes more K K' → K' Stopped event []
       → Named scene line found x h event (ts ++ more) K → Named scene' line found x h event ts K'
   named_goes line None x h event ts K K' goes cut k = subst (λ (g : Obj). Requests scene' line (request.Global g x) h event ts K') widens.globals (requests_go line (request.Global scene.globals x) h event ts K K' goes cut k)
@@ -157,10 +186,16 @@ module _ (scene scene' : Scene) (widens : Widens scene scene') (more : List Own)
   operates_goes line env h (operation.Sub a b) event ts K K' goes cut k = two_go line env h a b (request.Binary binary.Subtract) event ts K K' goes cut k
   operates_goes line env h (operation.Lt a b) event ts K K' goes cut k = two_go line env h a b (request.Compare comparison.Less) event ts K K' goes cut k
   operates_goes line env h (operation.Eq a b) event ts K K' goes cut k = two_go line env h a b (request.Compare comparison.Equal) event ts K K' goes cut k
+  operates_goes line env h (operation.Send a b) event ts K K' goes cut k = two_go line env h a b request.Send event ts K K' goes cut k
+  operates_goes line env h (operation.Throw a b) event ts K K' goes cut k = two_go line env h a b throws event ts K K' goes cut k
+  operates_goes line env h (operation.Close a) event ts K K' goes cut k =
+      loads_go line env h a event ts _ _ (with_goes more K K' _ _ goes (λ g i rest told. requests_go line (request.Close g) h i rest K K' goes (cut i) told)) (cut event) k
+  operates_goes line env h (operation.Yield a) event ts K K' goes cut k =
+      loads_go line env h a event ts _ _ (with_goes more K K' _ _ goes (λ v i rest told. suspends_go line v i rest K K' goes (cut i) told)) (cut event) k
   operates_goes line env h (operation.Call f atoms) event ts K K' goes cut k =
       loads_go line env h f event ts _ _
       (with_goes more K K' _ _ goes
-      (λ g i rest told. all_go line env h atoms i rest K K' _ _ goes cut (λ vs j left asked. requests_go line (request.Call g vs keywords.None) h j left K K' goes (cut j) asked) told)) (cut event) k
+      (λ g i rest told. all_go line env h atoms i rest K K' _ _ goes cut (λ vs j left asked. calls_go line g vs h j left K K' goes (cut j) asked) told)) (cut event) k
 
   evaluates_goes : (line : ℕ) (env : Env) (h : Handled) (e : Expr) (event : ℕ) (ts : List Own) (K K' : AfterValue) → ValueGoes more K K' → ((i : ℕ) → K' Stopped i [])
       → Evaluates scene line env h e event (ts ++ more) K → Evaluates scene' line env h e event ts K'
@@ -310,10 +345,15 @@ module _ (scene scene' : Scene) (widens : Widens scene scene') (more : List Own)
   ends_go env (Raises e) event rest k = ended_goes _ rest k
   ends_go env Cut event rest k = empty_front rest more k
 
+  entered_goes : (t : Tree) (args : List Obj) (event : ℕ) (w : ResumeHow) (ts : List Own) → Entered scene t args event w (ts ++ more) → Entered scene' t args event w ts
+  entered_goes t args event how.Start ts k = suite_goes t.suite _ None event ts _ _ (record { goes = ends_go; cut = λ env i. refl }) k
+  entered_goes t args event (how.Send v) ts k = k
+  entered_goes t args event (how.Throw e) ts (is, k) = (is, ended_goes _ ts k)
+
   begun_goes : (t : Tree) (args : List Obj) (ts : List Own) → IsBegun scene t args (ts ++ more) → IsBegun scene' t args ts
   begun_goes t args [] k = tt
   begun_goes t args (Makes ∷ ts) k = k
-  begun_goes t args (Resumes event h ∷ ts) (entered, k) = (entered, suite_goes t.suite _ None event ts _ _ (record { goes = ends_go; cut = λ env i. refl }) k)
+  begun_goes t args (Resumes event h ∷ ts) k = entered_goes t args event h ts k
   begun_goes t args (Asks at r own ∷ ts) k = k
   begun_goes t args (Gets event w ∷ ts) k = k
   begun_goes t args (Rounds at ∷ ts) k = k

@@ -42,7 +42,7 @@ follows part ends env h event ts e K k here =
 -- ---- traces, and statements in order
 
 pub traces_come_to_points : TracesComeToPoints
-traces_come_to_points scene t args k how ts begun = comes (RunsSuite scene t.suite) (suite_ends scene t.suite) (start_env t args) None k ts (EndsBy scene) begun.1
+traces_come_to_points scene t args k ts begun = comes (RunsSuite scene t.suite) (suite_ends scene t.suite) (start_env t args) None k ts (EndsBy scene) begun
 
 -- behind the first of them
 goes_on : (Next : Env → ℕ → List Own → Type 0) (whole : Point) (env : Env) (o : Outcome) (event : ℕ) (ts : List Own) → On_normal (At whole) Next env o event ts

@@ -2,5 +2,6 @@ mod Trees
 pub mod Carry
 mod WorkedLemmas
 mod WorkedHandlerLemmas
+mod WorkedGeneratorLemmas
 mod Reaching
 mod EndingLemmas

@@ -6,14 +6,16 @@ use Rattle.py_code.specs.declared.operator.ComparisonOperator.TheVariants as com
 use Rattle.py_objects.specs.declared.refs.PyBaseExceptionRef.{PyBaseExceptionRef}
 use Rattle.py_objects.specs.declared.payload.Payload.{Payload}
 use Rattle.py_objects.specs.declared.payload.Payload.TheVariants as payload
-use Rattle.py_objects.specs.declared.request.Keywords.TheVariants as keywords
 use Rattle.py_objects.specs.declared.request.Request.{Request}
 use Rattle.py_objects.specs.declared.request.Request.TheVariants as request
 use Rattle.py_objects.specs.declared.event.GotAnswer.{GotAnswer}
 use Rattle.py_objects.specs.declared.event.GotAnswer.TheVariants as got
+use Rattle.py_objects.specs.declared.event.ResumeHow.{ResumeHow}
+use Rattle.py_objects.specs.declared.event.ResumeHow.TheVariants as how
 use Rattle.py_objects.specs.Objects.{Obj, HasPayload, as_exception, as_object}
+use Rattle.py_objects.specs.Callees.{call_request}
 use Rattle.py_objects.specs.Own.{Own}
-use Rattle.py_objects.specs.Telling.{Value, Given, Failed, Stopped, AfterValue, IsLiteral, Answers, Answered, Rounded}
+use Rattle.py_objects.specs.Telling.{Value, Given, Failed, Stopped, AfterValue, IsLiteral, Answers, Answered, GoesOn, Resumed, Rounded}
 use Rattle.py_tree.specs.declared.expr.Atom.{Atom}
 use Rattle.py_tree.specs.declared.expr.Atom.TheVariants as atom
 use Rattle.py_tree.specs.declared.expr.Expr.{Expr}
@@ -23,7 +25,7 @@ use Rattle.py_tree.specs.declared.expr.Operation.TheVariants as operation
 use Rattle.py_tree.specs.Tree.{Name, Form, Assign, Do, Show, Return, Raise, Reraise, Break, Continue, Pass, If, IfElse, While, TryExcept, TryFinally, Suite, nothing, first, Clauses, no_more, clause}
 use Rattle.py_tree.specs.Binding.{Env, find_local, set_local, bind}
 use Rattle.py_tree.specs.Scene.{Scene}
-use Rattle.py_tree.specs.Outcome.{Outcome, Normal, Breaks, Continues, Returns, Raises, Cut, Handled, After, Runner, With, Use, By_truth, Requests, Named, Loads, LoadsAll, RequestsTwo, Operates, Evaluates, Tests, Chooses, On_normal, On_turn, On_raise, behind, Behind_finally, On_finally, Finally, Forgets, Handles, Loops, Reraises, Runs, RunsSuite, Tries}
+use Rattle.py_tree.specs.Outcome.{Outcome, Normal, Breaks, Continues, Returns, Raises, Cut, Handled, After, Runner, With, Use, By_truth, Requests, Suspends, throws, Named, Loads, LoadsAll, RequestsTwo, Calls, Operates, Evaluates, Tests, Chooses, On_normal, On_turn, On_raise, behind, Behind_finally, On_finally, Finally, Forgets, Handles, Loops, Reraises, Runs, RunsSuite, Tries}
 
 -- what tells comes to one value, behind which K holds, and whatever else holds there may follow
 pub record GivesOne (Told : AfterValue → Type 0) (K : AfterValue) : Type 1 where
@@ -156,6 +158,17 @@ answered_gives event ts K (inr (i, w, mid, e, k)) =
     let g = answers_give w i mid K k in
     record { value = g.value; event = g.event; left = g.left; here = g.here; instead = λ K' k'. inr (i, w, mid, e, g.instead K' k') }
 
+on_gives : (w : ResumeHow) (event : ℕ) (ts : List Own) (K : AfterValue) → GoesOn w event ts K → GivesOne (λ K'. GoesOn w event ts K') K
+on_gives how.Start event ts K k = absurd k
+on_gives (how.Send v) event ts K k = record { value = Given v; event = event; left = ts; here = k; instead = λ K' k'. k' }
+on_gives (how.Throw e) event ts K k = record { value = Failed e; event = event; left = ts; here = k; instead = λ K' k'. k' }
+
+resumed_gives : (event : ℕ) (ts : List Own) (K : AfterValue) → Resumed event ts K → GivesOne (λ K'. Resumed event ts K') K
+resumed_gives event ts K (inl (e, k)) = record { value = Stopped; event = event; left = []; here = k; instead = λ K' k'. inl (e, k') }
+resumed_gives event ts K (inr (i, w, mid, e, k)) =
+    let g = on_gives w i mid K k in
+    record { value = g.value; event = g.event; left = g.left; here = g.here; instead = λ K' k'. inr (i, w, mid, e, g.instead K' k') }
+
 -- a round, behind which something comes to a point
 rounded_ends : (env : Env) (event : ℕ) (ts : List Own) (Next : After → List Own → Type 0) (K : After) → ((rest : List Own) → Next K rest → EndsOnce (λ K'. Next K' rest) K)
     → Rounded ts (K env Cut event []) (Next K) → EndsOnce (λ K'. Rounded ts (K' env Cut event []) (Next K')) K
@@ -174,6 +187,18 @@ module _ (scene : Scene) where
   requests_give line r h event ts K (inr (at, mid, is, e, k)) =
       let g = answered_gives event mid K k in
       record { value = g.value; event = g.event; left = g.left; here = g.here; instead = λ K' k'. inr (at, mid, is, e, g.instead K' k') }
+
+  suspends_gives : (line : ℕ) (v : Obj) (event : ℕ) (ts : List Own) (K : AfterValue) → Suspends scene line v event ts K → GivesOne (λ K'. Suspends scene line v event ts K') K
+  suspends_gives line v event ts K (inl (e, k)) = record { value = Stopped; event = event; left = []; here = k; instead = λ K' k'. inl (e, k') }
+  suspends_gives line v event ts K (inr (at, mid, is, e, k)) =
+      let g = resumed_gives event mid K k in
+      record { value = g.value; event = g.event; left = g.left; here = g.here; instead = λ K' k'. inr (at, mid, is, e, g.instead K' k') }
+
+  calls_give : (line : ℕ) (f : Obj) (vs : List Obj) (h : Handled) (event : ℕ) (ts : List Own) (K : AfterValue) → Calls scene line f vs h event ts K → GivesOne (λ K'. Calls scene line f vs h event ts K') K
+  calls_give line f vs h event ts K (inl (e, k)) = record { value = Stopped; event = event; left = []; here = k; instead = λ K' k'. inl (e, k') }
+  calls_give line f vs h event ts K (inr (p, has, told)) =
+      let g = requests_give line (call_request p f vs) h event ts K told in
+      record { value = g.value; event = g.event; left = g.left; here = g.here; instead = λ K' k'. inr (p, has, g.instead K' k') }
 
   named_gives : (line : ℕ) (found : Option (Option Obj)) (x : Name) (h : Handled) (event : ℕ) (ts : List Own) (K : AfterValue) → Named scene line found x h event ts K
       → GivesOne (λ K'. Named scene line found x h event ts K') K
@@ -210,11 +235,19 @@ module _ (scene : Scene) where
   operates_gives line env h (operation.Sub a b) event ts K k = two_give line env h a b (request.Binary binary.Subtract) event ts K k
   operates_gives line env h (operation.Lt a b) event ts K k = two_give line env h a b (request.Compare comparison.Less) event ts K k
   operates_gives line env h (operation.Eq a b) event ts K k = two_give line env h a b (request.Compare comparison.Equal) event ts K k
+  operates_gives line env h (operation.Send a b) event ts K k = two_give line env h a b request.Send event ts K k
+  operates_gives line env h (operation.Throw a b) event ts K k = two_give line env h a b throws event ts K k
+  operates_gives line env h (operation.Close a) event ts K k =
+      with_gives (λ K'. Loads scene line env h a event ts K') (λ K' g i mid. Requests scene line (request.Close g) h i mid K') K (loads_give line env h a event ts _ k)
+      (λ g i mid told. requests_give line (request.Close g) h i mid K told)
+  operates_gives line env h (operation.Yield a) event ts K k =
+      with_gives (λ K'. Loads scene line env h a event ts K') (λ K' v i mid. Suspends scene line v i mid K') K (loads_give line env h a event ts _ k)
+      (λ v i mid told. suspends_gives line v i mid K told)
   operates_gives line env h (operation.Call f atoms) event ts K k =
       with_gives (λ K'. Loads scene line env h f event ts K')
-      (λ K' g i mid. LoadsAll scene line env h atoms i mid K' (λ vs j rest. Requests scene line (request.Call g vs keywords.None) h j rest K')) K (loads_give line env h f event ts _ k)
-      (λ g i mid told. all_give line env h atoms i mid (λ K' vs j rest. Requests scene line (request.Call g vs keywords.None) h j rest K') K
-      (λ vs j rest asked. requests_give line (request.Call g vs keywords.None) h j rest K asked) told)
+      (λ K' g i mid. LoadsAll scene line env h atoms i mid K' (λ vs j rest. Calls scene line g vs h j rest K')) K (loads_give line env h f event ts _ k)
+      (λ g i mid told. all_give line env h atoms i mid (λ K' vs j rest. Calls scene line g vs h j rest K') K
+      (λ vs j rest asked. calls_give line g vs h j rest K asked) told)
 
   evaluates_gives : (line : ℕ) (env : Env) (h : Handled) (e : Expr) (event : ℕ) (ts : List Own) (K : AfterValue) → Evaluates scene line env h e event ts K
       → GivesOne (λ K'. Evaluates scene line env h e event ts K') K

@@ -15,7 +15,7 @@ use Rattle.py_tree.proofs.WorkedLemmas.{begun}
 
 pub finally_handles : FinallyHandles
 finally_handles globals u e =
-    (refl, (_, refl, (tt, inr (inr (inr (none_object, refl, inr (3, _, refl, refl, inr (4, got.Raise e, _, refl, inr (inr (none_object, refl, inr (5, _, refl, refl, inr (6, got.Value u, _, refl, inr (inr (9, refl))))))))))))))
+    (refl, (_, refl, (inr (inr (inr (none_object, refl, inr (3, _, refl, refl, inr (4, got.Raise e, _, refl, inr (inr (none_object, refl, inr (5, _, refl, refl, inr (6, got.Value u, _, refl, inr (inr (9, refl))))))))))))))
 
 -- the events behind the entry, where the second show asks while nothing is handled
 no_own : (scene : Scene) (k at l after : ℕ) (v : Obj) (e : PyBaseExceptionRef)
@@ -33,7 +33,7 @@ no_own scene k at l after v e (inr (inr (inr (v3, h3, inr (a4, m4, l4, i4, inr (
 no_own scene k at l after v e (inr (inr (inr (v3, h3, inr (a4, m4, l4, i4, inr (k4, got.Raise w4, r4, j4, inr (inr (v6, h6, inr (a7, m7, l7, i7, t7))))))))) = cc (i4, j4, i7)
 
 pub no_finally_forgets : NoFinallyForgets
-no_finally_forgets scene k at l after v e trace = no_own scene k at l after v e (begun scene shows_twice _ trace).1
+no_finally_forgets scene k at l after v e trace = no_own scene k at l after v e (begun scene shows_twice _ trace)
 
 pub raised_again : RaisedAgain
 raised_again globals w m e = (
@@ -41,56 +41,53 @@ raised_again globals w m e = (
   (
     _,
     refl,
-    (
-      tt,
-      inr (inr (inr (
-        none_object,
+    inr (inr (inr (
+      none_object,
+      refl,
+      inr (
+        3,
+        _,
+        refl,
         refl,
         inr (
-          3,
+          4,
+          got.Raise e,
           _,
-          refl,
           refl,
           inr (
             4,
-            got.Raise e,
             _,
             refl,
+            refl,
             inr (
-              4,
+              6,
+              got.Value w,
               _,
               refl,
-              refl,
               inr (
-                6,
-                got.Value w,
+                4,
                 _,
                 refl,
+                refl,
                 inr (
-                  4,
+                  8,
+                  got.Value m,
                   _,
                   refl,
-                  refl,
                   inr (
-                    8,
-                    got.Value m,
+                    4,
                     _,
                     refl,
+                    refl,
                     inr (
-                      4,
+                      10,
+                      got.Value (record { number = 2 }),
                       _,
                       refl,
-                      refl,
-                      inr (
-                        10,
-                        got.Value (record { number = 2 }),
-                        _,
+                      (
+                        false,
                         refl,
-                        (
-                          false,
-                          refl,
-                          inr (2, _, refl, refl, inr (11, got.Value (as_object e), _, refl, inr (0, refl))),
-                        ),
+                        inr (2, _, refl, refl, inr (11, got.Value (as_object e), _, refl, inr (0, refl))),
                       ),
                     ),
                   ),
@@ -99,8 +96,8 @@ raised_again globals w m e = (
             ),
           ),
         ),
-      ))),
-    ),
+      ),
+    ))),
   ),
 )
 
@@ -133,7 +130,7 @@ no_line scene k a1 a2 a3 a4 l1 l2 l3 l4 v w m u e is_at is_false (inr (inr (inr 
 no_line scene k a1 a2 a3 a4 l1 l2 l3 l4 v w m u e is_at is_false (inr (inr (inr (v3, h3, inr (b4, m4, o4, i4, inr (k4, got.Raise w4, r4, j4, inr (b5, m5, o5, i5, inr (k5, got.Value w5, r5, j5, inr (b6, m6, o6, i6, inr (k6, got.Value w6, r6, j6, inr (b7, m7, o7, i7, inr (k7, got.Value w7, r7, j7, (false, has, inr (b9, m9, o9, i9, t9)))))))))))))) = cc (i4, j4, i5, j5, i6, j6, i7, j7, i9, o9, is_at)
 
 pub no_clause_raises : NoClauseRaises
-no_clause_raises scene v w m u e is_at is_false trace = no_line scene 2 3 4 4 4 4 6 8 10 v w m u e is_at is_false (begun scene passes_over _ trace).1
+no_clause_raises scene v w m u e is_at is_false trace = no_line scene 2 3 4 4 4 4 6 8 10 v w m u e is_at is_false (begun scene passes_over _ trace)
 
 pub name_is_forgotten : NameIsForgotten
 name_is_forgotten globals w m e f = (
@@ -141,56 +138,53 @@ name_is_forgotten globals w m e f = (
   (
     _,
     refl,
-    (
-      tt,
-      inr (inr (inr (
-        none_object,
+    inr (inr (inr (
+      none_object,
+      refl,
+      inr (
+        3,
+        _,
+        refl,
         refl,
         inr (
-          3,
+          4,
+          got.Raise e,
           _,
-          refl,
           refl,
           inr (
             4,
-            got.Raise e,
             _,
             refl,
+            refl,
             inr (
-              4,
+              6,
+              got.Value w,
               _,
               refl,
-              refl,
               inr (
-                6,
-                got.Value w,
+                4,
                 _,
                 refl,
+                refl,
                 inr (
-                  4,
+                  8,
+                  got.Value m,
                   _,
                   refl,
-                  refl,
                   inr (
-                    8,
-                    got.Value m,
+                    4,
                     _,
                     refl,
+                    refl,
                     inr (
-                      4,
+                      10,
+                      got.Value (record { number = 1 }),
                       _,
                       refl,
-                      refl,
-                      inr (
-                        10,
-                        got.Value (record { number = 1 }),
-                        _,
+                      (
+                        true,
                         refl,
-                        (
-                          true,
-                          refl,
-                          inr (inr (inr (inr (7, _, refl, refl, inr (11, got.Raise f, _, refl, inr (0, refl)))))),
-                        ),
+                        inr (inr (inr (inr (7, _, refl, refl, inr (11, got.Raise f, _, refl, inr (0, refl)))))),
                       ),
                     ),
                   ),
@@ -199,7 +193,7 @@ name_is_forgotten globals w m e f = (
             ),
           ),
         ),
-      ))),
-    ),
+      ),
+    ))),
   ),
 )

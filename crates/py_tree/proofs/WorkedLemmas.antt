@@ -28,7 +28,7 @@ no_skip scene k at v (inr (inr (inr (v3, h3, inr (inr (v5, h5, inl (none, cut)))
 no_skip scene k at v (inr (inr (inr (v3, h3, inr (inr (v5, h5, inr (a, mid, of_line, is, told))))))) = cc is
 
 pub no_finally_skipped : NoFinallySkipped
-no_finally_skipped scene k at v trace = no_skip scene k at v (begun scene shows_behind (Resumes k how.Start ∷ Ends at (ending.Return v) ∷ []) trace).1
+no_finally_skipped scene k at v trace = no_skip scene k at v (begun scene shows_behind (Resumes k how.Start ∷ Ends at (ending.Return v) ∷ []) trace)
 
 no_breaking : (scene : Scene) (k l r a at : ℕ) (v w u : Obj) → HasPayload scene.objects w (payload.Bool true)
     → RunsSuite scene breaks_behind.suite [] None k (Rounds r ∷ Asks a (request.Truth v) None ∷ Gets l (got.Value w) ∷ Ends at (ending.Return u) ∷ []) (EndsBy scene) → ⊥
@@ -58,7 +58,7 @@ no_breaking scene k l r a at v w u is_true (inr (suc n, inr (r2, m2, i2, inr (v3
 pub no_finally_broken_out_of : NoFinallyBrokenOutOf
 no_finally_broken_out_of scene k l r a at v w u is_true trace =
     no_breaking scene k l r a at v w u is_true
-    (begun scene breaks_behind (Resumes k how.Start ∷ Rounds r ∷ Asks a (request.Truth v) None ∷ Gets l (got.Value w) ∷ Ends at (ending.Return u) ∷ []) trace).1
+    (begun scene breaks_behind (Resumes k how.Start ∷ Rounds r ∷ Asks a (request.Truth v) None ∷ Gets l (got.Value w) ∷ Ends at (ending.Return u) ∷ []) trace)
 
 no_letting : (scene : Scene) (k l m a b c : ℕ) (v w : Obj) (e : PyBaseExceptionRef)
     → RunsSuite scene returns_behind.suite [] None k (Asks a (request.Global scene.globals e_name) None ∷ Gets l (got.Value v) ∷ Asks b (request.Raisable v) None ∷ Gets m (got.Value w) ∷ Ends c (ending.Raise e) ∷ []) (EndsBy scene) → ⊥
@@ -80,7 +80,7 @@ no_letting scene k l m a b c v w e (inr (inr (inr (a3, m3, l3, i3, inr (k3, got.
 pub no_exception_let_out : NoExceptionLetOut
 no_exception_let_out scene k l m a b c v w e trace =
     no_letting scene k l m a b c v w e
-    (begun scene returns_behind (Resumes k how.Start ∷ Asks a (request.Global scene.globals e_name) None ∷ Gets l (got.Value v) ∷ Asks b (request.Raisable v) None ∷ Gets m (got.Value w) ∷ Ends c (ending.Raise e) ∷ []) trace).1
+    (begun scene returns_behind (Resumes k how.Start ∷ Asks a (request.Global scene.globals e_name) None ∷ Gets l (got.Value v) ∷ Asks b (request.Raisable v) None ∷ Gets m (got.Value w) ∷ Ends c (ending.Raise e) ∷ []) trace)
 
 -- the events of handled_events behind its entry
 no_staying : (scene : Scene) (v w m u : Obj) (e f : PyBaseExceptionRef)
@@ -116,13 +116,13 @@ no_staying scene v w m u e f (inr (inr (inr (v3, h3, inr (a4, m4, l4, i4, inr (k
 no_staying scene v w m u e f (inr (inr (inr (v3, h3, inr (a4, m4, l4, i4, inr (k4, got.Raise w4, r4, j4, inr (a5, m5, l5, i5, inr (k5, got.Value w5, r5, j5, inr (a6, m6, l6, i6, inr (k6, got.Value w6, r6, j6, inr (a7, m7, l7, i7, inr (k7, got.Value w7, r7, j7, (false, has, inr (y, mid, of_line, is, told)))))))))))))) = cc is
 
 pub no_exception_stays : NoExceptionStays
-no_exception_stays scene v w m u e f trace = no_staying scene v w m u e f (begun scene shows_in_try _ trace).1
+no_exception_stays scene v w m u e f trace = no_staying scene v w m u e f (begun scene shows_in_try _ trace)
 
 pub handled_is_trace : HandledIsTrace
-handled_is_trace globals w m e = (refl, (_, refl, (tt, inr (inr (inr (record { number = 0 }, refl, inr (1, _, refl, refl, inr (4, got.Raise e, _, refl, inr (5, _, refl, refl, inr (6, got.Value w, _, refl, inr (6, _, refl, refl, inr (8, got.Value m, _, refl, inr (7, _, refl, refl, inr (10, got.Value (record { number = 1 }), _, refl, (true, refl, inr (inr (inr (inr (record { number = 0 }, refl, inr (11, _, refl, refl, inl (refl, refl)))))))))))))))))))))
+handled_is_trace globals w m e = (refl, (_, refl, (inr (inr (inr (record { number = 0 }, refl, inr (1, _, refl, refl, inr (4, got.Raise e, _, refl, inr (5, _, refl, refl, inr (6, got.Value w, _, refl, inr (6, _, refl, refl, inr (8, got.Value m, _, refl, inr (7, _, refl, refl, inr (10, got.Value (record { number = 1 }), _, refl, (true, refl, inr (inr (inr (inr (record { number = 0 }, refl, inr (11, _, refl, refl, inl (refl, refl)))))))))))))))))))))
 
 pub shown_is_trace : ShownIsTrace
-shown_is_trace globals u = (refl, (_, refl, (tt, inr (inr (inr (record { number = 0 }, refl, inr (inr (record { number = 0 }, refl, inr (1, _, refl, refl, inr (4, got.Value u, _, refl, inr (inr (5, refl))))))))))))
+shown_is_trace globals u = (refl, (_, refl, (inr (inr (inr (record { number = 0 }, refl, inr (inr (record { number = 0 }, refl, inr (1, _, refl, refl, inr (4, got.Value u, _, refl, inr (inr (5, refl))))))))))))
 
 pub left_is_trace : LeftIsTrace
 left_is_trace globals u = (
@@ -130,32 +130,29 @@ left_is_trace globals u = (
   (
     _,
     refl,
-    (
-      tt,
+    inr (
+      1,
       inr (
-        1,
+        3,
+        _,
+        refl,
         inr (
-          3,
-          _,
+          record { number = 1 },
           refl,
           inr (
-            record { number = 1 },
+            4,
+            _,
+            refl,
             refl,
             inr (
-              4,
+              5,
+              got.Value (record { number = 1 }),
               _,
               refl,
-              refl,
-              inr (
-                5,
-                got.Value (record { number = 1 }),
-                _,
+              (
+                true,
                 refl,
-                (
-                  true,
-                  refl,
-                  inr (inr (inr (inr (record { number = 0 }, refl, inr (6, _, refl, refl, inr (7, got.Value u, _, refl, inr (inr (inr (record { number = 0 }, refl, inr (8, refl)))))))))),
-                ),
+                inr (inr (inr (inr (record { number = 0 }, refl, inr (6, _, refl, refl, inr (7, got.Value u, _, refl, inr (inr (inr (record { number = 0 }, refl, inr (8, refl)))))))))),
               ),
             ),
           ),
@@ -167,4 +164,4 @@ left_is_trace globals u = (
 
 pub returned_is_trace : ReturnedIsTrace
 returned_is_trace globals v w =
-    (refl, (_, refl, (tt, inr (inr (inr (1, _, refl, refl, inr (4, got.Value v, _, refl, inr (2, _, refl, refl, inr (6, got.Value w, _, refl, inr (inr (record { number = 0 }, refl, inr (9, refl))))))))))))
+    (refl, (_, refl, (inr (inr (inr (1, _, refl, refl, inr (4, got.Value v, _, refl, inr (2, _, refl, refl, inr (6, got.Value w, _, refl, inr (inr (record { number = 0 }, refl, inr (9, refl))))))))))))

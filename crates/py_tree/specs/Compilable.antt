@@ -1,45 +1,52 @@
--- Which bodies can be compiled: their parameters differ and are few, calls have few arguments, break and continue stand inside of loops,
--- and there are no more statements than the longest script has.
+-- Which bodies can be compiled: their parameters differ and are few, calls have few arguments, only generators yield, break and continue stand
+-- inside of loops, and there are no more statements than the longest script has.
 use Rattle.std.specs.Prelude.{ℕ, suc, ◌+◌, ◌≤◌, Bool, true, false, ◌≡◌, ◌≢◌, length, AllPairs}
+use Rattle.py_tree.specs.declared.body.BodyKind.{BodyKind}
+use Rattle.py_tree.specs.declared.body.BodyKind.TheVariants.{Generator}
 use Rattle.py_tree.specs.declared.expr.Expr.{Expr}
 use Rattle.py_tree.specs.declared.expr.Expr.TheVariants as expr
 use Rattle.py_tree.specs.declared.expr.Operation.{Operation}
 use Rattle.py_tree.specs.declared.expr.Operation.TheVariants as operation
 use Rattle.py_tree.specs.Tree.{Form, Assign, Do, Break, Continue, If, IfElse, While, TryExcept, TryFinally, Suite, nothing, first, Clauses, no_more, clause, Tree}
 
--- a call has at most 255 arguments
-abbrev pub OperationFits : Operation → Type 0
-OperationFits (operation.Add a b) = Unit {0}
-OperationFits (operation.Sub a b) = Unit {0}
-OperationFits (operation.Lt a b) = Unit {0}
-OperationFits (operation.Eq a b) = Unit {0}
-OperationFits (operation.Call f atoms) = length atoms ≤ 255
+module _ (kind : BodyKind) where
+  -- a call has at most 255 arguments, and only a generator yields
+  abbrev pub OperationFits : Operation → Type 0
+  OperationFits (operation.Add a b) = Unit {0}
+  OperationFits (operation.Sub a b) = Unit {0}
+  OperationFits (operation.Lt a b) = Unit {0}
+  OperationFits (operation.Eq a b) = Unit {0}
+  OperationFits (operation.Send a b) = Unit {0}
+  OperationFits (operation.Throw a b) = Unit {0}
+  OperationFits (operation.Close a) = Unit {0}
+  OperationFits (operation.Yield a) = kind ≡ Generator
+  OperationFits (operation.Call f atoms) = length atoms ≤ 255
 
-abbrev pub ExprFits : Expr → Type 0
-ExprFits (expr.Atom a) = Unit {0}
-ExprFits (expr.Operation o) = OperationFits o
+  abbrev pub ExprFits : Expr → Type 0
+  ExprFits (expr.Atom a) = Unit {0}
+  ExprFits (expr.Operation o) = OperationFits o
 
-abbrev mutual
-  -- each call of a statement has few arguments, and a break or continue stands inside of a loop, be it the one around the statement
-  pub FormFits : Bool → Form → Type 0
-  FormFits in_loop (Assign x e) = ExprFits e
-  FormFits in_loop (Do o) = OperationFits o
-  FormFits in_loop Break = in_loop ≡ true
-  FormFits in_loop Continue = in_loop ≡ true
-  FormFits in_loop (If a s) = SuiteFits in_loop s
-  FormFits in_loop (IfElse a s t) = SuiteFits in_loop s × SuiteFits in_loop t
-  FormFits in_loop (While a s) = SuiteFits true s
-  FormFits in_loop (TryExcept s cs) = SuiteFits in_loop s × ClausesFit in_loop cs
-  FormFits in_loop (TryFinally s t) = SuiteFits in_loop s × SuiteFits in_loop t
-  FormFits in_loop f = Unit {0}
+  abbrev mutual
+    -- each operation of a statement fits, and a break or continue stands inside of a loop, be it the one around the statement
+    pub FormFits : Bool → Form → Type 0
+    FormFits in_loop (Assign x e) = ExprFits e
+    FormFits in_loop (Do o) = OperationFits o
+    FormFits in_loop Break = in_loop ≡ true
+    FormFits in_loop Continue = in_loop ≡ true
+    FormFits in_loop (If a s) = SuiteFits in_loop s
+    FormFits in_loop (IfElse a s t) = SuiteFits in_loop s × SuiteFits in_loop t
+    FormFits in_loop (While a s) = SuiteFits true s
+    FormFits in_loop (TryExcept s cs) = SuiteFits in_loop s × ClausesFit in_loop cs
+    FormFits in_loop (TryFinally s t) = SuiteFits in_loop s × SuiteFits in_loop t
+    FormFits in_loop f = Unit {0}
 
-  pub SuiteFits : Bool → Suite → Type 0
-  SuiteFits in_loop nothing = Unit {0}
-  SuiteFits in_loop (first n f more) = FormFits in_loop f × SuiteFits in_loop more
+    pub SuiteFits : Bool → Suite → Type 0
+    SuiteFits in_loop nothing = Unit {0}
+    SuiteFits in_loop (first n f more) = FormFits in_loop f × SuiteFits in_loop more
 
-  pub ClausesFit : Bool → Clauses → Type 0
-  ClausesFit in_loop no_more = Unit {0}
-  ClausesFit in_loop (clause n c x s more) = SuiteFits in_loop s × ClausesFit in_loop more
+    pub ClausesFit : Bool → Clauses → Type 0
+    ClausesFit in_loop no_more = Unit {0}
+    ClausesFit in_loop (clause n c x s more) = SuiteFits in_loop s × ClausesFit in_loop more
 
 abbrev mutual
   -- how many statements and clauses there are, those inside others too
@@ -63,5 +70,5 @@ abbrev mutual
 pub record IsCompilable (t : Tree) : Type 0 where
   pub distinct : AllPairs (λ x y. x ≢ y) t.params
   pub few : length t.params ≤ 255
-  pub fits : SuiteFits false t.suite
+  pub fits : SuiteFits t.kind false t.suite
   pub short : statements t.suite ≤ 1048576

@@ -3,7 +3,7 @@ use Rattle.std.specs.Prelude.{ℕ, Bool, true, false, Option, Some, None, List, 
 use Rattle.py_objects.specs.declared.refs.PyBaseExceptionRef.{PyBaseExceptionRef}
 use Rattle.py_objects.specs.declared.payload.Payload.TheVariants as payload
 use Rattle.py_objects.specs.declared.request.Request.TheVariants as request
-use Rattle.py_objects.specs.declared.event.ResumeHow.{ResumeHow}
+use Rattle.py_objects.specs.declared.event.ResumeHow.TheVariants as how
 use Rattle.py_objects.specs.Objects.{Obj, HasPayload, as_object}
 use Rattle.py_objects.specs.Own.{Own, Resumes}
 use Rattle.py_objects.specs.Telling.{Given, AfterValue}
@@ -38,9 +38,9 @@ handled_behind Cut h = h
 abbrev pub IsPassedOn : Outcome → Point → Point → Type 0
 IsPassedOn pending final whole = ((final.outcome ≡ Normal) × (whole ≡ record final { outcome = pending })) ⊎ ((final.outcome ≢ Normal) × (whole ≡ final))
 
--- a trace that is entered comes from a point that the body comes to
+-- a trace that is started comes from a point that the body comes to
 abbrev pub TracesComeToPoints : Type 0
-TracesComeToPoints = (scene : Scene) (t : Tree) (args : List Obj) (k : ℕ) (how : ResumeHow) (ts : List Own) → IsBegun scene t args (Resumes k how ∷ ts)
+TracesComeToPoints = (scene : Scene) (t : Tree) (args : List Obj) (k : ℕ) (ts : List Own) → IsBegun scene t args (Resumes k how.Start ∷ ts)
     → (p : Point) × Reaches (RunsSuite scene t.suite) (start_env t args) None k ts p × EndsBy scene p.env p.outcome p.event p.left
 
 -- statements in order come to what those behind the first come to, from where it came to its end, or to what it came to else; or they are cut in front
@@ -138,7 +138,7 @@ FirstClauseDecides = (scene : Scene) (line n : ℕ) (c : Name) (x : Option Name)
     → Reaches (Tries scene line (clause n c x s more) e) env h event ts whole
     → IsStopped env whole ⊎ ((b : Bool) × (i : ℕ) × (rest : List Own) × IsMatched scene n c e env h event ts b i rest × FirstDecides scene line x s more e env h b i rest whole)
 
--- where no clause is left the exception is raised again, unless that is cut
+-- where no clause is left some exception is raised, or the telling is cut; which exception this law leaves open: the answer to Handled says it
 abbrev pub NoClauseRaises : Type 0
 NoClauseRaises = (scene : Scene) (line : ℕ) (e : PyBaseExceptionRef) (env : Env) (h : Handled) (event : ℕ) (ts : List Own) (whole : Point)
     → Reaches (Tries scene line no_more e) env h event ts whole → IsStopped env whole

@@ -14,6 +14,7 @@ pub mod Endings
 -- small trees, worked by hand
 pub mod Worked
 pub mod WorkedHandlers
+pub mod WorkedGenerators
 -- how suites are put together
 pub mod Suites
 -- which bodies can be compiled

@@ -2,18 +2,19 @@
 -- form, begun with the locals env while the exception h is handled, and behind the event of this number, which was heard last, may tell the events
 -- at the front of ts, and that K holds of the locals, the outcome, the event heard last by then, and the events behind. It may be cut
 -- where nothing is left to tell.
--- (Python Language Reference, 4.1, 4.2, 4.3, 6.3.4, 6.10, 6.16, 7 and 8.1, 8.2, 8.4)
+-- (Python Language Reference, 4.1, 4.2, 4.3, 6.2.9, 6.3.4, 6.10, 6.16, 7 and 8.1, 8.2, 8.4)
 use Rattle.std.specs.Prelude.{ℕ, zero, suc, Bool, true, false, Option, Some, None, List, [], ◌∷◌, ◌≡◌, ◌⊎◌}
 use Rattle.py_code.specs.declared.operator.BinaryOperator.TheVariants as binary
 use Rattle.py_code.specs.declared.operator.ComparisonOperator.TheVariants as comparison
 use Rattle.py_objects.specs.declared.refs.PyBaseExceptionRef.{PyBaseExceptionRef}
+use Rattle.py_objects.specs.declared.payload.Payload.{Payload}
 use Rattle.py_objects.specs.declared.payload.Payload.TheVariants as payload
-use Rattle.py_objects.specs.declared.request.Keywords.TheVariants as keywords
 use Rattle.py_objects.specs.declared.request.Request.{Request}
 use Rattle.py_objects.specs.declared.request.Request.TheVariants as request
 use Rattle.py_objects.specs.Objects.{Obj, HasPayload, as_exception, as_object}
 use Rattle.py_objects.specs.Own.{Own}
-use Rattle.py_objects.specs.Telling.{Given, Failed, Stopped, AfterValue, IsLiteral, Asked, Rounded}
+use Rattle.py_objects.specs.Callees.{call_request}
+use Rattle.py_objects.specs.Telling.{Given, Failed, Stopped, AfterValue, IsLiteral, Asked, Yielded, Rounded}
 use Rattle.py_tree.specs.declared.expr.Atom.{Atom}
 use Rattle.py_tree.specs.declared.expr.Atom.TheVariants as atom
 use Rattle.py_tree.specs.declared.expr.Expr.{Expr}
@@ -57,6 +58,10 @@ Use env K next (Given v) event ts = next v event ts
 Use env K next (Failed e) event ts = K env (Raises e) event ts
 Use env K next Stopped event ts = K env Cut event ts
 
+-- the request of a throw into a generator, without a value or a traceback beside what is thrown
+abbrev pub throws : Obj → Obj → Request
+throws g c = request.Throw g c None None
+
 -- what holds by a truth value
 abbrev pub By_truth : Bool → Type 0 → Type 0 → Type 0
 By_truth true P Q = P
@@ -66,6 +71,10 @@ module _ (scene : Scene) where
   -- a request for a statement of a line
   abbrev pub Requests : ℕ → Request → Handled → ℕ → List Own → AfterValue → Type 0
   Requests line r h event ts K = Asked (λ at. scene.is_of at line) r h event ts K
+
+  -- a yield of a statement of a line
+  abbrev pub Suspends : ℕ → Obj → ℕ → List Own → AfterValue → Type 0
+  Suspends line v event ts K = Yielded (λ at. scene.is_of at line) v event ts K
 
   -- a name by its local: a set one is its object, an unset one is asked for, and so is a name that is no local
   abbrev pub Named : ℕ → Option (Option Obj) → Name → Handled → ℕ → List Own → AfterValue → Type 0
@@ -90,14 +99,22 @@ module _ (scene : Scene) where
   abbrev pub RequestsTwo : ℕ → Env → Handled → Atom → Atom → (Obj → Obj → Request) → ℕ → List Own → AfterValue → Type 0
   RequestsTwo line env h a b r event ts K = Loads line env h a event ts (With K (λ v i mid. Loads line env h b i mid (With K (λ w j rest. Requests line (r v w) h j rest K))))
 
+  -- the request that the call of an object comes to, by its payload
+  abbrev pub Calls : ℕ → Obj → List Obj → Handled → ℕ → List Own → AfterValue → Type 0
+  Calls line f vs h event ts K = ((ts ≡ []) × K Stopped event []) ⊎ ((p : Payload) × HasPayload scene.objects f p × Requests line (call_request p f vs) h event ts K)
+
   -- the value of an operation
   abbrev pub Operates : ℕ → Env → Handled → Operation → ℕ → List Own → AfterValue → Type 0
   Operates line env h (operation.Add a b) event ts K = RequestsTwo line env h a b (request.Binary binary.Add) event ts K
   Operates line env h (operation.Sub a b) event ts K = RequestsTwo line env h a b (request.Binary binary.Subtract) event ts K
   Operates line env h (operation.Lt a b) event ts K = RequestsTwo line env h a b (request.Compare comparison.Less) event ts K
   Operates line env h (operation.Eq a b) event ts K = RequestsTwo line env h a b (request.Compare comparison.Equal) event ts K
+  Operates line env h (operation.Send a b) event ts K = RequestsTwo line env h a b request.Send event ts K
+  Operates line env h (operation.Throw a b) event ts K = RequestsTwo line env h a b throws event ts K
+  Operates line env h (operation.Close a) event ts K = Loads line env h a event ts (With K (λ g i mid. Requests line (request.Close g) h i mid K))
+  Operates line env h (operation.Yield a) event ts K = Loads line env h a event ts (With K (λ v i mid. Suspends line v i mid K))
   Operates line env h (operation.Call f atoms) event ts K =
-      Loads line env h f event ts (With K (λ g i mid. LoadsAll line env h atoms i mid K (λ vs j rest. Requests line (request.Call g vs keywords.None) h j rest K)))
+      Loads line env h f event ts (With K (λ g i mid. LoadsAll line env h atoms i mid K (λ vs j rest. Calls line g vs h j rest K)))
 
   -- the value of an expression
   abbrev pub Evaluates : ℕ → Env → Handled → Expr → ℕ → List Own → AfterValue → Type 0

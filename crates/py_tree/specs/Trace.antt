@@ -7,6 +7,7 @@ use Rattle.py_objects.specs.declared.event.Ending.{Ending}
 use Rattle.py_objects.specs.declared.event.Ending.TheVariants as ending
 use Rattle.py_objects.specs.Objects.{Obj, HasPayload}
 use Rattle.py_objects.specs.Own.{Own, Makes, Resumes, Ends}
+use Rattle.py_tree.specs.declared.body.BodyKind.TheVariants.{Generator}
 use Rattle.py_tree.specs.Tree.{Tree}
 use Rattle.py_tree.specs.Binding.{Env, start_env}
 use Rattle.py_tree.specs.Scene.{Scene}
@@ -24,18 +25,20 @@ EndsBy scene env (Raises e) k ts = Ended (ending.Raise e) ts
 EndsBy scene env Cut k ts = ts ≡ []
 EndsBy scene env _ k ts = ⊥
 
--- how a function is entered: it starts
-abbrev pub Entered : ResumeHow → Type 0
-Entered how.Start = Unit {0}
-Entered _ = ⊥
+-- what may follow the first entry of an activation: where it starts, what its body may tell, and the end by the body's outcome. Into a
+-- generator that hasn't started an exception may be thrown, too: then it ends by that, and no statement runs
+abbrev pub Entered : Scene → Tree → List Obj → ℕ → ResumeHow → List Own → Type 0
+Entered scene t args k how.Start ts = RunsSuite scene t.suite (start_env t args) None k ts (EndsBy scene)
+Entered scene t args k (how.Send v) ts = ⊥
+Entered scene t args k (how.Throw e) ts = (t.kind ≡ Generator) × Ended (ending.Raise e) ts
 
 -- what may follow the making of an activation
 abbrev pub IsBegun : Scene → Tree → List Obj → List Own → Type 0
 IsBegun scene t args [] = Unit {0}
-IsBegun scene t args (Resumes k h ∷ ts) = Entered h × RunsSuite scene t.suite (start_env t args) None k ts (EndsBy scene)
+IsBegun scene t args (Resumes k h ∷ ts) = Entered scene t args k h ts
 IsBegun scene t args _ = ⊥
 
--- the own events of an activation of the function with these arguments: it is made with as many as it has parameters,
--- entered, tells what its body may tell, and ends by the body's outcome
+-- the own events of an activation of the function with these arguments: it is made with as many as it has parameters, and entered
+-- (Python Language Reference, 6.2.9.1)
 abbrev pub IsTrace : Scene → Tree → List Obj → List Own → Type 0
 IsTrace scene t args ts = (length args ≡ length t.params) × ((us : List Own) × (ts ≡ Makes ∷ us) × IsBegun scene t args us)

@@ -1,5 +1,9 @@
 -- Bodies as the definitions see them: plain trees, apart from the program's lists.
-use Rattle.std.specs.Prelude.{ℕ, Option, List}
+use Rattle.std.specs.Prelude.{ℕ, Option, Some, None, List}
+use Rattle.py_objects.specs.declared.payload.CoroKind.{CoroKind}
+use Rattle.py_objects.specs.declared.payload.CoroKind.TheVariants as coro
+use Rattle.py_tree.specs.declared.body.BodyKind.{BodyKind}
+use Rattle.py_tree.specs.declared.body.BodyKind.TheVariants.{Function, Generator}
 use Rattle.py_tree.specs.declared.expr.Atom.{Atom}
 use Rattle.py_tree.specs.declared.expr.Expr.{Expr}
 use Rattle.py_tree.specs.declared.expr.Operation.{Operation}
@@ -38,7 +42,13 @@ mutual
 
 -- a function
 pub record Tree : Type 0 where
+  pub kind : BodyKind
   pub name : Name
   pub params : List Name
   pub suite : Suite
   pub line : ℕ
+
+-- what activations of a function are seen as, where they can be suspended (Python Language Reference, 6.2.9)
+abbrev pub seen_as : BodyKind → Option CoroKind
+seen_as Function = None
+seen_as Generator = Some coro.Generator

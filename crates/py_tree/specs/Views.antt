@@ -41,4 +41,4 @@ abbrev mutual
 
 -- a function
 abbrev pub tree_of : Body → Tree
-tree_of b = record { name = b.name; params = b.params; suite = suite_of b.suite; line = b.line }
+tree_of b = record { kind = b.kind; name = b.name; params = b.params; suite = suite_of b.suite; line = b.line }

@@ -8,6 +8,7 @@ use Rattle.py_objects.specs.declared.event.GotAnswer.TheVariants as got
 use Rattle.py_objects.specs.declared.event.Ending.TheVariants as ending
 use Rattle.py_objects.specs.Objects.{Obj, HasPayload, as_object}
 use Rattle.py_objects.specs.Own.{Own, Makes, Resumes, Asks, Gets, Rounds, Ends}
+use Rattle.py_tree.specs.declared.body.BodyKind.TheVariants.{Function}
 use Rattle.py_tree.specs.declared.expr.Atom.TheVariants as atom
 use Rattle.py_tree.specs.Tree.{Name, Return, Show, Raise, Break, Pass, While, TryExcept, TryFinally, Suite, nothing, first, no_more, clause, Tree}
 use Rattle.py_tree.specs.Scene.{Scene, anywhere}
@@ -16,7 +17,7 @@ use Rattle.py_tree.specs.Trace.{IsTrace}
 
 -- a function of these statements
 abbrev pub function : Suite → Tree
-function s = record { name = codes "f"; params = []; suite = s; line = 1 }
+function s = record { kind = Function; name = codes "f"; params = []; suite = s; line = 1 }
 
 -- the name of a class
 abbrev pub e_name : Name

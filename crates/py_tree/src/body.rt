@@ -6,9 +6,19 @@ use py_code::{ItemList, PyText};
 /// Parameters in order.
 pub type ParamList = ItemList<PyText>;
 
-/// A function: its name, its parameters, its statements and the line of its header, from 1.
+/// What a call of a function makes.
+#[derive(Clone, Copy, Debug, PartialEq, Eq)]
+pub enum BodyKind {
+    /// An activation, whose end is the call's.
+    Function,
+    /// A generator, whose activation its callers enter as often as it yields.
+    Generator,
+}
+
+/// A function: its kind, its name, its parameters, its statements and the line of its header, from 1.
 #[derive(Debug, Drop)]
 pub struct Body {
+    pub kind: BodyKind,
     pub name: PyText,
     pub params: ParamList,
     pub suite: StmtList,

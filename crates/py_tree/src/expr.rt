@@ -31,6 +31,14 @@ pub enum Operation {
     Lt(Atom, Atom),
     /// `eq a b`: whether two values are equal.
     Eq(Atom, Atom),
+    /// `send a b`: a generator goes on with a value.
+    Send(Atom, Atom),
+    /// `throw a b`: an exception is thrown into a generator.
+    Throw(Atom, Atom),
+    /// `close a`: a generator is closed.
+    Close(Atom),
+    /// `yield a`: a generator is suspended with a value, and goes on with the one that it is sent.
+    Yield(Atom),
     /// `call f a ..`: the call of a callee with arguments.
     Call(Atom, AtomList),
 }

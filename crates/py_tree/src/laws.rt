@@ -9,12 +9,13 @@ pub fn laws_of_traces()
     ensures carry { TracesCarry }
 {}
 
-/// States laws, and does nothing, of where statements may come to: a trace comes from a point that its body comes to, and
-/// statements in order from one to the next. Behind each outcome of its body, and behind no cut, a finally runs: where it ends
+/// States laws, and does nothing, of where statements may come to: a trace that is started comes from a point that its body comes to,
+/// and statements in order from one to the next. Behind each outcome of its body, and behind no cut, a finally runs: where it ends
 /// normally it passes that outcome on, and any other ending replaces it. Behind a clause that binds a name this is unset at every
 /// ending, and all else is as its suite left it. A try with clauses comes to what its body came to, unless that raised: then, while
 /// the exception is handled, its clauses are tried in order. The suite of the first one runs where the exception is of the class that
-/// it names, those behind it are tried where it isn't, and where none is left there is a raise.
+/// it names, those behind it are tried where it isn't. Where none is left some exception is
+/// raised, or the telling is cut; which exception, the answer to `Handled` says.
 pub fn laws_of_endings()
     ensures traces { TracesComeToPoints }
     ensures goes_on { StatementsGoOn }

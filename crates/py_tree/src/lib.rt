@@ -7,8 +7,8 @@ mod laws;
 mod stmt;
 mod worked;
 
-pub use body::{Body, ParamList};
+pub use body::{Body, BodyKind, ParamList};
 pub use expr::{Atom, AtomList, Expr, Operation};
 pub use laws::{laws_of_endings, laws_of_traces};
 pub use stmt::{Clause, ClauseList, Stmt, StmtForm, StmtList};
-pub use worked::{worked_handlers, worked_trees};
+pub use worked::{worked_handlers, worked_trees, worked_yields};

@@ -1,6 +1,7 @@
 //! Small trees, worked by hand.
 
 ghost use Rattle.py_tree.specs.Worked.{HandledIsTrace, LeftIsTrace, NoExceptionLetOut, NoExceptionStays, NoFinallyBrokenOutOf, NoFinallySkipped, ReturnedIsTrace, ShownIsTrace};
+ghost use Rattle.py_tree.specs.WorkedGenerators.{NoClauseBeforeStart, NoOtherYielded, NoThrowIntoFunction, NoneGoesOnAlone, ThrownInIsTrace, YieldedIsTrace};
 ghost use Rattle.py_tree.specs.WorkedHandlers.{FinallyHandles, NameIsForgotten, NoClauseRaises, NoFinallyForgets, RaisedAgain};
 
 /// States what small trees may not tell, and what they may in place of it, and does nothing.
@@ -22,4 +23,14 @@ pub fn worked_handlers()
     ensures raised_again { RaisedAgain }
     ensures no_clause_raises { NoClauseRaises }
     ensures forgotten { NameIsForgotten }
+{}
+
+/// States what small generators yield, how they go on and what ends them before their start, and does nothing.
+pub fn worked_yields()
+    ensures yielded { YieldedIsTrace }
+    ensures no_other_yielded { NoOtherYielded }
+    ensures none_goes_on_alone { NoneGoesOnAlone }
+    ensures thrown_in { ThrownInIsTrace }
+    ensures no_clause_before_start { NoClauseBeforeStart }
+    ensures no_throw_into_function { NoThrowIntoFunction }
 {}

@@ -21,7 +21,7 @@ returns-clause-laid c =
     let object = c.new-code.ensures in
     let same : parts_with d.parts.names (locals_of t) code ≡ d.parts = same_parts d code _ t object refl c.in_ok-emitter.ensures.vars refl refl refl in (
       c.in_ok-emitter.emitter.globals,
-      laid_code d code t c.in_ok-emitter.ensures same (ap (λ (o : CodeObject). o.arg_count) object ∙ c.len.ensures)
+      laid_code d code t c.in_ok-emitter.ensures same (ap (λ (o : CodeObject). o.flags) object ∙ c.flags_of.ensures) (ap (λ (o : CodeObject). o.arg_count) object ∙ c.len.ensures)
           (ap (λ (o : CodeObject). length o.varnames.items) object ∙ length-NamesAll _ _ _ c.in_ok-varnames.ensures.named ∙ ap (λ (names : List Name). length names) vars)
           (ap (λ (o : CodeObject). length o.names.items) object ∙ length-NamesAll _ _ _ c.in_ok-global_names.ensures.named ∙ ap (λ (names : List Name). length names)
           (c.as_slice-2.ensures ∙ c.in_ok-globals.ensures)),

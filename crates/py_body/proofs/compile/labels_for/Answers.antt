@@ -9,4 +9,4 @@ returns-then-width_for-labels-clause-room c =
     omega (arith, fits, c.size_with-size.ensures.size)
 
 pub returns-clause-room : goal.returns-clause-room
-returns-clause-room c = body_fits c.args.others (suite_of c.args.suite.now) c.requires.others c.requires.fits c.requires.few
+returns-clause-room c = body_fits c.requires.fits.0 c.args.others (suite_of c.args.suite.now) c.requires.others c.requires.fits.1 c.requires.few

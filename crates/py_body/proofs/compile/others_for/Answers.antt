@@ -6,5 +6,5 @@ use Rattle.py_body.proofs.compile.others_for.Goals as goal
 
 pub size_of_suite-used-requires : goal.size_of_suite-used-requires
 size_of_suite-used-requires c =
-    let most = suite_size counted (record { jump = omega arith; index = omega arith; plain = omega arith }) false (suite_of c.args.suite.now) c.requires.fits in
+    let most = suite_size c.requires.fits.0 counted (record { jump = omega arith; index = omega arith; plain = omega arith }) false (suite_of c.args.suite.now) c.requires.fits.1 in
     omega (arith, most, c.requires.few)

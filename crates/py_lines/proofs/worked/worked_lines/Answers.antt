@@ -1,4 +1,4 @@
-use Rattle.py_lines.proofs.WorkedLemmas.{add_is_a_name, as_is_a_name, call_is_a_drive, call_is_a_name, keyword_is_no_name, no_large_number, nothing_behind, nothing_is_blank}
+use Rattle.py_lines.proofs.WorkedLemmas.{add_is_a_name, as_is_a_name, call_is_a_drive, call_is_a_name, close_is_a_name, keyword_is_no_name, next_nothing, no_large_number, no_number_below, nothing_behind, nothing_is_blank, throw_is_a_drive, yield_is_a_name}
 use Rattle.py_lines.proofs.worked.worked_lines.Goals as goal
 
 pub returns-clause-call_is_a_name : goal.returns-clause-call_is_a_name
@@ -24,3 +24,18 @@ returns-clause-no_large_number c = no_large_number
 
 pub returns-clause-nothing_is_blank : goal.returns-clause-nothing_is_blank
 returns-clause-nothing_is_blank c = nothing_is_blank
+
+pub returns-clause-yield_is_a_name : goal.returns-clause-yield_is_a_name
+returns-clause-yield_is_a_name c = yield_is_a_name
+
+pub returns-clause-close_is_a_name : goal.returns-clause-close_is_a_name
+returns-clause-close_is_a_name c = close_is_a_name
+
+pub returns-clause-throw_is_a_drive : goal.returns-clause-throw_is_a_drive
+returns-clause-throw_is_a_drive c = throw_is_a_drive
+
+pub returns-clause-next_nothing : goal.returns-clause-next_nothing
+returns-clause-next_nothing c = next_nothing
+
+pub returns-clause-no_number_below : goal.returns-clause-no_number_below
+returns-clause-no_number_below c = no_number_below

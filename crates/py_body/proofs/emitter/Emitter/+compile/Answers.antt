@@ -1,4 +1,4 @@
-use Rattle.std.proofs.Common.{◌≡◌, ◌+◌, ◌*◌, ◌<◌, ◌≤◌, ◌%◌, ◌^◌, ℕ, Bool, refl, sym, ap, ◌∙◌, subst, take, arith, rules}
+use Rattle.std.proofs.Common.{◌≡◌, ◌+◌, ◌*◌, ◌<◌, ◌≤◌, ◌%◌, ◌^◌, ℕ, refl, sym, ap, ◌∙◌, subst, take, arith, rules}
 use Rattle.std.proofs.lemmas.Result.{on_ok_weaker}
 use Rattle.py_code.specs.declared.instruction.Instruction.TheVariants as op
 use Rattle.py_tree.specs.declared.stmt.Clause.{out-Clause}
@@ -6,9 +6,9 @@ use Rattle.py_tree.specs.Tree.{Raise, Return, Show, If, IfElse, Suite, Clauses, 
 use Rattle.py_tree.specs.Views.{clauses_of, form_of, suite_of}
 use Rattle.py_tree.specs.Suites.{list_clauses, list_suite}
 use Rattle.py_laid.specs.Code.{Scope, LaidTaken}
-use Rattle.py_tree.specs.Compilable.{ClausesFit, FormFits, SuiteFits, statements, statements_in, statements_under}
+use Rattle.py_tree.specs.Compilable.{statements, statements_in, statements_under}
 use Rattle.py_body.specs.Sizes.{size_clauses, size_form, size_suite, size_tried}
-use Rattle.py_body.specs.Emitting.{draft_of, scope_of, is_inside, end_of, labels_of, EmitsClauses, EmitsSuite}
+use Rattle.py_body.specs.Emitting.{draft_of, scope_of, is_inside, end_of, labels_of, EmitsClauses, EmitsSuite, ClausesIn, FormIn, SuiteIn}
 use Rattle.py_body.proofs.Trees.{fits_at, statements_at, suite_more}
 use Rattle.py_body.proofs.SizeLemmas.{clauses_most, suite_most}
 use Rattle.py_body.proofs.StatementLemmas.{form_taken}
@@ -30,9 +30,9 @@ compile_suite-compile_form-requires t c =
     let all : statements (suite_of c.args.suite.now) ≡ statements (list_suite items) = ap statements c.as_slice-stmt-items.ensures in
     let smaller : 5 * statements_in (form_of c.stmt-item.result.form) < 5 * statements (suite_of c.args.suite.now) + 1 = omega (arith, one, all) in
     let few : statements_in (form_of c.stmt-item.result.form) ≤ 1048576 = omega (arith, one, all, c.requires.few) in
-    let inner : Bool = is_inside (scope_of c.args.scope.now).around in
-    let fits : FormFits inner (form_of c.stmt-item.result.form) =
-    fits_at inner items i c.stmt-item.result c.loop-stmt-test.true c.stmt-item.is (subst (SuiteFits inner) c.as_slice-stmt-items.ensures c.requires.fits) in
+    let scope : Scope = scope_of c.args.scope.now in
+    let fits : FormIn scope (form_of c.stmt-item.result.form) =
+    fits_at scope.kind (is_inside scope.around) items i c.stmt-item.result c.loop-stmt-test.true c.stmt-item.is (subst (SuiteIn scope) c.as_slice-stmt-items.ensures c.requires.fits) in
     let labels : c.loop-stmt.self.labels ≤ 3 = subst (λ (w : ℕ). w ≤ 3) (sym c.loop-stmt.invariant.labels) c.requires.low.0 in
     let others : c.loop-stmt.self.others ≤ 3 = subst (λ (w : ℕ). w ≤ 3) (sym c.loop-stmt.invariant.others) c.requires.low.1 in
     search rules
@@ -70,7 +70,7 @@ compile_form-returns-in-If-clause-code t c = rw c.in-If.is c.compile_branch.ensu
 
 pub compile_branch-size_of_suite-size-requires : goal.compile_branch-size_of_suite-size-requires
 compile_branch-size_of_suite-size-requires t c =
-    suite_most c.weights-weights.result c.args.self.now.labels c.args.self.now.others (is_inside (scope_of c.args.scope.now).around) (suite_of c.args.suite.now) c.weights-weights.ensures
+    suite_most _ c.weights-weights.result c.args.self.now.labels c.args.self.now.others (is_inside (scope_of c.args.scope.now).around) (suite_of c.args.suite.now) c.weights-weights.ensures
     c.requires.low.0 c.requires.low.1
     c.requires.fits (omega (arith, c.requires.few))
 
@@ -86,13 +86,13 @@ compile_branch-returns-clause-code t c =
 
 pub compile_if_else-size_of_suite-size-requires : goal.compile_if_else-size_of_suite-size-requires
 compile_if_else-size_of_suite-size-requires t c =
-    suite_most c.weights-weights.result c.args.self.now.labels c.args.self.now.others (is_inside (scope_of c.args.scope.now).around) (suite_of c.args.suite.now) c.weights-weights.ensures
+    suite_most _ c.weights-weights.result c.args.self.now.labels c.args.self.now.others (is_inside (scope_of c.args.scope.now).around) (suite_of c.args.suite.now) c.weights-weights.ensures
     c.requires.low.0 c.requires.low.1
     c.requires.fits (omega (arith, c.requires.few))
 
 pub compile_if_else-size_of_suite-size_other-requires : goal.compile_if_else-size_of_suite-size_other-requires
 compile_if_else-size_of_suite-size_other-requires t c =
-    suite_most c.weights-weights.result c.args.self.now.labels c.args.self.now.others (is_inside (scope_of c.args.scope.now).around) (suite_of c.args.other.now) c.weights-weights.ensures
+    suite_most _ c.weights-weights.result c.args.self.now.labels c.args.self.now.others (is_inside (scope_of c.args.scope.now).around) (suite_of c.args.other.now) c.weights-weights.ensures
     c.requires.low.0 c.requires.low.1
     c.requires.fits_other (omega (arith, c.requires.few))
 
@@ -115,7 +115,7 @@ compile_if_else-returns-clause-code t c =
 
 pub compile_while-size_of_suite-size-requires : goal.compile_while-size_of_suite-size-requires
 compile_while-size_of_suite-size-requires t c =
-    suite_most c.weights-weights.result c.args.self.now.labels c.args.self.now.others _ (suite_of c.args.suite.now) c.weights-weights.ensures c.requires.low.0 c.requires.low.1 c.requires.fits
+    suite_most _ c.weights-weights.result c.args.self.now.labels c.args.self.now.others _ (suite_of c.args.suite.now) c.weights-weights.ensures c.requires.low.0 c.requires.low.1 c.requires.fits
     (omega (arith, c.requires.few))
 
 pub compile_rounds-returns-clause-code : goal.compile_rounds-returns-clause-code
@@ -127,11 +127,31 @@ compile_rounds-returns-clause-code t c =
 
 -- ---- tries with a finally
 
+pub compile_opening-compile_suite-requires : goal.compile_opening-compile_suite-requires
+compile_opening-compile_suite-requires t c =
+    let suite : Suite = suite_of c.args.suite.now in
+    let fits : SuiteIn (scope_of c.in_ok-before.before) suite = subst (λ (i : Scope). SuiteIn i suite) (sym c.in_ok-before.ensures) c.requires.fits in
+    let depth : c.in_ok-before.before.depth ≤ 1000 = subst (λ (i : Scope). i.depth ≤ 1000) (sym c.in_ok-before.ensures) c.requires.depth in
+    let labels : c.put_jump.new.self.labels ≤ 3 = subst (λ (w : ℕ). w ≤ 3) (sym c.in_ok-put_jump.ensures.widths.0) c.requires.low.0 in
+    let others : c.put_jump.new.self.others ≤ 3 = subst (λ (w : ℕ). w ≤ 3) (sym c.in_ok-put_jump.ensures.widths.1) c.requires.low.1 in
+    search rules
+
 pub compile_opening-returns-clause-code : goal.compile_opening-returns-clause-code
 compile_opening-returns-clause-code t c =
     opening_emits (scope_of c.args.scope.now) (scope_of c.in_ok-before.before) c.args.line (suite_of c.args.suite.now) c.args.handler c.in_ok-before.ensures c.in_ok-put_jump.ensures.code
     c.in_ok-compile_suite.ensures.code
     c.in_ok-put_plain.ensures.code c.in_ok-put_plain-2.ensures.code
+
+pub compile_try_finally-compile_suite-requires : goal.compile_try_finally-compile_suite-requires
+compile_try_finally-compile_suite-requires t c =
+    let last : Suite = suite_of c.args.last.now in
+    let few : statements last ≤ 1048576 = omega (arith, c.requires.few) in
+    let smaller : 5 * statements last + 1 < 5 * (statements (suite_of c.args.suite.now) + statements last) + 3 = omega arith in
+    let fits : SuiteIn (scope_of c.in_ok-within.within) last = subst (λ (i : Scope). SuiteIn i last) (sym c.in_ok-within.ensures) c.requires.fits_last in
+    let depth : c.in_ok-within.within.depth ≤ 1000 = subst (λ (i : Scope). i.depth ≤ 1000) (sym c.in_ok-within.ensures) c.requires.depth in
+    let labels : c.compile_opening.new.self.labels ≤ 3 = subst (λ (w : ℕ). w ≤ 3) (sym c.in_ok-compile_opening.ensures.widths.0) c.requires.low.0 in
+    let others : c.compile_opening.new.self.others ≤ 3 = subst (λ (w : ℕ). w ≤ 3) (sym c.in_ok-compile_opening.ensures.widths.1) c.requires.low.1 in
+    search rules
 
 pub compile_try_finally-returns-clause-code : goal.compile_try_finally-returns-clause-code
 compile_try_finally-returns-clause-code t c =
@@ -150,6 +170,15 @@ compile_forgetting-returns-clause-code t c =
 
 -- ---- tries with clauses
 
+pub compile_tried-compile_suite-requires : goal.compile_tried-compile_suite-requires
+compile_tried-compile_suite-requires t c =
+    let suite : Suite = suite_of c.args.suite.now in
+    let fits : SuiteIn (scope_of c.in_ok-inner.inner) suite = subst (λ (i : Scope). SuiteIn i suite) (sym c.in_ok-inner.ensures) c.requires.fits in
+    let depth : c.in_ok-inner.inner.depth ≤ 1000 = subst (λ (i : Scope). i.depth ≤ 1000) (sym c.in_ok-inner.ensures) c.requires.depth in
+    let labels : c.put_jump.new.self.labels ≤ 3 = subst (λ (w : ℕ). w ≤ 3) (sym c.in_ok-put_jump.ensures.widths.0) c.requires.low.0 in
+    let others : c.put_jump.new.self.others ≤ 3 = subst (λ (w : ℕ). w ≤ 3) (sym c.in_ok-put_jump.ensures.widths.1) c.requires.low.1 in
+    search rules
+
 pub compile_tried-returns-clause-code : goal.compile_tried-returns-clause-code
 compile_tried-returns-clause-code t c =
     tried_emits (scope_of c.args.scope.now) (scope_of c.in_ok-inner.inner) c.args.line (suite_of c.args.suite.now) c.args.handler c.args.end c.in_ok-inner.ensures c.in_ok-put_jump.ensures.code
@@ -157,13 +186,13 @@ compile_tried-returns-clause-code t c =
 
 pub compile_try_except-size_of_suite-size-requires : goal.compile_try_except-size_of_suite-size-requires
 compile_try_except-size_of_suite-size-requires t c =
-    suite_most c.weights-weights.result c.args.self.now.labels c.args.self.now.others (is_inside (scope_of c.args.scope.now).around) (suite_of c.args.suite.now) c.weights-weights.ensures
+    suite_most _ c.weights-weights.result c.args.self.now.labels c.args.self.now.others (is_inside (scope_of c.args.scope.now).around) (suite_of c.args.suite.now) c.weights-weights.ensures
     c.requires.low.0 c.requires.low.1
     c.requires.fits (omega (arith, c.requires.few))
 
 pub compile_try_except-size_of_clauses-size_clauses-requires : goal.compile_try_except-size_of_clauses-size_clauses-requires
 compile_try_except-size_of_clauses-size_clauses-requires t c =
-    clauses_most c.weights-weights.result c.args.self.now.labels c.args.self.now.others (is_inside (scope_of c.args.scope.now).around) (clauses_of c.args.clauses.now)
+    clauses_most _ c.weights-weights.result c.args.self.now.labels c.args.self.now.others (is_inside (scope_of c.args.scope.now).around) (clauses_of c.args.clauses.now)
     c.weights-weights.ensures c.requires.low.0
     c.requires.low.1 c.requires.fits_clauses (omega (arith, c.requires.few))
 
@@ -193,10 +222,11 @@ compile_clauses-clause_label-other-requires-clause-few t c =
 
 pub compile_clauses-clause_label-other-requires-clause-fits : goal.compile_clauses-clause_label-other-requires-clause-fits
 compile_clauses-clause_label-other-requires-clause-fits t c =
-    let inner : Bool = is_inside (scope_of c.args.scope.now).around in (
-      inner,
-      clause_fits_at inner c.as_slice-clause-items.result.now c.loop-clause.clause-index c.clause-item.result c.loop-clause-test.true c.clause-item.is
-          (subst (ClausesFit inner) c.as_slice-clause-items.ensures c.requires.fits),
+    let scope : Scope = scope_of c.args.scope.now in (
+      scope.kind,
+      is_inside scope.around,
+      clause_fits_at scope.kind (is_inside scope.around) c.as_slice-clause-items.result.now c.loop-clause.clause-index c.clause-item.result c.loop-clause-test.true c.clause-item.is
+          (subst (ClausesIn scope) c.as_slice-clause-items.ensures c.requires.fits),
     )
 
 pub compile_clauses-compile_handler-requires : goal.compile_clauses-compile_handler-requires
@@ -207,10 +237,11 @@ compile_clauses-compile_handler-requires t c =
     let all : statements_under (clauses_of c.args.clauses.now) ≡ statements_under (list_clauses items) = ap statements_under c.as_slice-clause-items.ensures in
     let smaller : 5 * statements suite + 4 < 5 * statements_under (clauses_of c.args.clauses.now) + 2 = omega (arith, one, all) in
     let few : statements suite ≤ 1048574 = omega (arith, one, all, c.requires.few) in
-    let inner : Bool = is_inside (scope_of c.args.scope.now).around in
-    let fits_outside : SuiteFits inner suite =
-    clause_fits_at inner items c.loop-clause.clause-index c.clause-item.result c.loop-clause-test.true c.clause-item.is (subst (ClausesFit inner) c.as_slice-clause-items.ensures c.requires.fits) in
-    let fits : SuiteFits (is_inside (scope_of c.args.within.now).around) suite = subst (λ (i : Scope). SuiteFits (is_inside i.around) suite) (sym c.requires.within) fits_outside in
+    let scope : Scope = scope_of c.args.scope.now in
+    let fits_outside : SuiteIn scope suite =
+    clause_fits_at scope.kind (is_inside scope.around) items c.loop-clause.clause-index c.clause-item.result c.loop-clause-test.true c.clause-item.is
+    (subst (ClausesIn scope) c.as_slice-clause-items.ensures c.requires.fits) in
+    let fits : SuiteIn (scope_of c.args.within.now) suite = subst (λ (i : Scope). SuiteIn i suite) (sym c.requires.within) fits_outside in
     let depth : c.args.within.now.depth ≤ 1000 = subst (λ (i : Scope). i.depth ≤ 1000) (sym c.requires.within) c.requires.depth in
     let labels : c.put_match.new.self.labels ≤ 3 = subst (λ (w : ℕ). w ≤ 3) (sym (c.in_ok-put_match.ensures.widths.0 ∙ c.loop-clause.invariant.labels)) c.requires.low.0 in
     let others : c.put_match.new.self.others ≤ 3 = subst (λ (w : ℕ). w ≤ 3) (sym (c.in_ok-put_match.ensures.widths.1 ∙ c.loop-clause.invariant.others)) c.requires.low.1 in

@@ -5,12 +5,12 @@ use Rattle.py_body.proofs.emitter.Emitter.clause_label.Goals as goal
 
 pub size_of_suite-body-requires : goal.size_of_suite-body-requires
 size_of_suite-body-requires c =
-    suite_most c.weights-weights.result c.args.self.now.labels c.args.self.now.others c.requires.fits.0 (suite_of c.args.suite.now) c.weights-weights.ensures c.requires.low.0 c.requires.low.1
-    c.requires.fits.1
+    suite_most c.requires.fits.0 c.weights-weights.result c.args.self.now.labels c.args.self.now.others c.requires.fits.1 (suite_of c.args.suite.now) c.weights-weights.ensures c.requires.low.0 c.requires.low.1
+    c.requires.fits.2
     (omega (arith, c.requires.few))
 
 pub size_of_clause-requires : goal.size_of_clause-requires
 size_of_clause-requires c =
-    clause_most c.weights-weights.result c.args.self.now.labels c.args.self.now.others c.requires.fits.0 c.args.target.now (suite_of c.args.suite.now) c.size_of_suite-body.result
+    clause_most c.requires.fits.0 c.weights-weights.result c.args.self.now.labels c.args.self.now.others c.requires.fits.1 c.args.target.now (suite_of c.args.suite.now) c.size_of_suite-body.result
     c.weights-weights.ensures
-    c.requires.low.0 c.requires.low.1 c.requires.fits.1 c.requires.few c.size_of_suite-body.ensures.size
+    c.requires.low.0 c.requires.low.1 c.requires.fits.2 c.requires.few c.size_of_suite-body.ensures.size

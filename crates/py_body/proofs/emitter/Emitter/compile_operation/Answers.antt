@@ -1,8 +1,9 @@
 use Rattle.std.proofs.Common.{ℕ, subst}
 use Rattle.std.specs.Prelude.{OnOk}
 use Rattle.py_code.specs.declared.instruction.Instruction.TheVariants.{BinaryOperation, CompareOperation}
-use Rattle.py_body.specs.Emitting.{draft_of, scope_of}
-use Rattle.py_body.specs.Emitting.{EmitsTwo}
+use Rattle.py_tree.specs.Compilable.{OperationFits}
+use Rattle.py_body.specs.Emitting.{draft_of, scope_of, EmitsTwo}
+use Rattle.py_body.proofs.ExpressionLemmas.{yield_emits}
 use Rattle.py_body.proofs.emitter.Emitter.compile_operation.Goals as goal
 
 pub returns-in-Add-clause-code : goal.returns-in-Add-clause-code
@@ -32,3 +33,17 @@ returns-in-Eq-clause-code c =
     (subst (λ (n : ℕ). OnOk c.compile_two-in-Eq.result (EmitsTwo (draft_of c.args.self.now) (draft_of c.compile_two-in-Eq.new.self) (scope_of c.args.scope.now) c.args.line c.in-Eq.a c.in-Eq.b
     CompareOperation n))
     c.into-in-Eq.ensures.0 c.compile_two-in-Eq.ensures.code)
+
+pub returns-in-Send-clause-code : goal.returns-in-Send-clause-code
+returns-in-Send-clause-code c = rw c.in-Send.is c.compile_driven.ensures.code
+
+pub returns-in-Throw-clause-code : goal.returns-in-Throw-clause-code
+returns-in-Throw-clause-code c = rw c.in-Throw.is c.compile_driven-in-Throw.ensures.code
+
+pub returns-in-Close-clause-code : goal.returns-in-Close-clause-code
+returns-in-Close-clause-code c = rw c.in-Close.is c.compile_close.ensures.code
+
+pub returns-in-Yield-clause-code : goal.returns-in-Yield-clause-code
+returns-in-Yield-clause-code c =
+    rw c.in-Yield.is
+    (yield_emits _ _ _ (scope_of c.args.scope.now) c.args.line c.in-Yield.atom (subst (OperationFits c.args.scope.now.kind) c.in-Yield.is c.requires.fits) c.compile_taken.ensures.code)

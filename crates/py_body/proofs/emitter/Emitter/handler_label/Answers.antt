@@ -5,6 +5,6 @@ use Rattle.py_body.proofs.emitter.Emitter.handler_label.Goals as goal
 
 pub size_of_suite-size-requires : goal.size_of_suite-size-requires
 size_of_suite-size-requires c =
-    suite_most c.weights-weights.result c.args.self.now.labels c.args.self.now.others c.requires.fits.0 (suite_of c.args.suite.now) c.weights-weights.ensures c.requires.low.0 c.requires.low.1
-    c.requires.fits.1
+    suite_most c.requires.fits.0 c.weights-weights.result c.args.self.now.labels c.args.self.now.others c.requires.fits.1 (suite_of c.args.suite.now) c.weights-weights.ensures c.requires.low.0 c.requires.low.1
+    c.requires.fits.2
     (omega (arith, c.requires.few))
