@@ -15,7 +15,7 @@ use Rattle.py_code.specs.declared.operator.ComparisonOperator.{ComparisonOperato
 use Rattle.py_code.specs.declared.operator.ComparisonOperator.TheVariants as comparison
 use Rattle.py_objects.specs.Objects.{Obj, Name, HasPayload, as_exception, declared, numbers, keyword_numbers, request_numbers, AllBelow, IsMade}
 use Rattle.py_objects.specs.Values.{number_of, text_of}
-use Rattle.py_answers.specs.Answers.{Reply, Has, Fails, whole, sum, difference, truth, text_less, not_supported, operated, on_both, found, Compares, MatchesAs, MatchesClass, raised_as, Raises, CallsAs, CallsClass, Replies}
+use Rattle.py_answers.specs.Answers.{Reply, Has, Fails, whole, sum, difference, truth, text_less, not_supported, operated, on_both, found, Compares, MatchesAs, MatchesClass, raised_as, Raises, CallsAs, CallsClass, Lacks, LacksAs, Replies}
 use Rattle.py_answers.specs.Replying.{joined, IsThere, IsSum, IsDifference, IsLess}
 use Rattle.py_exceptions.specs.declared.ctor.ExceptionCtor.{ExceptionCtor}
 use Rattle.py_exceptions.specs.declared.ctor.ExceptionCtor.TheVariants as ctor
@@ -168,7 +168,16 @@ calls_as_give : (objects : List Payload) (f : Obj) (p : Payload) (vs : List Obj)
     → HasPayload objects f p → AllBelow (length objects) (numbers vs) → CallsAs objects f p vs reply → IsThere objects reply
 calls_as_give objects f (payload.Class c) vs reply has below (b, derived, calls) = class_call_gives objects f c vs b reply has below calls
 calls_as_give objects f (payload.Function b) vs reply has below calls = absurd calls
+calls_as_give objects f (payload.Builtin b) vs reply has below is = subst (IsThere objects) (sym is) tt
 calls_as_give objects f _ vs reply has below (n, named, is) = subst (IsThere objects) (sym is) tt
+
+-- of `send`, `throw` or `close` on what is no generator
+lacks_as_give : (objects : List Payload) (name : Name) (p : Payload) (reply : Reply) → LacksAs objects name p reply → IsThere objects reply
+lacks_as_give objects name (payload.Generator g) reply lacks = absurd lacks
+lacks_as_give objects name _ reply (n, named, is) = subst (IsThere objects) (sym is) tt
+
+lacks_give : (objects : List Payload) (name : Name) (g : Obj) (reply : Reply) → Lacks objects name g reply → IsThere objects reply
+lacks_give objects name g reply (p, has, lacks) = lacks_as_give objects name p reply lacks
 
 -- the front of numbers that are below
 front_below : (n : ℕ) (xs ys : List ℕ) → AllBelow n (xs ++ ys) → AllBelow n xs
@@ -187,4 +196,7 @@ replied_there objects (request.Unbound x) reply below is = subst (IsThere object
 replied_there objects (request.Raisable v) reply below raises = raises_give objects v reply raises
 replied_there objects (request.Call f vs named) reply below (none, (p, has, calls)) =
     calls_as_give objects f p vs reply has (front_below (length objects) (numbers vs) (keyword_numbers named) below.1) calls
+replied_there objects (request.Send g v) reply below lacks = lacks_give objects (codes "send") g reply lacks
+replied_there objects (request.Throw g c v t) reply below lacks = lacks_give objects (codes "throw") g reply lacks
+replied_there objects (request.Close g) reply below lacks = lacks_give objects (codes "close") g reply lacks
 replied_there objects _ reply below is = absurd is

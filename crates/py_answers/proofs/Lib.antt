@@ -6,3 +6,5 @@ pub mod AnswersLemmas
 pub mod RepliesLemmas
 -- objects that give replies
 pub mod GivingLemmas
+-- what comes of what is thrown
+pub mod ThrownLemmas

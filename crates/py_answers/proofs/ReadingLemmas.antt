@@ -139,7 +139,7 @@ read_class objects o q c (p, has, inr (ps, qs, first, second)) is = let both : p
 -- ---- objects as they are now, and as they were made
 
 -- a tuple stays what it was made as
-tuple_now : (s : Kept) (o : Obj) (vs : List Obj) → HasPayload s.made o (payload.Tuple vs) → HasPayload (objects_of s) o (payload.Tuple vs)
+pub tuple_now : (s : Kept) (o : Obj) (vs : List Obj) → HasPayload s.made o (payload.Tuple vs) → HasPayload (objects_of s) o (payload.Tuple vs)
 tuple_now s o vs has =
     let (p, now, is) = changes_keep (λ (p : Payload). p ≡ payload.Tuple vs) (λ objects x p is. ap (edited objects x) is) s.made s.changes o.number (payload.Tuple vs, has, refl) in
     now ∙ ap Some is

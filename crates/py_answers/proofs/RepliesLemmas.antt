@@ -1,10 +1,11 @@
 -- Replies go over to more objects.
 use Rattle.std.proofs.Common.{◌≡◌, List, [], ◌∷◌, ◌||◌, Bool, true, false, eqb, Some, Ok, Err, inl, inr, sym, ap, ◌∙◌}
-use Rattle.std.specs.Prelude.{Option, Result, slice_get}
+use Rattle.std.specs.Prelude.{Option, Result, slice_get, codes}
 use Rattle.py_objects.specs.declared.refs.PyBaseExceptionRef.{PyBaseExceptionRef}
 use Rattle.py_objects.specs.declared.payload.Payload.{Payload}
 use Rattle.py_objects.specs.declared.payload.Payload.TheVariants as payload
 use Rattle.py_objects.specs.declared.payload.ClassBody.{ClassBody}
+use Rattle.py_objects.specs.declared.payload.CoroBody.{CoroBody}
 use Rattle.py_objects.specs.declared.error_kind.ErrorKind.{ErrorKind}
 use Rattle.py_objects.specs.declared.request.Request.{Request}
 use Rattle.py_objects.specs.declared.request.Request.TheVariants as request
@@ -28,7 +29,8 @@ use Rattle.py_exceptions.specs.declared.ctor.CtorFault.TheVariants as ctor_fault
 use Rattle.py_exceptions.specs.Raisable.{ClassTaken, IsTaken, IsTakenFor}
 use Rattle.py_exceptions.specs.Deriving.{IsInstanceOf}
 use Rattle.py_exceptions.proofs.TypeNamesLemmas.{type_name_grows}
-use Rattle.py_answers.specs.Answers.{Reply, Has, Is, Makes, Fails, Passes, truth, found, Compares, MatchesAs, MatchesClass, Raises, IsRefusedCall, Calls, CallsAs, CallsClass, Replies, IsRaised, IsInstance, IsCalled, GivesValue, GivesRaise, GivesBody, GivesDrive}
+use Rattle.py_answers.specs.Answers.{Raised, This, Called, BuiltIn, Reply, Has, Is, Makes, Creates, Fails, FailsFrom, Passes, truth, found, Compares, MatchesAs, MatchesClass, Raises, IsRefusedCall, Calls, CallsAs, CallsClass, IsLacking, Lacks, LacksAs, Replies}
+use Rattle.py_answers.specs.Answers.{IsRaised, IsRaisedFrom, IsRaise, IsInstance, IsCalled, IsCreated, for_body, GivesValue, GivesRaise, GivesBody, GivesDrive}
 
 -- objects that are there are one key as before
 same_key_grows : (objects objects' : List Payload) (a b : Obj) (p q : Payload) → Grows objects objects' → HasPayload objects a p → HasPayload objects b q
@@ -62,7 +64,7 @@ compares_grow objects objects' comparison.Equal a b reply grows (p, q, has_p, ha
 compares_grow objects objects' _ a b reply grows is = absurd is
 
 -- so does what an exception is an instance of
-instance_of_grows : (objects objects' : List Payload) (p : Payload) (c : Obj) (b : Bool) → Grows objects objects' → IsInstanceOf objects p c b → IsInstanceOf objects' p c b
+pub instance_of_grows : (objects objects' : List Payload) (p : Payload) (c : Obj) (b : Bool) → Grows objects objects' → IsInstanceOf objects p c b → IsInstanceOf objects' p c b
 instance_of_grows objects objects' (payload.Exception e) c b grows (body, has, is) = (body, payload_grown objects objects' _ _ grows has, is)
 instance_of_grows objects objects' _ c b grows is = is
 
@@ -94,7 +96,7 @@ taken_for_grows objects objects' v p (Err (ctor_fault.NotException f)) grows (n,
 taken_for_grows objects objects' v p (Err ctor_fault.NoMemory) grows is = is
 
 -- so what an object is taken for, whatever its payload, stays
-taken_grows : (objects objects' : List Payload) (v : Obj) (taken : Result ExceptionCtor CtorFault) → GrowsPlainly objects objects' → IsTaken objects v taken → IsTaken objects' v taken
+pub taken_grows : (objects objects' : List Payload) (v : Obj) (taken : Result ExceptionCtor CtorFault) → GrowsPlainly objects objects' → IsTaken objects v taken → IsTaken objects' v taken
 taken_grows objects objects' v taken grows (p, has, is) = (p, payload_grown objects objects' v p (plainly_grows objects objects' grows) has, taken_for_grows objects objects' v p taken grows is)
 
 -- so what it is raised as stays
@@ -116,11 +118,24 @@ calls_as_grow : (objects objects' : List Payload) (f : Obj) (p : Payload) (vs : 
 calls_as_grow objects objects' f (payload.Class c) vs reply grows (b, derived, calls) =
     (b, derived_grows objects objects' f _ b grows derived, class_call_grows objects objects' f c vs b reply grows calls)
 calls_as_grow objects objects' f (payload.Function b) vs reply grows calls = absurd calls
+calls_as_grow objects objects' f (payload.Builtin b) vs reply grows is = is
 calls_as_grow objects objects' f p vs reply grows refused = refused_call_grows objects objects' p reply grows refused
 
 -- so what the call of an object comes to stays
 calls_grow : (objects objects' : List Payload) (f : Obj) (vs : List Obj) (reply : Reply) → GrowsPlainly objects objects' → Calls objects f vs reply → Calls objects' f vs reply
 calls_grow objects objects' f vs reply grows (p, has, calls) = (p, payload_grown objects objects' f p (plainly_grows objects objects' grows) has, calls_as_grow objects objects' f p vs reply grows calls)
+
+-- so does the refusal of an attribute that isn't there
+lacking_grows : (objects objects' : List Payload) (name : Name) (p : Payload) (reply : Reply) → GrowsPlainly objects objects' → IsLacking objects name p reply → IsLacking objects' name p reply
+lacking_grows objects objects' name p reply grows (n, named, is) = (n, type_name_grows objects objects' p n (plainly_grows objects objects' grows) named, is)
+
+lacks_as_grow : (objects objects' : List Payload) (name : Name) (p : Payload) (reply : Reply) → GrowsPlainly objects objects' → LacksAs objects name p reply → LacksAs objects' name p reply
+lacks_as_grow objects objects' name (payload.Generator g) reply grows lacks = absurd lacks
+lacks_as_grow objects objects' name p reply grows lacking = lacking_grows objects objects' name p reply grows lacking
+
+lacks_grow : (objects objects' : List Payload) (name : Name) (g : Obj) (reply : Reply) → GrowsPlainly objects objects' → Lacks objects name g reply → Lacks objects' name g reply
+lacks_grow objects objects' name g reply grows (p, has, lacks) =
+    (p, payload_grown objects objects' g p (plainly_grows objects objects' grows) has, lacks_as_grow objects objects' name p reply grows lacks)
 
 -- so do replies, as more objects come that declare nothing
 pub replies_grow : (objects objects' : List Payload) (r : Request) (reply : Reply) → GrowsPlainly objects objects' → Replies objects r reply → Replies objects' r reply
@@ -146,6 +161,9 @@ replies_grow objects objects' (request.Show v) reply grows is = is
 replies_grow objects objects' (request.Unbound x) reply grows is = is
 replies_grow objects objects' (request.Raisable v) reply grows raises = raises_grow objects objects' v reply grows raises
 replies_grow objects objects' (request.Call f vs named) reply grows (none, calls) = (none, calls_grow objects objects' f vs reply grows calls)
+replies_grow objects objects' (request.Send g v) reply grows lacks = lacks_grow objects objects' (codes "send") g reply grows lacks
+replies_grow objects objects' (request.Throw g c v t) reply grows lacks = lacks_grow objects objects' (codes "throw") g reply grows lacks
+replies_grow objects objects' (request.Close g) reply grows lacks = lacks_grow objects objects' (codes "close") g reply grows lacks
 replies_grow objects objects' _ reply grows is = absurd is
 
 -- a new exception still is one
@@ -172,33 +190,58 @@ raised_grows objects objects' before kind text e grows raised = record {
   made = instance_grows objects objects' before raised.class (raised.argument ∷ []) [] (as_object e) grows raised.made;
 }
 
+-- and with a cause
+raised_from_grows : (objects objects' : List Payload) (before : List Event) (kind : ErrorKind) (text : Name) (cause e : PyBaseExceptionRef)
+    → GrowsPlainly objects objects' → IsRaisedFrom objects before kind text cause e → IsRaisedFrom objects' before kind text cause e
+raised_from_grows objects objects' before kind text cause e grows raised =
+    let more : Grows objects objects' = plainly_grows objects objects' grows in record {
+      class = raised.class;
+      is_class = declared_stays objects objects' _ grows ∙ raised.is_class;
+      argument = raised.argument;
+      message = payload_grown objects objects' _ _ more raised.message;
+      new = new_stays objects objects' before e.number grows raised.new;
+      args = raised.args;
+      entry = payload_grown objects objects' _ _ more raised.entry;
+      are = payload_grown objects objects' _ _ more raised.are;
+    }
+
+-- and what was raised, whichever it is
+pub raise_grows : (objects objects' : List Payload) (before : List Event) (x : Raised) (e : PyBaseExceptionRef) → GrowsPlainly objects objects' → IsRaise objects before x e → IsRaise objects' before x e
+raise_grows objects objects' before (This y) e grows is = is
+raise_grows objects objects' before (Called class args) e grows called = called_grows objects objects' before class args (as_object e) grows called
+raise_grows objects objects' before (BuiltIn kind args) e grows (class, is_class, called) =
+    (class, declared_stays objects objects' _ grows ∙ is_class, called_grows objects objects' before class args (as_object e) grows called)
+
+-- a new generator still is one
+created_grows : (objects objects' : List Payload) (before : List Event) (b : CoroBody) (v : Obj) → GrowsPlainly objects objects' → IsCreated objects before b v → IsCreated objects' before b v
+created_grows objects objects' before b v grows (new, has) = (new_stays objects objects' before v.number grows new, payload_grown objects objects' v _ (plainly_grows objects objects' grows) has)
+
 -- a value still is what a reply says
 gives_value_grow : (objects objects' : List Payload) (before : List Event) (reply : Reply) (v : Obj) → GrowsPlainly objects objects' → GivesValue objects before reply v → GivesValue objects' before reply v
 gives_value_grow objects objects' before (Has p) v grows gives = payload_grown objects objects' v p (plainly_grows objects objects' grows) gives
 gives_value_grow objects objects' before (Is w) v grows gives = gives
 gives_value_grow objects objects' before (Makes class args) v grows gives = called_grows objects objects' before class args v grows gives
-gives_value_grow objects objects' before (Fails kind text) v grows gives = absurd gives
-gives_value_grow objects objects' before (Passes e) v grows gives = absurd gives
+gives_value_grow objects objects' before (Creates b) v grows gives = created_grows objects objects' before b v grows gives
+gives_value_grow objects objects' before _ v grows gives = absurd gives
 
 -- and an exception the one that it raises
 gives_raise_grow : (objects objects' : List Payload) (before : List Event) (reply : Reply) (e : PyBaseExceptionRef) → GrowsPlainly objects objects' → GivesRaise objects before reply e → GivesRaise objects' before reply e
-gives_raise_grow objects objects' before (Has p) e grows gives = absurd gives
-gives_raise_grow objects objects' before (Is w) e grows gives = absurd gives
-gives_raise_grow objects objects' before (Makes class args) e grows gives = absurd gives
 gives_raise_grow objects objects' before (Fails kind text) e grows gives = raised_grows objects objects' before kind text e grows gives
-gives_raise_grow objects objects' before (Passes x) e grows gives = gives
+gives_raise_grow objects objects' before (FailsFrom kind text cause) e grows gives = raised_from_grows objects objects' before kind text cause e grows gives
+gives_raise_grow objects objects' before (Passes x) e grows gives = raise_grows objects objects' before x e grows gives
+gives_raise_grow objects objects' before _ e grows gives = absurd gives
 
 -- so the answer that a body gets gives the reply as before
 pub gives_body_grow : (objects objects' : List Payload) (before : List Event) (reply : Reply) (w : GotAnswer) → GrowsPlainly objects objects' → GivesBody objects before reply w → GivesBody objects' before reply w
-gives_body_grow objects objects' before reply (got.Value v) grows gives = gives_value_grow objects objects' before reply v grows gives
+gives_body_grow objects objects' before reply (got.Value v) grows gives = gives_value_grow objects objects' before (for_body reply) v grows gives
 gives_body_grow objects objects' before reply (got.Stop v) grows gives = absurd gives
-gives_body_grow objects objects' before reply (got.Raise e) grows gives = gives_raise_grow objects objects' before reply e grows gives
+gives_body_grow objects objects' before reply (got.Raise e) grows gives = gives_raise_grow objects objects' before (for_body reply) e grows gives
 
 -- and so does the result of a drive
 pub gives_drive_grow : (objects objects' : List Payload) (before : List Event) (reply : Reply) (w : DriveAnswer) → GrowsPlainly objects objects' → GivesDrive objects before reply w → GivesDrive objects' before reply w
 gives_drive_grow objects objects' before reply (answer.Returns v) grows gives = gives_value_grow objects objects' before reply v grows gives
-gives_drive_grow objects objects' before reply (answer.Yields v) grows gives = absurd gives
-gives_drive_grow objects objects' before reply (answer.Stops v) grows gives = absurd gives
-gives_drive_grow objects objects' before reply answer.Closes grows gives = absurd gives
+gives_drive_grow objects objects' before reply (answer.Yields v) grows gives = gives
+gives_drive_grow objects objects' before reply (answer.Stops v) grows gives = gives
+gives_drive_grow objects objects' before reply answer.Closes grows gives = gives
 gives_drive_grow objects objects' before reply (answer.Raises e) grows gives = gives_raise_grow objects objects' before reply e grows gives
 gives_drive_grow objects objects' before reply (answer.Reported text) grows gives = absurd gives

@@ -8,18 +8,19 @@ use Rattle.py_objects.specs.declared.payload.Payload.{Payload}
 use Rattle.py_objects.specs.declared.payload.Payload.TheVariants as payload
 use Rattle.py_code.specs.declared.operator.BinaryOperator.{BinaryOperator}
 use Rattle.py_objects.specs.declared.request.Keywords.TheVariants as keywords
+use Rattle.py_objects.specs.declared.payload.CoroBody.{CoroBody}
 use Rattle.py_objects.specs.declared.payload.FunctionBody.{FunctionBody}
 use Rattle.py_objects.specs.declared.event.Event.{Event}
 use Rattle.py_objects.specs.Objects.{Obj, Name, HasPayload, class_object, numbers, AllBelow, AreNamed, IsClassObject, IsFunction}
-use Rattle.py_objects.specs.Positional.{is_positional}
+use Rattle.py_objects.specs.Positional.{is_positional, is_bare}
 use Rattle.py_objects.specs.Pairs.{Pairs}
 use Rattle.py_answers.specs.declared.reply.Reply.{Reply as MadeReply}
 use Rattle.py_answers.specs.declared.reply.Reply.TheVariants as made
 use Rattle.py_answers.specs.declared.answering.Answered.{Answered}
 use Rattle.py_answers.specs.declared.answering.Answered.TheVariants as answered
-use Rattle.py_answers.specs.Answers.{Reply, Has, Is, Makes, Fails, Passes, GivesValue, IsTypeName, Calls, Replies, operated, sum, difference, less, not_supported}
+use Rattle.py_answers.specs.Answers.{Reply, Has, Is, Makes, Fails, GivesValue, IsTypeName, Calls, Lacks, Replies, operated, sum, difference, less, not_supported}
 
--- the requests that are answered, by a reply or by the machine: of calls those without keyword arguments
+-- the requests that are answered, by a reply or by the machine: of calls those without keyword arguments, of throws those without a traceback
 abbrev pub is_answered : Request → Bool
 is_answered (request.Binary op a b) = is_asked op
 is_answered (request.Compare op a b) = is_compared op
@@ -31,6 +32,9 @@ is_answered (request.Unbound x) = true
 is_answered (request.Raisable v) = true
 is_answered request.Handled = true
 is_answered (request.Call f vs named) = is_positional named
+is_answered (request.Send g v) = true
+is_answered (request.Throw g c v t) = is_bare t
+is_answered (request.Close g) = true
 is_answered _ = false
 
 -- the reply that a made one is
@@ -58,11 +62,23 @@ pub record IsValueOf (old new : List Payload) (reply : Reply) (v : Obj) : Type 0
   pub gives : (before : List Event) → AreNamed old before → GivesValue new before reply v
   pub below : v.number < length new
 
--- requests that a machine answers by what it runs: the one for what is handled, and calls of functions
+-- whether a payload is a generator's
+abbrev pub is_generator : Payload → Bool
+is_generator (payload.Generator b) = true
+is_generator _ = false
+
+-- an object is a generator
+abbrev pub IsGenerator : List Payload → Obj → Type 0
+IsGenerator objects g = (b : CoroBody) × HasPayload objects g (payload.Generator b)
+
+-- requests that a machine answers by what it runs: the one for what is handled, calls of functions, sends, throws and closes of generators
 abbrev pub IsOfMachine : List Payload → Request → Type 0
 IsOfMachine objects r =
     (r ≡ request.Handled)
     ⊎ ((f : Obj) × (vs : List Obj) × (b : FunctionBody) × (r ≡ request.Call f vs keywords.None) × HasPayload objects f (payload.Function b))
+    ⊎ ((g : Obj) × (v : Obj) × (r ≡ request.Send g v) × IsGenerator objects g)
+    ⊎ ((g : Obj) × (c : Obj) × (v : Option Obj) × (r ≡ request.Throw g c v None) × IsGenerator objects g)
+    ⊎ ((g : Obj) × (r ≡ request.Close g) × IsGenerator objects g)
 
 -- what a request is answered among these objects, behind which there may be more by then: an object that is what the reply says, the raise that
 -- the reply is, or nothing, where a machine answers it or memory ran out
@@ -88,18 +104,23 @@ abbrev pub IsReplied : List Payload → Request → Option MadeReply → Type 0
 IsReplied objects r None = IsOfMachine objects r
 IsReplied objects r (Some reply) = Replies objects r (reply_of reply) × IsSized reply
 
+-- a reply is the one to the call of an attribute of this name, which generators have; where there is none, a generator is called
+abbrev pub IsLackReplied : List Payload → Name → Obj → Option MadeReply → Type 0
+IsLackReplied objects name g None = IsGenerator objects g
+IsLackReplied objects name g (Some reply) = Lacks objects name g (reply_of reply) × IsSized reply
+
 -- a reply is the one to a call; where there is none, a function is called
 abbrev pub IsCallReplied : List Payload → Obj → List Obj → Option MadeReply → Type 0
 IsCallReplied objects f vs None = IsFunction objects f
 IsCallReplied objects f vs (Some reply) = Calls objects f vs (reply_of reply) × IsSized reply
 
--- the objects among replies are there
+-- the objects among the replies that requests have are there
 abbrev pub IsThere : List Payload → Reply → Type 0
 IsThere objects (Has p) = Unit {0}
 IsThere objects (Is v) = v.number < length objects
 IsThere objects (Makes class args) = IsClassObject objects (class_object class) × AllBelow (length objects) (numbers args)
 IsThere objects (Fails kind text) = Unit {0}
-IsThere objects (Passes e) = Unit {0}
+IsThere objects _ = ⊥
 
 -- two texts as one, where both are there
 abbrev pub joined : Option Name → Option Name → Option Name

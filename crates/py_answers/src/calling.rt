@@ -1,16 +1,18 @@
 //! The replies to calls of anything but functions.
 
 ghost use Rattle.std.specs.Prelude.{◌≡◌, ◌<◌, length, IfOk};
+ghost use Rattle.py_code.specs.BuiltinNames.{builtin_name};
 ghost use Rattle.py_objects.specs.Objects.{IsClassObject, IsMade};
+ghost use Rattle.py_objects.specs.declared.error_kind.ErrorKind.TheVariants.{TypeError};
 ghost use Rattle.py_objects.specs.declared.payload.Payload.TheVariants.{Class as ClassPayload};
 ghost use Rattle.py_objects.specs.declared.payload.ClassBody.{ClassBody};
-ghost use Rattle.py_answers.specs.Answers.{CallsAs, IsRefusedCall};
+ghost use Rattle.py_answers.specs.Answers.{CallsAs, Fails, IsRefusedCall, bad_arguments};
 ghost use Rattle.py_answers.specs.Readable.{IsReadable};
 ghost use Rattle.py_answers.specs.Replying.{reply_of, IsCallReplied, IsSized};
 
 use crate::reply::Reply;
 use crate::values::{entry, is_of_exceptions};
-use py_code::{NoMemory, push_bytes, push_text, text_of};
+use py_code::{BuiltinFn, NoMemory, push_bytes, push_text, text_of};
 use py_exceptions::type_name;
 use py_objects::{ErrorKind, ObjList, Payload, PyObjectRef, PyTypeRef, Store};
 use std::alloc::Global;
@@ -31,6 +33,7 @@ pub(crate) fn called(
     match payload {
         Payload::Function(_) => Ok(None),
         Payload::Class(_) => Ok(Some(class_called(alloc, store, callee, payload, args)?)),
+        Payload::Builtin(function) => Ok(Some(bad_arguments(alloc, *function)?)),
         Payload::None
         | Payload::Bool(_)
         | Payload::Int(_)
@@ -65,6 +68,17 @@ fn class_called(
         return Ok(Reply::Makes(class, args.copy(alloc)?));
     }
     not_callable(alloc, store, payload)
+}
+
+/// The refusal of a function of the machine's own, whose arguments don't fit.
+fn bad_arguments(alloc: Global, function: BuiltinFn) -> Result<Reply, NoMemory>
+    ensures reply { IfOk result (λ reply. reply_of reply ≡ Fails TypeError (bad_arguments (builtin_name function))) }
+    ensures sized { IfOk result IsSized }
+{
+    let mut text = text_of(alloc, b"bad arguments for ")?;
+    push_bytes(&mut text, function.name())?;
+    push_bytes(&mut text, b"()")?;
+    Ok(Reply::Fails(ErrorKind::TypeError, text))
 }
 
 /// The refusal of what can't be called.

@@ -87,6 +87,7 @@ pub(crate) fn is_true(payload: &Payload) -> bool
         | Payload::Dict(_)
         | Payload::Class(_)
         | Payload::Function(_)
+        | Payload::Builtin(_)
         | Payload::Manager(_)
         | Payload::Frame(_)
         | Payload::Generator(_)

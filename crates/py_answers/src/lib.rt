@@ -6,6 +6,7 @@ mod arithmetic;
 mod calling;
 mod comparison;
 mod giving;
+mod lacking;
 mod matching;
 mod names;
 mod raising;

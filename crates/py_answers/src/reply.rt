@@ -9,6 +9,7 @@ ghost use Rattle.py_answers.specs.Replying.{is_answered, IsReplied};
 use crate::arithmetic::binary;
 use crate::calling::called;
 use crate::comparison::{compare, is_true};
+use crate::lacking::lacking;
 use crate::matching::matches;
 use crate::names::{global, unbound};
 use crate::raising::raisable;
@@ -54,6 +55,9 @@ pub(crate) fn reply_to(
         Request::Unbound(name) => Ok(Some(unbound(alloc, name)?)),
         Request::Raisable(object) => Ok(Some(raisable(alloc, store, *object)?)),
         Request::Call(callee, args, Keywords::None) => called(alloc, store, *callee, args),
+        Request::Send(object, _) => lacking(alloc, store, *object, b"send"),
+        Request::Throw(object, _, _, None) => lacking(alloc, store, *object, b"throw"),
+        Request::Close(object) => lacking(alloc, store, *object, b"close"),
         Request::Handled => Ok(None),
         _ => unreachable!(),
     }

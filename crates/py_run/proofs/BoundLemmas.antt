@@ -6,27 +6,33 @@ use Rattle.py_objects.specs.declared.error_kind.ErrorKind.TheVariants.{Recursion
 use Rattle.py_objects.specs.declared.payload.Payload.{Payload}
 use Rattle.py_objects.specs.declared.payload.Payload.TheVariants as payload
 use Rattle.py_objects.specs.declared.payload.FunctionBody.{FunctionBody}
+use Rattle.py_objects.specs.declared.payload.CoroKind.{CoroKind}
+use Rattle.py_objects.specs.declared.request.Keywords.{Keywords}
 use Rattle.py_objects.specs.declared.request.Keywords.TheVariants as keywords
 use Rattle.py_objects.specs.declared.request.Request.{Request}
 use Rattle.py_objects.specs.declared.request.Request.TheVariants as request
 use Rattle.py_objects.specs.declared.event.Event.{Event}
 use Rattle.py_objects.specs.declared.event.Event.TheVariants as event
+use Rattle.py_objects.specs.declared.event.ResumeHow.{ResumeHow}
 use Rattle.py_objects.specs.declared.event.ResumeHow.TheVariants as how
 use Rattle.py_objects.specs.Objects.{Obj, Name, HasPayload}
 use Rattle.py_objects.proofs.GrowthLemmas.{slice_get_split, one_entry}
 use Rattle.py_answers.specs.Answers.{Reply, Fails}
-use Rattle.py_run.specs.Calls.{Signature, Course, Says, Enters, refusal, missing_if, too_many, most_depth, entry_at, bound_by, Setting, CallsFunction, ComesTo}
-use Rattle.py_run.specs.Run.{Plan, Phase, Asking, Activation, State, start, after, state_after, Past, nothing, past_after, setting, Opens, IsReply, IsAnswered, MayCome, Comes}
+use Rattle.py_coro.specs.Modes.{Mode, Fresh, Suspended, Running, Closed, most_depth}
+use Rattle.py_run.specs.Calls.{Course, Says, Enters, Begins, Sends, Throws, refusal, missing_if, too_many, made_at, bound_by, Setting, CallsFunction, IsKept, ThrowsAs, ComesTo}
+use Rattle.py_run.specs.Run.{Signature, Plan, Phase, Asking, Made, Due, Activation, State, start, after, state_after}
+use Rattle.py_run.specs.Generators.{Generator, generators_after}
+use Rattle.py_run.specs.Coming.{Past, nothing, past_after, setting, IsOfKind, Opens, Starts, IsEntered, IsReply, IsAnswered, MayCome, Comes}
 use Rattle.py_run.specs.Past.{past_behind}
 use Rattle.py_run.proofs.PastLemmas.{past_state}
+use Rattle.py_run.proofs.CoursesLemmas.{ComesAs, comes_as, sends_of, throws_of, closes_of}
 
--- a function whose activations run through was made with as many arguments as its signature has parameters
+-- a function was made an activation of with as many arguments as its signature has parameters
 pub record IsBound (signatures : List Signature) (objects : List Payload) (a : Activation) : Type 0 where
   pub body : FunctionBody
   pub is_function : HasPayload objects a.function (payload.Function body)
   pub signature : Signature
   pub is_signature : slice_get signatures body.code ≡ Some signature
-  pub runs_through : signature.kind ≡ None
   pub binds : length a.args ≡ length signature.params
 
 -- nothing is missing where nothing is left
@@ -62,55 +68,80 @@ entered_room true g ws reply c is = absurd (enters_not g ws reply is)
 entered_room false g ws reply c is = is
 
 -- so what it enters is what is called
-entered_is : (depth : ℕ) (refused : Option Name) (g : Obj) (ws : List Obj) (c : Course) → Enters g ws ≡ bound_by refused (entry_at depth c) → Enters g ws ≡ c
-entered_is depth None g ws c is = entered_room (nat_le most_depth depth) g ws (Fails RecursionError (codes "maximum recursion depth exceeded ")) c is
-entered_is depth (Some text) g ws c is = absurd (enters_not g ws _ is)
+entered_is : (kind : Option CoroKind) (depth : ℕ) (refused : Option Name) (g : Obj) (ws : List Obj) (c : Course) → Enters g ws ≡ bound_by refused (made_at kind depth c) → Enters g ws ≡ c
+entered_is None depth None g ws c is = entered_room (nat_le most_depth depth) g ws (Fails RecursionError (codes "maximum recursion depth exceeded ")) c is
+entered_is (Some kind) depth None g ws c is = is
+entered_is kind depth (Some text) g ws c is = absurd (enters_not g ws _ is)
 
 -- what is entered by a call is a function, to whose parameters the arguments bind
-pub calls_bind : (at : Setting) (objects : List Payload) (f g : Obj) (vs ws : List Obj) → CallsFunction at objects f vs (Enters g ws) → IsBound at.signatures objects (record { function = f; args = vs })
+pub calls_bind : (at : Setting) (objects : List Payload) (f g : Obj) (vs ws : List Obj) → CallsFunction at objects f vs (Enters g ws)
+    → IsBound at.signatures objects (record { function = f; args = vs })
 calls_bind at objects f g vs ws calls = record {
   body = calls.body;
   is_function = calls.entry;
   signature = calls.signature;
   is_signature = calls.signed;
-  runs_through = calls.runs_through;
-  binds = not_refused calls.body.name calls.signature.params (length vs) (entered_binds (refusal calls.body.name calls.signature.params (length vs)) g ws (entry_at at.depth (Enters f vs)) calls.is);
+  binds = not_refused calls.body.name calls.signature.params (length vs)
+      (entered_binds (refusal calls.body.name calls.signature.params (length vs)) g ws (made_at calls.signature.kind at.depth (Enters f vs)) calls.is);
 }
 
 -- it is the callee, with the arguments of the call
 pub calls_enter : (at : Setting) (objects : List Payload) (f g : Obj) (vs ws : List Obj) → CallsFunction at objects f vs (Enters g ws) → Enters g ws ≡ Enters f vs
-calls_enter at objects f g vs ws calls = entered_is at.depth (refusal calls.body.name calls.signature.params (length vs)) g ws (Enters f vs) calls.is
+calls_enter at objects f g vs ws calls = entered_is calls.signature.kind at.depth (refusal calls.body.name calls.signature.params (length vs)) g ws (Enters f vs) calls.is
 
--- a question that enters a function is its call
-pub enters_call : (at : Setting) (objects : List Payload) (r : Request) (f : Obj) (vs : List Obj) → ComesTo at objects r (Enters f vs) → (r ≡ request.Call f vs keywords.None) × CallsFunction at objects f vs (Enters f vs)
-enters_call at objects r f vs (inl (reply, is, replies)) = absurd (enters_not f vs reply is)
-enters_call at objects r f vs (inr (inl (g, ws, is, calls))) =
+-- a call that enters a function calls it, with these arguments
+call_enters : (at : Setting) (objects : List Payload) (g f : Obj) (ws vs : List Obj) (named : Keywords) → named ≡ keywords.None → CallsFunction at objects g ws (Enters f vs)
+    → (request.Call g ws named ≡ request.Call f vs keywords.None) × CallsFunction at objects f vs (Enters f vs)
+call_enters at objects g f ws vs named none calls =
     let same : Enters f vs ≡ Enters g ws = calls_enter at objects g f ws vs calls in
     let callee : f ≡ g = cc same in
-    let args : vs ≡ ws = cc same in
-    (is ∙ (ap (λ x. request.Call x ws keywords.None) (sym callee) ∙ ap (λ x. request.Call f x keywords.None) (sym args)), subst (λ x. CallsFunction at objects f x (Enters f vs)) (sym args) (subst (λ x. CallsFunction at objects x ws (Enters f vs)) (sym callee) calls))
-enters_call at objects r f vs (inr (inr (asks, is))) = absurd (enters_not f vs _ is)
+    let args : vs ≡ ws = cc same in (
+      ap (request.Call g ws) none ∙ (ap (λ x. request.Call x ws keywords.None) (sym callee) ∙ ap (λ x. request.Call f x keywords.None) (sym args)),
+      subst (λ x. CallsFunction at objects f x (Enters f vs)) (sym args) (subst (λ x. CallsFunction at objects x ws (Enters f vs)) (sym callee) calls),
+    )
+
+-- a question of another kind enters none
+as_call : (at : Setting) (objects : List Payload) (r : Request) (f : Obj) (vs : List Obj) → ComesAs at objects r (Enters f vs)
+    → (r ≡ request.Call f vs keywords.None) × CallsFunction at objects f vs (Enters f vs)
+as_call at objects (request.Call g ws named) f vs (none, calls) = call_enters at objects g f ws vs named none calls
+as_call at objects request.Handled f vs is = absurd (enters_not f vs _ is)
+as_call at objects (request.Send g v) f vs sends = absurd (sends_of at objects g v (Enters f vs) sends).of_act
+as_call at objects (request.Throw g k v t) f vs (none, throws) = absurd (throws_of at objects g k v (Enters f vs) throws).of_act
+as_call at objects (request.Close g) f vs closes = absurd (closes_of at objects g (Enters f vs) closes).of_act
+as_call at objects _ f vs comes = absurd comes
+
+-- so a question that enters a function is its call
+pub enters_call : (at : Setting) (objects : List Payload) (r : Request) (f : Obj) (vs : List Obj) → ComesTo at objects r (Enters f vs)
+    → (r ≡ request.Call f vs keywords.None) × CallsFunction at objects f vs (Enters f vs)
+enters_call at objects r f vs comes = elim (comes_as at objects r (Enters f vs) comes) [
+  | inl replied ↦ absurd (enters_not f vs replied.0 replied.1)
+  | inr as_asked ↦ as_call at objects r f vs as_asked
+]
 
 -- each activation that was made
 abbrev pub AreBound : List Signature → List Payload → List Activation → Type 0
 AreBound signatures objects made = (i : ℕ) (a : Activation) → slice_get made i ≡ Some a → IsBound signatures objects a
 
 -- they are bound behind one more event, where they were before
-bound_after : (plan : Plan) (objects : List Payload) (p : Past) (e : Event) → MayCome plan objects p e → AreBound plan.signatures objects p.state.made → AreBound plan.signatures objects (after p.state e).made
+bound_after : (plan : Plan) (objects : List Payload) (p : Past) (e : Event) → MayCome plan objects p e → AreBound plan.signatures objects p.state.made
+    → AreBound plan.signatures objects (after p.state e).made
 bound_after plan objects p (event.Make a f vs) (next, (asks, (r, open_, comes))) bound = λ i x here. elim (slice_get_split p.state.made (record { function = f; args = vs } ∷ []) i x here) [
   | inl front ↦ bound i x front
-  | inr back ↦ subst (IsBound plan.signatures objects) (one_entry (record { function = f; args = vs }) x _ back) (calls_bind (setting plan p) objects f f vs vs (enters_call (setting plan p) objects r f vs comes).1)
+  | inr back ↦ subst (IsBound plan.signatures objects) (one_entry (record { function = f; args = vs }) x _ back)
+      (calls_bind (setting plan p) objects f f vs vs (enters_call (setting plan p) objects r f vs comes).1)
 ]
 bound_after plan objects p _ may bound = bound
 
 -- and behind more events
-bound_from : (plan : Plan) (objects : List Payload) (p : Past) (es : List Event) → Comes plan objects p es → AreBound plan.signatures objects p.state.made → AreBound plan.signatures objects (past_behind p es).state.made
+bound_from : (plan : Plan) (objects : List Payload) (p : Past) (es : List Event) → Comes plan objects p es → AreBound plan.signatures objects p.state.made
+    → AreBound plan.signatures objects (past_behind plan p es).state.made
 bound_from plan objects p [] comes bound = bound
-bound_from plan objects p (e ∷ es) comes bound = bound_from plan objects (past_after p e) es comes.1 (bound_after plan objects p e comes.0 bound)
+bound_from plan objects p (e ∷ es) comes bound = bound_from plan objects (past_after plan p e) es comes.1 (bound_after plan objects p e comes.0 bound)
 
 -- in a run each activation that was made is bound
 pub comes_bound : (plan : Plan) (objects : List Payload) (events : List Event) → Comes plan objects nothing events → AreBound plan.signatures objects (state_after start events).made
-comes_bound plan objects events comes = subst (λ (s : State). AreBound plan.signatures objects s.made) (past_state events) (bound_from plan objects nothing events comes (λ i a none. absurd (cc none)))
+comes_bound plan objects events comes =
+    subst (λ (s : State). AreBound plan.signatures objects s.made) (past_state plan events) (bound_from plan objects nothing events comes (λ i a none. absurd (cc none)))
 
 -- signatures are the same where there are more
 abbrev pub AreSigned : List Signature → List Signature → Type 0
@@ -120,52 +151,86 @@ AreSigned xs ys = (i : ℕ) (s : Signature) → slice_get xs i ≡ Some s → sl
 abbrev pub among : Setting → List Signature → Setting
 among at ys = record at { signatures = ys }
 
--- what the call of a function comes to stays among more signatures
-calls_signed : (at : Setting) (ys : List Signature) (objects : List Payload) (f : Obj) (vs : List Obj) (c : Course) → AreSigned at.signatures ys → CallsFunction at objects f vs c → CallsFunction (among at ys) objects f vs c
-calls_signed at ys objects f vs c signed calls = record {
-  body = calls.body;
-  entry = calls.entry;
-  signature = calls.signature;
-  signed = signed calls.body.code calls.signature calls.signed;
-  runs_through = calls.runs_through;
-  is = calls.is;
-}
+module _ (at : Setting) (ys : List Signature) (objects : List Payload) (signed : AreSigned at.signatures ys) where
+  -- what the call of a function comes to stays among more signatures
+  calls_signed : (f : Obj) (vs : List Obj) (c : Course) → CallsFunction at objects f vs c → CallsFunction (among at ys) objects f vs c
+  calls_signed f vs c calls = record { body = calls.body; entry = calls.entry; signature = calls.signature; signed = signed calls.body.code calls.signature calls.signed; is = calls.is }
 
--- so does what a question comes to
-comes_to_signed : (at : Setting) (ys : List Signature) (objects : List Payload) (r : Request) (c : Course) → AreSigned at.signatures ys → ComesTo at objects r c → ComesTo (among at ys) objects r c
-comes_to_signed at ys objects r c signed (inl replied) = inl replied
-comes_to_signed at ys objects r c signed (inr (inl (f, vs, is, calls))) = inr (inl (f, vs, is, calls_signed at ys objects f vs c signed calls))
-comes_to_signed at ys objects r c signed (inr (inr asks)) = inr (inr asks)
+  -- a generator stays one
+  kept_signed : (g : Obj) (kind : CoroKind) (x : Generator) → IsKept at objects g kind x → IsKept (among at ys) objects g kind x
+  kept_signed g kind x kept = record { body = kept.body; entry = kept.entry; kind_is = kept.kind_is; kept = kept.kept }
+
+  -- what a throw comes to stays, in each mode
+  throws_signed : (kind : CoroKind) (x : Generator) (m : Mode) (k : Obj) (v : Option Obj) (c : Course) → ThrowsAs at objects kind x m k v c → ThrowsAs (among at ys) objects kind x m k v c
+  throws_signed kind x Fresh k v c throws = throws
+  throws_signed kind x Suspended k v c throws = throws
+  throws_signed kind x Running k v c throws = throws
+  throws_signed kind x Closed k v c throws = throws
+
+  -- so does what a question comes to
+  comes_to_signed : (r : Request) (c : Course) → ComesTo at objects r c → ComesTo (among at ys) objects r c
+  comes_to_signed r c (inl replied) = inl replied
+  comes_to_signed r c (inr (inl (f, vs, is, calls))) = inr (inl (f, vs, is, calls_signed f vs c calls))
+  comes_to_signed r c (inr (inr (inl asks))) = inr (inr (inl asks))
+  comes_to_signed r c (inr (inr (inr (inl (g, v, is, (kind, x, kept, p, has, course)))))) = inr (inr (inr (inl (g, v, is, (kind, x, kept_signed g kind x kept, p, has, course)))))
+  comes_to_signed r c (inr (inr (inr (inr (inl (g, k, v, is, (kind, x, kept, throws))))))) =
+      inr (inr (inr (inr (inl (g, k, v, is, (kind, x, kept_signed g kind x kept, throws_signed kind x x.mode k v c throws))))))
+  comes_to_signed r c (inr (inr (inr (inr (inr (g, is, (kind, x, kept, course))))))) = inr (inr (inr (inr (inr (g, is, (kind, x, kept_signed g kind x kept, course))))))
 
 -- a plan over other signatures
 abbrev pub signed_by : Plan → List Signature → Plan
 signed_by plan ys = record plan { signatures = ys }
 
--- and what the open question comes to
-opens_signed : (plan : Plan) (ys : List Signature) (objects : List Payload) (p : Past) (c : Course) → AreSigned plan.signatures ys → Opens plan objects p c → Opens (signed_by plan ys) objects p c
-opens_signed plan ys objects p c signed (asks, (r, open_, comes)) = (asks, (r, open_, comes_to_signed (setting plan p) ys objects r c signed comes))
+module _ (plan : Plan) (ys : List Signature) (objects : List Payload) (signed : AreSigned plan.signatures ys) where
+  -- so does what the open question comes to
+  opens_signed : (p : Past) (c : Course) → Opens plan objects p c → Opens (signed_by plan ys) objects p c
+  opens_signed p c (asks, (r, open_, comes)) = (asks, (r, open_, comes_to_signed (setting plan p) ys objects signed r c comes))
 
--- a reply stays one, in each phase
-reply_signed : (plan : Plan) (ys : List Signature) (objects : List Payload) (p : Past) (phase : Phase) (r : Request) (reply : Reply) → AreSigned plan.signatures ys
-    → IsReply plan objects p phase r reply → IsReply (signed_by plan ys) objects p phase r reply
-reply_signed plan ys objects p Asking r reply signed comes = comes_to_signed (setting plan p) ys objects r (Says reply) signed comes
-reply_signed plan ys objects p _ r reply signed is = is
+  -- a function is of the same kind
+  abbrev of_kind_signed : (f : Obj) (kind : Option CoroKind) → IsOfKind plan objects f kind → IsOfKind (signed_by plan ys) objects f kind
+  of_kind_signed f kind is = record { body = is.body; entry = is.entry; signature = is.signature; signed = signed is.body.code is.signature is.signed; kind_is = is.kind_is }
 
--- what the open question is answered stays
-answered_signed : (plan : Plan) (ys : List Signature) (objects : List Payload) (p : Past) (reply : Reply) → AreSigned plan.signatures ys → IsAnswered plan objects p reply → IsAnswered (signed_by plan ys) objects p reply
-answered_signed plan ys objects p reply signed (r, open_, is) = (r, open_, reply_signed plan ys objects p p.state.phase r reply signed is)
+  -- an activation starts as before
+  starts_signed : (p : Past) (phase : Phase) (a : ℕ) → Starts plan objects p phase a → Starts (signed_by plan ys) objects p phase a
+  starts_signed p Asking a opens = opens_signed p (Begins a) opens
+  starts_signed p (Made f) a (last, kind) = (last, of_kind_signed f None kind)
+  starts_signed p _ a starts = absurd starts
 
--- an event that may come still may
-may_come_signed : (plan : Plan) (ys : List Signature) (objects : List Payload) (p : Past) (e : Event) → AreSigned plan.signatures ys → MayCome plan objects p e → MayCome (signed_by plan ys) objects p e
-may_come_signed plan ys objects p (event.Result d w) signed (next, alone, (reply, answered, gives)) = (next, alone, (reply, answered_signed plan ys objects p reply signed answered, gives))
-may_come_signed plan ys objects p (event.Make a f vs) signed (next, opens) = (next, opens_signed plan ys objects p (Enters f vs) signed opens)
-may_come_signed plan ys objects p (event.Resume a how.Start) signed may = may
-may_come_signed plan ys objects p (event.Resume a (how.Send v)) signed may = may
-may_come_signed plan ys objects p (event.Resume a (how.Throw e)) signed may = may
-may_come_signed plan ys objects p (event.Got a w) signed (top, (reply, answered, gives)) = (top, (reply, answered_signed plan ys objects p reply signed answered, gives))
-may_come_signed plan ys objects p _ signed may = may
+  -- so it is entered
+  entered_signed : (p : Past) (h : ResumeHow) (a : ℕ) → IsEntered plan objects p h a → IsEntered (signed_by plan ys) objects p h a
+  entered_signed p how.Start a starts = starts_signed p p.state.phase a starts
+  entered_signed p (how.Send v) a opens = opens_signed p (Sends a v) opens
+  entered_signed p (how.Throw e) a (x, opens, raise) = (x, opens_signed p (Throws a x) opens, raise)
 
--- a run goes over to more signatures
-pub comes_signed : (plan : Plan) (ys : List Signature) (objects : List Payload) (p : Past) (es : List Event) → AreSigned plan.signatures ys → Comes plan objects p es → Comes (signed_by plan ys) objects p es
-comes_signed plan ys objects p [] signed comes = tt
-comes_signed plan ys objects p (e ∷ es) signed comes = (may_come_signed plan ys objects p e signed comes.0, comes_signed plan ys objects (past_after p e) es signed comes.1)
+  -- a reply stays one, in each phase
+  reply_signed : (p : Past) (phase : Phase) (r : Request) (reply : Reply) → IsReply plan objects p phase r reply → IsReply (signed_by plan ys) objects p phase r reply
+  reply_signed p Asking r reply comes = comes_to_signed (setting plan p) ys objects signed r (Says reply) comes
+  reply_signed p (Made f) r reply (kind, of_kind, is) = (kind, of_kind_signed f (Some kind) of_kind, is)
+  reply_signed p (Due how) r reply due = due
+  reply_signed p _ r reply is = absurd is
+
+  -- what the open question is answered stays
+  answered_signed : (p : Past) (reply : Reply) → IsAnswered plan objects p reply → IsAnswered (signed_by plan ys) objects p reply
+  answered_signed p reply (r, open_, is) = (r, open_, reply_signed p p.state.phase r reply is)
+
+  -- an event that may come still may
+  may_come_signed : (p : Past) (e : Event) → MayCome plan objects p e → MayCome (signed_by plan ys) objects p e
+  may_come_signed p (event.Result d w) (next, alone, (reply, answered, gives)) = (next, alone, (reply, answered_signed p reply answered, gives))
+  may_come_signed p (event.Make a f vs) (next, opens) = (next, opens_signed p (Enters f vs) opens)
+  may_come_signed p (event.Resume a h) enters = entered_signed p h a enters
+  may_come_signed p (event.Got a w) (top, (reply, answered, gives)) = (top, (reply, answered_signed p reply answered, gives))
+  may_come_signed p _ may = may
+
+  -- it leaves the same generators
+  same_generators : (s : State) (xs : List Generator) (e : Event) → generators_after (signed_by plan ys) s xs e ≡ generators_after plan s xs e
+  same_generators s xs (event.Result d w) = refl
+  same_generators s xs (event.Got a w) = refl
+  same_generators s xs _ = refl
+
+  -- a run goes over to more signatures
+  pub comes_signed : (p : Past) (es : List Event) → Comes plan objects p es → Comes (signed_by plan ys) objects p es
+  comes_signed p [] comes = tt
+  comes_signed p (e ∷ es) comes = (
+    may_come_signed p e comes.0,
+    subst (λ xs. Comes (signed_by plan ys) objects (record (past_after plan p e) { generators = xs }) es) (sym (same_generators p.state p.generators e)) (comes_signed (past_after plan p e) es comes.1),
+  )

@@ -2,9 +2,18 @@
 pub mod PastLemmas
 -- a run as objects and drives grow, and as an event comes
 pub mod RunLemmas
+-- lists of generators, as events change them
+pub mod GeneratorsLemmas
+-- what questions come to
+pub mod CoursesLemmas
 -- arguments that bind, and runs over more signatures
 pub mod BoundLemmas
 -- own events and the state as an event comes
 pub mod OwnLemmas
+-- numbers of activations, and where what they told is cut
+pub mod CutLemmas
 -- activations that are left where they were entered
 pub mod NestingLemmas
+-- journals worked by hand
+mod Journals
+mod WorkedLemmas

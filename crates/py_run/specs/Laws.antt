@@ -1,16 +1,32 @@
 -- What holds of all events that may come one after another, whatever activations tell.
-use Rattle.std.specs.Prelude.{ℕ, List, [], ◌∷◌, ◌++◌, ◌≡◌}
+use Rattle.std.specs.Prelude.{ℕ, suc, Option, Some, None, List, [], ◌∷◌, ◌++◌, ◌≡◌, ◌⊎◌, slice_get}
+use Rattle.std.specs.List.{Any}
 use Rattle.py_objects.specs.declared.payload.Payload.{Payload}
+use Rattle.py_objects.specs.declared.payload.Payload.TheVariants as payload
+use Rattle.py_objects.specs.declared.payload.CoroBody.{CoroBody}
+use Rattle.py_objects.specs.declared.request.Request.{Request}
+use Rattle.py_objects.specs.declared.request.Request.TheVariants as request
+use Rattle.py_objects.specs.declared.event.Ending.{Ending}
 use Rattle.py_objects.specs.declared.event.ResumeHow.{ResumeHow}
 use Rattle.py_objects.specs.declared.event.Event.{Event}
 use Rattle.py_objects.specs.declared.event.Event.TheVariants as event
+use Rattle.py_objects.specs.Objects.{Obj, HasPayload}
+use Rattle.py_objects.specs.Own.{Own, Makes, Yields, Ends, own_events}
 use Rattle.py_objects.specs.Growth.{GrowsPlainly}
-use Rattle.py_run.specs.Run.{Posed, Plan, State, start, state_after, question, depth, handled_among, nothing, MayCome, Comes}
+use Rattle.py_exceptions.specs.Normalizing.{Normalizes}
+use Rattle.py_exceptions.specs.declared.ctor.Instantiate.{Instantiate}
+use Rattle.py_exceptions.specs.declared.ctor.Instantiate.TheVariants as comes
+use Rattle.py_coro.specs.Modes.{Fresh, Closed}
+use Rattle.py_answers.specs.Answers.{This, Called, Passes, Stops, Closes}
+use Rattle.py_run.specs.Run.{Posed, Plan, Act, Activation, State, start, state_after, question, depth, handled_among}
+use Rattle.py_run.specs.Generators.{Generator, generator_at, closed_by}
+use Rattle.py_run.specs.Calls.{Course, Says, Setting, kept_or_closed, ComesTo, failing}
+use Rattle.py_run.specs.Coming.{nothing, MayCome, Comes}
 use Rattle.py_run.specs.Past.{past_behind}
 
 -- the past behind some events has these, and the state behind them
 abbrev pub PastIsOfEvents : Type 0
-PastIsOfEvents = (events : List Event) → past_behind nothing events ≡ record { events = events; state = state_after start events }
+PastIsOfEvents = (plan : Plan) (events : List Event) → ((past_behind plan nothing events).events ≡ events) × ((past_behind plan nothing events).state ≡ state_after start events)
 
 -- events that may come still may among more objects, none of which is a declaration
 abbrev pub RunsGrow : Type 0
@@ -18,11 +34,13 @@ RunsGrow = (plan : Plan) (objects objects' : List Payload) (events : List Event)
 
 -- and with more drives
 abbrev pub RunsTakeMore : Type 0
-RunsTakeMore = (plan : Plan) (more : List Posed) (objects : List Payload) (events : List Event) → Comes plan objects nothing events → Comes (record plan { asked = plan.asked ++ more }) objects nothing events
+RunsTakeMore =
+    (plan : Plan) (more : List Posed) (objects : List Payload) (events : List Event) → Comes plan objects nothing events → Comes (record plan { asked = plan.asked ++ more }) objects nothing events
 
 -- so may they with one more behind them that may come next
 abbrev pub RunsGoOn : Type 0
-RunsGoOn = (plan : Plan) (objects : List Payload) (events : List Event) (e : Event) → Comes plan objects nothing events → MayCome plan objects (past_behind nothing events) e → Comes plan objects nothing (events ++ e ∷ [])
+RunsGoOn = (plan : Plan) (objects : List Payload) (events : List Event) (e : Event) → Comes plan objects nothing events → MayCome plan objects (past_behind plan nothing events) e
+    → Comes plan objects nothing (events ++ e ∷ [])
 
 -- and so may each front of them
 abbrev pub RunsHaveFronts : Type 0
@@ -54,3 +72,49 @@ ActivationsNest =
     (plan : Plan) (objects : List Payload) (front inside : List Event) (a : ℕ) (h : ResumeHow) (last : Event)
     → Comes plan objects nothing (front ++ event.Resume a h ∷ (inside ++ last ∷ [])) → NoneLeaves a inside → Leaves a last
     → IsBack plan (state_after start front) (state_after start (front ++ event.Resume a h ∷ (inside ++ last ∷ [])))
+
+-- what an activation told is only its making, or ends by a yield, or by its end
+abbrev pub IsLeftOff : List Own → Type 0
+IsLeftOff own =
+    (own ≡ Makes ∷ [])
+    ⊎ ((told : List Own) × (at : ℕ) × (v : Obj) × (own ≡ told ++ Yields at v ∷ []))
+    ⊎ ((told : List Own) × (at : ℕ) × (e : Ending) × (own ≡ told ++ Ends at e ∷ []))
+
+-- what an activation told is cut inside only where it still runs
+abbrev pub CutWhereItRuns : Type 0
+CutWhereItRuns =
+    (plan : Plan) (objects : List Payload) (events : List Event) (i : ℕ) (a : Activation)
+    → Comes plan objects nothing events → slice_get (state_after start events).made i ≡ Some a
+    → IsLeftOff (own_events (suc i) events) ⊎ Any (λ (act : Act). act.number ≡ suc i) (state_after start events).stack
+
+-- a generator that is closed: one that was, or one that no call of the run made
+pub record IsClosed (at : Setting) (objects : List Payload) (g : Obj) : Type 0 where
+  pub body : CoroBody
+  pub entry : HasPayload objects g (payload.Generator body)
+  pub closed : (kept_or_closed g (generator_at at.generators g)).mode ≡ Closed
+
+-- it answers each send by a stop without a value
+abbrev pub ClosedStops : Type 0
+ClosedStops = (at : Setting) (objects : List Payload) (g v : Obj) (c : Course) → IsClosed at objects g → ComesTo at objects (request.Send g v) c → c ≡ Says (Stops None)
+
+-- the raise of what a throw normalises to, or its refusal
+abbrev pub raised_by : Instantiate → Option Course
+raised_by (comes.Done e) = Some (Says (Passes (This e)))
+raised_by (comes.Make class args) = Some (Says (Passes (Called class args)))
+raised_by (comes.Fault f) = Some (failing f)
+raised_by comes.NoMemory = None
+
+-- each throw by the exception that it normalises to
+abbrev pub ClosedRaises : Type 0
+ClosedRaises =
+    (at : Setting) (objects : List Payload) (g k : Obj) (v : Option Obj) (c : Course) → IsClosed at objects g → ComesTo at objects (request.Throw g k v None) c
+    → (outcome : Instantiate) × Normalizes objects k v outcome × (raised_by outcome ≡ Some c)
+
+-- and each close by nothing more
+abbrev pub ClosedCloses : Type 0
+ClosedCloses = (at : Setting) (objects : List Payload) (g : Obj) (c : Course) → IsClosed at objects g → ComesTo at objects (request.Close g) c → c ≡ Says Closes
+
+-- a question that is answered without an entry leaves all generators as they are, but for a close, which closes one that wasn't entered yet
+abbrev pub AnswersKeepGenerators : Type 0
+AnswersKeepGenerators =
+    (r : Request) (xs : List Generator) → ((g : Obj) (x : Generator) → r ≡ request.Close g → generator_at xs g ≡ Some x → x.mode ≡ Fresh → ⊥) → closed_by (Some r) xs ≡ xs

@@ -1,9 +1,21 @@
--- what calls come to
+-- what an event makes of a run, and of its generators
+pub mod Run
+pub mod Generators
+-- what questions come to
 pub mod Calls
 -- which event may come next, and what a run is
-pub mod Run
+pub mod Coming
 -- what drives ask, and pasts with more events
 pub mod Drives
 pub mod Past
 -- what holds of all runs
 pub mod Laws
+-- journals worked by hand
+pub mod Worked
+pub mod WorkedNext
+pub mod WorkedClose
+pub mod WorkedStop
+pub mod WorkedSelf
+pub mod WorkedIgnored
+pub mod WorkedThrow
+pub mod WorkedHandled

@@ -3,6 +3,11 @@
 
 mod drive;
 mod laws;
+mod worked;
 
 pub use drive::Drive;
-pub use laws::laws_of_runs;
+pub use laws::{laws_of_generators, laws_of_runs};
+pub use worked::{
+    worked_close, worked_handled, worked_ignored, worked_next, worked_self, worked_stop,
+    worked_throw,
+};

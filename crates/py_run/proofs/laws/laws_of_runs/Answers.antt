@@ -1,7 +1,8 @@
-use Rattle.py_run.specs.Run.{nothing}
+use Rattle.py_run.specs.Coming.{nothing}
 use Rattle.py_run.proofs.PastLemmas.{past_is}
 use Rattle.py_run.proofs.RunLemmas.{comes_front, comes_grow, comes_more, comes_on}
 use Rattle.py_run.proofs.NestingLemmas.{nested}
+use Rattle.py_run.proofs.CutLemmas.{cut_where_it_runs}
 use Rattle.py_run.proofs.laws.laws_of_runs.Goals as goal
 
 pub returns-clause-past : goal.returns-clause-past
@@ -21,3 +22,6 @@ returns-clause-fronts c = λ plan objects front more comes. comes_front plan obj
 
 pub returns-clause-nest : goal.returns-clause-nest
 returns-clause-nest c = nested
+
+pub returns-clause-cut : goal.returns-clause-cut
+returns-clause-cut c = cut_where_it_runs
