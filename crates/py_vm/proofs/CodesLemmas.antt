@@ -1,9 +1,9 @@
 -- Codes of units that ask only what the machine answers.
 use Rattle.std.proofs.Common.{◌≡◌, ◌≢◌, ◌∙◌, ℕ, true, false, refl, sym}
-use Rattle.std.specs.Prelude.{Bool, Option, Some, None, slice_get}
+use Rattle.std.specs.Prelude.{Bool, Option, Some, slice_get}
 use Rattle.py_code.specs.declared.code.PyCode.{PyCode}
 use Rattle.py_code.specs.declared.instruction.Instruction.{Instruction}
-use Rattle.py_code.specs.declared.instruction.Instruction.TheVariants.{LoadFast, DeleteFast, LoadGlobal, BinaryOperation, CompareOperation, TestOperation, CallFunctionPositional, PrintExpr, JumpIfTrue, JumpIfFalse, SetupWith, WithCleanupStart, WithCleanupFinish, Raise, YieldValue}
+use Rattle.py_code.specs.declared.instruction.Instruction.TheVariants.{LoadFast, DeleteFast, LoadGlobal, BinaryOperation, CompareOperation, TestOperation, CallFunctionPositional, PrintExpr, JumpIfTrue, JumpIfFalse, SetupWith, WithCleanupStart, WithCleanupFinish, Raise}
 use Rattle.py_code.specs.declared.operator.RaiseKind.{RaiseKind}
 use Rattle.py_code.specs.declared.operator.RaiseKind.TheVariants as raise
 use Rattle.py_code.specs.declared.unit.CodeUnit.{CodeUnit}
@@ -12,14 +12,12 @@ use Rattle.py_objects.specs.declared.request.Request.TheVariants as request
 use Rattle.py_rows.specs.Questions.{raise_of, may_raise, may_ask}
 use Rattle.py_rows.specs.Signature.{kind_of}
 use Rattle.py_answers.specs.Replying.{is_answered}
-use Rattle.py_vm.specs.Codes.{is_later, CodeIsAnswered}
+use Rattle.py_vm.specs.Codes.{CodeIsAnswered, IsDriven}
 
--- instructions, each with some arguments, that the machine answers and runs: none enters or leaves a manager, none yields, and no raise
--- has a cause
+-- instructions, each with some arguments, that the machine answers: none enters or leaves a manager, and no raise has a cause
 pub record AreAnswered (is_used : Instruction → ℕ → Bool) : Type 0 where
   pub no_enter : (arg : ℕ) → is_used SetupWith arg ≡ false
   pub no_exit : (arg : ℕ) → is_used WithCleanupStart arg ≡ false
-  pub no_yield : (arg : ℕ) → is_used YieldValue arg ≡ false
   pub no_cause : (arg : ℕ) → is_used Raise arg ≡ true → raise_of arg ≢ Some raise.RaiseCause
 
 -- what a raise asks that has no cause
@@ -43,6 +41,9 @@ module _ (is_used : Instruction → ℕ → Bool) (answered : AreAnswered is_use
   unit_answered CompareOperation arg used (request.Compare op a b) asks = asks
   unit_answered TestOperation arg used (request.Match e c) asks = refl
   unit_answered CallFunctionPositional arg used (request.Call f vs named) asks = asks
+  unit_answered CallFunctionPositional arg used (request.Send g v) asks = refl
+  unit_answered CallFunctionPositional arg used (request.Throw g c v t) asks = asks
+  unit_answered CallFunctionPositional arg used (request.Close g) asks = refl
   unit_answered PrintExpr arg used (request.Show v) asks = refl
   unit_answered JumpIfTrue arg used (request.Truth v) asks = refl
   unit_answered JumpIfFalse arg used (request.Truth v) asks = refl
@@ -52,11 +53,6 @@ module _ (is_used : Instruction → ℕ → Bool) (answered : AreAnswered is_use
   unit_answered Raise arg used q asks = raise_answered (raise_of arg) q (answered.no_cause arg used) asks
   unit_answered _ arg used _ asks = absurd (cc asks)
 
-  -- and it runs such a unit
-  unit_runs : (op : Instruction) (arg : ℕ) → is_used op arg ≡ true → is_later op ≡ false
-  unit_runs YieldValue arg used = absurd (never YieldValue arg (answered.no_yield arg) used)
-  unit_runs _ arg used = refl
-
-  -- so are all questions of a code whose units are all such, and whose activations run through
-  pub code_answered : (code : PyCode) → ((at : ℕ) (u : CodeUnit) → slice_get code.code.instructions.items at ≡ Some u → is_used u.op u.arg ≡ true) → kind_of code.code.flags ≡ None → CodeIsAnswered code
-  code_answered code uses through = record { units = λ at u here. (unit_answered u.op u.arg (uses at u here), unit_runs u.op u.arg (uses at u here)); runs_through = through }
+  -- so are all questions of a code whose units are all such, and whose activations are driven
+  pub code_answered : (code : PyCode) → ((at : ℕ) (u : CodeUnit) → slice_get code.code.instructions.items at ≡ Some u → is_used u.op u.arg ≡ true) → IsDriven (kind_of code.code.flags) → CodeIsAnswered code
+  code_answered code uses driven = record { units = λ at u here. unit_answered u.op u.arg (uses at u here); driven = driven }

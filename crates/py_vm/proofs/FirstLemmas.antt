@@ -23,7 +23,7 @@ use Rattle.py_objects.specs.Singletons.{singletons}
 use Rattle.py_vm.specs.First.{first_objects, first_globals}
 use Rattle.py_vm.specs.Machine.{new_machine}
 use Rattle.py_vm.specs.Holds.{IsCoded}
-use Rattle.py_vm.specs.Stands.{AreCallers, AreApart, AtStage, phase_of, acts_of, frames_at, slot_at, IsIdle, seen}
+use Rattle.py_vm.specs.Stands.{AreApart, AreKept, AtStage, phase_of, acts_of, frames_at, slots_at, IsIdle, seen}
 use Rattle.py_run.proofs.OwnLemmas.{own_events-nil}
 use Rattle.py_objects.proofs.GrownLemmas.{added_made}
 use Rattle.py_objects.specs.Growth.{with_object}
@@ -147,18 +147,18 @@ dict_begins old new zoo pairs globals begun none added last =
     }
 
 -- a machine that has done nothing, as callers see it
-pub seen_first : (m : Core) (names : List Name) → m.store.made ≡ first_objects → m.store.changes ≡ [] → m.codes ≡ record { names = names; codes = [] } → m.globals ≡ first_globals → m.events ≡ [] → m.frames ≡ []
+pub seen_first : (m : Core) (names : List Name) → m.store.made ≡ first_objects → m.store.changes ≡ [] → m.codes ≡ record { names = names; codes = [] } → m.globals ≡ first_globals → m.events ≡ [] → m.generators ≡ [] → m.frames ≡ []
     → seen m ≡ record (new_machine names) { entered = m.entered; failed = m.failed; state = m.state }
-seen_first m names objects unchanged codes globals no_events no_frames = rw (objects, unchanged, codes, globals, no_events, no_frames)
+seen_first m names objects unchanged codes globals no_events no_generators no_frames = rw (objects, unchanged, codes, globals, no_events, no_generators, no_frames)
 
 -- a machine that has done nothing is between drives
 pub start_idle : (m : Core) → m.events ≡ [] → Begins m.store m.globals → m.codes.codes ≡ [] → m.zoo ≡ first_classes → m.declarations ≡ declarations_of first_classes → m.done ≡ 0 → m.made ≡ 0
-    → m.callers ≡ [] → m.frames ≡ [] → m.slots ≡ None ∷ [] → m.stage ≡ stage.Idle → IsIdle m
-start_idle m no_events begins no_codes classes names none_done none_made no_callers no_frames empty idle =
+    → m.callers ≡ [] → m.generators ≡ [] → m.frames ≡ [] → m.slots ≡ None ∷ [] → m.stage ≡ stage.Idle → IsIdle m
+start_idle m no_events begins no_codes classes names none_done none_made no_callers no_generators no_frames empty idle =
     let fit : AllFit m.store.made = subst AllFit (sym begins.objects) first_fit in
     let nothing : state_after start m.events ≡ start = ap (state_after start) no_events in
     record {
-      keeps = record {
+      keeps = λ d. record {
         follows = record {
           done = ap (λ (s : State). s.done) nothing ∙ sym none_done;
           phase = ap (λ (s : State). s.phase) nothing ∙ ap phase_of (sym idle);
@@ -187,14 +187,14 @@ start_idle m no_events begins no_codes classes names none_done none_made no_call
             in_payloads = λ i p here. (fit i p here).0;
           };
         };
+        kept = subst (AreKept m.codes m.globals m.store.made m.events m.made) (sym no_generators) (record { each = tt; single = tt });
         nested = record {
-          callers = subst (AreCallers m.codes m.globals m.store.made m.events) (sym no_callers) tt;
           apart = subst AreApart (sym no_callers) tt;
           frames = no_frames ∙ ap (λ hs. frames_at hs stage.Idle) (sym no_callers) ∙ ap (frames_at m.callers) (sym idle);
           are_frames = λ i f here. absurd (let none : None ≡ Some f = sym (ap (λ l. slice_get l i) no_frames) ∙ here in cc none);
-          slots = empty ∙ ap (λ hs. slot_at hs stage.Idle ∷ []) (sym no_callers) ∙ ap (λ s. slot_at m.callers s ∷ []) (sym idle);
+          slots = empty ∙ ap (λ hs. slots_at hs stage.Idle) (sym no_callers) ∙ ap (slots_at m.callers) (sym idle);
         };
-        at_stage = subst (AtStage m.codes m.globals m.store.made m.events m.made m.callers) (sym idle) no_callers;
+        at_stage = subst (AtStage m.codes m.globals m.store.made m.events m.generators d m.made m.callers) (sym idle) no_callers;
       };
       idle = idle;
     }

@@ -1,62 +1,113 @@
 -- What the functions of a turn come to.
-use Rattle.std.proofs.Common.{◌≡◌, ◌+◌, ◌-◌, ◌++◌, ℕ, List, [], ◌∷◌, Some, inl, inr, refl, sym, ap, subst, ◌∙◌, length}
-use Rattle.std.specs.Prelude.{Option, None, slice_get}
+use Rattle.std.proofs.Common.{◌≡◌, ◌<◌, ◌≤◌, ◌+◌, ◌-◌, ◌++◌, ℕ, List, [], ◌∷◌, Bool, true, false, Some, inl, inr, refl, sym, ap, subst, ◌∙◌, eqb, length, arith}
+use Rattle.std.specs.Prelude.{Option, None, slice_get, slice_set, if◌then◌else◌}
+use Rattle.std.proofs.lemmas.Option.{same_Some}
 use Rattle.py_objects.specs.declared.refs.FrameRef.{FrameRef}
 use Rattle.py_objects.specs.declared.refs.PyBaseExceptionRef.{PyBaseExceptionRef}
 use Rattle.py_objects.specs.declared.payload.Payload.{Payload}
 use Rattle.py_objects.specs.declared.payload.Payload.TheVariants as payload
+use Rattle.py_objects.specs.declared.payload.CoroKind.{CoroKind}
 use Rattle.py_objects.specs.declared.scope.Scope.{Scope}
 use Rattle.py_objects.specs.declared.request.Request.{Request}
 use Rattle.py_objects.specs.declared.event.Event.{Event}
 use Rattle.py_objects.specs.declared.event.Event.TheVariants as event
 use Rattle.py_objects.specs.declared.event.DriveAnswer.{DriveAnswer}
+use Rattle.py_objects.specs.declared.event.ResumeHow.{ResumeHow}
+use Rattle.py_objects.specs.declared.event.ResumeHow.TheVariants as how
 use Rattle.py_objects.specs.Objects.{Obj}
 use Rattle.py_objects.specs.Edits.{Kept}
 use Rattle.py_objects.specs.Growth.{with_object, IsGrown}
 use Rattle.py_objects.specs.Scopes.{scope_of}
-use Rattle.py_objects.proofs.GrownLemmas.{grown_trans, added_grown}
+use Rattle.py_objects.proofs.GrownLemmas.{grown_trans, added_grown, objects_grow}
+use Rattle.py_exceptions.specs.Classes.{HaveClasses}
+use Rattle.py_exceptions.proofs.ClassesLemmas.{classes_grown}
 use Rattle.py_exceptions.specs.Slots.{Slots}
 use Rattle.py_check.specs.declared.annotated.Annotated.{Annotated}
 use Rattle.py_rows.specs.Below.{TellsBelow}
 use Rattle.py_rows.specs.Laws.{AllMayTell}
 use Rattle.py_rows.specs.RunOfRows.{filled}
-use Rattle.py_frame.specs.declared.input.Answer.{Answer}
+use Rattle.py_rows.specs.Signature.{kind_of}
 use Rattle.py_frame.specs.declared.input.FrameStep.{FrameStep}
 use Rattle.py_frame.specs.Frames.{Framed, handed, setting_of, unfilled}
 use Rattle.py_frame.specs.Running.{IsRunning, IsSame}
 use Rattle.py_frame.specs.Steps.{Extends, IfTold, NamesHandled, events as own_of_step, expected, told}
+use Rattle.py_coro.specs.declared.coro.CoroEnd.{CoroEnd}
+use Rattle.py_coro.specs.Modes.{Mode, Fresh, Suspended as Left, Running as Entered, Closed}
+use Rattle.py_answers.specs.Answers.{Reply}
+use Rattle.py_answers.specs.Replying.{IsGenerator}
 use Rattle.py_run.specs.declared.drive.Drive.{Drive}
 use Rattle.py_run.specs.Calls.{Setting}
-use Rattle.py_run.specs.Drives.{request_of}
 use Rattle.py_vm.specs.declared.calls.Course.{Course as MadeCourse}
 use Rattle.py_vm.specs.declared.calls.Course.TheVariants as course
+use Rattle.py_vm.specs.declared.reply.Reply.{Reply as MadeReply}
+use Rattle.py_vm.specs.declared.reply.Reply.TheVariants as made
+use Rattle.py_vm.specs.declared.generators.KeptGenerator.{KeptGenerator}
 use Rattle.py_vm.specs.declared.stage.Running.{Running}
 use Rattle.py_vm.specs.declared.stage.Halted.{Halted}
+use Rattle.py_vm.specs.declared.stage.Suspended.{Suspended}
 use Rattle.py_vm.specs.declared.stage.Stage.{Stage}
 use Rattle.py_vm.specs.declared.stage.Stage.TheVariants as stage
 use Rattle.py_vm.specs.declared.machinery.Core.{Core}
-use Rattle.py_vm.specs.Codes.{Checked, CodeIsAnswered, IsRunnable}
-use Rattle.py_vm.specs.Courses.{IsCourse}
-use Rattle.py_vm.specs.Turns.{fresh, next_frame, got_by, result_of, result_by, setting_at, IsPlain, IsToldStep, MadeOne, IsFreshFor, IsSaid, IsOpened, Opened, AnsweredOne, Halts}
-use Rattle.py_vm.proofs.WantedLemmas.{steps_plainly}
+use Rattle.py_vm.specs.Codes.{Checked}
+use Rattle.py_vm.specs.Courses.{EntersBy, IsCourse, IsReplied, IsResumption, NamesThere, TakesThrows}
+use Rattle.py_vm.specs.Generators.{changed_at, entered_at, generator_asked, is_close, kept_at, without_activation, IsRunningNow}
+use Rattle.py_vm.specs.Turns.{
+  fresh,
+  next_frame,
+  passed,
+  setting_at,
+  AnsweredOne,
+  AreReady,
+  CanFinish,
+  Comes_on,
+  CreatedOne,
+  Finished,
+  Halts,
+  HasOwnSlot,
+  HoldsIn,
+  IsCreated,
+  IsEntering,
+  IsFreshFor,
+  IsOpened,
+  IsResumable,
+  IsSaid,
+  IsToldStep,
+  MadeOne,
+  Questioned,
+  Replies,
+  ResumedOne,
+  SettledOne,
+}
+use Rattle.py_vm.proofs.KeptLemmas.{kept_changed}
+use Rattle.py_vm.proofs.LeavingLemmas.{finished_call, finished_generator, replies_at, some_question}
 
--- a machine that got no more than objects, callers and what is in its slots halts
-pub grew_halts : (m : Core) (store : Kept) (callers : List Halted) (slots : Slots) → IsGrown m.store store → Halts m (record m { store = store; callers = callers; slots = slots })
-grew_halts m store callers slots grown = record { events = refl; kept = record { grows = grown; codes = refl; globals = refl; entered = refl; failed = refl; state = refl } }
+-- what leaves a machine's events, codes and globals halts, where it got no more than objects
+pub halts_with : (m m' : Core) → m'.events ≡ m.events → IsGrown m.store m'.store → m'.codes ≡ m.codes → m'.globals ≡ m.globals → m'.entered ≡ m.entered → m'.failed ≡ m.failed → m'.state ≡ m.state → Halts m m'
+halts_with m m' events grown codes globals entered failed state = record { events = events; kept = record { grows = grown; codes = codes; globals = globals; entered = entered; failed = failed; state = state } }
 
--- so does one that halts in a call behind that
-pub halted_on : (m m' : Core) (store : Kept) (callers : List Halted) (slots : Slots) → IsGrown m.store store → Halts (record m { store = store; callers = callers; slots = slots }) m' → Halts m m'
-halted_on m m' store callers slots grown halts = record {
-  events = halts.events;
+-- a machine that got no more than objects, generators, frames, callers and what is in its slots halts
+pub grew_halts : (m : Core) (store : Kept) (generators : List KeptGenerator) (frames : List FrameRef) (callers : List Halted) (slots : Slots) (stage : Stage) → IsGrown m.store store
+    → Halts m (record m { store = store; generators = generators; frames = frames; callers = callers; slots = slots; stage = stage })
+grew_halts m store generators frames callers slots stage grown = halts_with m (record m { store = store; generators = generators; frames = frames; callers = callers; slots = slots; stage = stage }) refl grown refl refl refl refl refl
+
+-- so does one that halts in a call behind another one
+pub halts_trans : (m n m' : Core) → Halts m n → Halts n m' → Halts m m'
+halts_trans m n m' first later = record {
+  events = later.events ∙ first.events;
   kept = record {
-    grows = grown_trans m.store store m'.store grown halts.kept.grows;
-    codes = halts.kept.codes;
-    globals = halts.kept.globals;
-    entered = halts.kept.entered;
-    failed = halts.kept.failed;
-    state = halts.kept.state;
+    grows = grown_trans m.store n.store m'.store first.kept.grows later.kept.grows;
+    codes = later.kept.codes ∙ first.kept.codes;
+    globals = later.kept.globals ∙ first.kept.globals;
+    entered = later.kept.entered ∙ first.kept.entered;
+    failed = later.kept.failed ∙ first.kept.failed;
+    state = later.kept.state ∙ first.kept.state;
   };
 }
+
+pub halted_on : (m m' : Core) (store : Kept) (generators : List KeptGenerator) (frames : List FrameRef) (callers : List Halted) (slots : Slots) (stage : Stage) → IsGrown m.store store
+    → Halts (record m { store = store; generators = generators; frames = frames; callers = callers; slots = slots; stage = stage }) m' → Halts m m'
+halted_on m m' store generators frames callers slots stage grown halts =
+    halts_trans m (record m { store = store; generators = generators; frames = frames; callers = callers; slots = slots; stage = stage }) m' (grew_halts m store generators frames callers slots stage grown) halts
 
 -- a frame's object is growth
 frame_grown : (s : Kept) (place : ℕ) → IsGrown s (with_object s (payload.Frame place))
@@ -64,12 +115,12 @@ frame_grown s place = added_grown s (with_object s (payload.Frame place)) (paylo
 
 -- where only a frame's object was made
 pub object_halts : (m : Core) (store : Kept) (place : ℕ) → store ≡ with_object m.store (payload.Frame place) → Halts m (record m { store = store })
-object_halts m store place added = grew_halts m store m.callers m.slots (subst (IsGrown m.store) (sym added) (frame_grown m.store place))
+object_halts m store place added = grew_halts m store m.generators m.frames m.callers m.slots m.stage (subst (IsGrown m.store) (sym added) (frame_grown m.store place))
 
 -- an activation that was made, and couldn't be told
 pub fresh_halts : (m n : Core) (act : ℕ) (f : Obj) (vs : List Obj) (r : Running) (events : List Event) → IsFreshFor m act f vs r n → events ≡ n.events → Halts m (record n { events = events })
 fresh_halts m n act f vs r events (b, has, c, is_code, unbegun, is) same =
-    subst (λ l. Halts m (record n { events = l })) (sym same) (subst (Halts m) (sym is) (grew_halts m (with_object m.store (payload.Frame b.code)) m.callers m.slots (frame_grown m.store b.code)))
+    subst (λ l. Halts m (record n { events = l })) (sym same) (subst (Halts m) (sym is) (grew_halts m (with_object m.store (payload.Frame b.code)) m.generators m.frames m.callers m.slots m.stage (frame_grown m.store b.code)))
 
 -- an activation that was made and told
 pub made_one : (m n : Core) (f : Obj) (vs : List Obj) (r : Running) (events : List Event) → IsFreshFor m (m.made + 1) f vs r n → events ≡ n.events ++ event.Make (m.made + 1) f vs ∷ []
@@ -79,15 +130,18 @@ made_one m n f vs r events (b, has, c, is_code, unbegun, is) added =
     (b, has, c, is_code, r, unbegun, ap (λ l. let x : Core = record n { events = l; made = m.made + 1; stage = stage.Made r f } in x) added ∙ ap built is)
 
 -- a frame that was made for a function and filled with its arguments
-pub fresh_filled : (m : Core) (act number : ℕ) (entry : FrameRef) (code : Annotated) (vs closure : List Obj) (scope : Scope) (room block_room : ℕ) (locals : List (Option Obj)) (frame full : Framed)
+pub fresh_filled : (m : Core) (act number : ℕ) (entry : FrameRef) (code : Annotated) (vs closure : List Obj) (scope : Scope) (room block_room : ℕ) (locals : List (Option Obj)) (frame full : Framed) (kind : Option CoroKind)
     → frame ≡ unfilled code number entry scope closure room block_room → locals ≡ filled (length code.code.code.varnames.items) vs → full ≡ record frame { state = record frame.state { locals = locals } }
-    → entry ≡ next_frame m → scope ≡ scope_of None m.globals → room ≡ code.code.code.max_stackdepth → record { act = act; frame = full } ≡ fresh act (next_frame m) m.globals number code closure vs block_room
-fresh_filled m act number entry code vs closure scope room block_room locals frame full made locals_are full_is entry_is scope_is room_is =
+    → entry ≡ next_frame m → scope ≡ scope_of None m.globals → room ≡ code.code.code.max_stackdepth → kind ≡ kind_of code.code.code.flags
+    → record { act = act; frame = full; kind = kind } ≡ fresh act (next_frame m) m.globals number code closure vs block_room
+fresh_filled m act number entry code vs closure scope room block_room locals frame full kind made locals_are full_is entry_is scope_is room_is kind_is =
     let with_locals : Framed → List (Option Obj) → Framed = λ f l. record f { state = record f.state { locals = l } } in
     let first : FrameRef → Scope → ℕ → Framed = λ x y n. with_locals (unfilled code number x y closure n block_room) (filled (length code.code.code.varnames.items) vs) in
     let same : full ≡ first entry scope room = full_is ∙ ap (λ (f : Framed). with_locals f locals) made ∙ ap (with_locals (unfilled code number entry scope closure room block_room)) locals_are in
-    ap (λ (f : Framed). let r : Running = record { act = act; frame = f } in r)
-    (same ∙ ap (λ x. first x scope room) entry_is ∙ ap (λ y. first (next_frame m) y room) scope_is ∙ ap (first (next_frame m) (scope_of None m.globals)) room_is)
+    let all : full ≡ first (next_frame m) (scope_of None m.globals) code.code.code.max_stackdepth =
+    same ∙ ap (λ x. first x scope room) entry_is ∙ ap (λ y. first (next_frame m) y room) scope_is ∙ ap (first (next_frame m) (scope_of None m.globals)) room_is in
+    ap (λ (f : Framed). let r : Running = record { act = act; frame = f; kind = kind } in r) all
+    ∙ ap (λ (k : Option CoroKind). let r : Running = record { act = act; frame = first (next_frame m) (scope_of None m.globals) code.code.code.max_stackdepth; kind = k } in r) kind_is
 
 -- the frame of a running activation makes a step with the code and the names that were found
 module _ (codes : Checked) (objects : List Payload) (r : Running) (s : FrameStep) (f : Framed) (c : Annotated) (number : ℕ) (place : number ≡ r.frame.code) (found : slice_get codes.codes number ≡ Some c)
@@ -110,45 +164,198 @@ module _ (codes : Checked) (objects : List Payload) (r : Running) (s : FrameStep
         same = same;
       }
 
-  -- it is no generator's
-  pub found_plain : (code : Annotated) → slice_get codes.codes r.frame.code ≡ Some code → IsRunnable codes.names code → IsPlain s
-  found_plain code is_code runnable =
-      let both : Some code ≡ Some c = sym is_code ∙ ap (slice_get codes.codes) (sym place) ∙ found in
-      let same : code ≡ c = cc in
-      steps_plainly objects c.code (subst (λ (x : Annotated). CodeIsAnswered x.code) same runnable.answered) (f.state.last - 1) s may
+-- a slot of its own stays where what is in it changes
+pub own_slot_stays : (kind : Option CoroKind) (slots slots' : Slots) (x : Option PyBaseExceptionRef) → HasOwnSlot kind slots → slots' ≡ slice_set slots 0 x → HasOwnSlot kind slots'
+own_slot_stays None slots slots' x own is = tt
+own_slot_stays (Some kind) (y ∷ z ∷ slots) slots' x own is = subst (λ (l : Slots). 1 < length l) (sym is) own
+own_slot_stays (Some kind) (y ∷ []) slots' x own is = absurd (omega arith)
+own_slot_stays (Some kind) [] slots' x own is = absurd (omega arith)
+
+-- ---- a question that is answered
+
+-- the value that says why a generator stopped is there
+pub replied_there : (old new : List Payload) (reply : Reply) (w : MadeReply) → IsReplied old new reply w → NamesThere new w
+replied_there old new reply (made.Value v) x = tt
+replied_there old new reply (made.Fresh e) x = tt
+replied_there old new reply (made.Passed e) x = tt
+replied_there old new reply (made.Yields v) x = tt
+replied_there old new reply (made.Stops v) x = x.1
+replied_there old new reply made.Closes x = tt
 
 -- the course that was made for a request, where it stands
-module _ (m : Core) (store : Kept) (at : Setting) (q : Request) (x : MadeCourse) (stands : at ≡ setting_at m) (made : IsCourse at m.store store q x) where
-  -- it says an answer
-  pub course_said : (w : Answer) → x ≡ course.Says w → IsGrown m.store store → IsSaid m q store w
+module _ (m : Core) (store : Kept) (list : List KeptGenerator) (at : Setting) (q : Request) (x : MadeCourse) (stands : at ≡ setting_at m) (made : IsCourse at m.store store m.generators list q x) where
+  there : (y : MadeCourse) → x ≡ y → IsCourse (setting_at m) m.store store m.generators list q y
+  there y is = subst (IsCourse (setting_at m) m.store store m.generators list q) is (subst (λ s. IsCourse s m.store store m.generators list q x) stands made)
+
+  -- it says a reply
+  pub course_said : (w : MadeReply) → x ≡ course.Says w → IsGrown m.store store → IsSaid m q store list w
   course_said w is grown =
-      let said : IsCourse (setting_at m) m.store store q (course.Says w) = subst (λ y. IsCourse (setting_at m) m.store store q y) is (subst (λ y. IsCourse y m.store store q x) stands made) in
-      record { reply = said.0; says = said.1; grown = grown; given = said.2 }
+      let said : IsCourse (setting_at m) m.store store m.generators list q (course.Says w) = there (course.Says w) is in
+      record { reply = said.0; says = said.1; grown = grown; replied = said.2; shuts = said.3 }
+
+  -- which names objects
+  pub course_names : (w : MadeReply) → x ≡ course.Says w → NamesThere store.made w
+  course_names w is =
+      let said : IsCourse (setting_at m) m.store store m.generators list q (course.Says w) = there (course.Says w) is in
+      replied_there m.store.made store.made said.0 w said.2
 
   -- or enters a function, and no object is new
-  pub course_opened : (f : Obj) (vs : List Obj) → x ≡ course.Enters f vs → IsOpened m q f vs × (store ≡ m.store)
-  course_opened f vs is = subst (λ y. IsCourse (setting_at m) m.store store q y) is (subst (λ y. IsCourse y m.store store q x) stands made)
+  pub course_opened : (f : Obj) (vs : List Obj) → x ≡ course.Enters f vs → IsOpened m q f vs × (store ≡ m.store) × (list ≡ m.generators)
+  course_opened f vs is = there (course.Enters f vs) is
 
--- what the drive asked was answered at once
-pub opened_says : (m : Core) (d : Drive) (q : Request) (store : Kept) (w : Answer) (x y : DriveAnswer) (m' : Core) → q ≡ request_of d → IsSaid m q store w → x ≡ result_of w → y ≡ result_of w
-    → m' ≡ result_by (record m { store = store }) x → Opened m d (Some y) m'
-opened_says m d q store w x y m' asks said x_is y_is is = inl (store, w, subst (λ r. IsSaid m r store w) asks said, ap Some y_is, is ∙ ap (result_by (record m { store = store })) x_is)
+  -- or enters a generator
+  pub course_resumes : (g : Obj) (h : ResumeHow) → x ≡ course.Resumes g h → IsResumption (setting_at m) m.store.made store.made m.generators list q g h
+  course_resumes g h is = there (course.Resumes g h) is
 
--- or a function was made for it
-pub opened_enters : (m : Core) (d : Drive) (q : Request) (store : Kept) (f : Obj) (vs : List Obj) (m' : Core) → q ≡ request_of d → IsOpened m q f vs × (store ≡ m.store) → MadeOne (record m { store = store }) f vs m' → Opened m d None m'
-opened_enters m d q store f vs m' asks opened made = inr (f, vs, refl, subst (λ r. IsOpened m r f vs) asks opened.0, subst (λ s. MadeOne (record m { store = s }) f vs m') opened.1 made)
+-- a generator that is ready to be entered has its activation
+ready_one : (objects : List Payload) (list : List KeptGenerator) (g : Obj) (x : KeptGenerator) → AreReady objects list → kept_at list g ≡ Some x → HoldsIn x.generator.mode x
+ready_one objects [] g x ready here = absurd (cc here)
+ready_one objects (y ∷ ys) g x ready here = by (eqb y.object.number g.number) here (λ next. ready_one objects ys g x ready.2 next)
+  where
+    by : (b : Bool) → (if b then Some y else kept_at ys g) ≡ Some x → (kept_at ys g ≡ Some x → HoldsIn x.generator.mode x) → HoldsIn x.generator.mode x
+    by true found later = let is : y ≡ x = cc found in subst (λ (z : KeptGenerator). HoldsIn z.generator.mode z) is ready.1
+    by false found later = later found
 
--- the same of what an activation asked
-module _ (m : Core) (h : Halted) (n : ℕ) (q : Request) (own : Option PyBaseExceptionRef) (at : ℕ) (e : Event) (found : Some e ≡ slice_get m.events h.place) (is : e ≡ event.Ask n q own at) (store : Kept) where
-  pub answered_says : (w : Answer) (m' : Core) → IsSaid m q store w → m' ≡ got_by (record m { store = store }) h.running w → AnsweredOne m h m'
-  answered_says w m' said gets = (n, q, own, at, sym found ∙ ap Some is, inl (store, w, said, gets))
+holds_as : (mode : Mode) (x : KeptGenerator) → x.generator.mode ≡ mode → HoldsIn x.generator.mode x → HoldsIn mode x
+holds_as mode x is holds = subst (λ k. HoldsIn k x) is holds
 
-  pub answered_enters : (hs : List Halted) (f : Obj) (vs : List Obj) (m' : Core) → IsOpened m q f vs × (store ≡ m.store) → hs ≡ h ∷ m.callers → MadeOne (record m { store = store; callers = hs }) f vs m' → AnsweredOne m h m'
-  answered_enters hs f vs m' opened callers made =
-      let waits : MadeOne (record m { store = store; callers = h ∷ m.callers }) f vs m' = subst (λ l. MadeOne (record m { store = store; callers = l }) f vs m') callers made in
-      (n, q, own, at, sym found ∙ ap Some is, inr (f, vs, opened.0, subst (λ s. MadeOne (record m { store = s; callers = h ∷ m.callers }) f vs m') opened.1 waits))
+throws_hold : (mode : Mode) (x : KeptGenerator) → TakesThrows mode → HoldsIn mode x → (s : Suspended) × (x.suspended ≡ Some s)
+throws_hold Fresh x takes holds = holds
+throws_hold Left x takes holds = holds
+throws_hold Entered x takes holds = absurd takes
+throws_hold Closed x takes holds = absurd takes
 
--- whatever stage it was at
-pub answered_at : (m : Core) (s : Stage) (h : Halted) (m' : Core) → AnsweredOne (record m { stage = s }) h m' → AnsweredOne m h m'
-answered_at m s h m' (n, q, own, at, entry, inl (store, w, said, is)) = (n, q, own, at, entry, inl (store, w, record { reply = said.reply; says = said.says; grown = said.grown; given = said.given }, is))
-answered_at m s h m' (n, q, own, at, entry, inr entered) = (n, q, own, at, entry, inr entered)
+entered_holds : (at : Setting) (old new : List Payload) (q : Request) (x : KeptGenerator) (h : ResumeHow) → EntersBy at old new q x h → HoldsIn x.generator.mode x → (s : Suspended) × (x.suspended ≡ Some s)
+entered_holds at old new q x how.Start (comes, fresh) holds = holds_as Fresh x fresh holds
+entered_holds at old new q x (how.Send v) (comes, waits, low) holds = holds_as Left x waits holds
+entered_holds at old new q x (how.Throw e) (raise, comes, thrown, takes) holds = throws_hold x.generator.mode x takes holds
+
+-- so it can be resumed behind its entry
+module _ (m : Core) (q : Request) (store : Kept) (list : List KeptGenerator) (g : Obj) (h : ResumeHow) (ready : AreReady m.store.made m.generators)
+    (resumes : IsResumption (setting_at m) m.store.made store.made m.generators list q g h) where
+  entered_there : kept_at list g ≡ Some (entered_at (is_close q) resumes.kept)
+  entered_there = ap (λ l. kept_at l g) resumes.changes ∙ kept_changed g (entered_at (is_close q)) (λ x. refl) m.generators resumes.kept resumes.is_kept
+
+  pub resumable : IsResumable list g
+  resumable = (
+    entered_at (is_close q) resumes.kept,
+    entered_there,
+    entered_holds (setting_at m) m.store.made store.made q resumes.kept h resumes.enters (ready_one m.store.made m.generators g resumes.kept ready resumes.is_kept),
+  )
+
+  -- and that enters it
+  pub entering_by : (x : KeptGenerator) (s : Suspended) → kept_at list g ≡ Some x → x.suspended ≡ Some s → IsGrown m.store store → IsEntering m q store (changed_at g without_activation list) s h
+  entering_by x s here waits grown =
+      let same : entered_at (is_close q) resumes.kept ≡ x = same_Some _ _ (sym entered_there ∙ here) in
+      record {
+        object = g;
+        asks = resumes.asks;
+        kept = resumes.kept;
+        is_kept = resumes.is_kept;
+        waiting = ap (λ (y : KeptGenerator). y.suspended) same ∙ waits;
+        enters = resumes.enters;
+        grown = grown;
+        changes = ap (changed_at g without_activation) resumes.changes;
+      }
+
+-- what a question comes to, whose answer these callers wait for
+module _ (m : Core) (q : Request) (store : Kept) (list : List KeptGenerator) (hs : List Halted) where
+  -- it is answered at once
+  pub says_on : (w : MadeReply) (a : Option DriveAnswer) (m' : Core) → IsSaid m q store list w → Replies (record m { store = store; generators = list; callers = hs }) w hs a m' → Comes_on m q hs a m'
+  says_on w a m' said replies = inl (store, list, w, said, replies)
+
+  -- or an activation is made
+  pub enters_on : (f : Obj) (vs : List Obj) (m' : Core) → IsOpened m q f vs × (store ≡ m.store) × (list ≡ m.generators) → MadeOne (record m { store = store; generators = list; callers = hs }) f vs m'
+      → Comes_on m q hs None m'
+  enters_on f vs m' (opened, same, still) made =
+      inr (inl (f, vs, refl, opened, subst (λ l. MadeOne (record m { generators = l; callers = hs }) f vs m') still (subst (λ s. MadeOne (record m { store = s; generators = list; callers = hs }) f vs m') same made)))
+
+  -- or entered
+  pub resumes_on : (g : Obj) (h : ResumeHow) (m' : Core) → AreReady m.store.made m.generators → IsResumption (setting_at m) m.store.made store.made m.generators list q g h → IsGrown m.store store
+      → ResumedOne (record m { store = store; generators = list; callers = hs }) g h m' → Comes_on m q hs None m'
+  resumes_on g h m' ready resumes grown (x, here, s, waits, is) =
+      inr (inr (store, changed_at g without_activation list, s, h, refl, entering_by m q store list g h ready resumes x s here waits grown, is))
+
+-- what an activation asked that waits
+module _ (m : Core) (h : Halted) (n : ℕ) (q : Request) (own : Option PyBaseExceptionRef) (at : ℕ) (e : Event) (found : Some e ≡ slice_get m.events h.place) (is : e ≡ event.Ask n q own at) where
+  pub comes_asked : (a : Option DriveAnswer) (m' : Core) → Comes_on m q (h ∷ m.callers) a m' → AnsweredOne m h a m'
+  comes_asked a m' comes = (n, q, own, at, sym found ∙ ap Some is, comes)
+
+-- whatever stage a machine was at
+module _ (m : Core) (s : Stage) where
+  pub comes_on_at : (q : Request) (hs : List Halted) (a : Option DriveAnswer) (m' : Core) → Comes_on (record m { stage = s }) q hs a m' → Comes_on m q hs a m'
+  comes_on_at q hs a m' (inl (store, list, w, said, replies)) = inl (
+    store,
+    list,
+    w,
+    record { reply = said.reply; says = said.says; grown = said.grown; replied = said.replied; shuts = said.shuts },
+    replies_at m s (record m { store = store; generators = list; callers = hs }) w hs a m' replies,
+  )
+  comes_on_at q hs a m' (inr (inl x)) = inr (inl x)
+  comes_on_at q hs a m' (inr (inr (store, list, t, h, none, entering, is))) =
+      let same : IsEntering m q store list t h = record {
+        object = entering.object;
+        asks = entering.asks;
+        kept = entering.kept;
+        is_kept = entering.is_kept;
+        waiting = entering.waiting;
+        enters = entering.enters;
+        grown = entering.grown;
+        changes = entering.changes;
+      } in
+      inr (inr (store, list, t, h, none, same, is))
+
+  pub answered_at : (h : Halted) (a : Option DriveAnswer) (m' : Core) → AnsweredOne (record m { stage = s }) h a m' → AnsweredOne m h a m'
+  answered_at h a m' (n, q, own, at, entry, comes) = (n, q, own, at, entry, comes_on_at q (h ∷ m.callers) a m' comes)
+
+-- ---- what comes behind a machine that settled, or made a generator
+
+-- it still can reply
+still_replies : (m : Core) (store : Kept) (list : List KeptGenerator) (n : Core) → n ≡ record m { store = store; generators = list } → IsGrown m.store store → m.done ≤ length m.events
+    → HaveClasses m.zoo m.store.made → (n.done ≤ length n.events) × HaveClasses n.zoo n.store.made
+still_replies m store list n same grown done classes =
+    subst (λ (k : Core). (k.done ≤ length k.events) × HaveClasses k.zoo k.store.made) (sym same) (done, classes_grown m.zoo m.store.made store.made (objects_grow m.store store grown) classes)
+
+-- and has no more than objects
+still_halts : (m : Core) (store : Kept) (list : List KeptGenerator) (n : Core) → n ≡ record m { store = store; generators = list } → IsGrown m.store store → Halts m n
+still_halts m store list n same grown = subst (Halts m) (sym same) (grew_halts m store list m.frames m.callers m.slots m.stage grown)
+
+-- a generator settled
+module _ (m n : Core) (g : Obj) (s : Suspended) (how : CoroEnd) (w : MadeReply) (settles : SettledOne m g s how w n) where
+  pub settled_replies : m.done ≤ length m.events → HaveClasses m.zoo m.store.made → (n.done ≤ length n.events) × HaveClasses n.zoo n.store.made
+  settled_replies done classes =
+      let (store, list, (x, here, body, has, a, finishes, grown, changes, replied), same) = settles in
+      still_replies m store list n same grown done classes
+
+  pub settled_halts : Halts m n
+  settled_halts =
+      let (store, list, (x, here, body, has, a, finishes, grown, changes, replied), same) = settles in
+      still_halts m store list n same grown
+
+-- a generator was made
+module _ (m n : Core) (r : Running) (f : Obj) (kind : CoroKind) (g : Obj) (creates : CreatedOne m r f kind g n) where
+  created_grown : (store : Kept) (x : KeptGenerator) → IsCreated m r f kind x store → IsGrown m.store store
+  created_grown store x created = added_grown m.store store (payload.Generator _) created.added refl (λ fit. tt) (λ fit. tt)
+
+  pub created_replies : m.done ≤ length m.events → HaveClasses m.zoo m.store.made → (n.done ≤ length n.events) × HaveClasses n.zoo n.store.made
+  created_replies done classes = let (x, store, created, is, same) = creates in still_replies m store (m.generators ++ x ∷ []) n same (created_grown store x created) done classes
+
+  pub created_halts : Halts m n
+  created_halts = let (x, store, created, is, same) = creates in still_halts m store (m.generators ++ x ∷ []) n same (created_grown store x created)
+
+-- the generator that the open question asks runs
+pub entered_runs : (m : Core) (d : Drive) (how : CoroEnd) (o : Option Obj) (g : Obj) → CanFinish m d how → ((q : Request) → Questioned m.events d m.callers q → o ≡ generator_asked q) → o ≡ Some g
+    → IsRunningNow m.generators g × IsGenerator m.store.made g
+entered_runs m d how o g (stored, ending, runs, asks) entered is = let (q, asked) = some_question m.store.made m.events d m.callers asks in runs q asked g (sym (entered q asked) ∙ is)
+
+-- what finishes a call or a generator, whichever the open question asks
+module _ (m : Core) (d : Drive) (s : Suspended) (how : CoroEnd) (o : Option Obj) (can : CanFinish m d how) (entered : (q : Request) → Questioned m.events d m.callers q → o ≡ generator_asked q) where
+  pub call_finished : (a : Option DriveAnswer) (m' : Core) → o ≡ None → Replies m (passed how) m.callers a m' → Finished m d s how a m'
+  call_finished a m' none replies =
+      let (q, asked) = some_question m.store.made m.events d m.callers can.3 in
+      finished_call m d s how q asked a m' (sym none ∙ entered q asked) replies
+
+  pub generator_finished : (g : Obj) (w : MadeReply) (n : Core) (a : Option DriveAnswer) (m' : Core) → o ≡ Some g → SettledOne m g s how w n → Replies n w n.callers a m' → Finished m d s how a m'
+  generator_finished g w n a m' is settles replies =
+      let (q, asked) = some_question m.store.made m.events d m.callers can.3 in
+      finished_generator m d s how q asked g w n a m' (sym is ∙ entered q asked) settles replies

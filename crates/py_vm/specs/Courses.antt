@@ -1,51 +1,188 @@
 -- What the machine promises of requests: the course that the code makes is one that the definitions have.
-use Rattle.std.specs.Prelude.{ℕ, Option, Some, None, List, ◌≡◌, length, map}
+use Rattle.std.specs.Prelude.{ℕ, ◌<◌, false, Option, Some, None, List, ◌≡◌, length, map}
 use Rattle.py_code.specs.declared.names.NameId.{NameId}
+use Rattle.py_objects.specs.declared.refs.PyBaseExceptionRef.{PyBaseExceptionRef}
 use Rattle.py_objects.specs.declared.payload.Payload.{Payload}
+use Rattle.py_objects.specs.declared.payload.Payload.TheVariants as payload
+use Rattle.py_objects.specs.declared.payload.CoroBody.{CoroBody}
 use Rattle.py_objects.specs.declared.payload.Fault.{Fault}
 use Rattle.py_objects.specs.Edits.{Kept}
 use Rattle.py_objects.specs.declared.request.Request.{Request}
+use Rattle.py_objects.specs.declared.request.Request.TheVariants as request
 use Rattle.py_objects.specs.declared.event.Event.{Event}
-use Rattle.py_objects.specs.Objects.{Obj, Name, AllBelow, AreNamed, got_numbers}
+use Rattle.py_objects.specs.declared.event.GotAnswer.{GotAnswer}
+use Rattle.py_objects.specs.declared.event.GotAnswer.TheVariants as got
+use Rattle.py_objects.specs.declared.event.ResumeHow.{ResumeHow}
+use Rattle.py_objects.specs.declared.event.ResumeHow.TheVariants as how
+use Rattle.py_objects.specs.Objects.{Obj, Name, HasPayload, AllBelow, AreNamed, as_object, got_numbers, numbers_if}
+use Rattle.py_check.specs.declared.note.Kind.TheVariants as kind
 use Rattle.py_rows.specs.Asked.{name_in}
 use Rattle.py_rows.specs.Signature.{characters}
-use Rattle.py_answers.specs.Answers.{Reply, Fails, GivesBody}
+use Rattle.py_rows.specs.Answers.{HasKind}
+use Rattle.py_answers.specs.Answers.{Raised, Reply, Fails, Yields, Stops, Closes, for_body, IsRaise, GivesValue, GivesRaise, GivesBody}
 use Rattle.py_frame.specs.declared.input.Answer.{Answer}
 use Rattle.py_frame.specs.declared.input.Answer.TheVariants as given
 use Rattle.py_frame.specs.Steps.{got_of}
-use Rattle.py_run.specs.Calls.{Course, Says, Enters, Setting, ComesTo, CallsFunction}
+use Rattle.py_coro.specs.Modes.{Mode, Fresh, Suspended as Left, Running, Closed, Row, Stops as RowStops, Raises as RowRaises, Done as RowDone, Starts as RowStarts, Sends as RowSends, Throws as RowThrows, Exits as RowExits, Refuses as RowRefuses, thrown}
+use Rattle.py_coro.specs.Refusals.{refused, word_of}
+use Rattle.py_run.specs.Calls.{Course, Says, Enters, Begins, Sends, Throws, Setting, ComesTo, CallsFunction}
 use Rattle.py_vm.specs.declared.calls.Course.{Course as MadeCourse}
 use Rattle.py_vm.specs.declared.calls.Course.TheVariants as course
 use Rattle.py_vm.specs.declared.calls.Standing.{Standing}
+use Rattle.py_vm.specs.declared.reply.Reply.{Reply as MadeReply}
+use Rattle.py_vm.specs.declared.reply.Reply.TheVariants as made
+use Rattle.py_vm.specs.declared.generators.KeptGenerator.{KeptGenerator}
 use Rattle.py_vm.specs.Codes.{Checked, signatures_of}
+use Rattle.py_vm.specs.Generators.{changed_at, entered_at, generator_asked, is_close, kept_at, modes_of, shut}
 
--- an answer that the machine makes: a value, or the raise of a new exception
+-- an answer that the machine makes: a value, or a raise
 abbrev pub IsHeard : Answer → Type 0
 IsHeard (given.Value v) = Unit {0}
 IsHeard (given.Stop v) = ⊥
 IsHeard (given.Fresh e) = Unit {0}
-IsHeard (given.Passed e) = ⊥
+IsHeard (given.Passed e) = Unit {0}
+
+-- what is raised is an exception
+abbrev pub RaisesThere : List Payload → GotAnswer → Type 0
+RaisesThere objects (got.Value v) = Unit {0}
+RaisesThere objects (got.Stop v) = Unit {0}
+RaisesThere objects (got.Raise e) = HasKind objects (as_object e) kind.Exc
 
 -- an answer gives the reply, whatever happened before, and names objects
 pub record GivesReply (old new : List Payload) (reply : Reply) (w : Answer) : Type 0 where
   pub gives : (before : List Event) → AreNamed old before → GivesBody new before reply (got_of w)
   pub below : AllBelow (length new) (got_numbers (got_of w))
   pub heard : IsHeard w
+  pub raises : RaisesThere new (got_of w)
 
--- where a question stands, among these codes
-abbrev pub setting_by : Checked → Standing → Setting
-setting_by codes at = record { signatures = signatures_of codes; depth = at.depth; handled = at.handled }
+-- a reply that is the same to a body and to a drive gives a value
+pub record RepliesValue (old new : List Payload) (reply : Reply) (v : Obj) : Type 0 where
+  pub plain : for_body reply ≡ reply
+  pub gives : (before : List Event) → AreNamed old before → GivesValue new before reply v
+  pub below : v.number < length new
 
--- a course that was made for a request, by which a store may have got more objects: what it says gives the reply, and what it enters is the
--- function, with the arguments, and no object is new
-abbrev pub IsCourse : Setting → (old new : Kept) → Request → MadeCourse → Type 0
-IsCourse at old new r (course.Says w) = (reply : Reply) × ComesTo at old.made r (Says reply) × GivesReply old.made new.made reply w
-IsCourse at old new r (course.Enters f vs) = ComesTo at old.made r (Enters f vs) × (new ≡ old)
+-- or raises an exception
+pub record RepliesRaise (old new : List Payload) (reply : Reply) (e : PyBaseExceptionRef) : Type 0 where
+  pub plain : for_body reply ≡ reply
+  pub gives : (before : List Event) → AreNamed old before → GivesRaise new before reply e
+  pub below : e.number < length new
+  pub raises : HasKind new (as_object e) kind.Exc
+
+-- what a question is answered is the reply, whatever happened before, and names objects
+abbrev pub IsReplied : (old new : List Payload) → Reply → MadeReply → Type 0
+IsReplied old new reply (made.Value v) = RepliesValue old new reply v
+IsReplied old new reply (made.Fresh e) = RepliesRaise old new reply e
+IsReplied old new reply (made.Passed e) = RepliesRaise old new reply e
+IsReplied old new reply (made.Yields v) = (reply ≡ Yields v) × (v.number < length new)
+IsReplied old new reply (made.Stops v) = (reply ≡ Stops v) × AllBelow (length new) (numbers_if v)
+IsReplied old new reply made.Closes = reply ≡ Closes
+
+-- the value that says why a generator stopped is there
+abbrev pub NamesThere : List Payload → MadeReply → Type 0
+NamesThere objects (made.Value v) = Unit {0}
+NamesThere objects (made.Fresh e) = Unit {0}
+NamesThere objects (made.Passed e) = Unit {0}
+NamesThere objects (made.Yields v) = Unit {0}
+NamesThere objects (made.Stops v) = AllBelow (length objects) (numbers_if v)
+NamesThere objects made.Closes = Unit {0}
+
+-- where a question stands, among these codes and generators
+abbrev pub setting_by : Checked → List KeptGenerator → Standing → Setting
+setting_by codes generators at = record { signatures = signatures_of codes; depth = at.depth; handled = at.handled; generators = modes_of generators }
+
+-- the generator that an answer at once closes, if it does
+abbrev pub closed_if : Reply → Obj → Option Obj
+closed_if Closes g = Some g
+closed_if _ g = None
+
+abbrev pub closed_of : Request → Reply → Option Obj
+closed_of (request.Close g) reply = closed_if reply g
+closed_of _ reply = None
+
+-- the generators behind an answer at once
+abbrev pub shut_if : Option Obj → List KeptGenerator → List KeptGenerator
+shut_if None list = list
+shut_if (Some g) list = changed_at g shut list
+
+-- a generator in this mode may be entered by a throw
+abbrev pub TakesThrows : Mode → Type 0
+TakesThrows Fresh = Unit {0}
+TakesThrows Left = Unit {0}
+TakesThrows Running = ⊥
+TakesThrows Closed = ⊥
+
+-- an exception is the one that is thrown
+pub record IsThrown (old new : List Payload) (raise : Raised) (e : PyBaseExceptionRef) : Type 0 where
+  pub is : (before : List Event) → AreNamed old before → IsRaise new before raise e
+  pub raises : HasKind new (as_object e) kind.Exc
+  pub below : e.number < length new
+
+-- a request enters a generator like this
+abbrev pub EntersBy : Setting → (old new : List Payload) → Request → KeptGenerator → ResumeHow → Type 0
+EntersBy at old new r x how.Start = ComesTo at old r (Begins x.act) × (x.generator.mode ≡ Fresh)
+EntersBy at old new r x (how.Send v) = ComesTo at old r (Sends x.act v) × (x.generator.mode ≡ Left) × (v.number < length new)
+EntersBy at old new r x (how.Throw e) = (raise : Raised) × ComesTo at old r (Throws x.act raise) × IsThrown old new raise e × TakesThrows x.generator.mode
+
+-- a request enters the generator that this object is of these, which become those
+pub record IsResumption (at : Setting) (old new : List Payload) (generators generators' : List KeptGenerator) (r : Request) (object : Obj) (h : ResumeHow) : Type 0 where
+  pub asks : generator_asked r ≡ Some object
+  pub kept : KeptGenerator
+  pub is_kept : kept_at generators object ≡ Some kept
+  pub enters : EntersBy at old new r kept h
+  pub changes : generators' ≡ changed_at object (entered_at (is_close r)) generators
+
+-- a course that was made for a request, by which a store may have got more objects, and a generator another state: what it says gives the reply,
+-- and closes a generator where the request closes one that needn't be entered; what it makes is an activation of the function, with the arguments,
+-- and no object is new; or a generator is entered
+abbrev pub IsCourse : Setting → (old new : Kept) → (generators generators' : List KeptGenerator) → Request → MadeCourse → Type 0
+IsCourse at old new generators generators' r (course.Says w) =
+    (reply : Reply) × ComesTo at old.made r (Says reply) × IsReplied old.made new.made reply w × (generators' ≡ shut_if (closed_of r reply) generators)
+IsCourse at old new generators generators' r (course.Enters f vs) = ComesTo at old.made r (Enters f vs) × (new ≡ old) × (generators' ≡ generators)
+IsCourse at old new generators generators' r (course.Resumes g h) = IsResumption at old.made new.made generators generators' r g h
 
 -- the same of the call of a function
 abbrev pub IsCourseOf : Setting → (old new : Kept) → Obj → List Obj → MadeCourse → Type 0
-IsCourseOf at old new f vs (course.Says w) = (reply : Reply) × CallsFunction at old.made f vs (Says reply) × GivesReply old.made new.made reply w
+IsCourseOf at old new f vs (course.Says w) = (reply : Reply) × CallsFunction at old.made f vs (Says reply) × IsReplied old.made new.made reply w
 IsCourseOf at old new f vs (course.Enters g ws) = CallsFunction at old.made f vs (Enters g ws) × (new ≡ old)
+IsCourseOf at old new f vs (course.Resumes g h) = ⊥
+
+-- a course says that a fault is raised
+abbrev pub IsRefusedBy : (old new : List Payload) → Fault → MadeCourse → Type 0
+IsRefusedBy old new fault (course.Says w) = IsReplied old new (Fails fault.kind fault.text) w
+IsRefusedBy old new fault (course.Enters f vs) = ⊥
+IsRefusedBy old new fault (course.Resumes g h) = ⊥
+
+-- where a request to a generator stands
+module _ (codes : Checked) (handled : Option PyBaseExceptionRef) (depth : ℕ) where
+  -- at so many activations
+  abbrev pub setting_deep : List KeptGenerator → Setting
+  setting_deep list = record { signatures = signatures_of codes; depth = depth; handled = handled; generators = modes_of list }
+
+-- the course of a request to a generator is right, whatever the codes are, and whatever is handled
+abbrev pub IsCourseAt : (depth : ℕ) → (old new : Kept) → (generators generators' : List KeptGenerator) → Request → MadeCourse → Type 0
+IsCourseAt depth old new generators generators' r c =
+    (codes : Checked) (handled : Option PyBaseExceptionRef) → IsCourse (setting_deep codes handled depth generators) old new generators generators' r c
+
+-- an exception is thrown into a generator of this state, by this row of its table: it is raised again, refused, or enters it
+abbrev pub IsThrownBy : (old new : List Payload) → (generators generators' : List KeptGenerator) → Obj → PyBaseExceptionRef → Row → MadeCourse → Type 0
+IsThrownBy old new generators generators' g e RowRaises c = (c ≡ course.Says (made.Passed e)) × (new ≡ old) × (generators' ≡ generators)
+IsThrownBy old new generators generators' g e RowThrows c = (c ≡ course.Resumes g (how.Throw e)) × (new ≡ old) × (generators' ≡ changed_at g (entered_at false) generators)
+IsThrownBy old new generators generators' g e (RowRefuses r) c =
+    ((body : CoroBody) → HasPayload old g (payload.Generator body) → IsRefusedBy old new (refused (word_of body.kind) r) c) × (generators' ≡ generators)
+IsThrownBy old new generators generators' g e RowStops c = ⊥
+IsThrownBy old new generators generators' g e RowDone c = ⊥
+IsThrownBy old new generators generators' g e RowStarts c = ⊥
+IsThrownBy old new generators generators' g e RowSends c = ⊥
+IsThrownBy old new generators generators' g e RowExits c = ⊥
+
+-- the same of one that is among these, or isn't, and then raises it again
+abbrev pub IsThrownAs : (depth : ℕ) → (old new : List Payload) → (generators generators' : List KeptGenerator) → Obj → PyBaseExceptionRef → Option KeptGenerator → MadeCourse → Type 0
+IsThrownAs depth old new generators generators' g e None c = IsThrownBy old new generators generators' g e RowRaises c
+IsThrownAs depth old new generators generators' g e (Some x) c = IsThrownBy old new generators generators' g e (thrown x.generator.mode depth) c
+
+-- an exception is thrown into the generator that an object is
+abbrev pub IsThrownCourse : (depth : ℕ) → (old new : List Payload) → (generators generators' : List KeptGenerator) → Obj → PyBaseExceptionRef → MadeCourse → Type 0
+IsThrownCourse depth old new generators generators' g e c = IsThrownAs depth old new generators generators' g e (kept_at generators g) c
 
 -- the course of a call that is refused like this, if it is
 abbrev pub unless_refused : Option Fault → Course → Course

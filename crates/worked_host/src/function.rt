@@ -1,10 +1,13 @@
-//! A function as a tree, made by hand.
+//! A function and a generator as trees, made by hand.
 
 ghost use Rattle.std.specs.Prelude.{◌≡◌, IfOk, false};
-ghost use Rattle.py_tree.specs.Compilable.{IsCompilable, SuiteFits, statements};
+ghost use Rattle.py_tree.specs.declared.body.BodyKind.TheVariants.{Function};
+ghost use Rattle.py_tree.specs.Compilable.{IsCompilable, OperationFits, SuiteFits, statements};
 ghost use Rattle.py_tree.specs.Views.{suite_of, tree_of};
 
-use py_body::{Atom, AtomList, Body, Expr, Operation, ParamList, Stmt, StmtForm, StmtList};
+use py_body::{
+    Atom, AtomList, Body, BodyKind, Expr, Operation, ParamList, Stmt, StmtForm, StmtList,
+};
 use py_code::{NoMemory, PyText, text_of};
 use std::alloc::Global;
 
@@ -31,6 +34,7 @@ pub(crate) fn count_down(alloc: Global) -> Result<Body, NoMemory>
     suite.push(line(3, StmtForm::If(name(alloc, b"n")?, inner)))?;
     suite.push(line(7, StmtForm::Return(Atom::Str(text(alloc, b"done")?))))?;
     Ok(Body {
+        kind: BodyKind::Function,
         name: text(alloc, b"down")?,
         params,
         suite,
@@ -40,20 +44,62 @@ pub(crate) fn count_down(alloc: Global) -> Result<Body, NoMemory>
 
 /// The two lines in the `if`.
 fn call_of_less(alloc: Global) -> Result<StmtList, NoMemory>
-    ensures fits { IfOk result (λ suite. SuiteFits false (suite_of suite)) }
+    ensures fits { IfOk result (λ suite. SuiteFits Function false (suite_of suite)) }
     ensures counted { IfOk result (λ suite. statements (suite_of suite) ≡ 2) }
 {
-    let less = Operation::Sub(name(alloc, b"n")?, Atom::Int(1));
-    let mut args = AtomList::new(alloc);
-    args.push(name(alloc, b"m")?)?;
-    let call = Operation::Call(name(alloc, b"down")?, args);
     let mut suite = StmtList::new(alloc);
     suite.push(line(
         4,
-        StmtForm::Assign(text(alloc, b"m")?, Expr::Operation(less)),
+        StmtForm::Assign(text(alloc, b"m")?, Expr::Operation(one_less(alloc)?)),
     ))?;
-    suite.push(line(5, StmtForm::Do(call)))?;
+    suite.push(line(5, StmtForm::Do(call_of_down(alloc)?)))?;
     Ok(suite)
+}
+
+/// `(sub n 1)`.
+fn one_less(alloc: Global) -> Result<Operation, NoMemory>
+    ensures { IfOk result (λ operation. OperationFits Function operation) }
+{
+    Ok(Operation::Sub(name(alloc, b"n")?, Atom::Int(1)))
+}
+
+/// `(call down m)`.
+fn call_of_down(alloc: Global) -> Result<Operation, NoMemory>
+    ensures { IfOk result (λ operation. OperationFits Function operation) }
+{
+    let mut args = AtomList::new(alloc);
+    args.push(name(alloc, b"m")?)?;
+    Ok(Operation::Call(name(alloc, b"down")?, args))
+}
+
+/// The generator that yields its argument, and then what it is sent:
+///
+/// ```text
+/// gen echo n
+/// x = (yield n)
+/// do (yield x)
+/// end
+/// ```
+pub(crate) fn echo(alloc: Global) -> Result<Body, NoMemory>
+    ensures { IfOk result (λ body. IsCompilable (tree_of body)) }
+{
+    let mut params = ParamList::new(alloc);
+    params.push(text(alloc, b"n")?)?;
+    let first = Operation::Yield(name(alloc, b"n")?);
+    let second = Operation::Yield(name(alloc, b"x")?);
+    let mut suite = StmtList::new(alloc);
+    suite.push(line(
+        2,
+        StmtForm::Assign(text(alloc, b"x")?, Expr::Operation(first)),
+    ))?;
+    suite.push(line(3, StmtForm::Do(second)))?;
+    Ok(Body {
+        kind: BodyKind::Generator,
+        name: text(alloc, b"echo")?,
+        params,
+        suite,
+        line: 1,
+    })
 }
 
 fn line(line: u32, form: StmtForm) -> Stmt

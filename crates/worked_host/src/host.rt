@@ -1,6 +1,7 @@
 //! A machine that a host holds, with one function.
 
-ghost use Rattle.std.specs.Prelude.{◌≡◌, ◌<◌, false, length, IfOk, OnOk};
+ghost use Rattle.std.specs.Prelude.{◌≡◌, ◌≤◌, ◌<◌, false, length, IfOk, OnOk};
+ghost use Rattle.py_objects.specs.Objects.{result_numbers, AllBelow};
 ghost use Rattle.py_rows.specs.Sound.{AreNames};
 ghost use Rattle.py_vm.specs.Codes.{CodeIsAnswered};
 ghost use Rattle.py_tree.specs.Compilable.{IsCompilable};
@@ -8,7 +9,7 @@ ghost use Rattle.py_tree.specs.Views.{tree_of};
 ghost use Rattle.worked_host.specs.Host.{IsReady};
 
 use crate::fault::HostFault;
-use crate::function::count_down;
+use crate::function::{count_down, echo};
 use py_body::{Body, compile_body};
 use py_check::CheckedCode;
 use py_code::{Names, PyText, text_of_str, utf8_of};
@@ -66,6 +67,14 @@ impl Host {
         Host::load(alloc, &body)
     }
 
+    /// A machine that holds the generator that yields what it is sent.
+    pub(crate) fn of_echo(alloc: Global) -> Result<Host, HostFault>
+        ensures { IfOk result IsReady }
+    {
+        let body = echo(alloc)?;
+        Host::load(alloc, &body)
+    }
+
     /// A machine that holds the function of a body.
     fn load(alloc: Global, body: &Body) -> Result<Host, HostFault>
         requires { IsCompilable (tree_of body.now) }
@@ -82,11 +91,22 @@ impl Host {
         })
     }
 
+    /// A new None.
+    pub(crate) fn none(&mut self) -> Result<PyObjectRef, HostFault>
+        requires { IsReady self.old }
+        ensures ready { OnOk result (IsReady self.new) }
+        ensures there { IfOk result (λ object. object.number < length self.new.vm.objects) }
+        ensures grows { OnOk result (length self.old.vm.objects ≤ length self.new.vm.objects) }
+    {
+        Ok(self.vm.add_object(Payload::None)?)
+    }
+
     /// A new number.
     pub(crate) fn number(&mut self, number: i128) -> Result<PyObjectRef, HostFault>
         requires { IsReady self.old }
         ensures ready { OnOk result (IsReady self.new) }
         ensures there { IfOk result (λ object. object.number < length self.new.vm.objects) }
+        ensures grows { OnOk result (length self.old.vm.objects ≤ length self.new.vm.objects) }
     {
         Ok(self.vm.add_object(Payload::Int(number))?)
     }
@@ -109,11 +129,41 @@ impl Host {
     ) -> Result<DriveAnswer, HostFault>
         requires ready { IsReady self.old }
         requires there { argument.number < length self.old.vm.objects }
-        ensures { OnOk result (IsReady self.new) }
+        ensures ready { OnOk result (IsReady self.new) }
+        ensures there { IfOk result (λ answer. AllBelow (length self.new.vm.objects) (result_numbers answer)) }
     {
         let mut args = ObjList::new(self.alloc);
         args.push(argument)?;
-        Ok(self.vm.drive(&Drive::Call(self.function, args), turns)?)
+        let answer = self.vm.drive(&Drive::Call(self.function, args), turns)?;
+        Ok(answer)
+    }
+
+    /// Sends a value to a generator, in at most so many turns. It begins with None, for which nothing waits.
+    pub(crate) fn send(
+        &mut self,
+        generator: PyObjectRef,
+        value: PyObjectRef,
+        turns: u64,
+    ) -> Result<DriveAnswer, HostFault>
+        requires ready { IsReady self.old }
+        requires there { (generator.number < length self.old.vm.objects) × (value.number < length self.old.vm.objects) }
+        ensures ready { OnOk result (IsReady self.new) }
+        ensures grows { OnOk result (length self.old.vm.objects ≤ length self.new.vm.objects) }
+    {
+        Ok(self.vm.drive(&Drive::Send(generator, value), turns)?)
+    }
+
+    /// Closes a generator, in at most so many turns: its finallies run, if it has some that wait.
+    pub(crate) fn close(
+        &mut self,
+        generator: PyObjectRef,
+        turns: u64,
+    ) -> Result<DriveAnswer, HostFault>
+        requires ready { IsReady self.old }
+        requires there { generator.number < length self.old.vm.objects }
+        ensures { OnOk result (IsReady self.new) }
+    {
+        Ok(self.vm.drive(&Drive::Close(generator), turns)?)
     }
 
     /// All that happened.

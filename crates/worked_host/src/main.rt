@@ -1,7 +1,7 @@
-//! A host of the machine: compiles a function, loads it, calls it twice, and prints what the calls came to and all that happened.
+//! A host of the machine: compiles a function and a generator, loads each, drives it, and prints what the drives came to and all that happened.
 #![tactic(auto)]
 
-ghost use Rattle.std.specs.Prelude.{OnOk};
+ghost use Rattle.std.specs.Prelude.{◌<◌, length, OnOk};
 ghost use Rattle.worked_host.specs.Host.{IsReady};
 
 mod fault;
@@ -12,6 +12,7 @@ mod print;
 use crate::fault::HostFault;
 use crate::host::Host;
 use crate::print::{print_journal, said_of};
+use py_objects::{DriveAnswer, PyObjectRef};
 use std::process::ExitCode;
 
 /// How many events a call may add.
@@ -48,9 +49,49 @@ fn call_twice(rt: &HostRuntime, host: &mut Host) -> Result<(), HostFault>
     call_text(rt, host, "two")
 }
 
+/// Sends a generator None, by which it begins, and then a number, and closes it. Prints what each drive came to.
+fn send_twice(rt: &HostRuntime, host: &mut Host, generator: PyObjectRef) -> Result<(), HostFault>
+    requires ready { IsReady host.old }
+    requires there { generator.number < length host.old.vm.objects }
+    ensures { OnOk result (IsReady host.new) }
+{
+    let none = host.none()?;
+    println!(rt;
+        "send(None) {}",
+        said_of(&host.send(generator, none, TURNS)?)
+    )?;
+    let number = host.number(5)?;
+    println!(rt;
+        "send(5) {}",
+        said_of(&host.send(generator, number, TURNS)?)
+    )?;
+    println!(rt; "close() {}", said_of(&host.close(generator, TURNS)?))?;
+    Ok(())
+}
+
+/// Calls the generator function with a number, which makes a generator, and drives that.
+fn drive_generator(rt: &HostRuntime, host: &mut Host) -> Result<(), HostFault>
+    requires { IsReady host.old }
+{
+    let argument = host.number(2)?;
+    let answer = host.call(argument, TURNS)?;
+    println!(rt; "echo(2) {}", said_of(&answer))?;
+    match answer {
+        DriveAnswer::Returns(generator) => send_twice(rt, host, generator),
+        DriveAnswer::Yields(_)
+        | DriveAnswer::Stops(_)
+        | DriveAnswer::Closes
+        | DriveAnswer::Raises(_)
+        | DriveAnswer::Reported(_) => Ok(()),
+    }
+}
+
 fn run(rt: &HostRuntime) -> Result<(), HostFault> {
     let mut host = Host::of_count_down(rt.alloc())?;
     call_twice(rt, &mut host)?;
+    print_journal(rt, &host.finish())?;
+    let mut host = Host::of_echo(rt.alloc())?;
+    drive_generator(rt, &mut host)?;
     print_journal(rt, &host.finish())
 }
 

@@ -1,5 +1,7 @@
-use Rattle.std.proofs.Common.{sym, ◌∙◌}
-use Rattle.py_vm.proofs.CallsLemmas.{function_read, code_not_none, unbound_refused, deep_refused, not_refused}
+use Rattle.std.proofs.Common.{ap, sym, ◌∙◌}
+use Rattle.py_code.specs.declared.code.PyCode.{PyCode}
+use Rattle.py_rows.specs.Signature.{kind_of}
+use Rattle.py_vm.proofs.CallsLemmas.{function_read, code_not_none, unbound_refused, deep_refused, not_refused, runs_through, suspended_free}
 use Rattle.py_vm.proofs.calls.refused.Goals as goal
 
 pub unreachable-requires-in_default-get : goal.unreachable-requires-in_default-get
@@ -8,19 +10,30 @@ unreachable-requires-in_default-get c =
     (function_read c.args.store.now.made c.args.callee c.entry.result.now c.in-Function.body c.entry.ensures c.in-Function.is) (sym (rw c.in_default-get.is at c.get.ensures))
 
 pub returns-in-Some-2 : goal.returns-in-Some-2
-returns-in-Some-2 c =
-    unbound_refused c.args.codes.now c.args.at c.args.store.now.made c.args.callee c.in-Function.body c.in-Some.code.now c.args.given c.requires.runnable
+returns-in-Some-2 c list =
+    unbound_refused c.args.codes.now list c.args.at c.args.store.now.made c.args.callee c.in-Function.body c.in-Some.code.now c.args.given c.requires.runnable
     (function_read c.args.store.now.made c.args.callee c.entry.result.now c.in-Function.body c.entry.ensures c.in-Function.is) (sym c.in-Some.ensures)
     c.in-Some-2.text (sym c.in-Some-2.is ∙ (rw (c.names.ensures, c.code.ensures.value) at c.in_ok-text.ensures))
 
+pub returns-then-is_some : goal.returns-then-is_some
+returns-then-is_some c list =
+    suspended_free c.args.codes.now list c.args.at c.args.store.now.made c.args.callee c.in-Function.body c.in-Some.code.now c.args.given c.requires.runnable
+    (function_read c.args.store.now.made c.args.callee c.entry.result.now c.in-Function.body c.entry.ensures c.in-Function.is) (sym c.in-Some.ensures) c.kind_of.result
+    (sym c.in_default-2.is ∙ (rw (c.names.ensures, c.code.ensures.value) at c.in_ok-text.ensures)) (c.kind_of.ensures ∙ ap (λ (k : PyCode). kind_of k.code.flags)
+    c.code-2.ensures.value) (sym c.is_some.ensures ∙ c.if-is_some.true)
+
 pub returns-then-at-lt-MOST_DEPTH : goal.returns-then-at-lt-MOST_DEPTH
-returns-then-at-lt-MOST_DEPTH c =
-    not_refused c.args.codes.now c.args.at c.args.store.now.made c.args.callee c.in-Function.body c.in-Some.code.now c.args.given c.requires.runnable
+returns-then-at-lt-MOST_DEPTH c list =
+    not_refused c.args.codes.now list c.args.at c.args.store.now.made c.args.callee c.in-Function.body c.in-Some.code.now c.args.given c.requires.runnable
     (function_read c.args.store.now.made c.args.callee c.entry.result.now c.in-Function.body c.entry.ensures c.in-Function.is) (sym c.in-Some.ensures)
-    (sym c.in_default-2.is ∙ (rw (c.names.ensures, c.code.ensures.value) at c.in_ok-text.ensures)) c.if-at-lt-MOST_DEPTH.true
+    (sym c.in_default-2.is ∙ (rw (c.names.ensures, c.code.ensures.value) at c.in_ok-text.ensures))
+    (runs_through c.kind_of.result c.in-Some.code.now.code.code.flags (c.kind_of.ensures ∙ ap (λ (k : PyCode). kind_of k.code.flags) c.code-2.ensures.value)
+    (sym c.is_some.ensures ∙ c.if-is_some.false)) c.if-at-lt-MOST_DEPTH.true
 
 pub returns : goal.returns
-returns c =
-    deep_refused c.args.codes.now c.args.at c.args.store.now.made c.args.callee c.in-Function.body c.in-Some.code.now c.args.given c.requires.runnable
+returns c list =
+    deep_refused c.args.codes.now list c.args.at c.args.store.now.made c.args.callee c.in-Function.body c.in-Some.code.now c.args.given c.requires.runnable
     (function_read c.args.store.now.made c.args.callee c.entry.result.now c.in-Function.body c.entry.ensures c.in-Function.is) (sym c.in-Some.ensures)
-    c.in_ok-text_of.field-0 (sym c.in_default-2.is ∙ (rw (c.names.ensures, c.code.ensures.value) at c.in_ok-text.ensures)) c.if-at-lt-MOST_DEPTH.false c.in_ok-text_of.ensures
+    c.in_ok-text_of.field-0 (sym c.in_default-2.is ∙ (rw (c.names.ensures, c.code.ensures.value) at c.in_ok-text.ensures))
+    (runs_through c.kind_of.result c.in-Some.code.now.code.code.flags (c.kind_of.ensures ∙ ap (λ (k : PyCode). kind_of k.code.flags) c.code-2.ensures.value)
+    (sym c.is_some.ensures ∙ c.if-is_some.false)) c.if-at-lt-MOST_DEPTH.false c.in_ok-text_of.ensures

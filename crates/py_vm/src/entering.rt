@@ -1,0 +1,217 @@
+//! Activations that are made and entered.
+
+ghost use Rattle.std.specs.Prelude.{◌≡◌, ◌≤◌, length, IfOk, OnOk, OnErr};
+ghost use Rattle.py_objects.specs.Objects.{IsFunction};
+ghost use Rattle.py_answers.specs.Readable.{IsReadable};
+ghost use Rattle.py_vm.specs.Holds.{AreRunnable};
+ghost use Rattle.py_vm.specs.Turns.{entered_by, input_of, CanReply, CreatedOne, Halts, IsFreshFor, IsResumable, MadeOne, ResumedOne, Started};
+
+use crate::calls::kind_of;
+use crate::generators::KeptGenerator;
+use crate::machinery::Core;
+use crate::reply::Reply;
+use crate::stage::{Running, Stage, Suspended};
+use py_answers::entry;
+use py_code::{NoMemory, PyCode};
+use py_coro::PyGenerator;
+use py_frame::{Frame, Input, OwnStack, positional};
+use py_objects::{
+    CoroBody, CoroKind, DriveAnswer, Event, FrameRef, ObjList, Payload, PyObjectRef, ResumeHow,
+    Scope,
+};
+use std::alloc::Global;
+
+impl Core {
+    /// An activation of the function is made.
+    pub(crate) fn make(&mut self, function: PyObjectRef, args: ObjList) -> Result<(), NoMemory>
+        requires counted { self.old.made ≤ length self.old.events }
+        requires readable { IsReadable self.old.store }
+        requires runnable { AreRunnable self.old.codes self.old.store.made }
+        requires callee { IsFunction self.old.store.made function }
+        ensures ok { OnOk result (MadeOne self.old function args self.new) }
+        ensures err { OnErr result (Halts self.old self.new) }
+    {
+        // A list's length has 63 bits, so the count of activations doesn't pass its end.
+        let _events = self.events.as_slice().len();
+        let act = self.made + 1;
+        let running = self.fresh(act, function, &args)?;
+        self.events.push(Event::Make {
+            act,
+            function,
+            args,
+        })?;
+        self.made = act;
+        self.stage = Stage::Made(running, function);
+        Ok(())
+    }
+
+    /// The activation that was made is entered, or becomes a generator (Python Language Reference, 6.2.9), which answers its function's call.
+    pub(crate) fn start(
+        &mut self,
+        running: Running,
+        function: PyObjectRef,
+    ) -> Result<Option<DriveAnswer>, NoMemory>
+        requires done { self.old.done ≤ length self.old.events }
+        requires can { CanReply self.old }
+        requires function { IsFunction self.old.store.made function }
+        ensures ok { IfOk result (λ answer. Started self.old running function running.kind answer self.new) }
+        ensures err { OnErr result (Halts self.old self.new) }
+    {
+        match running.kind {
+            None => {
+                self.enter(running)?;
+                Ok(None)
+            }
+            Some(kind) => {
+                let object = self.create(running, function, kind)?;
+                self.reply(Reply::Value(object))
+            }
+        }
+    }
+
+    /// The activation of a function is entered.
+    fn enter(&mut self, running: Running) -> Result<(), NoMemory>
+        ensures ok { OnOk result (self.new ≡ entered_by self.old running) }
+        ensures err { OnErr result (Halts self.old self.new) }
+    {
+        self.frames.push(running.frame.entry())?;
+        self.events.push(Event::Resume {
+            act: running.act,
+            how: ResumeHow::Start,
+        })?;
+        let mut going = running;
+        going
+            .frame
+            .hear(self.slots.current_exception(), Input::Start);
+        self.stage = Stage::Going(going);
+        Ok(())
+    }
+
+    /// The activation becomes a generator, whose object is new.
+    fn create(
+        &mut self,
+        running: Running,
+        function: PyObjectRef,
+        kind: CoroKind,
+    ) -> Result<PyObjectRef, NoMemory>
+        requires can { CanReply self.old }
+        requires function { IsFunction self.old.store.made function }
+        ensures ok { IfOk result (λ object. CreatedOne self.old running function kind object self.new) }
+        ensures err { OnErr result (Halts self.old self.new) }
+    {
+        let Payload::Function(body) = entry(&self.store, function) else {
+            unreachable!();
+        };
+        let Some(code) = self.codes.get(body.code) else {
+            unreachable!();
+        };
+        let act = running.act;
+        let generator = PyGenerator::new(running.frame.entry(), code.code().co_name());
+        let name = body.name.copy(self.alloc)?;
+        let object = self.store.add(Payload::Generator(CoroBody {
+            activation: act,
+            name,
+            kind,
+        }))?;
+        self.generators.push(KeptGenerator {
+            object,
+            act,
+            generator,
+            suspended: Some(Suspended {
+                running,
+                slot: None,
+            }),
+        })?;
+        Ok(object)
+    }
+
+    /// The activation of the generator that an object is is entered like this, over a slot of its own.
+    pub(crate) fn resume(&mut self, object: PyObjectRef, how: ResumeHow) -> Result<(), NoMemory>
+        requires { IsResumable self.old.generators object }
+        ensures ok { OnOk result (ResumedOne self.old object how self.new) }
+        ensures err { OnErr result (Halts self.old self.new) }
+    {
+        let Some(suspended) = self.generators.take(object) else {
+            unreachable!();
+        };
+        let Suspended { running, slot } = suspended;
+        self.frames.push(running.frame.entry())?;
+        self.slots.push_exception(slot)?;
+        self.events.push(Event::Resume {
+            act: running.act,
+            how,
+        })?;
+        let mut going = running;
+        going.frame.hear(slot, input_of(how));
+        self.stage = Stage::Going(going);
+        Ok(())
+    }
+
+    /// An activation of a function, which hasn't begun, with its frame's object.
+    fn fresh(
+        &mut self,
+        act: u64,
+        function: PyObjectRef,
+        args: &ObjList,
+    ) -> Result<Running, NoMemory>
+        requires readable { IsReadable self.old.store }
+        requires runnable { AreRunnable self.old.codes self.old.store.made }
+        requires callee { IsFunction self.old.store.made function }
+        ensures ok { IfOk result (λ running. IsFreshFor self.old act function args.now running self.new) }
+        ensures err { OnErr result (Halts self.old self.new) }
+    {
+        let Payload::Function(body) = entry(&self.store, function) else {
+            unreachable!();
+        };
+        let number = body.code;
+        let Some(code) = self.codes.get(number) else {
+            unreachable!();
+        };
+        let object = self.store.add(Payload::Frame(number as u64))?;
+        let entry = FrameRef {
+            number: object.number,
+        };
+        let scope = Scope::new(None, self.globals);
+        let closure = no_cells(self.alloc, code.code(), self.store.none())?;
+        let stack = OwnStack::new(self.alloc, code.code().co_stacksize() as usize)?;
+        let mut frame = Frame::new(
+            self.alloc,
+            &mut self.store,
+            code,
+            number,
+            entry,
+            scope,
+            closure,
+            stack,
+        )?;
+        let locals = positional(self.alloc, code, args)?;
+        frame.fill(&mut self.store, code, locals);
+        Ok(Running {
+            act,
+            frame,
+            kind: kind_of(code.code()),
+        })
+    }
+}
+
+/// What a frame is told that is entered like this.
+fn input_of(how: ResumeHow) -> Input
+    ensures { result ≡ input_of how }
+{
+    match how {
+        ResumeHow::Start => Input::Start,
+        ResumeHow::Send(value) => Input::Send(value),
+        ResumeHow::Throw(exception) => Input::Throw(exception),
+    }
+}
+
+/// What stands for the cells of a code's free names, which nothing reads yet: None for each.
+fn no_cells(alloc: Global, code: &PyCode, none: PyObjectRef) -> Result<ObjList, NoMemory>
+    ensures { IfOk result (λ cells. length cells ≡ length code.now.code.freevars.items) }
+{
+    let mut cells = ObjList::new(alloc);
+    for _ in 0..code.code.freevars.len() {
+        cells.push(none)?;
+    }
+    Ok(cells)
+}
