@@ -6,7 +6,11 @@ mod bodies;
 #[cfg(test)]
 mod codes;
 #[cfg(test)]
+mod compiling;
+#[cfg(test)]
 mod exceptions;
+#[cfg(test)]
+mod generators;
 #[cfg(test)]
 mod grammar;
 #[cfg(test)]

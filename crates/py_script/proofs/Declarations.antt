@@ -1,10 +1,9 @@
 -- How a machine is loaded, declaration by declaration.
-use Rattle.std.proofs.Common.{◌≡◌, ◌<◌, ◌≤◌, ◌+◌, ℕ, zero, suc, List, [], ◌∷◌, ◌++◌, length, Some, None, refl, sym, ap, ◌∙◌, subst, arith, length-append, append_assoc, ◌⊎◌, inl, inr, get_or, take}
+use Rattle.std.proofs.Common.{◌≡◌, ◌<◌, ◌≤◌, ◌+◌, ℕ, zero, suc, List, [], ◌∷◌, ◌++◌, length, Some, refl, sym, ap, ◌∙◌, subst, arith, length-append, append_assoc, ◌⊎◌, inl, inr, get_or, take}
 use Rattle.std.specs.Prelude.{Option, option_map, chars, slice_get, map, All}
 use Rattle.std.proofs.lemmas.List.{map-append, length-map, length-take-le, take_all}
 use Rattle.std.proofs.lemmas.Grind.{take_at_read}
 use Rattle.std.proofs.lemmas.Option.{slice_get-map, slice_get-get_or, slice_get_within, get_or_from_slice_get}
-use Rattle.py_code.specs.declared.code.PyCode.{PyCode}
 use Rattle.py_code.specs.declared.names.NameId.{NameId}
 use Rattle.py_check.specs.declared.annotated.Annotated.{Annotated}
 use Rattle.py_objects.specs.declared.payload.Payload.{Payload}
@@ -15,17 +14,18 @@ use Rattle.py_rows.specs.Asked.{name_in}
 use Rattle.py_rows.specs.Signature.{characters, kind_of, params_of}
 use Rattle.py_rows.specs.Sound.{AreNames, ArePlaces, IsSound}
 use Rattle.py_objects.proofs.GrowthLemmas.{slice_get_grown}
-use Rattle.py_tree.specs.Tree.{Tree}
-use Rattle.py_laid.specs.Code.{IsPlain}
+use Rattle.py_tree.specs.declared.body.BodyKind.{BodyKind}
+use Rattle.py_tree.specs.declared.body.BodyKind.TheVariants as kind
+use Rattle.py_tree.specs.Tree.{Tree, seen_as}
 use Rattle.py_laid.specs.Fits.{Fits, Continues}
 use Rattle.py_grammar.specs.declared.script.Declaration.{Declaration}
 use Rattle.py_grammar.specs.Script.{declared_tree}
-use Rattle.py_run.specs.Calls.{Signature}
-use Rattle.py_vm.specs.Codes.{Checked, plain_codes, signature_in, signatures_of}
+use Rattle.py_run.specs.Run.{Signature}
+use Rattle.py_vm.specs.Codes.{Checked, IsDriven, plain_codes, signature_in, signatures_of}
 use Rattle.py_run.proofs.BoundLemmas.{AreSigned}
 use Rattle.py_objects.proofs.NewLemmas.{newest}
 use Rattle.py_script.specs.Whole.{AreCompiled, signature_of}
-use Rattle.py_script.specs.Loaded.{IsCodeOf, AreChecked, function_entries}
+use Rattle.py_script.specs.Loaded.{AreChecked, function_entries}
 
 -- the entry of a list that is mapped
 pub entry_mapped : {A B : Type 0} (f : A → B) (xs : List A) (i : ℕ) (x : A) → slice_get xs i ≡ Some x → slice_get (map f xs) i ≡ Some (f x)
@@ -93,19 +93,21 @@ params_continue names names' c t (more, is) fits =
 -- so it fits its tree
 fits_continues : (names names' : List (List ℕ)) (c : Annotated) (t : Tree) → Continues names names' → Fits names c t → Fits names' c t
 fits_continues names names' c t grows fits = record {
+  kind = fits.kind;
   arity = fits.arity;
   params = params_continue names names' c t grows fits;
   sound = sound_continues names names' c grows fits.sound;
   traces = λ table globals closure objects slot args ts s on. fits.traces table globals closure objects slot args ts s (continues_on names names' table grows on);
 }
 
--- so is the code its tree's
-code_continues : (names names' : List (List ℕ)) (c : Annotated) (t : Tree) → Continues names names' → IsCodeOf names t c → IsCodeOf names' t c
-code_continues names names' c t grows is = record { fits = fits_continues names names' c t grows is.fits; runs_through = is.runs_through }
+-- activations of bodies run through, or are those of a generator
+kind_driven : (k : BodyKind) → IsDriven (seen_as k)
+kind_driven kind.Function = tt
+kind_driven kind.Generator = tt
 
--- the activations of the code of a body run through
-pub plain_runs_through : (c : Annotated) (t : Tree) → IsPlain c t → kind_of c.code.code.flags ≡ None
-plain_runs_through c t plain = ap kind_of plain.flags
+-- so are those of codes that fit bodies
+pub fits_driven : (names : List (List ℕ)) (c : Annotated) (t : Tree) → Fits names c t → IsDriven (kind_of c.code.code.flags)
+fits_driven names c t fits = subst IsDriven (sym fits.kind) (kind_driven t.kind)
 
 -- no body is compiled yet
 pub none_checked : (names : List (List ℕ)) → AreChecked [] (record { names = names; codes = [] })
@@ -113,15 +115,15 @@ none_checked names = record { count = refl; fit = λ i t none. absurd (cc none) 
 
 -- one more body is compiled, as the table goes on
 pub checked_more : (ts : List Tree) (names names' : List (List ℕ)) (cs : List Annotated) (t : Tree) (c : Annotated) → AreChecked ts (record { names = names; codes = cs })
-    → Continues names names' → IsCodeOf names' t c → AreChecked (ts ++ t ∷ []) (record { names = names'; codes = cs ++ c ∷ [] })
-checked_more ts names names' cs t c all grows is_of = record {
+    → Continues names names' → Fits names' c t → AreChecked (ts ++ t ∷ []) (record { names = names'; codes = cs ++ c ∷ [] })
+checked_more ts names names' cs t c all grows fits = record {
   count = length-append cs (c ∷ []) ∙ ap (λ n. n + 1) all.count ∙ sym (length-append ts (t ∷ []));
   fit = λ i u is. go i u (one_more ts t u i is);
 }
   where
-    go : (i : ℕ) (u : Tree) → (slice_get ts i ≡ Some u) ⊎ ((i ≡ length ts) × (t ≡ u)) → (d : Annotated) × (slice_get (cs ++ c ∷ []) i ≡ Some d) × IsCodeOf names' u d
-    go i u (inl old) = let k = all.fit i u old in (k.0, slice_get_grown cs (c ∷ []) i k.0 k.1, code_continues names names' k.0 u grows k.2)
-    go i u (inr (at, new)) = (c, ap (slice_get (cs ++ c ∷ [])) (at ∙ sym all.count) ∙ newest cs c, subst (λ (u : Tree). IsCodeOf names' u c) new is_of)
+    go : (i : ℕ) (u : Tree) → (slice_get ts i ≡ Some u) ⊎ ((i ≡ length ts) × (t ≡ u)) → (d : Annotated) × (slice_get (cs ++ c ∷ []) i ≡ Some d) × Fits names' d u
+    go i u (inl old) = let k = all.fit i u old in (k.0, slice_get_grown cs (c ∷ []) i k.0 k.1, fits_continues names names' k.0 u grows k.2)
+    go i u (inr (at, new)) = (c, ap (slice_get (cs ++ c ∷ [])) (at ∙ sym all.count) ∙ newest cs c, subst (λ (u : Tree). Fits names' c u) new fits)
 
 -- what holds of all holds of the first and of the others
 pub first_of_all : {X : Type 0} (P : X → Type 0) (x : X) (xs : List X) → All P (x ∷ xs) → P x
@@ -147,13 +149,13 @@ mapped_entry f [] i y is = absurd (cc is)
 mapped_entry f (x ∷ xs) zero y is = (x, refl, cc is)
 mapped_entry f (x ∷ xs) (suc i) y is = mapped_entry f xs i y is
 
--- each code is that of the body at its place
-code_is_of : (ts : List Tree) (cs : Checked) (i : ℕ) (c : Annotated) → AreChecked ts cs → slice_get cs.codes i ≡ Some c → (t : Tree) × (slice_get ts i ≡ Some t) × IsCodeOf cs.names t c
-code_is_of ts cs i c all is =
+-- each code fits the body at its place
+code_fits : (ts : List Tree) (cs : Checked) (i : ℕ) (c : Annotated) → AreChecked ts cs → slice_get cs.codes i ≡ Some c → (t : Tree) × (slice_get ts i ≡ Some t) × Fits cs.names c t
+code_fits ts cs i c all is =
     let (t, at) = at_place cs.codes ts i c all.count is in
-    let (d, here, is_of) = all.fit i t at in
+    let (d, here, fits) = all.fit i t at in
     let same : Some d ≡ Some c = sym here ∙ is in
-    (t, at, subst (λ (x : Annotated). IsCodeOf cs.names t x) (let e : d ≡ c = cc same in e) is_of)
+    (t, at, subst (λ (x : Annotated). Fits cs.names x t) (let e : d ≡ c = cc same in e) fits)
 
 -- codes that fit with their notes are compiled
 pub checked_compiled : (ts : List Tree) (cs : Checked) → AreChecked ts cs → AreCompiled ts (plain_codes cs)
@@ -161,27 +163,23 @@ checked_compiled ts cs all = record {
   count = length-map cs.codes (λ (a : Annotated). a.code) ∙ all.count;
   fit = λ i t at.
       let k = all.fit i t at in
-      (k.0.code, entry_mapped (λ (a : Annotated). a.code) cs.codes i k.0 k.1, (k.0.notes, k.2.fits));
-  run_through = λ i c at.
-      let (a, here, same) = mapped_entry (λ (a : Annotated). a.code) cs.codes i c at in
-      let is_of = code_is_of ts cs i a all here in
-      subst (λ (k : PyCode). kind_of k.code.flags ≡ None) same is_of.2.runs_through;
+      (k.0.code, entry_mapped (λ (a : Annotated). a.code) cs.codes i k.0 k.1, (k.0.notes, k.2));
 }
 
 -- the names of each code are in the table
 pub codes_named : (ts : List Tree) (cs : Checked) → AreChecked ts cs → All (λ (code : Annotated). AreNames cs.names code.code) cs.codes
 codes_named ts cs all i c low =
-    let is_of = code_is_of ts cs i (get_or cs.codes i c) all (slice_get-get_or cs.codes i c low) in
-    is_of.2.fits.sound.named
+    let (t, at, fits) = code_fits ts cs i (get_or cs.codes i c) all (slice_get-get_or cs.codes i c low) in
+    fits.sound.named
 
 -- the signatures of the codes are those of the bodies
 pub codes_signed : (ts : List Tree) (cs : Checked) → AreChecked ts cs → AreSigned (signatures_of cs) (map signature_of ts)
 codes_signed ts cs all i s is =
     let (c, at, signs) = mapped_entry (signature_in cs.names) cs.codes i s is in
-    let (t, here, is_of) = code_is_of ts cs i c all at in
+    let (t, here, fits) = code_fits ts cs i c all at in
     let same : signature_of t ≡ signature_in cs.names c =
-    ap (λ (xs : List Name). let k : Signature = record { params = xs; kind = None } in k) (sym is_of.fits.params)
-    ∙ ap (λ (o : Option CoroKind). let k : Signature = record { params = params_of cs.names c.code; kind = o } in k) (sym is_of.runs_through) in
+    ap (λ (xs : List Name). let k : Signature = record { params = xs; kind = seen_as t.kind } in k) (sym fits.params)
+    ∙ ap (λ (o : Option CoroKind). let k : Signature = record { params = params_of cs.names c.code; kind = o } in k) (sym fits.kind) in
     entry_mapped signature_of ts i t here ∙ ap Some (same ∙ signs)
 
 -- the body of a signature

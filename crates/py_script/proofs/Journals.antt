@@ -4,18 +4,19 @@ use Rattle.std.proofs.lemmas.Fmt.{decimal_digit, decimal_step}
 use Rattle.std.proofs.lemmas.Bool.{and_parts, ltb-true}
 use Rattle.std.proofs.lemmas.Str.{encode_ascii}
 use Rattle.std.proofs.lemmas.List.Sorted.{IsPermutation-refl}
-use Rattle.std.specs.Prelude.{encode_utf8_all, ℤ, pos, ◌+ℤ◌, codes, decimal, slice_get, map, nat_lt}
+use Rattle.std.specs.Prelude.{Option, encode_utf8_all, ℤ, pos, ◌+ℤ◌, codes, decimal, slice_get, map, nat_lt}
 use Rattle.std.specs.List.{list_all}
 use Rattle.py_objects.specs.declared.refs.PyBaseExceptionRef.{PyBaseExceptionRef}
 use Rattle.py_objects.specs.declared.payload.Payload.{Payload}
 use Rattle.py_objects.specs.declared.payload.Payload.TheVariants as payload
+use Rattle.py_objects.specs.declared.payload.CoroKind.{CoroKind}
 use Rattle.py_objects.specs.declared.payload.FunctionBody.{FunctionBody}
 use Rattle.py_objects.specs.declared.error_kind.ErrorKind.{ErrorKind}
 use Rattle.py_objects.specs.declared.error_kind.ErrorKind.TheVariants.{OverflowError}
 use Rattle.py_code.specs.declared.operator.BinaryOperator.TheVariants as binary
 use Rattle.py_objects.specs.declared.request.Keywords.TheVariants as keywords
 use Rattle.py_objects.specs.declared.request.Request.{Request}
-use Rattle.py_objects.specs.declared.request.Request.TheVariants.{Binary, Call as Calling, Handled}
+use Rattle.py_objects.specs.declared.request.Request.TheVariants.{Binary, Call as Calling, Close, Handled, Send, Throw}
 use Rattle.py_objects.specs.declared.event.ResumeHow.TheVariants.{Start}
 use Rattle.py_objects.specs.declared.event.GotAnswer.{GotAnswer}
 use Rattle.py_objects.specs.declared.event.GotAnswer.TheVariants as got
@@ -23,13 +24,13 @@ use Rattle.py_objects.specs.declared.event.Ending.TheVariants as ending
 use Rattle.py_objects.specs.declared.event.Event.{Event}
 use Rattle.py_objects.specs.declared.event.Event.TheVariants as event
 use Rattle.py_objects.specs.ErrorKinds.{name_of}
-use Rattle.py_objects.specs.Objects.{Obj, Name, HasPayload, as_object, declares, is_name, declared, declared_from, payload_numbers, event_numbers, AllBelow, IsMade, AllFit, AreNamed, is_among}
+use Rattle.py_objects.specs.Objects.{Obj, Name, HasPayload, as_object, declares, is_name, declared, declared_from, payload_numbers, event_numbers, AllBelow, IsMade, AllFit, AreNamed, IsNew, is_among}
 use Rattle.py_objects.specs.Own.{Own, Makes, Resumes, Asks, Gets, Ends, own_events, own_from, told_by}
 use Rattle.py_objects.specs.Telling.{AfterValue, Answered, Answers, Asked}
 use Rattle.py_objects.specs.Values.{new_exception}
 use Rattle.py_objects.proofs.GrowthLemmas.{below_more, length_grown, made_grown, slice_get_split}
 use Rattle.py_exceptions.specs.Classes.{class_of, first_classes}
-use Rattle.py_tree.specs.Tree.{Tree}
+use Rattle.py_tree.specs.Tree.{Tree, seen_as}
 use Rattle.py_tree.specs.Scene.{Scene, anywhere}
 use Rattle.py_tree.specs.Trace.{IsTrace, IsBegun}
 use Rattle.py_lines.specs.declared.drive.DriveAtom.{DriveAtom}
@@ -38,9 +39,11 @@ use Rattle.py_lines.specs.declared.drive.DriveLine.TheVariants as drive
 use Rattle.py_lines.specs.declared.line.LineRead.{LineRead}
 use Rattle.py_lines.specs.declared.line.LineRead.TheVariants.{Said}
 use Rattle.py_grammar.specs.Grammar.{Row, Item, items_rows}
-use Rattle.py_answers.specs.Answers.{Reply, Passes, Replies, CallsAs, GivesBody, IsRaised, sum, whole}
-use Rattle.py_run.specs.Calls.{Signature, Course, Says, Enters, Left, Setting, LeavesCalled, IsDue, refusal, entry_at, bound_by, CallsFunction, ComesTo}
-use Rattle.py_run.specs.Run.{Posed, Plan, Activation, Phase, Asking, IsTop, Past, setting, IsReply, MayCome, question, start, state_after, nothing, Comes, EachTells}
+use Rattle.py_answers.specs.Answers.{This, Reply, Passes, Replies, CallsAs, GivesBody, IsRaised, sum, whole}
+use Rattle.py_coro.specs.declared.coro.CoroEnd.{CoroEnd}
+use Rattle.py_run.specs.Run.{Signature, Posed, Plan, Activation, Phase, Asking, IsTop, question, start, state_after}
+use Rattle.py_run.specs.Calls.{Course, Says, Enters, Setting, LeavesCalled, IsDue, refusal, made_at, bound_by, CallsFunction, ComesTo}
+use Rattle.py_run.specs.Coming.{Past, setting, IsOfKind, IsReply, MayCome, nothing, Comes, EachTells}
 use Rattle.py_run.specs.Past.{past_behind}
 use Rattle.py_vm.specs.First.{first_objects}
 use Rattle.py_vm.proofs.FirstLemmas.{first_fit}
@@ -140,12 +143,16 @@ gotten K k i w ts (inr (j, u, mid, is, h)) =
     let rest : ts ≡ mid = cc is in
     subst (λ (xs : List Own). Answers w i xs K) (sym rest) (subst (λ (n : ℕ). Answers w n mid K) (sym number) (subst (λ (w : GotAnswer). Answers w j mid K) (sym same) h))
 
--- what is asked and answered goes on as its answer
-pub asked_so : (units : ℕ → Bool) (r q : Request) (at k i : ℕ) (w : GotAnswer) (ts : List Own) (K : AfterValue) → Asked units r None k (Asks at q None ∷ Gets i w ∷ ts) K → Answers w i ts K
-asked_so units r q at k i w ts K (inl cut) = absurd (cc cut.0)
-asked_so units r q at k i w ts K (inr more) =
+-- what is asked and answered goes on as its answer, whatever is handled
+pub asked_under : (units : ℕ → Bool) (h g : Option PyBaseExceptionRef) (r q : Request) (at k i : ℕ) (w : GotAnswer) (ts : List Own) (K : AfterValue) → Asked units r h k (Asks at q g ∷ Gets i w ∷ ts) K → Answers w i ts K
+asked_under units h g r q at k i w ts K (inl cut) = absurd (cc cut.0)
+asked_under units h g r q at k i w ts K (inr more) =
     let rest : Gets i w ∷ ts ≡ more.1 = cc more.3 in
     gotten K k i w ts (subst (λ (xs : List Own). Answered k xs K) (sym rest) more.4)
+
+-- the same where nothing is
+pub asked_so : (units : ℕ → Bool) (r q : Request) (at k i : ℕ) (w : GotAnswer) (ts : List Own) (K : AfterValue) → Asked units r None k (Asks at q None ∷ Gets i w ∷ ts) K → Answers w i ts K
+asked_so units r q at k i w ts K asked = asked_under units None None r q at k i w ts K asked
 
 -- no more drives are begun than the script has
 pub few_asked : (store : List Payload) (events : List Event) (ds : List DriveLine) (qs : List Posed) → AreAsked store events ds qs → length qs ≤ length ds
@@ -207,6 +214,10 @@ undeclared store n p here plain x v e =
     let clash : true ≡ false = sym hit ∙ ap (λ (p : Payload). is_name x (declares p)) (sym one) ∙ ap (is_name x) plain in
     cc clash)
 
+-- what no event in front names is new, where it declares nothing
+pub is_new : (store : List Payload) (before : List Event) (n : ℕ) (p : Payload) → slice_get store n ≡ Some p → declares p ≡ None → Each (λ x. is_among n (event_numbers x) ≡ false) before → IsNew store before n
+is_new store before n p here plain unnamed = record { unnamed = each_at (λ x. is_among n (event_numbers x) ≡ false) before unnamed; undeclared = undeclared store n p here plain }
+
 -- an exception of a kind with a text, which no event in front names, is raised
 pub is_raised : (own : List Payload) (before : List Event) (kind : ErrorKind) (text : Name) (argument args : Obj) (e : PyBaseExceptionRef)
     → HasPayload (first_objects ++ own) argument (payload.Str text) → HasPayload (first_objects ++ own) args (payload.Tuple (argument ∷ []))
@@ -218,10 +229,7 @@ is_raised own before kind text argument args e message are entry unnamed = recor
   argument = argument;
   message = message;
   made = record {
-    new = record {
-      unnamed = each_at (λ x. is_among e.number (event_numbers x) ≡ false) before unnamed;
-      undeclared = undeclared (first_objects ++ own) e.number _ entry refl;
-    };
+    new = is_new (first_objects ++ own) before e.number _ entry refl unnamed;
     args = args;
     entry = entry;
     are = are;
@@ -235,19 +243,43 @@ reply_of_sum store a b i j reply p q r =
     let right : r.1 ≡ payload.Int j = some_is _ _ (sym r.5 ∙ q) in
     sym (some_is _ _ r.8) ∙ (ap (λ (x : Payload). sum x r.1 r.2 r.3) left ∙ ap (λ (x : Payload). sum (payload.Int i) x r.2 r.3) right)
 
--- what is no call, and doesn't ask for what is handled, is replied to
-pub replied : (at : Setting) (store : List Payload) (r : Request) (reply : Reply) → ((f : Obj) (vs : List Obj) → r ≡ Calling f vs keywords.None → ⊥) → (r ≡ Handled → ⊥)
-    → ComesTo at store r (Says reply) → Replies store r reply
-replied at store r reply no_call other (inl (q, is, h)) = let same : reply ≡ q = cc in subst (Replies store r) (sym same) h
-replied at store r reply no_call other (inr (inl (f, vs, is, h))) = absurd (no_call f vs is)
-replied at store r reply no_call other (inr (inr (is, says))) = absurd (other is)
+-- what is no call, asks for nothing of a generator, and doesn't ask for what is handled
+pub record IsPlain (r : Request) : Type 0 where
+  pub no_call : (f : Obj) (vs : List Obj) → r ≡ Calling f vs keywords.None → ⊥
+  pub not_handled : r ≡ Handled → ⊥
+  pub no_send : (g v : Obj) → r ≡ Send g v → ⊥
+  pub no_throw : (g k : Obj) (v : Option Obj) → r ≡ Throw g k v None → ⊥
+  pub no_close : (g : Obj) → r ≡ Close g → ⊥
+
+-- a sum is
+pub sum_plain : (a b : Obj) → IsPlain (Binary binary.Add a b)
+sum_plain a b = record { no_call = λ f vs e. cc; not_handled = λ e. cc; no_send = λ g v e. cc; no_throw = λ g k v e. cc; no_close = λ g e. cc }
+
+-- it comes to a reply
+pub plainly : (at : Setting) (store : List Payload) (r : Request) (c : Course) → IsPlain r → ComesTo at store r c → (reply : Reply) × (c ≡ Says reply) × Replies store r reply
+plainly at store r c plain (inl h) = h
+plainly at store r c plain (inr (inl (f, vs, is, h))) = absurd (plain.no_call f vs is)
+plainly at store r c plain (inr (inr (inl (is, says)))) = absurd (plain.not_handled is)
+plainly at store r c plain (inr (inr (inr (inl (g, v, is, h))))) = absurd (plain.no_send g v is)
+plainly at store r c plain (inr (inr (inr (inr (inl (g, k, v, is, h)))))) = absurd (plain.no_throw g k v is)
+plainly at store r c plain (inr (inr (inr (inr (inr (g, is, h)))))) = absurd (plain.no_close g is)
+
+-- which answers it
+pub replied : (at : Setting) (store : List Payload) (r : Request) (reply : Reply) → IsPlain r → ComesTo at store r (Says reply) → Replies store r reply
+replied at store r reply plain comes =
+    let (q, is, h) = plainly at store r (Says reply) plain comes in
+    let same : reply ≡ q = cc is in
+    subst (Replies store r) (sym same) h
 
 -- the call of a function comes to what the function does
 pub called : (at : Setting) (store : List Payload) (f : Obj) (b : FunctionBody) (vs : List Obj) (c : Course) → HasPayload store f (payload.Function b) → ComesTo at store (Calling f vs keywords.None) c → CallsFunction at store f vs c
 called at store f b vs c entry (inl (reply, is, (positional, (p, has, calls)))) =
     let same : p ≡ payload.Function b = some_is _ _ (sym has ∙ entry) in
     absurd (subst (λ (x : Payload). CallsAs store f x vs reply) same calls)
-called at store f b vs c entry (inr (inr (is, says))) = absurd (cc is)
+called at store f b vs c entry (inr (inr (inl (is, says)))) = absurd (cc is)
+called at store f b vs c entry (inr (inr (inr (inl (g, v, is, h))))) = absurd (cc is)
+called at store f b vs c entry (inr (inr (inr (inr (inl (g, k, v, is, h)))))) = absurd (cc is)
+called at store f b vs c entry (inr (inr (inr (inr (inr (g, is, h)))))) = absurd (cc is)
 called at store f b vs c entry (inr (inl (g, ws, is, h))) =
     let function : f ≡ g = cc is in
     let args : vs ≡ ws = cc is in
@@ -255,22 +287,26 @@ called at store f b vs c entry (inr (inl (g, ws, is, h))) =
 
 -- a call of a function comes to what its signature says
 pub course_is : (at : Setting) (store : List Payload) (f : Obj) (b : FunctionBody) (s : Signature) (vs : List Obj) (c : Course) → HasPayload store f (payload.Function b) → slice_get at.signatures b.code ≡ Some s
-    → CallsFunction at store f vs c → c ≡ bound_by (refusal b.name s.params (length vs)) (entry_at at.depth (Enters f vs))
+    → CallsFunction at store f vs c → c ≡ bound_by (refusal b.name s.params (length vs)) (made_at s.kind at.depth (Enters f vs))
 course_is at store f b s vs c entry signed h =
     let same : h.body ≡ b = body_of _ _ (some_is _ _ (sym h.entry ∙ entry)) in
     let is : h.signature ≡ s = some_is _ _ (sym h.signed ∙ ap (λ (x : FunctionBody). slice_get at.signatures x.code) same ∙ signed) in
-    h.is ∙ ap (λ (x : FunctionBody). bound_by (refusal x.name h.signature.params (length vs)) (entry_at at.depth (Enters f vs))) same
-    ∙ ap (λ (x : Signature). bound_by (refusal b.name x.params (length vs)) (entry_at at.depth (Enters f vs))) is
+    h.is ∙ ap (λ (x : FunctionBody). bound_by (refusal x.name h.signature.params (length vs)) (made_at h.signature.kind at.depth (Enters f vs))) same
+    ∙ ap (λ (x : Signature). bound_by (refusal b.name x.params (length vs)) (made_at x.kind at.depth (Enters f vs))) is
 
--- a function whose activations run through comes to what its signature says, where it is called
-pub runs : (at : Setting) (store : List Payload) (f : Obj) (vs : List Obj) (c : Course) (b : FunctionBody) (s : Signature) → HasPayload store f (payload.Function b) → slice_get at.signatures b.code ≡ Some s → s.kind ≡ None
-    → c ≡ bound_by (refusal b.name s.params (length vs)) (entry_at at.depth (Enters f vs)) → CallsFunction at store f vs c
-runs at store f vs c b s entry signed through is = record { body = b; entry = entry; signature = s; signed = signed; runs_through = through; is = is }
+-- a function comes to what its signature says, where it is called
+pub runs : (at : Setting) (store : List Payload) (f : Obj) (vs : List Obj) (c : Course) (b : FunctionBody) (s : Signature) → HasPayload store f (payload.Function b) → slice_get at.signatures b.code ≡ Some s
+    → c ≡ bound_by (refusal b.name s.params (length vs)) (made_at s.kind at.depth (Enters f vs)) → CallsFunction at store f vs c
+runs at store f vs c b s entry signed is = record { body = b; entry = entry; signature = s; signed = signed; is = is }
 
--- a question whose activation was left is a call
-pub due_leaves : (r : Request) (left : Left) (reply : Reply) → IsDue r left reply → LeavesCalled left reply
-due_leaves (Calling f vs named) left reply due = due.1
-due_leaves _ left reply due = absurd due
+-- and is of its signature's kind
+abbrev pub is_of_kind : (plan : Plan) (store : List Payload) (f : Obj) (kind : Option CoroKind) (b : FunctionBody) (s : Signature)
+    → HasPayload store f (payload.Function b) → slice_get plan.signatures b.code ≡ Some s → s.kind ≡ kind → IsOfKind plan store f kind
+is_of_kind plan store f kind b s entry signed is = record { body = b; entry = entry; signature = s; signed = signed; kind_is = is }
+
+-- a call is answered by how its activation was left
+pub due_leaves : (store : List Payload) (r : Request) (f : Obj) (vs : List Obj) (left : CoroEnd) (reply : Reply) → r ≡ Calling f vs keywords.None → IsDue store r left reply → LeavesCalled left reply
+due_leaves store r f vs left reply is due = (subst (λ (x : Request). IsDue store x left reply) is due).1
 
 -- a line that drives asks for the call of what has its name, with objects of its arguments
 pub asked_for : (store : List Payload) (events : List Event) (x : Name) (args : List DriveAtom) (f : Obj) (vs : List Obj) → AsksThis store events (drive.Call x args) (Calling f vs keywords.None)
@@ -286,7 +322,7 @@ pub gives_sum : (plan : Plan) (store : List Payload) (p : Past) (a b : Obj) (i j
 gives_sum plan store p a b i j w left right (reply, (r, asks, replies), gives) =
     let says = subst (λ (x : Request). IsReply plan store p Asking x reply) (sym (some_is _ _ asks)) replies in
     subst (λ (x : Reply). GivesBody store p.events x w)
-    (reply_of_sum store a b i j reply left right (replied (setting plan p) store (Binary binary.Add a b) reply (λ f vs e. cc) (λ e. cc) says)) gives
+    (reply_of_sum store a b i j reply left right (replied (setting plan p) store (Binary binary.Add a b) reply (sum_plain a b) says)) gives
 
 -- the script's only function
 module _ (t : Tree) where
@@ -327,8 +363,19 @@ module _ (t : Tree) where
   -- the two numbers are taken
   abbrev pub Binds : List Payload → Type 0
   Binds store =
-      CallsFunction (record { signatures = map signature_of (t ∷ []); depth = 0; handled = None }) store (object 0) (object 3 ∷ object 4 ∷ [])
+      CallsFunction (record { signatures = map signature_of (t ∷ []); depth = 0; handled = None; generators = [] }) store (object 0) (object 3 ∷ object 4 ∷ [])
       (Enters (object 0) (object 3 ∷ object 4 ∷ []))
+
+  -- the script's function is none of generators
+  pub never_suspended : (qs : List Posed) (store : List Payload) (f : Obj) (kind : CoroKind) → seen_as t.kind ≡ None → IsOfKind (plan_of (t ∷ []) qs) store f (Some kind) → ⊥
+  never_suspended qs store f kind plain is = go is.body.code is.signed
+    where
+      go : (i : ℕ) → slice_get (map signature_of (t ∷ [])) i ≡ Some is.signature → ⊥
+      go zero signed =
+          let own : seen_as t.kind ≡ is.signature.kind = ap (λ (s : Signature). s.kind) (some_is _ _ signed) in
+          let clash : None ≡ Some kind = sym plain ∙ own ∙ is.kind_is in
+          cc clash
+      go (suc i) signed = cc signed
 
   -- a drive of the script's call asks for the two numbers
   pub asks_numbers : (m n : ℤ) (more : List Payload) (events : List Event) → IsDeclared (with_more m n more) → AsksThis (with_more m n more) events (call_of t.name m n) call.request × (call.entered ≡ 0)
@@ -351,11 +398,11 @@ module _ (t : Tree) where
   }
 
   -- up to the question for the sum
-  pub asking_comes : (qs : List Posed) (m n : ℤ) (more : List Payload) (rest : List Event) → 0 < length (call ∷ qs) → Binds (with_more m n more)
-      → Comes (plan_with qs) (with_more m n more) (past_behind nothing (entered 1 (asked 1 (object 3) (object 4) []))) rest → Comes (plan_with qs) (with_more m n more) nothing (entered 1 (asked 1 (object 3) (object 4) rest))
-  asking_comes qs m n more rest few binds k = (
+  pub asking_comes : (qs : List Posed) (m n : ℤ) (more : List Payload) (rest : List Event) → 0 < length (call ∷ qs) → Binds (with_more m n more) → seen_as t.kind ≡ None
+      → Comes (plan_with qs) (with_more m n more) (past_behind (plan_with qs) nothing (entered 1 (asked 1 (object 3) (object 4) []))) rest → Comes (plan_with qs) (with_more m n more) nothing (entered 1 (asked 1 (object 3) (object 4) rest))
+  asking_comes qs m n more rest few binds plain k = (
     (refl, refl, few),
-    ((refl, (refl, (call.request, refl, inr (inl (object 0, object 3 ∷ object 4 ∷ [], refl, binds))))), ((object 0, refl, refl), ((refl, refl), k))),
+    ((refl, (refl, (call.request, refl, inr (inl (object 0, object 3 ∷ object 4 ∷ [], refl, binds))))), ((refl, is_of_kind _ _ _ _ _ _ refl refl plain), ((refl, refl), k))),
   )
 
   -- what gives the sum may answer that question
@@ -401,12 +448,13 @@ module _ (t : Tree) where
       is_raised (own_with (payload.Int greatest ∷ payload.Int (pos 1) ∷ payload.Frame 0 ∷ error_objects OverflowError more)) before OverflowError out_of_range (object 6) (object 7) (exception n) refl refl entry unnamed
 
   -- the first of the drives
-  pub first_raises : (qs : List Posed) (more : List Payload) (rest : List Event) → 0 < length (call ∷ qs) → Binds (overflow_with more) → Comes (plan_with qs) (overflow_with more) (past_behind nothing (overflow_by (exception 8))) rest
+  pub first_raises : (qs : List Posed) (more : List Payload) (rest : List Event) → 0 < length (call ∷ qs) → Binds (overflow_with more) → seen_as t.kind ≡ None
+      → Comes (plan_with qs) (overflow_with more) (past_behind (plan_with qs) nothing (overflow_by (exception 8))) rest
       → Comes (plan_with qs) (overflow_with more) nothing (raises 1 (exception 8) rest)
-  first_raises qs more rest few binds k =
-      let asking : Past = past_behind nothing (entered 1 (asked 1 (object 3) (object 4) [])) in
-      asking_comes qs greatest (pos 1) (error_objects OverflowError more) (raised 1 (exception 8) rest) few binds
-      (sum_comes (plan_with qs) greatest (pos 1) (error_objects OverflowError more) asking 1 (got.Raise (exception 8)) refl refl refl (overflows 8 more asking.events refl (refl, (refl, (refl, (refl, tt))))), ((refl, refl), ((refl, refl, (Passes (exception 8), (_, refl, (refl, refl)), refl)), k)))
+  first_raises qs more rest few binds plain k =
+      let asking : Past = past_behind (plan_with qs) nothing (entered 1 (asked 1 (object 3) (object 4) [])) in
+      asking_comes qs greatest (pos 1) (error_objects OverflowError more) (raised 1 (exception 8) rest) few binds plain
+      (sum_comes (plan_with qs) greatest (pos 1) (error_objects OverflowError more) asking 1 (got.Raise (exception 8)) refl refl refl (overflows 8 more asking.events refl (refl, (refl, (refl, (refl, tt))))), ((refl, refl), ((refl, refl, (Passes (This (exception 8)), (_, refl, (refl, refl)), refl)), k)))
 
   -- what the activation of a drive that raises tells, which is entered and answered by the events with these numbers
   abbrev pub RaiseIsTraced : List Payload → ℕ → ℕ → PyBaseExceptionRef → Type 0
@@ -426,7 +474,7 @@ module _ (t : Tree) where
   overflow_tells h = one_tells (Traces (t ∷ []) (object 2) (overflow_with [])) (object 0) (object 3 ∷ object 4 ∷ []) (overflow_by (exception 8)) refl (_, refl, (t, refl, h))
 
   -- the run of one drive that overflows
-  pub overflow_is_run : IsDeclared (overflow_with []) → Binds (overflow_with []) → RaiseIsTraced [] 2 4 (exception 8) → IsRunOf (t ∷ []) (overflowing_of t.name ∷ []) (overflow_with []) (overflow_by (exception 8))
-  overflow_is_run d binds h =
-      call_runs greatest (pos 1) (error_objects OverflowError []) (overflow_by (exception 8)) d (tt, (tt, (tt, tt))) overflow_fits (first_raises [] [] [] (lit< tt) binds tt) (overflow_tells h)
+  pub overflow_is_run : IsDeclared (overflow_with []) → Binds (overflow_with []) → seen_as t.kind ≡ None → RaiseIsTraced [] 2 4 (exception 8) → IsRunOf (t ∷ []) (overflowing_of t.name ∷ []) (overflow_with []) (overflow_by (exception 8))
+  overflow_is_run d binds plain h =
+      call_runs greatest (pos 1) (error_objects OverflowError []) (overflow_by (exception 8)) d (tt, (tt, (tt, tt))) overflow_fits (first_raises [] [] [] (lit< tt) binds plain tt) (overflow_tells h)
       (are_named (overflow_with []) (overflow_by (exception 8)) overflow_fits refl)

@@ -7,6 +7,7 @@ pub mod Made
 pub mod Traced
 pub mod Declarations
 pub mod Driven
+pub mod Asking
 pub mod Loaded
 pub mod Ran
 -- what was read
@@ -25,3 +26,5 @@ mod WorkedShowLemmas
 mod WorkedLoopLemmas
 mod OneText
 mod WorkedCallLemmas
+mod WorkedFinallyLemmas
+mod WorkedGeneratorLemmas

@@ -8,7 +8,8 @@ use Rattle.py_objects.specs.declared.event.Event.{Event}
 use Rattle.py_objects.specs.declared.event.Event.TheVariants as event
 use Rattle.py_objects.specs.Objects.{Obj}
 use Rattle.py_objects.specs.Own.{Own, Makes, own_if, told_by, own_from, own_events}
-use Rattle.py_run.specs.Run.{Plan, Activation, State, start, after, state_after, Past, nothing, past_after, Comes}
+use Rattle.py_run.specs.Run.{Plan, Activation, State, start, after, state_after}
+use Rattle.py_run.specs.Coming.{Past, nothing, past_after, Comes}
 
 -- some event was told
 pub record HasTold (ts : List Own) : Type 0 where
@@ -46,8 +47,8 @@ make_tells s k a f vs es numbered tell i low high = go (eqb (suc i) a) refl
 
 pub made_tell : (plan : Plan) (objects : List Payload) (p : Past) (k : ℕ) (es : List Event) → Comes plan objects p es → MadeTell p.state k es
 made_tell plan objects p k [] comes = λ i low high. absurd (omega (arith, low, high))
-made_tell plan objects p k (event.Make a f vs ∷ es) comes = make_tells p.state k a f vs es comes.0.0 (made_tell plan objects (past_after p (event.Make a f vs)) (suc k) es comes.1)
-made_tell plan objects p k (e ∷ es) comes = still_tell p.state k e es refl (made_tell plan objects (past_after p e) (suc k) es comes.1)
+made_tell plan objects p k (event.Make a f vs ∷ es) comes = make_tells p.state k a f vs es comes.0.0 (made_tell plan objects (past_after plan p (event.Make a f vs)) (suc k) es comes.1)
+made_tell plan objects p k (e ∷ es) comes = still_tell p.state k e es refl (made_tell plan objects (past_after plan p e) (suc k) es comes.1)
 
 -- each activation of a whole list of events has told
 pub activation_tells : (plan : Plan) (objects : List Payload) (es : List Event) (i : ℕ) (a : Activation) → Comes plan objects nothing es → slice_get (state_after start es).made i ≡ Some a → HasTold (own_events (suc i) es)

@@ -1,6 +1,6 @@
 -- The objects of a script: as they are loaded, and as more come.
 use Rattle.std.proofs.Common.{◌≡◌, ◌+◌, ◌-◌, ℕ, zero, suc, List, [], ◌∷◌, ◌++◌, length, Bool, true, false, cond, ◌||◌, Some, None, refl, sym, ap, ◌∙◌, subst, arith, ◌⊎◌, inl, inr}
-use Rattle.std.specs.Prelude.{slice_get, map, bytes_eq}
+use Rattle.std.specs.Prelude.{Option, slice_get, map, bytes_eq}
 use Rattle.std.specs.List.{list_any}
 use Rattle.std.proofs.lemmas.Option.{slice_get_within, slice_get-get_or}
 use Rattle.std.proofs.lemmas.Slice.Eq.{bytes_eq-Decides}
@@ -28,7 +28,7 @@ use Rattle.py_grammar.specs.WellFormed.{IsKnown}
 use Rattle.py_run.specs.Run.{Posed}
 use Rattle.py_objects.proofs.NewLemmas.{declared_within}
 use Rattle.py_vm.specs.First.{first_objects}
-use Rattle.py_script.specs.Whole.{IsLeft, IsLeftBy, IsOf, AreOf, AsksThis, Asks, AreAsked, AreGlobals, AreObjects}
+use Rattle.py_script.specs.Whole.{IsLeft, IsLeftBy, IsOf, IsThrown, AreOf, AsksThis, Asks, AreAsked, AreGlobals, AreObjects}
 use Rattle.py_script.specs.Session.{AreBindings, AreDeclared}
 use Rattle.py_script.specs.Loaded.{function_entries, script_objects}
 use Rattle.py_script.proofs.Behind.{HasFunction, IsOwn, declared_own, script_has}
@@ -160,8 +160,16 @@ module _ (objects objects' : List Payload) (events events' : List Event) (grows 
   are_of_grow (a ∷ atoms) (v ∷ vs) of = (of_grows a v of.0, are_of_grow atoms vs of.1)
   are_of_grow _ _ of = of
 
+  thrown_grows : (a : Option DriveAtom) (v : Obj) → IsThrown objects events a v → IsThrown objects' events' a v
+  thrown_grows None v is = stays v payload.None is
+  thrown_grows (Some a) v is = of_grows a v is
+
   asks_this_grows : (d : DriveLine) (r : Request) → AsksThis objects events d r → AsksThis objects' events' d r
   asks_this_grows (drive.Call x args) r (f, vs, is, named, of) = (f, vs, is, declared_stays objects objects' x grows ∙ named, are_of_grow args vs of)
+  asks_this_grows (drive.Next n) r (g, v, is, left, none) = (g, v, is, left_by_grows n g left, stays v payload.None none)
+  asks_this_grows (drive.Send n a) r (g, v, is, left, of) = (g, v, is, left_by_grows n g left, of_grows a v of)
+  asks_this_grows (drive.Throw n x a) r (g, c, v, is, left, named, of) = (g, c, v, is, left_by_grows n g left, declared_stays objects objects' x grows ∙ named, thrown_grows a v of)
+  asks_this_grows (drive.Close n) r (g, is, left) = (g, is, left_by_grows n g left)
 
   -- questions of drives stay so
   pub asked_grow : (ds : List DriveLine) (qs : List Posed) → AreAsked objects events ds qs → AreAsked objects' events' ds qs

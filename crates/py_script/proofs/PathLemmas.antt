@@ -1,5 +1,5 @@
 -- The part of a path behind its last /, as a loop over the path finds it.
-use Rattle.std.proofs.Common.{◌≡◌, ℕ, List, [], ◌∷◌, Bool, true, false, cond, refl, ◌∙◌}
+use Rattle.std.proofs.Common.{◌≡◌, ℕ, [], ◌∷◌, Bool, true, false, cond, refl, ◌∙◌}
 use Rattle.py_objects.specs.Objects.{Name}
 use Rattle.py_script.specs.Repr.{has}
 use Rattle.py_script.specs.Said.{base_name}

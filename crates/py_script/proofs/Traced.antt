@@ -15,7 +15,8 @@ use Rattle.py_tree.specs.Scene.{anywhere}
 use Rattle.py_tree.specs.Trace.{IsTrace}
 use Rattle.py_laid.specs.Fits.{Fits, located}
 use Rattle.py_tree.proofs.Carry.{traces_carry}
-use Rattle.py_run.specs.Run.{Posed, Activation, nothing, Comes, EachTells}
+use Rattle.py_run.specs.Run.{Posed, Activation}
+use Rattle.py_run.specs.Coming.{nothing, Comes, EachTells}
 use Rattle.py_vm.specs.RowsOf.{RowsOf}
 use Rattle.py_run.proofs.BoundLemmas.{IsBound, comes_bound}
 use Rattle.py_script.specs.Whole.{AreCompiled, signature_of, plan_of, Traces}

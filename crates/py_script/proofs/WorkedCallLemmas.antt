@@ -5,8 +5,10 @@ use Rattle.std.specs.List.{AllZip}
 use Rattle.std.proofs.lemmas.Bool.{le-ltb}
 use Rattle.std.specs.Prelude.{sum_by, pos, codes, decimal, slice_get, nat_lt, if◌then◌else◌}
 use Rattle.py_objects.specs.declared.payload.Payload.{Payload}
+use Rattle.py_objects.specs.declared.payload.CoroKind.{CoroKind}
 use Rattle.py_objects.specs.declared.error_kind.ErrorKind.TheVariants.{RecursionError, TypeError}
 use Rattle.py_objects.specs.declared.request.Keywords.TheVariants as keywords
+use Rattle.py_objects.specs.declared.request.Request.{Request}
 use Rattle.py_objects.specs.declared.request.Request.TheVariants.{Call as Calling, Global}
 use Rattle.py_objects.specs.declared.event.ResumeHow.TheVariants.{Start}
 use Rattle.py_objects.specs.declared.event.GotAnswer.TheVariants as got
@@ -28,8 +30,10 @@ use Rattle.py_lines.specs.declared.drive.DriveLine.TheVariants as drive
 use Rattle.py_grammar.specs.Lines.{lines}
 use Rattle.py_grammar.specs.Script.{Spells}
 use Rattle.py_answers.specs.Answers.{Reply, Fails, Is, GivesDrive, IsRaised}
-use Rattle.py_run.specs.Calls.{Signature, Says, Enters, ByReturn, Setting, too_many, missing_if, refusal, entry_at, bound_by, CallsFunction, ComesTo}
-use Rattle.py_run.specs.Run.{Posed, Plan, Activation, open_in, depth, Past, nothing, setting, Comes, EachTells}
+use Rattle.py_coro.specs.declared.coro.CoroEnd.TheVariants as how
+use Rattle.py_run.specs.Run.{Signature, Posed, Plan, Activation, open_in, depth}
+use Rattle.py_run.specs.Calls.{Says, Enters, Setting, too_many, missing_if, refusal, entry_at, made_at, bound_by, CallsFunction, ComesTo, IsDue}
+use Rattle.py_run.specs.Coming.{Past, nothing, setting, Comes, EachTells}
 use Rattle.py_run.specs.Past.{past_behind}
 use Rattle.std.proofs.lemmas.List.Sorted.{IsPermutation-refl, IsPermutation-reverse, sum_by-IsPermutation}
 use Rattle.py_script.specs.Whole.{AreAsked, Binds, AreGlobals, AreObjects, AsksThis, IsLeft, Traces, IsRunOf, plan_of, signature_of}
@@ -38,7 +42,7 @@ use Rattle.py_script.specs.Worked.{object, exception, function_entry}
 use Rattle.py_script.specs.WorkedCall.{values, refusal_text, refusal_objects, objects_by, pair_of_g, pair_of_f, script, callee, caller, trees, drives, objects, asking, left, returned, again, events, made_twice, numbered_on, swapped, refused_made, IsFull}
 use Rattle.py_run.proofs.BoundLemmas.{enters_call}
 use Rattle.py_script.proofs.Behind.{HasFunction, IsOwn, script_has}
-use Rattle.py_script.proofs.Journals.{Each, all_fit, are_named, asked_for, course_is, decimal_1, differ, due_leaves, each_at, is_raised, made_exception, reads_of, runs, some_is}
+use Rattle.py_script.proofs.Journals.{Each, all_fit, are_named, asked_for, course_is, decimal_1, differ, due_leaves, each_at, is_of_kind, is_raised, made_exception, reads_of, runs, some_is}
 use Rattle.py_script.proofs.OneText.{raise_line_of, returned_so}
 
 -- call g $1 9
@@ -149,7 +153,7 @@ third = event.Drive 3 ∷ event.Result 3 (answer.Raises (exception 13)) ∷ []
 abbrev second : List Event
 second = event.Drive 2 ∷ event.Make 3 (object 0) (object 6 ∷ object 9 ∷ []) ∷ event.Resume 3 Start ∷ event.End 3 (ending.Return (object 6)) 1 ∷ event.Result 2 (answer.Returns (object 6)) ∷ third
 
-third_comes : Comes plan objects (past_behind nothing (again (object 6) [])) third
+third_comes : Comes plan objects (past_behind plan nothing (again (object 6) [])) third
 third_comes = (
   (refl, refl, lit< tt),
   (
@@ -158,7 +162,7 @@ third_comes = (
       refl,
       (
         Fails TypeError (too_many (codes "f") 0 1),
-        (_, refl, inr (inl (object 1, object 6 ∷ [], refl, runs _ _ _ _ _ _ _ refl refl refl refl))),
+        (_, refl, inr (inl (object 1, object 6 ∷ [], refl, runs _ _ _ _ _ _ _ refl refl refl))),
         subst (λ (text : Name). IsRaised objects refusing TypeError text (exception 13)) (sym text_is) refused,
       ),
     ),
@@ -166,12 +170,12 @@ third_comes = (
   ),
 )
 
-second_comes : Comes plan objects (past_behind nothing (returned (object 6) [])) second
+second_comes : Comes plan objects (past_behind plan nothing (returned (object 6) [])) second
 second_comes = (
   (refl, refl, lit< tt),
   (
-    (refl, (refl, (_, refl, inr (inl (object 0, object 6 ∷ object 9 ∷ [], refl, runs _ _ _ _ _ _ _ refl refl refl refl))))),
-    ((object 0, refl, refl), ((refl, refl), ((refl, refl, (Is (object 6), (_, refl, (refl, refl)), refl)), third_comes))),
+    (refl, (refl, (_, refl, inr (inl (object 0, object 6 ∷ object 9 ∷ [], refl, runs _ _ _ _ _ _ _ refl refl refl))))),
+    ((refl, is_of_kind _ _ _ _ _ _ refl refl refl), ((refl, refl), ((refl, refl, (Is (object 6), (_, refl, (refl, refl)), refl)), third_comes))),
   ),
 )
 
@@ -179,9 +183,9 @@ comes : Comes plan objects nothing events
 comes = (
   (refl, refl, lit< tt),
   (
-    (refl, (refl, (_, refl, inr (inl (object 1, [], refl, runs _ _ _ _ _ _ _ refl refl refl refl))))),
+    (refl, (refl, (_, refl, inr (inl (object 1, [], refl, runs _ _ _ _ _ _ _ refl refl refl))))),
     (
-      (object 1, refl, refl),
+      (refl, is_of_kind _ _ _ _ _ _ refl refl refl),
       (
         (refl, refl),
         (
@@ -189,9 +193,9 @@ comes = (
           (
             (refl, refl),
             (
-              (refl, (refl, (_, refl, inr (inl (object 0, object 6 ∷ object 7 ∷ [], refl, runs _ _ _ _ _ _ _ refl refl refl refl))))),
+              (refl, (refl, (_, refl, inr (inl (object 0, object 6 ∷ object 7 ∷ [], refl, runs _ _ _ _ _ _ _ refl refl refl))))),
               (
-                (object 0, refl, refl),
+                (refl, is_of_kind _ _ _ _ _ _ refl refl refl),
                 ((refl, refl), ((refl, (Is (object 6), (_, refl, (refl, refl)), refl)), ((refl, refl), ((refl, refl, (Is (object 6), (_, refl, (refl, refl)), refl)), second_comes)))),
               ),
             ),
@@ -209,17 +213,14 @@ caller_traced = (
   (
     _,
     refl,
-    (
-      tt,
-      inr
-          (inr (0, _, refl, refl, inr (4, got.Value (object 0), _, refl, inr (object 6, refl, inr (object 7, refl, inr (3, _, refl, refl, inr (9, got.Value (object 6), _, refl, inr (inr (6, refl))))))))),
-    ),
+    inr
+        (inr (0, _, refl, refl, inr (4, got.Value (object 0), _, refl, inr (object 6, refl, inr (object 7, refl, inr (_, refl, inr (3, _, refl, refl, inr (9, got.Value (object 6), _, refl, inr (inr (6, refl)))))))))),
   ),
 )
 
 -- an activation of the callee, which is entered by the event k, returns its first argument
 callee_traced : (k : ℕ) (w : Obj) → IsTrace (anywhere objects (object 4)) callee (object 6 ∷ w ∷ []) (Makes ∷ Resumes k Start ∷ Ends 1 (ending.Return (object 6)) ∷ [])
-callee_traced k w = (refl, (_, refl, (tt, inr (inr (1, refl)))))
+callee_traced k w = (refl, (_, refl, inr (inr (1, refl))))
 
 abbrev Tells : ℕ → Activation → Type 0
 Tells i a = Traces trees (object 4) objects a.function a.args (own_events (suc i) events)
@@ -273,7 +274,7 @@ not_asked (p ∷ q ∷ qs) h e =
 
 pub no_other_object : IsRunOf trees drives objects (again (object 0) []) → ⊥
 no_other_object r =
-    let at : Setting = setting (plan_of trees r.asked) (past_behind nothing (returned (object 6) (event.Drive 2 ∷ []))) in
+    let at : Setting = setting (plan_of trees r.asked) (past_behind (plan_of trees r.asked) nothing (returned (object 6) (event.Drive 2 ∷ []))) in
     let opened = r.run.comes.1.1.1.1.1.1.1.1.1.1.1.1.1.0.1.1 in
     not_asked r.asked r.are_asked (opened.1 ∙ ap Some (enters_call at objects opened.0 (object 0) (object 0 ∷ object 9 ∷ []) opened.2).0)
 
@@ -288,7 +289,7 @@ first_argument f a b c d e = cc
 
 pub no_swapped_arguments : IsRunOf trees drives objects swapped → ⊥
 no_swapped_arguments r =
-    let at : Setting = setting (plan_of trees r.asked) (past_behind nothing (asking [])) in
+    let at : Setting = setting (plan_of trees r.asked) (past_behind (plan_of trees r.asked) nothing (asking [])) in
     let opened = r.run.comes.1.1.1.1.1.1.0.1.1 in
     let asks = some_is _ _ (opened.1 ∙ ap Some (enters_call at objects opened.0 (object 0) (object 7 ∷ object 6 ∷ []) opened.2).0) in
     differ 6 7 refl (first_argument (object 0) (object 6) (object 7) (object 7) (object 6) asks)
@@ -296,17 +297,24 @@ no_swapped_arguments r =
 result_value : (v w : Obj) → answer.Returns v ≡ answer.Returns w → v ≡ w
 result_value v w e = cc
 
+-- the first drive is answered by how the activation of its call was left
+result_due : (qs : List Posed) (q : Request) (reply : Reply) → AreAsked objects (returned (object 0) []) drives qs → open_in (slice_get qs 0) [] ≡ Some q → IsDue objects q (how.Return (object 6)) reply → reply ≡ Is (object 6)
+result_due [] q reply are asks due = absurd (cc asks)
+result_due (p ∷ qs) q reply are asks due =
+    let (f, vs, is, named, of) = are.0.0 in
+    due_leaves objects q f vs (how.Return (object 6)) reply (sym (some_is _ _ asks) ∙ is) due
+
 pub no_other_result : IsRunOf trees drives objects (returned (object 0) []) → ⊥
 no_other_result r =
     let before : List Event = left (event.Got 1 (got.Value (object 6)) ∷ event.End 1 (ending.Return (object 6)) 6 ∷ []) in
     let (reply, (q, asks, due), gives) = r.run.comes.1.1.1.1.1.1.1.1.1.1.1.0.2 in
-    let is : reply ≡ Is (object 6) = due_leaves q (ByReturn (object 6)) reply due in
+    let is : reply ≡ Is (object 6) = result_due r.asked q reply r.are_asked asks due in
     let same = returned_so objects before (object 6) (answer.Returns (object 0)) (subst (λ (x : Reply). GivesDrive objects before x (answer.Returns (object 0))) is gives) in
     differ 0 6 refl (result_value (object 0) (object 6) same)
 
 pub no_activation_of_a_refused_drive : IsRunOf trees drives objects refused_made → ⊥
 no_activation_of_a_refused_drive r =
-    let at : Setting = setting (plan_of trees r.asked) (past_behind nothing refusing) in
+    let at : Setting = setting (plan_of trees r.asked) (past_behind (plan_of trees r.asked) nothing refusing) in
     let opened = r.run.comes.1.1.1.1.1.1.1.1.1.1.1.1.1.1.1.1.1.1.0.1.1 in
     let calls = enters_call at objects opened.0 (object 1) (object 6 ∷ []) opened.2 in
     let course : Enters (object 1) (object 6 ∷ []) ≡ Says (Fails TypeError (too_many (codes "f") 0 1)) =
@@ -326,29 +334,40 @@ none_refused f xs n count =
     ap (λ b. if b then Some (too_many f (length xs) n) else missing_if f (drop n xs)) few ∙ (ap (λ k. missing_if f (drop k xs)) count ∙ none_missing f xs)
 
 -- so what such a call comes to is told by the depth alone
-full_comes : (plan : Plan) (p : Past) (f : Obj) (vs : List Obj) (name : Name) (s : Signature) → length vs ≡ length s.params
-    → bound_by (refusal name s.params (length vs)) (entry_at (depth plan p.state) (Enters f vs)) ≡ entry_at (depth plan p.state) (Enters f vs)
-full_comes plan p f vs name s count = ap (λ (o : Option Name). bound_by o (entry_at (depth plan p.state) (Enters f vs))) (none_refused name s.params (length vs) count)
+full_comes : (plan : Plan) (p : Past) (f : Obj) (vs : List Obj) (name : Name) (s : Signature) → s.kind ≡ None → length vs ≡ length s.params
+    → bound_by (refusal name s.params (length vs)) (made_at s.kind (depth plan p.state) (Enters f vs)) ≡ entry_at (depth plan p.state) (Enters f vs)
+full_comes plan p f vs name s through count =
+    ap (λ (o : Option Name). bound_by o (made_at s.kind (depth plan p.state) (Enters f vs))) (none_refused name s.params (length vs) count)
+    ∙ ap (λ (kind : Option CoroKind). made_at kind (depth plan p.state) (Enters f vs)) through
 
 pub entry_at_999 : (plan : Plan) (p : Past) (store : List Payload) (f : Obj) (vs : List Obj) (full : IsFull plan store f vs) → full.signature.kind ≡ None → depth plan p.state ≡ 999 → CallsFunction (setting plan p) store f vs (Enters f vs)
 entry_at_999 plan p store f vs full through deep =
-    runs (setting plan p) store f vs (Enters f vs) full.body full.signature full.is_function full.signed through
-    (sym (full_comes plan p f vs full.body.name full.signature full.count ∙ ap (λ (k : ℕ). entry_at k (Enters f vs)) deep))
+    runs (setting plan p) store f vs (Enters f vs) full.body full.signature full.is_function full.signed
+    (sym (full_comes plan p f vs full.body.name full.signature through full.count ∙ ap (λ (k : ℕ). entry_at k (Enters f vs)) deep))
 
--- a call of it enters nothing where that many run
-no_call_at_1000 : (plan : Plan) (p : Past) (store : List Payload) (f : Obj) (vs : List Obj) (g : Obj) (ws : List Obj) → IsFull plan store f vs → depth plan p.state ≡ 1000 → CallsFunction (setting plan p) store f vs (Enters g ws) → ⊥
-no_call_at_1000 plan p store f vs g ws full deep calls =
+-- the activation of a generator function is made at any depth
+pub made_at_any_depth : (plan : Plan) (p : Past) (store : List Payload) (f : Obj) (vs : List Obj) (full : IsFull plan store f vs) (kind : CoroKind) → full.signature.kind ≡ Some kind → CallsFunction (setting plan p) store f vs (Enters f vs)
+made_at_any_depth plan p store f vs full kind suspends =
+    let s = full.signature in
+    runs (setting plan p) store f vs (Enters f vs) full.body s full.is_function full.signed
+    (sym (ap (λ (o : Option Name). bound_by o (made_at s.kind (depth plan p.state) (Enters f vs))) (none_refused full.body.name s.params (length vs) full.count)
+    ∙ ap (λ (k : Option CoroKind). made_at k (depth plan p.state) (Enters f vs)) suspends))
+
+-- a call of a function that runs through enters nothing where that many run
+no_call_at_1000 : (plan : Plan) (p : Past) (store : List Payload) (f : Obj) (vs : List Obj) (g : Obj) (ws : List Obj) (full : IsFull plan store f vs) → full.signature.kind ≡ None → depth plan p.state ≡ 1000
+    → CallsFunction (setting plan p) store f vs (Enters g ws) → ⊥
+no_call_at_1000 plan p store f vs g ws full through deep calls =
     let course = course_is (setting plan p) store f full.body full.signature vs (Enters g ws) full.is_function full.signed calls in
     let clash : Enters g ws ≡ Says (Fails RecursionError (codes "maximum recursion depth exceeded ")) =
-    course ∙ (full_comes plan p f vs full.body.name full.signature full.count ∙ ap (λ (k : ℕ). entry_at k (Enters f vs)) deep) in
+    course ∙ (full_comes plan p f vs full.body.name full.signature through full.count ∙ ap (λ (k : ℕ). entry_at k (Enters f vs)) deep) in
     cc clash
 
 -- nor does the question for one
-pub no_entry_at_1000 : (plan : Plan) (p : Past) (store : List Payload) (f : Obj) (vs : List Obj) (g : Obj) (ws : List Obj) → IsFull plan store f vs → depth plan p.state ≡ 1000
+pub no_entry_at_1000 : (plan : Plan) (p : Past) (store : List Payload) (f : Obj) (vs : List Obj) (g : Obj) (ws : List Obj) (full : IsFull plan store f vs) → full.signature.kind ≡ None → depth plan p.state ≡ 1000
     → ComesTo (setting plan p) store (Calling f vs keywords.None) (Enters g ws) → ⊥
-no_entry_at_1000 plan p store f vs g ws full deep comes =
+no_entry_at_1000 plan p store f vs g ws full through deep comes =
     let (is, calls) = enters_call (setting plan p) store (Calling f vs keywords.None) g ws comes in
     let callee : g ≡ f = cc is in
     let args : ws ≡ vs = cc is in
     let own = subst (λ (us : List Obj). CallsFunction (setting plan p) store f us (Enters g ws)) args (subst (λ (x : Obj). CallsFunction (setting plan p) store x ws (Enters g ws)) callee calls) in
-    no_call_at_1000 plan p store f vs g ws full deep own
+    no_call_at_1000 plan p store f vs g ws full through deep own

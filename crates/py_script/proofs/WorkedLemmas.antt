@@ -20,12 +20,13 @@ use Rattle.py_tree.specs.Trace.{IsTrace}
 use Rattle.py_grammar.specs.Grammar.{Declares, Drives}
 use Rattle.py_grammar.specs.Lines.{lines}
 use Rattle.py_grammar.specs.Script.{Spells}
-use Rattle.py_answers.specs.Answers.{Is, Passes}
-use Rattle.py_run.specs.Run.{Plan, Activation, Past, nothing, Comes, EachTells}
+use Rattle.py_answers.specs.Answers.{This, Is, Passes}
+use Rattle.py_run.specs.Run.{Plan, Activation}
+use Rattle.py_run.specs.Coming.{Past, nothing, Comes, EachTells}
 use Rattle.py_run.specs.Past.{past_behind}
 use Rattle.py_script.specs.Whole.{Traces, IsRunOf, plan_of}
 use Rattle.py_script.specs.Worked.{script, function, trees, call_of, drives, object, exception, function_entry, objects_by, objects, objects_with_manager, entered, asked, events, unfinished, with_round, swapped, driven_twice, greatest, overflowing, error_entry, error_objects, raising_objects, overflow_objects, raises, overflow_by}
-use Rattle.py_script.proofs.Journals.{RaiseIsTraced, are_globals, are_named, are_objects, asking_comes, asks_numbers, begun, call, call_runs, code_of, differ, entry_of, few_asked, first_raises, fits, gives_sum, made_error, one_tells, overflows, plan_with, reads_of, runs, some_is, sum_comes, traced, overflow_is_run as overflow_run}
+use Rattle.py_script.proofs.Journals.{RaiseIsTraced, are_globals, are_named, are_objects, asking_comes, asks_numbers, begun, call, call_runs, code_of, differ, entry_of, few_asked, first_raises, fits, gives_sum, is_of_kind, made_error, one_tells, overflows, plan_with, reads_of, runs, some_is, sum_comes, traced, overflow_is_run as overflow_run}
 
 pub spelled : Spells (lines script) trees drives
 spelled =
@@ -40,15 +41,15 @@ abbrev plan : Plan
 plan = plan_with function []
 
 -- up to the activation's end
-front_comes : (rest : List Event) → Comes plan objects (past_behind nothing unfinished) rest → Comes plan objects nothing (unfinished ++ rest)
+front_comes : (rest : List Event) → Comes plan objects (past_behind plan nothing unfinished) rest → Comes plan objects nothing (unfinished ++ rest)
 front_comes rest k =
-    let asking : Past = past_behind nothing (entered 1 (asked 1 (object 3) (object 4) [])) in
-    asking_comes function [] (pos 33) (pos 12) (payload.Int (pos 45) ∷ []) (event.Got 1 (got.Value (object 6)) ∷ event.End 1 (ending.Return (object 6)) 5 ∷ rest) (lit< tt) (runs _ _ _ _ _ _ _ refl refl refl refl)
+    let asking : Past = past_behind plan nothing (entered 1 (asked 1 (object 3) (object 4) [])) in
+    asking_comes function [] (pos 33) (pos 12) (payload.Int (pos 45) ∷ []) (event.Got 1 (got.Value (object 6)) ∷ event.End 1 (ending.Return (object 6)) 5 ∷ rest) (lit< tt) (runs _ _ _ _ _ _ _ refl refl refl) refl
     (sum_comes function plan (pos 33) (pos 12) (payload.Int (pos 45) ∷ []) asking 1 (got.Value (object 6)) refl refl refl refl, ((refl, refl), k))
 
 sum_traced : IsTrace (anywhere objects (object 2)) function (object 3 ∷ object 4 ∷ []) (own_events 1 events)
 unfolding own_from told_by
-sum_traced = (refl, (_, refl, (tt, inr (inr (2, _, refl, refl, inr (4, got.Value (object 6), _, refl, inr (inr (5, refl))))))))
+sum_traced = (refl, (_, refl, inr (inr (2, _, refl, refl, inr (4, got.Value (object 6), _, refl, inr (inr (5, refl)))))))
 
 pub is_run : IsRunOf trees drives objects events
 is_run =
@@ -66,7 +67,7 @@ pub no_round : IsRunOf trees drives objects with_round → ⊥
 unfolding own_from told_by
 no_round r =
     let b = begun (anywhere objects r.globals) function (object 3 ∷ object 4 ∷ []) _ (traced function objects drives with_round refl refl r) in
-    ⊎_elim (λ a. cc a.0) (λ a. ⊎_elim (λ a. cc a.0) (λ a. cc a.3) a) b.1
+    ⊎_elim (λ a. cc a.0) (λ a. ⊎_elim (λ a. cc a.0) (λ a. cc a.3) a) b
 
 -- what is asked first has this request
 first_request : (at at' : ℕ) (r r' : Request) (own own' : Option PyBaseExceptionRef) (ts us : List Own) → Asks at r own ∷ ts ≡ Asks at' r' own' ∷ us → r ≡ r'
@@ -79,7 +80,7 @@ pub no_swapped_operands : IsRunOf trees drives objects swapped → ⊥
 unfolding own_from told_by
 no_swapped_operands r =
     let b = begun (anywhere objects r.globals) function (object 3 ∷ object 4 ∷ []) _ (traced function objects drives swapped refl refl r) in
-    ⊎_elim (λ a. cc a.0) (λ a. ⊎_elim (λ a. cc a.0) (λ a. differ 4 3 refl (left_operand _ _ _ _ (first_request _ _ _ _ _ _ _ _ a.3))) a) b.1
+    ⊎_elim (λ a. cc a.0) (λ a. ⊎_elim (λ a. cc a.0) (λ a. differ 4 3 refl (left_operand _ _ _ _ (first_request _ _ _ _ _ _ _ _ a.3))) a) b
 
 pub no_drive_beyond : IsRunOf trees drives objects driven_twice → ⊥
 no_drive_beyond r = let few : length r.asked ≤ 1 = few_asked objects driven_twice drives r.asked r.are_asked in let more : 1 < length r.asked = r.run.comes.1.1.1.1.1.1.1.0.2 in omega arith
@@ -94,10 +95,10 @@ pub no_manager : IsRunOf trees drives objects_with_manager events → ⊥
 no_manager r = r.are_objects.no_managers (object 7) _ refl
 
 raise_traced : (more : List Payload) (i j : ℕ) (e : PyBaseExceptionRef) → RaiseIsTraced function more i j e
-raise_traced more i j e = (refl, (_, refl, (tt, inr (inr (2, _, refl, refl, inr (j, got.Raise e, _, refl, inr (2, refl)))))))
+raise_traced more i j e = (refl, (_, refl, inr (inr (2, _, refl, refl, inr (j, got.Raise e, _, refl, inr (2, refl))))))
 
 pub overflow_is_run : IsRunOf trees (overflowing ∷ []) overflow_objects (overflow_by (exception 8))
-overflow_is_run = overflow_run function refl (runs _ _ _ _ _ _ _ refl refl refl refl) (raise_traced [] 2 4 (exception 8))
+overflow_is_run = overflow_run function refl (runs _ _ _ _ _ _ _ refl refl refl) refl (raise_traced [] 2 4 (exception 8))
 
 -- the objects of two drives that raise, and their run
 abbrev both_objects : List Payload
@@ -125,20 +126,20 @@ both_plan = plan_with function (call ∷ [])
 abbrev second_asks : List Event
 second_asks = raises 1 (exception 8) (entered 2 (asked 2 (object 3) (object 4) []))
 
-second_raises : Comes both_plan both_objects (past_behind nothing (overflow_by (exception 8))) (raises 2 (exception 9) [])
+second_raises : Comes both_plan both_objects (past_behind both_plan nothing (overflow_by (exception 8))) (raises 2 (exception 9) [])
 second_raises =
-    let asking : Past = past_behind nothing second_asks in (
+    let asking : Past = past_behind both_plan nothing second_asks in (
       (refl, refl, lit< tt),
       (
-        (refl, (refl, (call.request, refl, inr (inl (object 0, object 3 ∷ object 4 ∷ [], refl, runs _ _ _ _ _ _ _ refl refl refl refl))))),
+        (refl, (refl, (call.request, refl, inr (inl (object 0, object 3 ∷ object 4 ∷ [], refl, runs _ _ _ _ _ _ _ refl refl refl))))),
         (
-          (object 0, refl, refl),
+          (refl, is_of_kind _ _ _ _ _ _ refl refl refl),
           (
             (refl, refl),
             (
               sum_comes function both_plan greatest (pos 1) (error_objects OverflowError (error_entry OverflowError ∷ [])) asking 2 (got.Raise (exception 9)) refl refl refl
                   (overflows function 9 (error_entry OverflowError ∷ []) asking.events refl (refl, (refl, (refl, (refl, (refl, (refl, (refl, (refl, (refl, (refl, (refl, tt)))))))))))),
-              ((refl, refl), ((refl, refl, (Passes (exception 9), (_, refl, (refl, refl)), refl)), tt)),
+              ((refl, refl), ((refl, refl, (Passes (This (exception 9)), (_, refl, (refl, refl)), refl)), tt)),
             ),
           ),
         ),
@@ -155,7 +156,7 @@ errors_are_run =
       are_asked = (asks, (asks, tt));
       run =
           record {
-            comes = first_raises function (call ∷ []) (error_entry OverflowError ∷ []) (raises 2 (exception 9) []) (lit< tt) (runs _ _ _ _ _ _ _ refl refl refl refl) second_raises;
+            comes = first_raises function (call ∷ []) (error_entry OverflowError ∷ []) (raises 2 (exception 9) []) (lit< tt) (runs _ _ _ _ _ _ _ refl refl refl) refl second_raises;
             tells = both_tell;
             named = are_named both_objects both_raise both_fit refl;
           };
@@ -164,6 +165,6 @@ errors_are_run =
 
 pub no_error_twice : IsRunOf trees (overflowing ∷ overflowing ∷ []) both_objects (raises 1 (exception 8) (raises 2 (exception 8) [])) → ⊥
 no_error_twice r =
-    let given = gives_sum (plan_of trees r.asked) both_objects (past_behind nothing second_asks) (object 3) (object 4) greatest (pos 1) (got.Raise (exception 8)) refl refl r.run.comes.1.1.1.1.1.1.1.1.1.1.1.0.1 in
+    let given = gives_sum (plan_of trees r.asked) both_objects (past_behind (plan_of trees r.asked) nothing second_asks) (object 3) (object 4) greatest (pos 1) (got.Raise (exception 8)) refl refl r.run.comes.1.1.1.1.1.1.1.1.1.1.1.0.1 in
     let named = given.made.new.unnamed 4 (event.Got 1 (got.Raise (exception 8))) refl in
     cc

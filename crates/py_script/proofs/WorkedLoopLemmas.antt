@@ -22,13 +22,14 @@ use Rattle.py_lines.specs.declared.drive.DriveLine.TheVariants as drive
 use Rattle.py_grammar.specs.Grammar.{Declares, Drives}
 use Rattle.py_grammar.specs.Lines.{lines}
 use Rattle.py_grammar.specs.Script.{Spells}
-use Rattle.py_answers.specs.Answers.{Has, Fails, Passes, unknown_text, IsRaised}
-use Rattle.py_run.specs.Run.{Posed, Plan, nothing as at_first, Comes}
+use Rattle.py_answers.specs.Answers.{This, Has, Fails, Passes, unknown_text, IsRaised}
+use Rattle.py_run.specs.Run.{Posed, Plan}
+use Rattle.py_run.specs.Coming.{nothing as at_first, Comes}
 use Rattle.py_script.specs.Whole.{AreGlobals, Traces, IsRunOf, plan_of}
 use Rattle.py_script.specs.Text.{events_text, result_text}
 use Rattle.py_script.specs.Worked.{object, exception}
 use Rattle.py_script.specs.WorkedLoop.{script, function_of, function, trees, drives, objects, events, without_round, untested, left_early, unknown_script, unknown_trees, not_defined, raised_objects, unknown_objects, asked_in, asked, unknown_events}
-use Rattle.py_script.proofs.Journals.{are_globals, are_loaded, are_named, asked_so, begun, fits, is_raised, made_exception, one_tells, own_with, reads_of, runs, traced_with}
+use Rattle.py_script.proofs.Journals.{are_globals, are_loaded, are_named, asked_so, begun, fits, is_of_kind, is_raised, made_exception, one_tells, own_with, reads_of, runs, traced_with}
 use Rattle.py_script.proofs.OneText.{raise_line}
 
 pub spelled : Spells (lines script) trees drives
@@ -37,7 +38,7 @@ spelled =
     record { items = items; reads = reads_of items; read = (refl, (refl, (refl, (refl, (refl, tt))))); spelled = refl; well = (refl, (((refl, tt), tt), (refl, tt))); declared = refl; driven = refl }
 
 -- the question of the drive
-abbrev call : Posed
+abbrev pub call : Posed
 call = record { request = Calling (object 0) [] keywords.None; entered = 0 }
 
 -- what the run is of
@@ -51,9 +52,9 @@ comes : Comes plan objects at_first events
 comes = (
   (refl, refl, lit< tt),
   (
-    (refl, (refl, (call.request, refl, inr (inl (object 0, [], refl, runs _ _ _ _ _ _ _ refl refl refl refl))))),
+    (refl, (refl, (call.request, refl, inr (inl (object 0, [], refl, runs _ _ _ _ _ _ _ refl refl refl))))),
     (
-      (object 0, refl, refl),
+      (refl, is_of_kind _ _ _ _ _ _ refl refl refl),
       ((refl, refl), ((refl, refl), ((refl, (Has (payload.Bool true), (Truth (object 4), refl, inl (Has (payload.Bool true), refl, (payload.Bool true, refl, refl))), refl)), ((refl, refl), tt)))),
     ),
   ),
@@ -62,7 +63,7 @@ comes = (
 loop_traced : IsTrace (anywhere objects (object 2)) function [] (own_events 1 events)
 unfolding own_from told_by
 loop_traced =
-    (refl, (_, refl, (tt, inr (1, inr (0, _, refl, inr (object 4, refl, inr (2, _, refl, refl, inr (5, got.Value (object 5), _, refl, (true, refl, inr (inr (3, _, refl, inl (refl, refl))))))))))))
+    (refl, (_, refl, inr (1, inr (0, _, refl, inr (object 4, refl, inr (2, _, refl, refl, inr (5, got.Value (object 5), _, refl, (true, refl, inr (inr (3, _, refl, inl (refl, refl)))))))))))
 
 pub is_run : IsRunOf trees drives objects events
 is_run =
@@ -123,7 +124,7 @@ next_round g (suc n) k x ts h =
 
 -- what the activation of a run tells behind its entry, where the loop is begun
 begins_loop : (g : Obj) (k : ℕ) (x : Own) (ts : List Own) → IsTrace (scene_of g) function [] (Makes ∷ Resumes k Start ∷ x ∷ ts) → (n : ℕ) × Going g n k (x ∷ ts)
-begins_loop g k x ts h = let b = begun (scene_of g) function [] _ h in ⊎_elim (λ cut. absurd (cc cut.0)) (λ going. going) b.1
+begins_loop g k x ts h = let b = begun (scene_of g) function [] _ h in ⊎_elim (λ cut. absurd (cc cut.0)) (λ going. going) b
 
 pub no_round_untold : IsRunOf trees drives objects without_round → ⊥
 unfolding own_from told_by
@@ -180,14 +181,14 @@ unknown_comes : Comes (plan_of unknown_trees (call ∷ [])) unknown_objects at_f
 unknown_comes = (
   (refl, refl, lit< tt),
   (
-    (refl, (refl, (call.request, refl, inr (inl (object 0, [], refl, runs _ _ _ _ _ _ _ refl refl refl refl))))),
+    (refl, (refl, (call.request, refl, inr (inl (object 0, [], refl, runs _ _ _ _ _ _ _ refl refl refl))))),
     (
-      (object 0, refl, refl),
+      (refl, is_of_kind _ _ _ _ _ _ refl refl refl),
       (
         (refl, refl),
         (
           (refl, (Fails NameError (unknown_text (codes "z")), (Global (object 2) (codes "z"), refl, inl (Fails NameError (unknown_text (codes "z")), refl, refl)), unknown_raised)),
-          ((refl, refl), ((refl, refl, (Passes (exception 6), (_, refl, (refl, refl)), refl)), tt)),
+          ((refl, refl), ((refl, refl, (Passes (This (exception 6)), (_, refl, (refl, refl)), refl)), tt)),
         ),
       ),
     ),
@@ -196,7 +197,7 @@ unknown_comes = (
 
 unknown_traced : IsTrace (anywhere unknown_objects (object 2)) unknown_function [] (own_events 1 unknown_events)
 unfolding own_from told_by
-unknown_traced = (refl, (_, refl, (tt, inr (inr (0, _, refl, refl, inr (4, got.Raise (exception 6), _, refl, inr (0, refl)))))))
+unknown_traced = (refl, (_, refl, inr (inr (0, _, refl, refl, inr (4, got.Raise (exception 6), _, refl, inr (0, refl))))))
 
 pub unknown_is_run : IsRunOf unknown_trees drives unknown_objects unknown_events
 unknown_is_run =
@@ -224,7 +225,7 @@ no_name_asked_of_none r =
     ⊎_elim (λ cut. cc cut.0) (λ loads. ⊎_elim (λ cut. cc cut.0) (λ asks.
     let same : none_object ≡ r.globals = asked_object _ _ _ _ _ _ _ asks.3 in
     let none = subst (AreGlobals unknown_trees unknown_objects) (sym same) r.are_globals in
-    cc none.dict) loads) b.1
+    cc none.dict) loads) b
 
 pub unknown_line : events_text unknown_objects [] unknown_events ≡ codes "1 raises NameError: name 'z' is not defined\n"
 unknown_line =

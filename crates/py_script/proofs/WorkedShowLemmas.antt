@@ -29,13 +29,14 @@ use Rattle.py_grammar.specs.Grammar.{Declares, Drives}
 use Rattle.py_grammar.specs.Lines.{lines}
 use Rattle.py_grammar.specs.Script.{Spells}
 use Rattle.py_answers.specs.Answers.{Reply, Has, Is, GivesBody}
-use Rattle.py_run.specs.Run.{Plan, Asking, Past, setting, IsReply, nothing as at_first, Comes}
+use Rattle.py_run.specs.Run.{Plan, Asking}
+use Rattle.py_run.specs.Coming.{Past, setting, IsReply, nothing as at_first, Comes}
 use Rattle.py_run.specs.Past.{past_behind}
 use Rattle.py_script.specs.Whole.{Traces, IsRunOf, plan_of}
 use Rattle.py_script.specs.Text.{events_text, result_text}
 use Rattle.py_script.specs.Worked.{object, exception, entered, asked, greatest, overflow_by}
 use Rattle.py_script.specs.WorkedShow.{script, function, trees, drive, drives, objects, summed, shows, answered, ended, events_by, events, without_show, shown_twice, overflowing, overflow_objects, shown_behind_raise}
-use Rattle.py_script.proofs.Journals.{RaiseIsTraced, asked_so, asking_comes, begun, call_runs, decimal_1, decimal_45, differ, each_at, fits, gives_sum, one_tells, plan_with, reads_of, replied, runs, some_is, sum_comes, traced, overflow_is_run as overflow_run}
+use Rattle.py_script.proofs.Journals.{IsPlain, RaiseIsTraced, asked_so, asking_comes, begun, call_runs, decimal_1, decimal_45, differ, each_at, fits, gives_sum, one_tells, plan_with, reads_of, replied, runs, some_is, sum_comes, traced, overflow_is_run as overflow_run}
 use Rattle.py_script.proofs.OneText.{overflow_line}
 
 pub spelled : Spells (lines script) trees drives
@@ -56,16 +57,16 @@ plan = plan_with function []
 
 comes : (a r : Obj) → IsNone a → IsNone r → Comes plan objects at_first (events_by (object 6) a r)
 comes a r n m =
-    let asking : Past = past_behind at_first (entered 1 (asked 1 (object 3) (object 4) [])) in
+    let asking : Past = past_behind plan at_first (entered 1 (asked 1 (object 3) (object 4) [])) in
     let more = payload.Int (pos 45) ∷ payload.None ∷ [] in
-    asking_comes function [] (pos 33) (pos 12) more (event.Got 1 (got.Value (object 6)) ∷ shows (object 6) (answered a (ended r))) (lit< tt) (runs _ _ _ _ _ _ _ refl refl refl refl) (
+    asking_comes function [] (pos 33) (pos 12) more (event.Got 1 (got.Value (object 6)) ∷ shows (object 6) (answered a (ended r))) (lit< tt) (runs _ _ _ _ _ _ _ refl refl refl) refl (
       sum_comes function plan (pos 33) (pos 12) more asking 1 (got.Value (object 6)) refl refl refl refl,
       ((refl, refl), ((refl, (Has payload.None, (request.Show (object 6), refl, inl (Has payload.None, refl, refl)), n)), ((refl, refl), ((refl, refl, (Is r, (_, refl, (refl, refl)), refl)), tt)))),
     )
 
 shown_traced : (a r : Obj) → IsNone r → IsTrace (anywhere objects (object 2)) function (object 3 ∷ object 4 ∷ []) (own_events 1 (events_by (object 6) a r))
 unfolding own_from told_by
-shown_traced a r m = (refl, (_, refl, (tt, inr (inr (2, _, refl, refl, inr (4, got.Value (object 6), _, refl, inr (inr (5, _, refl, refl, inr (6, got.Value a, _, refl, inr (inr (r, m, inr (6, refl))))))))))))
+shown_traced a r m = (refl, (_, refl, inr (inr (2, _, refl, refl, inr (4, got.Value (object 6), _, refl, inr (inr (5, _, refl, refl, inr (6, got.Value a, _, refl, inr (inr (r, m, inr (6, refl)))))))))))
 
 named : (a r : Obj) → IsNone a → IsNone r → AreNamed objects (events_by (object 6) a r)
 named a r n m =
@@ -105,7 +106,7 @@ AfterSum scene = Use (start_env function (object 3 ∷ object 4 ∷ [])) (On_nor
 behind_sum : (scene : Scene) (w : GotAnswer) (ts : List Own) → IsTrace scene function (object 3 ∷ object 4 ∷ []) (Makes ∷ Resumes 2 Start ∷ Asks 2 (request.Binary binary.Add (object 3) (object 4)) None ∷ Gets 4 w ∷ ts) → Answers w 4 ts (AfterSum scene)
 behind_sum scene w ts h =
     let b = begun scene function (object 3 ∷ object 4 ∷ []) _ h in
-    ⊎_elim (λ cut. cc cut.0) (λ more. asked_so _ (request.Binary binary.Add (object 3) (object 4)) (request.Binary binary.Add (object 3) (object 4)) 2 2 4 w ts (AfterSum scene) more) b.1
+    ⊎_elim (λ cut. cc cut.0) (λ more. asked_so _ (request.Binary binary.Add (object 3) (object 4)) (request.Binary binary.Add (object 3) (object 4)) 2 2 4 w ts (AfterSum scene) more) b
 
 -- the sum is shown first
 first_shown : (scene : Scene) (v : Obj) (k : ℕ) (o : Own) (ts : List Own) → Shows scene (locals v) k (o ∷ ts) → (at : ℕ) × (o ≡ Asks at (request.Show v) None)
@@ -140,16 +141,20 @@ no_show_twice r =
     let e = last_told r.globals (object 6) 6 _ _ (behind_show (anywhere objects r.globals) (object 6) (object 6) none_object 4 6 _ (behind_sum (anywhere objects r.globals) (got.Value (object 6)) _ (traced function objects drives shown_twice refl refl r))) in
     cc e.3
 
+-- what is shown is no call, and asks for nothing of a generator
+show_plain : (v : Obj) → IsPlain (request.Show v)
+show_plain v = record { no_call = λ f vs e. cc; not_handled = λ e. cc; no_send = λ g w e. cc; no_throw = λ g k w e. cc; no_close = λ g e. cc }
+
 -- what is shown is answered by None
 gives_none : (plan : Plan) (store : List Payload) (p : Past) (v : Obj) (w : GotAnswer)
     → ((reply : Reply) × ((r : Request) × (Some (request.Show v) ≡ Some r) × IsReply plan store p Asking r reply) × GivesBody store p.events reply w) → GivesBody store p.events (Has payload.None) w
 gives_none plan store p v w (reply, (r, asks, replies), gives) =
     let says = subst (λ (x : Request). IsReply plan store p Asking x reply) (sym (some_is _ _ asks)) replies in
-    subst (λ (x : Reply). GivesBody store p.events x w) (replied (setting plan p) store (request.Show v) reply (λ f vs e. cc) (λ e. cc) says) gives
+    subst (λ (x : Reply). GivesBody store p.events x w) (replied (setting plan p) store (request.Show v) reply (show_plain v) says) gives
 
 pub no_other_answer : IsRunOf trees drives objects (events_by (object 6) (object 6) (object 7)) → ⊥
 no_other_answer r =
-    let e = gives_none (plan_of trees r.asked) objects (past_behind at_first (summed (shows (object 6) []))) (object 6) (got.Value (object 6)) r.run.comes.1.1.1.1.1.1.0.1 in
+    let e = gives_none (plan_of trees r.asked) objects (past_behind (plan_of trees r.asked) at_first (summed (shows (object 6) []))) (object 6) (got.Value (object 6)) r.run.comes.1.1.1.1.1.1.0.1 in
     cc
 
 returned_one : (at at' : ℕ) (v w : Obj) → Ends at (ending.Return v) ≡ Ends at' (ending.Return w) → v ≡ w
@@ -163,14 +168,14 @@ no_other_end r =
     cc
 
 raise_traced : RaiseIsTraced function [] 2 4 (exception 8)
-raise_traced = (refl, (_, refl, (tt, inr (inr (2, _, refl, refl, inr (4, got.Raise (exception 8), _, refl, inr (2, refl)))))))
+raise_traced = (refl, (_, refl, inr (inr (2, _, refl, refl, inr (4, got.Raise (exception 8), _, refl, inr (2, refl))))))
 
 pub raise_ends : IsRunOf trees (overflowing ∷ []) overflow_objects (overflow_by (exception 8))
-raise_ends = overflow_run function refl (runs _ _ _ _ _ _ _ refl refl refl refl) raise_traced
+raise_ends = overflow_run function refl (runs _ _ _ _ _ _ _ refl refl refl) refl raise_traced
 
 pub raise_text : events_text overflow_objects [] (overflow_by (exception 8)) ≡ codes "1 raises OverflowError: integer out of range\n"
 raise_text =
-    let asking : Past = past_behind at_first (entered 1 (asked 1 (object 3) (object 4) [])) in
+    let asking : Past = past_behind (plan_of trees raise_ends.asked) at_first (entered 1 (asked 1 (object 3) (object 4) [])) in
     append-nil (result_text overflow_objects 1 (answer.Raises (exception 8)))
     ∙ overflow_line trees overflow_objects raise_ends.are_objects asking.events (exception 8)
     (gives_sum (plan_of trees raise_ends.asked) overflow_objects asking (object 3) (object 4) greatest (pos 1) (got.Raise (exception 8)) refl refl raise_ends.run.comes.1.1.1.1.0.1)

@@ -12,7 +12,9 @@ pub mod Causes
 pub mod Worked
 pub mod WorkedShow
 pub mod WorkedLoop
+pub mod WorkedFinally
 pub mod WorkedCall
+pub mod WorkedGenerator
 -- what functions inside the crate promise each other
 pub mod Steps
 pub mod Loaded

@@ -1,9 +1,8 @@
 -- What a machine holds once a script's declarations are loaded.
-use Rattle.std.specs.Prelude.{ℕ, suc, Some, None, List, [], ◌∷◌, ◌++◌, ◌≡◌, slice_get, length}
+use Rattle.std.specs.Prelude.{ℕ, suc, Some, List, [], ◌∷◌, ◌++◌, ◌≡◌, slice_get, length}
 use Rattle.py_objects.specs.declared.payload.Payload.{Payload}
 use Rattle.py_objects.specs.declared.payload.Payload.TheVariants as payload
 use Rattle.py_check.specs.declared.annotated.Annotated.{Annotated}
-use Rattle.py_rows.specs.Signature.{kind_of}
 use Rattle.py_tree.specs.Tree.{Tree}
 use Rattle.py_laid.specs.Fits.{Fits}
 use Rattle.py_vm.specs.First.{first_objects}
@@ -19,15 +18,10 @@ function_entries i (t ∷ ts) = payload.Function (record { name = t.name; code =
 abbrev pub script_objects : List Tree → List Payload
 script_objects ts = first_objects ++ function_entries 0 ts
 
--- a code fits a body, and its activations run through, as those of each body do so far
-pub record IsCodeOf (names : List (List ℕ)) (t : Tree) (c : Annotated) : Type 0 where
-  pub fits : Fits names c t
-  pub runs_through : kind_of c.code.code.flags ≡ None
-
 -- there is a checked code for each body, and the one at its place fits it
 pub record AreChecked (ts : List Tree) (cs : Checked) : Type 0 where
   pub count : length cs.codes ≡ length ts
-  pub fit : (i : ℕ) (t : Tree) → slice_get ts i ≡ Some t → (c : Annotated) × (slice_get cs.codes i ≡ Some c) × IsCodeOf cs.names t c
+  pub fit : (i : ℕ) (t : Tree) → slice_get ts i ≡ Some t → (c : Annotated) × (slice_get cs.codes i ≡ Some c) × Fits cs.names c t
 
 -- with more codes, and with more objects
 abbrev pub with_codes : Machine → List Annotated → Machine

@@ -8,6 +8,7 @@ use Rattle.py_objects.specs.declared.payload.CoroKind.{CoroKind}
 use Rattle.py_objects.specs.declared.payload.CoroKind.TheVariants as kind
 use Rattle.py_objects.specs.declared.payload.CoroBody.{CoroBody}
 use Rattle.py_objects.specs.Objects.{Obj, Name, class_object}
+use Rattle.py_code.specs.BuiltinNames.{builtin_name}
 
 -- an object's payload, where it is there
 abbrev pub payload_of : List Payload → Obj → Option Payload
@@ -95,6 +96,7 @@ shown inner objects (Some (payload.Tuple vs)) = tuple_of inner vs
 shown inner objects (Some (payload.Dict ps)) = dict_of inner ps
 shown inner objects (Some (payload.Class c)) = codes "<class '" ++ (encode_utf8_all c.name ++ codes "'>")
 shown inner objects (Some (payload.Function f)) = codes "<function " ++ (encode_utf8_all f.name ++ codes ">")
+shown inner objects (Some (payload.Builtin f)) = codes "<built-in function " ++ (encode_utf8_all (builtin_name f) ++ codes ">")
 shown inner objects (Some (payload.Manager m)) = codes "<manager " ++ (encode_utf8_all m.name ++ codes ">")
 shown inner objects (Some (payload.Frame c)) = codes "<frame>"
 shown inner objects (Some (payload.Generator g)) = coro_of g

@@ -1,5 +1,5 @@
 -- What a script means: which journals are runs of it.
-use Rattle.std.specs.Prelude.{ℕ, ◌≤◌, Some, None, List, [], ◌∷◌, ◌≡◌, slice_get, length, map}
+use Rattle.std.specs.Prelude.{ℕ, ◌≤◌, Option, Some, None, List, [], ◌∷◌, ◌≡◌, slice_get, length, map}
 use Rattle.std.specs.List.{AllZip}
 use Rattle.std.specs.List.Sorted.{IsPermutation}
 use Rattle.py_objects.specs.declared.refs.PyTypeRef.{PyTypeRef}
@@ -21,9 +21,8 @@ use Rattle.py_objects.specs.Objects.{Obj, HasPayload, as_object, declared, AllFi
 use Rattle.py_code.specs.Codes.{Codes}
 use Rattle.py_code.specs.declared.code.PyCode.{PyCode}
 use Rattle.py_check.specs.declared.note.Note.{Note}
-use Rattle.py_rows.specs.Signature.{kind_of}
 use Rattle.py_laid.specs.Fits.{Fits}
-use Rattle.py_tree.specs.Tree.{Tree}
+use Rattle.py_tree.specs.Tree.{Tree, seen_as}
 use Rattle.py_tree.specs.Scene.{anywhere}
 use Rattle.py_tree.specs.Trace.{IsTrace}
 use Rattle.py_lines.specs.declared.drive.DriveAtom.{DriveAtom}
@@ -34,8 +33,8 @@ use Rattle.py_grammar.specs.declared.script.Script.{Script}
 use Rattle.py_grammar.specs.Script.{trees_of, IsScript}
 use Rattle.py_exceptions.specs.BuiltIn.{IsClassOf}
 use Rattle.py_vm.specs.declared.journal.Journal.{Journal}
-use Rattle.py_run.specs.Calls.{Signature}
-use Rattle.py_run.specs.Run.{Posed, Plan, May, EachTells, IsRunBy, IsDone}
+use Rattle.py_run.specs.Run.{Signature, Posed, Plan}
+use Rattle.py_run.specs.Coming.{May, EachTells, IsRunBy, IsDone}
 use Rattle.py_vm.specs.RowsOf.{RowsOf}
 
 -- what the answer of a drive leaves for `$N`: its value or its exception, None where there is none
@@ -64,9 +63,19 @@ IsOf objects events (atom.Drive n) v = IsLeftBy objects events n v
 abbrev pub AreOf : List Payload → List Event → List DriveAtom → List Obj → Type 0
 AreOf objects events atoms vs = AllZip (IsOf objects events) atoms vs
 
--- the request that a drive of a script makes
+-- an object of the value that a drive throws: any None where the line has none
+abbrev pub IsThrown : List Payload → List Event → Option DriveAtom → Obj → Type 0
+IsThrown objects events None v = HasPayload objects v payload.None
+IsThrown objects events (Some a) v = IsOf objects events a v
+
+-- the request that a drive of a script makes: a call, or a send, a throw or a close of what the drive of a number left; `next` sends any None
 abbrev pub AsksThis : List Payload → List Event → DriveLine → Request → Type 0
 AsksThis objects events (drive.Call f args) r = (g : Obj) × (vs : List Obj) × (r ≡ request.Call g vs keywords.None) × (declared objects f ≡ Some g) × AreOf objects events args vs
+AsksThis objects events (drive.Next n) r = (g : Obj) × (v : Obj) × (r ≡ request.Send g v) × IsLeftBy objects events n g × HasPayload objects v payload.None
+AsksThis objects events (drive.Send n a) r = (g : Obj) × (v : Obj) × (r ≡ request.Send g v) × IsLeftBy objects events n g × IsOf objects events a v
+AsksThis objects events (drive.Throw n x a) r =
+    (g : Obj) × (c : Obj) × (v : Obj) × (r ≡ request.Throw g c (Some v) None) × IsLeftBy objects events n g × (declared objects x ≡ Some c) × IsThrown objects events a v
+AsksThis objects events (drive.Close n) r = (g : Obj) × (r ≡ request.Close g) × IsLeftBy objects events n g
 
 -- the same, made by a host that has entered nothing
 abbrev pub Asks : List Payload → List Event → DriveLine → Posed → Type 0
@@ -78,9 +87,9 @@ AreAsked objects events ds [] = Unit {0}
 AreAsked objects events [] (q ∷ qs) = ⊥
 AreAsked objects events (d ∷ ds) (q ∷ qs) = Asks objects events d q × AreAsked objects events ds qs
 
--- the signature of a function; no activation of a script's functions can be suspended so far, since no statement yields
+-- the signature of a function: its parameters, and what its activations are seen as where they can be suspended
 abbrev pub signature_of : Tree → Signature
-signature_of t = record { params = t.params; kind = None }
+signature_of t = record { params = t.params; kind = seen_as t.kind }
 
 -- what a run of these declarations is of, where the drives that were begun ask this
 abbrev pub plan_of : List Tree → List Posed → Plan
@@ -132,11 +141,10 @@ pub record IsRun (s : Script) (j : Journal) : Type 0 where
 abbrev pub IsWhole : Script → Journal → Type 0
 IsWhole s j = IsDone (length s.drives) j.events
 
--- there is a code for each body, and the one at its place fits it, with some notes; activations of codes can't be suspended, as those of bodies can't
+-- there is a code for each body, and the one at its place fits it, with some notes
 pub record AreCompiled (ts : List Tree) (cs : Codes) : Type 0 where
   pub count : length cs.codes ≡ length ts
   pub fit : (i : ℕ) (t : Tree) → slice_get ts i ≡ Some t → (c : PyCode) × (slice_get cs.codes i ≡ Some c) × ((notes : List Note) × Fits cs.names (record { code = c; notes = notes }) t)
-  pub run_through : (i : ℕ) (c : PyCode) → slice_get cs.codes i ≡ Some c → kind_of c.code.flags ≡ None
 
 -- the journal's codes are those of the script's bodies, which they fit, and each activation's own events, with their
 -- units, are a run of the rows of its code

@@ -16,6 +16,7 @@ use Rattle.py_objects.specs.declared.event.Event.TheVariants as event
 use Rattle.py_objects.specs.Objects.{Obj, Name}
 use Rattle.py_objects.specs.Values.{new_exception}
 use Rattle.py_exceptions.specs.Classes.{class_of, first_classes}
+use Rattle.py_tree.specs.declared.body.BodyKind.TheVariants.{Function}
 use Rattle.py_tree.specs.declared.expr.Atom.TheVariants as atom
 use Rattle.py_tree.specs.declared.expr.Operation.TheVariants as operation
 use Rattle.py_tree.specs.declared.expr.Expr.TheVariants as expr
@@ -23,7 +24,7 @@ use Rattle.py_tree.specs.Tree.{Tree, Assign, Return, nothing, first}
 use Rattle.py_lines.specs.declared.drive.DriveAtom.TheVariants as argument
 use Rattle.py_lines.specs.declared.drive.DriveLine.{DriveLine}
 use Rattle.py_lines.specs.declared.drive.DriveLine.TheVariants as drive
-use Rattle.py_run.specs.Run.{IsDone}
+use Rattle.py_run.specs.Coming.{IsDone}
 use Rattle.py_vm.specs.First.{first_objects}
 use Rattle.py_script.specs.Whole.{IsRunOf}
 use Rattle.py_script.specs.Text.{events_text}
@@ -36,6 +37,7 @@ script = codes "def f a b\nx = (add a b)\nreturn x\nend\ncall f 33 12\n"
 abbrev pub function : Tree
 function =
     record {
+      kind = Function;
       name = codes "f";
       params = codes "a" ∷ codes "b" ∷ [];
       suite = first 2 (Assign (codes "x") (expr.Operation (operation.Add (atom.Name (codes "a")) (atom.Name (codes "b"))))) (first 3 (Return (atom.Name (codes "x"))) nothing);

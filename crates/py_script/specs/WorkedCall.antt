@@ -13,6 +13,7 @@ use Rattle.py_objects.specs.declared.event.DriveAnswer.TheVariants as answer
 use Rattle.py_objects.specs.declared.event.Event.{Event}
 use Rattle.py_objects.specs.declared.event.Event.TheVariants as event
 use Rattle.py_objects.specs.Objects.{Obj, Name, HasPayload}
+use Rattle.py_tree.specs.declared.body.BodyKind.TheVariants.{Function}
 use Rattle.py_tree.specs.declared.expr.Atom.TheVariants as atom
 use Rattle.py_tree.specs.declared.expr.Operation.TheVariants as operation
 use Rattle.py_tree.specs.declared.expr.Expr.TheVariants as expr
@@ -20,8 +21,7 @@ use Rattle.py_tree.specs.Tree.{Tree, Assign, Return, nothing, first}
 use Rattle.py_lines.specs.declared.drive.DriveAtom.TheVariants as argument
 use Rattle.py_lines.specs.declared.drive.DriveLine.{DriveLine}
 use Rattle.py_lines.specs.declared.drive.DriveLine.TheVariants as drive
-use Rattle.py_run.specs.Calls.{Signature}
-use Rattle.py_run.specs.Run.{Plan}
+use Rattle.py_run.specs.Run.{Signature, Plan}
 use Rattle.py_vm.specs.First.{first_objects}
 use Rattle.py_script.specs.Worked.{object, exception, function_entry, exception_entry}
 
@@ -31,12 +31,13 @@ script = codes "def g a b\nreturn a\nend\ndef f\nx = (call g 7 8)\nreturn x\nend
 
 -- def g a b / return a / end
 abbrev pub callee : Tree
-callee = record { name = codes "g"; params = codes "a" ∷ codes "b" ∷ []; suite = first 2 (Return (atom.Name (codes "a"))) nothing; line = 1 }
+callee = record { kind = Function; name = codes "g"; params = codes "a" ∷ codes "b" ∷ []; suite = first 2 (Return (atom.Name (codes "a"))) nothing; line = 1 }
 
 -- def f / x = (call g 7 8) / return x / end
 abbrev pub caller : Tree
 caller =
     record {
+      kind = Function;
       name = codes "f";
       params = [];
       suite = first 5 (Assign (codes "x") (expr.Operation (operation.Call (atom.Name (codes "g")) (atom.Int (pos 7) ∷ atom.Int (pos 8) ∷ [])))) (first 6 (Return (atom.Name (codes "x"))) nothing);

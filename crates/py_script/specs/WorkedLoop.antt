@@ -14,6 +14,7 @@ use Rattle.py_objects.specs.declared.error_kind.ErrorKind.{ErrorKind}
 use Rattle.py_objects.specs.declared.error_kind.ErrorKind.TheVariants.{NameError}
 use Rattle.py_objects.specs.Objects.{Obj, Name}
 use Rattle.py_objects.specs.Singletons.{none_object}
+use Rattle.py_tree.specs.declared.body.BodyKind.TheVariants.{Function}
 use Rattle.py_tree.specs.declared.expr.Atom.TheVariants as atom
 use Rattle.py_tree.specs.Tree.{Suite, Show, While, nothing, first, Tree}
 use Rattle.py_lines.specs.declared.drive.DriveLine.{DriveLine}
@@ -26,7 +27,7 @@ script = codes "def f\nwhile True\nend\nend\ncall f\n"
 
 -- a function f without parameters
 abbrev pub function_of : Suite → Tree
-function_of s = record { name = codes "f"; params = []; suite = s; line = 1 }
+function_of s = record { kind = Function; name = codes "f"; params = []; suite = s; line = 1 }
 
 -- def f / while True / end / end
 abbrev pub function : Tree

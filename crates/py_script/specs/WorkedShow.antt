@@ -11,6 +11,7 @@ use Rattle.py_objects.specs.declared.event.Event.TheVariants as event
 use Rattle.py_objects.specs.declared.error_kind.ErrorKind.TheVariants.{OverflowError}
 use Rattle.py_objects.specs.Objects.{Obj}
 use Rattle.py_objects.specs.Singletons.{none_object}
+use Rattle.py_tree.specs.declared.body.BodyKind.TheVariants.{Function}
 use Rattle.py_tree.specs.declared.expr.Atom.TheVariants as atom
 use Rattle.py_tree.specs.declared.expr.Operation.TheVariants as operation
 use Rattle.py_tree.specs.declared.expr.Expr.TheVariants as expr
@@ -26,6 +27,7 @@ script = codes "def g a b\nx = (add a b)\nshow x\nend\ncall g 33 12\n"
 abbrev pub function : Tree
 function =
     record {
+      kind = Function;
       name = codes "g";
       params = codes "a" ∷ codes "b" ∷ [];
       suite = first 2 (Assign (codes "x") (expr.Operation (operation.Add (atom.Name (codes "a")) (atom.Name (codes "b"))))) (first 3 (Show (atom.Name (codes "x"))) nothing);

@@ -2,7 +2,6 @@
 
 ghost use Rattle.std.specs.Prelude.{false, ◌≡◌, ◌≤◌, ◌<◌, [], IfOk, OnOk, map, length, All};
 ghost use Rattle.py_objects.specs.Objects.{HasPayload, declared, pair_numbers, AllBelow};
-ghost use Rattle.py_laid.specs.Code.{IsPlain};
 ghost use Rattle.py_laid.specs.Fits.{Fits, Continues};
 ghost use Rattle.py_laid.specs.Instructions.{UsesCompiled};
 ghost use Rattle.py_body.specs.Codes.{Each};
@@ -32,7 +31,6 @@ fn compile_declaration(
     requires { IsWellDeclared (declared_tree declaration.now) }
     ensures one { IfOk result (λ codes. length codes ≡ 1) }
     ensures fits { IfOk result (λ codes. Each (λ code. Fits names.new code (declared_tree declaration.now)) codes) }
-    ensures plain { IfOk result (λ codes. Each (λ code. IsPlain code (declared_tree declaration.now)) codes) }
     ensures uses { IfOk result (λ codes. Each (λ code. UsesCompiled code.code) codes) }
     ensures grows { Continues names.old names.new }
 {

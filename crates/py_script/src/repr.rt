@@ -1,12 +1,13 @@
 //! The representation of objects, behind a text.
 
 ghost use Rattle.std.specs.Prelude.{◌≡◌, ◌++◌, Some, OnOk, string_bytes, encode_utf8_all, codes, if◌then◌else◌};
+ghost use Rattle.py_code.specs.BuiltinNames.{builtin_name};
 ghost use Rattle.py_objects.specs.Objects.{class_object};
 ghost use Rattle.py_script.specs.Repr.{class_name, coro_front, coro_of, dict_of, in_parentheses, items_of, joined, pair_by, payload_of, repr_within, shown, tuple_of};
 ghost use Rattle.py_script.specs.Writing.{inner_at};
 
 use crate::quoted::push_quoted;
-use py_code::{NoMemory, PyText, push_utf8};
+use py_code::{BuiltinFn, NoMemory, PyText, push_utf8, text_of};
 use py_objects::{CoroBody, CoroKind, Payload, PayloadList, PyObjectRef, PyTypeRef};
 
 /// Puts the representation of an object behind the text. It may hold others so deep; nothing
@@ -44,6 +45,7 @@ fn push_payload(
         Payload::Dict(pairs) => push_dict(out, objects, pairs.as_slice(), depth)?,
         Payload::Class(class) => push_named(out, "<class '", &class.value().name, "'>")?,
         Payload::Function(function) => push_named(out, "<function ", &function.name, ">")?,
+        Payload::Builtin(function) => push_builtin(out, *function)?,
         Payload::Manager(manager) => push_named(out, "<manager ", &manager.name, ">")?,
         Payload::Frame(_) => out.push_str("<frame>")?,
         Payload::Generator(coro) => push_coro(out, coro)?,
@@ -222,6 +224,14 @@ fn push_named(out: &mut String, front: &str, name: &PyText, back: &str) -> Resul
     Ok(())
 }
 
+/// Puts a function of the machine's own behind the text.
+fn push_builtin(out: &mut String, function: BuiltinFn) -> Result<(), NoMemory>
+    ensures { OnOk result (string_bytes out.new ≡ string_bytes out.old ++ (codes "<built-in function " ++ (encode_utf8_all (builtin_name function) ++ codes ">"))) }
+{
+    let name = text_of(*out.allocator(), function.name())?;
+    push_named(out, "<built-in function ", &name, ">")
+}
+
 /// Puts the name of a class behind the text: nothing, where it isn't there or is none.
 pub(crate) fn push_class_name(
     out: &mut String,
@@ -242,6 +252,7 @@ pub(crate) fn push_class_name(
         | Payload::Tuple(_)
         | Payload::Dict(_)
         | Payload::Function(_)
+        | Payload::Builtin(_)
         | Payload::Manager(_)
         | Payload::Frame(_)
         | Payload::Generator(_)
@@ -266,6 +277,7 @@ pub(crate) fn tuple_items(objects: &PayloadList, object: PyObjectRef) -> &[PyObj
         | Payload::Dict(_)
         | Payload::Class(_)
         | Payload::Function(_)
+        | Payload::Builtin(_)
         | Payload::Manager(_)
         | Payload::Frame(_)
         | Payload::Generator(_)

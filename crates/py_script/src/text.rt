@@ -148,6 +148,7 @@ fn push_exception(
         | Payload::Dict(_)
         | Payload::Class(_)
         | Payload::Function(_)
+        | Payload::Builtin(_)
         | Payload::Manager(_)
         | Payload::Frame(_)
         | Payload::Generator(_)

@@ -6,7 +6,7 @@ ghost use Rattle.py_objects.specs.declared.error_kind.ErrorKind.TheVariants.{Ove
 ghost use Rattle.py_grammar.specs.Lines.{lines};
 ghost use Rattle.py_grammar.specs.Script.{Spells};
 ghost use Rattle.py_code.specs.Range.{in_range};
-ghost use Rattle.py_run.specs.Run.{IsDone};
+ghost use Rattle.py_run.specs.Coming.{IsDone};
 ghost use Rattle.py_script.specs.Whole.{IsRunOf};
 ghost use Rattle.py_script.specs.Text.{events_text};
 ghost use Rattle.py_script.specs.Worked.{script, trees, drives, object, exception, function_entry, objects_by, objects, objects_with_manager, events_by, events, unfinished, with_round, without_end, swapped, driven_twice, overflowing, error_entry, raising_objects, overflow_objects, caused_objects, raises, overflow_by, Writes};

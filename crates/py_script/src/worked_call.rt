@@ -1,6 +1,7 @@
 //! A journal of functions that call that was worked by hand, and what the definitions say of it.
 
-ghost use Rattle.std.specs.Prelude.{◌≡◌, [], ◌∷◌, List, None, codes};
+ghost use Rattle.std.specs.Prelude.{◌≡◌, [], ◌∷◌, List, Some, None, codes};
+ghost use Rattle.py_objects.specs.declared.payload.CoroKind.{CoroKind};
 ghost use Rattle.py_objects.specs.declared.payload.Payload.{Payload};
 ghost use Rattle.py_objects.specs.Objects.{Obj};
 ghost use Rattle.py_grammar.specs.Lines.{lines};
@@ -8,7 +9,8 @@ ghost use Rattle.py_grammar.specs.Script.{Spells};
 ghost use Rattle.py_objects.specs.declared.request.Keywords.TheVariants as keywords;
 ghost use Rattle.py_objects.specs.declared.request.Request.TheVariants as request;
 ghost use Rattle.py_run.specs.Calls.{Enters, CallsFunction, ComesTo};
-ghost use Rattle.py_run.specs.Run.{Plan, Past, depth, setting, IsDone};
+ghost use Rattle.py_run.specs.Run.{Plan, depth};
+ghost use Rattle.py_run.specs.Coming.{Past, setting, IsDone};
 ghost use Rattle.py_script.specs.Whole.{AreGlobals, IsRunOf};
 ghost use Rattle.py_script.specs.Text.{events_text};
 ghost use Rattle.py_script.specs.Worked.{object};
@@ -37,7 +39,8 @@ pub fn worked_calls()
     // What is refused is never made.
     ensures no_activation_of_a_refused_drive { IsRunOf trees drives objects refused_made → ⊥ }
     // A function whose activations can't be suspended, and that gets its own number of arguments, is entered where 999 activations run; where
-    // 1000 run, its call enters nothing.
+    // 1000 run, its call enters nothing. The activation of a generator function is made at any depth.
     ensures entry_at_999 { (plan : Plan) → (p : Past) → (store : List Payload) → (f : Obj) → (vs : List Obj) → (full : IsFull plan store f vs) → full.signature.kind ≡ None → depth plan p.state ≡ 999 → CallsFunction (setting plan p) store f vs (Enters f vs) }
-    ensures no_entry_at_1000 { (plan : Plan) → (p : Past) → (store : List Payload) → (f : Obj) → (vs : List Obj) → (g : Obj) → (ws : List Obj) → IsFull plan store f vs → depth plan p.state ≡ 1000 → ComesTo (setting plan p) store (request.Call f vs keywords.None) (Enters g ws) → ⊥ }
+    ensures no_entry_at_1000 { (plan : Plan) → (p : Past) → (store : List Payload) → (f : Obj) → (vs : List Obj) → (g : Obj) → (ws : List Obj) → (full : IsFull plan store f vs) → full.signature.kind ≡ None → depth plan p.state ≡ 1000 → ComesTo (setting plan p) store (request.Call f vs keywords.None) (Enters g ws) → ⊥ }
+    ensures made_at_any_depth { (plan : Plan) → (p : Past) → (store : List Payload) → (f : Obj) → (vs : List Obj) → (full : IsFull plan store f vs) → (kind : CoroKind) → full.signature.kind ≡ Some kind → CallsFunction (setting plan p) store f vs (Enters f vs) }
 {}

@@ -5,7 +5,7 @@ ghost use Rattle.py_objects.specs.declared.error_kind.ErrorKind.TheVariants.{Typ
 ghost use Rattle.py_objects.specs.Singletons.{none_object};
 ghost use Rattle.py_grammar.specs.Lines.{lines};
 ghost use Rattle.py_grammar.specs.Script.{Spells};
-ghost use Rattle.py_run.specs.Run.{IsDone};
+ghost use Rattle.py_run.specs.Coming.{IsDone};
 ghost use Rattle.py_script.specs.Whole.{IsRunOf};
 ghost use Rattle.py_script.specs.Text.{events_text};
 ghost use Rattle.py_script.specs.WorkedLoop.{script, trees, drives, objects_by, objects, events, without_round, untested, left_early, unknown_script, unknown_trees, unknown_by, unknown_objects, unknown_events, asked_in, unknown_given};

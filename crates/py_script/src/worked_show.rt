@@ -6,7 +6,7 @@ ghost use Rattle.py_objects.specs.Objects.{Obj, HasPayload};
 ghost use Rattle.py_objects.specs.Singletons.{none_object};
 ghost use Rattle.py_grammar.specs.Lines.{lines};
 ghost use Rattle.py_grammar.specs.Script.{Spells};
-ghost use Rattle.py_run.specs.Run.{IsDone};
+ghost use Rattle.py_run.specs.Coming.{IsDone};
 ghost use Rattle.py_script.specs.Whole.{IsRunOf};
 ghost use Rattle.py_script.specs.Text.{events_text};
 ghost use Rattle.py_script.specs.Worked.{object, exception, overflow_by};

@@ -6,7 +6,7 @@ use Rattle.py_tree.specs.Tree.{Tree}
 use Rattle.py_grammar.specs.Script.{declared_tree}
 use Rattle.py_grammar.specs.WellFormed.{IsWellDeclared}
 use Rattle.py_vm.specs.Codes.{CodeIsAnswered}
-use Rattle.py_script.specs.Loaded.{IsCodeOf, AreChecked}
+use Rattle.py_script.specs.Loaded.{AreChecked}
 use Rattle.py_script.proofs.Declarations.{entry_mapped, entry_read, front_more, front_whole, none_checked, checked_more, one_of_all}
 use Rattle.py_script.proofs.loading.compile_all.Goals as goal
 
@@ -33,8 +33,7 @@ loop-declaration-preserved c =
     let code = c.in_ok-code.code in
     let tree = declared_tree c.declaration-item.result in
     let answered : CodeIsAnswered code.code = c.in_ok-code.ensures.answered in
-    let is_of : IsCodeOf names tree code = record { fits = c.in_ok-code.ensures.fits; runs_through = answered.runs_through } in
-    let more = checked_more front c.loop-declaration.names names codes tree code c.loop-declaration.invariant.checked c.compile_one.ensures.grows is_of in
+    let more = checked_more front c.loop-declaration.names names codes tree code c.loop-declaration.invariant.checked c.compile_one.ensures.grows c.in_ok-code.ensures.fits in
     record {
       checked = subst (λ (cs : List Annotated). AreChecked (map declared_tree (take (i + 1) ds)) (record { names = names; codes = cs })) (sym c.in_ok-push.ensures.items)
           (subst (λ (ts : List Tree). AreChecked ts (record { names = names; codes = codes ++ code ∷ [] })) (sym (front_more declared_tree ds i c.declaration-item.result c.loop-declaration-test.true c.declaration-item.is)) more);

@@ -1,6 +1,5 @@
 use Rattle.std.proofs.Common.{refl, subst, sym}
 use Rattle.py_check.specs.declared.annotated.Annotated.{Annotated}
-use Rattle.py_laid.specs.Code.{IsPlain}
 use Rattle.py_laid.specs.Fits.{Fits}
 use Rattle.py_laid.specs.Instructions.{UsesCompiled, is_compiled}
 use Rattle.py_laid.proofs.Uses.{compiled_raise}
@@ -8,7 +7,7 @@ use Rattle.py_body.proofs.CodesLemmas.{last_of_each}
 use Rattle.py_grammar.specs.Script.{declared_tree}
 use Rattle.py_vm.specs.Codes.{CodeIsAnswered}
 use Rattle.py_vm.proofs.CodesLemmas.{AreAnswered, code_answered}
-use Rattle.py_script.proofs.Declarations.{plain_runs_through}
+use Rattle.py_script.proofs.Declarations.{fits_driven}
 use Rattle.py_script.proofs.loading.compile_one.Goals as goal
 
 pub returns-clause-fits : goal.returns-clause-fits
@@ -18,12 +17,12 @@ returns-clause-fits c =
 
 -- the machine answers what code asks that bodies are compiled to
 compiled_answered : AreAnswered is_compiled
-compiled_answered = record { no_enter = λ arg. refl; no_exit = λ arg. refl; no_yield = λ arg. refl; no_cause = compiled_raise }
+compiled_answered = record { no_enter = λ arg. refl; no_exit = λ arg. refl; no_cause = compiled_raise }
 
 pub returns-clause-answered : goal.returns-clause-answered
 returns-clause-answered c =
+    let names = c.compile_declaration.new.names in
     let tree = declared_tree c.args.declaration.now in
     let uses = last_of_each (λ (code : Annotated). UsesCompiled code.code) _ _ _ _ _ c.into_vec.ensures c.pop.ensures.items c.in-Some.is c.in_ok-codes.ensures.uses in
-    let plain = last_of_each (λ (code : Annotated). IsPlain code tree) _ _ _ _ _ c.into_vec.ensures c.pop.ensures.items c.in-Some.is c.in_ok-codes.ensures.plain in
-    subst (λ (code : Annotated). CodeIsAnswered code.code) (sym c.of.ensures)
-    (code_answered is_compiled compiled_answered c.in-Some.code.code uses (plain_runs_through c.in-Some.code tree plain))
+    let fits = last_of_each (λ (code : Annotated). Fits names code tree) _ _ _ _ _ c.into_vec.ensures c.pop.ensures.items c.in-Some.is c.in_ok-codes.ensures.fits in
+    subst (λ (code : Annotated). CodeIsAnswered code.code) (sym c.of.ensures) (code_answered is_compiled compiled_answered c.in-Some.code.code uses (fits_driven names c.in-Some.code tree fits))

@@ -1,7 +1,7 @@
 use Rattle.std.proofs.Common.{◌≡◌, List, true, false, subst, sym, ◌∙◌}
 use Rattle.py_objects.specs.declared.event.Event.{Event}
 use Rattle.py_grammar.specs.Script.{trees_of}
-use Rattle.py_run.specs.Run.{Comes, nothing}
+use Rattle.py_run.specs.Coming.{Comes, nothing}
 use Rattle.py_script.specs.Whole.{plan_of}
 use Rattle.py_script.proofs.worked_answer.worked_answers.Goals as goal
 

@@ -1,4 +1,4 @@
-use Rattle.py_script.proofs.WorkedCallLemmas.{any_order, no_name_unbound, spelled, is_run, text, no_other_object, no_callee_made_twice, no_other_number, no_swapped_arguments, no_other_result, no_activation_of_a_refused_drive, entry_at_999, no_entry_at_1000}
+use Rattle.py_script.proofs.WorkedCallLemmas.{any_order, no_name_unbound, spelled, is_run, text, no_other_object, no_callee_made_twice, no_other_number, no_swapped_arguments, no_other_result, no_activation_of_a_refused_drive, entry_at_999, no_entry_at_1000, made_at_any_depth}
 use Rattle.py_script.proofs.worked_call.worked_calls.Goals as goal
 
 pub returns-clause-spelled : goal.returns-clause-spelled
@@ -39,3 +39,6 @@ returns-clause-entry_at_999 c = entry_at_999
 
 pub returns-clause-no_entry_at_1000 : goal.returns-clause-no_entry_at_1000
 returns-clause-no_entry_at_1000 c = no_entry_at_1000
+
+pub returns-clause-made_at_any_depth : goal.returns-clause-made_at_any_depth
+returns-clause-made_at_any_depth c = made_at_any_depth

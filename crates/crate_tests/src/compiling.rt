@@ -1,0 +1,81 @@
+//! The code of a generator with each operation that yields, or that drives another generator.
+
+ghost use Rattle.std.specs.Prelude.{◌≡◌, IfOk};
+ghost use Rattle.py_tree.specs.Compilable.{IsCompilable};
+ghost use Rattle.py_tree.specs.Views.{tree_of};
+
+use py_body::{Atom, Body, BodyKind, Operation, ParamList, Stmt, StmtForm, StmtList, compile_body};
+use py_code::{CodeFlags, Instruction, Names, NoMemory, text_of};
+use std::alloc::Global;
+use std::test::Fail;
+
+fn line(line: u32, form: StmtForm) -> Stmt
+    ensures { result ≡ record { line = line; form = form } }
+{
+    Stmt { line, form }
+}
+
+/// A generator with one of each:
+///
+/// ```text
+/// gen g
+/// do (yield 1)
+/// do (send None 2)
+/// do (throw None 3)
+/// do (close None)
+/// end
+/// ```
+fn driving(alloc: Global) -> Result<Body, NoMemory>
+    ensures { IfOk result (λ body. IsCompilable (tree_of body)) }
+{
+    let mut suite = StmtList::new(alloc);
+    suite.push(line(2, StmtForm::Do(Operation::Yield(Atom::Int(1)))))?;
+    suite.push(line(3, StmtForm::Do(Operation::Send(Atom::None, Atom::Int(2)))))?;
+    suite.push(line(4, StmtForm::Do(Operation::Throw(Atom::None, Atom::Int(3)))))?;
+    suite.push(line(5, StmtForm::Do(Operation::Close(Atom::None))))?;
+    Ok(Body {
+        kind: BodyKind::Generator,
+        name: text_of(alloc, b"g")?,
+        params: ParamList::new(alloc),
+        suite,
+        line: 1,
+    })
+}
+
+#[test]
+fn a_generator_yields_by_a_unit_and_drives_by_calls(rt: HostRuntime) -> Result<(), Fail> {
+    let load = Instruction::LoadConst;
+    let call = Instruction::CallFunctionPositional;
+    let units = [
+        (load, 0),
+        (Instruction::YieldValue, 0),
+        (Instruction::Pop, 0),
+        (load, 1),
+        (load, 2),
+        (load, 3),
+        (call, 2),
+        (Instruction::Pop, 0),
+        (load, 4),
+        (load, 5),
+        (load, 6),
+        (call, 2),
+        (Instruction::Pop, 0),
+        (load, 7),
+        (load, 8),
+        (call, 1),
+        (Instruction::Pop, 0),
+        (Instruction::ReturnConst, 9),
+    ];
+    let body = driving(rt.alloc())?;
+    let mut names = Names::new(rt.alloc());
+    let codes = compile_body(rt.alloc(), &mut names, &body, 0)?;
+    let code = codes.as_slice().first().map(|annotated| &annotated.code);
+    let flags = code.map(|code| code.co_flags());
+    let wanted = CodeFlags::NEW_LOCALS | CodeFlags::IS_OPTIMIZED | CodeFlags::IS_GENERATOR;
+    assert_eq!(rt; flags, Some(wanted));
+    for (at, want) in units.into_iter().enumerate() {
+        let unit = code.and_then(|code| code.decoded(at));
+        assert_eq!(rt; unit.map(|unit| (unit.op, unit.arg.0)), Some(want));
+    }
+    Ok(())
+}
