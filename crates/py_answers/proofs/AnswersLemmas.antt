@@ -15,7 +15,7 @@ use Rattle.py_code.specs.declared.operator.ComparisonOperator.{ComparisonOperato
 use Rattle.py_code.specs.declared.operator.ComparisonOperator.TheVariants as comparison
 use Rattle.py_objects.specs.Objects.{Obj, Name, HasPayload, as_exception, declared, numbers, keyword_numbers, request_numbers, AllBelow, IsMade}
 use Rattle.py_objects.specs.Values.{number_of, text_of}
-use Rattle.py_answers.specs.Answers.{Reply, Has, Fails, whole, sum, difference, truth, text_less, not_supported, operated, on_both, found, Compares, MatchesAs, MatchesClass, raised_as, Raises, CallsAs, CallsClass, Lacks, LacksAs, Replies}
+use Rattle.py_answers.specs.Answers.{Reply, Has, Fails, whole, sum, difference, truth, text_less, not_supported, operated, on_both, found, Compares, MatchesAs, MatchesClass, raised_as, Raises, CallsAs, CallsClass, Lacks, LacksAs, no_protocol, no_exit, IsRefusedBy, RefusesEntry, RefusesExit, CallsExit, Replies}
 use Rattle.py_answers.specs.Replying.{joined, IsThere, IsSum, IsDifference, IsLess}
 use Rattle.py_exceptions.specs.declared.ctor.ExceptionCtor.{ExceptionCtor}
 use Rattle.py_exceptions.specs.declared.ctor.ExceptionCtor.TheVariants as ctor
@@ -179,6 +179,21 @@ lacks_as_give objects name _ reply (n, named, is) = subst (IsThere objects) (sym
 lacks_give : (objects : List Payload) (name : Name) (g : Obj) (reply : Reply) → Lacks objects name g reply → IsThere objects reply
 lacks_give objects name g reply (p, has, lacks) = lacks_as_give objects name p reply lacks
 
+-- of the refusal by a text
+refused_by_gives : (objects : List Payload) (text : Name → Name) (p : Payload) (reply : Reply) → IsRefusedBy objects text p reply → IsThere objects reply
+refused_by_gives objects text p reply (n, named, is) = subst (IsThere objects) (sym is) tt
+
+-- so of that of an entry, and of a missing exit
+refused_entry_gives : (objects : List Payload) (m : Obj) (reply : Reply) → RefusesEntry objects m reply → IsThere objects reply
+refused_entry_gives objects m reply (p, has, none, refused) = refused_by_gives objects no_protocol p reply refused
+
+refused_exit_gives : (objects : List Payload) (m : Obj) (reply : Reply) → RefusesExit objects m reply → IsThere objects reply
+refused_exit_gives objects m reply (p, has, refused) = refused_by_gives objects no_exit p reply refused
+
+-- and of an exit that is no manager
+exit_gives : (objects : List Payload) (x : Obj) (told : List Obj) (reply : Reply) → AllBelow (length objects) (numbers told) → CallsExit objects x told reply → IsThere objects reply
+exit_gives objects x told reply below (p, has, none, calls) = calls_as_give objects x p told reply has below calls
+
 -- the front of numbers that are below
 front_below : (n : ℕ) (xs ys : List ℕ) → AllBelow n (xs ++ ys) → AllBelow n xs
 front_below n [] ys below = tt
@@ -199,4 +214,7 @@ replied_there objects (request.Call f vs named) reply below (none, (p, has, call
 replied_there objects (request.Send g v) reply below lacks = lacks_give objects (codes "send") g reply lacks
 replied_there objects (request.Throw g c v t) reply below lacks = lacks_give objects (codes "throw") g reply lacks
 replied_there objects (request.Close g) reply below lacks = lacks_give objects (codes "close") g reply lacks
+replied_there objects (request.Enter m) reply below refused = refused_entry_gives objects m reply refused
+replied_there objects (request.NoExit m) reply below refused = refused_exit_gives objects m reply refused
+replied_there objects (request.Exit x c e t) reply below calls = exit_gives objects x (c ∷ e ∷ t ∷ []) reply below.1 calls
 replied_there objects _ reply below is = absurd is

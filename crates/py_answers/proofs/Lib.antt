@@ -1,5 +1,7 @@
 -- what is read of objects
 pub mod ReadingLemmas
+-- objects that answers can read, as they grow and change
+pub mod ReadableLemmas
 -- replies by cases on the operands
 pub mod AnswersLemmas
 -- replies among more objects

@@ -29,7 +29,7 @@ use Rattle.py_exceptions.specs.declared.ctor.CtorFault.TheVariants as ctor_fault
 use Rattle.py_exceptions.specs.Raisable.{ClassTaken, IsTaken, IsTakenFor}
 use Rattle.py_exceptions.specs.Deriving.{IsInstanceOf}
 use Rattle.py_exceptions.proofs.TypeNamesLemmas.{type_name_grows}
-use Rattle.py_answers.specs.Answers.{Raised, This, Called, BuiltIn, Reply, Has, Is, Makes, Creates, Fails, FailsFrom, Passes, truth, found, Compares, MatchesAs, MatchesClass, Raises, IsRefusedCall, Calls, CallsAs, CallsClass, IsLacking, Lacks, LacksAs, Replies}
+use Rattle.py_answers.specs.Answers.{Raised, This, Called, BuiltIn, Reply, Has, Is, Makes, Creates, Fails, FailsFrom, Passes, truth, found, Compares, MatchesAs, MatchesClass, Raises, IsRefusedCall, Calls, CallsAs, CallsClass, IsLacking, Lacks, LacksAs, no_protocol, no_exit, IsRefusedBy, RefusesEntry, RefusesExit, CallsExit, Replies}
 use Rattle.py_answers.specs.Answers.{IsRaised, IsRaisedFrom, IsRaise, IsInstance, IsCalled, IsCreated, for_body, GivesValue, GivesRaise, GivesBody, GivesDrive}
 
 -- objects that are there are one key as before
@@ -137,6 +137,24 @@ lacks_grow : (objects objects' : List Payload) (name : Name) (g : Obj) (reply : 
 lacks_grow objects objects' name g reply grows (p, has, lacks) =
     (p, payload_grown objects objects' g p (plainly_grows objects objects' grows) has, lacks_as_grow objects objects' name p reply grows lacks)
 
+-- and the refusal by a text
+refused_by_grows : (objects objects' : List Payload) (text : Name → Name) (p : Payload) (reply : Reply) → GrowsPlainly objects objects' → IsRefusedBy objects text p reply → IsRefusedBy objects' text p reply
+refused_by_grows objects objects' text p reply grows (n, named, is) = (n, type_name_grows objects objects' p n (plainly_grows objects objects' grows) named, is)
+
+-- so does that of an entry, and of a missing exit
+refused_entry_grows : (objects objects' : List Payload) (m : Obj) (reply : Reply) → GrowsPlainly objects objects' → RefusesEntry objects m reply → RefusesEntry objects' m reply
+refused_entry_grows objects objects' m reply grows (p, has, none, refused) =
+    (p, payload_grown objects objects' m p (plainly_grows objects objects' grows) has, none, refused_by_grows objects objects' no_protocol p reply grows refused)
+
+refused_exit_grows : (objects objects' : List Payload) (m : Obj) (reply : Reply) → GrowsPlainly objects objects' → RefusesExit objects m reply → RefusesExit objects' m reply
+refused_exit_grows objects objects' m reply grows (p, has, refused) =
+    (p, payload_grown objects objects' m p (plainly_grows objects objects' grows) has, refused_by_grows objects objects' no_exit p reply grows refused)
+
+-- and what an exit comes to that is no manager
+exit_grows : (objects objects' : List Payload) (x : Obj) (told : List Obj) (reply : Reply) → GrowsPlainly objects objects' → CallsExit objects x told reply → CallsExit objects' x told reply
+exit_grows objects objects' x told reply grows (p, has, none, calls) =
+    (p, payload_grown objects objects' x p (plainly_grows objects objects' grows) has, none, calls_as_grow objects objects' x p told reply grows calls)
+
 -- so do replies, as more objects come that declare nothing
 pub replies_grow : (objects objects' : List Payload) (r : Request) (reply : Reply) → GrowsPlainly objects objects' → Replies objects r reply → Replies objects' r reply
 replies_grow objects objects' (request.Binary op a b) reply grows (p, q, left, right, has_p, has_q, is_left, is_right, is) =
@@ -164,6 +182,9 @@ replies_grow objects objects' (request.Call f vs named) reply grows (none, calls
 replies_grow objects objects' (request.Send g v) reply grows lacks = lacks_grow objects objects' (codes "send") g reply grows lacks
 replies_grow objects objects' (request.Throw g c v t) reply grows lacks = lacks_grow objects objects' (codes "throw") g reply grows lacks
 replies_grow objects objects' (request.Close g) reply grows lacks = lacks_grow objects objects' (codes "close") g reply grows lacks
+replies_grow objects objects' (request.Enter m) reply grows refused = refused_entry_grows objects objects' m reply grows refused
+replies_grow objects objects' (request.NoExit m) reply grows refused = refused_exit_grows objects objects' m reply grows refused
+replies_grow objects objects' (request.Exit x c e t) reply grows calls = exit_grows objects objects' x (c ∷ e ∷ t ∷ []) reply grows calls
 replies_grow objects objects' _ reply grows is = absurd is
 
 -- a new exception still is one

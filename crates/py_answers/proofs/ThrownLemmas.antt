@@ -5,6 +5,7 @@ use Rattle.std.proofs.lemmas.Option.{same_Some}
 use Rattle.py_objects.specs.declared.refs.PyTypeRef.{PyTypeRef}
 use Rattle.py_objects.specs.declared.payload.Payload.{Payload}
 use Rattle.py_objects.specs.declared.payload.Payload.TheVariants as payload
+use Rattle.py_objects.specs.declared.payload.ExceptionBody.{ExceptionBody}
 use Rattle.py_objects.specs.Objects.{Obj, class_object, IsMade}
 use Rattle.py_objects.specs.Pairs.{Pairs}
 use Rattle.py_objects.specs.Growth.{Grows, GrowsPlainly}
@@ -88,13 +89,20 @@ dict_instantiates objects (ctor.Class class) v outcome ps qs (false, one, comes_
 dict_instantiates objects (ctor.Class class) v outcome ps qs (true, one, comes_to) = (true, one, comes_to)
 dict_instantiates objects (ctor.Instance e) v outcome ps qs is = is
 
+-- and with an exception, whatever its traceback
+traced_instantiates : (objects : List Payload) (c : ExceptionCtor) (v : Obj) (outcome : Instantiate) (x : ExceptionBody) (t : Option Obj)
+    → InstantiatesAs objects c v (payload.Exception (record x { traceback = t })) outcome → InstantiatesAs objects c v (payload.Exception x) outcome
+traced_instantiates objects (ctor.Class class) v outcome x t (false, one, comes_to) = (false, one, comes_to)
+traced_instantiates objects (ctor.Class class) v outcome x t (true, one, comes_to) = (true, one, comes_to)
+traced_instantiates objects (ctor.Instance e) v outcome x t is = is
+
 -- with an object
 instantiates_made : (s : Kept) (c : ExceptionCtor) (v : Obj) (outcome : Instantiate) → IsReadable s → Instantiates (objects_of s) c v outcome → Instantiates s.made c v outcome
 instantiates_made s c v outcome readable (q, has, comes_to) =
-    let read : IsRead s.made v q = is_read s v q readable.dicts has in (
+    let read : IsRead s.made v q = is_read s v q readable.unread has in (
       read.0,
       read.1,
-      said_of_made (λ k. InstantiatesAs s.made c v k outcome) read.0 q read.2 (dict_instantiates s.made c v outcome)
+      said_of_made s.made (λ k. InstantiatesAs s.made c v k outcome) read.0 q read.2 (dict_instantiates s.made c v outcome) (traced_instantiates s.made c v outcome)
           (instantiates_as_made s c v q outcome (read_made s.made v q readable.fit read) comes_to),
     )
 
@@ -105,8 +113,8 @@ normalizes_with_made s c (Some w) outcome readable comes_to = instantiates_made 
 
 -- so what comes now of what is thrown came of it as it was made
 normalizes_as_made : (s : Kept) (c : Obj) (v : Option Obj) (outcome : Instantiate) → IsReadable s → Normalizes (objects_of s) c v outcome → Normalizes s.made c v outcome
-normalizes_as_made s c v outcome readable (inl (k, taken, comes_to)) = inl (k, taken_as_made s c (Ok k) readable.dicts taken, normalizes_with_made s k v outcome readable comes_to)
-normalizes_as_made s c v outcome readable (inr (f, taken, is)) = inr (f, taken_as_made s c (Err (ctor_fault.NotException f)) readable.dicts taken, is)
+normalizes_as_made s c v outcome readable (inl (k, taken, comes_to)) = inl (k, taken_as_made s c (Ok k) readable.unread taken, normalizes_with_made s k v outcome readable comes_to)
+normalizes_as_made s c v outcome readable (inr (f, taken, is)) = inr (f, taken_as_made s c (Err (ctor_fault.NotException f)) readable.unread taken, is)
 
 -- unless memory ran out
 pub normalized_as_made : (s : Kept) (c : Obj) (v : Option Obj) (outcome : Instantiate) → IsReadable s
@@ -121,4 +129,4 @@ pub parts_there : (s : Kept) (v : Obj) → IsReadable s → v.number < length s.
 parts_there s v readable low =
     let (p, has) = there s.made v.number low in
     let (q, now, whatever) = changes_keep (λ (p : Payload). Unit {0}) (λ objects x p u. tt) s.made s.changes v.number (p, has, tt) in
-    (q, now, parts_now s q (read_made s.made v q readable.fit (is_read s v q readable.dicts now)))
+    (q, now, parts_now s q (read_made s.made v q readable.fit (is_read s v q readable.unread now)))

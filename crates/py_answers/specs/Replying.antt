@@ -9,16 +9,18 @@ use Rattle.py_objects.specs.declared.payload.Payload.TheVariants as payload
 use Rattle.py_code.specs.declared.operator.BinaryOperator.{BinaryOperator}
 use Rattle.py_objects.specs.declared.request.Keywords.TheVariants as keywords
 use Rattle.py_objects.specs.declared.payload.CoroBody.{CoroBody}
+use Rattle.py_objects.specs.declared.payload.ExceptionBody.{ExceptionBody}
 use Rattle.py_objects.specs.declared.payload.FunctionBody.{FunctionBody}
+use Rattle.py_objects.specs.declared.payload.ManagerBody.{ManagerBody}
 use Rattle.py_objects.specs.declared.event.Event.{Event}
-use Rattle.py_objects.specs.Objects.{Obj, Name, HasPayload, class_object, numbers, AllBelow, AreNamed, IsClassObject, IsFunction}
+use Rattle.py_objects.specs.Objects.{Obj, Name, HasPayload, class_object, numbers, AllBelow, AreNamed, IfThere, IsClassObject, IsFunction, IsTraceback}
 use Rattle.py_objects.specs.Positional.{is_positional, is_bare}
 use Rattle.py_objects.specs.Pairs.{Pairs}
 use Rattle.py_answers.specs.declared.reply.Reply.{Reply as MadeReply}
 use Rattle.py_answers.specs.declared.reply.Reply.TheVariants as made
 use Rattle.py_answers.specs.declared.answering.Answered.{Answered}
 use Rattle.py_answers.specs.declared.answering.Answered.TheVariants as answered
-use Rattle.py_answers.specs.Answers.{Reply, Has, Is, Makes, Fails, GivesValue, IsTypeName, Calls, Lacks, Replies, operated, sum, difference, less, not_supported}
+use Rattle.py_answers.specs.Answers.{Reply, Has, Is, Makes, Fails, GivesValue, IsTypeName, Calls, CallsExit, Lacks, RefusesEntry, Replies, operated, sum, difference, less, not_supported}
 
 -- the requests that are answered, by a reply or by the machine: of calls those without keyword arguments, of throws those without a traceback
 abbrev pub is_answered : Request → Bool
@@ -35,6 +37,9 @@ is_answered (request.Call f vs named) = is_positional named
 is_answered (request.Send g v) = true
 is_answered (request.Throw g c v t) = is_bare t
 is_answered (request.Close g) = true
+is_answered (request.Enter m) = true
+is_answered (request.NoExit m) = true
+is_answered (request.Exit x c e t) = true
 is_answered _ = false
 
 -- the reply that a made one is
@@ -71,7 +76,16 @@ is_generator _ = false
 abbrev pub IsGenerator : List Payload → Obj → Type 0
 IsGenerator objects g = (b : CoroBody) × HasPayload objects g (payload.Generator b)
 
--- requests that a machine answers by what it runs: the one for what is handled, calls of functions, sends, throws and closes of generators
+-- an object is a manager
+abbrev pub IsManager : List Payload → Obj → Type 0
+IsManager objects m = (b : ManagerBody) × HasPayload objects m (payload.Manager b)
+
+-- control may leave by the call of a function: of the exit function of a manager, or of an exit that is one itself
+abbrev pub IsLeft : List Payload → Obj → Type 0
+IsLeft objects x = IsManager objects x ⊎ IsFunction objects x
+
+-- requests that a machine answers by what it runs: the one for what is handled, calls of functions, sends, throws and closes of generators,
+-- entries of managers, and exits by the call of a function
 abbrev pub IsOfMachine : List Payload → Request → Type 0
 IsOfMachine objects r =
     (r ≡ request.Handled)
@@ -79,6 +93,8 @@ IsOfMachine objects r =
     ⊎ ((g : Obj) × (v : Obj) × (r ≡ request.Send g v) × IsGenerator objects g)
     ⊎ ((g : Obj) × (c : Obj) × (v : Option Obj) × (r ≡ request.Throw g c v None) × IsGenerator objects g)
     ⊎ ((g : Obj) × (r ≡ request.Close g) × IsGenerator objects g)
+    ⊎ ((m : Obj) × (r ≡ request.Enter m) × IsManager objects m)
+    ⊎ ((x : Obj) × (c : Obj) × (e : Obj) × (t : Obj) × (r ≡ request.Exit x c e t) × IsLeft objects x)
 
 -- what a request is answered among these objects, behind which there may be more by then: an object that is what the reply says, the raise that
 -- the reply is, or nothing, where a machine answers it or memory ran out
@@ -113,6 +129,16 @@ IsLackReplied objects name g (Some reply) = Lacks objects name g (reply_of reply
 abbrev pub IsCallReplied : List Payload → Obj → List Obj → Option MadeReply → Type 0
 IsCallReplied objects f vs None = IsFunction objects f
 IsCallReplied objects f vs (Some reply) = Calls objects f vs (reply_of reply) × IsSized reply
+
+-- a reply is the one to an entry; where there is none, a manager is entered
+abbrev pub IsEntryReplied : List Payload → Obj → Option MadeReply → Type 0
+IsEntryReplied objects m None = IsManager objects m
+IsEntryReplied objects m (Some reply) = RefusesEntry objects m (reply_of reply) × IsSized reply
+
+-- a reply is the one where control leaves by an exit that is told this; where there is none, a function is called
+abbrev pub IsExitReplied : List Payload → Obj → List Obj → Option MadeReply → Type 0
+IsExitReplied objects x told None = IsLeft objects x
+IsExitReplied objects x told (Some reply) = CallsExit objects x told (reply_of reply) × IsSized reply
 
 -- the objects among the replies that requests have are there
 abbrev pub IsThere : List Payload → Reply → Type 0
@@ -149,10 +175,13 @@ IsOperated objects op p q reply =
 abbrev pub IsRefused : List Payload → List ℕ → Payload → Payload → Reply → Type 0
 IsRefused objects sign p q reply = (left : Name) × (right : Name) × IsTypeName objects p left × IsTypeName objects q right × (reply ≡ not_supported sign left right)
 
--- payloads that may differ in the pairs of a dict alone
-abbrev pub IsLike : Payload → Payload → Type 0
-IsLike p q = (q ≡ p) ⊎ ((ps : Pairs) × (qs : Pairs) × (p ≡ payload.Dict ps) × (q ≡ payload.Dict qs))
+-- payloads that may differ in the pairs of a dict, or in the traceback of an exception, alone; the second one's traceback was made
+abbrev pub IsLike : List Payload → Payload → Payload → Type 0
+IsLike objects p q =
+    (q ≡ p)
+    ⊎ ((ps : Pairs) × (qs : Pairs) × (p ≡ payload.Dict ps) × (q ≡ payload.Dict qs))
+    ⊎ ((e : ExceptionBody) × (t : Option Obj) × (p ≡ payload.Exception e) × (q ≡ payload.Exception (record e { traceback = t })) × IfThere (IsTraceback objects) t)
 
--- what an object is read as: what it was made as, but for the pairs of a dict
+-- what an object is read as: what it was made as, but for the pairs of a dict and the traceback of an exception
 abbrev pub IsRead : List Payload → Obj → Payload → Type 0
-IsRead objects o q = (p : Payload) × HasPayload objects o p × IsLike p q
+IsRead objects o q = (p : Payload) × HasPayload objects o p × IsLike objects p q

@@ -7,6 +7,7 @@ mod calling;
 mod comparison;
 mod giving;
 mod lacking;
+mod managers;
 mod matching;
 mod names;
 mod raising;

@@ -10,6 +10,7 @@ use crate::arithmetic::binary;
 use crate::calling::called;
 use crate::comparison::{compare, is_true};
 use crate::lacking::lacking;
+use crate::managers::{entered, exited, told, without_exit};
 use crate::matching::matches;
 use crate::names::{global, unbound};
 use crate::raising::raisable;
@@ -58,6 +59,12 @@ pub(crate) fn reply_to(
         Request::Send(object, _) => lacking(alloc, store, *object, b"send"),
         Request::Throw(object, _, _, None) => lacking(alloc, store, *object, b"throw"),
         Request::Close(object) => lacking(alloc, store, *object, b"close"),
+        Request::Enter(manager) => entered(alloc, store, *manager),
+        Request::NoExit(object) => Ok(Some(without_exit(alloc, store, *object)?)),
+        Request::Exit(exit, class, exception, traceback) => {
+            let told = told(alloc, *class, *exception, *traceback)?;
+            exited(alloc, store, *exit, &told)
+        }
         Request::Handled => Ok(None),
         _ => unreachable!(),
     }

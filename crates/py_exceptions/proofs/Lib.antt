@@ -8,3 +8,5 @@ pub mod RaisableLemmas
 pub mod MakingLemmas
 -- the topmost exception of slots
 pub mod SlotsLemmas
+-- what a change of a traceback does
+pub mod TracebacksLemmas

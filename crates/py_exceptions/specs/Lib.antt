@@ -12,6 +12,8 @@ pub mod TypeNames
 pub mod Making
 -- the arguments of exceptions
 pub mod Arguments
+-- the tracebacks of exceptions
+pub mod Tracebacks
 -- what may be raised, and what comes of it
 pub mod Raisable
 pub mod Instantiating

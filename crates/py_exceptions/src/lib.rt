@@ -1,5 +1,5 @@
-//! Exceptions: the built-in classes among the objects of a run, what derives from them, what may be raised, new exceptions, their arguments,
-//! the slots of those that are handled, and the sinks that bytes go to.
+//! Exceptions: the built-in classes among the objects of a run, what derives from them, what may be raised, new exceptions, their arguments
+//! and tracebacks, the slots of those that are handled, and the sinks that bytes go to.
 #![tactic(auto)]
 
 mod arguments;
@@ -11,6 +11,7 @@ mod sink;
 mod sink_memory;
 mod stack;
 mod std_sink;
+mod tracebacks;
 mod type_names;
 mod zoo;
 
@@ -22,5 +23,6 @@ pub use sink::{Sink, WriteFailed};
 pub use sink_memory::SinkMemory;
 pub use stack::ExceptionStack;
 pub use std_sink::StdSink;
+pub use tracebacks::{PyTraceback, set_traceback, split_exception, traceback};
 pub use type_names::type_name;
 pub use zoo::ExceptionZoo;

@@ -134,7 +134,7 @@ lead_grown objects objects' grows (Exits e f) step (t, v, b, exits, is) = (t, v,
     exit_grown (Some e) (same, (body, has, class), x, z) = (same, (body, payload_grown objects objects' v _ grows has, class), number_grown objects objects' t.number grows x, ⊎_elim (λ is_none. inl (payload_grown objects objects' b _ grows is_none)) (λ traceback. inr (traceback.0, payload_grown objects objects' b _ grows traceback.1)) z)
 
 -- the same of a whole step
-step_grown : (objects objects' : List Payload) → Grows objects objects' → (setting : Setting) (s t : State) (xs : List Own) → Steps objects setting s xs t → Steps objects' setting s xs t
+pub step_grown : (objects objects' : List Payload) → Grows objects objects' → (setting : Setting) (s t : State) (xs : List Own) → Steps objects setting s xs t → Steps objects' setting s xs t
 step_grown objects objects' grows setting s _ _ (silent t may) = silent t (lead_grown objects objects' grows (moves setting s.wants s) (Goes t) may)
 step_grown objects objects' grows setting s _ _ (telling x t may) = telling x t (lead_grown objects objects' grows (moves setting s.wants s) (Tells x t) may)
 step_grown objects objects' grows setting s _ _ (hearing x w hears) = hearing x w (hears_grown s.wants x w hears)

@@ -34,5 +34,7 @@ pub mod StandingLemmas
 pub mod GrowingLemmas
 -- steps that can be made
 pub mod GoingLemmas
+-- exits that are asked
+pub mod ExitLemmas
 -- whole runs
 pub mod RunLemmas

@@ -6,6 +6,7 @@ use Rattle.py_objects.specs.declared.error_kind.ErrorKind.TheVariants.{Recursion
 use Rattle.py_objects.specs.declared.payload.Payload.{Payload}
 use Rattle.py_objects.specs.declared.payload.Payload.TheVariants as payload
 use Rattle.py_objects.specs.declared.payload.FunctionBody.{FunctionBody}
+use Rattle.py_objects.specs.declared.payload.ManagerBody.{ManagerBody}
 use Rattle.py_objects.specs.declared.payload.CoroKind.{CoroKind}
 use Rattle.py_objects.specs.declared.request.Keywords.{Keywords}
 use Rattle.py_objects.specs.declared.request.Keywords.TheVariants as keywords
@@ -19,7 +20,7 @@ use Rattle.py_objects.specs.Objects.{Obj, Name, HasPayload}
 use Rattle.py_objects.proofs.GrowthLemmas.{slice_get_split, one_entry}
 use Rattle.py_answers.specs.Answers.{Reply, Fails}
 use Rattle.py_coro.specs.Modes.{Mode, Fresh, Suspended, Running, Closed, most_depth}
-use Rattle.py_run.specs.Calls.{Course, Says, Enters, Begins, Sends, Throws, refusal, missing_if, too_many, made_at, bound_by, Setting, CallsFunction, IsKept, ThrowsAs, ComesTo}
+use Rattle.py_run.specs.Calls.{Course, Says, Enters, Begins, Sends, Throws, refusal, missing_if, too_many, made_at, bound_by, Setting, CallsFunction, exit_of, IsKept, ThrowsAs, ComesTo}
 use Rattle.py_run.specs.Run.{Signature, Plan, Phase, Asking, Made, Due, Activation, State, start, after, state_after}
 use Rattle.py_run.specs.Generators.{Generator, generators_after}
 use Rattle.py_run.specs.Coming.{Past, nothing, past_after, setting, IsOfKind, Opens, Starts, IsEntered, IsReply, IsAnswered, MayCome, Comes}
@@ -89,30 +90,46 @@ calls_bind at objects f g vs ws calls = record {
 pub calls_enter : (at : Setting) (objects : List Payload) (f g : Obj) (vs ws : List Obj) → CallsFunction at objects f vs (Enters g ws) → Enters g ws ≡ Enters f vs
 calls_enter at objects f g vs ws calls = entered_is calls.signature.kind at.depth (refusal calls.body.name calls.signature.params (length vs)) g ws (Enters f vs) calls.is
 
+-- a call that makes an activation of a function is one of it, with these arguments
+function_made : (at : Setting) (objects : List Payload) (g f : Obj) (ws vs : List Obj) → CallsFunction at objects g ws (Enters f vs)
+    → (f ≡ g) × (vs ≡ ws) × CallsFunction at objects f vs (Enters f vs)
+function_made at objects g f ws vs calls =
+    let same : Enters f vs ≡ Enters g ws = calls_enter at objects g f ws vs calls in
+    let callee : f ≡ g = cc same in
+    let args : vs ≡ ws = cc same in
+    (callee, args, subst (λ x. CallsFunction at objects f x (Enters f vs)) (sym args) (subst (λ x. CallsFunction at objects x ws (Enters f vs)) (sym callee) calls))
+
 -- a call that enters a function calls it, with these arguments
 call_enters : (at : Setting) (objects : List Payload) (g f : Obj) (ws vs : List Obj) (named : Keywords) → named ≡ keywords.None → CallsFunction at objects g ws (Enters f vs)
     → (request.Call g ws named ≡ request.Call f vs keywords.None) × CallsFunction at objects f vs (Enters f vs)
 call_enters at objects g f ws vs named none calls =
-    let same : Enters f vs ≡ Enters g ws = calls_enter at objects g f ws vs calls in
-    let callee : f ≡ g = cc same in
-    let args : vs ≡ ws = cc same in (
-      ap (request.Call g ws) none ∙ (ap (λ x. request.Call x ws keywords.None) (sym callee) ∙ ap (λ x. request.Call f x keywords.None) (sym args)),
-      subst (λ x. CallsFunction at objects f x (Enters f vs)) (sym args) (subst (λ x. CallsFunction at objects x ws (Enters f vs)) (sym callee) calls),
-    )
+    let (callee, args, made) = function_made at objects g f ws vs calls in
+    (ap (request.Call g ws) none ∙ (ap (λ x. request.Call x ws keywords.None) (sym callee) ∙ ap (λ x. request.Call f x keywords.None) (sym args)), made)
+
+-- what a question that makes an activation of a function with these arguments asks: its call, the entry of a manager whose enter function it is, or an
+-- exit by the call of it
+abbrev pub IsMaking : List Payload → Request → Obj → List Obj → Type 0
+IsMaking objects (request.Call g ws named) f vs = request.Call g ws named ≡ request.Call f vs keywords.None
+IsMaking objects (request.Enter m) f vs = (body : ManagerBody) × HasPayload objects m (payload.Manager body) × (f ≡ body.enter) × (vs ≡ [])
+IsMaking objects (request.Exit x k v t) f vs = (p : Payload) × HasPayload objects x p × (f ≡ exit_of p x) × (vs ≡ k ∷ v ∷ t ∷ [])
+IsMaking objects _ f vs = ⊥
 
 -- a question of another kind enters none
 as_call : (at : Setting) (objects : List Payload) (r : Request) (f : Obj) (vs : List Obj) → ComesAs at objects r (Enters f vs)
-    → (r ≡ request.Call f vs keywords.None) × CallsFunction at objects f vs (Enters f vs)
+    → IsMaking objects r f vs × CallsFunction at objects f vs (Enters f vs)
 as_call at objects (request.Call g ws named) f vs (none, calls) = call_enters at objects g f ws vs named none calls
+as_call at objects (request.Enter m) f vs (body, has, calls) = let (callee, args, made) = function_made at objects body.enter f [] vs calls in ((body, has, callee, args), made)
+as_call at objects (request.Exit x k v t) f vs (p, has, calls) =
+    let (callee, args, made) = function_made at objects (exit_of p x) f (k ∷ v ∷ t ∷ []) vs calls in ((p, has, callee, args), made)
 as_call at objects request.Handled f vs is = absurd (enters_not f vs _ is)
 as_call at objects (request.Send g v) f vs sends = absurd (sends_of at objects g v (Enters f vs) sends).of_act
 as_call at objects (request.Throw g k v t) f vs (none, throws) = absurd (throws_of at objects g k v (Enters f vs) throws).of_act
 as_call at objects (request.Close g) f vs closes = absurd (closes_of at objects g (Enters f vs) closes).of_act
 as_call at objects _ f vs comes = absurd comes
 
--- so a question that enters a function is its call
+-- so a question that enters a function comes to its call
 pub enters_call : (at : Setting) (objects : List Payload) (r : Request) (f : Obj) (vs : List Obj) → ComesTo at objects r (Enters f vs)
-    → (r ≡ request.Call f vs keywords.None) × CallsFunction at objects f vs (Enters f vs)
+    → IsMaking objects r f vs × CallsFunction at objects f vs (Enters f vs)
 enters_call at objects r f vs comes = elim (comes_as at objects r (Enters f vs) comes) [
   | inl replied ↦ absurd (enters_not f vs replied.0 replied.1)
   | inr as_asked ↦ as_call at objects r f vs as_asked
@@ -175,7 +192,10 @@ module _ (at : Setting) (ys : List Signature) (objects : List Payload) (signed :
   comes_to_signed r c (inr (inr (inr (inl (g, v, is, (kind, x, kept, p, has, course)))))) = inr (inr (inr (inl (g, v, is, (kind, x, kept_signed g kind x kept, p, has, course)))))
   comes_to_signed r c (inr (inr (inr (inr (inl (g, k, v, is, (kind, x, kept, throws))))))) =
       inr (inr (inr (inr (inl (g, k, v, is, (kind, x, kept_signed g kind x kept, throws_signed kind x x.mode k v c throws))))))
-  comes_to_signed r c (inr (inr (inr (inr (inr (g, is, (kind, x, kept, course))))))) = inr (inr (inr (inr (inr (g, is, (kind, x, kept_signed g kind x kept, course))))))
+  comes_to_signed r c (inr (inr (inr (inr (inr (inl (g, is, (kind, x, kept, course)))))))) = inr (inr (inr (inr (inr (inl (g, is, (kind, x, kept_signed g kind x kept, course)))))))
+  comes_to_signed r c (inr (inr (inr (inr (inr (inr (inl (m, is, (body, has, calls))))))))) = inr (inr (inr (inr (inr (inr (inl (m, is, (body, has, calls_signed body.enter [] c calls))))))))
+  comes_to_signed r c (inr (inr (inr (inr (inr (inr (inr (x, k, v, t, is, (p, has, calls))))))))) =
+      inr (inr (inr (inr (inr (inr (inr (x, k, v, t, is, (p, has, calls_signed (exit_of p x) (k ∷ v ∷ t ∷ []) c calls))))))))
 
 -- a plan over other signatures
 abbrev pub signed_by : Plan → List Signature → Plan

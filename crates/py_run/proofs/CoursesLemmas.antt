@@ -1,5 +1,5 @@
 -- What a question comes to, by its kind, and where its objects are known.
-use Rattle.std.proofs.Common.{◌≡◌, ℕ, List, [], Bool, true, false, Some, None, inl, inr, refl, sym, ap, subst, ◌∙◌, ◌⊎◌, length, nat_le}
+use Rattle.std.proofs.Common.{◌≡◌, ℕ, List, [], ◌∷◌, Bool, true, false, Some, None, inl, inr, refl, sym, ap, subst, ◌∙◌, ◌⊎◌, length, nat_le}
 use Rattle.std.specs.Prelude.{Option, codes, if◌then◌else◌}
 use Rattle.std.proofs.lemmas.Option.{same_Some}
 use Rattle.py_objects.specs.declared.payload.Payload.{Payload}
@@ -21,7 +21,7 @@ use Rattle.py_coro.specs.Refusals.{word_of}
 use Rattle.py_answers.specs.Answers.{This, Called, BuiltIn, Reply, Fails, Lacks, LacksAs, Replies}
 use Rattle.py_run.specs.Run.{Plan, Phase, Asking, Made, question}
 use Rattle.py_run.specs.Generators.{Generator, generator_at}
-use Rattle.py_run.specs.Calls.{kept_or_closed, Course, Says, Enters, Begins, Sends, Throws, refusal, bound_by, made_at, reraised, Setting, unthrown, course_by, throws_by, CallsFunction, ThrowsAs, SendsTo, ThrowsTo, ClosesTo, ComesTo}
+use Rattle.py_run.specs.Calls.{kept_or_closed, Course, Says, Enters, Begins, Sends, Throws, refusal, bound_by, made_at, reraised, Setting, unthrown, course_by, throws_by, CallsFunction, ThrowsAs, SendsTo, ThrowsTo, ClosesTo, EntersTo, ExitsTo, exit_of, ComesTo}
 use Rattle.py_run.specs.Coming.{Past, setting, Opens, Starts, IsEntered, IsReply, IsAnswered}
 
 -- ---- by the kind of the question
@@ -33,6 +33,8 @@ ComesAs at objects request.Handled c = c ≡ Says (reraised at.handled)
 ComesAs at objects (request.Send g v) c = SendsTo at objects g v c
 ComesAs at objects (request.Throw g k v t) c = (t ≡ None) × ThrowsTo at objects g k v c
 ComesAs at objects (request.Close g) c = ClosesTo at objects g c
+ComesAs at objects (request.Enter m) c = EntersTo at objects m c
+ComesAs at objects (request.Exit x k v t) c = ExitsTo at objects x (k ∷ v ∷ t ∷ []) c
 ComesAs at objects _ c = ⊥
 
 -- it comes to that, or to such a reply
@@ -43,7 +45,9 @@ comes_as at objects r c (inr (inl (f, vs, is, calls))) = inr (subst (λ q. Comes
 comes_as at objects r c (inr (inr (inl (is, says)))) = inr (subst (λ q. ComesAs at objects q c) (sym is) says)
 comes_as at objects r c (inr (inr (inr (inl (g, v, is, sends))))) = inr (subst (λ q. ComesAs at objects q c) (sym is) sends)
 comes_as at objects r c (inr (inr (inr (inr (inl (g, k, v, is, throws)))))) = inr (subst (λ q. ComesAs at objects q c) (sym is) (refl, throws))
-comes_as at objects r c (inr (inr (inr (inr (inr (g, is, closes)))))) = inr (subst (λ q. ComesAs at objects q c) (sym is) closes)
+comes_as at objects r c (inr (inr (inr (inr (inr (inl (g, is, closes))))))) = inr (subst (λ q. ComesAs at objects q c) (sym is) closes)
+comes_as at objects r c (inr (inr (inr (inr (inr (inr (inl (m, is, enters)))))))) = inr (subst (λ q. ComesAs at objects q c) (sym is) enters)
+comes_as at objects r c (inr (inr (inr (inr (inr (inr (inr (x, k, v, t, is, exits)))))))) = inr (subst (λ q. ComesAs at objects q c) (sym is) exits)
 
 -- generators lack no attribute that is asked for
 not_lacking : (objects : List Payload) (name : Name) (g : Obj) (b : CoroBody) (reply : Reply) → HasPayload objects g (payload.Generator b) → Lacks objects name g reply → ⊥
@@ -241,10 +245,16 @@ idle_of xs g b c of_generator enters = record {
     there None is = absurd (enters_unsaid b c (of_generator.closed (ap (λ (x : Generator). x.mode) (of_generator.found ∙ ap (kept_or_closed g) is))) enters)
     there (Some x) is = is ∙ ap Some (sym (of_generator.found ∙ ap (kept_or_closed g) is))
 
+-- the call of a function enters none
+function_enters_none : (at : Setting) (objects : List Payload) (b : ℕ) (f : Obj) (vs : List Obj) (c : Course) → CallsFunction at objects f vs c → EntersAct b c → ⊥
+function_enters_none at objects b f vs c calls enters =
+    call_enters_none b (refusal calls.body.name calls.signature.params (length vs)) calls.signature.kind at.depth f vs (subst (EntersAct b) calls.is enters)
+
 -- what any question enters
 entering_as : (at : Setting) (objects : List Payload) (b : ℕ) (r : Request) (c : Course) → ComesAs at objects r c → EntersAct b c → IsEntering at.generators b r
-entering_as at objects b (request.Call f vs named) c (none, calls) enters =
-    absurd (call_enters_none b (refusal calls.body.name calls.signature.params (length vs)) calls.signature.kind at.depth f vs (subst (EntersAct b) calls.is enters))
+entering_as at objects b (request.Call f vs named) c (none, calls) enters = absurd (function_enters_none at objects b f vs c calls enters)
+entering_as at objects b (request.Enter m) c (body, has, calls) enters = absurd (function_enters_none at objects b body.enter [] c calls enters)
+entering_as at objects b (request.Exit x k v t) c (p, has, calls) enters = absurd (function_enters_none at objects b (exit_of p x) (k ∷ v ∷ t ∷ []) c calls enters)
 entering_as at objects b request.Handled c is enters = absurd (subst (EntersAct b) is enters)
 entering_as at objects b (request.Send g v) c sends enters = idle_of at.generators g b c (sends_of at objects g v c sends) enters
 entering_as at objects b (request.Throw g k v t) c (none, throws) enters = idle_of at.generators g b c (throws_of at objects g k v c throws) enters

@@ -9,6 +9,7 @@ use Rattle.py_objects.specs.declared.payload.Payload.TheVariants as payload
 use Rattle.py_objects.specs.declared.payload.CoroBody.{CoroBody}
 use Rattle.py_objects.specs.declared.payload.CoroKind.TheVariants as coro
 use Rattle.py_objects.specs.declared.payload.FunctionBody.{FunctionBody}
+use Rattle.py_objects.specs.declared.payload.ManagerBody.{ManagerBody}
 use Rattle.py_objects.specs.declared.error_kind.ErrorKind.TheVariants.{GeneratorExit}
 use Rattle.py_objects.specs.declared.request.Keywords.TheVariants as keywords
 use Rattle.py_objects.specs.declared.request.Request.TheVariants as request
@@ -101,6 +102,20 @@ pub call_is : (at : Setting) (objects : List Payload) (f : Obj) (vs : List Obj) 
     → c ≡ bound_by (refusal b.name s.params (length vs)) (made_at s.kind at.depth (Enters f vs)) → ComesTo at objects (request.Call f vs keywords.None) c
 call_is at objects f vs b s c entry signed is = inr (inl (f, vs, refl, record { body = b; entry = entry; signature = s; signed = signed; is = is }))
 
+-- what the entry of a manager comes to
+pub enter_is : (at : Setting) (objects : List Payload) (m : Obj) (d : ManagerBody) (b : FunctionBody) (s : Signature) (c : Course) → HasPayload objects m (payload.Manager d)
+    → HasPayload objects d.enter (payload.Function b) → slice_get at.signatures b.code ≡ Some s
+    → c ≡ bound_by (refusal b.name s.params 0) (made_at s.kind at.depth (Enters d.enter [])) → ComesTo at objects (request.Enter m) c
+enter_is at objects m d b s c has entry signed is =
+    inr (inr (inr (inr (inr (inr (inl (m, refl, (d, has, record { body = b; entry = entry; signature = s; signed = signed; is = is }))))))))
+
+-- and what an exit by one does
+pub exit_is : (at : Setting) (objects : List Payload) (x k v t : Obj) (d : ManagerBody) (b : FunctionBody) (s : Signature) (c : Course) → HasPayload objects x (payload.Manager d)
+    → HasPayload objects d.exit (payload.Function b) → slice_get at.signatures b.code ≡ Some s
+    → c ≡ bound_by (refusal b.name s.params 3) (made_at s.kind at.depth (Enters d.exit (k ∷ v ∷ t ∷ []))) → ComesTo at objects (request.Exit x k v t) c
+exit_is at objects x k v t d b s c has entry signed is =
+    inr (inr (inr (inr (inr (inr (inr (x, k, v, t, refl, (payload.Manager d, has, record { body = b; entry = entry; signature = s; signed = signed; is = is }))))))))
+
 -- what a send comes to
 pub send_is : (at : Setting) (objects : List Payload) (g v : Obj) (b : CoroBody) (x : Generator) (p : Payload) (c : Course) → HasPayload objects g (payload.Generator b)
     → generator_at at.generators g ≡ Some x
@@ -111,7 +126,8 @@ send_is at objects g v b x p c entry found has is =
 -- what a close comes to
 pub close_is : (at : Setting) (objects : List Payload) (g : Obj) (b : CoroBody) (x : Generator) (c : Course) → HasPayload objects g (payload.Generator b) → generator_at at.generators g ≡ Some x
     → c ≡ course_by (word_of b.kind) x.act (Throws x.act (BuiltIn GeneratorExit [])) (closed x.mode at.depth) → ComesTo at objects (request.Close g) c
-close_is at objects g b x c entry found is = inr (inr (inr (inr (inr (g, refl, (b.kind, x, record { body = b; entry = entry; kind_is = refl; kept = sym (ap (kept_or_closed g) found) }, is))))))
+close_is at objects g b x c entry found is =
+    inr (inr (inr (inr (inr (inl (g, refl, (b.kind, x, record { body = b; entry = entry; kind_is = refl; kept = sym (ap (kept_or_closed g) found) }, is)))))))
 
 -- what a throw comes to
 pub throw_is : (at : Setting) (objects : List Payload) (g k : Obj) (v : Option Obj) (b : CoroBody) (x : Generator) (c : Course) → HasPayload objects g (payload.Generator b)

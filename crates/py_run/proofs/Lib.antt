@@ -1,5 +1,7 @@
 -- the past behind some events
 pub mod PastLemmas
+-- what was raised, and what exits are told
+pub mod RaisesLemmas
 -- a run as objects and drives grow, and as an event comes
 pub mod RunLemmas
 -- lists of generators, as events change them
@@ -17,3 +19,4 @@ pub mod NestingLemmas
 -- journals worked by hand
 mod Journals
 mod WorkedLemmas
+mod WorkedExitLemmas

@@ -7,7 +7,6 @@ use Rattle.py_objects.specs.declared.payload.Payload.{Payload}
 use Rattle.py_objects.specs.declared.refs.PyBaseExceptionRef.{PyBaseExceptionRef}
 use Rattle.py_objects.specs.declared.request.Request.{Request}
 use Rattle.py_objects.specs.declared.request.Request.TheVariants as request
-use Rattle.py_objects.specs.declared.request.Keywords.TheVariants as keywords
 use Rattle.py_objects.specs.declared.event.ResumeHow.{ResumeHow}
 use Rattle.py_objects.specs.declared.event.Event.{Event}
 use Rattle.py_objects.specs.declared.event.Event.TheVariants as event
@@ -25,7 +24,7 @@ use Rattle.py_run.proofs.PastLemmas.{past_state, past_lists, past_on}
 use Rattle.py_run.proofs.RunLemmas.{comes_front, comes_rest}
 use Rattle.py_run.proofs.GeneratorsLemmas.{entries, act_in, act_found, entries_running, entries_changed, entries_settled, entries_on}
 use Rattle.py_run.proofs.CoursesLemmas.{IsIdle, IsEntering, IsResumed, resumed}
-use Rattle.py_run.proofs.BoundLemmas.{enters_call}
+use Rattle.py_run.proofs.BoundLemmas.{IsMaking, enters_call}
 use Rattle.py_run.proofs.CutLemmas.{IsNumbered, resumed_made, numbered_behind}
 
 -- ---- generators whose activation runs
@@ -223,6 +222,13 @@ entering_apart a b xs _ runs is = absurd is
 later_apart : (a b n : ℕ) → a < n → b ≡ n → b ≡ a → ⊥
 later_apart a b n more is same = absurd (omega (arith, more, is, same))
 
+-- a question that makes an activation is no generator's
+making_spares : (objects : List Payload) (a : ℕ) (es : List (Obj × ℕ)) (r : Request) (f : Obj) (vs : List Obj) → IsMaking objects r f vs → Spares a es (Some r)
+making_spares objects a es (request.Call g ws named) f vs made = tt
+making_spares objects a es (request.Enter m) f vs made = tt
+making_spares objects a es (request.Exit x k v t) f vs made = tt
+making_spares objects a es _ f vs made = absurd made
+
 -- the question of a stack that isn't empty is its innermost activation's
 top_spares : (plan : Plan) (a : ℕ) (es : List (Obj × ℕ)) (outer : List Act) (s : State) (r : Request) → IsAmong a outer es s.stack → question plan s ≡ Some r → Spares a es (Some r)
     → SparesTop a es s.stack
@@ -320,12 +326,11 @@ module _ (plan : Plan) (objects : List Payload) where
       let more : length (p.state.made ++ record { function = f; args = vs } ∷ []) ≡ length p.state.made + 1 = length-append p.state.made (record { function = f; args = vs } ∷ []) in
       let here : a ≤ length p.state.made = i.counted in
       let call = enters_call (setting plan p) objects opens.1.0 f vs opens.1.2 in
-      let asked : question plan p.state ≡ Some (request.Call f vs keywords.None) = opens.1.1 ∙ ap Some call.0 in
       record {
         among = i.among;
         runs = i.runs;
         counted = omega (arith, more, here);
-        made = λ g is. (omega (arith, more, here), top_spares plan a (entries p.generators) old.stack p.state (request.Call f vs keywords.None) i.among asked tt);
+        made = λ g is. (omega (arith, more, here), top_spares plan a (entries p.generators) old.stack p.state opens.1.0 i.among opens.1.1 (making_spares objects a (entries p.generators) opens.1.0 f vs call.0));
         due = λ how is. absurd (made_due f how is);
         same_done = i.same_done;
       }

@@ -27,9 +27,11 @@ use Rattle.py_answers.proofs.RepliesLemmas.{gives_body_grow, gives_drive_grow, r
 use Rattle.py_answers.proofs.ThrownLemmas.{normalizes_grow}
 use Rattle.py_run.specs.Run.{Posed, Plan, Phase, Idle, Asking, Going, Made, Due, State, after, open_in, entered_in, question, handled_among}
 use Rattle.py_run.specs.Generators.{Generator, answered, value_of, returned_by}
-use Rattle.py_run.specs.Calls.{Course, Says, Enters, Begins, Sends, Throws, Setting, CallsFunction, IsKept, ThrowsAs, SendsTo, ThrowsTo, ClosesTo, ComesTo, LeavesGenerator, IsDue}
+use Rattle.py_run.specs.Calls.{Course, Says, Enters, Begins, Sends, Throws, Setting, CallsFunction, IsKept, ThrowsAs, SendsTo, ThrowsTo, ClosesTo, EntersTo, ExitsTo, exit_of, ComesTo, LeavesGenerator, IsDue}
 use Rattle.py_run.specs.Coming.{Past, nothing, past_after, setting, IsOfKind, Opens, Starts, IsEntered, MakesGenerator, IsReply, IsAnswered, MayCome, Comes}
 use Rattle.py_run.specs.Past.{past_behind}
+use Rattle.py_run.specs.Raises.{raises_of}
+use Rattle.py_run.proofs.RaisesLemmas.{tells_grow}
 
 -- ---- what questions come to, as objects come
 
@@ -63,6 +65,14 @@ throws_grow at objects objects' g k v c grows (kind, x, kept, throws) =
 closes_grow : (at : Setting) (objects objects' : List Payload) (g : Obj) (c : Course) → Grows objects objects' → ClosesTo at objects g c → ClosesTo at objects' g c
 closes_grow at objects objects' g c grows (kind, x, kept, is) = (kind, x, kept_grows at objects objects' g kind x grows kept, is)
 
+-- so does what the entry of a manager comes to
+enters_grow : (at : Setting) (objects objects' : List Payload) (m : Obj) (c : Course) → Grows objects objects' → EntersTo at objects m c → EntersTo at objects' m c
+enters_grow at objects objects' m c grows (body, has, calls) = (body, payload_grown objects objects' m _ grows has, calls_grow at objects objects' body.enter [] c grows calls)
+
+-- and what an exit does
+exits_grow : (at : Setting) (objects objects' : List Payload) (x : Obj) (told : List Obj) (c : Course) → Grows objects objects' → ExitsTo at objects x told c → ExitsTo at objects' x told c
+exits_grow at objects objects' x told c grows (p, has, calls) = (p, payload_grown objects objects' x p grows has, calls_grow at objects objects' (exit_of p x) told c grows calls)
+
 -- so does what any question comes to
 pub comes_to_grows : (at : Setting) (objects objects' : List Payload) (r : Request) (c : Course) → GrowsPlainly objects objects' → ComesTo at objects r c → ComesTo at objects' r c
 comes_to_grows at objects objects' r c grows (inl (reply, is, replies)) = inl (reply, is, replies_grow objects objects' r reply grows replies)
@@ -71,8 +81,12 @@ comes_to_grows at objects objects' r c grows (inr (inr (inl asks))) = inr (inr (
 comes_to_grows at objects objects' r c grows (inr (inr (inr (inl (g, v, is, sends))))) =
     inr (inr (inr (inl (g, v, is, sends_grow at objects objects' g v c (plainly_grows objects objects' grows) sends))))
 comes_to_grows at objects objects' r c grows (inr (inr (inr (inr (inl (g, k, v, is, throws)))))) = inr (inr (inr (inr (inl (g, k, v, is, throws_grow at objects objects' g k v c grows throws)))))
-comes_to_grows at objects objects' r c grows (inr (inr (inr (inr (inr (g, is, closes)))))) =
-    inr (inr (inr (inr (inr (g, is, closes_grow at objects objects' g c (plainly_grows objects objects' grows) closes)))))
+comes_to_grows at objects objects' r c grows (inr (inr (inr (inr (inr (inl (g, is, closes))))))) =
+    inr (inr (inr (inr (inr (inl (g, is, closes_grow at objects objects' g c (plainly_grows objects objects' grows) closes))))))
+comes_to_grows at objects objects' r c grows (inr (inr (inr (inr (inr (inr (inl (m, is, enters)))))))) =
+    inr (inr (inr (inr (inr (inr (inl (m, is, enters_grow at objects objects' m c (plainly_grows objects objects' grows) enters)))))))
+comes_to_grows at objects objects' r c grows (inr (inr (inr (inr (inr (inr (inr (x, k, v, t, is, exits)))))))) =
+    inr (inr (inr (inr (inr (inr (inr (x, k, v, t, is, exits_grow at objects objects' x (k ∷ v ∷ t ∷ []) c (plainly_grows objects objects' grows) exits)))))))
 
 -- ---- what is due, as objects come
 
@@ -100,6 +114,8 @@ due_grows objects objects' (request.Call f vs named) how reply grows due = due
 due_grows objects objects' (request.Send g v) how reply grows due = leaves_grow objects objects' g false how reply grows due
 due_grows objects objects' (request.Throw g k v t) how reply grows (none, due) = (none, leaves_grow objects objects' g false how reply grows due)
 due_grows objects objects' (request.Close g) how reply grows due = leaves_grow objects objects' g true how reply grows due
+due_grows objects objects' (request.Enter m) how reply grows due = due
+due_grows objects objects' (request.Exit x k v t) how reply grows due = due
 due_grows objects objects' _ how reply grows due = absurd due
 
 -- ---- what may come, as objects come
@@ -148,6 +164,7 @@ may_come_grow plan objects objects' p (event.Result d w) grows (next, alone, (re
     (next, alone, (reply, answered_grows plan objects objects' p reply grows answered, gives_drive_grow objects objects' p.events reply w grows gives))
 may_come_grow plan objects objects' p (event.Make a f vs) grows (next, opens) = (next, opens_grow plan objects objects' p (Enters f vs) grows opens)
 may_come_grow plan objects objects' p (event.Resume a h) grows enters = entered_grows plan objects objects' p h a grows enters
+may_come_grow plan objects objects' p (event.Ask a r own at) grows (goes, tells) = (goes, tells_grow objects objects' p.events (raises_of p.events) r grows tells)
 may_come_grow plan objects objects' p (event.Got a w) grows (top, (reply, answered, gives)) =
     (top, (reply, answered_grows plan objects objects' p reply grows answered, gives_body_grow objects objects' p.events reply w grows gives))
 may_come_grow plan objects objects' p _ grows may = may
@@ -299,7 +316,7 @@ module _ (plan : Plan) (more : List Posed) (objects : List Payload) where
       let within = asked_in plan p.state Asking asking_busy opens.0 asked in
       record { may = (next, opens_more p (Enters f vs) within opens); asked = inr within; same = refl }
   may_come_more p (event.Resume a h) asked enters = let both = entered_more p h a asked enters in record { may = both.0; asked = inr both.1; same = refl }
-  may_come_more p (event.Ask a r own at) asked goes = record { may = goes; asked = inr (asked_in plan p.state Going going_busy goes.0 asked); same = refl }
+  may_come_more p (event.Ask a r own at) asked goes = record { may = goes; asked = inr (asked_in plan p.state Going going_busy goes.0.0 asked); same = refl }
   may_come_more p (event.Got a w) asked (top, (reply, is, gives)) =
       let within = asked_of p reply asked is in
       record { may = (top, (reply, answered_more p reply within is, gives)); asked = inr within; same = ap (with_generators plan p (event.Got a w)) (same_answered p (value_of w) within) }

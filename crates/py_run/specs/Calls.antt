@@ -1,6 +1,6 @@
--- What questions come to: a reply, or the entry of an activation (Python Language Reference, 6.2.9.1, 6.3.4 and 8.7): a call enters a function
+-- What questions come to: a reply, or the entry of an activation (Python Language Reference, 6.2.9.1, 6.3.4, 8.5 and 8.7): a call enters a function
 -- where its arguments bind to the function's parameters, and where there is depth left, in this order; that of a generator function makes a
--- generator, which sends, throws and closes enter as its state allows.
+-- generator, which sends, throws and closes enter as its state allows. Managers are entered and left by calls of their functions.
 use Rattle.std.specs.Prelude.{ℕ, Bool, true, false, Option, Some, None, List, [], ◌∷◌, ◌++◌, ◌≡◌, ◌==◌, ◌⊎◌, slice_get, length, drop, nat_le, nat_lt, if◌then◌else◌, codes, decimal}
 use Rattle.py_objects.specs.declared.payload.Payload.{Payload}
 use Rattle.py_objects.specs.declared.payload.Payload.TheVariants as payload
@@ -8,6 +8,7 @@ use Rattle.py_objects.specs.declared.payload.CoroBody.{CoroBody}
 use Rattle.py_objects.specs.declared.payload.CoroKind.{CoroKind}
 use Rattle.py_objects.specs.declared.payload.Fault.{Fault}
 use Rattle.py_objects.specs.declared.payload.FunctionBody.{FunctionBody}
+use Rattle.py_objects.specs.declared.payload.ManagerBody.{ManagerBody}
 use Rattle.py_objects.specs.declared.error_kind.ErrorKind.TheVariants.{GeneratorExit, RecursionError, RuntimeError, TypeError}
 use Rattle.py_objects.specs.declared.refs.PyBaseExceptionRef.{PyBaseExceptionRef}
 use Rattle.py_objects.specs.declared.request.Keywords.TheVariants as keywords
@@ -137,6 +138,11 @@ abbrev pub kept_or_closed : Obj → Option Generator → Generator
 kept_or_closed g None = record { object = g; act = 0; mode = Closed }
 kept_or_closed g (Some x) = x
 
+-- what is called where control leaves by an object of this payload: the exit function of a manager, else the object
+abbrev pub exit_of : Payload → Obj → Obj
+exit_of (payload.Manager m) x = m.exit
+exit_of _ x = x
+
 module _ (at : Setting) (objects : List Payload) where
   -- the call of a function with these arguments
   pub record CallsFunction (f : Obj) (vs : List Obj) (c : Course) : Type 0 where
@@ -174,8 +180,16 @@ module _ (at : Setting) (objects : List Payload) where
       (kind : CoroKind) × (x : Generator) × IsKept g kind x
       × (c ≡ course_by (word_of kind) x.act (Throws x.act (BuiltIn GeneratorExit [])) (closed x.mode at.depth))
 
+  -- what the entry of a manager comes to: the call of its enter function without arguments
+  abbrev pub EntersTo : Obj → Course → Type 0
+  EntersTo m c = (body : ManagerBody) × HasPayload objects m (payload.Manager body) × CallsFunction body.enter [] c
+
+  -- what leaving by an exit comes to, where a function is called with what it is told
+  abbrev pub ExitsTo : Obj → (told : List Obj) → Course → Type 0
+  ExitsTo x told c = (p : Payload) × HasPayload objects x p × CallsFunction (exit_of p x) told c
+
   -- what a question comes to: a reply without an activation, what the call of a function does, where it is one without keyword arguments, what
-  -- is handled, or what a send, a throw without a traceback, and a close of a generator come to
+  -- is handled, what a send, a throw without a traceback, and a close of a generator come to, or what the entry of a manager and an exit do
   abbrev pub ComesTo : Request → Course → Type 0
   ComesTo r c =
       ((reply : Reply) × (c ≡ Says reply) × Replies objects r reply)
@@ -184,8 +198,10 @@ module _ (at : Setting) (objects : List Payload) where
       ⊎ ((g : Obj) × (v : Obj) × (r ≡ request.Send g v) × SendsTo g v c)
       ⊎ ((g : Obj) × (k : Obj) × (v : Option Obj) × (r ≡ request.Throw g k v None) × ThrowsTo g k v c)
       ⊎ ((g : Obj) × (r ≡ request.Close g) × ClosesTo g c)
+      ⊎ ((m : Obj) × (r ≡ request.Enter m) × EntersTo m c)
+      ⊎ ((x : Obj) × (k : Obj) × (v : Obj) × (t : Obj) × (r ≡ request.Exit x k v t) × ExitsTo x (k ∷ v ∷ t ∷ []) c)
 
--- a call is answered by how the activation of its callee was left; it yields nowhere
+-- a call is answered by how the activation of its callee was left, which yields nowhere; so are an entry and an exit
 abbrev pub LeavesCalled : CoroEnd → Reply → Type 0
 LeavesCalled (left.Yield v) reply = ⊥
 LeavesCalled (left.Return v) reply = reply ≡ Is v
@@ -212,4 +228,6 @@ module _ (objects : List Payload) where
   IsDue (request.Send g v) how reply = LeavesGenerator g false how reply
   IsDue (request.Throw g k v t) how reply = (t ≡ None) × LeavesGenerator g false how reply
   IsDue (request.Close g) how reply = LeavesGenerator g true how reply
+  IsDue (request.Enter m) how reply = LeavesCalled how reply
+  IsDue (request.Exit x k v t) how reply = LeavesCalled how reply
   IsDue _ how reply = ⊥

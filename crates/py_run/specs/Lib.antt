@@ -1,6 +1,7 @@
--- what an event makes of a run, and of its generators
+-- what an event makes of a run, of its generators, and of what was raised
 pub mod Run
 pub mod Generators
+pub mod Raises
 -- what questions come to
 pub mod Calls
 -- which event may come next, and what a run is
@@ -19,3 +20,4 @@ pub mod WorkedSelf
 pub mod WorkedIgnored
 pub mod WorkedThrow
 pub mod WorkedHandled
+pub mod WorkedExit

@@ -8,6 +8,6 @@ mod worked;
 pub use drive::Drive;
 pub use laws::{laws_of_generators, laws_of_runs};
 pub use worked::{
-    worked_close, worked_handled, worked_ignored, worked_next, worked_self, worked_stop,
-    worked_throw,
+    worked_close, worked_exit, worked_handled, worked_ignored, worked_next, worked_self,
+    worked_stop, worked_throw,
 };

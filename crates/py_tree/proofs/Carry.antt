@@ -13,7 +13,7 @@ use Rattle.py_objects.specs.declared.event.GotAnswer.TheVariants as got
 use Rattle.py_objects.specs.declared.event.ResumeHow.{ResumeHow}
 use Rattle.py_objects.specs.declared.event.ResumeHow.TheVariants as how
 use Rattle.py_objects.specs.declared.event.Ending.{Ending}
-use Rattle.py_objects.specs.Objects.{Obj, as_exception, as_object}
+use Rattle.py_objects.specs.Objects.{Obj, as_exception, as_object, class_object}
 use Rattle.py_objects.specs.Callees.{call_request}
 use Rattle.py_objects.specs.Own.{Own, Makes, Resumes, Asks, Gets, Rounds, Yields, Ends}
 use Rattle.py_objects.specs.Telling.{Value, Given, Failed, Stopped, AfterValue, IsLiteral, Answers, Answered, GoesOn, Resumed, Rounded}
@@ -23,10 +23,10 @@ use Rattle.py_tree.specs.declared.expr.Expr.{Expr}
 use Rattle.py_tree.specs.declared.expr.Expr.TheVariants as expr
 use Rattle.py_tree.specs.declared.expr.Operation.{Operation}
 use Rattle.py_tree.specs.declared.expr.Operation.TheVariants as operation
-use Rattle.py_tree.specs.Tree.{Name, Form, Assign, Do, Show, Return, Raise, Reraise, Break, Continue, Pass, If, IfElse, While, TryExcept, TryFinally, Suite, nothing, first, Clauses, no_more, clause, Tree}
+use Rattle.py_tree.specs.Tree.{Name, Form, Assign, Do, Show, Return, Raise, Reraise, Break, Continue, Pass, If, IfElse, While, TryExcept, TryFinally, With as WithForm, Suite, nothing, first, Clauses, no_more, clause, Tree}
 use Rattle.py_tree.specs.Binding.{Env, find_local, set_local, bind}
 use Rattle.py_tree.specs.Scene.{Scene}
-use Rattle.py_tree.specs.Outcome.{Outcome, Normal, Breaks, Continues, Returns, Raises, Cut, Handled, After, Runner, With, Use, By_truth, Requests, Suspends, throws, Named, Loads, LoadsAll, RequestsTwo, Calls, Operates, Evaluates, Tests, Chooses, On_normal, On_turn, On_raise, behind, Behind_finally, On_finally, Finally, Forgets, Handles, Loops, Reraises, Runs, RunsSuite, Tries}
+use Rattle.py_tree.specs.Outcome.{Outcome, Normal, Breaks, Continues, Returns, Raises, Cut, Handled, After, Runner, With, Use, By_truth, Requests, Suspends, throws, Named, Loads, LoadsAll, RequestsTwo, Calls, Operates, Evaluates, Tests, Chooses, On_normal, On_turn, On_raise, behind, Behind_finally, On_finally, Finally, Forgets, Handles, Loops, is_manager, Leaves, LeavesBy, On_exit, Manages, Reraises, Runs, RunsSuite, Tries}
 use Rattle.py_tree.specs.Trace.{Ended, EndsBy, Entered, IsBegun, IsTrace}
 use Rattle.py_tree.specs.Laws.{Widens, TracesCarry}
 use Rattle.py_objects.proofs.GrowthLemmas.{payload_grown}
@@ -279,6 +279,55 @@ module _ (scene scene' : Scene) (widens : Widens scene scene') (more : List Own)
   reraises_go line env h event ts K K' carries k =
       asked_goes line env h request.Handled event ts K K' _ _ carries (λ v i rest done. carries.goes env (Raises (as_exception v)) i rest done) k
 
+  leaves_go : (line : ℕ) (m : Obj) (h : Handled) (event : ℕ) (ts : List Own) (K K' : AfterValue) → ValueGoes more K K' → K' Stopped event []
+      → Leaves scene line m h event (ts ++ more) K → Leaves scene' line m h event ts K'
+  leaves_go line m h event ts K K' goes cut (inl (e, k)) = inl (empty_front ts more e, cut)
+  leaves_go line m h event ts K K' goes cut (inr (c, v, t, is_c, is_v, is_t, told)) =
+      let same : (o : Obj) → _ = λ o. payload_grown scene.objects scene'.objects o payload.None widens.objects in
+      inr (c, v, t, same c is_c, same v is_v, same t is_t, requests_go line (request.Exit m c v t) h event ts K K' goes cut told)
+
+  leaves_by_goes : (line : ℕ) (m : Obj) (e : PyBaseExceptionRef) (event : ℕ) (ts : List Own) (K K' : AfterValue) → ValueGoes more K K' → K' Stopped event []
+      → LeavesBy scene line m e event (ts ++ more) K → LeavesBy scene' line m e event ts K'
+  leaves_by_goes line m e event ts K K' goes cut (inl (none, k)) = inl (empty_front ts more none, cut)
+  leaves_by_goes line m e event ts K K' goes cut (inr (body, t, has, told)) =
+      inr (
+        body,
+        t,
+        payload_grown scene.objects scene'.objects (as_object e) (payload.Exception body) widens.objects has,
+        requests_go line (request.Exit m (class_object body.class) (as_object e) t) (Some e) event ts K K' goes cut told,
+      )
+
+  -- behind an exit without a raise
+  left_goes : (line : ℕ) (m : Obj) (h : Handled) (env : Env) (o : Outcome) (event : ℕ) (ts : List Own) (K K' : After) → Carries more K K'
+      → Leaves scene line m h event (ts ++ more) (Use env K (λ w. K env o)) → Leaves scene' line m h event ts (Use env K' (λ w. K' env o))
+  left_goes line m h env o event ts K K' carries k =
+      leaves_go line m h event ts _ _ (use_goes env more K K' _ _ carries.goes (λ w i rest done. carries.goes env o i rest done)) (carries.cut env event) k
+
+  on_exit_goes : (line : ℕ) (m : Obj) (h : Handled) (K K' : After) → Carries more K K' → Carries more (On_exit scene line m h K) (On_exit scene' line m h K')
+  on_exit_goes line m h K K' carries = record { goes = by; cut = carries.cut }
+    where
+      by : Goes more (On_exit scene line m h K) (On_exit scene' line m h K')
+      by env Normal event rest k = left_goes line m h env Normal event rest K K' carries k
+      by env Breaks event rest k = left_goes line m h env Breaks event rest K K' carries k
+      by env Continues event rest k = left_goes line m h env Continues event rest K K' carries k
+      by env (Returns v) event rest k = left_goes line m h env (Returns v) event rest K K' carries k
+      by env (Raises e) event rest k =
+          leaves_by_goes line m e event rest _ _
+          (use_goes env more K K' _ _ carries.goes
+          (λ w i mid told. tests_go line env h w i mid K K' _ _ carries
+          (λ b j left chosen. by_truth_goes b _ _ _ _ (carries.goes env Normal j left) (carries.goes env (Raises e) j left) chosen) told)) (carries.cut env event) k
+      by env Cut event rest k = carries.goes env Cut event rest k
+
+  manages_goes : (line : ℕ) (m : Obj) (x : Option Name) (v : Obj) (body body' : Runner) → RunnerGoes body body' → RunnerGoes (Manages scene line m x v body) (Manages scene' line m x v body')
+  manages_goes line m x v body body' runs env h event ts K K' carries (inl (e, k)) = inl (empty_front ts more e, carries.cut env event)
+  manages_goes line m x v body body' runs env h event ts K K' carries (inr (p, has, k)) =
+      inr (
+        p,
+        payload_grown scene.objects scene'.objects m p widens.objects has,
+        by_truth_goes (is_manager p) _ _ _ _ (runs (bind x v env) h event ts _ _ (on_exit_goes line m h K K' carries))
+            (asked_goes line env h (request.NoExit m) event ts K K' _ _ carries (λ u i mid never. never)) k,
+      )
+
   mutual
     runs_go : (f : Form) (line : ℕ) → RunnerGoes (Runs scene line f) (Runs scene' line f)
     runs_go (Assign x e) line env h event ts K K' carries k =
@@ -307,6 +356,11 @@ module _ (scene scene' : Scene) (widens : Widens scene scene') (more : List Own)
     runs_go (TryFinally s t) line env h event ts K K' carries k =
         finally_goes (RunsSuite scene s) (RunsSuite scene' s) (RunsSuite scene t) (RunsSuite scene' t) (λ env1 h1 i mid K1 K1' carries1 told. suite_goes s env1 h1 i mid K1 K1' carries1 told)
         (λ env1 h1 i mid K1 K1' carries1 told. suite_goes t env1 h1 i mid K1 K1' carries1 told) env h event ts K K' carries k
+    runs_go (WithForm a x s) line env h event ts K K' carries k =
+        taken_goes line env h a event ts K K' _ _ carries
+        (λ m i mid told. asked_goes line env h (request.Enter m) i mid K K' _ _ carries
+        (λ v j rest run. manages_goes line m x v (RunsSuite scene s) (RunsSuite scene' s) (λ env1 h1 i1 mid1 K1 K1' carries1 told1. suite_goes s env1 h1 i1 mid1 K1 K1' carries1 told1)
+        env h j rest K K' carries run) told) k
 
     -- the law for statements, where what follows may be cut anywhere
     suite_goes : (s : Suite) → RunnerGoes (RunsSuite scene s) (RunsSuite scene' s)

@@ -3,5 +3,6 @@ pub mod Carry
 mod WorkedLemmas
 mod WorkedHandlerLemmas
 mod WorkedGeneratorLemmas
+mod WorkedManagerLemmas
 mod Reaching
 mod EndingLemmas

@@ -12,7 +12,7 @@ use Rattle.py_objects.specs.declared.event.GotAnswer.{GotAnswer}
 use Rattle.py_objects.specs.declared.event.GotAnswer.TheVariants as got
 use Rattle.py_objects.specs.declared.event.ResumeHow.{ResumeHow}
 use Rattle.py_objects.specs.declared.event.ResumeHow.TheVariants as how
-use Rattle.py_objects.specs.Objects.{Obj, HasPayload, as_exception, as_object}
+use Rattle.py_objects.specs.Objects.{Obj, HasPayload, as_exception, as_object, class_object}
 use Rattle.py_objects.specs.Callees.{call_request}
 use Rattle.py_objects.specs.Own.{Own}
 use Rattle.py_objects.specs.Telling.{Value, Given, Failed, Stopped, AfterValue, IsLiteral, Answers, Answered, GoesOn, Resumed, Rounded}
@@ -22,10 +22,10 @@ use Rattle.py_tree.specs.declared.expr.Expr.{Expr}
 use Rattle.py_tree.specs.declared.expr.Expr.TheVariants as expr
 use Rattle.py_tree.specs.declared.expr.Operation.{Operation}
 use Rattle.py_tree.specs.declared.expr.Operation.TheVariants as operation
-use Rattle.py_tree.specs.Tree.{Name, Form, Assign, Do, Show, Return, Raise, Reraise, Break, Continue, Pass, If, IfElse, While, TryExcept, TryFinally, Suite, nothing, first, Clauses, no_more, clause}
+use Rattle.py_tree.specs.Tree.{Name, Form, Assign, Do, Show, Return, Raise, Reraise, Break, Continue, Pass, If, IfElse, While, TryExcept, TryFinally, With as WithForm, Suite, nothing, first, Clauses, no_more, clause}
 use Rattle.py_tree.specs.Binding.{Env, find_local, set_local, bind}
 use Rattle.py_tree.specs.Scene.{Scene}
-use Rattle.py_tree.specs.Outcome.{Outcome, Normal, Breaks, Continues, Returns, Raises, Cut, Handled, After, Runner, With, Use, By_truth, Requests, Suspends, throws, Named, Loads, LoadsAll, RequestsTwo, Calls, Operates, Evaluates, Tests, Chooses, On_normal, On_turn, On_raise, behind, Behind_finally, On_finally, Finally, Forgets, Handles, Loops, Reraises, Runs, RunsSuite, Tries}
+use Rattle.py_tree.specs.Outcome.{Outcome, Normal, Breaks, Continues, Returns, Raises, Cut, Handled, After, Runner, With, Use, By_truth, Requests, Suspends, throws, Named, Loads, LoadsAll, RequestsTwo, Calls, Operates, Evaluates, Tests, Chooses, On_normal, On_turn, On_raise, behind, Behind_finally, On_finally, Finally, Forgets, Handles, Loops, is_manager, Leaves, LeavesBy, On_exit, Manages, Reraises, Runs, RunsSuite, Tries}
 
 -- what tells comes to one value, behind which K holds, and whatever else holds there may follow
 pub record GivesOne (Told : AfterValue → Type 0) (K : AfterValue) : Type 1 where
@@ -182,7 +182,7 @@ module _ (scene : Scene) where
   literal_gives p event ts K (inl (e, k)) = record { value = Stopped; event = event; left = []; here = k; instead = λ K' k'. inl (e, k') }
   literal_gives p event ts K (inr (v, has, k)) = record { value = Given v; event = event; left = ts; here = k; instead = λ K' k'. inr (v, has, k') }
 
-  requests_give : (line : ℕ) (r : Request) (h : Handled) (event : ℕ) (ts : List Own) (K : AfterValue) → Requests scene line r h event ts K → GivesOne (λ K'. Requests scene line r h event ts K') K
+  pub requests_give : (line : ℕ) (r : Request) (h : Handled) (event : ℕ) (ts : List Own) (K : AfterValue) → Requests scene line r h event ts K → GivesOne (λ K'. Requests scene line r h event ts K') K
   requests_give line r h event ts K (inl (e, k)) = record { value = Stopped; event = event; left = []; here = k; instead = λ K' k'. inl (e, k') }
   requests_give line r h event ts K (inr (at, mid, is, e, k)) =
       let g = answered_gives event mid K k in
@@ -206,7 +206,7 @@ module _ (scene : Scene) where
   named_gives line (Some None) x h event ts K k = requests_give line (request.Unbound x) h event ts K k
   named_gives line (Some (Some v)) x h event ts K k = record { value = Given v; event = event; left = ts; here = k; instead = λ K' k'. k' }
 
-  loads_give : (line : ℕ) (env : Env) (h : Handled) (a : Atom) (event : ℕ) (ts : List Own) (K : AfterValue) → Loads scene line env h a event ts K → GivesOne (λ K'. Loads scene line env h a event ts K') K
+  pub loads_give : (line : ℕ) (env : Env) (h : Handled) (a : Atom) (event : ℕ) (ts : List Own) (K : AfterValue) → Loads scene line env h a event ts K → GivesOne (λ K'. Loads scene line env h a event ts K') K
   loads_give line env h atom.None event ts K k = literal_gives payload.None event ts K k
   loads_give line env h (atom.Bool b) event ts K k = literal_gives (payload.Bool b) event ts K k
   loads_give line env h (atom.Int n) event ts K k = literal_gives (payload.Int n) event ts K k
@@ -299,6 +299,55 @@ module _ (scene : Scene) where
   reraises_end line env h event ts K k =
       asked_ends line env h request.Handled event ts (λ K' v. K' env (Raises (as_exception v))) K (λ v i rest done. ends_at env (Raises (as_exception v)) i rest K done) k
 
+  -- ---- managers
+
+  pub leaves_give : (line : ℕ) (m : Obj) (h : Handled) (event : ℕ) (ts : List Own) (K : AfterValue) → Leaves scene line m h event ts K → GivesOne (λ K'. Leaves scene line m h event ts K') K
+  leaves_give line m h event ts K (inl (e, k)) = record { value = Stopped; event = event; left = []; here = k; instead = λ K' k'. inl (e, k') }
+  leaves_give line m h event ts K (inr (c, v, t, is_c, is_v, is_t, told)) =
+      let g = requests_give line (request.Exit m c v t) h event ts K told in
+      record { value = g.value; event = g.event; left = g.left; here = g.here; instead = λ K' k'. inr (c, v, t, is_c, is_v, is_t, g.instead K' k') }
+
+  pub leaves_by_gives : (line : ℕ) (m : Obj) (e : PyBaseExceptionRef) (event : ℕ) (ts : List Own) (K : AfterValue) → LeavesBy scene line m e event ts K → GivesOne (λ K'. LeavesBy scene line m e event ts K') K
+  leaves_by_gives line m e event ts K (inl (none, k)) = record { value = Stopped; event = event; left = []; here = k; instead = λ K' k'. inl (none, k') }
+  leaves_by_gives line m e event ts K (inr (body, t, has, told)) =
+      let g = requests_give line (request.Exit m (class_object body.class) (as_object e) t) (Some e) event ts K told in
+      record { value = g.value; event = g.event; left = g.left; here = g.here; instead = λ K' k'. inr (body, t, has, g.instead K' k') }
+
+  -- behind an exit without a raise
+  left_ends : (line : ℕ) (m : Obj) (h : Handled) (env : Env) (o : Outcome) (event : ℕ) (ts : List Own) (K : After) → Leaves scene line m h event ts (Use env K (λ w. K env o))
+      → EndsOnce (λ K'. Leaves scene line m h event ts (Use env K' (λ w. K' env o))) K
+  left_ends line m h env o event ts K k =
+      use_ends env (λ K'. Leaves scene line m h event ts K') (λ K' w. K' env o) K (leaves_give line m h event ts _ k) (λ w i rest done. ends_at env o i rest K done)
+
+  -- what follows the test of an exit's answer
+  abbrev Swallowed : Env → PyBaseExceptionRef → After → Bool → ℕ → List Own → Type 0
+  Swallowed env e K b i rest = By_truth b (K env Normal i rest) (K env (Raises e) i rest)
+
+  on_exit_ends : (line : ℕ) (m : Obj) (h : Handled) (K : After) (env : Env) (o : Outcome) (event : ℕ) (rest : List Own) → On_exit scene line m h K env o event rest
+      → EndsOnce (λ K'. On_exit scene line m h K' env o event rest) K
+  on_exit_ends line m h K env Normal event rest k = left_ends line m h env Normal event rest K k
+  on_exit_ends line m h K env Breaks event rest k = left_ends line m h env Breaks event rest K k
+  on_exit_ends line m h K env Continues event rest k = left_ends line m h env Continues event rest K k
+  on_exit_ends line m h K env (Returns v) event rest k = left_ends line m h env (Returns v) event rest K k
+  on_exit_ends line m h K env (Raises e) event rest k =
+      use_ends env (λ K'. LeavesBy scene line m e event rest K') (λ K' w i mid. Tests scene line env h w i mid K' (Swallowed env e K')) K (leaves_by_gives line m e event rest _ k)
+      (λ w i mid told. tests_end line env h w i mid (λ K'. Swallowed env e K') K
+      (λ b j left. by_truth_ends b (λ K'. K' env Normal j left) (λ K'. K' env (Raises e) j left) K (ends_at env Normal j left K) (ends_at env (Raises e) j left K)) told)
+  on_exit_ends line m h K env Cut event rest k = ends_at env Cut event rest K k
+
+  -- what follows the entry of a manager, or of what is none
+  abbrev Managed : ℕ → Obj → Option Name → Obj → Runner → Env → Handled → ℕ → List Own → Payload → After → Type 0
+  Managed line m x v body env h event ts p K =
+      By_truth (is_manager p) (body (bind x v env) h event ts (On_exit scene line m h K)) (Requests scene line (request.NoExit m) h event ts (Use env K (λ u i mid. ⊥)))
+
+  manages_end : (line : ℕ) (m : Obj) (x : Option Name) (v : Obj) (body : Runner) → RunnerEnds body → RunnerEnds (Manages scene line m x v body)
+  manages_end line m x v body bodies env h event ts K (inl (e, k)) = ends_by (λ K'. K' env Cut event []) _ K (ends_at env Cut event [] K k) (λ K' told. inl (e, told))
+  manages_end line m x v body bodies env h event ts K (inr (p, has, k)) =
+      ends_by (λ K'. Managed line m x v body env h event ts p K') _ K
+      (by_truth_ends (is_manager p) (λ K'. body (bind x v env) h event ts (On_exit scene line m h K')) (λ K'. Requests scene line (request.NoExit m) h event ts (Use env K' (λ u i mid. ⊥))) K
+      (λ run. on_ends (λ K'. body (bind x v env) h event ts K') (λ K'. On_exit scene line m h K') K (bodies (bind x v env) h event ts _ run) (on_exit_ends line m h K))
+      (λ asked. asked_ends line env h (request.NoExit m) event ts (λ K' u i mid. ⊥) K (λ u i mid never. absurd never) asked) k) (λ K' told. inr (p, has, told))
+
   -- what follows the test of a clause
   abbrev Matched : ℕ → Option Name → Suite → Clauses → PyBaseExceptionRef → Env → Handled → After → Bool → ℕ → List Own → Type 0
   Matched line x s more e env h K b i rest = By_truth b (Handles x (RunsSuite scene s) (bind x (as_object e) env) h i rest K) (Tries scene line more e env h i rest K)
@@ -337,6 +386,10 @@ module _ (scene : Scene) where
         (raise_ends (λ K' e env1 i mid. Tries scene line cs e env1 (Some e) i mid K') K (λ e env1 i mid told. tries_end cs line e env1 (Some e) i mid K told))
     runs_end (TryFinally s t) line env h event ts K k =
         finally_ends (RunsSuite scene s) (RunsSuite scene t) (λ env1 h1 i mid K1 told. suite_ends s env1 h1 i mid K1 told) (λ env1 h1 i mid K1 told. suite_ends t env1 h1 i mid K1 told) env h event ts K k
+    runs_end (WithForm a x s) line env h event ts K k =
+        taken_ends line env h a event ts (λ K' m i mid. Requests scene line (request.Enter m) h i mid (Use env K' (λ v j rest. Manages scene line m x v (RunsSuite scene s) env h j rest K'))) K
+        (λ m i mid told. asked_ends line env h (request.Enter m) i mid (λ K' v j rest. Manages scene line m x v (RunsSuite scene s) env h j rest K') K
+        (λ v j rest run. manages_end line m x v (RunsSuite scene s) (λ env1 h1 i1 mid1 K1 told1. suite_ends s env1 h1 i1 mid1 K1 told1) env h j rest K run) told) k
 
     -- so do statements in order
     pub suite_ends : (s : Suite) → RunnerEnds (RunsSuite scene s)

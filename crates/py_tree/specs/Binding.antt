@@ -3,7 +3,7 @@
 use Rattle.std.specs.Prelude.{Option, Some, None, List, [], ◌∷◌, ◌++◌, bytes_eq, if◌then◌else◌}
 use Rattle.std.specs.List.{list_any}
 use Rattle.py_objects.specs.Objects.{Obj}
-use Rattle.py_tree.specs.Tree.{Name, Form, Assign, Do, Show, Return, Raise, Reraise, Break, Continue, Pass, If, IfElse, While, TryExcept, TryFinally, Suite, nothing, first, Clauses, no_more, clause, Tree}
+use Rattle.py_tree.specs.Tree.{Name, Form, Assign, Do, Show, Return, Raise, Reraise, Break, Continue, Pass, If, IfElse, While, TryExcept, TryFinally, With, Suite, nothing, first, Clauses, no_more, clause, Tree}
 
 -- a name behind others, unless it is one of them
 abbrev pub bound : List Name → Name → List Name
@@ -31,6 +31,7 @@ abbrev mutual
   bound_in names (While a s) = bound_by names s
   bound_in names (TryExcept s cs) = bound_under (bound_by names s) cs
   bound_in names (TryFinally s t) = bound_by (bound_by names s) t
+  bound_in names (With a x s) = bound_by (bound_if names x) s
 
   -- the names that a suite binds, behind others, in the order in which its lines first bind them
   pub bound_by : List Name → Suite → List Name

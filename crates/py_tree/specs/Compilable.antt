@@ -1,13 +1,13 @@
 -- Which bodies can be compiled: their parameters differ and are few, calls have few arguments, only generators yield, break and continue stand
--- inside of loops, and there are no more statements than the longest script has.
-use Rattle.std.specs.Prelude.{ℕ, suc, ◌+◌, ◌≤◌, Bool, true, false, ◌≡◌, ◌≢◌, length, AllPairs}
+-- inside of loops, no more withs stand inside of one another than blocks may be open, and there are no more statements than the longest script has.
+use Rattle.std.specs.Prelude.{ℕ, suc, ◌+◌, ◌≤◌, ◌<◌, Bool, true, false, ◌≡◌, ◌≢◌, length, AllPairs}
 use Rattle.py_tree.specs.declared.body.BodyKind.{BodyKind}
 use Rattle.py_tree.specs.declared.body.BodyKind.TheVariants.{Generator}
 use Rattle.py_tree.specs.declared.expr.Expr.{Expr}
 use Rattle.py_tree.specs.declared.expr.Expr.TheVariants as expr
 use Rattle.py_tree.specs.declared.expr.Operation.{Operation}
 use Rattle.py_tree.specs.declared.expr.Operation.TheVariants as operation
-use Rattle.py_tree.specs.Tree.{Form, Assign, Do, Break, Continue, If, IfElse, While, TryExcept, TryFinally, Suite, nothing, first, Clauses, no_more, clause, Tree}
+use Rattle.py_tree.specs.Tree.{Form, Assign, Do, Break, Continue, If, IfElse, While, TryExcept, TryFinally, With, Suite, nothing, first, Clauses, no_more, clause, Tree}
 
 module _ (kind : BodyKind) where
   -- a call has at most 255 arguments, and only a generator yields
@@ -38,6 +38,7 @@ module _ (kind : BodyKind) where
     FormFits in_loop (While a s) = SuiteFits true s
     FormFits in_loop (TryExcept s cs) = SuiteFits in_loop s × ClausesFit in_loop cs
     FormFits in_loop (TryFinally s t) = SuiteFits in_loop s × SuiteFits in_loop t
+    FormFits in_loop (With a x s) = SuiteFits in_loop s
     FormFits in_loop f = Unit {0}
 
     pub SuiteFits : Bool → Suite → Type 0
@@ -49,6 +50,25 @@ module _ (kind : BodyKind) where
     ClausesFit in_loop (clause n c x s more) = SuiteFits in_loop s × ClausesFit in_loop more
 
 abbrev mutual
+  -- fewer than 64 withs stand around each with, where so many stand around the statement
+  pub FormNests : ℕ → Form → Type 0
+  FormNests around (If a s) = SuiteNests around s
+  FormNests around (IfElse a s t) = SuiteNests around s × SuiteNests around t
+  FormNests around (While a s) = SuiteNests around s
+  FormNests around (TryExcept s cs) = SuiteNests around s × ClausesNest around cs
+  FormNests around (TryFinally s t) = SuiteNests around s × SuiteNests around t
+  FormNests around (With a x s) = (around < 64) × SuiteNests (suc around) s
+  FormNests around f = Unit {0}
+
+  pub SuiteNests : ℕ → Suite → Type 0
+  SuiteNests around nothing = Unit {0}
+  SuiteNests around (first n f more) = FormNests around f × SuiteNests around more
+
+  pub ClausesNest : ℕ → Clauses → Type 0
+  ClausesNest around no_more = Unit {0}
+  ClausesNest around (clause n c x s more) = SuiteNests around s × ClausesNest around more
+
+abbrev mutual
   -- how many statements and clauses there are, those inside others too
   pub statements_in : Form → ℕ
   statements_in (If a s) = suc (statements s)
@@ -56,6 +76,7 @@ abbrev mutual
   statements_in (While a s) = suc (statements s)
   statements_in (TryExcept s cs) = suc (statements s + statements_under cs)
   statements_in (TryFinally s t) = suc (statements s + statements t)
+  statements_in (With a x s) = suc (statements s)
   statements_in f = 1
 
   pub statements : Suite → ℕ
@@ -71,4 +92,5 @@ pub record IsCompilable (t : Tree) : Type 0 where
   pub distinct : AllPairs (λ x y. x ≢ y) t.params
   pub few : length t.params ≤ 255
   pub fits : SuiteFits t.kind false t.suite
+  pub nests : SuiteNests 0 t.suite
   pub short : statements t.suite ≤ 1048576

@@ -1,18 +1,21 @@
--- Where parts of a tree come to: bodies of traces, statements in order, tries with a finally, clauses, and tries with clauses.
+-- Where parts of a tree come to: bodies of traces, statements in order, tries with a finally, clauses, tries with clauses, and
+-- withs.
 use Rattle.std.specs.Prelude.{ℕ, Bool, true, false, Option, Some, None, List, [], ◌∷◌, ◌≡◌, ◌≢◌, ◌⊎◌}
 use Rattle.py_objects.specs.declared.refs.PyBaseExceptionRef.{PyBaseExceptionRef}
 use Rattle.py_objects.specs.declared.payload.Payload.TheVariants as payload
+use Rattle.py_objects.specs.declared.payload.ManagerBody.{ManagerBody}
 use Rattle.py_objects.specs.declared.request.Request.TheVariants as request
 use Rattle.py_objects.specs.declared.event.ResumeHow.TheVariants as how
 use Rattle.py_objects.specs.Objects.{Obj, HasPayload, as_object}
 use Rattle.py_objects.specs.Own.{Own, Resumes}
 use Rattle.py_objects.specs.Telling.{Given, AfterValue}
+use Rattle.py_tree.specs.declared.expr.Atom.{Atom}
 use Rattle.py_tree.specs.declared.expr.Atom.TheVariants as atom
-use Rattle.py_tree.specs.Tree.{Name, Form, TryExcept, TryFinally, Suite, first, Clauses, no_more, clause, Tree}
+use Rattle.py_tree.specs.Tree.{Name, Form, TryExcept, TryFinally, With as WithForm, Suite, first, Clauses, no_more, clause, Tree}
 use Rattle.py_tree.specs.Binding.{Env, find_local, bind, start_env}
 use Rattle.py_tree.specs.Scene.{Scene}
 use Rattle.py_tree.specs.Trace.{EndsBy, IsBegun}
-use Rattle.py_tree.specs.Outcome.{Outcome, Normal, Breaks, Continues, Returns, Raises, Cut, Handled, Runner, Handles, Requests, Loads, Runs, RunsSuite, Tries}
+use Rattle.py_tree.specs.Outcome.{Outcome, Normal, Breaks, Continues, Returns, Raises, Cut, Handled, Runner, Handles, By_truth, Requests, Loads, Leaves, LeavesBy, Runs, RunsSuite, Tries}
 
 -- a point of a run: the locals, the outcome, the number of the event heard last, and the events that are left
 pub record Point : Type 0 where
@@ -142,3 +145,54 @@ FirstClauseDecides = (scene : Scene) (line n : ℕ) (c : Name) (x : Option Name)
 abbrev pub NoClauseRaises : Type 0
 NoClauseRaises = (scene : Scene) (line : ℕ) (e : PyBaseExceptionRef) (env : Env) (h : Handled) (event : ℕ) (ts : List Own) (whole : Point)
     → Reaches (Tries scene line no_more e) env h event ts whole → IsStopped env whole
+
+-- ---- withs
+
+-- the manager m is loaded and entered by a with of this line, and v is its answer; by then the event of this number was heard last, and these
+-- are left
+pub record IsEntered (scene : Scene) (line : ℕ) (a : Atom) (m v : Obj) (env : Env) (h : Handled) (event : ℕ) (ts : List Own) (i : ℕ) (rest : List Own) : Type 0 where
+  pub loaded : ℕ
+  pub behind_atom : List Own
+  pub loads : Loads scene line env h a event ts (Gives m loaded behind_atom)
+  pub enters : Requests scene line (request.Enter m) h loaded behind_atom (Gives v i rest)
+
+-- an exit behind no raise is answered, whatever the answer is, and the body's outcome goes on
+abbrev pub ExitPasses : Scene → ℕ → Obj → Handled → Point → Point → Type 0
+ExitPasses scene line m h body whole =
+    (w : Obj) × (i : ℕ) × (rest : List Own) × Leaves scene line m h body.event body.left (Gives w i rest) × (whole ≡ record body { event = i; left = rest })
+
+-- an exit behind the raise of e is answered, and the truth of the answer says whether e goes on
+pub record ExitDecides (scene : Scene) (line : ℕ) (m : Obj) (e : PyBaseExceptionRef) (h : Handled) (body whole : Point) : Type 0 where
+  pub answer : Obj
+  pub answered : ℕ
+  pub behind_answer : List Own
+  pub leaves : LeavesBy scene line m e body.event body.left (Gives answer answered behind_answer)
+  pub truth : Obj
+  pub swallows : Bool
+  pub is : HasPayload scene.objects truth (payload.Bool swallows)
+  pub tests : Requests scene line (request.Truth answer) h answered behind_answer (Gives truth whole.event whole.left)
+  pub env : whole.env ≡ body.env
+  pub outcome : By_truth swallows (whole.outcome ≡ Normal) (whole.outcome ≡ Raises e)
+
+-- what a with comes to behind its body, unless a question of its exit is what stops it
+abbrev pub ExitEnds : Scene → ℕ → Obj → Handled → Point → Point → Type 0
+ExitEnds scene line m h body whole =
+    ((body.outcome ≡ Cut) × (whole ≡ body))
+    ⊎ (((e : PyBaseExceptionRef) × (body.outcome ≡ Raises e) × ExitDecides scene line m e h body whole)
+    ⊎ ((body.outcome ≢ Cut) × ((e : PyBaseExceptionRef) → body.outcome ≢ Raises e) × ExitPasses scene line m h body whole))
+
+-- a with comes to what stopped a question in front of its body, or its body runs, with the value bound or dropped, and behind it comes what the
+-- exit leads to, or what stopped a question of that
+abbrev pub ExitIsAsked : Type 0
+ExitIsAsked = (scene : Scene) (line : ℕ) (a : Atom) (x : Option Name) (s : Suite) (env : Env) (h : Handled) (event : ℕ) (ts : List Own) (whole : Point)
+    → Reaches (Runs scene line (WithForm a x s)) env h event ts whole
+    → IsStopped env whole
+    ⊎ ((m : Obj) × (v : Obj) × (i : ℕ) × (rest : List Own) × IsEntered scene line a m v env h event ts i rest
+    × ((body : Point) × Reaches (RunsSuite scene s) (bind x v env) h i rest body × (IsStopped body.env whole ⊎ ExitEnds scene line m h body whole)))
+
+-- and wherever its body may end behind the entry of a manager, and the exit be answered, the with does
+abbrev pub ExitGoesOn : Type 0
+ExitGoesOn = (scene : Scene) (line : ℕ) (a : Atom) (x : Option Name) (s : Suite) (env : Env) (h : Handled) (event : ℕ) (ts : List Own) (m v : Obj) (manager : ManagerBody) (i : ℕ) (rest : List Own) (body whole : Point)
+    → IsEntered scene line a m v env h event ts i rest → HasPayload scene.objects m (payload.Manager manager)
+    → Reaches (RunsSuite scene s) (bind x v env) h i rest body → ExitEnds scene line m h body whole
+    → Reaches (Runs scene line (WithForm a x s)) env h event ts whole

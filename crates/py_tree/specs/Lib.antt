@@ -15,6 +15,7 @@ pub mod Endings
 pub mod Worked
 pub mod WorkedHandlers
 pub mod WorkedGenerators
+pub mod WorkedManagers
 -- how suites are put together
 pub mod Suites
 -- which bodies can be compiled

@@ -2,16 +2,17 @@
 -- form, begun with the locals env while the exception h is handled, and behind the event of this number, which was heard last, may tell the events
 -- at the front of ts, and that K holds of the locals, the outcome, the event heard last by then, and the events behind. It may be cut
 -- where nothing is left to tell.
--- (Python Language Reference, 4.1, 4.2, 4.3, 6.2.9, 6.3.4, 6.10, 6.16, 7 and 8.1, 8.2, 8.4)
+-- (Python Language Reference, 3.3.9, 4.1, 4.2, 4.3, 6.2.9, 6.3.4, 6.10, 6.16, 7 and 8.1, 8.2, 8.4, 8.5)
 use Rattle.std.specs.Prelude.{ℕ, zero, suc, Bool, true, false, Option, Some, None, List, [], ◌∷◌, ◌≡◌, ◌⊎◌}
 use Rattle.py_code.specs.declared.operator.BinaryOperator.TheVariants as binary
 use Rattle.py_code.specs.declared.operator.ComparisonOperator.TheVariants as comparison
 use Rattle.py_objects.specs.declared.refs.PyBaseExceptionRef.{PyBaseExceptionRef}
 use Rattle.py_objects.specs.declared.payload.Payload.{Payload}
 use Rattle.py_objects.specs.declared.payload.Payload.TheVariants as payload
+use Rattle.py_objects.specs.declared.payload.ExceptionBody.{ExceptionBody}
 use Rattle.py_objects.specs.declared.request.Request.{Request}
 use Rattle.py_objects.specs.declared.request.Request.TheVariants as request
-use Rattle.py_objects.specs.Objects.{Obj, HasPayload, as_exception, as_object}
+use Rattle.py_objects.specs.Objects.{Obj, HasPayload, as_exception, as_object, class_object}
 use Rattle.py_objects.specs.Own.{Own}
 use Rattle.py_objects.specs.Callees.{call_request}
 use Rattle.py_objects.specs.Telling.{Given, Failed, Stopped, AfterValue, IsLiteral, Asked, Yielded, Rounded}
@@ -21,7 +22,7 @@ use Rattle.py_tree.specs.declared.expr.Expr.{Expr}
 use Rattle.py_tree.specs.declared.expr.Expr.TheVariants as expr
 use Rattle.py_tree.specs.declared.expr.Operation.{Operation}
 use Rattle.py_tree.specs.declared.expr.Operation.TheVariants as operation
-use Rattle.py_tree.specs.Tree.{Name, Form, Assign, Do, Show, Return, Raise, Reraise, Break, Continue, Pass, If, IfElse, While, TryExcept, TryFinally, Suite, nothing, first, Clauses, no_more, clause}
+use Rattle.py_tree.specs.Tree.{Name, Form, Assign, Do, Show, Return, Raise, Reraise, Break, Continue, Pass, If, IfElse, While, TryExcept, TryFinally, With as WithForm, Suite, nothing, first, Clauses, no_more, clause}
 use Rattle.py_tree.specs.Binding.{Env, find_local, set_local, bind}
 use Rattle.py_tree.specs.Scene.{Scene}
 
@@ -194,6 +195,44 @@ abbrev pub Handles : Option Name → Runner → Runner
 Handles None suite env h event ts K = suite env h event ts K
 Handles (Some x) suite env h event ts K = Finally suite (Forgets x) env h event ts K
 
+-- ---- managers
+
+-- whether a payload is a manager's, which has an exit
+abbrev pub is_manager : Payload → Bool
+is_manager (payload.Manager m) = true
+is_manager _ = false
+
+module _ (scene : Scene) where
+  -- a manager is left without a raise: its exit takes None three times
+  abbrev pub Leaves : ℕ → Obj → Handled → ℕ → List Own → AfterValue → Type 0
+  Leaves line m h event ts K =
+      ((ts ≡ []) × K Stopped event []) ⊎ ((c : Obj) × (v : Obj) × (t : Obj)
+      × HasPayload scene.objects c payload.None × HasPayload scene.objects v payload.None × HasPayload scene.objects t payload.None × Requests scene line (request.Exit m c v t) h event ts K)
+
+  -- a manager is left by the raise of e, which is handled meanwhile: its exit takes the class of e, e, and an object that is left open here
+  abbrev pub LeavesBy : ℕ → Obj → PyBaseExceptionRef → ℕ → List Own → AfterValue → Type 0
+  LeavesBy line m e event ts K =
+      ((ts ≡ []) × K Stopped event []) ⊎ ((body : ExceptionBody) × (t : Obj) × HasPayload scene.objects (as_object e) (payload.Exception body)
+      × Requests scene line (request.Exit m (class_object body.class) (as_object e) t) (Some e) event ts K)
+
+  -- behind the body of a with, whose manager is left unless that was cut: a raise goes on unless the exit's answer is true, any other
+  -- outcome goes on whatever the answer is
+  abbrev pub On_exit : ℕ → Obj → Handled → After → After
+  On_exit line m h K env Normal event ts = Leaves line m h event ts (Use env K (λ w. K env Normal))
+  On_exit line m h K env Breaks event ts = Leaves line m h event ts (Use env K (λ w. K env Breaks))
+  On_exit line m h K env Continues event ts = Leaves line m h event ts (Use env K (λ w. K env Continues))
+  On_exit line m h K env (Returns v) event ts = Leaves line m h event ts (Use env K (λ w. K env (Returns v)))
+  On_exit line m h K env (Raises e) event ts =
+      LeavesBy line m e event ts (Use env K (λ w i mid. Tests scene line env h w i mid K (λ b j rest. By_truth b (K env Normal j rest) (K env (Raises e) j rest))))
+  On_exit line m h K env Cut event ts = K env Cut event ts
+
+  -- behind the entry of m, which gave v: the body, with v bound or dropped, then the exit; where m is no manager its exit is missing,
+  -- which no value answers
+  abbrev pub Manages : ℕ → Obj → Option Name → Obj → Runner → Runner
+  Manages line m x v body env h event ts K =
+      ((ts ≡ []) × K env Cut event []) ⊎ ((p : Payload) × HasPayload scene.objects m p
+      × By_truth (is_manager p) (body (bind x v env) h event ts (On_exit line m h K)) (Requests scene line (request.NoExit m) h event ts (Use env K (λ u i mid. ⊥))))
+
 -- ---- statements
 
 module _ (scene : Scene) where
@@ -230,6 +269,8 @@ module _ (scene : Scene) where
     Runs line (While a s) env h event ts K = (n : ℕ) × Loops line a (RunsSuite s) n env h event ts K
     Runs line (TryExcept s cs) env h event ts K = RunsSuite s env h event ts (On_raise K (λ e env1 i mid. Tries line cs e env1 (Some e) i mid K))
     Runs line (TryFinally s t) env h event ts K = Finally (RunsSuite s) (RunsSuite t) env h event ts K
+    Runs line (WithForm a x s) env h event ts K =
+        Loads scene line env h a event ts (Use env K (λ m i mid. Requests scene line (request.Enter m) h i mid (Use env K (λ v j rest. Manages scene line m x v (RunsSuite s) env h j rest K))))
 
     -- statements in order
     pub RunsSuite : Suite → Runner

@@ -29,6 +29,7 @@ mutual
     While : Atom → Suite → Form  -- while a
     TryExcept : Suite → Clauses → Form  -- try, with clauses
     TryFinally : Suite → Suite → Form  -- try, with a finally
+    With : Atom → Option Name → Suite → Form  -- with a, or with a as x
 
   -- statements in order, each with its line
   pub data Suite : Type 0 where

@@ -5,7 +5,7 @@ use Rattle.py_tree.specs.declared.stmt.Clause.{Clause'}
 use Rattle.py_tree.specs.declared.stmt.StmtForm.{StmtForm}
 use Rattle.py_tree.specs.declared.stmt.StmtForm.TheVariants as stmt
 use Rattle.py_tree.specs.declared.body.Body.{Body}
-use Rattle.py_tree.specs.Tree.{Form, Assign, Do, Show, Return, Raise, Reraise, Break, Continue, Pass, If, IfElse, While, TryExcept, TryFinally, Suite, nothing, first, Clauses, no_more, clause, Tree}
+use Rattle.py_tree.specs.Tree.{Form, Assign, Do, Show, Return, Raise, Reraise, Break, Continue, Pass, If, IfElse, While, TryExcept, TryFinally, With, Suite, nothing, first, Clauses, no_more, clause, Tree}
 
 -- a statement, a list of statements and a list of clauses
 abbrev mutual
@@ -24,6 +24,7 @@ abbrev mutual
   form_of (stmt.While a s) = While a (suite_of s)
   form_of (stmt.TryExcept s cs) = TryExcept (suite_of s) (clauses_of cs)
   form_of (stmt.TryFinally s t) = TryFinally (suite_of s) (suite_of t)
+  form_of (stmt.With a x s) = With a x (suite_of s)
 
   pub suite_of : StmtList → Suite
   suite_of (StmtList' shape row) = row_suite row

@@ -11,4 +11,4 @@ pub use body::{Body, BodyKind, ParamList};
 pub use expr::{Atom, AtomList, Expr, Operation};
 pub use laws::{laws_of_endings, laws_of_traces};
 pub use stmt::{Clause, ClauseList, Stmt, StmtForm, StmtList};
-pub use worked::{worked_handlers, worked_trees, worked_yields};
+pub use worked::{worked_handlers, worked_managers, worked_trees, worked_yields};

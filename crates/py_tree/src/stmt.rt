@@ -49,6 +49,8 @@ pub enum StmtForm {
     TryExcept(StmtList, ClauseList),
     /// `try`, its suite, `finally`, the other suite, `end`.
     TryFinally(StmtList, StmtList),
+    /// `with a` or `with a as x`, its suite, `end`: the name is what the manager's entry gives, if it has one.
+    With(Atom, Option<PyText>, StmtList),
 }
 
 /// `except C` or `except C as x`, and its suite: what a `try` does with an exception of the class.

@@ -3,6 +3,7 @@
 ghost use Rattle.py_tree.specs.Worked.{HandledIsTrace, LeftIsTrace, NoExceptionLetOut, NoExceptionStays, NoFinallyBrokenOutOf, NoFinallySkipped, ReturnedIsTrace, ShownIsTrace};
 ghost use Rattle.py_tree.specs.WorkedGenerators.{NoClauseBeforeStart, NoOtherYielded, NoThrowIntoFunction, NoneGoesOnAlone, ThrownInIsTrace, YieldedIsTrace};
 ghost use Rattle.py_tree.specs.WorkedHandlers.{FinallyHandles, NameIsForgotten, NoClauseRaises, NoFinallyForgets, RaisedAgain};
+ghost use Rattle.py_tree.specs.WorkedManagers.{LeftByReturnIsTrace, NoExitSkipped, NoReturnSwallowed, SwallowedIsTrace};
 
 /// States what small trees may not tell, and what they may in place of it, and does nothing.
 pub fn worked_trees()
@@ -33,4 +34,13 @@ pub fn worked_yields()
     ensures thrown_in { ThrownInIsTrace }
     ensures no_clause_before_start { NoClauseBeforeStart }
     ensures no_throw_into_function { NoThrowIntoFunction }
+{}
+
+/// States what the exits of managers are asked in small trees, that one may swallow a raise, and that none is left out behind a
+/// return or swallows it, and does nothing.
+pub fn worked_managers()
+    ensures swallowed { SwallowedIsTrace }
+    ensures left { LeftByReturnIsTrace }
+    ensures no_exit_skipped { NoExitSkipped }
+    ensures no_return_swallowed { NoReturnSwallowed }
 {}

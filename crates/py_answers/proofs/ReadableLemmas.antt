@@ -1,0 +1,51 @@
+-- Objects that answers can read: as they grow, and behind one more change.
+use Rattle.std.proofs.Common.{◌≡◌, List, [], ◌∷◌, ◌++◌, Some, inl, inr, refl, sym, subst}
+use Rattle.std.specs.Prelude.{Option, None}
+use Rattle.py_objects.specs.declared.payload.Payload.{Payload}
+use Rattle.py_objects.specs.declared.payload.Payload.TheVariants as payload
+use Rattle.py_objects.specs.declared.edit.Edit.{Edit}
+use Rattle.py_objects.specs.declared.edit.Edit.TheVariants as edit
+use Rattle.py_objects.specs.declared.edit.LinkField.TheVariants as link
+use Rattle.py_objects.specs.declared.edit.Change.{Change}
+use Rattle.py_objects.specs.Objects.{Obj, AllFit, IfThere, IsException, IsTraceback}
+use Rattle.py_objects.specs.Edits.{Kept, IsEdited}
+use Rattle.py_objects.specs.Growth.{Grows}
+use Rattle.py_objects.proofs.GrowthLemmas.{one_entry, payload_grown, slice_get_split}
+use Rattle.py_answers.specs.Readable.{ChangeUnread, IsReadable, IsUnread}
+
+-- a traceback, where there is one, is one among more objects
+traceback_stays : (objects objects' : List Payload) (t : Option Obj) → Grows objects objects' → IfThere (IsTraceback objects) t → IfThere (IsTraceback objects') t
+traceback_stays objects objects' None grows is = tt
+traceback_stays objects objects' (Some v) grows (b, has) = (b, payload_grown objects objects' v (payload.Traceback b) grows has)
+
+-- a change of what no answer reads is one among more objects
+pub unread_grown : (objects objects' : List Payload) (c : Change) → Grows objects objects' → IsUnread objects c → IsUnread objects' c
+unread_grown objects objects' c grows (inl (ps, has)) = inl (ps, payload_grown objects objects' c.object (payload.Dict ps) grows has)
+unread_grown objects objects' c grows (inr ((e, has), (t, sets, made))) =
+    inr ((e, payload_grown objects objects' c.object (payload.Exception e) grows has), (t, sets, traceback_stays objects objects' t grows made))
+
+-- so are changes
+pub changes_grown : (objects objects' : List Payload) (cs : List Change) → Grows objects objects' → ChangeUnread objects cs → ChangeUnread objects' cs
+changes_grown objects objects' cs grows unread i c here = unread_grown objects objects' c grows (unread i c here)
+
+-- and with one more behind them
+pub change_unread : (objects : List Payload) (cs : List Change) (c : Change) → IsUnread objects c → ChangeUnread objects cs → ChangeUnread objects (cs ++ c ∷ [])
+change_unread objects cs c one unread i d here = elim (slice_get_split cs (c ∷ []) i d here) [
+  | inl front ↦ unread i d front
+  | inr back ↦ subst (IsUnread objects) (one_entry c d _ back) one
+]
+
+-- objects that answers can read still are that behind an edit of what no answer reads
+pub edit_readable : (old new : Kept) (o : Obj) (x : Edit) → IsEdited old new o x → IsUnread old.made (record { after = old.mark; object = o; edit = x }) → IsReadable old → IsReadable new
+edit_readable old new o x edited one readable =
+    let c : Change = record { after = old.mark; object = o; edit = x } in
+    record {
+      unread = subst (λ (l : List Payload). ChangeUnread l new.changes) (sym edited.made)
+          (subst (ChangeUnread old.made) (sym edited.changes) (change_unread old.made old.changes c one readable.unread));
+      fit = subst AllFit (sym edited.made) readable.fit;
+    }
+
+-- and where an exception got a traceback, or lost it
+pub traceback_readable : (old new : Kept) (exc : Obj) (t : Option Obj) → IsException old.made exc → IfThere (IsTraceback old.made) t
+    → IsEdited old new exc (edit.Link link.Traceback t) → IsReadable old → IsReadable new
+traceback_readable old new exc t is_exception made edited readable = edit_readable old new exc (edit.Link link.Traceback t) edited (inr (is_exception, (t, refl, made))) readable
