@@ -1,7 +1,7 @@
 -- What a body binds has places among its locals.
 use Rattle.std.proofs.Common.{List, Some, None, ◌≡◌, refl, ℕ}
 use Rattle.std.specs.Prelude.{Option}
-use Rattle.py_tree.specs.Tree.{Name, Form, Assign, If, IfElse, While, TryExcept, TryFinally, Suite, nothing, first, Clauses, no_more, clause}
+use Rattle.py_tree.specs.Tree.{Name, Form, Assign, If, IfElse, While, TryExcept, TryFinally, With, Suite, nothing, first, Clauses, no_more, clause}
 use Rattle.py_tree.specs.Binding.{bound_if, bound_in, bound_by, bound_under}
 use Rattle.py_tree.specs.Suites.{add}
 use Rattle.py_laid.specs.Fits.{Continues}
@@ -23,6 +23,7 @@ mutual
   form_on (While a s) names vars on placed = suite_on s names vars on placed
   form_on (TryExcept s cs) names vars on placed = (suite_on s names vars on placed.0, clauses_on cs names vars on placed.1)
   form_on (TryFinally s t) names vars on placed = (suite_on s names vars on placed.0, suite_on t names vars on placed.1)
+  form_on (With a x s) names vars on placed = (target_on names vars x on placed.0, suite_on s names vars on placed.1)
   form_on f names vars on placed = tt
 
   suite_on : (s : Suite) (names vars : List Name) → Continues names vars → SuitePlaced names s → SuitePlaced vars s
@@ -47,6 +48,7 @@ mutual
   form_bound (While a s) names = suite_bound s names
   form_bound (TryExcept s cs) names = (suite_on s (bound_by names s) _ (Continues-bound_under cs (bound_by names s)) (suite_bound s names), clauses_bound cs (bound_by names s))
   form_bound (TryFinally s t) names = (suite_on s (bound_by names s) _ (Continues-bound_by t (bound_by names s)) (suite_bound s names), suite_bound t (bound_by names s))
+  form_bound (With a x s) names = (target_on (bound_if names x) _ x (Continues-bound_by s (bound_if names x)) (target_bound names x), suite_bound s (bound_if names x))
   form_bound f names = tt
 
   pub suite_bound : (s : Suite) (names : List Name) → SuitePlaced (bound_by names s) s

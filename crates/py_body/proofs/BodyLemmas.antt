@@ -10,7 +10,7 @@ use Rattle.py_check.specs.Operands.{prefixes}
 use Rattle.py_rows.specs.Signature.{kind_of}
 use Rattle.py_tree.specs.declared.body.BodyKind.{BodyKind}
 use Rattle.py_tree.specs.declared.body.BodyKind.TheVariants.{Function, Generator}
-use Rattle.py_tree.specs.Tree.{Name, Form, Assign, If, IfElse, While, TryExcept, TryFinally, Suite, nothing, first}
+use Rattle.py_tree.specs.Tree.{Name, Form, Assign, If, IfElse, While, TryExcept, TryFinally, With, Suite, nothing, first}
 use Rattle.py_tree.specs.Tree.{Clauses, no_more, clause, Tree, seen_as}
 use Rattle.py_tree.specs.Binding.{bound_if, bound_in, bound_by, bound_under, locals_of}
 use Rattle.py_laid.specs.Code.{Parts, LaidBody, IsLaid, entry, flags_of, parts_with}
@@ -45,6 +45,10 @@ mutual
       let one = length-bound_by s names in
       let other = length-bound_by t (bound_by names s) in
       omega (arith, one, other)
+  length-bound_in (With a x s) names =
+      let here = length-bound_if names x in
+      let inside = length-bound_by s (bound_if names x) in
+      omega (arith, here, inside)
   length-bound_in f names = omega arith
 
   -- a suite binds no more names than it has statements

@@ -10,7 +10,7 @@ use Rattle.py_tree.specs.Binding.{bound_by, bound_if, bound_under}
 use Rattle.py_tree.specs.Suites.{add_clause, joined_clauses, list_clauses}
 use Rattle.py_body.specs.declared.sizes.Weights.{Weights}
 use Rattle.py_tree.specs.declared.body.BodyKind.{BodyKind}
-use Rattle.py_tree.specs.Compilable.{ClausesFit, SuiteFits, statements, statements_under}
+use Rattle.py_tree.specs.Compilable.{ClausesFit, SuiteFits, ClausesNest, SuiteNests, statements, statements_under}
 use Rattle.py_body.specs.Sizes.{size_clause, size_clauses, size_suite}
 
 list_clauses_append : (clauses : List Clause) (c : Clause) → list_clauses (clauses ++ c ∷ []) ≡ add_clause (list_clauses clauses) c
@@ -101,6 +101,15 @@ fits_in_at kind in_loop (Clause' line class target suite ∷ clauses) (suc i) c 
 pub clause_fits_at : (kind : BodyKind) (in_loop : Bool) (clauses : List Clause) (i : ℕ) (c : Clause) → i < length clauses → c ≡ get_or clauses i c → ClausesFit kind in_loop (list_clauses clauses)
     → SuiteFits kind in_loop (suite_of (out-Clause c).suite)
 clause_fits_at kind in_loop clauses i c low is fits = subst (SuiteFits kind in_loop) (sym (body_out c)) (fits_in_at kind in_loop clauses i c low is fits)
+
+nests_in_at : (around : ℕ) (clauses : List Clause) (i : ℕ) (c : Clause) → i < length clauses → c ≡ get_or clauses i c → ClausesNest around (list_clauses clauses) → SuiteNests around (body_of c)
+nests_in_at around [] i c low is nests = absurd (omega arith)
+nests_in_at around (Clause' line class target suite ∷ clauses) zero c low is nests = subst (λ (d : Clause). SuiteNests around (body_of d)) (sym is) nests.0
+nests_in_at around (Clause' line class target suite ∷ clauses) (suc i) c low is nests = nests_in_at around clauses i c (omega (arith, low)) is nests.1
+
+pub clause_nests_at : (around : ℕ) (clauses : List Clause) (i : ℕ) (c : Clause) → i < length clauses → c ≡ get_or clauses i c → ClausesNest around (list_clauses clauses)
+    → SuiteNests around (suite_of (out-Clause c).suite)
+clause_nests_at around clauses i c low is nests = subst (SuiteNests around) (sym (body_out c)) (nests_in_at around clauses i c low is nests)
 
 -- the suite of a clause takes no more than the clause
 pub suite_in_clause : (w : Weights) (x : Option Name) (body : ℕ) → body ≤ size_clause w x body

@@ -24,6 +24,7 @@ mod SizeLemmas
 -- statements with suites
 mod BlockLemmas
 mod ProtectedLemmas
+mod ManagerLemmas
 -- whole bodies
 mod BodyLemmas
 -- the codes of a body

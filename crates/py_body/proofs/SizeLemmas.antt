@@ -6,10 +6,10 @@ use Rattle.py_tree.specs.declared.expr.Expr.{Expr}
 use Rattle.py_tree.specs.declared.expr.Expr.TheVariants as expr
 use Rattle.py_tree.specs.declared.expr.Operation.{Operation}
 use Rattle.py_tree.specs.declared.expr.Operation.TheVariants as operation
-use Rattle.py_tree.specs.Tree.{Name, Form, Assign, Do, Show, Return, Raise, Reraise, Break, Continue, Pass, If, IfElse, While, TryExcept, TryFinally, Suite, nothing, first, Clauses, no_more, clause}
+use Rattle.py_tree.specs.Tree.{Name, Form, Assign, Do, Show, Return, Raise, Reraise, Break, Continue, Pass, If, IfElse, While, TryExcept, TryFinally, With, Suite, nothing, first, Clauses, no_more, clause}
 use Rattle.py_body.specs.declared.sizes.Weights.{Weights}
 use Rattle.py_tree.specs.Compilable.{ExprFits, OperationFits, FormFits, SuiteFits, ClausesFit, statements, statements_in, statements_under}
-use Rattle.py_body.specs.Sizes.{weights, most_units, size_body, size_clause, size_clauses, size_expr, size_form, size_operation, size_suite}
+use Rattle.py_body.specs.Sizes.{weights, most_units, size_body, size_clause, size_clauses, size_expr, size_form, size_operation, size_suite, size_with}
 
 -- an instruction takes few units
 pub record AreFew (w : Weights) : Type 0 where
@@ -47,6 +47,11 @@ clause_size : (w : Weights) → AreFew w → (x : Option Name) (body : ℕ) → 
 clause_size w few None body = omega (arith, few.jump, few.index, few.plain)
 clause_size w few (Some x) body = omega (arith, few.jump, few.index, few.plain)
 
+-- a with without its suite
+with_size : (w : Weights) → AreFew w → (x : Option Name) (body : ℕ) → size_with w x body ≤ body + 1032
+with_size w few None body = omega (arith, few.jump, few.index, few.plain)
+with_size w few (Some x) body = omega (arith, few.jump, few.index, few.plain)
+
 mutual
   -- a statement takes at most 1032 units of its own
   form_size : (kind : BodyKind) (w : Weights) → AreFew w → (in_loop : Bool) (f : Form) → FormFits kind in_loop f → size_form w f ≤ 1032 * statements_in f
@@ -73,6 +78,10 @@ mutual
       let body = suite_size kind w few in_loop s fits.0 in
       let last = suite_size kind w few in_loop t fits.1 in
       omega (arith, few.jump, few.plain, body, last)
+  form_size kind w few in_loop (With a x s) fits =
+      let body = suite_size kind w few in_loop s fits in
+      let whole = with_size w few x (size_suite w s) in
+      omega (arith, body, whole)
 
   pub suite_size : (kind : BodyKind) (w : Weights) → AreFew w → (in_loop : Bool) (s : Suite) → SuiteFits kind in_loop s → size_suite w s ≤ 1032 * statements s
   suite_size kind w few in_loop nothing fits = omega arith

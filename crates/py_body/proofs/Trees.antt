@@ -7,7 +7,7 @@ use Rattle.py_tree.specs.Views.{form_of}
 use Rattle.py_tree.specs.Suites.{add, list_suite}
 use Rattle.py_body.specs.declared.sizes.Weights.{Weights}
 use Rattle.py_tree.specs.declared.body.BodyKind.{BodyKind}
-use Rattle.py_tree.specs.Compilable.{FormFits, SuiteFits, statements, statements_in}
+use Rattle.py_tree.specs.Compilable.{FormFits, SuiteFits, FormNests, SuiteNests, statements, statements_in}
 use Rattle.py_body.specs.Sizes.{size_form, size_suite}
 
 list_suite_append : (stmts : List Stmt) (s : Stmt) → list_suite (stmts ++ s ∷ []) ≡ add (list_suite stmts) s.line (form_of s.form)
@@ -41,3 +41,8 @@ pub fits_at : (kind : BodyKind) (in_loop : Bool) (stmts : List Stmt) (i : ℕ) (
 fits_at kind in_loop [] i s low is fits = absurd (omega arith)
 fits_at kind in_loop (t ∷ stmts) zero s low is fits = subst (λ (u : Stmt). FormFits kind in_loop (form_of u.form)) (sym is) fits.0
 fits_at kind in_loop (t ∷ stmts) (suc i) s low is fits = fits_at kind in_loop stmts i s (omega (arith, low)) is fits.1
+
+pub nests_at : (around : ℕ) (stmts : List Stmt) (i : ℕ) (s : Stmt) → i < length stmts → s ≡ get_or stmts i s → SuiteNests around (list_suite stmts) → FormNests around (form_of s.form)
+nests_at around [] i s low is nests = absurd (omega arith)
+nests_at around (t ∷ stmts) zero s low is nests = subst (λ (u : Stmt). FormNests around (form_of u.form)) (sym is) nests.0
+nests_at around (t ∷ stmts) (suc i) s low is nests = nests_at around stmts i s (omega (arith, low)) is nests.1

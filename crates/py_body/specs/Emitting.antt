@@ -19,7 +19,7 @@ use Rattle.py_tree.specs.declared.expr.Atom.{Atom}
 use Rattle.py_tree.specs.declared.expr.Atom.TheVariants as atom
 use Rattle.py_tree.specs.declared.expr.Expr.{Expr}
 use Rattle.py_tree.specs.declared.expr.Operation.{Operation}
-use Rattle.py_tree.specs.Tree.{Name, Form, Assign, If, IfElse, While, TryExcept, TryFinally, Suite, nothing, first}
+use Rattle.py_tree.specs.Tree.{Name, Form, Assign, If, IfElse, While, TryExcept, TryFinally, With, Suite, nothing, first}
 use Rattle.py_tree.specs.Tree.{Clauses, no_more, clause, Tree}
 use Rattle.py_tree.specs.Suites.{joined_clauses}
 use Rattle.py_tree.specs.Binding.{bound, locals_of}
@@ -32,7 +32,7 @@ use Rattle.py_body.specs.declared.scope.Labels.{Labels as OwnLabels}
 use Rattle.py_body.specs.declared.scope.Scope.{Scope as OwnScope}
 use Rattle.py_body.specs.declared.emitter.Emitter.{Emitter}
 use Rattle.py_body.specs.Sizes.{weights, counted, size_two, size_driven, size_operation, size_expr, size_target, size_form, size_suite, size_clauses, size_forget, size_clause, size_handler}
-use Rattle.py_body.specs.Sizes.{size_match, size_opening, size_tried, size_body}
+use Rattle.py_body.specs.Sizes.{size_match, size_opening, size_tried, size_body, size_managed}
 
 -- ---- scopes
 
@@ -225,6 +225,7 @@ abbrev mutual
   FormPlaced vars (While a s) = SuitePlaced vars s
   FormPlaced vars (TryExcept s cs) = SuitePlaced vars s × ClausesPlaced vars cs
   FormPlaced vars (TryFinally s t) = SuitePlaced vars s × SuitePlaced vars t
+  FormPlaced vars (With a x s) = TargetPlaced vars x × SuitePlaced vars s
   FormPlaced vars f = Unit {0}
 
   pub SuitePlaced : List Name → Suite → Type 0
@@ -262,6 +263,13 @@ module _ (parts : Parts) where
       (begins : ℕ) × (leaves : ℕ) × (enters : ℕ) × Stands parts scope line at op.SetupFinally handler begins × LaidSuite parts (before_finally handler scope) s begins leaves
       × Stands parts (before_finally handler scope) line leaves op.PopBlock 0 enters × Stands parts scope line enters op.EnterFinally 0 next
 
+  -- a with up to its exit, which stands at the handler
+  abbrev pub LaidManaged : Scope → ℕ → Atom → Option Name → Suite → ℕ → ℕ → ℕ → Type 0
+  LaidManaged scope line a x s handler at next =
+      (sets : ℕ) × (binds : ℕ) × (begins : ℕ) × (leaves : ℕ) × (enters : ℕ) × LaidAtom parts scope line a at sets × Stands parts (on scope) line sets op.SetupWith handler binds
+      × LaidTarget parts (before_finally handler (on scope)) line x binds begins × LaidSuite parts (before_finally handler (on scope)) s begins leaves
+      × Stands parts (before_finally handler (on scope)) line leaves op.PopBlock 0 enters × Stands parts (on scope) line enters op.EnterFinally 0 next
+
   -- the body of a try with clauses, which begin at the handler, and are jumped over to the end
   abbrev pub LaidTried : Scope → ℕ → Suite → ℕ → ℕ → ℕ → ℕ → Type 0
   LaidTried scope line s handler end at next =
@@ -279,6 +287,11 @@ abbrev pub EmitsOpening : ℕ → Draft → Draft → Scope → ℕ → Suite �
 EmitsOpening labels old new scope line s handler =
     Emits old new (λ w. size_opening w (size_suite w s))
     (λ whole at next. handler < 256 ^ suc labels → AroundFits labels scope.around → SuitePlaced whole.vars s → LaidOpening whole scope line s handler at next)
+
+abbrev pub EmitsManaged : ℕ → Draft → Draft → Scope → ℕ → Atom → Option Name → Suite → ℕ → Type 0
+EmitsManaged labels old new scope line a x s handler =
+    Emits old new (λ w. size_managed w x (size_suite w s))
+    (λ whole at next. handler < 256 ^ suc labels → AroundFits labels scope.around → TargetPlaced whole.vars x → SuitePlaced whole.vars s → LaidManaged whole scope line a x s handler at next)
 
 abbrev pub EmitsTried : ℕ → Draft → Draft → Scope → ℕ → Suite → ℕ → ℕ → Type 0
 EmitsTried labels old new scope line s handler end =

@@ -5,7 +5,7 @@ use Rattle.py_tree.specs.declared.expr.Expr.{Expr}
 use Rattle.py_tree.specs.declared.expr.Expr.TheVariants as expr
 use Rattle.py_tree.specs.declared.expr.Operation.{Operation}
 use Rattle.py_tree.specs.declared.expr.Operation.TheVariants as operation
-use Rattle.py_tree.specs.Tree.{Name, Form, Assign, Do, Show, Return, Raise, Reraise, Break, Continue, Pass, If, IfElse, While, TryExcept, TryFinally, Suite, nothing, first, Clauses, no_more, clause}
+use Rattle.py_tree.specs.Tree.{Name, Form, Assign, Do, Show, Return, Raise, Reraise, Break, Continue, Pass, If, IfElse, While, TryExcept, TryFinally, With, Suite, nothing, first, Clauses, no_more, clause}
 use Rattle.py_body.specs.declared.sizes.Weights.{Weights}
 
 -- where labels have so many prefixes and indices so many
@@ -56,6 +56,14 @@ size_finally w body final = size_opening w body + final + w.plain
 abbrev pub size_forget : Weights → ℕ
 size_forget w = w.index + w.index + w.index
 
+-- a with up to its exit, by the size of its body
+abbrev pub size_managed : Weights → Option Name → ℕ → ℕ
+size_managed w x body = w.index + w.jump + size_target w x + body + w.plain + w.plain
+
+-- and all of it
+abbrev pub size_with : Weights → Option Name → ℕ → ℕ
+size_with w x body = size_managed w x body + w.plain + w.plain
+
 -- the suite of a clause, by its size
 abbrev pub size_handler : Weights → Option Name → ℕ → ℕ
 size_handler w None body = body
@@ -85,6 +93,7 @@ abbrev mutual
   size_form w (While a s) = w.plain + w.index + w.jump + size_suite w s + w.jump + w.plain
   size_form w (TryExcept s cs) = w.jump + size_suite w s + w.plain + w.jump + size_clauses w cs + w.plain
   size_form w (TryFinally s t) = size_finally w (size_suite w s) (size_suite w t)
+  size_form w (With a x s) = size_with w x (size_suite w s)
 
   pub size_suite : Weights → Suite → ℕ
   size_suite w nothing = 0

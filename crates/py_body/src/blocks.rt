@@ -3,9 +3,9 @@
 ghost use Rattle.std.specs.Prelude.{◌≡◌, ◌+◌, ◌%◌, ◌≤◌, ◌^◌, false, true, OnOk};
 ghost use Rattle.py_code.specs.Units.{is_prefix};
 ghost use Rattle.py_laid.specs.Code.{in_loop};
-ghost use Rattle.py_tree.specs.Tree.{IfElse, TryExcept, TryFinally, While};
+ghost use Rattle.py_tree.specs.Tree.{IfElse, TryExcept, TryFinally, While, With};
 ghost use Rattle.py_tree.specs.Views.{clauses_of, form_of, suite_of};
-ghost use Rattle.py_tree.specs.Compilable.{SuiteFits, statements, statements_in};
+ghost use Rattle.py_tree.specs.Compilable.{FormNests, SuiteFits, SuiteNests, statements, statements_in};
 ghost use Rattle.py_body.specs.Sizes.{size_form, size_rounds};
 ghost use Rattle.py_body.specs.Emitting.{draft_of, end_of, labels_of, scope_of, weights_of, EmitsBranch, EmitsForm, EmitsSuite, FormIn, SuiteIn};
 
@@ -21,6 +21,7 @@ impl Emitter {
     pub fn compile_suite(&mut self, suite: &StmtList, scope: &Scope) -> Result<(), NoMemory>
         requires few { statements (suite_of suite.now) ≤ 1048576 }
         requires fits { SuiteIn (scope_of scope.now) (suite_of suite.now) }
+        requires nests { SuiteNests scope.now.depth (suite_of suite.now) }
         requires low { (self.old.labels ≤ 3) × (self.old.others ≤ 3) }
         requires depth { scope.now.depth ≤ 1000 }
         ensures code { OnOk result (EmitsSuite self.old.labels (draft_of self.old) (draft_of self.new) (scope_of scope.now) (suite_of suite.now)) }
@@ -37,6 +38,7 @@ impl Emitter {
     fn compile_form(&mut self, form: &StmtForm, scope: &Scope, line: u32) -> Result<(), NoMemory>
         requires few { statements_in (form_of form.now) ≤ 1048576 }
         requires fits { FormIn (scope_of scope.now) (form_of form.now) }
+        requires nests { FormNests scope.now.depth (form_of form.now) }
         requires low { (self.old.labels ≤ 3) × (self.old.others ≤ 3) }
         requires depth { scope.now.depth ≤ 1000 }
         ensures code { OnOk result (EmitsForm self.old.labels (draft_of self.old) (draft_of self.new) (scope_of scope.now) line (form_of form.now)) }
@@ -77,6 +79,9 @@ impl Emitter {
             StmtForm::TryFinally(suite, last) => {
                 self.compile_try_finally(suite, last, scope, line)
             }
+            StmtForm::With(atom, target, suite) => {
+                self.compile_with(atom, target, suite, scope, line)
+            }
         }
     }
 
@@ -93,6 +98,7 @@ impl Emitter {
         requires plain { is_prefix op ≡ false }
         requires few { statements (suite_of suite.now) ≤ 1048575 }
         requires fits { SuiteIn (scope_of scope.now) (suite_of suite.now) }
+        requires nests { SuiteNests scope.now.depth (suite_of suite.now) }
         requires low { (self.old.labels ≤ 3) × (self.old.others ≤ 3) }
         requires depth { scope.now.depth ≤ 1000 }
         ensures code { OnOk result (EmitsBranch self.old.labels (draft_of self.old) (draft_of self.new) (scope_of scope.now) line atom.now op (suite_of suite.now)) }
@@ -119,7 +125,9 @@ impl Emitter {
     ) -> Result<(), NoMemory>
         requires few { statements (suite_of suite.now) + statements (suite_of other.now) ≤ 1048575 }
         requires fits { SuiteIn (scope_of scope.now) (suite_of suite.now) }
+        requires nests { SuiteNests scope.now.depth (suite_of suite.now) }
         requires fits_other { SuiteIn (scope_of scope.now) (suite_of other.now) }
+        requires nests_other { SuiteNests scope.now.depth (suite_of other.now) }
         requires low { (self.old.labels ≤ 3) × (self.old.others ≤ 3) }
         requires depth { scope.now.depth ≤ 1000 }
         ensures code { OnOk result (EmitsForm self.old.labels (draft_of self.old) (draft_of self.new) (scope_of scope.now) line (IfElse atom.now (suite_of suite.now) (suite_of other.now))) }
@@ -150,6 +158,7 @@ impl Emitter {
     ) -> Result<(), NoMemory>
         requires few { statements (suite_of suite.now) ≤ 1048575 }
         requires fits { SuiteFits scope.now.kind true (suite_of suite.now) }
+        requires nests { SuiteNests scope.now.depth (suite_of suite.now) }
         requires low { (self.old.labels ≤ 3) × (self.old.others ≤ 3) }
         requires depth { scope.now.depth ≤ 1000 }
         ensures code { OnOk result (EmitsForm self.old.labels (draft_of self.old) (draft_of self.new) (scope_of scope.now) line (While atom.now (suite_of suite.now))) }
@@ -182,6 +191,7 @@ impl Emitter {
     ) -> Result<(), NoMemory>
         requires few { statements (suite_of suite.now) ≤ 1048575 }
         requires fits { SuiteFits scope.now.kind true (suite_of suite.now) }
+        requires nests { SuiteNests scope.now.depth (suite_of suite.now) }
         requires low { (self.old.labels ≤ 3) × (self.old.others ≤ 3) }
         requires depth { scope.now.depth ≤ 1000 }
         requires inner { scope_of inner.now ≡ in_loop (labels_of labels) (scope_of scope.now) }

@@ -6,6 +6,7 @@ mod compile;
 mod emitter;
 mod expressions;
 mod locals;
+mod managers;
 mod naming;
 mod protected;
 mod scope;

@@ -70,6 +70,7 @@ fn bind_form(names: &mut NameSet, form: &StmtForm) -> Result<(), NoMemory>
         StmtForm::While(_atom, suite) => bind_suite(names, suite),
         StmtForm::TryExcept(suite, clauses) => bind_tried(names, suite, clauses),
         StmtForm::TryFinally(suite, last) => bind_both(names, suite, last),
+        StmtForm::With(_atom, target, suite) => bind_managed(names, target, suite),
     }
 }
 
@@ -93,6 +94,19 @@ fn bind_tried(names: &mut NameSet, suite: &StmtList, clauses: &ClauseList) -> Re
         bind_suite(names, &clause.suite)?;
     }
     Ok(())
+}
+
+/// Puts a name that there may be, and those that a suite binds, behind the others.
+#[cycle(bind)]
+fn bind_managed(
+    names: &mut NameSet,
+    target: &Option<PyText>,
+    suite: &StmtList,
+) -> Result<(), NoMemory>
+    ensures { OnOk result (names.new ≡ bound_by (bound_if names.old target.now) (suite_of suite.now)) }
+{
+    bind_target(names, target)?;
+    bind_suite(names, suite)
 }
 
 /// Puts a name that there may be behind the others, unless it is one of them.

@@ -5,7 +5,7 @@ ghost use Rattle.py_laid.specs.Code.{in_clauses};
 ghost use Rattle.py_tree.specs.declared.body.BodyKind.{BodyKind};
 ghost use Rattle.py_tree.specs.Tree.{TryExcept, TryFinally};
 ghost use Rattle.py_tree.specs.Views.{clauses_of, suite_of};
-ghost use Rattle.py_tree.specs.Compilable.{SuiteFits, statements, statements_under};
+ghost use Rattle.py_tree.specs.Compilable.{ClausesNest, SuiteFits, SuiteNests, statements, statements_under};
 ghost use Rattle.py_body.specs.Sizes.{size_clause, size_opening, size_suite};
 ghost use Rattle.py_body.specs.Emitting.{draft_of, end_of, scope_of, weights_of, ClausesIn, EmitsClauses, EmitsForget, EmitsForm, EmitsHandler, EmitsMatch, EmitsOpening, EmitsTarget, EmitsTried, SuiteIn};
 
@@ -27,7 +27,9 @@ impl Emitter {
     ) -> Result<(), NoMemory>
         requires few { statements (suite_of suite.now) + statements (suite_of last.now) ≤ 1048575 }
         requires fits { SuiteIn (scope_of scope.now) (suite_of suite.now) }
+        requires nests { SuiteNests scope.now.depth (suite_of suite.now) }
         requires fits_last { SuiteIn (scope_of scope.now) (suite_of last.now) }
+        requires nests_last { SuiteNests scope.now.depth (suite_of last.now) }
         requires low { (self.old.labels ≤ 3) × (self.old.others ≤ 3) }
         requires depth { scope.now.depth ≤ 1000 }
         ensures code { OnOk result (EmitsForm self.old.labels (draft_of self.old) (draft_of self.new) (scope_of scope.now) line (TryFinally (suite_of suite.now) (suite_of last.now))) }
@@ -64,6 +66,7 @@ impl Emitter {
     ) -> Result<(), NoMemory>
         requires few { statements (suite_of suite.now) ≤ 1048575 }
         requires fits { SuiteIn (scope_of scope.now) (suite_of suite.now) }
+        requires nests { SuiteNests scope.now.depth (suite_of suite.now) }
         requires low { (self.old.labels ≤ 3) × (self.old.others ≤ 3) }
         requires depth { scope.now.depth ≤ 1000 }
         ensures code { OnOk result (EmitsOpening self.old.labels (draft_of self.old) (draft_of self.new) (scope_of scope.now) line (suite_of suite.now) handler) }
@@ -101,7 +104,9 @@ impl Emitter {
     ) -> Result<(), NoMemory>
         requires few { statements (suite_of suite.now) + statements_under (clauses_of clauses.now) ≤ 1048575 }
         requires fits { SuiteIn (scope_of scope.now) (suite_of suite.now) }
+        requires nests { SuiteNests scope.now.depth (suite_of suite.now) }
         requires fits_clauses { ClausesIn (scope_of scope.now) (clauses_of clauses.now) }
+        requires nests_clauses { ClausesNest scope.now.depth (clauses_of clauses.now) }
         requires low { (self.old.labels ≤ 3) × (self.old.others ≤ 3) }
         requires depth { scope.now.depth ≤ 1000 }
         ensures code { OnOk result (EmitsForm self.old.labels (draft_of self.old) (draft_of self.new) (scope_of scope.now) line (TryExcept (suite_of suite.now) (clauses_of clauses.now))) }
@@ -132,6 +137,7 @@ impl Emitter {
     ) -> Result<(), NoMemory>
         requires few { statements (suite_of suite.now) ≤ 1048575 }
         requires fits { SuiteIn (scope_of scope.now) (suite_of suite.now) }
+        requires nests { SuiteNests scope.now.depth (suite_of suite.now) }
         requires low { (self.old.labels ≤ 3) × (self.old.others ≤ 3) }
         requires depth { scope.now.depth ≤ 1000 }
         ensures code { OnOk result (EmitsTried self.old.labels (draft_of self.old) (draft_of self.new) (scope_of scope.now) line (suite_of suite.now) handler end) }
@@ -156,6 +162,7 @@ impl Emitter {
     ) -> Result<(), NoMemory>
         requires few { statements_under (clauses_of clauses.now) ≤ 1048575 }
         requires fits { ClausesIn (scope_of scope.now) (clauses_of clauses.now) }
+        requires nests { ClausesNest scope.now.depth (clauses_of clauses.now) }
         requires within { scope_of within.now ≡ in_clauses (scope_of scope.now) }
         requires low { (self.old.labels ≤ 3) × (self.old.others ≤ 3) }
         requires depth { scope.now.depth ≤ 1000 }
@@ -209,7 +216,7 @@ impl Emitter {
     }
 
     /// Adds what binds a value to a name, or drops it.
-    fn put_target(
+    pub fn put_target(
         &mut self,
         target: &Option<PyText>,
         scope: &Scope,
@@ -237,6 +244,7 @@ impl Emitter {
     ) -> Result<(), NoMemory>
         requires few { statements (suite_of suite.now) ≤ 1048574 }
         requires fits { SuiteIn (scope_of scope.now) (suite_of suite.now) }
+        requires nests { SuiteNests scope.now.depth (suite_of suite.now) }
         requires low { (self.old.labels ≤ 3) × (self.old.others ≤ 3) }
         requires depth { scope.now.depth ≤ 1000 }
         ensures code { OnOk result (EmitsHandler self.old.labels (draft_of self.old) (draft_of self.new) (scope_of scope.now) line target.now (suite_of suite.now)) }
@@ -259,6 +267,7 @@ impl Emitter {
     ) -> Result<(), NoMemory>
         requires few { statements (suite_of suite.now) ≤ 1048574 }
         requires fits { SuiteIn (scope_of scope.now) (suite_of suite.now) }
+        requires nests { SuiteNests scope.now.depth (suite_of suite.now) }
         requires low { (self.old.labels ≤ 3) × (self.old.others ≤ 3) }
         requires depth { scope.now.depth ≤ 1000 }
         ensures code { OnOk result (EmitsHandler self.old.labels (draft_of self.old) (draft_of self.new) (scope_of scope.now) line (Some name.now) (suite_of suite.now)) }

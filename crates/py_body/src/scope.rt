@@ -1,7 +1,7 @@
 //! Scopes: where a statement stands, from which the notes of its units are made.
 
 ghost use Rattle.std.specs.Prelude.{◌≡◌, ◌+◌, ◌≤◌, ◌∷◌, IfOk};
-ghost use Rattle.py_laid.specs.Code.{before_finally, entry, in_clauses, in_finally, in_loop, in_try, leaving, note_of, over};
+ghost use Rattle.py_laid.specs.Code.{before_finally, entry, in_clauses, in_finally, in_loop, in_try, leaving, note_of, on, over};
 ghost use Rattle.py_body.specs.Emitting.{around_of, labels_of, scope_of};
 
 use py_check::{BlockList, BlockNote, Kind, KindList, Note, Pending, PendingSet};
@@ -50,6 +50,20 @@ fn with_block(
         kind: scope.kind,
         around,
         depth: scope.depth,
+        blocks,
+    })
+}
+
+/// A scope with one more value on the stack.
+pub fn with_value(scope: &Scope) -> Result<Scope, NoMemory>
+    requires { scope.now.depth ≤ 1000 }
+    ensures { IfOk result (λ inner. scope_of inner ≡ on (scope_of scope.now)) }
+{
+    let blocks = scope.blocks.share()?;
+    Ok(Scope {
+        kind: scope.kind,
+        around: scope.around,
+        depth: scope.depth + 1,
         blocks,
     })
 }

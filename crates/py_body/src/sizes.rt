@@ -2,7 +2,7 @@
 
 ghost use Rattle.std.specs.Prelude.{◌≡◌, ◌≤◌};
 ghost use Rattle.py_tree.specs.Views.{clauses_of, form_of, suite_of};
-ghost use Rattle.py_body.specs.Sizes.{most_units, size_clause, size_clauses, size_expr, size_finally, size_form, size_handler, size_operation, size_suite, size_target};
+ghost use Rattle.py_body.specs.Sizes.{most_units, size_clause, size_clauses, size_expr, size_finally, size_form, size_handler, size_operation, size_suite, size_target, size_with};
 
 use py_code::PyText;
 use py_tree::{Clause, ClauseList, Expr, Operation, StmtForm, StmtList};
@@ -65,6 +65,10 @@ fn size_of_form(weights: Weights, form: &StmtForm) -> u32
             let body = size_of_suite(weights, suite);
             size_of_finally(weights, body, size_of_suite(weights, last))
         }
+        StmtForm::With(_atom, target, suite) => {
+            let body = size_of_suite(weights, suite);
+            size_of_with(weights, target, body)
+        }
     }
 }
 
@@ -94,7 +98,7 @@ pub fn size_of_clause(weights: Weights, target: &Option<PyText>, body: u32) -> u
 }
 
 /// The size of what binds a value or drops it.
-fn size_of_target(weights: Weights, target: &Option<PyText>) -> u32
+pub fn size_of_target(weights: Weights, target: &Option<PyText>) -> u32
     ensures { result ≡ size_target weights target.now }
 {
     match target {
@@ -124,6 +128,16 @@ fn size_of_finally(weights: Weights, body: u32, last: u32) -> u32
 {
     let Weights { jump, plain, .. } = weights;
     jump + body + plain + plain + last + plain
+}
+
+/// The size of a with whose suite has this one.
+fn size_of_with(weights: Weights, target: &Option<PyText>, body: u32) -> u32
+    requires { size_with weights target.now body ≤ most_units }
+    ensures { result ≡ size_with weights target.now body }
+{
+    let Weights { jump, index, plain } = weights;
+    let binds = size_of_target(weights, target);
+    index + jump + binds + body + plain + plain + plain + plain
 }
 
 /// The size of an expression.

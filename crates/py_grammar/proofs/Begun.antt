@@ -1,19 +1,20 @@
 -- Which lines scripts begin with: those that the reader takes.
 use Rattle.std.proofs.Common.{◌≡◌, ◌⊎◌, inl, inr, ℕ, suc, List, [], ◌∷◌, ◌++◌, Option, Some, None, refl, sym, ap, ◌∙◌, append_assoc, append-nil, subst}
 use Rattle.std.specs.Prelude.{codes, option_map}
-use Rattle.py_tree.specs.Tree.{Form, If, IfElse, While, TryExcept, TryFinally, Suite, nothing, Tree}
+use Rattle.py_tree.specs.Tree.{Form, If, IfElse, While, TryExcept, TryFinally, With, Suite, nothing}
 use Rattle.py_lines.specs.declared.drive.DriveLine.{DriveLine}
 use Rattle.py_lines.specs.declared.head.Turn.{Turn}
 use Rattle.py_lines.specs.declared.head.Turn.TheVariants as turn
+use Rattle.py_lines.specs.declared.header.Header.TheVariants as header
 use Rattle.py_lines.specs.declared.line.Line.{Line}
 use Rattle.py_lines.specs.declared.line.Line.TheVariants as line
 use Rattle.py_lines.specs.declared.line.LineRead.{LineRead}
 use Rattle.py_lines.specs.declared.line.LineRead.TheVariants.{Blank, Said, Malformed}
 use Rattle.py_lines.specs.Reading.{IsReadAs}
-use Rattle.py_grammar.specs.Grammar.{Row, row, kept_number, items_rows, drives_in}
+use Rattle.py_grammar.specs.Grammar.{Row, row, Decl, FunctionDecl, kept_number, items_rows, drives_in}
 use Rattle.py_grammar.specs.Lines.{lines}
 use Rattle.py_grammar.specs.Script.{Text, with_read, rows_from, Spells, Begins}
-use Rattle.py_grammar.specs.Reader.{Began, in_if, in_else, in_while, in_try, in_except, in_finally, Block, Open, State, state, start, accept, accept_at, outside, in_body, still_inside, takes_line, finally_behind, turned, turned_to, ended, function_of, one_block, ended_in, closed, closes}
+use Rattle.py_grammar.specs.Reader.{Began, in_if, in_else, in_while, in_try, in_except, in_finally, in_with, Block, Open, State, state, start, accept, accept_at, outside, in_body, still_inside, takes_line, finally_behind, turned, turned_to, ended, function_of, one_block, ended_in, closed, closes}
 use Rattle.py_tree.specs.Suites.{with_clause}
 use Rattle.py_grammar.proofs.LineReads.{AreReadAs, read_length, one_reading, read_append, read_parts, after, after-one, both_rows, rows_from-append}
 use Rattle.py_grammar.proofs.Whole.{run, run-append, and_then, items_read}
@@ -22,8 +23,11 @@ use Rattle.py_grammar.proofs.Sound.{Came, CameTo, sound}
 -- ---- one more line
 
 -- the reader looks at no number that trees don't keep
-outside-kept : (ts : List Tree) (ds : List DriveLine) (n : ℕ) (l : Line) → outside ts ds (kept_number n l) l ≡ outside ts ds n l
+outside-kept : (ts : List Decl) (ds : List DriveLine) (n : ℕ) (l : Line) → outside ts ds (kept_number n l) l ≡ outside ts ds n l
 outside-kept ts ds n line.End = refl
+outside-kept ts ds n (line.Header (header.Def k f ps)) = refl
+outside-kept ts ds n (line.Header (header.Class c b)) = refl
+outside-kept ts ds n (line.Header (header.Manager m e x)) = refl
 outside-kept ts ds n l = refl
 
 turned-kept : (o : Open) (n : ℕ) (t : Turn) (bs : List Block) → turned o (kept_number n (line.Turns t)) t bs ≡ turned o n t bs
@@ -33,12 +37,12 @@ turned-kept o n (turn.Except c x) bs = refl
 turned-kept o n turn.Finally [] = refl
 turned-kept o n turn.Finally (b ∷ bs) = refl
 
-in_body-kept : (ts : List Tree) (ds : List DriveLine) (o : Open) (n : ℕ) (l : Line) → in_body ts ds o (kept_number n l) l ≡ in_body ts ds o n l
+in_body-kept : (ts : List Decl) (ds : List DriveLine) (o : Open) (n : ℕ) (l : Line) → in_body ts ds o (kept_number n l) l ≡ in_body ts ds o n l
 in_body-kept ts ds o n line.End = refl
 in_body-kept ts ds o n (line.Turns t) = ap (still_inside ts ds) (turned-kept o n t o.blocks)
 in_body-kept ts ds o n l = refl
 
-accept-kept : (ts : List Tree) (ds : List DriveLine) (i : Option Open) (n : ℕ) (l : Line) → accept_at ts ds i (kept_number n l) l ≡ accept_at ts ds i n l
+accept-kept : (ts : List Decl) (ds : List DriveLine) (i : Option Open) (n : ℕ) (l : Line) → accept_at ts ds i (kept_number n l) l ≡ accept_at ts ds i n l
 accept-kept ts ds None n l = outside-kept ts ds n l
 accept-kept ts ds (Some o) n l = in_body-kept ts ds o n l
 
@@ -49,7 +53,7 @@ pub record Been (front : Text) (st : State) : Type 0 where
   pub rows : List Row
   pub numbered : rows_from 1 reads ≡ Some rows
   pub ran : run start rows ≡ Some st
-  pub came : Came rows st.trees st.drives st.inside
+  pub came : Came rows st.decls st.drives st.inside
 
 abbrev pub BeenTo : Text → Option State → Type 0
 BeenTo front None = Unit {0}
@@ -82,7 +86,7 @@ ran_behind : (front : Text) (st : State) (b : Been front st) (x : Line) → run 
 ran_behind front st b x =
     let n : ℕ = after 1 front in
     run-append start b.rows (row n x ∷ []) ∙ ap (λ q. and_then q (λ s. run s (row n x ∷ []))) b.ran
-    ∙ and_then_some (accept st (kept_number n x) x) ∙ accept-kept st.trees st.drives st.inside n x
+    ∙ and_then_some (accept st (kept_number n x) x) ∙ accept-kept st.decls st.drives st.inside n x
 
 pub one_line : (front : Text) (st : State) (l : List ℕ) (r : LineRead) → IsReadAs l r → Been front st → BeenTo (front ++ l ∷ []) (takes_line st (after 1 front) r)
 one_line front st l Malformed e b = tt
@@ -94,7 +98,7 @@ one_line front st l Blank e b = record {
   ran = b.ran;
   came = b.came;
 }
-one_line front st l (Said x) e b = go (accept st (after 1 front) x) refl (sound b.rows st.trees st.drives st.inside (after 1 front) x b.came)
+one_line front st l (Said x) e b = go (accept st (after 1 front) x) refl (sound b.rows st.decls st.drives st.inside (after 1 front) x b.came)
   where
     go : (o : Option State) → accept st (after 1 front) x ≡ o → CameTo (b.rows ++ row (after 1 front) x ∷ []) o → BeenTo (front ++ l ∷ []) o
     go None k c = tt
@@ -110,7 +114,7 @@ one_line front st l (Said x) e b = go (accept st (after 1 front) x) refl (sound 
 -- ---- lines that are taken
 
 -- with no body open, the lines are a script
-pub been_spells : (front : Text) (ts : List Tree) (ds : List DriveLine) → Been front (state ts ds None) → Spells front ts ds
+pub been_spells : (front : Text) (ts : List Decl) (ds : List DriveLine) → Been front (state ts ds None) → Spells front ts ds
 been_spells front ts ds b = record {
   items = b.came.items;
   reads = b.reads;
@@ -121,7 +125,7 @@ been_spells front ts ds b = record {
   driven = b.came.driven;
 }
 
-begins_whole : (front : Text) (ts : List Tree) (ds : List DriveLine) → Been front (state ts ds None) → Begins front
+begins_whole : (front : Text) (ts : List Decl) (ds : List DriveLine) → Been front (state ts ds None) → Begins front
 begins_whole front ts ds b = ([], ts, ds, subst (λ t. Spells t ts ds) (sym (append-nil front)) (been_spells front ts ds b))
 
 abbrev end_line : List ℕ
@@ -139,13 +143,13 @@ begins_finally : (front : Text) → Begins (front ++ finally_line ∷ []) → Be
 begins_finally front b = (finally_line ++ 10 ∷ b.0, b.1, b.2, subst (λ t. Spells t b.1 b.2) (append_assoc front (finally_line ∷ []) (lines b.0)) b.3)
 
 -- behind an end
-been_end : (bs : List Block) (front : Text) (ts : List Tree) (ds : List DriveLine) (o : Open) → o.blocks ≡ bs → Been front (state ts ds (Some o))
+been_end : (bs : List Block) (front : Text) (ts : List Decl) (ds : List DriveLine) (o : Open) → o.blocks ≡ bs → Been front (state ts ds (Some o))
     → BeenTo (front ++ end_line ∷ []) (option_map (closes ts ds) (closed o bs))
 been_end bs front ts ds o e b =
     subst (λ x. BeenTo (front ++ end_line ∷ []) (option_map (closes ts ds) (closed o x))) e (one_line front (state ts ds (Some o)) end_line (Said line.End) refl b)
 
 -- behind a finally, where the innermost block is a try
-been_finally : (c : Block) (bs : List Block) (front : Text) (ts : List Tree) (ds : List DriveLine) (o : Open) → o.blocks ≡ c ∷ bs → c.began ≡ in_try
+been_finally : (c : Block) (bs : List Block) (front : Text) (ts : List Decl) (ds : List DriveLine) (o : Open) → o.blocks ≡ c ∷ bs → c.began ≡ in_try
     → Been front (state ts ds (Some o)) → Been (front ++ finally_line ∷ []) (state ts ds (Some (turned_to o c bs (in_finally o.done))))
 been_finally c bs front ts ds o e is b =
     subst (λ g. BeenTo (front ++ finally_line ∷ []) (still_inside ts ds (option_map (turned_to o c bs) (finally_behind g o.done)))) is
@@ -160,13 +164,14 @@ ends (in_while a) s = inl (While a s, refl)
 ends in_try s = inr refl
 ends (in_except t cs n c x) s = inl (TryExcept t (with_clause cs n c x s), refl)
 ends (in_finally t) s = inl (TryFinally t s, refl)
+ends (in_with a x) s = inl (With a x s, refl)
 
 -- some script begins with lines behind which these blocks are open
-abbrev BeginsBehind : List Block → List Tree → List DriveLine → Type 0
+abbrev BeginsBehind : List Block → List Decl → List DriveLine → Type 0
 BeginsBehind bs ts ds = (front : Text) (o : Open) → o.blocks ≡ bs → Been front (state ts ds (Some o)) → Begins front
 
 -- the innermost block ends
-begins_ended : (c : Block) (bs : List Block) (front : Text) (ts : List Tree) (ds : List DriveLine) (o : Open) (f : Form) → o.blocks ≡ c ∷ bs → ended c.began o.done ≡ Some f
+begins_ended : (c : Block) (bs : List Block) (front : Text) (ts : List Decl) (ds : List DriveLine) (o : Open) (f : Form) → o.blocks ≡ c ∷ bs → ended c.began o.done ≡ Some f
     → Been front (state ts ds (Some o)) → BeginsBehind bs ts ds → Begins front
 begins_ended c bs front ts ds o f e is b behind =
     let ends : Been (front ++ end_line ∷ []) (state ts ds (Some (ended_in o c bs f))) =
@@ -174,7 +179,7 @@ begins_ended c bs front ts ds o f e is b behind =
     begins_end front (behind (front ++ end_line ∷ []) (ended_in o c bs f) refl ends)
 
 -- at once, or behind a finally
-begins_block : (c : Block) (bs : List Block) (front : Text) (ts : List Tree) (ds : List DriveLine) (o : Open) → o.blocks ≡ c ∷ bs
+begins_block : (c : Block) (bs : List Block) (front : Text) (ts : List Decl) (ds : List DriveLine) (o : Open) → o.blocks ≡ c ∷ bs
     → ((f : Form) × (ended c.began o.done ≡ Some f)) ⊎ (c.began ≡ in_try) → Been front (state ts ds (Some o)) → BeginsBehind bs ts ds → Begins front
 begins_block c bs front ts ds o e (inl p) b behind = begins_ended c bs front ts ds o p.0 e p.1 b behind
 begins_block c bs front ts ds o e (inr is) b behind =
@@ -183,22 +188,22 @@ begins_block c bs front ts ds o e (inr is) b behind =
     (been_finally c bs front ts ds o e is b) behind)
 
 -- an end for each open block, some behind a finally, and one for the body close all
-begins_open : (bs : List Block) (front : Text) (ts : List Tree) (ds : List DriveLine) (o : Open) → o.blocks ≡ bs → Been front (state ts ds (Some o)) → Begins front
-begins_open [] front ts ds o e b = begins_end front (begins_whole (front ++ end_line ∷ []) (ts ++ function_of o ∷ []) ds (been_end [] front ts ds o e b))
+begins_open : (bs : List Block) (front : Text) (ts : List Decl) (ds : List DriveLine) (o : Open) → o.blocks ≡ bs → Been front (state ts ds (Some o)) → Begins front
+begins_open [] front ts ds o e b = begins_end front (begins_whole (front ++ end_line ∷ []) (ts ++ FunctionDecl (function_of o) ∷ []) ds (been_end [] front ts ds o e b))
 begins_open (c ∷ bs) front ts ds o e b = begins_block c bs front ts ds o e (ends c.began o.done) b (λ more p same been. begins_open bs more ts ds p same been)
 
-pub begins_at : (front : Text) (ts : List Tree) (ds : List DriveLine) (i : Option Open) → Been front (state ts ds i) → Begins front
+pub begins_at : (front : Text) (ts : List Decl) (ds : List DriveLine) (i : Option Open) → Been front (state ts ds i) → Begins front
 begins_at front ts ds None b = begins_whole front ts ds b
 begins_at front ts ds (Some o) b = begins_open o.blocks front ts ds o refl b
 
 pub begins : (front : Text) (st : State) → Been front st → Begins front
-begins front st b = begins_at front st.trees st.drives st.inside b
+begins front st b = begins_at front st.decls st.drives st.inside b
 
 -- ---- lines that are refused
 
 -- the same with the lines that follow in place of their bytes
 abbrev pub BeginsLines : Text → Type 0
-BeginsLines text = (more : Text) × (trees : List Tree) × (drives : List DriveLine) × Spells (text ++ more) trees drives
+BeginsLines text = (more : Text) × (trees : List Decl) × (drives : List DriveLine) × Spells (text ++ more) trees drives
 
 lines_fewer : (front back : Text) → BeginsLines (front ++ back) → BeginsLines front
 lines_fewer front back b = (back ++ b.0, b.1, b.2, subst (λ t. Spells t b.1 b.2) (append_assoc front back b.0) b.3)
@@ -207,7 +212,7 @@ pub as_lines : (front : Text) → Begins front → BeginsLines front
 as_lines front b = (lines b.0, b.1, b.2, b.3)
 
 -- a script is read to its end
-script_ran : (text : Text) (ts : List Tree) (ds : List DriveLine) (rows : List Row) (s : Spells text ts ds) → Some rows ≡ Some (items_rows s.items)
+script_ran : (text : Text) (ts : List Decl) (ds : List DriveLine) (rows : List Row) (s : Spells text ts ds) → Some rows ≡ Some (items_rows s.items)
     → run start rows ≡ Some (state ts ds None)
 script_ran text ts ds rows s e =
     let same : rows ≡ items_rows s.items = cc e in
@@ -215,7 +220,7 @@ script_ran text ts ds rows s e =
     ∙ ap (λ x. Some (state ts x None)) (sym s.driven)
 
 -- also by other reads of its lines
-pub script_read : (text : Text) (ts : List Tree) (ds : List DriveLine) (reads : List LineRead) (rows : List Row) → Spells text ts ds → AreReadAs text reads
+pub script_read : (text : Text) (ts : List Decl) (ds : List DriveLine) (reads : List LineRead) (rows : List Row) → Spells text ts ds → AreReadAs text reads
     → rows_from 1 reads ≡ Some rows → run start rows ≡ Some (state ts ds None)
 script_read text ts ds reads rows s read e = script_ran text ts ds rows s (sym e ∙ ap (rows_from 1) (one_reading text reads s.reads read s.read) ∙ s.spelled)
 

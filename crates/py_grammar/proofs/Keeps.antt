@@ -1,11 +1,11 @@
 -- What the rules on scripts keep for the layers above.
-use Rattle.std.proofs.Common.{◌≡◌, ◌≢◌, ◌<◌, ◌≤◌, ℕ, List, [], ◌∷◌, ◌++◌, ◌+◌, Some, slice_get, length, Bool, true, false, ◌&&◌, ◌||◌, not, refl, sym, ap, inl, inr, ◌∙◌, append_assoc, append-nil, subst, arith, map, get_or, suc, zero}
+use Rattle.std.proofs.Common.{length-append, ◌≡◌, ◌≢◌, ◌<◌, ◌≤◌, ℕ, List, [], ◌∷◌, ◌++◌, ◌+◌, Some, slice_get, take, length, Bool, true, false, ◌&&◌, ◌||◌, not, refl, sym, ap, inl, inr, ◌∙◌, append_assoc, append-nil, subst, arith, map, get_or, suc, zero}
 use Rattle.std.proofs.lemmas.List.{map-append}
 use Rattle.std.proofs.lemmas.List.Elements.{All-nil, All-cons}
 use Rattle.std.proofs.lemmas.List.Kept.{AllPairs-cons}
 use Rattle.std.proofs.lemmas.List.Quantifiers.{all_pairs_push}
 use Rattle.std.proofs.lemmas.List.Folds.{Any-from_list_any, list_any-append}
-use Rattle.std.proofs.lemmas.Bool.{leb-true, and_parts, not-true, or_parts, or_left}
+use Rattle.std.proofs.lemmas.Bool.{leb-true, ltb-true, and_parts, not-true, or_parts, or_left}
 use Rattle.std.proofs.lemmas.Slice.Eq.{bytes_eq-Decides}
 use Rattle.std.specs.Prelude.{All, Any, Option, None, bytes_eq, nat_le}
 use Rattle.std.specs.List.{list_any, list_all}
@@ -15,8 +15,8 @@ use Rattle.py_tree.specs.declared.expr.Expr.{Expr}
 use Rattle.py_tree.specs.declared.expr.Expr.TheVariants as expr
 use Rattle.py_tree.specs.declared.expr.Operation.{Operation}
 use Rattle.py_tree.specs.declared.expr.Operation.TheVariants as operation
-use Rattle.py_tree.specs.Tree.{Name, Form, Assign, Do, Break, Continue, If, IfElse, While, TryExcept, TryFinally, Suite, nothing, first, Clauses, no_more, clause, Tree}
-use Rattle.py_tree.specs.Compilable.{OperationFits, ExprFits, FormFits, SuiteFits, ClausesFit, statements}
+use Rattle.py_tree.specs.Tree.{Name, Form, Assign, Do, Break, Continue, If, IfElse, While, TryExcept, TryFinally, With, Suite, nothing, first, Clauses, no_more, clause, Tree}
+use Rattle.py_tree.specs.Compilable.{IsCompilable, OperationFits, ExprFits, FormFits, SuiteFits, ClausesFit, FormNests, SuiteNests, ClausesNest, statements}
 use Rattle.py_lines.specs.declared.drive.DriveAtom.{DriveAtom}
 use Rattle.py_lines.specs.declared.drive.DriveAtom.TheVariants as argument
 use Rattle.py_lines.specs.declared.drive.DriveLine.{DriveLine}
@@ -24,13 +24,13 @@ use Rattle.py_lines.specs.declared.drive.DriveLine.TheVariants as drive
 use Rattle.py_lines.specs.declared.head.Head.TheVariants as head
 use Rattle.py_grammar.specs.declared.rules.Inside.{Inside}
 use Rattle.py_grammar.specs.declared.script.Script.{Script}
-use Rattle.py_grammar.specs.Rules.{Declared, is_among, all_differ, declares, declares_callable, is_builtin_class, may_declare, numbers_drive, is_drivable, is_thrown, may_drive, may_yield, may_operate, may_compute, body_of, within}
-use Rattle.py_grammar.specs.Grammar.{Item, Declares, Drives, declared_as, WellForm, WellSuite, WellClauses, WellItems, items_rows, trees_in, drives_in}
+use Rattle.py_grammar.specs.Rules.{Declared, is_among, all_differ, declares, declares_callable, is_callable, is_class, is_base, is_new, is_builtin_class, may_declare, may_manage, numbers_drive, is_drivable, is_thrown, may_drive, may_yield, may_operate, may_compute, body_of, within}
+use Rattle.py_grammar.specs.Grammar.{Decl, ClassDecl, ManagerDecl, FunctionDecl, decl_name, decl_kind, Item, Declares, Drives, declared_as, decl_rows, WellForm, WellSuite, WellClauses, WellDecl, WellItems, items_rows, decls_in, drives_in}
 use Rattle.py_grammar.specs.Script.{IsScript}
 use Rattle.py_grammar.specs.Tables.{names_of}
-use Rattle.py_grammar.specs.WellFormed.{AreDistinct, IsKnown, IsWellDeclared, NumbersDrive, IsDrivable, IsThrowable, IsWellDriven, AreWellFormed, IsWellFormed}
+use Rattle.py_grammar.specs.WellFormed.{AreDistinct, IsFunctionNamed, IsClassNamed, IsFunction, IsClass, IsKnown, IsWellDeclared, NumbersDrive, IsDrivable, IsThrowable, IsWellDriven, AreWellFormed, IsWellFormed}
 use Rattle.py_grammar.proofs.Short.{tree_size, script_size}
-use Rattle.py_grammar.proofs.Tables.{declares-names, callable-names}
+use Rattle.py_grammar.proofs.Tables.{declares-names}
 use Rattle.py_grammar.proofs.Whole.{well_behind_one}
 
 -- ---- names
@@ -85,6 +85,7 @@ mutual
   form_keeps i (While a s) w = suite_keeps (within i (head.While a)) s w.1
   form_keeps i (TryExcept s cs) w = (suite_keeps (within i head.Try) s w.1.1.0, clauses_keep (within i head.Try) cs w.1.1.1)
   form_keeps i (TryFinally s t) w = (suite_keeps (within i head.Try) s w.1.0, suite_keeps (within i head.Try) t w.1.1)
+  form_keeps i (With a x s) w = suite_keeps (within i (head.With a x)) s w.1
   form_keeps i f w = tt
 
   suite_keeps : (i : Inside) (s : Suite) → WellSuite i s → SuiteFits i.kind i.in_loop s
@@ -95,77 +96,150 @@ mutual
   clauses_keep i no_more w = tt
   clauses_keep i (clause n c x s more) w = (suite_keeps i s w.0, clauses_keep i more w.1)
 
--- a declaration, behind these
-declared_keeps : (ds : List Declared) (t : Tree) → may_declare ds t.name t.params ≡ true → WellSuite (body_of t.kind) t.suite
-    → statements t.suite ≤ 1048576 → IsWellDeclared t
-declared_keeps ds t h w short =
+-- withs stand in one another as blocks do, of which at least so many are open
+mutual
+  form_nests : (i : Inside) (n : ℕ) (f : Form) → n ≤ i.blocks → WellForm i f → FormNests n f
+  form_nests i n (If a s) low w = suite_nests (within i (head.If a)) n s (omega (arith, low)) w.1
+  form_nests i n (IfElse a s t) low w =
+      (suite_nests (within i (head.If a)) n s (omega (arith, low)) w.1.0, suite_nests (within i (head.If a)) n t (omega (arith, low)) w.1.1)
+  form_nests i n (While a s) low w = suite_nests (within i (head.While a)) n s (omega (arith, low)) w.1
+  form_nests i n (TryExcept s cs) low w =
+      (suite_nests (within i head.Try) n s (omega (arith, low)) w.1.1.0, clauses_nest (within i head.Try) n cs (omega (arith, low)) w.1.1.1)
+  form_nests i n (TryFinally s t) low w =
+      (suite_nests (within i head.Try) n s (omega (arith, low)) w.1.0, suite_nests (within i head.Try) n t (omega (arith, low)) w.1.1)
+  form_nests i n (With a x s) low w =
+      let open_blocks : i.blocks < 64 = ltb-true i.blocks 64 w.0 in
+      (omega (arith, low, open_blocks), suite_nests (within i (head.With a x)) (suc n) s (omega (arith, low)) w.1)
+  form_nests i n f low w = tt
+
+  suite_nests : (i : Inside) (n : ℕ) (s : Suite) → n ≤ i.blocks → WellSuite i s → SuiteNests n s
+  suite_nests i n nothing low w = tt
+  suite_nests i n (first k f more) low w = (form_nests i n f low w.0, suite_nests i n more low w.1)
+
+  clauses_nest : (i : Inside) (n : ℕ) (cs : Clauses) → n ≤ i.blocks → WellClauses i cs → ClausesNest n cs
+  clauses_nest i n no_more low w = tt
+  clauses_nest i n (clause k c x s more) low w = (suite_nests i n s low w.0, clauses_nest i n more low w.1)
+
+-- a function, behind these declarations
+function_keeps : (ds : List Declared) (t : Tree) → may_declare ds t.name t.params ≡ true → WellSuite (body_of t.kind) t.suite
+    → statements t.suite ≤ 1048576 → (is_builtin_class t.name ≡ false) × IsCompilable t
+function_keeps ds t h w short =
     let new : Bool = not (declares t.name ds) in
     let free : Bool = not (is_builtin_class t.name) in
     let differ : Bool = all_differ t.params in
     let few : Bool = nat_le (length t.params) 255 in
-    let front : (new && free && differ) ≡ true = (and_parts (new && free && differ) few h).0 in
-    record {
-      no_class = not-true (is_builtin_class t.name) (and_parts new free (and_parts (new && free) differ front).0).1;
-      compilable = record {
+    let front : (new && free && differ) ≡ true = (and_parts (new && free && differ) few h).0 in (
+      not-true (is_builtin_class t.name) (and_parts new free (and_parts (new && free) differ front).0).1,
+      record {
         distinct = distinct_by_test t.params (and_parts (new && free) differ front).1;
         few = leb-true (length t.params) 255 (and_parts (new && free && differ) few h).1;
         fits = suite_keeps (body_of t.kind) t.suite w;
         short = short;
-      };
-    }
-
--- all declarations of the items
-trees_keep : (is : List Item) (ds : List Declared) (made : ℕ) → WellItems ds made is → length (items_rows is) ≤ 1048576 → All IsWellDeclared (trees_in is)
-trees_keep [] ds made w short = All-nil IsWellDeclared
-trees_keep (Declares t ∷ is) ds made w short =
-    let size = tree_size t is w.1.0 in
-    All-cons IsWellDeclared t (trees_in is) (declared_keeps ds t w.0 w.1.0 (omega (arith, size, short)))
-    (trees_keep is (ds ++ declared_as t ∷ []) made w.1.1 (omega (arith, size, short)))
-trees_keep (Drives d ∷ is) ds made w short = trees_keep is ds (suc made) w.1 (omega (arith, short))
+        nests = suite_nests (body_of t.kind) 0 t.suite (omega arith) w;
+      },
+    )
 
 -- ---- names of declarations
 
-new_by_test : (ts : List Tree) (t : Tree) → may_declare (map declared_as ts) t.name t.params ≡ true → is_among t.name (names_of ts) ≡ false
-new_by_test ts t h =
-    let ds : List Declared = map declared_as ts in
-    let new : Bool = not (declares t.name ds) in
+-- a class or a manager has a new name
+new_name : (ds : List Decl) (x : Name) → is_new (map declared_as ds) x ≡ true → (is_among x (names_of ds) ≡ false) × (is_builtin_class x ≡ false)
+new_name ds x h =
+    let there : Bool = declares x (map declared_as ds) in
+    let parts = and_parts (not there) (not (is_builtin_class x)) h in
+    (sym (declares-names x ds) ∙ not-true there parts.0, not-true (is_builtin_class x) parts.1)
+
+managed_new : (ds : List Decl) (m e x : Name) → may_manage (map declared_as ds) m e x ≡ true
+    → (is_new (map declared_as ds) m ≡ true) × (declares_callable e (map declared_as ds) ≡ true) × (declares_callable x (map declared_as ds) ≡ true)
+managed_new ds m e x h =
+    let new : Bool = is_new (map declared_as ds) m in
+    let enter : Bool = declares_callable e (map declared_as ds) in
+    let parts = and_parts (new && enter) (declares_callable x (map declared_as ds)) h in
+    let front = and_parts new enter parts.0 in
+    (front.0, front.1, parts.1)
+
+new_by_test : (ds : List Decl) (d : Decl) → WellDecl (map declared_as ds) d → is_among (decl_name d) (names_of ds) ≡ false
+new_by_test ds (ClassDecl c b) h = (new_name ds c (and_parts (is_new (map declared_as ds) c) (is_base (map declared_as ds) b) h).0).0
+new_by_test ds (ManagerDecl m e x) h = (new_name ds m (managed_new ds m e x h).0).0
+new_by_test ds (FunctionDecl t) h =
+    let new : Bool = not (declares t.name (map declared_as ds)) in
     let free : Bool = not (is_builtin_class t.name) in
     let differ : Bool = all_differ t.params in
     let few : Bool = nat_le (length t.params) 255 in
-    sym (declares-names t.name ts) ∙ not-true (declares t.name ds) (and_parts new free (and_parts (new && free) differ (and_parts (new && free && differ) few h).0).0).0
+    sym (declares-names t.name ds)
+    ∙ not-true (declares t.name (map declared_as ds)) (and_parts new free (and_parts (new && free) differ (and_parts (new && free && differ) few h.0).0).0).0
 
 not_among : (f : Name) (names : List Name) → is_among f names ≡ false → (k : ℕ) (d : Name) → k < length names → get_or names k d ≢ f
 not_among f [] h k d low e = absurd (omega arith)
 not_among f (x ∷ names) h zero d low e = differs_by_test f x (or_parts (bytes_eq f x) (is_among f names) h).0 (sym e)
 not_among f (x ∷ names) h (suc k) d low e = not_among f names (or_parts (bytes_eq f x) (is_among f names) h).1 k d (omega arith) e
 
-names_push : (ts : List Tree) (t : Tree) → is_among t.name (names_of ts) ≡ false → AreDistinct (names_of ts) → AreDistinct (names_of (ts ++ t ∷ []))
-names_push ts t h w = subst AreDistinct (sym (map-append (λ t. t.name) ts (t ∷ []))) (all_pairs_push (λ x y. x ≢ y) (names_of ts) t.name w (not_among t.name (names_of ts) h))
+names_push : (ts : List Decl) (t : Decl) → is_among (decl_name t) (names_of ts) ≡ false → AreDistinct (names_of ts) → AreDistinct (names_of (ts ++ t ∷ []))
+names_push ts t h w = subst AreDistinct (sym (map-append decl_name ts (t ∷ []))) (all_pairs_push (λ x y. x ≢ y) (names_of ts) (decl_name t) w (not_among (decl_name t) (names_of ts) h))
 
 -- the names of all declarations, behind those that are there
-names_keep : (is : List Item) (ts : List Tree) (made : ℕ) → WellItems (map declared_as ts) made is → AreDistinct (names_of ts)
-    → AreDistinct (names_of (ts ++ trees_in is))
+names_keep : (is : List Item) (ts : List Decl) (made : ℕ) → WellItems (map declared_as ts) made is → AreDistinct (names_of ts)
+    → AreDistinct (names_of (ts ++ decls_in is))
 names_keep [] ts made w v = subst (λ x. AreDistinct (names_of x)) (sym (append-nil ts)) v
 names_keep (Declares t ∷ is) ts made w v =
-    subst (λ x. AreDistinct (names_of x)) (append_assoc ts (t ∷ []) (trees_in is))
-    (names_keep is (ts ++ t ∷ []) made (well_behind_one ts t made is w.1.1) (names_push ts t (new_by_test ts t w.0) v))
+    subst (λ x. AreDistinct (names_of x)) (append_assoc ts (t ∷ []) (decls_in is))
+    (names_keep is (ts ++ t ∷ []) made (well_behind_one ts t made is w.1) (names_push ts t (new_by_test ts t w.0) v))
 names_keep (Drives d ∷ is) ts made w v = names_keep is ts (suc made) w.1 v
 
 -- ---- drives
 
-named_among : (x : Name) (ts : List Tree) → list_any (λ t. bytes_eq x t.name) ts ≡ is_among x (names_of ts)
+named_among : (x : Name) (ds : List Decl) → list_any (λ d. bytes_eq x (decl_name d)) ds ≡ is_among x (names_of ds)
 named_among x [] = refl
-named_among x (t ∷ ts) = ap (λ b. bytes_eq x t.name || b) (named_among x ts)
+named_among x (d ∷ ds) = ap (λ b. bytes_eq x (decl_name d) || b) (named_among x ds)
+
+-- what a test finds here is there with more behind
+found_by_test : (test : Decl → Bool) (P : Decl → Type 0) → ((d : Decl) → test d ≡ true → P d) → (ds more : List Decl) → list_any test ds ≡ true → Any P (ds ++ more)
+found_by_test test P f ds more h =
+    let a = Any-from_list_any test (ds ++ more) (list_any-append test ds more ∙ or_left (list_any test ds) (list_any test more) h) in
+    (a.0, a.1, a.2, a.3, f a.1 a.4)
 
 -- a name that is declared here is so with more behind
-declared_by_test : (x : Name) (ts more : List Tree) → is_among x (names_of ts) ≡ true → Any (λ t. t.name ≡ x) (ts ++ more)
-declared_by_test x ts more h =
-    let named : Tree → Bool = λ t. bytes_eq x t.name in
-    let a = Any-from_list_any named (ts ++ more) (list_any-append named ts more ∙ or_left (list_any named ts) (list_any named more) (named_among x ts ∙ h)) in
-    (a.0, a.1, a.2, a.3, sym ((bytes_eq-Decides x a.1.name).0 a.4))
+declared_by_test : (x : Name) (ds more : List Decl) → is_among x (names_of ds) ≡ true → Any (λ d. decl_name d ≡ x) (ds ++ more)
+declared_by_test x ds more h =
+    found_by_test (λ d. bytes_eq x (decl_name d)) (λ d. decl_name d ≡ x) (λ d e. sym ((bytes_eq-Decides x (decl_name d)).0 e)) ds more (named_among x ds ∙ h)
+
+-- so is a function
+abbrev callable_decl : Name → Decl → Bool
+callable_decl f d = bytes_eq f (decl_name d) && is_callable (decl_kind d)
+
+callable_any : (f : Name) (ds : List Decl) → list_any (callable_decl f) ds ≡ declares_callable f (map declared_as ds)
+callable_any f [] = refl
+callable_any f (d ∷ ds) = ap (λ b. callable_decl f d || b) (callable_any f ds)
+
+callable_is : (f : Name) (d : Decl) → callable_decl f d ≡ true → IsFunctionNamed f d
+callable_is f (ClassDecl c b) h = cc ((and_parts (bytes_eq f c) false h).1)
+callable_is f (ManagerDecl m e x) h = cc ((and_parts (bytes_eq f m) false h).1)
+callable_is f (FunctionDecl t) h = sym ((bytes_eq-Decides f t.name).0 (and_parts (bytes_eq f t.name) true h).0)
+
+function_by_test : (f : Name) (ds more : List Decl) → declares_callable f (map declared_as ds) ≡ true → IsFunction (ds ++ more) f
+function_by_test f ds more h = found_by_test (callable_decl f) (IsFunctionNamed f) (callable_is f) ds more (callable_any f ds ∙ h)
+
+-- and a class
+abbrev class_decl : Name → Decl → Bool
+class_decl c d = bytes_eq c (decl_name d) && is_class (decl_kind d)
+
+class_any : (c : Name) (ds : List Decl) → list_any (class_decl c) ds ≡ list_any (λ d. bytes_eq c d.name && is_class d.kind) (map declared_as ds)
+class_any c [] = refl
+class_any c (d ∷ ds) = ap (λ b. class_decl c d || b) (class_any c ds)
+
+class_is : (c : Name) (d : Decl) → class_decl c d ≡ true → IsClassNamed c d
+class_is c (ClassDecl d b) h = sym ((bytes_eq-Decides c d).0 (and_parts (bytes_eq c d) true h).0)
+class_is c (ManagerDecl m e x) h = cc ((and_parts (bytes_eq c m) false h).1)
+class_is c (FunctionDecl t) h = cc ((and_parts (bytes_eq c t.name) false h).1)
+
+class_by_test : (c : Name) (ds more : List Decl) → is_base (map declared_as ds) c ≡ true → IsClass (ds ++ more) c
+class_by_test c ds more h = go (list_any (class_decl c) ds) refl (ap (λ b. b || is_builtin_class c) (class_any c ds) ∙ h)
+  where
+    go : (b : Bool) → list_any (class_decl c) ds ≡ b → (b || is_builtin_class c) ≡ true → IsClass (ds ++ more) c
+    go true is known = inl (found_by_test (class_decl c) (IsClassNamed c) (class_is c) ds more is)
+    go false is known = inr known
 
 -- a name that is declared here, or a class's, means something with more behind
-known_by_test : (x : Name) (ts more : List Tree) → (declares x (map declared_as ts) || is_builtin_class x) ≡ true → IsKnown (ts ++ more) x
+known_by_test : (x : Name) (ts more : List Decl) → (declares x (map declared_as ts) || is_builtin_class x) ≡ true → IsKnown (ts ++ more) x
 known_by_test x ts more h = go (declares x (map declared_as ts)) refl h
   where
     go : (b : Bool) → b ≡ declares x (map declared_as ts) → (b || is_builtin_class x) ≡ true → IsKnown (ts ++ more) x
@@ -175,24 +249,24 @@ known_by_test x ts more h = go (declares x (map declared_as ts)) refl h
 numbers_by_test : (made n : ℕ) → numbers_drive made n ≡ true → NumbersDrive made n
 numbers_by_test made n h = let parts = and_parts (nat_le 1 n) (nat_le n made) h in (leb-true 1 n parts.0, leb-true n made parts.1)
 
-drivable_by_test : (ts more : List Tree) (made : ℕ) (a : DriveAtom) → is_drivable (map declared_as ts) made a ≡ true → IsDrivable (ts ++ more) made a
+drivable_by_test : (ts more : List Decl) (made : ℕ) (a : DriveAtom) → is_drivable (map declared_as ts) made a ≡ true → IsDrivable (ts ++ more) made a
 drivable_by_test ts more made (argument.Name x) h = known_by_test x ts more h
 drivable_by_test ts more made (argument.Drive n) h = numbers_by_test made n h
 drivable_by_test ts more made a h = tt
 
-throwable_by_test : (ts more : List Tree) (made : ℕ) (v : Option DriveAtom) → is_thrown (map declared_as ts) made v ≡ true → IsThrowable (ts ++ more) made v
+throwable_by_test : (ts more : List Decl) (made : ℕ) (v : Option DriveAtom) → is_thrown (map declared_as ts) made v ≡ true → IsThrowable (ts ++ more) made v
 throwable_by_test ts more made None h = tt
 throwable_by_test ts more made (Some a) h = drivable_by_test ts more made a h
 
 -- a drive, behind these declarations and with others to follow
-drive_keeps : (ts more : List Tree) (made : ℕ) (d : DriveLine) → may_drive (map declared_as ts) made d ≡ true → IsWellDriven (ts ++ more) made d
+drive_keeps : (ts more : List Decl) (made : ℕ) (d : DriveLine) → may_drive (map declared_as ts) made d ≡ true → IsWellDriven (ts ++ more) made d
 drive_keeps ts more made (drive.Call f args) h =
     let called : Bool = declares_callable f (map declared_as ts) in
     let few : Bool = nat_le (length args) 255 in
     let drivable : Bool = list_all (is_drivable (map declared_as ts) made) args in
     let front : (called && few) ≡ true = (and_parts (called && few) drivable h).0 in
     record {
-      function = declared_by_test f ts more (sym (callable-names f ts) ∙ (and_parts called few front).0);
+      function = function_by_test f ts more (and_parts called few front).0;
       few = leb-true (length args) 255 (and_parts called few front).1;
       args = all_by_test (is_drivable (map declared_as ts) made) (IsDrivable (ts ++ more) made) (drivable_by_test ts more made) args (and_parts (called && few) drivable h).1;
     }
@@ -201,38 +275,71 @@ drive_keeps ts more made (drive.Send n a) h =
     let parts = and_parts (numbers_drive made n) (is_drivable (map declared_as ts) made a) h in
     record { drive = numbers_by_test made n parts.0; value = drivable_by_test ts more made a parts.1 }
 drive_keeps ts more made (drive.Throw n c v) h =
-    let front : Bool = numbers_drive made n && is_builtin_class c in
+    let front : Bool = numbers_drive made n && is_base (map declared_as ts) c in
     let parts = and_parts front (is_thrown (map declared_as ts) made v) h in
-    let both = and_parts (numbers_drive made n) (is_builtin_class c) parts.0 in
-    record { drive = numbers_by_test made n both.0; class = both.1; value = throwable_by_test ts more made v parts.1 }
+    let both = and_parts (numbers_drive made n) (is_base (map declared_as ts) c) parts.0 in
+    record { drive = numbers_by_test made n both.0; class = class_by_test c ts more both.1; value = throwable_by_test ts more made v parts.1 }
 drive_keeps ts more made (drive.Close n) h = numbers_by_test made n h
 
 -- each drive of the items, behind the declarations and the drives in front of it
-drives_keep : (is : List Item) (ts : List Tree) (made : ℕ) → WellItems (map declared_as ts) made is → (i : ℕ) (d : DriveLine)
-    → slice_get (drives_in is) i ≡ Some d → IsWellDriven (ts ++ trees_in is) (made + i) d
+drives_keep : (is : List Item) (ts : List Decl) (made : ℕ) → WellItems (map declared_as ts) made is → (i : ℕ) (d : DriveLine)
+    → slice_get (drives_in is) i ≡ Some d → IsWellDriven (ts ++ decls_in is) (made + i) d
 drives_keep [] ts made w i d at = cc at
 drives_keep (Declares t ∷ is) ts made w i d at =
-    subst (λ x. IsWellDriven x (made + i) d) (append_assoc ts (t ∷ []) (trees_in is)) (drives_keep is (ts ++ t ∷ []) made (well_behind_one ts t made is w.1.1) i d at)
+    subst (λ x. IsWellDriven x (made + i) d) (append_assoc ts (t ∷ []) (decls_in is)) (drives_keep is (ts ++ t ∷ []) made (well_behind_one ts t made is w.1) i d at)
 drives_keep (Drives d ∷ is) ts made w zero e at =
     let same : d ≡ e = cc at in
     let none : made ≡ made + 0 = omega arith in
-    subst (IsWellDriven (ts ++ trees_in is) (made + 0)) same (subst (λ n. IsWellDriven (ts ++ trees_in is) n d) none (drive_keeps ts (trees_in is) made d w.0))
+    subst (IsWellDriven (ts ++ decls_in is) (made + 0)) same (subst (λ n. IsWellDriven (ts ++ decls_in is) n d) none (drive_keeps ts (decls_in is) made d w.0))
 drives_keep (Drives d ∷ is) ts made w (suc i) e at =
     let one : suc made + i ≡ made + suc i = omega arith in
-    subst (λ n. IsWellDriven (ts ++ trees_in is) n e) one (drives_keep is ts (suc made) w.1 i e at)
+    subst (λ n. IsWellDriven (ts ++ decls_in is) n e) one (drives_keep is ts (suc made) w.1 i e at)
 
-driven_from_none : (is : List Item) → WellItems [] 0 is → (i : ℕ) (d : DriveLine) → slice_get (drives_in is) i ≡ Some d → IsWellDriven (trees_in is) i d
+driven_from_none : (is : List Item) → WellItems [] 0 is → (i : ℕ) (d : DriveLine) → slice_get (drives_in is) i ≡ Some d → IsWellDriven (decls_in is) i d
 driven_from_none is w i d at =
     let none : 0 + i ≡ i = omega arith in
-    subst (λ n. IsWellDriven (trees_in is) n d) none (drives_keep is [] 0 w i d at)
+    subst (λ n. IsWellDriven (decls_in is) n d) none (drives_keep is [] 0 w i d at)
+
+-- ---- declarations
+
+-- a declaration behind these
+decl_keeps : (ds : List Decl) (d : Decl) → WellDecl (map declared_as ds) d → length (decl_rows d) ≤ 1048576 → IsWellDeclared ds d
+decl_keeps ds (ClassDecl c b) w short =
+    let parts = and_parts (is_new (map declared_as ds) c) (is_base (map declared_as ds) b) w in
+    record { no_class = (new_name ds c parts.0).1; founded = subst (λ x. IsClass x b) (append-nil ds) (class_by_test b ds [] parts.1) }
+decl_keeps ds (ManagerDecl m e x) w short =
+    let parts = managed_new ds m e x w in
+    record {
+      no_class = (new_name ds m parts.0).1;
+      founded = (subst (λ q. IsFunction q e) (append-nil ds) (function_by_test e ds [] parts.1), subst (λ q. IsFunction q x) (append-nil ds) (function_by_test x ds [] parts.2));
+    }
+decl_keeps ds (FunctionDecl t) w short =
+    let size = tree_size t [] w.1 in
+    let all = length-append (decl_rows (FunctionDecl t)) [] in
+    let k = function_keeps (map declared_as ds) t w.0 w.1 (omega (arith, size, all, short)) in
+    record { no_class = k.0; founded = k.1 }
+
+-- each declaration of the items, behind those in front of it
+decls_keep : (is : List Item) (ds : List Decl) (made : ℕ) → WellItems (map declared_as ds) made is → length (items_rows is) ≤ 1048576 → (i : ℕ) (d : Decl)
+    → slice_get (decls_in is) i ≡ Some d → IsWellDeclared (ds ++ take i (decls_in is)) d
+decls_keep [] ds made w short i d at = cc at
+decls_keep (Declares e ∷ is) ds made w short zero d at =
+    let same : e ≡ d = cc at in
+    let all = length-append (decl_rows e) (items_rows is) in
+    subst (IsWellDeclared (ds ++ [])) same (subst (λ x. IsWellDeclared x e) (sym (append-nil ds)) (decl_keeps ds e w.0 (omega (arith, all, short))))
+decls_keep (Declares e ∷ is) ds made w short (suc i) d at =
+    let all = length-append (decl_rows e) (items_rows is) in
+    subst (λ x. IsWellDeclared x d) (append_assoc ds (e ∷ []) (take i (decls_in is)))
+    (decls_keep is (ds ++ e ∷ []) made (well_behind_one ds e made is w.1) (omega (arith, all, short)) i d at)
+decls_keep (Drives e ∷ is) ds made w short i d at = decls_keep is ds (suc made) w.1 (omega (arith, short)) i d at
 
 -- each script keeps all of that
 pub script_keeps : (bytes : List ℕ) (s : Script) → length bytes ≤ 1048576 → IsScript bytes s → IsWellFormed s
 script_keeps bytes s few is =
     let size = script_size bytes s is in
-    let w : AreWellFormed (trees_in is.items) (drives_in is.items) = record {
-      declared = trees_keep is.items [] 0 is.well (omega (arith, size, few));
+    let w : AreWellFormed (decls_in is.items) (drives_in is.items) = record {
+      declared = λ i d at. decls_keep is.items [] 0 is.well (omega (arith, size, few)) i d at;
       distinct = names_keep is.items [] 0 is.well (distinct_by_test [] refl);
       driven = λ i d at. driven_from_none is.items is.well i d at;
     } in
-    subst (λ x. AreWellFormed x s.drives) (sym is.declared) (subst (λ x. AreWellFormed (trees_in is.items) x) (sym is.driven) w)
+    subst (λ x. AreWellFormed x s.drives) (sym is.declared) (subst (λ x. AreWellFormed (decls_in is.items) x) (sym is.driven) w)

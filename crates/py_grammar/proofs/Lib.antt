@@ -17,3 +17,4 @@ mod Keeps
 -- which verdict lines come to
 mod Walks
 mod Verdicts
+mod WorkedLemmas

@@ -1,7 +1,7 @@
 -- Bodies are short: each statement of a script has a row of its own, each row a line, and each line a byte.
 use Rattle.std.proofs.Common.{◌≡◌, ◌≤◌, ◌+◌, ℕ, suc, List, [], ◌∷◌, ◌++◌, length, Bool, true, false, cond, Option, Some, None, refl, ap, arith, length-append}
 use Rattle.std.specs.Prelude.{◌==◌, ◌&&◌}
-use Rattle.py_tree.specs.Tree.{Form, If, IfElse, While, TryExcept, TryFinally, Suite, nothing, first, Clauses, no_more, clause, Tree}
+use Rattle.py_tree.specs.Tree.{Form, If, IfElse, While, TryExcept, TryFinally, With, Suite, nothing, first, Clauses, no_more, clause, Tree}
 use Rattle.py_tree.specs.Compilable.{statements_in, statements, statements_under}
 use Rattle.py_lines.specs.declared.head.Head.TheVariants as head
 use Rattle.py_lines.specs.declared.line.LineRead.{LineRead}
@@ -10,7 +10,7 @@ use Rattle.py_grammar.specs.declared.rules.Inside.{Inside}
 use Rattle.py_grammar.specs.declared.script.Script.{Script}
 use Rattle.py_grammar.specs.Rules.{body_of, within}
 use Rattle.py_grammar.specs.Lines.{lines, in_first, at_lf}
-use Rattle.py_grammar.specs.Grammar.{Row, row, Item, Declares, form_rows, suite_rows, clauses_rows, end_row, else_row, finally_row, item_rows, items_rows, WellForm, WellSuite, WellClauses}
+use Rattle.py_grammar.specs.Grammar.{Row, row, FunctionDecl, Item, Declares, form_rows, suite_rows, clauses_rows, end_row, else_row, finally_row, item_rows, items_rows, WellForm, WellSuite, WellClauses}
 use Rattle.py_grammar.specs.Script.{with_read, rows_from, IsScript}
 use Rattle.py_grammar.proofs.LineReads.{read_length}
 
@@ -68,6 +68,7 @@ mutual
       let all = length-append (suite_rows s) (finally_row ∷ (suite_rows t ++ end_row ∷ [])) in
       let behind = length-append (suite_rows t) (end_row ∷ []) in
       omega (arith, one, other, all, behind)
+  form_size i n (With a x s) w = let inside = suite_size (within i (head.With a x)) s w.1 in let all = length-append (suite_rows s) (end_row ∷ []) in omega (arith, inside, all)
   form_size i n f w = omega arith
 
   suite_size : (i : Inside) (s : Suite) → WellSuite i s → statements s ≤ length (suite_rows s)
@@ -88,10 +89,10 @@ mutual
 
 -- a declaration in front of items has as many rows as its body has statements, or more
 pub tree_size : (t : Tree) (is : List Item) → WellSuite (body_of t.kind) t.suite
-    → statements t.suite + length (items_rows is) ≤ length (items_rows (Declares t ∷ is))
+    → statements t.suite + length (items_rows is) ≤ length (items_rows (Declares (FunctionDecl t) ∷ is))
 tree_size t is w =
     let size = suite_size (body_of t.kind) t.suite w in
-    let whole = length-append (item_rows (Declares t)) (items_rows is) in
+    let whole = length-append (item_rows (Declares (FunctionDecl t))) (items_rows is) in
     let body = length-append (suite_rows t.suite) (end_row ∷ []) in
     omega (arith, size, whole, body)
 

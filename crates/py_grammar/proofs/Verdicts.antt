@@ -3,14 +3,14 @@ use Rattle.std.proofs.Common.{◌≡◌, ◌≤◌, ◌⊎◌, inl, inr, ℕ, su
 use Rattle.std.specs.Prelude.{IsOk}
 use Rattle.std.specs.declared.result.Result.{Result}
 use Rattle.std.specs.declared.result.Result.TheVariants.{Ok, Err}
-use Rattle.py_tree.specs.Tree.{Tree}
 use Rattle.py_lines.specs.declared.drive.DriveLine.{DriveLine}
 use Rattle.py_lines.specs.Laws.{ReadsSomeWay}
 use Rattle.py_grammar.specs.declared.fault.ParseFault.{ParseFault}
 use Rattle.py_grammar.specs.declared.fault.ParseFault.TheVariants.{Malformed, NoMemory}
 use Rattle.py_grammar.specs.declared.script.Script.{Script}
+use Rattle.py_grammar.specs.Grammar.{Decl}
 use Rattle.py_grammar.specs.Lines.{lines}
-use Rattle.py_grammar.specs.Script.{Text, Spells, Begins, IsFirstBad, IsLeftOpen, IsBadLine, IsScript, trees_of}
+use Rattle.py_grammar.specs.Script.{Text, Spells, Begins, IsFirstBad, IsLeftOpen, IsBadLine, IsScript, decls_of}
 use Rattle.py_grammar.specs.Reader.{Open, State, state, start, takes_line, at_end, Verdict, Good, Bad, Goes, WalksTo}
 use Rattle.py_grammar.specs.Reading.{IsAnswerTo}
 use Rattle.py_grammar.specs.WellFormed.{IsWellFormed}
@@ -28,7 +28,7 @@ IsTrueOf text (Good ts ds) = Spells text ts ds
 IsTrueOf text (Bad k) = IsBad text k
 
 -- at the end of the lines
-true_at_end : (front : Text) (ts : List Tree) (ds : List DriveLine) (i : Option Open) → Been front (state ts ds i) → IsTrueOf front (at_end ts ds i (after 1 front))
+true_at_end : (front : Text) (ts : List Decl) (ds : List DriveLine) (i : Option Open) → Been front (state ts ds i) → IsTrueOf front (at_end ts ds i (after 1 front))
 true_at_end front ts ds None b = been_spells front ts ds b
 true_at_end front ts ds (Some o) b = inr (
   after-one front,
@@ -42,7 +42,7 @@ true_at_end front ts ds (Some o) b = inr (
 
 true_from : (rest front : Text) (st : State) (v : Verdict) → Been front st → WalksTo st (after 1 front) rest v → IsTrueOf (front ++ rest) v
 true_from [] front st v b w =
-    subst (λ t. IsTrueOf t v) (sym (append-nil front)) (subst (IsTrueOf front) (sym w) (true_at_end front st.trees st.drives st.inside b))
+    subst (λ t. IsTrueOf t v) (sym (append-nil front)) (subst (IsTrueOf front) (sym w) (true_at_end front st.decls st.drives st.inside b))
 true_from (l ∷ ls) front st v b w = go (takes_line st (after 1 front) w.0) refl (one_line front st l w.0 w.1 b) w.2
     (λ s c u. true_from ls (front ++ l ∷ []) s v c (subst (λ n. WalksTo s n ls v) (sym (after-append 1 front l)) u))
   where
@@ -58,15 +58,15 @@ verdict_true : (text : Text) (v : Verdict) → WalksTo start 1 text v → IsTrue
 verdict_true text v w = true_from text [] start v been_start w
 
 -- a text is one script at most
-one_spelling : (text : Text) (ts ts2 : List Tree) (ds ds2 : List DriveLine) → Spells text ts ds → Spells text ts2 ds2 → (ts ≡ ts2) × (ds ≡ ds2)
+one_spelling : (text : Text) (ts ts2 : List Decl) (ds ds2 : List DriveLine) → Spells text ts ds → Spells text ts2 ds2 → (ts ≡ ts2) × (ds ≡ ds2)
 one_spelling text ts ts2 ds ds2 a b =
     let f : Some (state ts ds None) ≡ Some (state ts2 ds2 None) =
     sym (script_read text ts ds a.reads _ a a.read a.spelled) ∙ script_read text ts2 ds2 a.reads _ b a.read a.spelled in
     let g : state ts ds None ≡ state ts2 ds2 None = cc f in
-    (ap (λ q. q.trees) g, ap (λ q. q.drives) g)
+    (ap (λ q. q.decls) g, ap (λ q. q.drives) g)
 
 -- a script has no bad line
-script_not_bad : (text : Text) (ts : List Tree) (ds : List DriveLine) (k : ℕ) → Spells text ts ds → IsBad text k → ⊥
+script_not_bad : (text : Text) (ts : List Decl) (ds : List DriveLine) (k : ℕ) → Spells text ts ds → IsBad text k → ⊥
 script_not_bad text ts ds k s (inl b) = b.6 (as_bytes (b.0 ++ b.1 ∷ []) (b.2, ts, ds, subst (λ t. Spells t ts ds) (b.3 ∙ sym (append_assoc b.0 (b.1 ∷ []) b.2)) s))
 script_not_bad text ts ds k s (inr b) = b.2 ts ds s
 
@@ -90,16 +90,16 @@ one_bad text j k (inr a) (inl b) = absurd (b.6 (begins_fewer (b.0 ++ b.1 ∷ [])
 one_bad text j k (inr a) (inr b) = a.0 ∙ sym b.0
 
 -- each text is a script or has a bad line
-pub script_or_bad : ReadsSomeWay → (bytes : List ℕ) → ((ts : List Tree) × (ds : List DriveLine) × Spells (lines bytes) ts ds) ⊎ ((k : ℕ) × IsBadLine bytes k)
+pub script_or_bad : ReadsSomeWay → (bytes : List ℕ) → ((ts : List Decl) × (ds : List DriveLine) × Spells (lines bytes) ts ds) ⊎ ((k : ℕ) × IsBadLine bytes k)
 script_or_bad some bytes = let w = walked some (lines bytes) 1 start in go w.0 (verdict_true (lines bytes) w.0 w.1)
   where
-    go : (v : Verdict) → IsTrueOf (lines bytes) v → ((ts : List Tree) × (ds : List DriveLine) × Spells (lines bytes) ts ds) ⊎ ((k : ℕ) × IsBadLine bytes k)
+    go : (v : Verdict) → IsTrueOf (lines bytes) v → ((ts : List Decl) × (ds : List DriveLine) × Spells (lines bytes) ts ds) ⊎ ((k : ℕ) × IsBadLine bytes k)
     go (Good ts ds) t = inl (ts, ds, t)
     go (Bad k) t = inr (k, t)
 
 -- from the answer of the reader to that of the grammar
 pub answer_ok : (bytes : List ℕ) (r : Result Script ParseFault) (s : Script) → IsAnswerTo (lines bytes) r → r ≡ Ok s → IsScript bytes s
-answer_ok bytes r s v e = verdict_true (lines bytes) (Good (trees_of s) s.drives) (subst (IsAnswerTo (lines bytes)) e v)
+answer_ok bytes r s v e = verdict_true (lines bytes) (Good (decls_of s) s.drives) (subst (IsAnswerTo (lines bytes)) e v)
 
 pub answer_well_formed : (bytes : List ℕ) (r : Result Script ParseFault) (s : Script) → length bytes ≤ 1048576 → IsAnswerTo (lines bytes) r → r ≡ Ok s
     → IsWellFormed s
@@ -112,15 +112,15 @@ pub answer_only_scripts : (bytes : List ℕ) (r : Result Script ParseFault) → 
     → (r ≡ Err NoMemory) ⊎ IsOk r
 answer_only_scripts bytes (Ok t) v s i = inr refl
 answer_only_scripts bytes (Err NoMemory) v s i = inl refl
-answer_only_scripts bytes (Err (Malformed k)) v s i = absurd (script_not_bad (lines bytes) (trees_of s) s.drives k i (verdict_true (lines bytes) (Bad k) v))
+answer_only_scripts bytes (Err (Malformed k)) v s i = absurd (script_not_bad (lines bytes) (decls_of s) s.drives k i (verdict_true (lines bytes) (Bad k) v))
 
 pub answer_bad : (bytes : List ℕ) (r : Result Script ParseFault) → IsAnswerTo (lines bytes) r → (k : ℕ) → IsBadLine bytes k
     → (r ≡ Err NoMemory) ⊎ (r ≡ Err (Malformed k))
 answer_bad bytes (Err NoMemory) v k b = inl refl
-answer_bad bytes (Ok t) v k b = absurd (script_not_bad (lines bytes) (trees_of t) t.drives k (verdict_true (lines bytes) (Good (trees_of t) t.drives) v) b)
+answer_bad bytes (Ok t) v k b = absurd (script_not_bad (lines bytes) (decls_of t) t.drives k (verdict_true (lines bytes) (Good (decls_of t) t.drives) v) b)
 answer_bad bytes (Err (Malformed j)) v k b = inr (ap (λ x. Err (Malformed x)) (one_bad (lines bytes) j k (verdict_true (lines bytes) (Bad j) v) b))
 
-pub one_tree : (bytes : List ℕ) (s t : Script) → IsScript bytes s → IsScript bytes t → (trees_of s ≡ trees_of t) × (s.drives ≡ t.drives)
+pub one_tree : (bytes : List ℕ) (s t : Script) → IsScript bytes s → IsScript bytes t → (decls_of s ≡ decls_of t) × (s.drives ≡ t.drives)
 one_tree bytes s t a b = one_spelling (lines bytes) _ _ _ _ a b
 
 pub not_both : (bytes : List ℕ) (s : Script) (k : ℕ) → IsScript bytes s → IsBadLine bytes k → ⊥

@@ -8,7 +8,7 @@ use Rattle.py_lines.specs.Reading.{IsReadAs}
 use Rattle.py_grammar.specs.declared.fault.ParseFault.{ParseFault}
 use Rattle.py_grammar.specs.declared.fault.ParseFault.TheVariants.{Malformed, NoMemory}
 use Rattle.py_grammar.specs.declared.script.Script.{Script}
-use Rattle.py_grammar.specs.Script.{Text, trees_of}
+use Rattle.py_grammar.specs.Script.{Text, decls_of}
 use Rattle.py_grammar.specs.Reader.{State, takes_line, at_end, Verdict, Good, Bad, Goes, WalksTo}
 use Rattle.py_grammar.specs.Reading.{ComesTo}
 
@@ -19,13 +19,13 @@ walks_on st next n m l ls r v read taken e w = (r, read, subst (λ o. Goes o n (
 
 pub comes_on : (st next : State) (n m : ℕ) (l : List ℕ) (ls : Text) (r : LineRead) → IsReadAs l r → Some next ≡ takes_line st n r → m ≡ suc n
     → (answer : Result Script ParseFault) → ComesTo next m ls answer → ComesTo st n (l ∷ ls) answer
-comes_on st next n m l ls r read taken e (Ok s) c = walks_on st next n m l ls r (Good (trees_of s) s.drives) read taken e c
+comes_on st next n m l ls r read taken e (Ok s) c = walks_on st next n m l ls r (Good (decls_of s) s.drives) read taken e c
 comes_on st next n m l ls r read taken e (Err (Malformed k)) c = walks_on st next n m l ls r (Bad k) read taken e c
 comes_on st next n m l ls r read taken e (Err NoMemory) c = tt
 
 -- all lines come to something, where all bytes read some way
 pub walked : ReadsSomeWay → (text : Text) (n : ℕ) (st : State) → (v : Verdict) × WalksTo st n text v
-walked some [] n st = (at_end st.trees st.drives st.inside n, refl)
+walked some [] n st = (at_end st.decls st.drives st.inside n, refl)
 walked some (l ∷ ls) n st = let r = some l in let w = go (takes_line st n r.0) (λ s. walked some ls (suc n) s) in (w.0, (r.0, r.1, w.1))
   where
     go : (o : Option State) → ((s : State) → (v : Verdict) × WalksTo s (suc n) ls v) → (v : Verdict) × Goes o n (λ s u. WalksTo s (suc n) ls u) v

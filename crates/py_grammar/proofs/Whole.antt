@@ -2,7 +2,7 @@
 use Rattle.std.proofs.Common.{◌≡◌, ℕ, suc, length, List, [], ◌∷◌, ◌++◌, Option, Some, None, true, refl, sym, ap, ◌∙◌, append_assoc, append-nil, length-append, subst, arith, map}
 use Rattle.std.proofs.lemmas.List.{map-append}
 use Rattle.py_tree.specs.declared.body.BodyKind.{BodyKind}
-use Rattle.py_tree.specs.Tree.{Name, Form, Assign, Do, Show, Return, Raise, Reraise, Break, Continue, Pass, If, IfElse, While, TryExcept, TryFinally, Suite, nothing, first, Clauses, no_more, clause, Tree}
+use Rattle.py_tree.specs.Tree.{Name, Form, Assign, Do, Show, Return, Raise, Reraise, Break, Continue, Pass, If, IfElse, While, TryExcept, TryFinally, With, Suite, nothing, first, Clauses, no_more, clause}
 use Rattle.py_tree.specs.Suites.{joined, add, joined_clauses, with_clause}
 use Rattle.py_lines.specs.declared.drive.DriveLine.{DriveLine}
 use Rattle.py_lines.specs.declared.head.Head.{Head}
@@ -10,8 +10,8 @@ use Rattle.py_lines.specs.declared.head.Head.TheVariants as head
 use Rattle.py_lines.specs.declared.plain.Plain.{Plain}
 use Rattle.py_lines.specs.declared.plain.Plain.TheVariants as plain
 use Rattle.py_grammar.specs.Rules.{may_drive, within, may_hold, may_open}
-use Rattle.py_grammar.specs.Grammar.{Row, Item, Declares, Drives, declared_as, plain_rows, head_row, suite_rows, form_rows, clauses_rows, end_row, else_row, finally_row, items_rows, trees_in, drives_in, WellForm, WellSuite, WellClauses, WellItems}
-use Rattle.py_grammar.specs.Reader.{Began, in_if, in_else, in_while, in_try, in_except, in_finally, began, Block, State, state, inside_of, plain_form, accept}
+use Rattle.py_grammar.specs.Grammar.{Row, Decl, ClassDecl, ManagerDecl, FunctionDecl, Item, Declares, Drives, declared_as, plain_rows, head_row, suite_rows, form_rows, clauses_rows, end_row, else_row, finally_row, items_rows, decls_in, drives_in, WellForm, WellSuite, WellClauses, WellItems}
+use Rattle.py_grammar.specs.Reader.{Began, in_if, in_else, in_while, in_try, in_except, in_finally, in_with, began, Block, State, state, inside_of, plain_form, accept}
 use Rattle.py_grammar.proofs.Clauses.{joined_clauses_assoc, joined_clauses-no_more}
 
 abbrev pub and_then : Option State → (State → Option State) → Option State
@@ -41,7 +41,7 @@ pub joined-nothing : (a : Suite) → joined a nothing ≡ a
 joined-nothing nothing = refl
 joined-nothing (first n s more) = ap (first n s) (joined-nothing more)
 
-module _ (ts : List Tree) (ds : List DriveLine) (line : ℕ) (k : BodyKind) (name : Name) (params : List Name) where
+module _ (ts : List Decl) (ds : List DriveLine) (line : ℕ) (k : BodyKind) (name : Name) (params : List Name) where
   -- this body is open, with these blocks and these statements in the innermost
   abbrev body_at : List Block → Suite → State
   body_at bs done = state ts ds (Some (record { line = line; kind = k; name = name; params = params; blocks = bs; done = done }))
@@ -108,6 +108,9 @@ module _ (ts : List Tree) (ds : List DriveLine) (line : ℕ) (k : BodyKind) (nam
         let behind : List Row = finally_row ∷ (suite_rows t ++ end_row ∷ []) in
         head_read head.Try n bs done ((suite_rows s ++ behind) ++ rest) w.0 ∙ suite_then b bs s behind rest (λ rows. suite_read s (b ∷ bs) nothing rows w.1.0)
         ∙ suite_then c bs t (end_row ∷ []) rest (λ rows. suite_read t (c ∷ bs) nothing rows w.1.1)
+    form_read (With a x s) n bs done rest w =
+        let b : Block = block done n (in_with a x) in
+        head_read (head.With a x) n bs done ((suite_rows s ++ end_row ∷ []) ++ rest) w.0 ∙ suite_then b bs s (end_row ∷ []) rest (λ rows. suite_read s (b ∷ bs) nothing rows w.1)
 
     pub suite_read : (s : Suite) (bs : List Block) (done : Suite) (rest : List Row) → WellSuite (inside_of k bs) s
         → run (body_at bs done) (suite_rows s ++ rest) ≡ run (body_at bs (joined done s)) rest
@@ -132,20 +135,26 @@ module _ (ts : List Tree) (ds : List DriveLine) (line : ℕ) (k : BodyKind) (nam
         ∙ ap (λ q. run (body_at bs (add done n (TryExcept s q))) rest) (joined_clauses_assoc front (clause m2 c2 x2 t2 no_more) more)
 
 -- the rules behind one more declaration
-pub well_behind_one : (ts : List Tree) (t : Tree) (made : ℕ) (is : List Item) → WellItems (map declared_as ts ++ declared_as t ∷ []) made is
+pub well_behind_one : (ts : List Decl) (t : Decl) (made : ℕ) (is : List Item) → WellItems (map declared_as ts ++ declared_as t ∷ []) made is
     → WellItems (map declared_as (ts ++ t ∷ [])) made is
 well_behind_one ts t made is w = subst (λ ds. WellItems ds made is) (sym (map-append declared_as ts (t ∷ []))) w
 
 -- every script is read
-pub items_read : (is : List Item) (ts : List Tree) (ds : List DriveLine) (made : ℕ) → length ds ≡ made → WellItems (map declared_as ts) made is
-    → run (state ts ds None) (items_rows is) ≡ Some (state (ts ++ trees_in is) (ds ++ drives_in is) None)
+pub items_read : (is : List Item) (ts : List Decl) (ds : List DriveLine) (made : ℕ) → length ds ≡ made → WellItems (map declared_as ts) made is
+    → run (state ts ds None) (items_rows is) ≡ Some (state (ts ++ decls_in is) (ds ++ drives_in is) None)
 items_read [] ts ds made e w = rw (append-nil ts, append-nil ds) refl
-items_read (Declares t ∷ is) ts ds made e w =
-    rw w.0 (ap (run (body_at ts ds t.line t.kind t.name t.params [] nothing)) (append_assoc (suite_rows t.suite) (end_row ∷ []) (items_rows is))
-    ∙ suite_read ts ds t.line t.kind t.name t.params t.suite [] nothing (end_row ∷ items_rows is) w.1.0
-    ∙ items_read is (ts ++ t ∷ []) ds made e (well_behind_one ts t made is w.1.1)
-    ∙ ap (λ x. Some (state x (ds ++ drives_in is) None)) (append_assoc ts (t ∷ []) (trees_in is)))
+items_read (Declares (ClassDecl c b) ∷ is) ts ds made e w =
+    rw w.0 (items_read is (ts ++ ClassDecl c b ∷ []) ds made e (well_behind_one ts (ClassDecl c b) made is w.1)
+    ∙ ap (λ x. Some (state x (ds ++ drives_in is) None)) (append_assoc ts (ClassDecl c b ∷ []) (decls_in is)))
+items_read (Declares (ManagerDecl m f x) ∷ is) ts ds made e w =
+    rw w.0 (items_read is (ts ++ ManagerDecl m f x ∷ []) ds made e (well_behind_one ts (ManagerDecl m f x) made is w.1)
+    ∙ ap (λ y. Some (state y (ds ++ drives_in is) None)) (append_assoc ts (ManagerDecl m f x ∷ []) (decls_in is)))
+items_read (Declares (FunctionDecl t) ∷ is) ts ds made e w =
+    rw w.0.0 (ap (run (body_at ts ds t.line t.kind t.name t.params [] nothing)) (append_assoc (suite_rows t.suite) (end_row ∷ []) (items_rows is))
+    ∙ suite_read ts ds t.line t.kind t.name t.params t.suite [] nothing (end_row ∷ items_rows is) w.0.1
+    ∙ items_read is (ts ++ FunctionDecl t ∷ []) ds made e (well_behind_one ts (FunctionDecl t) made is w.1)
+    ∙ ap (λ x. Some (state x (ds ++ drives_in is) None)) (append_assoc ts (FunctionDecl t ∷ []) (decls_in is)))
 items_read (Drives d ∷ is) ts ds made e w =
     let may : may_drive (map declared_as ts) (length ds) d ≡ true = subst (λ n. may_drive (map declared_as ts) n d ≡ true) (sym e) w.0 in
     let one : length (ds ++ d ∷ []) ≡ suc made = omega (arith, e, length-append ds (d ∷ [])) in
-    rw may (items_read is ts (ds ++ d ∷ []) (suc made) one w.1 ∙ ap (λ x. Some (state (ts ++ trees_in is) x None)) (append_assoc ds (d ∷ []) (drives_in is)))
+    rw may (items_read is ts (ds ++ d ∷ []) (suc made) one w.1 ∙ ap (λ x. Some (state (ts ++ decls_in is) x None)) (append_assoc ds (d ∷ []) (drives_in is)))

@@ -1,6 +1,6 @@
 -- Scripts as trees, the rows that a tree prints, and the rules that it keeps.
 use Rattle.std.specs.Prelude.{◌≡◌, ℕ, suc, List, [], ◌∷◌, ◌++◌, Option, true}
-use Rattle.py_tree.specs.Tree.{Name, Form, Assign, Do, Show, Return, Raise, Reraise, Break, Continue, Pass, If, IfElse, While, TryExcept, TryFinally, Suite, nothing, first, Clauses, no_more, clause, Tree}
+use Rattle.py_tree.specs.Tree.{Name, Form, Assign, Do, Show, Return, Raise, Reraise, Break, Continue, Pass, If, IfElse, While, TryExcept, TryFinally, With, Suite, nothing, first, Clauses, no_more, clause, Tree}
 use Rattle.py_lines.specs.declared.drive.DriveLine.{DriveLine}
 use Rattle.py_lines.specs.declared.head.Head.{Head}
 use Rattle.py_lines.specs.declared.head.Head.TheVariants as head
@@ -11,17 +11,41 @@ use Rattle.py_lines.specs.declared.line.Line.TheVariants as line
 use Rattle.py_lines.specs.declared.plain.Plain.{Plain}
 use Rattle.py_lines.specs.declared.plain.Plain.TheVariants as plain
 use Rattle.py_grammar.specs.declared.rules.Inside.{Inside}
+use Rattle.py_grammar.specs.declared.script.Kind.{Kind}
 use Rattle.py_grammar.specs.declared.script.Kind.TheVariants as kind
-use Rattle.py_grammar.specs.Rules.{Declared, may_declare, may_drive, body_of, within, may_hold, may_open}
+use Rattle.py_grammar.specs.Rules.{Declared, may_declare, may_derive, may_drive, may_manage, body_of, within, may_hold, may_open}
+
+-- a declaration: a class by its name and its base, a manager by its name, its enter and its exit, or a function
+pub data Decl : Type 0 where
+  ClassDecl : Name → Name → Decl
+  ManagerDecl : Name → Name → Name → Decl
+  FunctionDecl : Tree → Decl
+
+abbrev pub decl_name : Decl → Name
+decl_name (ClassDecl c b) = c
+decl_name (ManagerDecl m e x) = m
+decl_name (FunctionDecl t) = t.name
+
+abbrev pub decl_kind : Decl → Kind
+decl_kind (ClassDecl c b) = kind.Class
+decl_kind (ManagerDecl m e x) = kind.Manager
+decl_kind (FunctionDecl t) = kind.Function
+
+-- the functions among declarations
+abbrev pub functions_in : List Decl → List Tree
+functions_in [] = []
+functions_in (ClassDecl c b ∷ ds) = functions_in ds
+functions_in (ManagerDecl m e x ∷ ds) = functions_in ds
+functions_in (FunctionDecl t ∷ ds) = t ∷ functions_in ds
 
 -- one thing that a script says outside of bodies
 pub data Item : Type 0 where
-  Declares : Tree → Item
+  Declares : Decl → Item
   Drives : DriveLine → Item
 
 -- a declaration as later lines see it
-abbrev pub declared_as : Tree → Declared
-declared_as t = record { name = t.name; kind = kind.Function }
+abbrev pub declared_as : Decl → Declared
+declared_as d = record { name = decl_name d; kind = decl_kind d }
 
 -- ---- the rows that a tree prints
 
@@ -38,7 +62,9 @@ kept_number n (line.Opens h) = n
 kept_number n (line.Turns turn.Else) = 0
 kept_number n (line.Turns (turn.Except c x)) = n
 kept_number n (line.Turns turn.Finally) = 0
-kept_number n (line.Header h) = n
+kept_number n (line.Header (header.Def k f ps)) = n
+kept_number n (line.Header (header.Class c b)) = 0
+kept_number n (line.Header (header.Manager m e x)) = 0
 kept_number n (line.Drive d) = 0
 
 abbrev pub row : ℕ → Line → Row
@@ -81,6 +107,7 @@ abbrev mutual
   form_rows n (While a s) = head_row n (head.While a) ∷ (suite_rows s ++ end_row ∷ [])
   form_rows n (TryExcept s cs) = head_row n head.Try ∷ (suite_rows s ++ (clauses_rows cs ++ end_row ∷ []))
   form_rows n (TryFinally s t) = head_row n head.Try ∷ (suite_rows s ++ finally_row ∷ (suite_rows t ++ end_row ∷ []))
+  form_rows n (With a x s) = head_row n (head.With a x) ∷ (suite_rows s ++ end_row ∷ [])
 
   pub suite_rows : Suite → List Row
   suite_rows nothing = []
@@ -90,8 +117,13 @@ abbrev mutual
   clauses_rows no_more = []
   clauses_rows (clause n c x s more) = except_row n c x ∷ (suite_rows s ++ clauses_rows more)
 
+abbrev pub decl_rows : Decl → List Row
+decl_rows (ClassDecl c b) = row 0 (line.Header (header.Class c b)) ∷ []
+decl_rows (ManagerDecl m e x) = row 0 (line.Header (header.Manager m e x)) ∷ []
+decl_rows (FunctionDecl t) = row t.line (line.Header (header.Def t.kind t.name t.params)) ∷ (suite_rows t.suite ++ end_row ∷ [])
+
 abbrev pub item_rows : Item → List Row
-item_rows (Declares t) = row t.line (line.Header (header.Def t.kind t.name t.params)) ∷ (suite_rows t.suite ++ end_row ∷ [])
+item_rows (Declares d) = decl_rows d
 item_rows (Drives d) = row 0 (line.Drive d) ∷ []
 
 -- the rows of a whole script
@@ -99,14 +131,14 @@ abbrev pub items_rows : List Item → List Row
 items_rows [] = []
 items_rows (i ∷ is) = item_rows i ++ items_rows is
 
-abbrev pub trees_in : List Item → List Tree
-trees_in [] = []
-trees_in (Declares t ∷ is) = t ∷ trees_in is
-trees_in (Drives d ∷ is) = trees_in is
+abbrev pub decls_in : List Item → List Decl
+decls_in [] = []
+decls_in (Declares d ∷ is) = d ∷ decls_in is
+decls_in (Drives d ∷ is) = decls_in is
 
 abbrev pub drives_in : List Item → List DriveLine
 drives_in [] = []
-drives_in (Declares t ∷ is) = drives_in is
+drives_in (Declares d ∷ is) = drives_in is
 drives_in (Drives d ∷ is) = d ∷ drives_in is
 
 -- ---- the rules that it keeps
@@ -133,6 +165,7 @@ abbrev mutual
   WellForm i (While a s) = (may_open i ≡ true) × WellSuite (within i (head.While a)) s
   WellForm i (TryExcept s cs) = (may_open i ≡ true) × (HasClause cs × (WellSuite (within i head.Try) s × WellClauses (within i head.Try) cs))
   WellForm i (TryFinally s t) = (may_open i ≡ true) × (WellSuite (within i head.Try) s × WellSuite (within i head.Try) t)
+  WellForm i (With a x s) = (may_open i ≡ true) × WellSuite (within i (head.With a x)) s
 
   -- so do statements in order
   pub WellSuite : Inside → Suite → Type 0
@@ -144,8 +177,14 @@ abbrev mutual
   WellClauses i no_more = Unit {0}
   WellClauses i (clause n c x s more) = WellSuite i s × WellClauses i more
 
+-- so does a declaration that follows these
+abbrev pub WellDecl : List Declared → Decl → Type 0
+WellDecl ds (ClassDecl c b) = may_derive ds c b ≡ true
+WellDecl ds (ManagerDecl m e x) = may_manage ds m e x ≡ true
+WellDecl ds (FunctionDecl t) = (may_declare ds t.name t.params ≡ true) × WellSuite (body_of t.kind) t.suite
+
 -- so do the items that follow these declarations and so many drives
 abbrev pub WellItems : List Declared → ℕ → List Item → Type 0
 WellItems ds made [] = Unit {0}
-WellItems ds made (Declares t ∷ is) = (may_declare ds t.name t.params ≡ true) × (WellSuite (body_of t.kind) t.suite × WellItems (ds ++ declared_as t ∷ []) made is)
+WellItems ds made (Declares d ∷ is) = WellDecl ds d × WellItems (ds ++ declared_as d ∷ []) made is
 WellItems ds made (Drives d ∷ is) = (may_drive ds made d ≡ true) × WellItems ds (suc made) is

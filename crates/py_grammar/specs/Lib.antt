@@ -10,3 +10,5 @@ pub mod Pieces
 pub mod Reader
 pub mod Tables
 pub mod Reading
+-- a small script and rules, worked by hand
+pub mod Worked

@@ -2,7 +2,7 @@
 use Rattle.std.specs.Prelude.{◌≡◌, ℕ, suc, List, [], ◌∷◌, ◌++◌, length, Option, Some, None, option_map, map, Bool, true, false}
 use Rattle.py_tree.specs.declared.body.BodyKind.{BodyKind}
 use Rattle.py_tree.specs.declared.expr.Atom.{Atom}
-use Rattle.py_tree.specs.Tree.{Name, Form, Assign, Do, Show, Return, Raise, Reraise, Break, Continue, Pass, If, IfElse, While, TryExcept, TryFinally, Suite, nothing, Clauses, no_more, Tree}
+use Rattle.py_tree.specs.Tree.{Name, Form, Assign, Do, Show, Return, Raise, Reraise, Break, Continue, Pass, If, IfElse, While, TryExcept, TryFinally, With, Suite, nothing, Clauses, no_more, Tree}
 use Rattle.py_tree.specs.Suites.{add, with_clause}
 use Rattle.py_lines.specs.declared.drive.DriveLine.{DriveLine}
 use Rattle.py_lines.specs.declared.head.Head.{Head}
@@ -19,25 +19,27 @@ use Rattle.py_lines.specs.declared.plain.Plain.{Plain}
 use Rattle.py_lines.specs.declared.plain.Plain.TheVariants as plain
 use Rattle.py_lines.specs.Reading.{IsReadAs}
 use Rattle.py_grammar.specs.declared.rules.Inside.{Inside}
-use Rattle.py_grammar.specs.Grammar.{declared_as}
-use Rattle.py_grammar.specs.Rules.{may_declare, may_drive, body_of, within, may_hold, may_open}
+use Rattle.py_grammar.specs.Grammar.{Decl, ClassDecl, ManagerDecl, FunctionDecl, declared_as}
+use Rattle.py_grammar.specs.Rules.{may_declare, may_derive, may_drive, may_manage, body_of, within, may_hold, may_open}
 use Rattle.py_grammar.specs.Script.{Text}
 
 -- ---- the body that is open
 
 -- how an open block began: behind an else, with the suite of its if; behind an except, with the suite of its try, the clauses before it,
--- and its line, its class and the name that it binds; behind a finally, with the suite of its try
+-- and its line, its class and the name that it binds; behind a finally, with the suite of its try; with the name that a `with` binds
 pub data Began : Type 0 where
   in_if in_while : Atom → Began
   in_else : Atom → Suite → Began
   in_try : Began
   in_except : Suite → Clauses → ℕ → Name → Option Name → Began
   in_finally : Suite → Began
+  in_with : Atom → Option Name → Began
 
 abbrev pub began : Head → Began
 began (head.If a) = in_if a
 began (head.While a) = in_while a
 began head.Try = in_try
+began (head.With a x) = in_with a x
 
 -- the line that opened it
 abbrev pub opener : Began → Head
@@ -47,6 +49,7 @@ opener (in_while a) = head.While a
 opener in_try = head.Try
 opener (in_except s cs n c x) = head.Try
 opener (in_finally s) = head.Try
+opener (in_with a x) = head.With a x
 
 -- an open block: the statements before it in the block around it, its line and how it began
 pub record Block : Type 0 where
@@ -147,6 +150,7 @@ ended (in_while a) s = Some (While a s)
 ended in_try s = None
 ended (in_except t cs n c x) s = Some (TryExcept t (with_clause cs n c x s))
 ended (in_finally t) s = Some (TryFinally t s)
+ended (in_with a x) s = Some (With a x s)
 
 -- what an end closes: the body, or its innermost block
 pub data Closing : Type 0 where
@@ -169,26 +173,26 @@ closed o (b ∷ bs) = option_map (λ f. one_block (ended_in o b bs f)) (ended b.
 
 -- what was read
 pub record State : Type 0 where
-  pub trees : List Tree
+  pub decls : List Decl
   pub drives : List DriveLine
   pub inside : Option Open
 
-abbrev pub state : List Tree → List DriveLine → Option Open → State
-state ts ds i = record { trees = ts; drives = ds; inside = i }
+abbrev pub state : List Decl → List DriveLine → Option Open → State
+state ts ds i = record { decls = ts; drives = ds; inside = i }
 
 -- nothing was read
 abbrev pub start : State
 start = state [] [] None
 
-abbrev pub closes : List Tree → List DriveLine → Closing → State
-closes ts ds (whole_body t) = state (ts ++ t ∷ []) ds None
+abbrev pub closes : List Decl → List DriveLine → Closing → State
+closes ts ds (whole_body t) = state (ts ++ FunctionDecl t ∷ []) ds None
 closes ts ds (one_block o) = state ts ds (Some o)
 
-abbrev pub still_inside : List Tree → List DriveLine → Option Open → Option State
+abbrev pub still_inside : List Decl → List DriveLine → Option Open → Option State
 still_inside ts ds o = option_map (λ x. state ts ds (Some x)) o
 
 -- a line where a body is open
-abbrev pub in_body : List Tree → List DriveLine → Open → ℕ → Line → Option State
+abbrev pub in_body : List Decl → List DriveLine → Open → ℕ → Line → Option State
 in_body ts ds o n line.End = option_map (closes ts ds) (closed o o.blocks)
 in_body ts ds o n (line.Plain p) = still_inside ts ds (goes_on o n (line.Plain p))
 in_body ts ds o n (line.Opens h) = still_inside ts ds (goes_on o n (line.Opens h))
@@ -196,12 +200,14 @@ in_body ts ds o n (line.Turns t) = still_inside ts ds (goes_on o n (line.Turns t
 in_body ts ds o n (line.Header h) = None
 in_body ts ds o n (line.Drive d) = None
 
--- the body that a header opens
-abbrev pub headed : List Tree → List DriveLine → ℕ → Header → Option State
+-- a header: a class or a manager is declared in one line, a function opens its body
+abbrev pub headed : List Decl → List DriveLine → ℕ → Header → Option State
 headed ts ds n (header.Def k f ps) = only_if (may_declare (map declared_as ts) f ps) (state ts ds (Some (opened n k f ps)))
+headed ts ds n (header.Class c b) = only_if (may_derive (map declared_as ts) c b) (state (ts ++ ClassDecl c b ∷ []) ds None)
+headed ts ds n (header.Manager m e x) = only_if (may_manage (map declared_as ts) m e x) (state (ts ++ ManagerDecl m e x ∷ []) ds None)
 
 -- a line outside of bodies
-abbrev pub outside : List Tree → List DriveLine → ℕ → Line → Option State
+abbrev pub outside : List Decl → List DriveLine → ℕ → Line → Option State
 outside ts ds n line.End = None
 outside ts ds n (line.Plain p) = None
 outside ts ds n (line.Opens h) = None
@@ -209,13 +215,13 @@ outside ts ds n (line.Turns t) = None
 outside ts ds n (line.Header h) = headed ts ds n h
 outside ts ds n (line.Drive d) = only_if (may_drive (map declared_as ts) (length ds) d) (state ts (ds ++ d ∷ []) None)
 
-abbrev pub accept_at : List Tree → List DriveLine → Option Open → ℕ → Line → Option State
+abbrev pub accept_at : List Decl → List DriveLine → Option Open → ℕ → Line → Option State
 accept_at ts ds None n l = outside ts ds n l
 accept_at ts ds (Some o) n l = in_body ts ds o n l
 
 -- a line, where it may stand here
 abbrev pub accept : State → ℕ → Line → Option State
-accept st n l = accept_at st.trees st.drives st.inside n l
+accept st n l = accept_at st.decls st.drives st.inside n l
 
 -- what a line says, where it may stand here
 abbrev pub takes_line : State → ℕ → LineRead → Option State
@@ -227,10 +233,10 @@ takes_line st n (Said l) = accept st n l
 
 -- what comes of a text: its script, or its bad line
 pub data Verdict : Type 0 where
-  Good : List Tree → List DriveLine → Verdict
+  Good : List Decl → List DriveLine → Verdict
   Bad : ℕ → Verdict
 
-abbrev pub at_end : List Tree → List DriveLine → Option Open → ℕ → Verdict
+abbrev pub at_end : List Decl → List DriveLine → Option Open → ℕ → Verdict
 at_end ts ds None n = Good ts ds
 at_end ts ds (Some o) n = Bad n
 
@@ -241,5 +247,5 @@ Goes (Some st) n next v = next st v
 
 -- the verdict on the lines from the n-th on
 abbrev pub WalksTo : State → ℕ → Text → Verdict → Type 0
-WalksTo st n [] v = v ≡ at_end st.trees st.drives st.inside n
+WalksTo st n [] v = v ≡ at_end st.decls st.drives st.inside n
 WalksTo st n (l ∷ ls) v = (r : LineRead) × IsReadAs l r × Goes (takes_line st n r) n (λ st2 w. WalksTo st2 (suc n) ls w) v

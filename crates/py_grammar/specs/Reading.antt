@@ -12,8 +12,8 @@ use Rattle.py_grammar.specs.declared.open_body.OpenBody.{OpenBody}
 use Rattle.py_grammar.specs.declared.open_body.Closed.{Closed}
 use Rattle.py_grammar.specs.declared.open_body.Closed.TheVariants as closed
 use Rattle.py_grammar.specs.declared.script.Script.{Script}
-use Rattle.py_grammar.specs.Script.{trees_of, Text}
-use Rattle.py_grammar.specs.Reader.{Began, in_if, in_else, in_while, in_try, in_except, in_finally, Block, Open, Closing, whole_body, one_block, State, state, Good, Bad, WalksTo, start}
+use Rattle.py_grammar.specs.Script.{decls_of, Text}
+use Rattle.py_grammar.specs.Reader.{Began, in_if, in_else, in_while, in_try, in_except, in_finally, in_with, Block, Open, Closing, whole_body, one_block, State, state, Good, Bad, WalksTo, start}
 use Rattle.py_grammar.specs.Tables.{SoFar}
 
 abbrev pub began_of : BlockHead → Began
@@ -23,6 +23,7 @@ began_of (block.While a) = in_while a
 began_of block.Try = in_try
 began_of (block.Except s cs h) = in_except (suite_of s) (clauses_of cs) h.line h.class h.target
 began_of (block.Finally s) = in_finally (suite_of s)
+began_of (block.With a x) = in_with a x
 
 abbrev pub block_of : OpenBlock → Block
 block_of b = record { before = suite_of b.before; line = b.line; began = began_of b.head }
@@ -44,7 +45,7 @@ closing_of (closed.Function b) = whole_body (tree_of b)
 closing_of (closed.Block o) = one_block (open_of o)
 
 abbrev pub state_of : SoFar → State
-state_of r = state (trees_of r.whole) r.whole.drives (option_map open_of r.inside)
+state_of r = state (decls_of r.whole) r.whole.drives (option_map open_of r.inside)
 
 -- from a state on, lines come to this answer, unless memory ran out
 abbrev pub ComesToFault : State → ℕ → Text → ParseFault → Type 0
@@ -52,7 +53,7 @@ ComesToFault st n text (Malformed k) = WalksTo st n text (Bad k)
 ComesToFault st n text NoMemory = Unit {0}
 
 abbrev pub ComesTo : State → ℕ → Text → Result Script ParseFault → Type 0
-ComesTo st n text (Ok s) = WalksTo st n text (Good (trees_of s) s.drives)
+ComesTo st n text (Ok s) = WalksTo st n text (Good (decls_of s) s.drives)
 ComesTo st n text (Err e) = ComesToFault st n text e
 
 -- so does a whole text

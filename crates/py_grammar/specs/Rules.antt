@@ -40,7 +40,14 @@ abbrev pub declares : Name → List Declared → Bool
 declares x ds = list_any (λ d. bytes_eq x d.name) ds
 
 abbrev pub is_callable : Kind → Bool
+is_callable kind.Class = false
+is_callable kind.Manager = false
 is_callable kind.Function = true
+
+abbrev pub is_class : Kind → Bool
+is_class kind.Class = true
+is_class kind.Manager = false
+is_class kind.Function = false
 
 -- whether what is declared under a name can be called
 abbrev pub declares_callable : Name → List Declared → Bool
@@ -50,10 +57,26 @@ declares_callable f ds = list_any (λ d. bytes_eq f d.name && is_callable d.kind
 abbrev pub is_builtin_class : Name → Bool
 is_builtin_class f = is_among f (map name_of error_kinds)
 
+-- whether a name is that of a declared class, or of a built-in one
+abbrev pub is_base : List Declared → Name → Bool
+is_base ds c = list_any (λ d. bytes_eq c d.name && is_class d.kind) ds || is_builtin_class c
+
+-- whether a name is that of no declaration and of no built-in class
+abbrev pub is_new : List Declared → Name → Bool
+is_new ds x = not (declares x ds) && not (is_builtin_class x)
+
+-- whether, behind these declarations, a class may have this name and this base (Python Language Reference, 8.8)
+abbrev pub may_derive : List Declared → Name → Name → Bool
+may_derive ds c b = is_new ds c && is_base ds b
+
+-- whether a manager may have this name and these functions, which may be one
+abbrev pub may_manage : List Declared → Name → Name → Name → Bool
+may_manage ds m e x = is_new ds m && declares_callable e ds && declares_callable x ds
+
 -- whether, behind these declarations, a function may have this name and these parameters:
 -- its name is new, and at most 255 parameters have names of their own
 abbrev pub may_declare : List Declared → Name → List Name → Bool
-may_declare ds f ps = not (declares f ds) && not (is_builtin_class f) && all_differ ps && nat_le (length ps) 255
+may_declare ds f ps = is_new ds f && all_differ ps && nat_le (length ps) 255
 
 -- whether a number is that of one of so many drives, which are numbered from 1
 abbrev pub numbers_drive : ℕ → ℕ → Bool
@@ -76,12 +99,12 @@ is_thrown ds made (Some a) = is_drivable ds made a
 
 -- whether, behind these declarations and so many drives, this drive may stand: it calls what can be called,
 -- with at most 255 arguments, each of which may stand here; or it goes on with what an earlier drive returned, where that
--- is a generator (Python Language Reference, 6.2.9.1). What is thrown is of a built-in class
+-- is a generator (Python Language Reference, 6.2.9.1). What is thrown is of a class that is declared or built in
 abbrev pub may_drive : List Declared → ℕ → DriveLine → Bool
 may_drive ds made (drive.Call f args) = declares_callable f ds && nat_le (length args) 255 && list_all (is_drivable ds made) args
 may_drive ds made (drive.Next n) = numbers_drive made n
 may_drive ds made (drive.Send n a) = numbers_drive made n && is_drivable ds made a
-may_drive ds made (drive.Throw n c v) = numbers_drive made n && is_builtin_class c && is_thrown ds made v
+may_drive ds made (drive.Throw n c v) = numbers_drive made n && is_base ds c && is_thrown ds made v
 may_drive ds made (drive.Close n) = numbers_drive made n
 
 -- ---- what stands in a body
@@ -117,6 +140,7 @@ abbrev pub is_loop : Head → Bool
 is_loop (head.If a) = false
 is_loop (head.While a) = true
 is_loop head.Try = false
+is_loop (head.With a x) = false
 
 -- where those of a block stand that is opened by this line
 abbrev pub within : Inside → Head → Inside

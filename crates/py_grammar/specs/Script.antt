@@ -8,18 +8,24 @@ use Rattle.py_lines.specs.declared.line.LineRead.{LineRead}
 use Rattle.py_lines.specs.declared.line.LineRead.TheVariants.{Blank, Said, Malformed}
 use Rattle.py_lines.specs.Reading.{IsReadAs}
 use Rattle.py_grammar.specs.declared.script.Declaration.{Declaration}
-use Rattle.py_grammar.specs.declared.script.Declaration.TheVariants.{Function}
+use Rattle.py_grammar.specs.declared.script.Declaration.TheVariants.{Class, Manager, Function}
 use Rattle.py_grammar.specs.declared.script.Script.{Script}
-use Rattle.py_grammar.specs.Grammar.{Row, row, Item, items_rows, trees_in, drives_in, WellItems}
+use Rattle.py_grammar.specs.Grammar.{Row, row, Decl, ClassDecl, ManagerDecl, FunctionDecl, functions_in, Item, items_rows, decls_in, drives_in, WellItems}
 use Rattle.py_grammar.specs.Lines.{lines}
 
--- the tree of a declaration
-abbrev pub declared_tree : Declaration → Tree
-declared_tree (Function b) = tree_of b
+-- a declaration, as plain data
+abbrev pub decl_of : Declaration → Decl
+decl_of (Class c b) = ClassDecl c b
+decl_of (Manager m e x) = ManagerDecl m e x
+decl_of (Function b) = FunctionDecl (tree_of b)
 
--- what a script declares, as plain data
+-- what a script declares
+abbrev pub decls_of : Script → List Decl
+decls_of s = map decl_of s.declarations
+
+-- its functions
 abbrev pub trees_of : Script → List Tree
-trees_of s = map declared_tree s.declarations
+trees_of s = functions_in (decls_of s)
 
 -- a text by its lines
 abbrev pub Text : Type 0
@@ -37,18 +43,18 @@ rows_from n [] = Some []
 rows_from n (r ∷ rs) = with_read n r (rows_from (suc n) rs)
 
 -- the lines spell these declarations and drives: what they say, each by itself, are the rows of items that keep the rules
-pub record Spells (text : Text) (trees : List Tree) (drives : List DriveLine) : Type 0 where
+pub record Spells (text : Text) (decls : List Decl) (drives : List DriveLine) : Type 0 where
   pub items : List Item
   pub reads : List LineRead
   pub read : AllZip IsReadAs text reads
   pub spelled : rows_from 1 reads ≡ Some (items_rows items)
   pub well : WellItems [] 0 items
-  pub declared : trees ≡ trees_in items
+  pub declared : decls ≡ decls_in items
   pub driven : drives ≡ drives_in items
 
 -- some script begins with these lines
 abbrev pub Begins : Text → Type 0
-Begins text = (more : List ℕ) × (trees : List Tree) × (drives : List DriveLine) × Spells (text ++ lines more) trees drives
+Begins text = (more : List ℕ) × (decls : List Decl) × (drives : List DriveLine) × Spells (text ++ lines more) decls drives
 
 -- some script begins with the lines before the k-th, none with those up to it
 abbrev pub IsFirstBad : Text → ℕ → Type 0
@@ -56,7 +62,7 @@ IsFirstBad text k = (front : Text) × (l : List ℕ) × (back : Text) × (text �
 
 -- the lines are the beginning of a script and no whole one: the next line is missing
 abbrev pub IsLeftOpen : Text → ℕ → Type 0
-IsLeftOpen text k = (k ≡ suc (length text)) × Begins text × ((trees : List Tree) → (drives : List DriveLine) → Spells text trees drives → ⊥)
+IsLeftOpen text k = (k ≡ suc (length text)) × Begins text × ((decls : List Decl) → (drives : List DriveLine) → Spells text decls drives → ⊥)
 
 -- the bad line of bytes that are no script
 abbrev pub IsBadLine : List ℕ → ℕ → Type 0
@@ -64,4 +70,4 @@ IsBadLine bytes k = IsFirstBad (lines bytes) k ⊎ IsLeftOpen (lines bytes) k
 
 -- the bytes are this script
 abbrev pub IsScript : List ℕ → Script → Type 0
-IsScript bytes s = Spells (lines bytes) (trees_of s) s.drives
+IsScript bytes s = Spells (lines bytes) (decls_of s) s.drives

@@ -1,6 +1,7 @@
 -- What a reader keeps, and the names that its table has.
 use Rattle.std.specs.Prelude.{ℕ, Option, Some, None, List, [], ◌∷◌, ◌++◌, ◌&&◌, ◌||◌, not, nat_le, length, Bool, true, map}
 use Rattle.std.specs.List.{list_all}
+use Rattle.py_code.specs.Names.{interned}
 use Rattle.py_tree.specs.Tree.{Name, Tree}
 use Rattle.py_lines.specs.declared.drive.DriveAtom.{DriveAtom}
 use Rattle.py_lines.specs.declared.drive.DriveAtom.TheVariants as argument
@@ -8,6 +9,8 @@ use Rattle.py_lines.specs.declared.drive.DriveLine.{DriveLine}
 use Rattle.py_lines.specs.declared.drive.DriveLine.TheVariants as drive
 use Rattle.py_grammar.specs.declared.open_body.OpenBody.{OpenBody}
 use Rattle.py_grammar.specs.declared.script.Script.{Script}
+use Rattle.py_grammar.specs.declared.table.Table.{Table}
+use Rattle.py_grammar.specs.Grammar.{Decl, ClassDecl, ManagerDecl, FunctionDecl, decl_name, functions_in}
 use Rattle.py_grammar.specs.Rules.{is_among, all_differ, is_builtin_class, numbers_drive}
 
 -- the lines of a text so far
@@ -16,19 +19,52 @@ pub record SoFar : Type 0 where
   pub inside : Option OpenBody
 
 -- the names of declarations
-abbrev pub names_of : List Tree → List Name
-names_of ts = map (λ t. t.name) ts
+abbrev pub names_of : List Decl → List Name
+names_of ds = map decl_name ds
 
--- the names that no further declaration may have: those of the declarations and that of the open body
-abbrev pub taken_names : List Tree → Option OpenBody → List Name
-taken_names ts None = names_of ts
-taken_names ts (Some o) = names_of ts ++ o.name ∷ []
+-- the names of the functions and of the classes among them
+abbrev pub function_names : List Decl → List Name
+function_names ds = map (λ t. t.name) (functions_in ds)
+
+abbrev pub class_names : List Decl → List Name
+class_names [] = []
+class_names (ClassDecl c b ∷ ds) = c ∷ class_names ds
+class_names (ManagerDecl m e x ∷ ds) = class_names ds
+class_names (FunctionDecl t ∷ ds) = class_names ds
+
+-- the table of these declarations, and the one with the name of an open body behind them
+abbrev pub table_of : List Decl → Option OpenBody → Table
+table_of ds None = record { names = names_of ds; functions = function_names ds; classes = class_names ds }
+table_of ds (Some o) = record { names = names_of ds ++ o.name ∷ []; functions = function_names ds ++ o.name ∷ []; classes = class_names ds }
+
+-- the table with one more name
+abbrev pub with_function_name : Table → Name → Table
+with_function_name t f = record { names = interned t.names f; functions = interned t.functions f; classes = t.classes }
+
+abbrev pub with_class_name : Table → Name → Table
+with_class_name t c = record { names = interned t.names c; functions = t.functions; classes = interned t.classes c }
+
+abbrev pub with_manager_name : Table → Name → Table
+with_manager_name t m = record { names = interned t.names m; functions = t.functions; classes = t.classes }
+
+-- the rules on names, by the table
+abbrev pub is_new_by : List Name → Name → Bool
+is_new_by names x = not (is_among x names) && not (is_builtin_class x)
+
+abbrev pub is_base_by : List Name → Name → Bool
+is_base_by classes c = is_among c classes || is_builtin_class c
+
+abbrev pub may_derive_by : Table → Name → Name → Bool
+may_derive_by t c b = is_new_by t.names c && is_base_by t.classes b
+
+abbrev pub may_manage_by : Table → Name → Name → Name → Bool
+may_manage_by t m e x = is_new_by t.names m && is_among e t.functions && is_among x t.functions
 
 -- whether, behind declarations with these names, a function may have this name and these parameters
 abbrev pub may_head : List Name → Name → List Name → Bool
-may_head names f ps = nat_le (length ps) 255 && not (is_among f names) && not (is_builtin_class f) && all_differ ps
+may_head names f ps = nat_le (length ps) 255 && is_new_by names f && all_differ ps
 
--- whether, behind functions with these names and so many drives, a drive may have this argument
+-- whether, behind declarations with these names and so many drives, a drive may have this argument
 abbrev pub is_drivable_by : List Name → ℕ → DriveAtom → Bool
 is_drivable_by names made argument.None = true
 is_drivable_by names made (argument.Bool b) = true
@@ -43,9 +79,9 @@ is_thrown_by names made None = true
 is_thrown_by names made (Some a) = is_drivable_by names made a
 
 -- and whether a drive may stand
-abbrev pub may_drive_by : List Name → ℕ → DriveLine → Bool
-may_drive_by names made (drive.Call f args) = nat_le (length args) 255 && is_among f names && list_all (is_drivable_by names made) args
-may_drive_by names made (drive.Next n) = numbers_drive made n
-may_drive_by names made (drive.Send n a) = numbers_drive made n && is_drivable_by names made a
-may_drive_by names made (drive.Throw n c v) = numbers_drive made n && is_builtin_class c && is_thrown_by names made v
-may_drive_by names made (drive.Close n) = numbers_drive made n
+abbrev pub may_drive_by : Table → ℕ → DriveLine → Bool
+may_drive_by t made (drive.Call f args) = nat_le (length args) 255 && is_among f t.functions && list_all (is_drivable_by t.names made) args
+may_drive_by t made (drive.Next n) = numbers_drive made n
+may_drive_by t made (drive.Send n a) = numbers_drive made n && is_drivable_by t.names made a
+may_drive_by t made (drive.Throw n c v) = numbers_drive made n && is_base_by t.classes c && is_thrown_by t.names made v
+may_drive_by t made (drive.Close n) = numbers_drive made n

@@ -8,8 +8,11 @@ mod parse;
 mod reader;
 mod rules;
 mod script;
+mod table;
+mod worked;
 
 pub use fault::ParseFault;
 pub use parse::{one_script, parse_script};
 pub use py_lines::{DriveAtom, DriveAtomList, DriveLine};
 pub use script::{DeclList, Declaration, DriveList, Kind, Script};
+pub use worked::worked_scripts;

@@ -32,6 +32,8 @@ pub enum BlockHead {
     Except(StmtList, ClauseList, ClauseHead),
     /// `try`, its suite and `finally`.
     Finally(StmtList),
+    /// `with a` or `with a as x`.
+    With(Atom, Option<PyText>),
 }
 
 /// `except C` or `except C as x`, with its line.
@@ -120,6 +122,7 @@ impl BlockHead {
             Head::If(atom) => BlockHead::If(atom),
             Head::While(atom) => BlockHead::While(atom),
             Head::Try => BlockHead::Try,
+            Head::With(manager, target) => BlockHead::With(manager, target),
         }
     }
 
@@ -134,6 +137,7 @@ impl BlockHead {
             BlockHead::Try => false,
             BlockHead::Except(_, _, _) => false,
             BlockHead::Finally(_) => false,
+            BlockHead::With(_, _) => false,
         }
     }
 
@@ -148,6 +152,7 @@ impl BlockHead {
             BlockHead::Try => None,
             BlockHead::Except(_, _, _) => None,
             BlockHead::Finally(_) => None,
+            BlockHead::With(_, _) => None,
         }
     }
 
@@ -170,6 +175,7 @@ impl BlockHead {
                 Ok(Some(BlockHead::Except(first, clauses, next)))
             }
             BlockHead::Finally(_) => Ok(None),
+            BlockHead::With(_, _) => Ok(None),
         }
     }
 
@@ -184,6 +190,7 @@ impl BlockHead {
             BlockHead::Try => Some(BlockHead::Finally(suite)),
             BlockHead::Except(_, _, _) => None,
             BlockHead::Finally(_) => None,
+            BlockHead::With(_, _) => None,
         }
     }
 
@@ -229,6 +236,7 @@ impl BlockHead {
                 Ok(Some(StmtForm::TryExcept(first, clauses)))
             }
             BlockHead::Finally(first) => Ok(Some(StmtForm::TryFinally(first, suite))),
+            BlockHead::With(manager, target) => Ok(Some(StmtForm::With(manager, target, suite))),
         }
     }
 }

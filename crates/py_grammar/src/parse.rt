@@ -1,11 +1,11 @@
 //! Bytes to scripts.
 
 ghost use Rattle.std.specs.Prelude.{◌≡◌, ◌≤◌, ◌⊎◌, IfOk, IsOk, Err, length, ℕ, List, option_map};
-ghost use Rattle.py_tree.specs.Tree.{Tree};
 ghost use Rattle.py_lines.specs.declared.drive.DriveLine.{DriveLine};
 ghost use Rattle.py_lines.specs.declared.line.LineRead.{LineRead as Read};
 ghost use Rattle.py_lines.specs.Reading.{IsReadAs};
-ghost use Rattle.py_grammar.specs.Script.{IsScript, IsBadLine, Spells, trees_of};
+ghost use Rattle.py_grammar.specs.Grammar.{Decl};
+ghost use Rattle.py_grammar.specs.Script.{IsScript, IsBadLine, Spells, decls_of};
 ghost use Rattle.py_grammar.specs.WellFormed.{IsWellFormed};
 ghost use Rattle.py_grammar.specs.Lines.{lines};
 ghost use Rattle.py_grammar.specs.Reader.{takes_line};
@@ -73,8 +73,8 @@ pub fn parse_script(alloc: Global, bytes: &[u8]) -> Result<Script, ParseFault>
 
 /// What the grammar keeps: bytes are one script or have one bad line, never both.
 pub fn one_script(bytes: &[u8])
-    ensures script_or_bad { ((trees : List Tree) × (drives : List DriveLine) × Spells (lines bytes.now) trees drives) ⊎ ((k : ℕ) × IsBadLine bytes.now k) }
-    ensures one_tree { (s : ScriptOf) → (t : ScriptOf) → IsScript bytes.now s → IsScript bytes.now t → (trees_of s ≡ trees_of t) × (s.drives ≡ t.drives) }
+    ensures script_or_bad { ((decls : List Decl) × (drives : List DriveLine) × Spells (lines bytes.now) decls drives) ⊎ ((k : ℕ) × IsBadLine bytes.now k) }
+    ensures one_tree { (s : ScriptOf) → (t : ScriptOf) → IsScript bytes.now s → IsScript bytes.now t → (decls_of s ≡ decls_of t) × (s.drives ≡ t.drives) }
     ensures not_both { (s : ScriptOf) → (k : ℕ) → IsScript bytes.now s → IsBadLine bytes.now k → ⊥ }
     ensures one_bad { (j : ℕ) → (k : ℕ) → IsBadLine bytes.now j → IsBadLine bytes.now k → j ≡ k }
 {

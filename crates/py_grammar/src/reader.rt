@@ -2,18 +2,20 @@
 
 ghost use Rattle.std.specs.Prelude.{◌≡◌, ◌++◌, ◌∷◌, IfOk, Some, None, [], option_map, true};
 ghost use Rattle.py_tree.specs.Views.{tree_of};
-ghost use Rattle.py_lines.specs.declared.header.Header.TheVariants.{Def as DefHeader};
+ghost use Rattle.py_lines.specs.declared.header.Header.TheVariants.{Class as ClassHeader, Def as DefHeader, Manager as ManagerHeader};
 ghost use Rattle.py_lines.specs.declared.line.Line.TheVariants.{Header as HeaderLine, Drive as DrivenLine};
-ghost use Rattle.py_grammar.specs.Script.{trees_of};
+ghost use Rattle.py_grammar.specs.Script.{decls_of};
+ghost use Rattle.py_grammar.specs.Grammar.{ClassDecl, FunctionDecl, ManagerDecl};
 ghost use Rattle.py_grammar.specs.Reader.{accept, closed, closes, headed, in_body, opened, outside, start, state};
 ghost use Rattle.py_grammar.specs.Reading.{ComesTo, open_of, state_of};
-ghost use Rattle.py_grammar.specs.Tables.{names_of, taken_names, may_head};
+ghost use Rattle.py_grammar.specs.Tables.{may_head, may_derive_by, may_manage_by, table_of};
 
 use crate::fault::ParseFault;
 use crate::open_body::{Closed, OpenBody};
-use crate::rules::{may_declare, may_drive};
+use crate::rules::{may_declare, may_derive, may_drive, may_manage};
 use crate::script::{DeclList, Declaration, DriveList, Script};
-use py_code::{NameSet, NoMemory, PyText};
+use crate::table::Table;
+use py_code::{NoMemory, PyText};
 use py_lines::{DriveLine, Header, Line};
 use py_tree::{Body, BodyKind, ParamList};
 use std::alloc::Global;
@@ -24,8 +26,8 @@ use std::marker::Model;
 pub struct Reader {
     whole: Script,
     inside: Option<OpenBody>,
-    /// The names of the declarations in order, and behind them that of the open body.
-    names: NameSet,
+    /// The names of the declarations, and that of the open body.
+    table: Table,
 }
 
 impl Model for Reader {
@@ -33,8 +35,8 @@ impl Model for Reader {
     ghost use Rattle.std.specs.Coded.{codes};
     ghost use Rattle.py_tree.specs.contracts.stmt.ClauseList as clauses;
     ghost use Rattle.py_tree.specs.contracts.stmt.StmtList as suite;
-    ghost use Rattle.py_grammar.specs.Script.{trees_of};
-    ghost use Rattle.py_grammar.specs.Tables.{SoFar, taken_names};
+    ghost use Rattle.py_grammar.specs.Script.{decls_of};
+    ghost use Rattle.py_grammar.specs.Tables.{SoFar, table_of};
 
     ghost Value = { SoFar };
 
@@ -42,7 +44,7 @@ impl Model for Reader {
 
     ghost view = { λ r. record { whole = r.whole; inside = r.inside } };
 
-    ghost invariant = { λ r. r.names ≡ taken_names (trees_of r.whole) r.inside };
+    ghost invariant = { λ r. r.table ≡ table_of (decls_of r.whole) r.inside };
 }
 
 impl Reader {
@@ -56,36 +58,36 @@ impl Reader {
                 drives: DriveList::new(alloc),
             },
             inside: None,
-            names: NameSet::new(alloc),
+            table: Table::new(alloc),
         }
     }
 
     /// The reader behind a function whose lines ended.
-    fn declare(whole: Script, names: NameSet, body: Body) -> Result<Reader, NoMemory>
-        requires { names ≡ names_of (trees_of whole ++ tree_of body ∷ []) }
-        ensures { IfOk result (λ next. state_of next ≡ state (trees_of whole ++ tree_of body ∷ []) whole.drives None) }
+    fn declare(whole: Script, table: Table, body: Body) -> Result<Reader, NoMemory>
+        requires { table ≡ table_of (decls_of whole ++ FunctionDecl (tree_of body) ∷ []) None }
+        ensures { IfOk result (λ next. state_of next ≡ state (decls_of whole ++ FunctionDecl (tree_of body) ∷ []) whole.drives None) }
     {
         let mut whole = whole;
         whole.declarations.push(Declaration::Function(body))?;
         Ok(Reader {
             whole,
             inside: None,
-            names,
+            table,
         })
     }
 
     /// An `end` where this body is open.
-    fn end(whole: Script, names: NameSet, body: OpenBody) -> Result<Option<Reader>, NoMemory>
-        requires { names ≡ taken_names (trees_of whole) (Some body) }
-        ensures { IfOk result (λ next. option_map state_of next ≡ option_map (closes (trees_of whole) whole.drives) (closed (open_of body) (open_of body).blocks)) }
+    fn end(whole: Script, table: Table, body: OpenBody) -> Result<Option<Reader>, NoMemory>
+        requires { table ≡ table_of (decls_of whole) (Some body) }
+        ensures { IfOk result (λ next. option_map state_of next ≡ option_map (closes (decls_of whole) whole.drives) (closed (open_of body) (open_of body).blocks)) }
     {
         match body.close()? {
             Some(Closed::Block(body)) => Ok(Some(Reader {
                 whole,
                 inside: Some(body),
-                names,
+                table,
             })),
-            Some(Closed::Function(body)) => Reader::declare(whole, names, body).map(Some),
+            Some(Closed::Function(body)) => Reader::declare(whole, table, body).map(Some),
             None => Ok(None),
         }
     }
@@ -94,92 +96,171 @@ impl Reader {
     fn push_inside(
         alloc: Global,
         whole: Script,
-        names: NameSet,
+        table: Table,
         body: OpenBody,
         number: u32,
         line: Line,
     ) -> Result<Option<Reader>, NoMemory>
-        requires { names ≡ taken_names (trees_of whole) (Some body) }
-        ensures { IfOk result (λ next. option_map state_of next ≡ in_body (trees_of whole) whole.drives (open_of body) number line) }
+        requires { table ≡ table_of (decls_of whole) (Some body) }
+        ensures { IfOk result (λ next. option_map state_of next ≡ in_body (decls_of whole) whole.drives (open_of body) number line) }
     {
         if matches!(line, Line::End) {
-            return Reader::end(whole, names, body);
+            return Reader::end(whole, table, body);
         }
         match body.push_line(alloc, number, line)? {
             Some(body) => Ok(Some(Reader {
                 whole,
                 inside: Some(body),
-                names,
+                table,
             })),
             None => Ok(None),
         }
     }
 
     /// The reader with the body of a function that may be declared open.
+    #[tactic(auto, using(crate::proofs::Tables::table_open))]
     fn begin(
         alloc: Global,
         whole: Script,
-        names: NameSet,
+        table: Table,
         number: u32,
         kind: BodyKind,
         name: PyText,
         params: ParamList,
     ) -> Result<Reader, NoMemory>
-        requires table { names ≡ names_of (trees_of whole) }
-        requires allowed { may_head names name params ≡ true }
-        ensures { IfOk result (λ next. state_of next ≡ state (trees_of whole) whole.drives (Some (opened number kind name params))) }
+        requires table { table ≡ table_of (decls_of whole) None }
+        requires allowed { may_head table.names name params ≡ true }
+        ensures { IfOk result (λ next. state_of next ≡ state (decls_of whole) whole.drives (Some (opened number kind name params))) }
     {
-        let mut names = names;
-        names.insert(&name)?;
+        let table = table.with_function(&name)?;
         Ok(Reader {
             whole,
             inside: Some(OpenBody::new(alloc, number, kind, name, params)),
-            names,
+            table,
         })
     }
 
     /// The header of a function where no body is open.
-    #[tactic(auto, using(crate::proofs::Tables::may_head_names))]
     fn open(
         alloc: Global,
         whole: Script,
-        names: NameSet,
+        table: Table,
         number: u32,
         kind: BodyKind,
         name: PyText,
         params: ParamList,
     ) -> Result<Option<Reader>, NoMemory>
-        requires { names ≡ taken_names (trees_of whole) None }
-        ensures { IfOk result (λ next. option_map state_of next ≡ headed (trees_of whole) whole.drives number (DefHeader kind name params)) }
+        requires { table ≡ table_of (decls_of whole) None }
+        ensures { IfOk result (λ next. option_map state_of next ≡ headed (decls_of whole) whole.drives number (DefHeader kind name params)) }
     {
-        if may_declare(&names, &name, &params) {
-            Reader::begin(alloc, whole, names, number, kind, name, params).map(Some)
+        if may_declare(&table.names, &name, &params) {
+            Reader::begin(alloc, whole, table, number, kind, name, params).map(Some)
+        } else {
+            Ok(None)
+        }
+    }
+
+    /// The reader behind a class that may be declared.
+    fn add_class(
+        whole: Script,
+        table: Table,
+        name: PyText,
+        base: PyText,
+    ) -> Result<Reader, NoMemory>
+        requires table { table ≡ table_of (decls_of whole) None }
+        requires allowed { may_derive_by table name base ≡ true }
+        ensures { IfOk result (λ next. state_of next ≡ state (decls_of whole ++ ClassDecl name base ∷ []) whole.drives None) }
+    {
+        let table = table.with_class(&name)?;
+        let mut whole = whole;
+        whole.declarations.push(Declaration::Class(name, base))?;
+        Ok(Reader {
+            whole,
+            inside: None,
+            table,
+        })
+    }
+
+    /// A class where no body is open; the number of its line is kept nowhere.
+    fn class(
+        whole: Script,
+        table: Table,
+        name: PyText,
+        base: PyText,
+    ) -> Result<Option<Reader>, NoMemory>
+        requires { table ≡ table_of (decls_of whole) None }
+        ensures { IfOk result (λ next. option_map state_of next ≡ headed (decls_of whole) whole.drives 0 (ClassHeader name base)) }
+    {
+        if may_derive(&table, &name, &base) {
+            Reader::add_class(whole, table, name, base).map(Some)
+        } else {
+            Ok(None)
+        }
+    }
+
+    /// The reader behind a manager that may be declared.
+    fn add_manager(
+        whole: Script,
+        table: Table,
+        name: PyText,
+        enter: PyText,
+        exit: PyText,
+    ) -> Result<Reader, NoMemory>
+        requires table { table ≡ table_of (decls_of whole) None }
+        requires allowed { may_manage_by table name enter exit ≡ true }
+        ensures { IfOk result (λ next. state_of next ≡ state (decls_of whole ++ ManagerDecl name enter exit ∷ []) whole.drives None) }
+    {
+        let table = table.with_manager(&name)?;
+        let mut whole = whole;
+        whole
+            .declarations
+            .push(Declaration::Manager(name, enter, exit))?;
+        Ok(Reader {
+            whole,
+            inside: None,
+            table,
+        })
+    }
+
+    /// A manager where no body is open; the number of its line is kept nowhere.
+    fn manager(
+        whole: Script,
+        table: Table,
+        name: PyText,
+        enter: PyText,
+        exit: PyText,
+    ) -> Result<Option<Reader>, NoMemory>
+        requires { table ≡ table_of (decls_of whole) None }
+        ensures { IfOk result (λ next. option_map state_of next ≡ headed (decls_of whole) whole.drives 0 (ManagerHeader name enter exit)) }
+    {
+        if may_manage(&table, &name, &enter, &exit) {
+            Reader::add_manager(whole, table, name, enter, exit).map(Some)
         } else {
             Ok(None)
         }
     }
 
     /// The reader behind one more drive.
-    fn add_drive(whole: Script, names: NameSet, drive: DriveLine) -> Result<Reader, NoMemory>
-        requires { names ≡ names_of (trees_of whole) }
-        ensures { IfOk result (λ next. state_of next ≡ state (trees_of whole) (whole.drives ++ drive ∷ []) None) }
+    fn add_drive(whole: Script, table: Table, drive: DriveLine) -> Result<Reader, NoMemory>
+        requires { table ≡ table_of (decls_of whole) None }
+        ensures { IfOk result (λ next. state_of next ≡ state (decls_of whole) (whole.drives ++ drive ∷ []) None) }
     {
         let mut whole = whole;
         whole.drives.push(drive)?;
         Ok(Reader {
             whole,
             inside: None,
-            names,
+            table,
         })
     }
 
     /// A drive where no body is open; the number of its line is kept nowhere.
-    fn drive(whole: Script, names: NameSet, drive: DriveLine) -> Result<Option<Reader>, NoMemory>
-        requires { names ≡ taken_names (trees_of whole) None }
-        ensures { IfOk result (λ next. option_map state_of next ≡ outside (trees_of whole) whole.drives 0 (DrivenLine drive)) }
+    fn drive(whole: Script, table: Table, drive: DriveLine) -> Result<Option<Reader>, NoMemory>
+        requires { table ≡ table_of (decls_of whole) None }
+        ensures { IfOk result (λ next. option_map state_of next ≡ outside (decls_of whole) whole.drives 0 (DrivenLine drive)) }
     {
-        if may_drive(&names, &whole, &drive) {
-            Reader::add_drive(whole, names, drive).map(Some)
+        if may_drive(&table, &whole, &drive) {
+            Reader::add_drive(whole, table, drive).map(Some)
         } else {
             Ok(None)
         }
@@ -189,18 +270,22 @@ impl Reader {
     fn push_outside(
         alloc: Global,
         whole: Script,
-        names: NameSet,
+        table: Table,
         number: u32,
         line: Line,
     ) -> Result<Option<Reader>, NoMemory>
-        requires { names ≡ taken_names (trees_of whole) None }
-        ensures { IfOk result (λ next. option_map state_of next ≡ outside (trees_of whole) whole.drives number line) }
+        requires { table ≡ table_of (decls_of whole) None }
+        ensures { IfOk result (λ next. option_map state_of next ≡ outside (decls_of whole) whole.drives number line) }
     {
         match line {
             Line::Header(Header::Def(kind, name, params)) => {
-                Reader::open(alloc, whole, names, number, kind, name, params)
+                Reader::open(alloc, whole, table, number, kind, name, params)
             }
-            Line::Drive(drive) => Reader::drive(whole, names, drive),
+            Line::Drive(drive) => Reader::drive(whole, table, drive),
+            Line::Header(Header::Class(name, base)) => Reader::class(whole, table, name, base),
+            Line::Header(Header::Manager(name, enter, exit)) => {
+                Reader::manager(whole, table, name, enter, exit)
+            }
             Line::End | Line::Plain(_) | Line::Opens(_) | Line::Turns(_) => Ok(None),
         }
     }
@@ -217,11 +302,11 @@ impl Reader {
         let Reader {
             whole,
             inside,
-            names,
+            table,
         } = self;
         match inside {
-            Some(body) => Reader::push_inside(alloc, whole, names, body, number, line),
-            None => Reader::push_outside(alloc, whole, names, number, line),
+            Some(body) => Reader::push_inside(alloc, whole, table, body, number, line),
+            None => Reader::push_outside(alloc, whole, table, number, line),
         }
     }
 
@@ -232,7 +317,7 @@ impl Reader {
         let Reader {
             whole,
             inside,
-            names: _,
+            table: _,
         } = self;
         match inside {
             None => Ok(whole),

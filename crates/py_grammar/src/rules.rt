@@ -1,15 +1,16 @@
 //! The rules on lines that look at what stands around them.
 
-ghost use Rattle.std.specs.Prelude.{◌≡◌, length, bytes_eq, map};
+ghost use Rattle.std.specs.Prelude.{◌≡◌, length, bytes_eq, map, None};
 ghost use Rattle.std.specs.List.{list_any, list_all};
 ghost use Rattle.py_objects.specs.ErrorKinds.{name_of};
 ghost use Rattle.py_grammar.specs.Grammar.{declared_as};
-ghost use Rattle.py_grammar.specs.Script.{trees_of};
+ghost use Rattle.py_grammar.specs.Script.{decls_of};
 ghost use Rattle.py_grammar.specs.Rules.{is_among as is_among_names, all_differ as do_all_differ, is_builtin_class as is_builtin};
 ghost use Rattle.py_grammar.specs.Rules.{may_compute as may_be_computed, may_drive as may_be_driven, may_hold as may_be_held, may_open as may_be_opened, may_operate as may_be_operated, may_yield as may_be_yielded_in, numbers_drive as numbers_a_drive};
-ghost use Rattle.py_grammar.specs.Tables.{may_head, names_of, is_drivable_by, is_thrown_by, may_drive_by};
+ghost use Rattle.py_grammar.specs.Tables.{is_base_by, is_drivable_by, is_new_by, is_thrown_by, may_derive_by, may_drive_by, may_head, may_manage_by, table_of};
 
 use crate::script::Script;
+use crate::table::Table;
 use py_code::{NameSet, PyText, same_text};
 use py_lines::{DriveAtom, DriveLine, Plain};
 use py_objects::ErrorKind;
@@ -67,10 +68,35 @@ pub fn may_declare(names: &NameSet, name: &PyText, params: &ParamList) -> bool
     ensures { result ≡ may_head names.now name.now params.now }
 {
     // The count comes first, since to compare names in pairs takes long where there are many.
-    params.len() <= 255
-        && !names.contains(name)
-        && !is_builtin_class(name)
-        && all_differ(params.as_slice())
+    params.len() <= 255 && is_new(names, name) && all_differ(params.as_slice())
+}
+
+/// Whether a declaration may have this name, behind those with the names of the table.
+fn is_new(names: &NameSet, name: &PyText) -> bool
+    ensures { result ≡ is_new_by names.now name.now }
+{
+    !names.contains(name) && !is_builtin_class(name)
+}
+
+/// Whether a name is that of one of these classes, or of a built-in one.
+fn is_base(classes: &NameSet, name: &PyText) -> bool
+    ensures { result ≡ is_base_by classes.now name.now }
+{
+    classes.contains(name) || is_builtin_class(name)
+}
+
+/// Whether a class may have this name and this base, behind declarations with the names of the table.
+pub fn may_derive(table: &Table, name: &PyText, base: &PyText) -> bool
+    ensures { result ≡ may_derive_by table.now name.now base.now }
+{
+    is_new(&table.names, name) && is_base(&table.classes, base)
+}
+
+/// Whether a manager may have this name, this enter and this exit.
+pub fn may_manage(table: &Table, name: &PyText, enter: &PyText, exit: &PyText) -> bool
+    ensures { result ≡ may_manage_by table.now name.now enter.now exit.now }
+{
+    is_new(&table.names, name) && table.functions.contains(enter) && table.functions.contains(exit)
 }
 
 /// Whether a number is that of one of so many drives.
@@ -80,7 +106,7 @@ fn numbers_drive(made: usize, number: u128) -> bool
     1 <= number && number <= made as u128
 }
 
-/// Whether a drive may have this argument, behind functions with the names of the table and so many drives.
+/// Whether a drive may have this argument, behind declarations with the names of the table and so many drives.
 fn is_drivable(names: &NameSet, made: usize, atom: &DriveAtom) -> bool
     ensures { result ≡ is_drivable_by names.now made atom.now }
 {
@@ -110,20 +136,24 @@ fn is_thrown(names: &NameSet, made: usize, value: &Option<DriveAtom>) -> bool
     }
 }
 
-/// Whether a drive may stand behind functions with the names of the table and so many drives.
-fn may_follow(names: &NameSet, made: usize, drive: &DriveLine) -> bool
-    ensures { result ≡ may_drive_by names.now made drive.now }
+/// Whether a drive may stand behind declarations with the names of the table and so many drives.
+fn may_follow(table: &Table, made: usize, drive: &DriveLine) -> bool
+    ensures { result ≡ may_drive_by table.now made drive.now }
 {
     match drive {
         DriveLine::Call(name, args) => {
-            args.len() <= 255 && names.contains(name) && are_drivable(names, made, args.as_slice())
+            args.len() <= 255
+                && table.functions.contains(name)
+                && are_drivable(&table.names, made, args.as_slice())
         }
         DriveLine::Next(number) => numbers_drive(made, *number),
         DriveLine::Send(number, atom) => {
-            numbers_drive(made, *number) && is_drivable(names, made, atom)
+            numbers_drive(made, *number) && is_drivable(&table.names, made, atom)
         }
         DriveLine::Throw(number, class, value) => {
-            numbers_drive(made, *number) && is_builtin_class(class) && is_thrown(names, made, value)
+            numbers_drive(made, *number)
+                && is_base(&table.classes, class)
+                && is_thrown(&table.names, made, value)
         }
         DriveLine::Close(number) => numbers_drive(made, *number),
     }
@@ -131,11 +161,11 @@ fn may_follow(names: &NameSet, made: usize, drive: &DriveLine) -> bool
 
 /// Whether a drive may stand behind a script, of whose declarations the table has the names.
 #[tactic(auto, using(crate::proofs::Tables::may_drive_names))]
-pub fn may_drive(names: &NameSet, whole: &Script, drive: &DriveLine) -> bool
-    requires { names.now ≡ names_of (trees_of whole.now) }
-    ensures { result ≡ may_be_driven (map declared_as (trees_of whole.now)) (length whole.now.drives) drive.now }
+pub fn may_drive(table: &Table, whole: &Script, drive: &DriveLine) -> bool
+    requires { table.now ≡ table_of (decls_of whole.now) None }
+    ensures { result ≡ may_be_driven (map declared_as (decls_of whole.now)) (length whole.now.drives) drive.now }
 {
-    may_follow(names, whole.drives.len(), drive)
+    may_follow(table, whole.drives.len(), drive)
 }
 
 /// Whether a yield may stand in a body of this kind.

@@ -1,7 +1,8 @@
 //! A script: what it declares, and what it drives.
 
 ghost use Rattle.std.specs.Prelude.{◌≡◌};
-ghost use Rattle.py_grammar.specs.Script.{declared_tree};
+ghost use Rattle.py_grammar.specs.Grammar.{decl_name};
+ghost use Rattle.py_grammar.specs.Script.{decl_of};
 
 use py_code::{ItemList, PyText};
 use py_lines::DriveLine;
@@ -10,6 +11,10 @@ use py_tree::Body;
 /// What a declaration declares.
 #[derive(Clone, Copy, Debug, PartialEq, Eq)]
 pub enum Kind {
+    /// `class`: an exception class.
+    Class,
+    /// `manager`: what a `with` enters and leaves.
+    Manager,
     /// `def` or `gen`: a function, or one whose calls make generators.
     Function,
 }
@@ -17,6 +22,10 @@ pub enum Kind {
 /// What a script declares.
 #[derive(Debug, Drop)]
 pub enum Declaration {
+    /// `class C B`: an exception class, by its name and its base (Python Language Reference, 8.8).
+    Class(PyText, PyText),
+    /// `manager M E X`: a context manager, by its name and the functions that enter and leave it (Python Language Reference, 3.3.9).
+    Manager(PyText, PyText, PyText),
     /// `def f p ..` or `gen f p ..`, its statements and `end`.
     Function(Body),
 }
@@ -24,9 +33,11 @@ pub enum Declaration {
 impl Declaration {
     /// The name that is declared.
     pub fn name(&self) -> &PyText
-        ensures { result.now ≡ (declared_tree self.now).name }
+        ensures { result.now ≡ decl_name (decl_of self.now) }
     {
         match self {
+            Declaration::Class(name, _) => name,
+            Declaration::Manager(name, _, _) => name,
             Declaration::Function(body) => &body.name,
         }
     }

@@ -6,6 +6,7 @@ use Rattle.py_code.specs.declared.instruction.Instruction.{Instruction}
 use Rattle.py_code.specs.declared.instruction.Instruction.TheVariants.{YieldValue}
 use Rattle.py_code.specs.declared.unit.CodeUnit.{CodeUnit}
 use Rattle.py_code.specs.Units.{with_byte}
+use Rattle.py_objects.specs.declared.refs.PyBaseExceptionRef.{PyBaseExceptionRef}
 use Rattle.py_objects.specs.declared.payload.Payload.{Payload}
 use Rattle.py_objects.specs.declared.request.Request.{Request}
 use Rattle.py_objects.specs.declared.event.GotAnswer.{GotAnswer}
@@ -16,18 +17,19 @@ use Rattle.py_objects.specs.Objects.{Obj, HasPayload}
 use Rattle.py_objects.specs.Own.{Own, Resumes, Gets, Yields}
 use Rattle.py_objects.specs.Telling.{Given, Stopped, AfterValue, Answers, Answered, GoesOn, Resumed}
 use Rattle.py_check.specs.declared.note.Kind.TheVariants as kind
+use Rattle.py_rows.specs.declared.block.Block.{Block}
 use Rattle.py_rows.specs.declared.block.UnwindReason.TheVariants as reason
 use Rattle.py_rows.specs.declared.expect.Expect.{Expect}
 use Rattle.py_rows.specs.declared.expect.Expect.TheVariants as expect
 use Rattle.py_rows.specs.declared.expect.Wanted.{Wanted}
 use Rattle.py_rows.specs.declared.expect.Wanted.TheVariants as want
-use Rattle.py_rows.specs.States.{Setting, State, Goes, Tells, Stuck, Move, Plainly, Resolves, waiting}
+use Rattle.py_rows.specs.States.{Setting, State, Goes, Tells, Stuck, Move, Plainly, Resolves, Exits, waiting}
 use Rattle.py_rows.specs.Handled.{handled_in}
 use Rattle.py_rows.specs.Unwinding.{unwind, unwinds}
 use Rattle.py_rows.specs.Answers.{IsValue, IsAnswer, wanted}
 use Rattle.py_rows.specs.Rows.{asks, act}
 use Rattle.py_rows.specs.Receiving.{answered, unit_answered}
-use Rattle.py_rows.specs.RunOfRows.{Hears}
+use Rattle.py_rows.specs.RunOfRows.{Hears, IsExit}
 use Rattle.py_tree.specs.Binding.{Env}
 use Rattle.py_tree.specs.Outcome.{Raises, Requests, Suspends}
 use Rattle.py_laid.specs.Code.{Around, Scope, Stands}
@@ -36,7 +38,7 @@ use Rattle.py_laid.proofs.Decoding.{Now, running, begun, HasOp, Execution, setti
 use Rattle.py_laid.proofs.Lands.{Context, PassesOn}
 
 -- what a frame hears that waits for an answer
-heard : (objects : List Payload) (setting : Setting) (w : Wanted) (x : Own) (y : Expect) → Hears objects setting (expect.Answer w) x y
+pub heard : (objects : List Payload) (setting : Setting) (w : Wanted) (x : Own) (y : Expect) → Hears objects setting (expect.Answer w) x y
     → (event : ℕ) × (g : GotAnswer) × (x ≡ Gets event g) × IsAnswer objects w g × (y ≡ expect.Heard g)
 heard objects setting w (Gets event g) y (answer, is) = (event, g, refl, answer, is)
 heard objects setting w _ y never = absurd never
@@ -150,18 +152,51 @@ module _ (ex : Execution) where
               ),
             ))
 
-      -- a unit that asks
-      module _ {scope : Scope} {line at arg to : ℕ} {op : Instruction} (stands : Stands (parts_of ex) scope line at op arg to) (r : Request) (stack extra : List Obj) (last n event : ℕ) (ts : List Own)
-          (most : n ≤ c.limit) (low : c.low ≤ at) (high : to ≤ c.high)
-          (makes : (k p : ℕ) → act (setting_of ex) op arg (begun k p stack c.blocks now) ≡ Plainly (asks r (begun k p (extra ++ c.base) c.blocks now)))
+      -- a unit that calls an exit, and hears its answer, which leads behind it, with these values
+      module _ {scope : Scope} {line at arg to : ℕ} {op : Instruction} (stands : Stands (parts_of ex) scope line at op arg to) (e : Option PyBaseExceptionRef) (r : Obj → Obj → Obj → Request) (stack extra : List Obj)
+          (last n event : ℕ) (ts : List Own) (most : n ≤ c.limit) (low : c.low ≤ at) (high : to ≤ c.high)
+          (makes : (k p : ℕ) → act (setting_of ex) op arg (begun k p stack c.blocks now) ≡ Exits e (λ t v b. asks (r t v b) (begun k p (extra ++ c.base) c.blocks now)))
           (run : From ex n at last stack c.blocks now ts) where
+        pub exits_run : (behind : Obj → List Obj)
+            → ((k p : ℕ) (v : Obj) → answered op arg v (begun k p (extra ++ c.base) c.blocks now) ≡ Plainly (Goes (running (suc k) (suc k) 0 (behind v) c.blocks now)))
+            → ((v : Obj) (i : ℕ) → V (Given v) i [])
+            → ((v : Obj) (m i : ℕ) (us : List Own) → m < n → From ex m to to (behind v) c.blocks now us → V (Given v) i us)
+            → ((ts ≡ []) × V Stopped event [])
+            ⊎ ((t : Obj) × (v : Obj) × (b : Obj) × IsExit ex.objects e t v b × Requests (scene_of ex) line (r t v b) (handled_in None c.blocks) event ts V)
+        exits_run behind gives stops later =
+            stands_run ex stands (λ k p next. Exits e (λ t v b. asks (r t v b) (begun k p (extra ++ c.base) c.blocks now))) stack c.blocks now last n ts makes run
+            (λ none. inl (none, passes.stopped event))
+            (λ k p m from is_next less has_op of_line (done, (t, v, b, is_exit, same_step), step).
+            let (mid, is, waits) = step_left ex m (asks (r t v b) (begun k p (extra ++ c.base) c.blocks now)) ts (done, same_step, step) in
+            inr (
+              t,
+              v,
+              b,
+              is_exit,
+              inr (
+                k,
+                mid,
+                of_line,
+                is,
+                answered_run op arg k p (wanted (r t v b)) extra n most (omega (arith, low, from)) (omega (arith, high, is_next)) has_op (λ w i value. stops w i)
+                    (λ w j i us fewer value answer.
+                    let goes = step_left ex j (Goes (running (suc k) (suc k) 0 (behind w) c.blocks now)) us (subst (λ (move : Move). Left ex j move us) (gives k p w) answer) in
+                    later w j i us (omega (arith, fewer, less)) (subst (λ (to : ℕ). From ex j to to (behind w) c.blocks now us) is_next goes)) m event mid less waits,
+              ),
+            ))
+
+      -- a unit that asks, over whatever values and blocks
+      module _ {scope : Scope} {line at arg to : ℕ} {op : Instruction} (stands : Stands (parts_of ex) scope line at op arg to) (r : Request) (stack : List Obj) (blocks : List Block) (then : Now) (extra : List Obj)
+          (last n event : ℕ) (ts : List Own) (most : n ≤ c.limit) (low : c.low ≤ at) (high : to ≤ c.high)
+          (makes : (k p : ℕ) → act (setting_of ex) op arg (begun k p stack blocks then) ≡ Plainly (asks r (begun k p (extra ++ c.base) c.blocks now)))
+          (run : From ex n at last stack blocks then ts) where
         -- the unit asks, and hears its answer
-        pub asked_run : ((v : Obj) (i : ℕ) → IsValue ex.objects (wanted r) v → V (Given v) i [])
+        pub asked_over_run : ((v : Obj) (i : ℕ) → IsValue ex.objects (wanted r) v → V (Given v) i [])
             → ((v : Obj) (k p m i : ℕ) (us : List Own) → at ≤ k → suc k ≡ to → m < n → IsValue ex.objects (wanted r) v
             → Left ex m (answered op arg v (begun k p (extra ++ c.base) c.blocks now)) us → V (Given v) i us)
             → Requests (scene_of ex) line r (handled_in None c.blocks) event ts V
-        asked_run stops later =
-            stands_run ex stands (λ k p b. Plainly (asks r (begun k p (extra ++ c.base) c.blocks now))) stack c.blocks now last n ts makes run
+        asked_over_run stops later =
+            stands_run ex stands (λ k p b. Plainly (asks r (begun k p (extra ++ c.base) c.blocks now))) stack blocks then last n ts makes run
             (λ none. inl (none, passes.stopped event))
             (λ k p m from is_next less has_op of_line left.
             let (mid, is, waits) = step_left ex m (asks r (begun k p (extra ++ c.base) c.blocks now)) ts left in
@@ -171,8 +206,19 @@ module _ (ex : Execution) where
               of_line,
               is,
               answered_run op arg k p (wanted r) extra n most (omega (arith, low, from)) (omega (arith, high, is_next)) has_op stops
-                  (λ v j i us fewer value answer. later v k p j i us from is_next fewer value answer) m event mid less waits,
+                  (λ v j i us fewer value answer. later v k p j i us from is_next (omega (arith, fewer)) value answer) m event mid less waits,
             ))
+
+      -- a unit that asks
+      module _ {scope : Scope} {line at arg to : ℕ} {op : Instruction} (stands : Stands (parts_of ex) scope line at op arg to) (r : Request) (stack extra : List Obj) (last n event : ℕ) (ts : List Own)
+          (most : n ≤ c.limit) (low : c.low ≤ at) (high : to ≤ c.high)
+          (makes : (k p : ℕ) → act (setting_of ex) op arg (begun k p stack c.blocks now) ≡ Plainly (asks r (begun k p (extra ++ c.base) c.blocks now)))
+          (run : From ex n at last stack c.blocks now ts) where
+        pub asked_run : ((v : Obj) (i : ℕ) → IsValue ex.objects (wanted r) v → V (Given v) i [])
+            → ((v : Obj) (k p m i : ℕ) (us : List Own) → at ≤ k → suc k ≡ to → m < n → IsValue ex.objects (wanted r) v
+            → Left ex m (answered op arg v (begun k p (extra ++ c.base) c.blocks now)) us → V (Given v) i us)
+            → Requests (scene_of ex) line r (handled_in None c.blocks) event ts V
+        asked_run stops later = asked_over_run stands r stack c.blocks now extra last n event ts most low high makes run stops later
 
         -- the same where the answer leads behind it, with these values
         pub asked_once_run : (behind : Obj → List Obj)

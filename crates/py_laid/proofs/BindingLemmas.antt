@@ -2,7 +2,7 @@
 use Rattle.std.proofs.Common.{◌≤◌, List, [], ◌∷◌, ◌++◌, Bool, true, false, cond, Some, None, refl, sym, ap, ◌∙◌, length, length-append, append-nil, append_assoc, arith}
 use Rattle.std.specs.Prelude.{Option, bytes_eq}
 use Rattle.std.specs.List.{list_any}
-use Rattle.py_tree.specs.Tree.{Name, Form, Assign, If, IfElse, While, TryExcept, TryFinally, Suite, nothing, first, Clauses, no_more, clause}
+use Rattle.py_tree.specs.Tree.{Name, Form, Assign, If, IfElse, While, TryExcept, TryFinally, With, Suite, nothing, first, Clauses, no_more, clause}
 use Rattle.py_tree.specs.Binding.{bound, bound_if, bound_in, bound_by, bound_under}
 use Rattle.py_laid.specs.Fits.{Continues}
 
@@ -31,6 +31,7 @@ mutual
   Continues-bound_in (While a s) names = Continues-bound_by s names
   Continues-bound_in (TryExcept s cs) names = Continues-trans names (bound_by names s) _ (Continues-bound_by s names) (Continues-bound_under cs (bound_by names s))
   Continues-bound_in (TryFinally s t) names = Continues-trans names (bound_by names s) _ (Continues-bound_by s names) (Continues-bound_by t (bound_by names s))
+  Continues-bound_in (With a x s) names = Continues-trans names (bound_if names x) _ (Continues-bound_if names x) (Continues-bound_by s (bound_if names x))
   Continues-bound_in f names = Continues-refl names
 
   pub Continues-bound_by : (s : Suite) (names : List Name) → Continues names (bound_by names s)

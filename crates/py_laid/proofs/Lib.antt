@@ -25,6 +25,8 @@ mod Plain
 mod Looping
 -- tries with a finally
 mod Trying
+-- managers
+mod Managing
 -- tries with clauses
 mod Clauses
 -- every form

@@ -12,9 +12,9 @@ use Rattle.py_tree.specs.declared.expr.Expr.{Expr}
 use Rattle.py_tree.specs.declared.expr.Expr.TheVariants as expr
 use Rattle.py_tree.specs.declared.expr.Operation.{Operation}
 use Rattle.py_tree.specs.declared.expr.Operation.TheVariants as operation
-use Rattle.py_tree.specs.Tree.{Name, Form, Assign, Do, Show, Return, Raise, Reraise, Break, Continue, Pass, If, IfElse, While, TryExcept, TryFinally, Suite, nothing, first, Clauses, no_more, clause}
+use Rattle.py_tree.specs.Tree.{Name, Form, Assign, Do, Show, Return, Raise, Reraise, Break, Continue, Pass, If, IfElse, While, TryExcept, TryFinally, With, Suite, nothing, first, Clauses, no_more, clause}
 use Rattle.py_laid.specs.Code.{Parts, Around, Scope, on, in_loop, in_try, in_clauses, in_finally, before_finally, Stands, LaidName, LaidAtom, LaidAtoms, LaidTwo, LaidOperation}
-use Rattle.py_laid.specs.Code.{LaidExpr, LaidTarget, LaidBreak, LaidContinue, LaidForget, LaidFinally, LaidHandler, LaidForm, LaidSuite, LaidClauses}
+use Rattle.py_laid.specs.Code.{LaidExpr, LaidTarget, LaidBreak, LaidContinue, LaidForget, LaidFinally, LaidWith, LaidHandler, LaidForm, LaidSuite, LaidClauses}
 use Rattle.py_laid.proofs.UnitLemmas.{decoded_is}
 
 -- a unit lies in front of the place behind it
@@ -107,6 +107,22 @@ module _ (parts : Parts) where
       finally_bound scope line body (λ within handler ends. LaidForget parts within line x handler ends) at next inner
       (λ within from to forget. let low = forget_bound within line x from to forget in omega (arith, low)) laid
 
+  -- the places of a with
+  with_bound : (scope : Scope) (line : ℕ) (a : Atom) (x : Option Name) (body : Scope → ℕ → ℕ → Type 0) (at next : ℕ) → ((within : Scope) (from to : ℕ) → body within from to → from ≤ to)
+      → LaidWith parts scope line a x body at next → at ≤ next
+  with_bound scope line a x body at next inner (sets, binds, begins, leaves, enters, handler, ends, load, set_up, bind, suite, pops, enter, starts, finishes) =
+      omega (
+        arith,
+        atom_bound scope line a at sets load,
+        stands_bound set_up,
+        target_bound (before_finally handler (on scope)) line x binds begins bind,
+        inner (before_finally handler (on scope)) begins leaves suite,
+        stands_bound pops,
+        stands_bound enter,
+        stands_bound starts,
+        stands_bound finishes,
+      )
+
   mutual
     -- statements, and suites and clauses
     pub form_bound : (scope : Scope) (f : Form) (line at next : ℕ) → LaidForm parts scope line f at next → at ≤ next
@@ -137,6 +153,8 @@ module _ (parts : Parts) where
     form_bound scope (TryFinally s t) line at next laid =
         finally_bound scope line (λ within begins leaves. LaidSuite parts within s begins leaves) (λ within handler ends. LaidSuite parts within t handler ends) at next
         (λ within from to suite. suite_bound within s from to suite) (λ within from to suite. suite_bound within t from to suite) laid
+    form_bound scope (With a x s) line at next laid =
+        with_bound scope line a x (λ within begins leaves. LaidSuite parts within s begins leaves) at next (λ within from to suite. suite_bound within s from to suite) laid
 
     pub suite_bound : (scope : Scope) (s : Suite) (at next : ℕ) → LaidSuite parts scope s at next → at ≤ next
     suite_bound scope nothing at next same = omega (arith, same)

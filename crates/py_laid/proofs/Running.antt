@@ -2,9 +2,9 @@
 -- around from a scope; the real stack and blocks are those of the context.
 use Rattle.std.proofs.Common.{◌≤◌, ℕ}
 use Rattle.py_objects.specs.declared.refs.PyBaseExceptionRef.{PyBaseExceptionRef}
-use Rattle.py_tree.specs.Tree.{Form, Assign, Do, Show, Return, Raise, Reraise, Break, Continue, Pass, If, IfElse, While, TryExcept, TryFinally, Suite, nothing, first, Clauses, no_more, clause}
+use Rattle.py_tree.specs.Tree.{Form, Assign, Do, Show, Return, Raise, Reraise, Break, Continue, Pass, If, IfElse, While, TryExcept, TryFinally, With, Suite, nothing, first, Clauses, no_more, clause}
 use Rattle.py_tree.specs.Outcome.{Normal, Handled, Runs, RunsSuite}
-use Rattle.py_laid.specs.Code.{Scope, in_loop, in_try, in_clauses, in_finally, before_finally, LaidForm, LaidSuite, LaidClauses}
+use Rattle.py_laid.specs.Code.{Scope, in_loop, in_try, in_clauses, in_finally, before_finally, on, LaidForm, LaidSuite, LaidClauses}
 use Rattle.py_laid.proofs.Decoding.{Execution, TellsFrom, parts_of, scene_of}
 use Rattle.py_laid.proofs.Places.{form_bound, suite_bound, handler_bound, clauses_bound}
 use Rattle.py_laid.proofs.Lands.{Context, RunsFrom}
@@ -13,6 +13,7 @@ use Rattle.py_laid.proofs.Units.{suite_pauses, clause_pauses}
 use Rattle.py_laid.proofs.Plain.{assign_run, do_run, show_run, return_run, raise_run, reraise_run, pass_run, break_run, continue_run, branch_run, if_else_run, nothing_run, first_run}
 use Rattle.py_laid.proofs.Looping.{while_run}
 use Rattle.py_laid.proofs.Trying.{finally_run, handler_suite_run}
+use Rattle.py_laid.proofs.Managing.{with_run}
 use Rattle.py_laid.proofs.Clauses.{TriesFrom, no_more_run, clause_run, except_run}
 
 module _ (ex : Execution) where
@@ -40,6 +41,10 @@ module _ (ex : Execution) where
         (λ within from upto suite. suite_bound (parts_of ex) within s from upto suite) (λ within from upto suite. suite_bound (parts_of ex) within t from upto suite)
         (suite_pauses ex s) (suite_pauses ex t)
         (λ handler from upto suite. suite_run s (before_finally handler scope) from upto suite) (λ from upto suite. suite_run t (in_finally scope) from upto suite) laid
+    form_run (With a x s) scope line at to laid =
+        with_run ex scope.around scope line at to a x (RunsSuite (scene_of ex) s) (λ within begins leaves. LaidSuite (parts_of ex) within s begins leaves)
+        (λ within from upto suite. suite_bound (parts_of ex) within s from upto suite) (suite_pauses ex s)
+        (λ handler from upto suite. suite_run s (before_finally handler (on scope)) from upto suite) laid
 
     -- a run of the code of statements tells what they may tell
     pub suite_run : (s : Suite) (scope : Scope) (at to : ℕ) → LaidSuite (parts_of ex) scope s at to → RunsFrom ex scope.around at to (RunsSuite (scene_of ex) s)

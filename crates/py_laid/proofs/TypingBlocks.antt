@@ -1,14 +1,14 @@
 -- Scopes in which statements may stand, inside of blocks too: what a break or a continue finds there.
 -- The units that open, close and leave blocks keep the typing rules.
-use Rattle.std.proofs.Common.{◌≡◌, ◌+◌, ℕ, suc, List, [], ◌∷◌, Bool, true, false, ◌||◌, Some, None, refl, sym, ap, ◌∙◌, subst, length, arith}
+use Rattle.std.proofs.Common.{◌≤◌, ◌≡◌, ◌+◌, ℕ, suc, List, [], ◌∷◌, Bool, true, false, ◌||◌, Some, None, refl, sym, ap, ◌∙◌, subst, length, arith}
 use Rattle.std.specs.Prelude.{Option, slice_get}
 use Rattle.std.specs.List.{list_all}
-use Rattle.std.proofs.lemmas.Bool.{and_from, le-leb, eq-eqb}
+use Rattle.std.proofs.lemmas.Bool.{and_from, le-leb, lt-ltb, eq-eqb}
 use Rattle.py_code.specs.Bottom.{bottom}
 use Rattle.py_code.specs.declared.instruction.Instruction.{Instruction}
 use Rattle.py_code.specs.declared.instruction.Instruction.TheVariants as op
 use Rattle.py_check.specs.declared.note.Kind.{Kind}
-use Rattle.py_check.specs.declared.note.Kind.TheVariants.{Exc}
+use Rattle.py_check.specs.declared.note.Kind.TheVariants.{Any, Exc}
 use Rattle.py_check.specs.declared.note.Pending.{Pending}
 use Rattle.py_check.specs.declared.note.Pending.TheVariants as pending
 use Rattle.py_check.specs.declared.note.BlockNote.{BlockNote}
@@ -17,13 +17,13 @@ use Rattle.py_check.specs.declared.note.Note.{Note}
 use Rattle.py_check.specs.declared.note.Note.TheVariants.{Live}
 use Rattle.py_check.specs.Notes.{level_of, pending_of, is_subset, blocks_fit}
 use Rattle.py_check.specs.Operands.{is_label}
-use Rattle.py_check.specs.Landing.{levels_nest, goes_on, handler_lands}
+use Rattle.py_check.specs.Landing.{levels_nest, goes_on, handler_lands, top_level}
 use Rattle.py_check.specs.Leaving.{lets_wait, walks}
 use Rattle.py_check.specs.Typing.{opens, keeps_op}
 use Rattle.py_laid.specs.Code.{Labels, Around, Scope, on, inside, in_loop, in_try, in_clauses, before_finally, leaving, in_finally, Stands, LaidBreak, LaidContinue}
-use Rattle.py_laid.proofs.NoteLemmas.{kinds_of, length-kinds_of, length-bottom, block_fits-self, block_fits-none, leaving_fits}
-use Rattle.py_laid.proofs.TypingUnits.{Noted, parts_of, Free, In, Safe, goes, labels, jumps_to}
-use Rattle.py_laid.proofs.TypingLoads.{Typed, unit_typed, goes_as}
+use Rattle.py_laid.proofs.NoteLemmas.{kinds_of, length-kinds_of, length-bottom, top_level-low, block_fits-self, block_fits-none, leaving_fits}
+use Rattle.py_laid.proofs.TypingUnits.{Noted, parts_of, Free, In, Safe, safe_on, goes, labels, jumps_to}
+use Rattle.py_laid.proofs.TypingLoads.{Typed, unit_typed, takes_one, goes_as}
 
 module _ (code : Noted) where
   -- a jump finds its way, whatever the entries are
@@ -93,11 +93,11 @@ module _ (code : Noted) where
   }
 
   -- a jump that leaves the body of a finally waits in it
-  walk_waits : (around : Around) (depth level handler : ℕ) (above : List Kind) (blocks outer : List BlockNote) → Walks around depth outer
+  walk_waits : (around : Around) (under depth level handler : ℕ) (above : List Kind) (blocks outer : List BlockNote) → Walks around under outer
       → slice_get code.sheet.notes handler ≡ Some (Live above (FinallyHandler level (leaving around) ∷ outer))
       → ((p : Pending) (kinds : List Kind) → walks code.sheet p kinds blocks ≡ lets_wait (slice_get code.sheet.notes handler) p) → Walks around depth blocks
-  walk_waits None depth level handler above blocks outer walk note past = tt
-  walk_waits (Some l) depth level handler above blocks outer (label, label_again, stop, again) note past = (
+  walk_waits None under depth level handler above blocks outer walk note past = tt
+  walk_waits (Some l) under depth level handler above blocks outer (label, label_again, stop, again) note past = (
     label,
     label_again,
     λ kinds long. past (pending.Break l.stop) kinds ∙ ap (λ (o : Option Note). lets_wait o (pending.Break l.stop)) note
@@ -115,7 +115,19 @@ module _ (code : Noted) where
   fine_guarded scope handler fine there = record {
     safe = safe_inside (Finally scope.depth handler) scope fine.safe refl
         (λ kinds long. jumps_to code (in_finally scope) kinds (FinallyHandler scope.depth [] ∷ scope.blocks) handler there long (waits_for_none scope fine.safe)) refl;
-    walk = walk_waits scope.around scope.depth scope.depth handler (kinds_of scope) (before_finally handler scope).blocks scope.blocks fine.walk there.note (λ p kinds. refl);
+    walk = walk_waits scope.around scope.depth scope.depth scope.depth handler (kinds_of scope) (before_finally handler scope).blocks scope.blocks fine.walk there.note (λ p kinds. refl);
+  }
+
+  -- the exit of a manager that lies on the stack
+  pub safe_exit : (scope : Scope) → Safe code scope → Safe code (in_finally (on scope))
+  safe_exit scope safe = safe_inside (FinallyHandler (suc scope.depth) (leaving scope.around)) (on scope) (safe_on code scope safe) refl (λ kinds long. refl) (leaving_fits scope.around)
+
+  -- the body of a with, over a manager, which is noted at its exit
+  pub fine_managed : (scope : Scope) (handler : ℕ) → Fine scope → In code (in_finally (on scope)) handler → Fine (before_finally handler (on scope))
+  fine_managed scope handler fine there = record {
+    safe = safe_inside (Finally (suc scope.depth) handler) (on scope) (safe_on code scope fine.safe) refl
+        (λ kinds long. jumps_to code (in_finally (on scope)) kinds (FinallyHandler (suc scope.depth) [] ∷ scope.blocks) handler there long (waits_for_none (on scope) (safe_on code scope fine.safe))) refl;
+    walk = walk_waits scope.around scope.depth (suc scope.depth) (suc scope.depth) handler (kinds_of (on scope)) (before_finally handler (on scope)).blocks scope.blocks fine.walk there.note (λ p kinds. refl);
   }
 
   -- a loop, where what stands behind it and its test are noted
@@ -159,6 +171,42 @@ module _ (code : Noted) where
       unit_typed code (Safe code scope) scope (in_finally scope) line at 0 next op.EnterFinally stands free (λ safe. safe)
       (λ safe there k is_next. ap (λ (n : ℕ). goes_on code.sheet (k + 1) (kinds_of scope) (FinallyHandler n [] ∷ scope.blocks)) (length-kinds_of scope)
       ∙ goes code (in_finally scope) (kinds_of scope) (FinallyHandler scope.depth [] ∷ scope.blocks) k next is_next there (length-kinds_of scope) (waits_for_none scope safe))
+
+  -- a manager is entered: its exit stays under the block of the body, and the answer lies there
+  pub with_opens : (scope : Scope) (line at handler next : ℕ) → Stands (parts_of code) (on scope) line at op.SetupWith handler next → Free code at
+      → Typed code (Safe code scope × Safe code (before_finally handler (on scope)) × In code (in_finally (on scope)) handler) (on scope) (on (before_finally handler (on scope))) at next
+  with_opens scope line at handler next stands free =
+      unit_typed code (Safe code scope × Safe code (before_finally handler (on scope)) × In code (in_finally (on scope)) handler) (on scope) (on (before_finally handler (on scope)))
+      line at handler next op.SetupWith stands free (λ holds. safe_on code scope holds.0)
+      (λ (safe, inner, enters) there k is_next.
+      takes_one code scope safe (λ rest. opens code.sheet k handler (Any ∷ Any ∷ rest) (Finally (suc (length rest)) handler ∷ scope.blocks))
+      (and_from _ _ (labels code (in_finally (on scope)) handler enters)
+      (ap (λ (n : ℕ). goes_on code.sheet (k + 1) (Any ∷ Any ∷ kinds_of scope) (Finally (suc n) handler ∷ scope.blocks)) (length-kinds_of scope)
+      ∙ goes_as code (on (before_finally handler (on scope))) (safe_on code (before_finally handler (on scope)) inner) (Any ∷ Any ∷ kinds_of scope) k next is_next there
+      (ap suc (ap suc (length-kinds_of scope))))))
+
+  -- its exit is called
+  pub cleanup_starts : (scope : Scope) (line at next : ℕ) → Stands (parts_of code) (in_finally (on scope)) line at op.WithCleanupStart 0 next → Free code at
+      → Typed code (Fine scope) (in_finally (on scope)) (on (in_finally (on scope))) at next
+  cleanup_starts scope line at next stands free =
+      unit_typed code (Fine scope) (in_finally (on scope)) (on (in_finally (on scope))) line at 0 next op.WithCleanupStart stands free (λ fine. safe_exit scope fine.safe)
+      (λ fine there k is_next.
+      let long : length (kinds_of (in_finally (on scope))) ≡ suc scope.depth = length-kinds_of (in_finally (on scope)) in
+      let low : top_level scope.blocks ≤ scope.depth = top_level-low scope.depth scope.blocks fine.safe.nest in
+      and_from _ _ (and_from _ _ (and_from _ _ refl (eq-eqb _ _ long)) (lt-ltb _ _ (omega (arith, low))))
+      (goes_as code (on (in_finally (on scope))) (safe_on code (in_finally (on scope)) (safe_exit scope fine.safe)) (Any ∷ kinds_of (in_finally (on scope))) k next is_next there (ap suc long)))
+
+  -- and control goes on, or each jump that waits finds its way
+  pub cleanup_ends : (scope : Scope) (line at next : ℕ) → Stands (parts_of code) (on (in_finally (on scope))) line at op.WithCleanupFinish 0 next → Free code at
+      → Typed code (Fine scope) (on (in_finally (on scope))) scope at next
+  cleanup_ends scope line at next stands free =
+      unit_typed code (Fine scope) (on (in_finally (on scope))) scope line at 0 next op.WithCleanupFinish stands free (λ fine. safe_on code (in_finally (on scope)) (safe_exit scope fine.safe))
+      (λ fine there k is_next.
+      let long : length (kinds_of (on (in_finally (on scope)))) ≡ suc (suc scope.depth) = length-kinds_of (on (in_finally (on scope))) in
+      let low : top_level scope.blocks ≤ scope.depth = top_level-low scope.depth scope.blocks fine.safe.nest in
+      and_from _ _ (and_from _ _ (eq-eqb _ _ long) (lt-ltb _ _ (omega (arith, low))))
+      (and_from _ _ (and_from _ _ refl (goes_as code scope fine.safe (kinds_of scope) k next is_next there (length-kinds_of scope)))
+      (all_walk scope.around scope.depth (kinds_of scope) scope.blocks fine.walk (length-kinds_of scope))))
 
   -- ---- blocks are closed
 

@@ -11,14 +11,14 @@ use Rattle.py_check.specs.Landing.{top_level}
 use Rattle.py_check.specs.Taking.{may_move}
 use Rattle.py_tree.specs.declared.expr.Atom.{Atom}
 use Rattle.py_tree.specs.declared.expr.Atom.TheVariants as atom
-use Rattle.py_tree.specs.Tree.{Name, Form, Assign, Do, Show, Return, Raise, Reraise, Break, Continue, Pass, If, IfElse, While, TryExcept, TryFinally, Suite, nothing, first, Clauses, no_more, clause}
-use Rattle.py_laid.specs.Code.{Scope, on, in_loop, in_try, in_clauses, before_finally, in_finally, place, Stands, LaidTaken, LaidForget, LaidFinally, LaidHandler, LaidBranch, LaidForm, LaidSuite, LaidClauses}
+use Rattle.py_tree.specs.Tree.{Name, Form, Assign, Do, Show, Return, Raise, Reraise, Break, Continue, Pass, If, IfElse, While, TryExcept, TryFinally, With, Suite, nothing, first, Clauses, no_more, clause}
+use Rattle.py_laid.specs.Code.{Scope, on, in_loop, in_try, in_clauses, before_finally, in_finally, place, Stands, LaidTaken, LaidForget, LaidFinally, LaidWith, LaidHandler, LaidBranch, LaidForm, LaidSuite, LaidClauses}
 use Rattle.py_laid.proofs.NoteLemmas.{kinds_of, length-kinds_of, top_level-low}
 use Rattle.py_laid.proofs.TypingUnits.{Noted, parts_of, Free, In, Safe, safe_on, Asks, keeps_then}
 use Rattle.py_laid.proofs.TypingLoads.{Typed, joined, typed_by, nothing_typed, unit_typed, goes_as, takes_one, taken_on, has_local, answer_typed}
 use Rattle.py_laid.proofs.TypingLoads.{JumpsBy, none_typed, atom_typed, operation_typed, expr_typed, target_typed, test_typed, jump_typed}
-use Rattle.py_laid.proofs.TypingBlocks.{Fine, fine_finally, fine_clauses, fine_try, fine_guarded, fine_loop}
-use Rattle.py_laid.proofs.TypingBlocks.{loop_opens, block_opens, finally_begins, block_closes, finally_ends, break_typed, continue_typed}
+use Rattle.py_laid.proofs.TypingBlocks.{Fine, fine_managed, fine_finally, fine_clauses, fine_try, fine_guarded, fine_loop}
+use Rattle.py_laid.proofs.TypingBlocks.{loop_opens, block_opens, with_opens, cleanup_starts, cleanup_ends, finally_begins, block_closes, finally_ends, break_typed, continue_typed}
 
 module _ (code : Noted) where
   -- a scope in which statements may stand is safe
@@ -87,6 +87,40 @@ module _ (code : Noted) where
   handler_typed None scope line suite at next inner laid free = inner scope at next laid free
   handler_typed (Some x) scope line suite at next inner laid free =
       finally_typed scope line suite (λ within handler ends. LaidForget (parts_of code) within line x handler ends) at next inner (forget_typed line x) laid free
+
+  -- a with keeps them if its body does
+  with_typed : (scope : Scope) (line : ℕ) (a : Atom) (x : Option Name) (body : Scope → ℕ → ℕ → Type 0) (at next : ℕ) → Types body → LaidWith (parts_of code) scope line a x body at next → Free code at
+      → Typed code (Fine code scope) scope scope at next
+  with_typed scope line a x body at next inner (sets, binds, begins, leaves, enters, handler, ends, load, set_up, bind, suite, pops, enter, starts, finishes) free =
+      let under : Scope = on scope in
+      let front = atom_typed code scope line a at sets load free in
+      let opened = with_opens code scope line sets handler binds set_up front.free in
+      let bound = target_typed code (before_finally handler under) line x binds begins bind opened.free in
+      let within = inner (before_finally handler under) begins leaves suite bound.free in
+      let closed = block_closes code under (before_finally handler under) line leaves enters op.PopBlock (λ k. refl) pops within.free in
+      let begun = finally_begins code under line enters handler enter closed.free in
+      let started = cleanup_starts code scope line handler ends starts begun.free in
+      let ended = cleanup_ends code scope line ends next finishes started.free in
+      record {
+        free = ended.free;
+        enters = λ there. front.enters (opened.enters (bound.enters (within.enters (closed.enters (begun.enters (started.enters (ended.enters there)))))));
+        kept = λ fine there.
+            let in_ends = ended.enters there in
+            let in_handler = started.enters in_ends in
+            let in_enters = begun.enters in_handler in
+            let in_leaves = closed.enters in_enters in
+            let in_begins = within.enters in_leaves in
+            let in_binds = bound.enters in_begins in
+            let over = safe_on code scope fine.safe in
+            let guarded = fine_managed code scope handler fine in_handler in
+            keeps_then code at sets next (front.kept fine.safe (opened.enters in_binds))
+            (keeps_then code sets binds next (opened.kept (fine.safe, guarded.safe, in_handler) in_binds)
+            (keeps_then code binds begins next (bound.kept guarded.safe in_begins)
+            (keeps_then code begins leaves next (within.kept guarded in_leaves)
+            (keeps_then code leaves enters next (closed.kept (over, guarded.safe) in_enters)
+            (keeps_then code enters handler next (begun.kept over in_handler)
+            (keeps_then code handler ends next (started.kept fine in_ends) (ended.kept fine there)))))));
+      }
 
   -- an atom, and the unit that takes it
   taken_typed : (scope : Scope) (line : ℕ) (a : Atom) (i : Instruction) (arg at next : ℕ) → ((safe : Safe code scope) → In code scope next → Asks code (on scope) (safe_on code scope safe) i arg next)
@@ -196,6 +230,8 @@ module _ (code : Noted) where
     form_typed (TryFinally s t) scope line at next laid free =
         finally_typed scope line (λ within begins leaves. LaidSuite (parts_of code) within s begins leaves) (λ within handler ends. LaidSuite (parts_of code) within t handler ends) at next
         (λ within from to suite free1. suite_typed s within from to suite free1) (λ within from to suite free1. suite_typed t within from to suite free1) laid free
+    form_typed (With a x s) scope line at next laid free =
+        with_typed scope line a x (λ within begins leaves. LaidSuite (parts_of code) within s begins leaves) at next (λ within from to suite free1. suite_typed s within from to suite free1) laid free
 
     -- statements in order
     pub suite_typed : (s : Suite) (scope : Scope) (at next : ℕ) → LaidSuite (parts_of code) scope s at next → Free code at → Typed code (Fine code scope) scope scope at next

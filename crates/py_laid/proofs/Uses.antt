@@ -19,10 +19,10 @@ use Rattle.py_tree.specs.declared.expr.Expr.{Expr}
 use Rattle.py_tree.specs.declared.expr.Expr.TheVariants as expr
 use Rattle.py_tree.specs.declared.expr.Operation.{Operation}
 use Rattle.py_tree.specs.declared.expr.Operation.TheVariants as operation
-use Rattle.py_tree.specs.Tree.{Name, Form, Assign, Do, Show, Return, Raise, Reraise, Break, Continue, Pass, If, IfElse, While, TryExcept, TryFinally, Suite, nothing, first, Clauses, no_more, clause, Tree}
+use Rattle.py_tree.specs.Tree.{Name, Form, Assign, Do, Show, Return, Raise, Reraise, Break, Continue, Pass, If, IfElse, While, TryExcept, TryFinally, With, Suite, nothing, first, Clauses, no_more, clause, Tree}
 use Rattle.py_tree.specs.Binding.{locals_of}
 use Rattle.py_laid.specs.Code.{Parts, Around, Scope, on, over, in_loop, in_try, in_clauses, before_finally, in_finally, Stands, LaidName, LaidAtom, LaidAtoms, LaidTaken, LaidTwo, LaidOperation, LaidExpr, LaidTarget}
-use Rattle.py_laid.specs.Code.{LaidBreak, LaidContinue, LaidForget, LaidFinally, LaidHandler, LaidForm, LaidSuite, LaidClauses, LaidBody, parts_with}
+use Rattle.py_laid.specs.Code.{LaidBreak, LaidContinue, LaidForget, LaidFinally, LaidWith, LaidHandler, LaidForm, LaidSuite, LaidClauses, LaidBody, parts_with}
 use Rattle.py_laid.specs.Instructions.{is_compiled_raise, test_of, is_compiled_test, is_compiled}
 use Rattle.py_laid.specs.Laws.{LaidCodeIsCompiled}
 use Rattle.py_laid.proofs.UnitLemmas.{slice_get-drop, Some-injective, prefix_is, decoded_is, decoded_as}
@@ -165,6 +165,19 @@ module _ (parts : Parts) where
   handler_uses scope line (Some x) suite at next used laid =
       finally_uses scope line suite (λ within handler ends. LaidForget parts within line x handler ends) at next used (λ within from to. forget_uses within line x from to) laid
 
+  -- a with, where the code of its body is such
+  with_uses : (scope : Scope) (line : ℕ) (a : Atom) (x : Option Name) (body : Scope → ℕ → ℕ → Type 0) (at next : ℕ)
+      → ((within : Scope) (from to : ℕ) → body within from to → Uses from to) → LaidWith parts scope line a x body at next → Uses at next
+  with_uses scope line a x body at next used (sets, binds, begins, leaves, enters, handler, ends, load, set_up, bind, suite, pops, enter, starts, finishes) =
+      let within : Scope = before_finally handler (on scope) in
+      uses_then at sets next (atom_uses scope line a at sets load)
+      (uses_then sets binds next (stands_uses (on scope) line sets handler binds _ set_up refl)
+      (uses_then binds begins next (target_uses within line x binds begins bind)
+      (uses_then begins leaves next (used within begins leaves suite)
+      (uses_then leaves enters next (stands_uses within line leaves 0 enters _ pops refl)
+      (uses_then enters handler next (stands_uses (on scope) line enters 0 handler _ enter refl)
+      (uses_then handler ends next (stands_uses (in_finally (on scope)) line handler 0 ends _ starts refl) (stands_uses (on (in_finally (on scope))) line ends 0 next _ finishes refl)))))))
+
   mutual
     form_uses : (f : Form) (scope : Scope) (line at next : ℕ) → LaidForm parts scope line f at next → Uses at next
     form_uses (Assign x e) scope line at next (stores, laid, store) =
@@ -196,6 +209,7 @@ module _ (parts : Parts) where
         (uses_then jumps handler next (stands_uses scope line jumps next handler _ leave refl) (clauses_uses cs scope line handler next clauses))))
     form_uses (TryFinally s t) scope line at next laid =
         finally_uses scope line _ _ at next (λ within from to. suite_uses s within from to) (λ within from to. suite_uses t within from to) laid
+    form_uses (With a x s) scope line at next laid = with_uses scope line a x _ at next (λ within from to. suite_uses s within from to) laid
 
     suite_uses : (s : Suite) (scope : Scope) (at next : ℕ) → LaidSuite parts scope s at next → Uses at next
     suite_uses nothing scope at next is_at = uses_none at next is_at

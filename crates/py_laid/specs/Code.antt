@@ -34,7 +34,7 @@ use Rattle.py_tree.specs.declared.expr.Expr.{Expr}
 use Rattle.py_tree.specs.declared.expr.Expr.TheVariants as expr
 use Rattle.py_tree.specs.declared.expr.Operation.{Operation}
 use Rattle.py_tree.specs.declared.expr.Operation.TheVariants as operation
-use Rattle.py_tree.specs.Tree.{Name, Form, Assign, Do, Show, Return, Raise, Reraise, Break, Continue, Pass, If, IfElse, While, TryExcept, TryFinally, Suite, nothing, first}
+use Rattle.py_tree.specs.Tree.{Name, Form, Assign, Do, Show, Return, Raise, Reraise, Break, Continue, Pass, If, IfElse, While, TryExcept, TryFinally, With, Suite, nothing, first}
 use Rattle.py_tree.specs.Tree.{Clauses, no_more, clause, Tree, seen_as}
 use Rattle.py_tree.specs.Binding.{locals_of}
 
@@ -222,6 +222,16 @@ module _ (parts : Parts) where
       × body (before_finally handler scope) begins leaves × Stands (before_finally handler scope) line leaves op.PopBlock 0 enters
       × Stands scope line enters op.EnterFinally 0 handler × final (in_finally scope) handler ends × Stands (in_finally scope) line ends op.EndFinally 0 next
 
+  -- a with of this line, whose manager is its exit too, and stays under the block of the body: `body` says, by a scope, from which place to which the
+  -- code of the body stands
+  abbrev pub LaidWith : Scope → ℕ → Atom → Option Name → (Scope → ℕ → ℕ → Type 0) → ℕ → ℕ → Type 0
+  LaidWith scope line a x body at next =
+      (sets : ℕ) × (binds : ℕ) × (begins : ℕ) × (leaves : ℕ) × (enters : ℕ) × (handler : ℕ) × (ends : ℕ) × LaidAtom scope line a at sets
+      × Stands (on scope) line sets op.SetupWith handler binds × LaidTarget (before_finally handler (on scope)) line x binds begins
+      × body (before_finally handler (on scope)) begins leaves × Stands (before_finally handler (on scope)) line leaves op.PopBlock 0 enters
+      × Stands (on scope) line enters op.EnterFinally 0 handler × Stands (in_finally (on scope)) line handler op.WithCleanupStart 0 ends
+      × Stands (on (in_finally (on scope))) line ends op.WithCleanupFinish 0 next
+
   -- the suite of a clause of this line: a name that it binds is forgotten at the end
   abbrev pub LaidHandler : Scope → ℕ → Option Name → (Scope → ℕ → ℕ → Type 0) → ℕ → ℕ → Type 0
   LaidHandler scope line None suite at next = suite scope at next
@@ -264,6 +274,7 @@ module _ (parts : Parts) where
         × Stands (in_try handler scope) line leaves op.PopBlock 0 jumps × Stands scope line jumps op.Jump next handler × LaidClauses scope line cs handler next
     LaidForm scope line (TryFinally s t) at next =
         LaidFinally scope line (λ within begins leaves. LaidSuite within s begins leaves) (λ within handler ends. LaidSuite within t handler ends) at next
+    LaidForm scope line (With a x s) at next = LaidWith scope line a x (λ within begins leaves. LaidSuite within s begins leaves) at next
 
     -- the code of statements
     pub LaidSuite : Scope → Suite → ℕ → ℕ → Type 0

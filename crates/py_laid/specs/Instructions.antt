@@ -4,8 +4,8 @@ use Rattle.py_code.specs.declared.code.PyCode.{PyCode}
 use Rattle.py_code.specs.declared.unit.CodeUnit.{CodeUnit}
 use Rattle.py_code.specs.declared.instruction.Instruction.{Instruction}
 use Rattle.py_code.specs.declared.instruction.Instruction.TheVariants.{LoadConst, LoadFast, StoreFast, DeleteFast, LoadGlobal, Pop, Duplicate, BinaryOperation, CompareOperation, TestOperation}
-use Rattle.py_code.specs.declared.instruction.Instruction.TheVariants.{CallFunctionPositional, PrintExpr, Jump, JumpIfFalse, SetupLoop, SetupExcept, SetupFinally, EnterFinally, EndFinally}
-use Rattle.py_code.specs.declared.instruction.Instruction.TheVariants.{PopBlock, PopException, Raise, Break, Continue, YieldValue, ReturnValue, ReturnConst, ExtendedArg}
+use Rattle.py_code.specs.declared.instruction.Instruction.TheVariants.{CallFunctionPositional, PrintExpr, Jump, JumpIfFalse, SetupLoop, SetupExcept, SetupFinally, EnterFinally, EndFinally, SetupWith}
+use Rattle.py_code.specs.declared.instruction.Instruction.TheVariants.{WithCleanupStart, WithCleanupFinish, PopBlock, PopException, Raise, Break, Continue, YieldValue, ReturnValue, ReturnConst, ExtendedArg}
 use Rattle.py_code.specs.declared.operator.TestOperator.{TestOperator}
 use Rattle.py_code.specs.declared.operator.TestOperator.TheVariants as test
 use Rattle.py_code.specs.declared.operator.RaiseKind.{RaiseKind}
@@ -49,6 +49,9 @@ is_compiled SetupExcept arg = true
 is_compiled SetupFinally arg = true
 is_compiled EnterFinally arg = true
 is_compiled EndFinally arg = true
+is_compiled SetupWith arg = true
+is_compiled WithCleanupStart arg = true
+is_compiled WithCleanupFinish arg = true
 is_compiled PopBlock arg = true
 is_compiled PopException arg = true
 is_compiled Raise arg = is_compiled_raise (raise_of arg)

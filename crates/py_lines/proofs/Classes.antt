@@ -29,11 +29,14 @@ keyword_class keyword.End = Ends
 keyword_class keyword.If = Opens
 keyword_class keyword.While = Opens
 keyword_class keyword.Try = Opens
+keyword_class keyword.With = Opens
 keyword_class keyword.Else = Turns
 keyword_class keyword.Except = Turns
 keyword_class keyword.Finally = Turns
 keyword_class keyword.Def = Headers
 keyword_class keyword.Gen = Headers
+keyword_class keyword.Class = Headers
+keyword_class keyword.Manager = Headers
 keyword_class k = Plains
 
 -- the class of a line that another word begins, by what stands behind it
@@ -70,6 +73,7 @@ turn_class t = refl
 header_class : (h : Header) → tokens_class (header_tokens h) ≡ Some Headers
 header_class (header.Def body.Function f ps) = refl
 header_class (header.Def body.Generator f ps) = refl
+header_class h = refl
 
 drive_class : (d : DriveLine) → tokens_class (drive_tokens d) ≡ Some Drives
 drive_class (drive_line.Call f args) = refl
@@ -104,4 +108,20 @@ no_drive_line ts class none l e = go l (sym class ∙ ap tokens_class e ∙ clas
   where
     go : (l : Line) → Some Drives ≡ Some (line_class l) → ts ≢ line_tokens l
     go (line.Drive d) c h = none d h
+    go l c h = cc
+
+-- nor of a line that opens a block
+pub no_opening : (ts : List Meaning) → tokens_class ts ≡ Some Opens → ((h : Head) → ts ≢ head_tokens h) → (l : Line) → ts ≢ line_tokens l
+no_opening ts class none l e = go l (sym class ∙ ap tokens_class e ∙ class_shown l) e
+  where
+    go : (l : Line) → Some Opens ≡ Some (line_class l) → ts ≢ line_tokens l
+    go (line.Opens h) c k = none h k
+    go l c h = cc
+
+-- nor a header's
+pub no_header : (ts : List Meaning) → tokens_class ts ≡ Some Headers → ((h : Header) → ts ≢ header_tokens h) → (l : Line) → ts ≢ line_tokens l
+no_header ts class none l e = go l (sym class ∙ ap tokens_class e ∙ class_shown l) e
+  where
+    go : (l : Line) → Some Headers ≡ Some (line_class l) → ts ≢ line_tokens l
+    go (line.Header h) c k = none h k
     go l c h = cc

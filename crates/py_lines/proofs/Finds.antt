@@ -2,6 +2,7 @@
 use Rattle.std.proofs.Common.{◌≡◌, ◌≢◌, ℕ, List, [], ◌∷◌, None, true, false, map, refl, subst}
 use Rattle.std.specs.Prelude.{Option, codes}
 use Rattle.py_tree.specs.declared.body.BodyKind.{BodyKind}
+use Rattle.py_tree.specs.declared.body.BodyKind.TheVariants as body
 use Rattle.py_tree.specs.Tree.{Name}
 use Rattle.py_tree.specs.declared.expr.Atom.{Atom}
 use Rattle.py_tree.specs.declared.expr.Atom.TheVariants as atom
@@ -10,6 +11,7 @@ use Rattle.py_lines.specs.declared.drive.DriveAtom.TheVariants as drive
 use Rattle.py_lines.specs.declared.drive.DriveLine.{DriveLine}
 use Rattle.py_lines.specs.declared.drive.DriveLine.TheVariants as drive_line
 use Rattle.py_lines.specs.declared.head.Head.{Head}
+use Rattle.py_lines.specs.declared.head.Head.TheVariants as head
 use Rattle.py_lines.specs.declared.head.Turn.{Turn}
 use Rattle.py_lines.specs.declared.head.Turn.TheVariants as turn
 use Rattle.py_lines.specs.declared.header.Header.{Header}
@@ -34,6 +36,31 @@ none_prints printing ts r is found = subst (Prints printing ts) is found
 pub no_def : (k : BodyKind) (ts : List Meaning) (r : Option (Name × List Name)) → r ≡ None → Prints (λ p. Word p.0 ∷ map Word p.1) ts r
     → (h : Header) → Key (body_keyword k) ∷ ts ≢ header_tokens h
 no_def k ts r is found (header.Def j f ps) e = none_prints (λ p. Word p.0 ∷ map Word p.1) ts r is found (f, ps) (cc)
+no_def body.Function ts r is found h e = cc
+no_def body.Generator ts r is found h e = cc
+
+-- a `class` has two names behind it
+pub no_class : (ts : List Meaning) (r : Option (Name × Name)) → r ≡ None → Prints (λ p. Word p.0 ∷ Word p.1 ∷ []) ts r → (h : Header) → Key keyword.Class ∷ ts ≢ header_tokens h
+no_class ts r is found (header.Class c b) e = none_prints (λ p. Word p.0 ∷ Word p.1 ∷ []) ts r is found (c, b) (cc)
+no_class ts r is found (header.Def body.Function f ps) e = cc
+no_class ts r is found (header.Def body.Generator f ps) e = cc
+no_class ts r is found h e = cc
+
+-- a name with no two names behind it is not the first of three
+pub no_three : (t : Meaning) (ts all : List Meaning) (r : Option (Name × Name)) → all ≡ t ∷ ts → r ≡ None → Prints (λ p. Word p.0 ∷ Word p.1 ∷ []) ts r → (x : Name × Name × Name) → all ≢ Word x.0 ∷ Word x.1 ∷ Word x.2 ∷ []
+no_three t ts all r cut is found x e = none_prints (λ p. Word p.0 ∷ Word p.1 ∷ []) ts r is found (x.1, x.2) (cc)
+
+-- a `manager` has three
+pub no_manager : (ts : List Meaning) (r : Option (Name × Name × Name)) → r ≡ None → Prints (λ p. Word p.0 ∷ Word p.1 ∷ Word p.2 ∷ []) ts r → (h : Header) → Key keyword.Manager ∷ ts ≢ header_tokens h
+no_manager ts r is found (header.Manager m n x) e = none_prints (λ p. Word p.0 ∷ Word p.1 ∷ Word p.2 ∷ []) ts r is found (m, n, x) (cc)
+no_manager ts r is found (header.Def body.Function f ps) e = cc
+no_manager ts r is found (header.Def body.Generator f ps) e = cc
+no_manager ts r is found h e = cc
+
+-- a `with` has an atom, and behind it nothing or `as` and a name
+pub no_with : (ts : List Meaning) (r : Option (Atom × Option Name)) → r ≡ None → Prints (λ p. atom_token p.0 ∷ target_tokens p.1) ts r → (h : Head) → Key keyword.With ∷ ts ≢ head_tokens h
+no_with ts r is found (head.With a x) e = none_prints (λ p. atom_token p.0 ∷ target_tokens p.1) ts r is found (a, x) (cc)
+no_with ts r is found h e = cc
 
 -- an `except` has a class, and behind it nothing or `as` and a name
 pub no_except : (ts : List Meaning) (r : Option (Name × Option Name)) → r ≡ None → Prints (λ p. Word p.0 ∷ target_tokens p.1) ts r → (t : Turn) → Key keyword.Except ∷ ts ≢ turn_tokens t

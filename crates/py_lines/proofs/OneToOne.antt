@@ -123,15 +123,16 @@ same_plain (plain.Do o) (plain.Do p) h = ap plain.Do (same_operation o p (same_w
 same_plain p plain.Pass h = cc
 same_plain p q h = grind (arith, same_atom)
 
-same_head : (h k : Head) → head_tokens h ≡ head_tokens k → h ≡ k
-same_head h (head.If a) e = grind (arith, same_atom)
-same_head h k e = grind (arith, same_atom)
-
 same_target : (x y : Option Name) → target_tokens x ≡ target_tokens y → x ≡ y
 same_target None None e = refl
 same_target None (Some y) e = cc
 same_target (Some x) None e = cc
 same_target (Some x) (Some y) e = cc
+
+same_head : (h k : Head) → head_tokens h ≡ head_tokens k → h ≡ k
+same_head (head.With a x) (head.With b y) e = let h : a ≡ b = same_atom a b (cc) in let k : x ≡ y = same_target x y (cc) in cc
+same_head h (head.If a) e = grind (arith, same_atom)
+same_head h k e = grind (arith, same_atom)
 
 same_turn : (t u : Turn) → turn_tokens t ≡ turn_tokens u → t ≡ u
 same_turn turn.Else turn.Else e = refl
@@ -141,9 +142,12 @@ same_turn t u e = cc
 
 same_header : (h k : Header) → header_tokens h ≡ header_tokens k → h ≡ k
 same_header (header.Def body.Function f ps) (header.Def body.Function g qs) e = let k : ps ≡ qs = same_names ps qs (cc) in cc
-same_header (header.Def body.Function f ps) (header.Def body.Generator g qs) e = cc
-same_header (header.Def body.Generator f ps) (header.Def body.Function g qs) e = cc
 same_header (header.Def body.Generator f ps) (header.Def body.Generator g qs) e = let k : ps ≡ qs = same_names ps qs (cc) in cc
+same_header (header.Def body.Function f ps) k e = cc
+same_header (header.Def body.Generator f ps) k e = cc
+same_header h (header.Def body.Function g qs) e = cc
+same_header h (header.Def body.Generator g qs) e = cc
+same_header h k e = cc
 
 same_thrown : (v w : Option DriveAtom) → thrown_tokens v ≡ thrown_tokens w → v ≡ w
 same_thrown None None e = refl

@@ -156,18 +156,19 @@ find_plain ts =
       | plain.Pass ↦ no_pass tt
     ])
 
-find_head : (ts : List Meaning) → Finds head_tokens ts
-find_head ts =
-    or_else (find_behind (behind_key keyword.If ts) (find_lone find_atom)) (λ a. Found (head.If a)) λ no_if.
-    or_else (find_behind (behind_key keyword.While ts) (find_lone find_atom)) (λ a. Found (head.While a)) λ no_while.
-    or_else (find_behind (behind_key keyword.Try ts) find_nothing) (λ x. Found head.Try) λ no_try.
-    Missing (elim [ head.If a ↦ no_if a | head.While a ↦ no_while a | head.Try ↦ no_try tt ])
-
 find_target : (ts : List Meaning) → Finds target_tokens ts
 find_target [] = Found None refl
 find_target (t ∷ ts) =
     or_else (find_behind (behind_word (codes "as") (t ∷ ts)) (find_lone find_name)) (λ x. Found (Some x)) λ no_name.
     Missing (elim [ None ↦ λ e. cc | Some x ↦ no_name x ])
+
+find_head : (ts : List Meaning) → Finds head_tokens ts
+find_head ts =
+    or_else (find_behind (behind_key keyword.If ts) (find_lone find_atom)) (λ a. Found (head.If a)) λ no_if.
+    or_else (find_behind (behind_key keyword.While ts) (find_lone find_atom)) (λ a. Found (head.While a)) λ no_while.
+    or_else (find_behind (behind_key keyword.Try ts) find_nothing) (λ x. Found head.Try) λ no_try.
+    or_else (find_behind (behind_key keyword.With ts) (find_both find_atom find_target)) (λ z. Found (head.With z.0 z.1)) λ no_with.
+    Missing (elim [ head.If a ↦ no_if a | head.While a ↦ no_while a | head.Try ↦ no_try tt | head.With a x ↦ no_with (a, x) ])
 
 find_turn : (ts : List Meaning) → Finds turn_tokens ts
 find_turn ts =
@@ -183,7 +184,14 @@ find_header : (ts : List Meaning) → Finds header_tokens ts
 find_header ts =
     or_else (find_names body.Function ts) (λ z. Found (header.Def body.Function z.0 z.1)) λ no_def.
     or_else (find_names body.Generator ts) (λ z. Found (header.Def body.Generator z.0 z.1)) λ no_gen.
-    Missing (elim [ header.Def body.Function f ps ↦ no_def (f, ps) | header.Def body.Generator f ps ↦ no_gen (f, ps) ])
+    or_else (find_behind (behind_key keyword.Class ts) (find_both find_name (find_lone find_name))) (λ z. Found (header.Class z.0 z.1)) λ no_class.
+    or_else (find_behind (behind_key keyword.Manager ts) (find_both find_name (find_both find_name (find_lone find_name)))) (λ z. Found (header.Manager z.0 z.1.0 z.1.1)) λ no_manager.
+    Missing (elim [
+      | header.Def body.Function f ps ↦ no_def (f, ps)
+      | header.Def body.Generator f ps ↦ no_gen (f, ps)
+      | header.Class c b ↦ no_class (c, b)
+      | header.Manager m e x ↦ no_manager (m, (e, x))
+    ])
 
 find_thrown : (ts : List Meaning) → Finds thrown_tokens ts
 find_thrown [] = Found None refl

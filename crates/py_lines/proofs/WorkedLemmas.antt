@@ -1,15 +1,20 @@
 -- How small lines read, by computing their tokens.
-use Rattle.std.proofs.Common.{◌≢◌, [], ◌∷◌, refl}
+use Rattle.std.proofs.Common.{◌≢◌, [], ◌∷◌, Some, None, refl}
 use Rattle.std.specs.Prelude.{codes, pos, neg_ℤ}
+use Rattle.py_tree.specs.declared.body.BodyKind.TheVariants as body
 use Rattle.py_lines.specs.declared.drive.DriveLine.{DriveLine}
 use Rattle.py_lines.specs.declared.drive.DriveLine.TheVariants as drive_line
+use Rattle.py_lines.specs.declared.head.Head.{Head}
+use Rattle.py_lines.specs.declared.head.Head.TheVariants as head
+use Rattle.py_lines.specs.declared.header.Header.{Header}
+use Rattle.py_lines.specs.declared.header.Header.TheVariants as header
 use Rattle.py_lines.specs.declared.keyword.Keyword.TheVariants as keyword
 use Rattle.py_lines.specs.declared.plain.Plain.{Plain}
 use Rattle.py_lines.specs.declared.plain.Plain.TheVariants as plain
 use Rattle.py_lines.specs.Meaning.{Equals, Key, Word, Number, Unknown}
-use Rattle.py_lines.specs.Printing.{plain_tokens, drive_tokens}
-use Rattle.py_lines.specs.Worked.{AddIsAName, AsIsAName, CallIsADrive, CallIsAName, CloseIsAName, KeywordIsNoName, NextNothing, NoLargeNumber, NoNumberBelow, NothingBehind, NothingIsBlank, ThrowIsADrive, YieldIsAName}
-use Rattle.py_lines.proofs.Classes.{no_plain, no_drive_line}
+use Rattle.py_lines.specs.Printing.{plain_tokens, head_tokens, header_tokens, drive_tokens}
+use Rattle.py_lines.specs.Worked.{AddIsAName, AsIsAName, CallIsADrive, CallIsAName, ClassOfItself, ClassOfNothing, CloseIsAName, KeywordIsNoName, ManagerOfTwo, NextNothing, NoLargeNumber, NoNameBehindAs, NoNumberBelow, NothingBehind, NothingIsBlank, ThrowIsADrive, WithAs, WithNone, YieldIsAName}
+use Rattle.py_lines.proofs.Classes.{no_plain, no_opening, no_header, no_drive_line}
 use Rattle.py_lines.proofs.OneToOne.{no_atom}
 
 pub call_is_a_name : CallIsAName
@@ -42,6 +47,34 @@ no_number_below = (refl, no_drive_line _ refl drives)
 
 pub as_is_a_name : AsIsAName
 as_is_a_name = refl
+
+pub with_as : WithAs
+with_as = refl
+
+pub with_none : WithNone
+with_none = refl
+
+pub class_of_itself : ClassOfItself
+class_of_itself = refl
+
+pub manager_of_two : ManagerOfTwo
+manager_of_two = refl
+
+pub no_name_behind_as : NoNameBehindAs
+no_name_behind_as = (refl, no_opening _ refl heads)
+  where
+    heads : (h : Head) → Key keyword.With ∷ Word (codes "x") ∷ Word (codes "as") ∷ [] ≢ head_tokens h
+    heads (head.With a None) e = cc
+    heads (head.With a (Some x)) e = cc
+    heads h e = cc
+
+pub class_of_nothing : ClassOfNothing
+class_of_nothing = (refl, no_header _ refl headers)
+  where
+    headers : (h : Header) → Key keyword.Class ∷ Word (codes "C") ∷ [] ≢ header_tokens h
+    headers (header.Def body.Function f ps) e = cc
+    headers (header.Def body.Generator f ps) e = cc
+    headers h e = cc
 
 pub nothing_is_blank : NothingIsBlank
 nothing_is_blank = refl

@@ -79,15 +79,16 @@ plain_tokens plain.Break = Key keyword.Break ∷ []
 plain_tokens plain.Continue = Key keyword.Continue ∷ []
 plain_tokens plain.Pass = Key keyword.Pass ∷ []
 
+-- the name that a clause or a `with` binds, behind `as`, which is a name too
+abbrev pub target_tokens : Option Name → List Meaning
+target_tokens None = []
+target_tokens (Some x) = Word (codes "as") ∷ Word x ∷ []
+
 abbrev pub head_tokens : Head → List Meaning
 head_tokens (head.If a) = Key keyword.If ∷ atom_token a ∷ []
 head_tokens (head.While a) = Key keyword.While ∷ atom_token a ∷ []
 head_tokens head.Try = Key keyword.Try ∷ []
-
--- the name that a clause binds, behind `as`, which is a name too
-abbrev pub target_tokens : Option Name → List Meaning
-target_tokens None = []
-target_tokens (Some x) = Word (codes "as") ∷ Word x ∷ []
+head_tokens (head.With a x) = Key keyword.With ∷ atom_token a ∷ target_tokens x
 
 abbrev pub turn_tokens : Turn → List Meaning
 turn_tokens turn.Else = Key keyword.Else ∷ []
@@ -101,6 +102,8 @@ body_keyword body.Generator = keyword.Gen
 
 abbrev pub header_tokens : Header → List Meaning
 header_tokens (header.Def k f ps) = Key (body_keyword k) ∷ Word f ∷ map Word ps
+header_tokens (header.Class c b) = Key keyword.Class ∷ Word c ∷ Word b ∷ []
+header_tokens (header.Manager m e x) = Key keyword.Manager ∷ Word m ∷ Word e ∷ Word x ∷ []
 
 -- the value that is thrown with a class, where there is one
 abbrev pub thrown_tokens : Option DriveAtom → List Meaning

@@ -1,11 +1,12 @@
 -- Small lines, worked by hand.
-use Rattle.std.specs.Prelude.{[], ◌∷◌, Some, true, codes, pos, neg_ℤ}
+use Rattle.std.specs.Prelude.{[], ◌∷◌, Some, None, true, codes, pos, neg_ℤ}
 use Rattle.py_tree.specs.declared.body.BodyKind.TheVariants as body
 use Rattle.py_tree.specs.declared.expr.Atom.TheVariants as atom
 use Rattle.py_tree.specs.declared.expr.Expr.TheVariants as expr
 use Rattle.py_tree.specs.declared.expr.Operation.TheVariants as operation
 use Rattle.py_lines.specs.declared.drive.DriveAtom.TheVariants as drive
 use Rattle.py_lines.specs.declared.drive.DriveLine.TheVariants as drive_line
+use Rattle.py_lines.specs.declared.head.Head.TheVariants as head
 use Rattle.py_lines.specs.declared.head.Turn.TheVariants as turn
 use Rattle.py_lines.specs.declared.header.Header.TheVariants as header
 use Rattle.py_lines.specs.declared.line.Line.TheVariants as line
@@ -46,6 +47,29 @@ NoNumberBelow = IsReadAs (codes "close -1") Malformed
 -- `as` is a name, too: of a class, and of what is bound to
 abbrev pub AsIsAName : Type 0
 AsIsAName = IsReadAs (codes "except as as as") (Said (line.Turns (turn.Except (codes "as") (Some (codes "as")))))
+
+-- and of a manager
+abbrev pub WithAs : Type 0
+WithAs = IsReadAs (codes "with as as as") (Said (line.Opens (head.With (atom.Name (codes "as")) (Some (codes "as")))))
+
+-- what stands behind `with` is any atom; whether it is a manager is seen when the line runs
+abbrev pub WithNone : Type 0
+WithNone = IsReadAs (codes "with None") (Said (line.Opens (head.With atom.None None)))
+
+-- a name stands behind its `as`
+abbrev pub NoNameBehindAs : Type 0
+NoNameBehindAs = IsReadAs (codes "with x as") Malformed
+
+-- the names of declarations; whether there are a base, an enter and an exit of these names the grammar says
+abbrev pub ClassOfItself : Type 0
+ClassOfItself = IsReadAs (codes "class throw throw") (Said (line.Header (header.Class (codes "throw") (codes "throw"))))
+
+abbrev pub ManagerOfTwo : Type 0
+ManagerOfTwo = IsReadAs (codes "manager scope enter exit") (Said (line.Header (header.Manager (codes "scope") (codes "enter") (codes "exit"))))
+
+-- a class has one base
+abbrev pub ClassOfNothing : Type 0
+ClassOfNothing = IsReadAs (codes "class C") Malformed
 
 -- a keyword is no name
 abbrev pub KeywordIsNoName : Type 0

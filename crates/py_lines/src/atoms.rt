@@ -158,3 +158,38 @@ pub fn name_and_names(
     };
     Ok(Some((first, names)))
 }
+
+/// The two names that are the only tokens.
+pub fn two_names(alloc: Global, tokens: &[Sense<'_>]) -> Result<Option<(PyText, PyText)>, NoMemory>
+    ensures { IfOk result (Prints (λ p. Word p.0 ∷ Word p.1 ∷ []) (map meaning_of tokens.now)) }
+{
+    let Some((first, rest)) = tokens.split_first() else {
+        return Ok(None);
+    };
+    let Some(first) = name_of(alloc, first)? else {
+        return Ok(None);
+    };
+    let Some(second) = lone_name(alloc, rest)? else {
+        return Ok(None);
+    };
+    Ok(Some((first, second)))
+}
+
+/// The three names that are the only tokens.
+pub fn three_names(
+    alloc: Global,
+    tokens: &[Sense<'_>],
+) -> Result<Option<(PyText, PyText, PyText)>, NoMemory>
+    ensures { IfOk result (Prints (λ p. Word p.0 ∷ Word p.1 ∷ Word p.2 ∷ []) (map meaning_of tokens.now)) }
+{
+    let Some((first, rest)) = tokens.split_first() else {
+        return Ok(None);
+    };
+    let Some(first) = name_of(alloc, first)? else {
+        return Ok(None);
+    };
+    let Some((second, third)) = two_names(alloc, rest)? else {
+        return Ok(None);
+    };
+    Ok(Some((first, second, third)))
+}

@@ -5,9 +5,9 @@ ghost use Rattle.py_lines.specs.declared.keyword.Keyword.TheVariants as keyword;
 ghost use Rattle.py_lines.specs.Finding.{Prints};
 ghost use Rattle.py_lines.specs.Meaning.{Key, Word};
 ghost use Rattle.py_lines.specs.Senses.{meaning_of};
-ghost use Rattle.py_lines.specs.Printing.{head_tokens, target_tokens, turn_tokens};
+ghost use Rattle.py_lines.specs.Printing.{atom_token, head_tokens, target_tokens, turn_tokens};
 
-use crate::atoms::{alone, lone_atom, lone_name, name_of};
+use crate::atoms::{alone, atom_of, lone_atom, lone_name, name_of};
 use crate::keyword::Keyword;
 use crate::meaning::Sense;
 use py_code::{NoMemory, PyText};
@@ -23,6 +23,8 @@ pub enum Head {
     While(Atom),
     /// `try`.
     Try,
+    /// `with a` or `with a as x`: the manager, and the name that is bound.
+    With(Atom, Option<PyText>),
 }
 
 /// A line that ends one suite of an open block, and begins the next.
@@ -50,6 +52,7 @@ pub fn read_head(alloc: Global, tokens: &[Sense<'_>]) -> Result<Option<Head>, No
         Keyword::If => Ok(lone_atom(alloc, rest)?.map(Head::If)),
         Keyword::While => Ok(lone_atom(alloc, rest)?.map(Head::While)),
         Keyword::Try => Ok(alone(Head::Try, rest)),
+        Keyword::With => with_of(alloc, rest),
         _ => Ok(None),
     }
 }
@@ -71,7 +74,7 @@ fn named_by_as(alloc: Global, tokens: &[Sense<'_>]) -> Result<Option<PyText>, No
     }
 }
 
-/// The name that a clause binds by the tokens behind its class, which binds none where there are none.
+/// The name that a line binds by the tokens at its end, which binds none where there are none.
 fn target_of(alloc: Global, tokens: &[Sense<'_>]) -> Result<Option<Option<PyText>>, NoMemory>
     ensures { IfOk result (Prints target_tokens (map meaning_of tokens.now)) }
 {
@@ -82,6 +85,35 @@ fn target_of(alloc: Global, tokens: &[Sense<'_>]) -> Result<Option<Option<PyText
         Some(name) => Ok(Some(Some(name))),
         None => Ok(None),
     }
+}
+
+/// An atom, and the name that a line binds behind it.
+fn atom_and_target(
+    alloc: Global,
+    tokens: &[Sense<'_>],
+) -> Result<Option<(Atom, Option<PyText>)>, NoMemory>
+    ensures { IfOk result (Prints (λ p. atom_token p.0 ∷ target_tokens p.1) (map meaning_of tokens.now)) }
+{
+    let Some((first, rest)) = tokens.split_first() else {
+        return Ok(None);
+    };
+    let Some(atom) = atom_of(alloc, first)? else {
+        return Ok(None);
+    };
+    let Some(target) = target_of(alloc, rest)? else {
+        return Ok(None);
+    };
+    Ok(Some((atom, target)))
+}
+
+/// The line that the tokens behind a `with` make.
+fn with_of(alloc: Global, tokens: &[Sense<'_>]) -> Result<Option<Head>, NoMemory>
+    ensures { IfOk result (Prints head_tokens (Key keyword.With ∷ map meaning_of tokens.now)) }
+{
+    let Some((manager, target)) = atom_and_target(alloc, tokens)? else {
+        return Ok(None);
+    };
+    Ok(Some(Head::With(manager, target)))
 }
 
 /// A class, and the name that a clause binds behind it.

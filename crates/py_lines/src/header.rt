@@ -1,23 +1,28 @@
-//! Lines that open a declaration.
+//! Lines that declare, or open what is declared.
 
 ghost use Rattle.std.specs.Prelude.{◌∷◌, IfOk, map};
+ghost use Rattle.py_lines.specs.declared.keyword.Keyword.TheVariants as keyword;
 ghost use Rattle.py_lines.specs.Finding.{Prints};
 ghost use Rattle.py_lines.specs.Meaning.{Key};
 ghost use Rattle.py_lines.specs.Senses.{meaning_of};
 ghost use Rattle.py_lines.specs.Printing.{body_keyword, header_tokens};
 
-use crate::atoms::name_and_names;
+use crate::atoms::{name_and_names, three_names, two_names};
 use crate::keyword::Keyword;
 use crate::meaning::Sense;
 use py_code::{NoMemory, PyText};
 use py_tree::{BodyKind, ParamList};
 use std::alloc::Global;
 
-/// The header of a declaration.
+/// The header of a declaration, which is all of it for a class and for a manager.
 #[derive(Debug, Drop)]
 pub enum Header {
     /// `def f p ..`, or `gen f p ..`: the kind of the body, its name and its parameters.
     Def(BodyKind, PyText, ParamList),
+    /// `class C B`: the name of an exception class, and that of its base.
+    Class(PyText, PyText),
+    /// `manager M E X`: the name of a manager, and those of the functions that enter and exit it.
+    Manager(PyText, PyText, PyText),
 }
 
 /// The header that tokens are.
@@ -30,6 +35,8 @@ pub fn read_header(alloc: Global, tokens: &[Sense<'_>]) -> Result<Option<Header>
     match first {
         Sense::Key(Keyword::Def) => def_of(alloc, BodyKind::Function, rest),
         Sense::Key(Keyword::Gen) => def_of(alloc, BodyKind::Generator, rest),
+        Sense::Key(Keyword::Class) => class_of(alloc, rest),
+        Sense::Key(Keyword::Manager) => manager_of(alloc, rest),
         _ => Ok(None),
     }
 }
@@ -42,4 +49,24 @@ fn def_of(alloc: Global, kind: BodyKind, tokens: &[Sense<'_>]) -> Result<Option<
         return Ok(None);
     };
     Ok(Some(Header::Def(kind, name, params)))
+}
+
+/// The class that the tokens behind a `class` declare.
+fn class_of(alloc: Global, tokens: &[Sense<'_>]) -> Result<Option<Header>, NoMemory>
+    ensures { IfOk result (Prints header_tokens (Key keyword.Class ∷ map meaning_of tokens.now)) }
+{
+    let Some((name, base)) = two_names(alloc, tokens)? else {
+        return Ok(None);
+    };
+    Ok(Some(Header::Class(name, base)))
+}
+
+/// The manager that the tokens behind a `manager` declare.
+fn manager_of(alloc: Global, tokens: &[Sense<'_>]) -> Result<Option<Header>, NoMemory>
+    ensures { IfOk result (Prints header_tokens (Key keyword.Manager ∷ map meaning_of tokens.now)) }
+{
+    let Some((name, enter, exit)) = three_names(alloc, tokens)? else {
+        return Ok(None);
+    };
+    Ok(Some(Header::Manager(name, enter, exit)))
 }

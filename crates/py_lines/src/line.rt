@@ -31,7 +31,7 @@ pub enum Line {
     Opens(Head),
     /// The open block turns to its next suite.
     Turns(Turn),
-    /// A declaration opens.
+    /// A declaration, or what opens one.
     Header(Header),
     /// A drive.
     Drive(DriveLine),

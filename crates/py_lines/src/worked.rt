@@ -1,6 +1,6 @@
 //! Small lines, worked by hand.
 
-ghost use Rattle.py_lines.specs.Worked.{AddIsAName, AsIsAName, CallIsADrive, CallIsAName, CloseIsAName, KeywordIsNoName, NextNothing, NoLargeNumber, NoNumberBelow, NothingBehind, NothingIsBlank, ThrowIsADrive, YieldIsAName};
+ghost use Rattle.py_lines.specs.Worked.{AddIsAName, AsIsAName, CallIsADrive, CallIsAName, ClassOfItself, ClassOfNothing, CloseIsAName, KeywordIsNoName, ManagerOfTwo, NextNothing, NoLargeNumber, NoNameBehindAs, NoNumberBelow, NothingBehind, NothingIsBlank, ThrowIsADrive, WithAs, WithNone, YieldIsAName};
 
 /// States how small lines read, and does nothing.
 pub fn worked_lines()
@@ -13,6 +13,12 @@ pub fn worked_lines()
     ensures next_nothing { NextNothing }
     ensures no_number_below { NoNumberBelow }
     ensures as_is_a_name { AsIsAName }
+    ensures with_as { WithAs }
+    ensures with_none { WithNone }
+    ensures no_name_behind_as { NoNameBehindAs }
+    ensures class_of_itself { ClassOfItself }
+    ensures manager_of_two { ManagerOfTwo }
+    ensures class_of_nothing { ClassOfNothing }
     ensures keyword_is_no_name { KeywordIsNoName }
     ensures nothing_behind { NothingBehind }
     ensures no_large_number { NoLargeNumber }

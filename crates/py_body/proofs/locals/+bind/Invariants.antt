@@ -17,6 +17,9 @@ decreases-bind_both l = 3 * (statements (suite_of l.suite.now) + statements (sui
 abbrev pub decreases-bind_tried : goal.decreases-bind_tried
 decreases-bind_tried l = 3 * (statements (suite_of l.suite.now) + statements_under (clauses_of l.clauses.now)) + 2
 
+abbrev pub decreases-bind_managed : goal.decreases-bind_managed
+decreases-bind_managed l = 3 * statements (suite_of l.suite.now) + 2
+
 abbrev pub invariant-bind_suite-loop-stmt : goal.invariant-bind_suite-loop-stmt
 invariant-bind_suite-loop-stmt l = l.names ≡ bound_by l.fn.names (list_suite (take l.stmt-index l.stmt-items))
 

@@ -1,4 +1,4 @@
-use Rattle.py_lines.proofs.WorkedLemmas.{add_is_a_name, as_is_a_name, call_is_a_drive, call_is_a_name, close_is_a_name, keyword_is_no_name, next_nothing, no_large_number, no_number_below, nothing_behind, nothing_is_blank, throw_is_a_drive, yield_is_a_name}
+use Rattle.py_lines.proofs.WorkedLemmas.{add_is_a_name, as_is_a_name, call_is_a_drive, call_is_a_name, class_of_itself, class_of_nothing, close_is_a_name, keyword_is_no_name, manager_of_two, next_nothing, no_large_number, no_name_behind_as, no_number_below, nothing_behind, nothing_is_blank, throw_is_a_drive, with_as, with_none, yield_is_a_name}
 use Rattle.py_lines.proofs.worked.worked_lines.Goals as goal
 
 pub returns-clause-call_is_a_name : goal.returns-clause-call_is_a_name
@@ -39,3 +39,21 @@ returns-clause-next_nothing c = next_nothing
 
 pub returns-clause-no_number_below : goal.returns-clause-no_number_below
 returns-clause-no_number_below c = no_number_below
+
+pub returns-clause-with_as : goal.returns-clause-with_as
+returns-clause-with_as c = with_as
+
+pub returns-clause-with_none : goal.returns-clause-with_none
+returns-clause-with_none c = with_none
+
+pub returns-clause-no_name_behind_as : goal.returns-clause-no_name_behind_as
+returns-clause-no_name_behind_as c = no_name_behind_as
+
+pub returns-clause-class_of_itself : goal.returns-clause-class_of_itself
+returns-clause-class_of_itself c = class_of_itself
+
+pub returns-clause-manager_of_two : goal.returns-clause-manager_of_two
+returns-clause-manager_of_two c = manager_of_two
+
+pub returns-clause-class_of_nothing : goal.returns-clause-class_of_nothing
+returns-clause-class_of_nothing c = class_of_nothing

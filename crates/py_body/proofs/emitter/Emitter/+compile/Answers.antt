@@ -5,16 +5,17 @@ use Rattle.py_tree.specs.declared.stmt.Clause.{out-Clause}
 use Rattle.py_tree.specs.Tree.{Raise, Return, Show, If, IfElse, Suite, Clauses, TryExcept}
 use Rattle.py_tree.specs.Views.{clauses_of, form_of, suite_of}
 use Rattle.py_tree.specs.Suites.{list_clauses, list_suite}
-use Rattle.py_laid.specs.Code.{Scope, LaidTaken}
-use Rattle.py_tree.specs.Compilable.{statements, statements_in, statements_under}
+use Rattle.py_laid.specs.Code.{Scope, on, before_finally, in_finally, LaidTaken}
+use Rattle.py_tree.specs.Compilable.{statements, statements_in, statements_under, ClausesNest, FormNests, SuiteNests}
 use Rattle.py_body.specs.Sizes.{size_clauses, size_form, size_suite, size_tried}
 use Rattle.py_body.specs.Emitting.{draft_of, scope_of, is_inside, end_of, labels_of, EmitsClauses, EmitsSuite, ClausesIn, FormIn, SuiteIn}
-use Rattle.py_body.proofs.Trees.{fits_at, statements_at, suite_more}
+use Rattle.py_body.proofs.Trees.{fits_at, nests_at, statements_at, suite_more}
 use Rattle.py_body.proofs.SizeLemmas.{clauses_most, suite_most}
 use Rattle.py_body.proofs.StatementLemmas.{form_taken}
 use Rattle.py_body.proofs.BlockLemmas.{branch_emits, if_else_emits, pass_emits, suite_add, suite_none, while_emits}
-use Rattle.py_body.proofs.ClauseTrees.{clause_fits_at, clause_statements_at, clauses_behind}
+use Rattle.py_body.proofs.ClauseTrees.{clause_fits_at, clause_nests_at, clause_statements_at, clauses_behind}
 use Rattle.py_body.proofs.ProtectedLemmas.{clause_emits, clauses_add, clauses_none, forgetting_emits, opening_emits, plain_handler_emits, tried_emits, try_except_emits, try_finally_emits}
+use Rattle.py_body.proofs.ManagerLemmas.{managed_emits, with_emits}
 use Rattle.py_body.proofs.emitter.Emitter.+compile.Goals as goal
 
 -- ---- suites
@@ -33,6 +34,8 @@ compile_suite-compile_form-requires t c =
     let scope : Scope = scope_of c.args.scope.now in
     let fits : FormIn scope (form_of c.stmt-item.result.form) =
     fits_at scope.kind (is_inside scope.around) items i c.stmt-item.result c.loop-stmt-test.true c.stmt-item.is (subst (SuiteIn scope) c.as_slice-stmt-items.ensures c.requires.fits) in
+    let nests : FormNests c.args.scope.now.depth (form_of c.stmt-item.result.form) =
+    nests_at c.args.scope.now.depth items i c.stmt-item.result c.loop-stmt-test.true c.stmt-item.is (subst (SuiteNests c.args.scope.now.depth) c.as_slice-stmt-items.ensures c.requires.nests) in
     let labels : c.loop-stmt.self.labels ≤ 3 = subst (λ (w : ℕ). w ≤ 3) (sym c.loop-stmt.invariant.labels) c.requires.low.0 in
     let others : c.loop-stmt.self.others ≤ 3 = subst (λ (w : ℕ). w ≤ 3) (sym c.loop-stmt.invariant.others) c.requires.low.1 in
     search rules
@@ -118,6 +121,18 @@ compile_while-size_of_suite-size-requires t c =
     suite_most _ c.weights-weights.result c.args.self.now.labels c.args.self.now.others _ (suite_of c.args.suite.now) c.weights-weights.ensures c.requires.low.0 c.requires.low.1 c.requires.fits
     (omega (arith, c.requires.few))
 
+pub compile_rounds-compile_suite-requires : goal.compile_rounds-compile_suite-requires
+compile_rounds-compile_suite-requires t c =
+    let suite : Suite = suite_of c.args.suite.now in
+    let few : statements suite ≤ 1048576 = omega (arith, c.requires.few) in
+    let smaller : 5 * statements suite + 1 < 5 * statements suite + 2 = omega arith in
+    let fits : SuiteIn (scope_of c.args.inner.now) suite = subst (λ (i : Scope). SuiteIn i suite) (sym c.requires.inner) c.requires.fits in
+    let nests : SuiteNests c.args.inner.now.depth suite = subst (λ (i : Scope). SuiteNests i.depth suite) (sym c.requires.inner) c.requires.nests in
+    let depth : c.args.inner.now.depth ≤ 1000 = subst (λ (i : Scope). i.depth ≤ 1000) (sym c.requires.inner) c.requires.depth in
+    let labels : c.put_jump.new.self.labels ≤ 3 = subst (λ (w : ℕ). w ≤ 3) (sym (c.in_ok-put_jump.ensures.widths.0 ∙ c.in_ok-compile_atom.ensures.widths.0 ∙ c.in_ok-put_plain.ensures.widths.0)) c.requires.low.0 in
+    let others : c.put_jump.new.self.others ≤ 3 = subst (λ (w : ℕ). w ≤ 3) (sym (c.in_ok-put_jump.ensures.widths.1 ∙ c.in_ok-compile_atom.ensures.widths.1 ∙ c.in_ok-put_plain.ensures.widths.1)) c.requires.low.1 in
+    search rules
+
 pub compile_rounds-returns-clause-code : goal.compile_rounds-returns-clause-code
 compile_rounds-returns-clause-code t c =
     while_emits (scope_of c.args.scope.now) (scope_of c.args.inner.now) c.args.line c.args.atom.now (suite_of c.args.suite.now) (labels_of c.args.labels) c.args.end c.requires.inner
@@ -131,6 +146,7 @@ pub compile_opening-compile_suite-requires : goal.compile_opening-compile_suite-
 compile_opening-compile_suite-requires t c =
     let suite : Suite = suite_of c.args.suite.now in
     let fits : SuiteIn (scope_of c.in_ok-before.before) suite = subst (λ (i : Scope). SuiteIn i suite) (sym c.in_ok-before.ensures) c.requires.fits in
+    let nests : SuiteNests c.in_ok-before.before.depth suite = subst (λ (i : Scope). SuiteNests i.depth suite) (sym c.in_ok-before.ensures) c.requires.nests in
     let depth : c.in_ok-before.before.depth ≤ 1000 = subst (λ (i : Scope). i.depth ≤ 1000) (sym c.in_ok-before.ensures) c.requires.depth in
     let labels : c.put_jump.new.self.labels ≤ 3 = subst (λ (w : ℕ). w ≤ 3) (sym c.in_ok-put_jump.ensures.widths.0) c.requires.low.0 in
     let others : c.put_jump.new.self.others ≤ 3 = subst (λ (w : ℕ). w ≤ 3) (sym c.in_ok-put_jump.ensures.widths.1) c.requires.low.1 in
@@ -148,6 +164,7 @@ compile_try_finally-compile_suite-requires t c =
     let few : statements last ≤ 1048576 = omega (arith, c.requires.few) in
     let smaller : 5 * statements last + 1 < 5 * (statements (suite_of c.args.suite.now) + statements last) + 3 = omega arith in
     let fits : SuiteIn (scope_of c.in_ok-within.within) last = subst (λ (i : Scope). SuiteIn i last) (sym c.in_ok-within.ensures) c.requires.fits_last in
+    let nests : SuiteNests c.in_ok-within.within.depth last = subst (λ (i : Scope). SuiteNests i.depth last) (sym c.in_ok-within.ensures) c.requires.nests_last in
     let depth : c.in_ok-within.within.depth ≤ 1000 = subst (λ (i : Scope). i.depth ≤ 1000) (sym c.in_ok-within.ensures) c.requires.depth in
     let labels : c.compile_opening.new.self.labels ≤ 3 = subst (λ (w : ℕ). w ≤ 3) (sym c.in_ok-compile_opening.ensures.widths.0) c.requires.low.0 in
     let others : c.compile_opening.new.self.others ≤ 3 = subst (λ (w : ℕ). w ≤ 3) (sym c.in_ok-compile_opening.ensures.widths.1) c.requires.low.1 in
@@ -168,12 +185,38 @@ compile_forgetting-returns-clause-code t c =
     forgetting_emits (scope_of c.args.scope.now) (scope_of c.in_ok-within.within) c.args.line c.args.name.now (suite_of c.args.suite.now) c.handler_label-handler.result c.in_ok-within.ensures
     c.handler_label-handler.ensures c.in_ok-compile_opening.ensures.code c.in_ok-put_forget.ensures.code c.in_ok-put_plain.ensures.code
 
+-- ---- managers
+
+pub compile_managed-compile_suite-requires : goal.compile_managed-compile_suite-requires
+compile_managed-compile_suite-requires t c =
+    let suite : Suite = suite_of c.args.suite.now in
+    let is : scope_of c.in_ok-before.before ≡ before_finally c.args.handler (on (scope_of c.args.scope.now)) = c.in_ok-before.ensures ∙ ap (λ (i : Scope). before_finally c.args.handler i) c.requires.inner in
+    let few : statements suite ≤ 1048576 = omega (arith, c.requires.few) in
+    let fits : SuiteIn (scope_of c.in_ok-before.before) suite = subst (λ (i : Scope). SuiteIn i suite) (sym is) c.requires.fits in
+    let nests : SuiteNests c.in_ok-before.before.depth suite = subst (λ (i : Scope). SuiteNests i.depth suite) (sym is) c.requires.nests in
+    let depth : c.in_ok-before.before.depth ≤ 1000 = omega (arith, ap (λ (i : Scope). i.depth) is, c.requires.room) in
+    let labels : c.put_target.new.self.labels ≤ 3 = subst (λ (w : ℕ). w ≤ 3) (sym (c.in_ok-put_target.ensures.widths.0 ∙ c.in_ok-put_jump.ensures.widths.0 ∙ c.in_ok-compile_atom.ensures.widths.0)) c.requires.low.0 in
+    let others : c.put_target.new.self.others ≤ 3 = subst (λ (w : ℕ). w ≤ 3) (sym (c.in_ok-put_target.ensures.widths.1 ∙ c.in_ok-put_jump.ensures.widths.1 ∙ c.in_ok-compile_atom.ensures.widths.1)) c.requires.low.1 in
+    search rules
+
+pub compile_managed-returns-clause-code : goal.compile_managed-returns-clause-code
+compile_managed-returns-clause-code t c =
+    managed_emits (scope_of c.args.scope.now) (scope_of c.in_ok-before.before) c.args.line c.args.atom.now c.args.target.now (suite_of c.args.suite.now) c.args.handler
+    (c.in_ok-before.ensures ∙ ap (λ (i : Scope). before_finally c.args.handler i) c.requires.inner) c.in_ok-compile_atom.ensures.code c.in_ok-put_jump.ensures.code c.in_ok-put_target.ensures.code
+    c.in_ok-compile_suite.ensures.code c.in_ok-put_plain.ensures.code c.in_ok-put_plain-2.ensures.code
+
+pub compile_with-returns-clause-code : goal.compile_with-returns-clause-code
+compile_with-returns-clause-code t c =
+    with_emits (scope_of c.args.scope.now) (scope_of c.in_ok-within.within) c.args.line c.args.atom.now c.args.target.now (suite_of c.args.suite.now) c.exit_label-handler.result
+    (c.in_ok-within.ensures ∙ ap (λ (i : Scope). in_finally i) c.in_ok-inner.ensures) c.exit_label-handler.ensures c.in_ok-compile_managed.ensures.code c.in_ok-put_plain.ensures.code c.in_ok-put_plain-2.ensures.code
+
 -- ---- tries with clauses
 
 pub compile_tried-compile_suite-requires : goal.compile_tried-compile_suite-requires
 compile_tried-compile_suite-requires t c =
     let suite : Suite = suite_of c.args.suite.now in
     let fits : SuiteIn (scope_of c.in_ok-inner.inner) suite = subst (λ (i : Scope). SuiteIn i suite) (sym c.in_ok-inner.ensures) c.requires.fits in
+    let nests : SuiteNests c.in_ok-inner.inner.depth suite = subst (λ (i : Scope). SuiteNests i.depth suite) (sym c.in_ok-inner.ensures) c.requires.nests in
     let depth : c.in_ok-inner.inner.depth ≤ 1000 = subst (λ (i : Scope). i.depth ≤ 1000) (sym c.in_ok-inner.ensures) c.requires.depth in
     let labels : c.put_jump.new.self.labels ≤ 3 = subst (λ (w : ℕ). w ≤ 3) (sym c.in_ok-put_jump.ensures.widths.0) c.requires.low.0 in
     let others : c.put_jump.new.self.others ≤ 3 = subst (λ (w : ℕ). w ≤ 3) (sym c.in_ok-put_jump.ensures.widths.1) c.requires.low.1 in
@@ -242,6 +285,9 @@ compile_clauses-compile_handler-requires t c =
     clause_fits_at scope.kind (is_inside scope.around) items c.loop-clause.clause-index c.clause-item.result c.loop-clause-test.true c.clause-item.is
     (subst (ClausesIn scope) c.as_slice-clause-items.ensures c.requires.fits) in
     let fits : SuiteIn (scope_of c.args.within.now) suite = subst (λ (i : Scope). SuiteIn i suite) (sym c.requires.within) fits_outside in
+    let nests_outside : SuiteNests scope.depth suite =
+    clause_nests_at scope.depth items c.loop-clause.clause-index c.clause-item.result c.loop-clause-test.true c.clause-item.is (subst (ClausesNest scope.depth) c.as_slice-clause-items.ensures c.requires.nests) in
+    let nests : SuiteNests c.args.within.now.depth suite = subst (λ (i : Scope). SuiteNests i.depth suite) (sym c.requires.within) nests_outside in
     let depth : c.args.within.now.depth ≤ 1000 = subst (λ (i : Scope). i.depth ≤ 1000) (sym c.requires.within) c.requires.depth in
     let labels : c.put_match.new.self.labels ≤ 3 = subst (λ (w : ℕ). w ≤ 3) (sym (c.in_ok-put_match.ensures.widths.0 ∙ c.loop-clause.invariant.labels)) c.requires.low.0 in
     let others : c.put_match.new.self.others ≤ 3 = subst (λ (w : ℕ). w ≤ 3) (sym (c.in_ok-put_match.ensures.widths.1 ∙ c.loop-clause.invariant.others)) c.requires.low.1 in

@@ -44,6 +44,12 @@ decreases-compile_handler l = 5 * statements (suite_of l.suite.now) + 4
 abbrev pub decreases-compile_forgetting : goal.decreases-compile_forgetting
 decreases-compile_forgetting l = 5 * statements (suite_of l.suite.now) + 3
 
+abbrev pub decreases-compile_with : goal.decreases-compile_with
+decreases-compile_with l = 5 * statements (suite_of l.suite.now) + 3
+
+abbrev pub decreases-compile_managed : goal.decreases-compile_managed
+decreases-compile_managed l = 5 * statements (suite_of l.suite.now) + 2
+
 abbrev pub invariant-compile_suite-loop-stmt : goal.invariant-compile_suite-loop-stmt
 invariant-compile_suite-loop-stmt l = record {
   code : EmitsSuite l.fn.self.labels (draft_of l.fn.self) (draft_of l.self) (scope_of l.scope) (list_suite (take l.stmt-index l.stmt-items));
