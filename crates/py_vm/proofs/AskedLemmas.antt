@@ -4,14 +4,19 @@ use Rattle.std.specs.Prelude.{Option, None, slice_get}
 use Rattle.py_objects.specs.declared.refs.PyBaseExceptionRef.{PyBaseExceptionRef}
 use Rattle.py_objects.specs.declared.payload.Payload.{Payload}
 use Rattle.py_objects.specs.declared.payload.CoroKind.{CoroKind}
+use Rattle.py_objects.specs.declared.request.Request.{Request}
+use Rattle.py_objects.specs.declared.request.Request.TheVariants as request
+use Rattle.py_objects.specs.declared.event.GotAnswer.{GotAnswer}
+use Rattle.py_objects.specs.declared.event.GotAnswer.TheVariants as got
 use Rattle.py_objects.specs.declared.event.Event.{Event}
 use Rattle.py_objects.specs.declared.event.Event.TheVariants as event
 use Rattle.py_objects.specs.declared.event.DriveAnswer.{DriveAnswer}
-use Rattle.py_objects.specs.Objects.{number_if, got_numbers, result_numbers, AllBelow, AreNamed, Obj}
+use Rattle.py_objects.specs.Objects.{number_if, got_numbers, result_numbers, AllBelow, AreNamed, IfThere, IsException, Obj}
 use Rattle.py_objects.specs.Growth.{Grows, GrowsPlainly, IsGrown}
 use Rattle.py_objects.specs.Own.{Gets, whose}
 use Rattle.py_objects.specs.Edits.{Kept}
-use Rattle.py_objects.proofs.GrowthLemmas.{below_more, grows_plainly_refl, length_grown}
+use Rattle.py_objects.proofs.GrowthLemmas.{below_more, grows_plainly_refl, length_grown, payload_grown}
+use Rattle.py_objects.proofs.NewLemmas.{newest}
 use Rattle.py_objects.proofs.GrownLemmas.{objects_grow, grown_trans}
 use Rattle.py_exceptions.specs.Slots.{Slots, top_of}
 use Rattle.py_rows.specs.declared.expect.Expect.{Expect}
@@ -24,7 +29,8 @@ use Rattle.py_frame.specs.Frames.{handed}
 use Rattle.py_frame.specs.Steps.{Expects, got_of, taken}
 use Rattle.py_answers.specs.Answers.{Reply, GivesBody, GivesDrive}
 use Rattle.py_run.specs.declared.drive.Drive.{Drive}
-use Rattle.py_run.specs.Run.{Posed, start, state_after, top_asks, question}
+use Rattle.py_run.specs.Run.{Posed, start, state_after, top_asks, open_in, question}
+use Rattle.py_run.specs.Raises.{raised_by, raises_of, with_raise}
 use Rattle.py_run.specs.Generators.{answered, returned_by, value_of}
 use Rattle.py_run.specs.Coming.{IsAnswered}
 use Rattle.py_vm.specs.declared.stage.Running.{Running}
@@ -36,14 +42,16 @@ use Rattle.py_vm.specs.declared.generators.KeptGenerator.{KeptGenerator}
 use Rattle.py_vm.specs.declared.machinery.Core.{Core}
 use Rattle.py_vm.specs.Courses.{GivesReply, IsReplied}
 use Rattle.py_vm.specs.Generators.{modes_of}
-use Rattle.py_vm.specs.Machine.{plan_of}
+use Rattle.py_vm.specs.Machine.{plan_of, AreFrames, IsFrame}
+use Rattle.py_vm.specs.Raises.{Raises}
 use Rattle.py_vm.specs.Stands.{AreApart, IsApart, IsHalted, IsInside, IsOutside, Keeps, Plays, asking, caller_acts, caller_frames, first_slot, slots_in, stacked}
-use Rattle.py_vm.specs.Turns.{past_at, got_by, heard_by, result_by, result_of, KeepsValue, Replies, Turns}
+use Rattle.py_vm.specs.Turns.{past_at, got_by, heard_by, result_by, result_of, IsNoted, IsNotedBy, KeepsValue, Replies, Turns}
 use Rattle.py_vm.proofs.PlaysLemmas.{plays_hears, setting_in}
 use Rattle.py_vm.proofs.JournalLemmas.{next_number, top_is}
 use Rattle.py_vm.proofs.ChainLemmas.{AreHalted, AreOthers, acts_still, each_still, inside_halted, inside_on, zero_outside}
 use Rattle.py_vm.proofs.ChangesLemmas.{IsChange}
-use Rattle.py_vm.proofs.NextLemmas.{drive_told, next_law, played_told, slots_heard, IsNext}
+use Rattle.py_vm.proofs.NextLemmas.{drive_told, next_law, played_told, slots_heard, still_raised, IsNext}
+use Rattle.py_vm.proofs.RaisedLemmas.{raised_noted}
 use Rattle.py_vm.proofs.QuestionsLemmas.{Answers}
 use Rattle.py_vm.proofs.GoingLemmas.{goes}
 
@@ -85,13 +93,25 @@ IsFold m d May list =
     (asked : List Posed) (v : Option Obj) → IsNext m d asked → May v
     → answered (question (plan_of m.codes asked) (state_after start m.events)) (state_after start m.events).phase (length (state_after start m.events).made) v (modes_of m.generators) ≡ modes_of list
 
+-- what an answer that is as it is wanted raises is an exception
+raised_exception : (objects : List Payload) (q : Request) (g : GotAnswer) → IsAnswer objects (wanted q) g → IfThere (IsException objects) (raised_by (Some q) g)
+raised_exception objects request.Handled (got.Value v) is = is
+raised_exception objects (request.Raisable u) (got.Value v) is = is
+raised_exception objects _ (got.Value v) is = tt
+raised_exception objects q (got.Stop v) is = tt
+raised_exception objects q (got.Raise e) is = is
+
+-- the frame of the innermost that waits is one
+frame_there : (m : Core) (h : Halted) (hs : List Halted) → m.frames ≡ caller_frames hs ++ h.running.frame.entry ∷ [] → AreFrames m.store.made m.frames → IsFrame m.store.made h.running.frame.entry
+frame_there m h hs frames are = (subst (AreFrames m.store.made) frames are) (length (caller_frames hs)) h.running.frame.entry (newest (caller_frames hs) h.running.frame.entry)
+
 -- it gets the answer to what it asked, which is as it is wanted and names objects
-pub got_law : (m : Core) (d : Drive) (s : Stage) (h : Halted) (hs : List Halted) (store : Kept) (list : List KeptGenerator) (w : Answer) (Other : ℕ → Type 0) → Keeps m d s → IsGrown m.store store → (waits : Waiting m d h hs)
+pub got_law : (m : Core) (d : Drive) (s : Stage) (h : Halted) (hs : List Halted) (store : Kept) (list : List KeptGenerator) (raises : Raises) (w : Answer) (Other : ℕ → Type 0) → Keeps m d s → IsGrown m.store store → (waits : Waiting m d h hs)
     → IsAnswer store.made (wanted waits.halted.question.request) (got_of w) → AllBelow (length store.made) (got_numbers (got_of w))
     → ((asked : List Posed) → IsNext m d asked → (reply : Reply) × IsAnswered (plan_of m.codes asked) store.made (past_at m) reply × GivesBody store.made m.events reply (got_of w))
     → IsChange m Other store (event.Got h.running.act (got_of w)) list → AreOthers Other hs → Other h.running.act → IsFold m d (λ v. v ≡ value_of (got_of w)) list
-    → Turns m d s None (got_by (record m { store = store; generators = list; callers = hs }) h.running w)
-got_law m d s h hs store list w Other k grown waits as_wanted below replied change others other fold =
+    → IsNotedBy m.events h w m.raises raises → Turns m d s None (got_by (record m { store = store; generators = list; callers = hs; raises = raises }) h.running w)
+got_law m d s h hs store list raises w Other k grown waits as_wanted below replied change others other fold (act, asked, own, at, entry, noted) =
     let r : Running = h.running in
     let e : Event = event.Got r.act (got_of w) in
     let old = waits.halted.plays in
@@ -112,7 +132,11 @@ got_law m d s h hs store list w Other k grown waits as_wanted below replied chan
     let low = subst (λ (x : Option PyBaseExceptionRef). AllBelow (length store.made) (number_if x)) (sym shares) (below_more _ _ _ (length_grown m.store.made store.made grows) old.running.below.in_slot) in
     let plays : Plays m.codes m.globals store.made (m.events ++ e ∷ []) now first =
     plays_hears m.codes m.globals m.store.made store.made m.events e grows r refl first slot first (input.Answer w) (Gets (length m.events) (got_of w)) refl refl below (record { below = low; left = inr shares }) old expects run in
-    next_law m d s e None (got_by (record m { store = store; generators = list; callers = hs }) r w) k (record {
+    let both : Some (event.Ask act asked own at) ≡ Some (event.Ask q.act q.request q.own q.at) = sym entry ∙ q.entry in
+    let same : asked ≡ q.request = cc both in
+    let raise : Option Obj = raised_by (Some q.request) (got_of w) in
+    let (code, frame) = frame_there m h hs waits.frames k.nested.are_frames in
+    next_law m d s e None (got_by (record m { store = store; generators = list; callers = hs; raises = raises }) r w) k (record {
       grown = grown;
       done = k.follows.done;
       phase = refl;
@@ -125,6 +149,8 @@ got_law m d s h hs store list w Other k grown waits as_wanted below replied chan
       frames = waits.frames;
       are_frames = k.nested.are_frames;
       slots = slots_heard r.kind (slots_in hs) m.slots r.frame.state.slot r.frame.state.wants (inr shares) (waits.slots ∙ ap (λ x. stacked r.kind x (slots_in hs)) (sym shares));
+      raised = raised_noted m.store.made store.made m.events e m.raises grows k.raised raises h raise (subst (λ y. IsNoted h (raised_by (Some y) (got_of w)) m.raises raises) same noted)
+          (ap (λ l. with_raise (raised_by (open_in None l) (got_of w)) (raises_of m.events)) stack) (raised_exception store.made q.request (got_of w) as_wanted) (code, payload_grown m.store.made store.made _ _ grows frame);
       at_stage = (
         record { plays = plays; moves = subst (λ (x : Expect). IsMoving (taken (input.Answer w) x)) (sym waiting) tt },
         record {
@@ -158,6 +184,7 @@ result_law m d s store list w Other k none alone grown below replied change fold
       frames = alone.frames ∙ sym (ap caller_frames none);
       are_frames = k.nested.are_frames;
       slots = alone.slots ∙ sym (ap slots_in none);
+      raised = still_raised m d s store e k grown refl;
       at_stage = none;
     }) (refl, refl, refl)
     (λ asked is. (next_number _ _ k.follows.done, alone.stack, replied asked is))
@@ -226,10 +253,10 @@ replies_law m d s [] store list reply w a m' Other k grown alone fits answers re
     let same : m' ≡ result_by (record m { store = store; generators = list }) (result_of w) =
     is ∙ ap (λ hs. result_by (record m { store = store; generators = list; callers = hs }) (result_of w)) (sym callers) in
     subst (λ x. Turns m d s x m') (sym is_answer) (subst (Turns m d s (Some (result_of w))) (sym same) turned)
-replies_law m d s (h ∷ hs) store list reply w a m' Other k grown waits fits answers replied change others fold none (is_answer, (store', answer, (more, keeps, gives), is)) =
+replies_law m d s (h ∷ hs) store list reply w a m' Other k grown waits fits answers replied change others fold none (is_answer, (store', answer, (more, keeps, gives), (raises, noted, is))) =
     let all : IsGrown m.store store' = grown_trans m.store store store' grown more in
     let given : GivesReply m.store.made store'.made reply answer = gives m.store.made reply (objects_grow m.store store grown) (grown.objects.fit k.stored.readable.fit) replied in
-    let turned = got_law m d s h hs store' list answer Other k all waits (fits store' answer more given) given.below
+    let turned = got_law m d s h hs store' list raises answer Other k all waits (fits store' answer more given) given.below
     (λ asked next. (reply, answers store'.made more.objects asked next, given.gives m.events k.told.named)) (change store' (event.Got h.running.act (got_of answer)) all refl more.objects) others.1 others.0
-    (λ asked v next same. fold asked v next (subst (MayBe w) (sym same) (got_may w answer keeps))) in
+    (λ asked v next same. fold asked v next (subst (MayBe w) (sym same) (got_may w answer keeps))) noted in
     subst (λ x. Turns m d s x m') (sym is_answer) (subst (Turns m d s None) (sym is) turned)

@@ -1,5 +1,5 @@
 -- Codes of units that ask only what the machine answers.
-use Rattle.std.proofs.Common.{◌≡◌, ◌≢◌, ◌∙◌, ℕ, true, false, refl, sym}
+use Rattle.std.proofs.Common.{◌≡◌, ◌≢◌, ℕ, true, false, refl}
 use Rattle.std.specs.Prelude.{Bool, Option, Some, slice_get}
 use Rattle.py_code.specs.declared.code.PyCode.{PyCode}
 use Rattle.py_code.specs.declared.instruction.Instruction.{Instruction}
@@ -14,10 +14,8 @@ use Rattle.py_rows.specs.Signature.{kind_of}
 use Rattle.py_answers.specs.Replying.{is_answered}
 use Rattle.py_vm.specs.Codes.{CodeIsAnswered, IsDriven}
 
--- instructions, each with some arguments, that the machine answers: none enters or leaves a manager, and no raise has a cause
+-- instructions, each with some arguments, that the machine answers: no raise has a cause
 pub record AreAnswered (is_used : Instruction → ℕ → Bool) : Type 0 where
-  pub no_enter : (arg : ℕ) → is_used SetupWith arg ≡ false
-  pub no_exit : (arg : ℕ) → is_used WithCleanupStart arg ≡ false
   pub no_cause : (arg : ℕ) → is_used Raise arg ≡ true → raise_of arg ≢ Some raise.RaiseCause
 
 -- what a raise asks that has no cause
@@ -28,10 +26,6 @@ raise_answered (Some raise.RaiseCause) q plain asks = absurd (plain refl)
 raise_answered _ _ plain asks = absurd (cc asks)
 
 module _ (is_used : Instruction → ℕ → Bool) (answered : AreAnswered is_used) where
-  -- a unit that is used isn't one that isn't
-  never : (op : Instruction) (arg : ℕ) → is_used op arg ≡ false → is_used op arg ≡ true → ⊥
-  never op arg unused used = absurd (let clash : true ≡ false = sym used ∙ unused in cc clash)
-
   -- what a unit asks that is used the machine answers
   unit_answered : (op : Instruction) (arg : ℕ) → is_used op arg ≡ true → (q : Request) → may_ask op arg q ≡ true → is_answered q ≡ true
   unit_answered LoadFast arg used (request.Unbound x) asks = refl
@@ -48,8 +42,9 @@ module _ (is_used : Instruction → ℕ → Bool) (answered : AreAnswered is_use
   unit_answered JumpIfTrue arg used (request.Truth v) asks = refl
   unit_answered JumpIfFalse arg used (request.Truth v) asks = refl
   unit_answered WithCleanupFinish arg used (request.Truth v) asks = refl
-  unit_answered SetupWith arg used q asks = absurd (never SetupWith arg (answered.no_enter arg) used)
-  unit_answered WithCleanupStart arg used q asks = absurd (never WithCleanupStart arg (answered.no_exit arg) used)
+  unit_answered SetupWith arg used (request.Enter m) asks = refl
+  unit_answered SetupWith arg used (request.NoExit m) asks = refl
+  unit_answered WithCleanupStart arg used (request.Exit x c e t) asks = refl
   unit_answered Raise arg used q asks = raise_answered (raise_of arg) q (answered.no_cause arg used) asks
   unit_answered _ arg used _ asks = absurd (cc asks)
 

@@ -56,7 +56,7 @@ use Rattle.py_vm.specs.Codes.{signature_in}
 use Rattle.py_vm.specs.Courses.{IsHeard, IsReplied, RaisesThere}
 use Rattle.py_vm.specs.Generators.{generator_asked, is_close, modes_of, seen_as, settled}
 use Rattle.py_vm.specs.Machine.{plan_of}
-use Rattle.py_vm.specs.Stands.{AreApart, EntersGenerator, HasEntered, IsApart, IsEnding, IsInside, IsLeft, IsNoOnes, Keeps, KeepsIn, LeavesAs, caller_acts, caller_frames, first_slot, slots_in}
+use Rattle.py_vm.specs.Stands.{AreApart, EntersGenerator, HasEntered, IsApart, IsCalling, IsEnding, IsInside, IsLeft, IsNoOnes, Keeps, KeepsIn, LeavesAs, caller_acts, caller_frames, first_slot, slots_in}
 use Rattle.py_vm.specs.Turns.{past_at, passed, Finished, IsCreated, IsSettled, Questioned, Replies, Turns}
 use Rattle.py_vm.proofs.CallsLemmas.{signature_at}
 use Rattle.py_vm.proofs.KeptLemmas.{modes_changed_one, other_way}
@@ -135,6 +135,35 @@ apart_who : (n at : ℕ) (hs : List Halted) → n ≡ suc at → IsApart n hs �
 apart_who n at [] number apart = ne_eqb n 0 (λ none. absurd (omega (arith, number, none)))
 apart_who n at (h ∷ hs) number apart = other_way h.running.act n apart.0
 
+-- ---- what is answered by the call of a function
+
+-- it wants any object
+calling_any : (q : Request) → IsCalling q → wanted q ≡ want.Of kind.Any
+calling_any (request.Call f vs named) calls = refl
+calling_any (request.Enter m) calls = refl
+calling_any (request.Exit x c e t) calls = refl
+calling_any _ calls = absurd calls
+
+-- enters no generator, and settles none
+pub calling_none : (q : Request) → IsCalling q → generator_asked q ≡ None
+calling_none (request.Call f vs named) calls = refl
+calling_none (request.Enter m) calls = refl
+calling_none (request.Exit x c e t) calls = refl
+calling_none _ calls = absurd calls
+
+calling_settles : (q : Request) (how : CoroEnd) (xs : List Generator) → IsCalling q → settles (Some q) how xs ≡ xs
+calling_settles (request.Call f vs named) how xs calls = refl
+calling_settles (request.Enter m) how xs calls = refl
+calling_settles (request.Exit x c e t) how xs calls = refl
+calling_settles _ how xs calls = absurd calls
+
+-- and is answered by how that was left
+calling_due : (objects : List Payload) (q : Request) (how : CoroEnd) (reply : Reply) → IsCalling q → LeavesCalled how reply → IsDue objects q how reply
+calling_due objects (request.Call f vs named) how reply calls leaves = (calls, leaves)
+calling_due objects (request.Enter m) how reply calls leaves = leaves
+calling_due objects (request.Exit x c e t) how reply calls leaves = leaves
+calling_due objects _ how reply calls leaves = absurd calls
+
 -- ---- an activation becomes a generator
 
 -- a new generator of the last activation that was made is seen behind the others
@@ -211,9 +240,8 @@ module _ (m : Core) (d : Drive) (r : Running) (f : Obj) (kind : CoroKind) (x : K
   created_law a m' replies =
       let hs : List Halted = m.callers in
       let asks : Asker m d hs None r.act = asker m d None r.act hs k.follows.stack k.nested.frames k.nested.slots k.nested.apart k.at_stage.5 in
-      let call = asks.entered in
       replies_law m d (stage.Made r f) hs store (m.generators ++ x ∷ []) (Creates body) (made.Value x.object) a m' (But x.act) k grown asks.asked_by
-      (any_fits m d store (Creates body) hs asks.asked_by asks.q asks.theirs (ap wanted call.2))
+      (any_fits m d store (Creates body) hs asks.asked_by asks.q asks.theirs (calling_any asks.q asks.entered))
       (λ objects more. made_answers m d asks.q objects f kind (Creates body) k.follows.phase (λ asked next. their_question m d hs asks.asked_by asks.q asked asks.theirs k.follows.done next)
       (makes objects (grows_plainly_trans m.store.made store.made objects grown.objects more)))
       replied (λ store' e more mine after. change hs k.at_stage.3 store' e more mine after)
@@ -280,14 +308,14 @@ module _ (m : Core) (d : Drive) (s : Suspended) (how : CoroEnd) (k : Keeps m d (
 
   -- that of a call
   finished_call : s.running.kind ≡ None → HasEntered m.generators asks.q None s.running.act → (a : Option DriveAnswer) (m' : Core) → Replies m (passed how) m.callers a m' → Turns m d (stage.Due s how) a m'
-  finished_call plain (f, vs, call) a m' replies =
+  finished_call plain calls a m' replies =
       let (reply, leaves, replied) = call_replied m s how plain k.at_stage.0 k.at_stage.1 in
-      let due : IsDue m.store.made asks.q how reply = subst (λ q. IsDue m.store.made q how reply) (sym call) (refl, leaves) in
+      let due : IsDue m.store.made asks.q how reply = calling_due m.store.made asks.q how reply calls leaves in
       replies_law m d (stage.Due s how) m.callers m.store m.generators reply (passed how) a m' Anyone k (grown_refl m.store) asks.asked_by
-      (any_fits m d m.store reply m.callers asks.asked_by asks.q asks.theirs (ap wanted call))
+      (any_fits m d m.store reply m.callers asks.asked_by asks.q asks.theirs (calling_any asks.q calls))
       (λ objects more asked next. answered_grows (plan_of m.codes asked) m.store.made objects (past_at m) reply more (due_answers m d asks.q m.store how reply (grown_refl m.store) k.follows.phase asked_there due asked next))
       replied (λ store' e more mine after. no_change m store' e) (all_others m.callers)
-      (settled_there m.generators (ap (λ q. settles (Some q) how (modes_of m.generators)) call) (MayBe (passed how))) (λ none. none) replies
+      (settled_there m.generators (calling_settles asks.q how (modes_of m.generators) calls) (MayBe (passed how))) (λ none. none) replies
 
   -- that of a generator
   finished_generator : (kind : CoroKind) → EntersGenerator m.generators asks.q s.running.act → (store : Kept) (list : List KeptGenerator) (w : MadeReply) → IsSettled m s how (generator_asked asks.q) store list w
@@ -322,8 +350,8 @@ module _ (m : Core) (d : Drive) (s : Suspended) (how : CoroEnd) (k : Keeps m d (
       settled_so = subst (λ r. IsSettled m s how (generator_asked r) store list w) (asks.is q questioned) is_settled
 
       by_kind : (kind : Option CoroKind) → s.running.kind ≡ kind → HasEntered m.generators asks.q kind s.running.act → Turns m d (stage.Due s how) a m'
-      by_kind None plain (f, vs, call) =
-          let (store_is, list_is, w_is) = subst (λ r. IsSettled m s how (generator_asked r) store list w) call settled_so in
-          finished_call plain (f, vs, call) a m' (subst (λ y. Replies m y m.callers a m') w_is (subst (λ l. Replies (record m { generators = l }) w m.callers a m') list_is
+      by_kind None plain calls =
+          let (store_is, list_is, w_is) = subst (λ o. IsSettled m s how o store list w) (calling_none asks.q calls) settled_so in
+          finished_call plain calls a m' (subst (λ y. Replies m y m.callers a m') w_is (subst (λ l. Replies (record m { generators = l }) w m.callers a m') list_is
           (subst (λ (t : Kept). Replies (record m { store = t; generators = list }) w m.callers a m') store_is replies)))
       by_kind (Some kind) is enters = finished_generator kind enters store list w settled_so a m' replies

@@ -21,6 +21,7 @@ use Rattle.py_objects.proofs.ErrorKindsLemmas.{place_at, place_below}
 use Rattle.py_objects.proofs.GrowthLemmas.{below_more, slice_get_split, one_entry}
 use Rattle.py_objects.specs.Singletons.{singletons}
 use Rattle.py_vm.specs.First.{first_objects, first_globals}
+use Rattle.py_vm.specs.Raises.{AreRaised}
 use Rattle.py_vm.specs.Machine.{new_machine}
 use Rattle.py_vm.specs.Holds.{IsCoded}
 use Rattle.py_vm.specs.Stands.{AreApart, AreKept, AtStage, phase_of, acts_of, frames_at, slots_at, IsIdle, seen}
@@ -153,8 +154,8 @@ seen_first m names objects unchanged codes globals no_events no_generators no_fr
 
 -- a machine that has done nothing is between drives
 pub start_idle : (m : Core) → m.events ≡ [] → Begins m.store m.globals → m.codes.codes ≡ [] → m.zoo ≡ first_classes → m.declarations ≡ declarations_of first_classes → m.done ≡ 0 → m.made ≡ 0
-    → m.callers ≡ [] → m.generators ≡ [] → m.frames ≡ [] → m.slots ≡ None ∷ [] → m.stage ≡ stage.Idle → IsIdle m
-start_idle m no_events begins no_codes classes names none_done none_made no_callers no_generators no_frames empty idle =
+    → m.callers ≡ [] → m.generators ≡ [] → m.frames ≡ [] → m.slots ≡ None ∷ [] → m.raises ≡ [] → m.stage ≡ stage.Idle → IsIdle m
+start_idle m no_events begins no_codes classes names none_done none_made no_callers no_generators no_frames empty no_raises idle =
     let fit : AllFit m.store.made = subst AllFit (sym begins.objects) first_fit in
     let nothing : state_after start m.events ≡ start = ap (state_after start) no_events in
     record {
@@ -167,7 +168,7 @@ start_idle m no_events begins no_codes classes names none_done none_made no_call
         };
         stored = record {
           readable = record {
-            dicts = λ i c here. absurd (let none : None ≡ Some c = sym (ap (λ l. slice_get l i) begins.unchanged) ∙ here in cc none);
+            unread = λ i c here. absurd (let none : None ≡ Some c = sym (ap (λ l. slice_get l i) begins.unchanged) ∙ here in cc none);
             fit = fit;
           };
           classes = subst (λ zoo. HaveClasses zoo m.store.made) (sym classes) (subst (HaveClasses first_classes) (sym begins.objects) first_have);
@@ -194,6 +195,7 @@ start_idle m no_events begins no_codes classes names none_done none_made no_call
           are_frames = λ i f here. absurd (let none : None ≡ Some f = sym (ap (λ l. slice_get l i) no_frames) ∙ here in cc none);
           slots = empty ∙ ap (λ hs. slots_at hs stage.Idle) (sym no_callers) ∙ ap (slots_at m.callers) (sym idle);
         };
+        raised = subst (AreRaised m.store.made m.events) (sym no_raises) (subst (λ es. AreRaised m.store.made es []) (sym no_events) (record { are = λ e. refl; there = λ e x here. absurd (cc here) }));
         at_stage = subst (AtStage m.codes m.globals m.store.made m.events m.generators d m.made m.callers) (sym idle) no_callers;
       };
       idle = idle;

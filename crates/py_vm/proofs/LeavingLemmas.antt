@@ -45,10 +45,11 @@ use Rattle.py_vm.specs.declared.stage.Halted.{Halted}
 use Rattle.py_vm.specs.declared.stage.Suspended.{Suspended}
 use Rattle.py_vm.specs.declared.stage.Stage.{Stage}
 use Rattle.py_vm.specs.declared.machinery.Core.{Core}
+use Rattle.py_vm.specs.Codes.{Checked}
 use Rattle.py_vm.specs.Courses.{IsReplied, RepliesRaise}
 use Rattle.py_vm.specs.Generators.{changed_at, generator_asked, kept_at, kept_by, kept_in, settled, IsRunningNow}
 use Rattle.py_vm.specs.Stands.{IsEnding}
-use Rattle.py_vm.specs.Turns.{got_by, passed, AreReady, Finished, FirstAsks, IsAnswerTo, IsSettled, Questioned, Replies, SettledOne, Started}
+use Rattle.py_vm.specs.Turns.{got_by, passed, AreReady, Finished, FirstAsks, IsAnswerTo, IsSettled, NotedOne, Questioned, Replies, SettledOne, Started}
 use Rattle.py_vm.proofs.CallsLemmas.{raise_given}
 
 -- ---- how an activation was left
@@ -178,9 +179,9 @@ module _ (m : Core) (g : Obj) (s : Suspended) (how : CoroEnd) (runs : IsRunningN
 -- ---- whose answer it is
 
 -- there is one
-pub some_question : (objects : List Payload) (events : List Event) (d : Drive) (hs : List Halted) → FirstAsks objects events hs → (q : Request) × Questioned events d hs q
-some_question objects events d [] asks = (request_of d, refl)
-some_question objects events d (h ∷ hs) asks = (asks.request, (asks.act, asks.own, asks.at, asks.entry))
+pub some_question : (codes : Checked) (events : List Event) (d : Drive) (hs : List Halted) → FirstAsks codes events hs → (q : Request) × Questioned events d hs q
+some_question codes events d [] asks = (request_of d, refl)
+some_question codes events d (h ∷ hs) ((act, q, own, at, entry), note) = (q, (act, own, at, entry))
 
 -- ---- who asked gets the answer
 
@@ -199,9 +200,10 @@ module _ (m : Core) (d : Drive) (s : Suspended) (how : CoroEnd) (q : Request) (a
 
 module _ (m : Core) (w : MadeReply) where
   -- the innermost caller gets it
-  pub caller_replied : (hs rest : List Halted) (h : Halted) (store : Kept) (a : Answer) (m' : Core) → hs ≡ h ∷ rest → IsAnswerTo m.store store w a
-      → m' ≡ got_by (record m { store = store; callers = rest }) h.running a → Replies m w hs None m'
-  caller_replied hs rest h store a m' is answers gets = subst (λ l. Replies m w l None m') (sym is) (refl, (store, a, answers, gets))
+  pub caller_replied : (hs rest : List Halted) (h : Halted) (store : Kept) (a : Answer) (n m' : Core) → hs ≡ h ∷ rest → IsAnswerTo m.store store w a → NotedOne (record m { store = store; callers = rest }) h a n
+      → m' ≡ got_by n h.running a → Replies m w hs None m'
+  caller_replied hs rest h store a n m' is answers (raises, noted, same) gets =
+      subst (λ l. Replies m w l None m') (sym is) (refl, (store, a, answers, (raises, noted, gets ∙ ap (λ (y : Core). got_by y h.running a) same)))
 
 -- ---- an activation that was made
 

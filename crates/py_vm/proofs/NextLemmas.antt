@@ -23,6 +23,7 @@ use Rattle.py_run.specs.Run.{Act, Posed, State, start, state_after, entered_in, 
 use Rattle.py_run.specs.Calls.{Setting}
 use Rattle.py_run.specs.Generators.{Generator, generators_after}
 use Rattle.py_run.specs.Coming.{Past, setting, MayCome}
+use Rattle.py_run.specs.Raises.{raises_after, raises_of}
 use Rattle.py_run.proofs.OwnLemmas.{state_after-append, done_below, made_below}
 use Rattle.py_vm.specs.declared.stage.Running.{Running}
 use Rattle.py_vm.specs.declared.stage.Halted.{Halted}
@@ -32,10 +33,12 @@ use Rattle.py_vm.specs.declared.machinery.Core.{Core}
 use Rattle.py_vm.specs.Codes.{signatures_of}
 use Rattle.py_vm.specs.Generators.{modes_of}
 use Rattle.py_vm.specs.Machine.{posed, plan_of, AreFrames}
+use Rattle.py_vm.specs.Raises.{AreRaised}
 use Rattle.py_vm.specs.Stands.{AreApart, AreKept, AtStage, IsTold, Keeps, Plays, acts_of, caller_acts, caller_frames, frames_at, phase_of, slots_at, stacked}
 use Rattle.py_vm.specs.Turns.{setting_at, past_at, AfterTurn, Turns}
 use Rattle.py_vm.proofs.JournalLemmas.{acted_on, low_at, made_same, marked_on, nobody_on, runnable_on, stored_on, told_still}
 use Rattle.py_vm.proofs.PlaysLemmas.{plays_rows}
+use Rattle.py_vm.proofs.RaisedLemmas.{raised_still}
 
 -- frames are frames among more objects
 pub frames_still : (objects objects' : List Payload) (frames : List FrameRef) → Grows objects objects' → AreFrames objects frames → AreFrames objects' frames
@@ -78,7 +81,7 @@ setting_is m d s asked k handled is =
 -- this machine with one more event, and otherwise with what a turn may change as that one has it
 abbrev pub next_to : Core → Event → Core → Core
 next_to m e n =
-    record m { store = n.store; events = m.events ++ e ∷ []; done = n.done; made = n.made; frames = n.frames; callers = n.callers; generators = n.generators; slots = n.slots; stage = n.stage }
+    record m { store = n.store; events = m.events ++ e ∷ []; done = n.done; made = n.made; frames = n.frames; callers = n.callers; generators = n.generators; slots = n.slots; raises = n.raises; stage = n.stage }
 
 -- where a run is behind the event, what the journal keeps, and what runs
 pub record Next (m : Core) (d : Drive) (e : Event) (n : Core) : Type 0 where
@@ -94,7 +97,13 @@ pub record Next (m : Core) (d : Drive) (e : Event) (n : Core) : Type 0 where
   pub frames : n.frames ≡ frames_at n.callers n.stage
   pub are_frames : AreFrames m.store.made n.frames
   pub slots : n.slots ≡ slots_at n.callers n.stage
+  pub raised : AreRaised n.store.made (m.events ++ e ∷ []) n.raises
   pub at_stage : AtStage m.codes m.globals n.store.made (m.events ++ e ∷ []) n.generators d n.made n.callers n.stage
+
+-- what was raised is the same behind an event that raises nothing, and tells no exit
+pub still_raised : (m : Core) (d : Drive) (s : Stage) (store : Kept) (e : Event) → Keeps m d s → IsGrown m.store store → raises_after (state_after start m.events) (raises_of m.events) e ≡ raises_of m.events
+    → AreRaised store.made (m.events ++ e ∷ []) m.raises
+still_raised m d s store e k grown same = raised_still m.store.made store.made m.events e m.raises (objects_grow m.store store grown) k.raised same
 
 -- the machine turns
 pub next_law : (m : Core) (d : Drive) (s : Stage) (e : Event) (a : Option DriveAnswer) (n : Core) → Keeps m d s → Next m d e n → AfterTurn m (next_to m e n) e a
@@ -121,6 +130,7 @@ next_law m d s e a n k x ends comes =
           are_frames = frames_still m.store.made n.store.made n.frames grows x.are_frames;
           slots = x.slots;
         };
+        raised = x.raised;
         at_stage = x.at_stage;
       };
       added = e;

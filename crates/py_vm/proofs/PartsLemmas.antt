@@ -9,16 +9,17 @@ use Rattle.py_objects.specs.declared.payload.Payload.TheVariants as payload
 use Rattle.py_objects.specs.declared.payload.CoroKind.{CoroKind}
 use Rattle.py_objects.specs.declared.scope.Scope.{Scope}
 use Rattle.py_objects.specs.declared.request.Request.{Request}
+use Rattle.py_objects.specs.declared.request.Request.TheVariants as request
 use Rattle.py_objects.specs.declared.event.Event.{Event}
 use Rattle.py_objects.specs.declared.event.Event.TheVariants as event
 use Rattle.py_objects.specs.declared.event.DriveAnswer.{DriveAnswer}
 use Rattle.py_objects.specs.declared.event.ResumeHow.{ResumeHow}
 use Rattle.py_objects.specs.declared.event.ResumeHow.TheVariants as how
-use Rattle.py_objects.specs.Objects.{Obj}
+use Rattle.py_objects.specs.Objects.{Obj, IsFunction}
 use Rattle.py_objects.specs.Edits.{Kept}
 use Rattle.py_objects.specs.Growth.{with_object, IsGrown}
 use Rattle.py_objects.specs.Scopes.{scope_of}
-use Rattle.py_objects.proofs.GrownLemmas.{grown_trans, added_grown, objects_grow}
+use Rattle.py_objects.proofs.GrownLemmas.{grown_refl, grown_trans, added_grown, objects_grow}
 use Rattle.py_exceptions.specs.Classes.{HaveClasses}
 use Rattle.py_exceptions.proofs.ClassesLemmas.{classes_grown}
 use Rattle.py_exceptions.specs.Slots.{Slots}
@@ -27,13 +28,16 @@ use Rattle.py_rows.specs.Below.{TellsBelow}
 use Rattle.py_rows.specs.Laws.{AllMayTell}
 use Rattle.py_rows.specs.RunOfRows.{filled}
 use Rattle.py_rows.specs.Signature.{kind_of}
+use Rattle.py_frame.specs.declared.input.Answer.{Answer}
 use Rattle.py_frame.specs.declared.input.FrameStep.{FrameStep}
+use Rattle.py_frame.specs.declared.input.FrameStep.TheVariants as step
 use Rattle.py_frame.specs.Frames.{Framed, handed, setting_of, unfilled}
 use Rattle.py_frame.specs.Running.{IsRunning, IsSame}
 use Rattle.py_frame.specs.Steps.{Extends, IfTold, NamesHandled, events as own_of_step, expected, told}
 use Rattle.py_coro.specs.declared.coro.CoroEnd.{CoroEnd}
 use Rattle.py_coro.specs.Modes.{Mode, Fresh, Suspended as Left, Running as Entered, Closed}
 use Rattle.py_answers.specs.Answers.{Reply}
+use Rattle.py_answers.specs.Readable.{IsReadable}
 use Rattle.py_answers.specs.Replying.{IsGenerator}
 use Rattle.py_run.specs.declared.drive.Drive.{Drive}
 use Rattle.py_run.specs.Calls.{Setting}
@@ -47,6 +51,7 @@ use Rattle.py_vm.specs.declared.stage.Halted.{Halted}
 use Rattle.py_vm.specs.declared.stage.Suspended.{Suspended}
 use Rattle.py_vm.specs.declared.stage.Stage.{Stage}
 use Rattle.py_vm.specs.declared.stage.Stage.TheVariants as stage
+use Rattle.py_vm.specs.declared.raises.KeptRaise.{KeptRaise}
 use Rattle.py_vm.specs.declared.machinery.Core.{Core}
 use Rattle.py_vm.specs.Codes.{Checked}
 use Rattle.py_vm.specs.Courses.{EntersBy, IsCourse, IsReplied, IsResumption, NamesThere, TakesThrows}
@@ -58,10 +63,13 @@ use Rattle.py_vm.specs.Turns.{
   setting_at,
   AnsweredOne,
   AreReady,
+  AsksAt,
   CanFinish,
+  CanTell,
   Comes_on,
   CreatedOne,
   Finished,
+  FirstAsks,
   Halts,
   HasOwnSlot,
   HoldsIn,
@@ -71,14 +79,25 @@ use Rattle.py_vm.specs.Turns.{
   IsOpened,
   IsResumable,
   IsSaid,
+  IsStepped,
   IsToldStep,
+  IsTracedAs,
+  IsTracedBy,
   MadeOne,
+  NotedOne,
   Questioned,
   Replies,
   ResumedOne,
   SettledOne,
+  ToldOne,
+  WentOn,
 }
+use Rattle.py_vm.specs.Raises.{raise_at, AreThere}
+use Rattle.py_vm.specs.Stands.{IsQuestion}
+use Rattle.py_vm.proofs.JournalLemmas.{below_behind, readable_on}
 use Rattle.py_vm.proofs.KeptLemmas.{kept_changed}
+use Rattle.py_vm.proofs.RaisedLemmas.{there_grown, traced_grows, traced_same}
+use Rattle.py_vm.proofs.QuestionsLemmas.{opened_call}
 use Rattle.py_vm.proofs.LeavingLemmas.{finished_call, finished_generator, replies_at, some_question}
 
 -- what leaves a machine's events, codes and globals halts, where it got no more than objects
@@ -108,6 +127,32 @@ pub halted_on : (m m' : Core) (store : Kept) (generators : List KeptGenerator) (
     → Halts (record m { store = store; generators = generators; frames = frames; callers = callers; slots = slots; stage = stage }) m' → Halts m m'
 halted_on m m' store generators frames callers slots stage grown halts =
     halts_trans m (record m { store = store; generators = generators; frames = frames; callers = callers; slots = slots; stage = stage }) m' (grew_halts m store generators frames callers slots stage grown) halts
+
+-- so does one that noted a raise
+pub noted_halts : (m n : Core) (h : Halted) (w : Answer) → NotedOne m h w n → Halts m n
+noted_halts m n h w (raises, noted, same) = subst (Halts m) (sym same) (halts_with m (record m { raises = raises }) refl (grown_refl m.store) refl refl refl refl refl)
+
+-- and one that told an exit a traceback
+pub traced_halts : (m n : Core) (e t : Obj) → AreThere m.store.made m.raises → IsTracedBy m e (raise_at m.raises e) t n → Halts m n
+traced_halts m n e t there traced =
+    subst (Halts m) (sym (traced_same m n e t (raise_at m.raises e) traced))
+    (halts_with m (record m { store = n.store; raises = n.raises }) refl (traced_grows m n e t there traced) refl refl refl refl refl)
+
+pub told_halts : (m n : Core) (q told_so : Request) → AreThere m.store.made m.raises → ToldOne m q told_so n → Halts m n
+told_halts m n (request.Exit x c e t) told_so there (inl (none, is, same)) = subst (Halts m) (sym same) (halts_with m m refl (grown_refl m.store) refl refl refl refl refl)
+told_halts m n (request.Exit x c e t) told_so there (inr (exception, (u, is, traced))) = traced_halts m n e u there traced
+told_halts m n q told_so there tells = subst (Halts m) (sym tells.1) (halts_with m m refl (grown_refl m.store) refl refl refl refl refl)
+
+-- a step that asks can be told
+pub can_tell : (m : Core) (store : Kept) (slots : Slots) (s : FrameStep) (at : ℕ) → IsReadable m.store → AreThere m.store.made m.raises → IsGrown m.store store → TellsBelow (length store.made) (own_of_step (told at s))
+    → CanTell (record m { store = store; slots = slots }) s
+can_tell m store slots (step.Ask q own) at readable there grown below =
+    (readable_on m.store store grown readable, below_behind _ _ _ below.0, there_grown m.store.made store.made m.raises (objects_grow m.store store grown) there)
+can_tell m store slots step.Round at readable there grown below = tt
+can_tell m store slots (step.Yield v) at readable there grown below = tt
+can_tell m store slots (step.Return v) at readable there grown below = tt
+can_tell m store slots (step.Raise e) at readable there grown below = tt
+can_tell m store slots step.NoMemory at readable there grown below = tt
 
 -- a frame's object is growth
 frame_grown : (s : Kept) (place : ℕ) → IsGrown s (with_object s (payload.Frame place))
@@ -203,6 +248,11 @@ module _ (m : Core) (store : Kept) (list : List KeptGenerator) (at : Setting) (q
   pub course_opened : (f : Obj) (vs : List Obj) → x ≡ course.Enters f vs → IsOpened m q f vs × (store ≡ m.store) × (list ≡ m.generators)
   course_opened f vs is = there (course.Enters f vs) is
 
+  pub course_callee : (f : Obj) (vs : List Obj) → x ≡ course.Enters f vs → IsFunction store.made f
+  course_callee f vs is =
+      let opened = course_opened f vs is in
+      subst (λ (s : Kept). IsFunction s.made f) (sym opened.1) (opened_call (setting_at m) m.store.made q f vs opened.0).1
+
   -- or enters a generator
   pub course_resumes : (g : Obj) (h : ResumeHow) → x ≡ course.Resumes g h → IsResumption (setting_at m) m.store.made store.made m.generators list q g h
   course_resumes g h is = there (course.Resumes g h) is
@@ -283,6 +333,19 @@ module _ (m : Core) (h : Halted) (n : ℕ) (q : Request) (own : Option PyBaseExc
 
 -- whatever stage a machine was at
 module _ (m : Core) (s : Stage) where
+  traced_at : (e t : Obj) (found : Option KeptRaise) (n : Core) → IsTracedBy (record m { stage = s }) e found t n → IsTracedBy m e found t (record n { stage = m.stage })
+  traced_at e t None n (none, is) = (none, ap (λ (y : Core). let z : Core = record y { stage = m.stage } in z) is)
+  traced_at e t (Some x) n traced = by x.traceback traced
+    where
+      by : (k : Option Obj) → IsTracedAs (record m { stage = s }) e x k t n → IsTracedAs m e x k t (record n { stage = m.stage })
+      by None (number, is) = (number, ap (λ (y : Core). let z : Core = record y { stage = m.stage } in z) is)
+      by (Some known) (same, is) = (same, ap (λ (y : Core). let z : Core = record y { stage = m.stage } in z) is)
+
+  told_at : (q told_so : Request) (n : Core) → ToldOne (record m { stage = s }) q told_so n → ToldOne m q told_so (record n { stage = m.stage })
+  told_at (request.Exit x c e t) told_so n (inl (none, is, same)) = inl (none, is, ap (λ (y : Core). let z : Core = record y { stage = m.stage } in z) same)
+  told_at (request.Exit x c e t) told_so n (inr (exception, (u, is, traced))) = inr (exception, (u, is, traced_at e u (raise_at m.raises e) n traced))
+  told_at q told_so n tells = (tells.0, ap (λ (y : Core). let z : Core = record y { stage = m.stage } in z) tells.1)
+
   pub comes_on_at : (q : Request) (hs : List Halted) (a : Option DriveAnswer) (m' : Core) → Comes_on (record m { stage = s }) q hs a m' → Comes_on m q hs a m'
   comes_on_at q hs a m' (inl (store, list, w, said, replies)) = inl (
     store,
@@ -308,6 +371,23 @@ module _ (m : Core) (s : Stage) where
   pub answered_at : (h : Halted) (a : Option DriveAnswer) (m' : Core) → AnsweredOne (record m { stage = s }) h a m' → AnsweredOne m h a m'
   answered_at h a m' (n, q, own, at, entry, comes) = (n, q, own, at, entry, comes_on_at q (h ∷ m.callers) a m' comes)
 
+-- a step that was made
+stepped_at : (m : Core) (s : Stage) (r : Running) (x : FrameStep) (m' : Core) → IsStepped (record m { stage = s }) r x m' → IsStepped m r x m'
+stepped_at m s r (step.Ask q own) m' (told_so, n, tells, is) = (told_so, record n { stage = m.stage }, told_at m s q told_so n tells, is)
+stepped_at m s r step.Round m' is = is
+stepped_at m s r (step.Yield v) m' is = is
+stepped_at m s r (step.Return v) m' is = is
+stepped_at m s r (step.Raise e) m' is = is
+stepped_at m s r step.NoMemory m' is = is
+
+pub went_on_at : (m : Core) (s : Stage) (r : Running) (m' : Core) → WentOn (record m { stage = s }) r m' → WentOn m r m'
+went_on_at m s r m' (store, grown, x, f, told, stepped) =
+    (store, grown, x, f, told, stepped_at (record m { store = store; slots = slice_set m.slots 0 f.state.slot }) s (record r { frame = f }) x m' stepped)
+
+-- the innermost of those that wait asked something
+pub asks_there : (m : Core) (h : Halted) → IsQuestion m.store.made m.events h.place → AsksAt m.events h.place
+asks_there m h q = (q.act, q.request, q.own, q.at, q.entry)
+
 -- ---- what comes behind a machine that settled, or made a generator
 
 -- it still can reply
@@ -327,6 +407,11 @@ module _ (m n : Core) (g : Obj) (s : Suspended) (how : CoroEnd) (w : MadeReply) 
       let (store, list, (x, here, body, has, a, finishes, grown, changes, replied), same) = settles in
       still_replies m store list n same grown done classes
 
+  pub settled_asks : (first : FirstAsks m.codes m.events m.callers) → FirstAsks n.codes n.events n.callers
+  settled_asks first =
+      let (store, list, (x, here, body, has, a, finishes, grown, changes, replied), same) = settles in
+      subst (λ (y : Core). FirstAsks y.codes y.events y.callers) (sym same) first
+
   pub settled_halts : Halts m n
   settled_halts =
       let (store, list, (x, here, body, has, a, finishes, grown, changes, replied), same) = settles in
@@ -340,22 +425,25 @@ module _ (m n : Core) (r : Running) (f : Obj) (kind : CoroKind) (g : Obj) (creat
   pub created_replies : m.done ≤ length m.events → HaveClasses m.zoo m.store.made → (n.done ≤ length n.events) × HaveClasses n.zoo n.store.made
   created_replies done classes = let (x, store, created, is, same) = creates in still_replies m store (m.generators ++ x ∷ []) n same (created_grown store x created) done classes
 
+  pub created_asks : FirstAsks m.codes m.events m.callers → FirstAsks n.codes n.events n.callers
+  created_asks first = let (x, store, created, is, same) = creates in subst (λ (y : Core). FirstAsks y.codes y.events y.callers) (sym same) first
+
   pub created_halts : Halts m n
   created_halts = let (x, store, created, is, same) = creates in still_halts m store (m.generators ++ x ∷ []) n same (created_grown store x created)
 
 -- the generator that the open question asks runs
 pub entered_runs : (m : Core) (d : Drive) (how : CoroEnd) (o : Option Obj) (g : Obj) → CanFinish m d how → ((q : Request) → Questioned m.events d m.callers q → o ≡ generator_asked q) → o ≡ Some g
     → IsRunningNow m.generators g × IsGenerator m.store.made g
-entered_runs m d how o g (stored, ending, runs, asks) entered is = let (q, asked) = some_question m.store.made m.events d m.callers asks in runs q asked g (sym (entered q asked) ∙ is)
+entered_runs m d how o g (stored, ending, runs, asks) entered is = let (q, asked) = some_question m.codes m.events d m.callers asks in runs q asked g (sym (entered q asked) ∙ is)
 
 -- what finishes a call or a generator, whichever the open question asks
 module _ (m : Core) (d : Drive) (s : Suspended) (how : CoroEnd) (o : Option Obj) (can : CanFinish m d how) (entered : (q : Request) → Questioned m.events d m.callers q → o ≡ generator_asked q) where
   pub call_finished : (a : Option DriveAnswer) (m' : Core) → o ≡ None → Replies m (passed how) m.callers a m' → Finished m d s how a m'
   call_finished a m' none replies =
-      let (q, asked) = some_question m.store.made m.events d m.callers can.3 in
+      let (q, asked) = some_question m.codes m.events d m.callers can.3 in
       finished_call m d s how q asked a m' (sym none ∙ entered q asked) replies
 
   pub generator_finished : (g : Obj) (w : MadeReply) (n : Core) (a : Option DriveAnswer) (m' : Core) → o ≡ Some g → SettledOne m g s how w n → Replies n w n.callers a m' → Finished m d s how a m'
   generator_finished g w n a m' is settles replies =
-      let (q, asked) = some_question m.store.made m.events d m.callers can.3 in
+      let (q, asked) = some_question m.codes m.events d m.callers can.3 in
       finished_generator m d s how q asked g w n a m' (sym is ∙ entered q asked) settles replies

@@ -1,10 +1,10 @@
 -- The open question of a machine, in each run of drives in which the machine's drive is the next one: what it is answered, and what it enters.
 use Rattle.std.proofs.Common.{◌≡◌, ℕ, List, [], ◌∷◌, Some, sym, ap, subst, ◌∙◌, append-nil, length}
 use Rattle.std.specs.Prelude.{Option, slice_get}
+use Rattle.std.proofs.lemmas.Option.{slice_get_within}
 use Rattle.py_objects.specs.declared.payload.Payload.{Payload}
 use Rattle.py_objects.specs.declared.payload.CoroKind.{CoroKind}
 use Rattle.py_objects.specs.declared.refs.PyBaseExceptionRef.{PyBaseExceptionRef}
-use Rattle.py_objects.specs.declared.request.Keywords.TheVariants as keywords
 use Rattle.py_objects.specs.declared.request.Request.{Request}
 use Rattle.py_objects.specs.declared.request.Request.TheVariants as request
 use Rattle.py_objects.specs.declared.event.ResumeHow.{ResumeHow}
@@ -21,7 +21,7 @@ use Rattle.py_run.specs.Calls.{Course, Says, Enters, Begins, Sends, Throws, Sett
 use Rattle.py_run.specs.Run.{Act, Phase, Asking, Made, Due, Posed, State, start, state_after, open_in, question, handled_among}
 use Rattle.py_run.specs.Coming.{setting, MakesGenerator, Opens, IsEntered, IsReply, IsAnswered, Starts}
 use Rattle.py_run.specs.Drives.{request_of}
-use Rattle.py_run.proofs.BoundLemmas.{enters_call}
+use Rattle.py_run.proofs.BoundLemmas.{enters_call, IsMaking}
 use Rattle.py_run.proofs.RunLemmas.{comes_to_grows, due_grows}
 use Rattle.py_vm.specs.declared.stage.Halted.{Halted}
 use Rattle.py_vm.specs.declared.stage.Stage.{Stage}
@@ -30,7 +30,7 @@ use Rattle.py_vm.specs.declared.generators.KeptGenerator.{KeptGenerator}
 use Rattle.py_vm.specs.declared.machinery.Core.{Core}
 use Rattle.py_vm.specs.Courses.{EntersBy}
 use Rattle.py_vm.specs.Machine.{posed, plan_of, drive_numbers}
-use Rattle.py_vm.specs.Stands.{IsHalted, asking, caller_acts, first_slot, slots_in, Keeps}
+use Rattle.py_vm.specs.Stands.{IsHalted, asking, caller_acts, first_slot, slots_in, Keeps, IsCalling}
 use Rattle.py_vm.specs.Turns.{past_at, setting_at, IsOpened}
 use Rattle.py_vm.proofs.ChainLemmas.{AreHalted, callers_handle, halted_handles, inside_halted}
 use Rattle.py_vm.proofs.NextLemmas.{setting_is, IsNext}
@@ -127,13 +127,31 @@ pub due_answers : (m : Core) (d : Drive) (q : Request) (store : Kept) (how : Cor
     → ((asked : List Posed) → IsNext m d asked → question (plan_of m.codes asked) (state_after start m.events) ≡ Some q) → IsDue m.store.made q how reply → Answers m d store.made reply
 due_answers m d q store how reply grown phase asks due = λ asked is. replied m d q store.made (Due how) asked reply phase (asks asked is) (due_grows m.store.made store.made q how reply grown.objects due)
 
--- what makes an activation of a function is its call with these arguments
-pub opened_call : (at : Setting) (objects : List Payload) (q : Request) (f : Obj) (vs : List Obj) → ComesTo at objects q (Enters f vs) → (q ≡ request.Call f vs keywords.None) × IsFunction objects f
+-- what makes an activation of a function with these arguments calls it, enters a manager by it, or leaves by it
+pub opened_call : (at : Setting) (objects : List Payload) (q : Request) (f : Obj) (vs : List Obj) → ComesTo at objects q (Enters f vs) → IsMaking objects q f vs × IsFunction objects f
 opened_call at objects q f vs comes = let (is, calls) = enters_call at objects q f vs comes in (is, (calls.body, calls.entry))
 
--- the numbers of a call without keyword arguments
-pub call_below : (n : ℕ) (q : Request) (f : Obj) (vs : List Obj) → q ≡ request.Call f vs keywords.None → AllBelow n (request_numbers q) → AllBelow n (f.number ∷ numbers vs)
-call_below n q f vs is below = subst (AllBelow n) (ap request_numbers is ∙ ap (λ l. f.number ∷ l) (append-nil (numbers vs))) below
+-- so it is answered by the call of a function
+pub making_calls : (objects : List Payload) (q : Request) (f : Obj) (vs : List Obj) → IsMaking objects q f vs → IsCalling q
+making_calls objects (request.Call g ws named) f vs is = cc is
+making_calls objects (request.Enter m) f vs making = tt
+making_calls objects (request.Exit x c e t) f vs making = tt
+making_calls objects _ f vs making = absurd making
+
+-- the arguments that it makes are among those that it names
+args_below : (objects : List Payload) (q : Request) (f : Obj) (vs : List Obj) → IsMaking objects q f vs → AllBelow (length objects) (request_numbers q) → AllBelow (length objects) (numbers vs)
+args_below objects (request.Call g ws named) f vs is below =
+    (subst (AllBelow (length objects)) (ap request_numbers is ∙ ap (λ l. f.number ∷ l) (append-nil (numbers vs))) below).1
+args_below objects (request.Enter m) f vs (body, has, callee, args) below = subst (λ l. AllBelow (length objects) (numbers l)) (sym args) tt
+args_below objects (request.Exit x c e t) f vs (p, has, callee, args) below = subst (λ l. AllBelow (length objects) (numbers l)) (sym args) below.1
+args_below objects _ f vs making below = absurd making
+
+-- the numbers of the function and of its arguments
+pub call_below : (at : Setting) (objects : List Payload) (q : Request) (f : Obj) (vs : List Obj) → ComesTo at objects q (Enters f vs) → AllBelow (length objects) (request_numbers q)
+    → AllBelow (length objects) (f.number ∷ numbers vs)
+call_below at objects q f vs comes below =
+    let (making, (body, has)) = opened_call at objects q f vs comes in
+    (slice_get_within objects f.number _ has, args_below objects q f vs making below)
 
 -- what a drive asks names what the drive does
 pub drive_below : (n : ℕ) (d : Drive) → AllBelow n (drive_numbers d) → AllBelow n (request_numbers (request_of d))

@@ -244,7 +244,7 @@ module _ (depth : ℕ) (old new : Kept) (list list' : List KeptGenerator) (g : O
       (closed (kept_or_closed g (option_map seen_as o)).mode depth)
       → AlwaysComesTo depth old new list list' (request.Close g) c
   close_comes o here c is codes handled =
-      inr (inr (inr (inr (inr (g, refl, (body.kind, kept_or_closed g (option_map seen_as o), record { body = body; entry = has; kind_is = refl; kept = stands_as list g o here }, is))))))
+      inr (inr (inr (inr (inr (inl (g, refl, (body.kind, kept_or_closed g (option_map seen_as o), record { body = body; entry = has; kind_is = refl; kept = stands_as list g o here }, is)))))))
 
   -- one that isn't there is closed
   pub close_nowhere : kept_at list g ≡ None → list' ≡ list → IsCourseAt depth old new list list' (request.Close g) (course.Says made.Closes)

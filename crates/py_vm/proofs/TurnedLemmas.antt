@@ -40,7 +40,7 @@ use Rattle.py_vm.specs.Codes.{Checked}
 use Rattle.py_vm.specs.Generators.{generator_asked, kept_at, modes_of, IsRunningNow}
 use Rattle.py_vm.specs.Machine.{plan_of, IsCallable}
 use Rattle.py_vm.specs.Stands.{AreEach, HasEntered, IsGoing, IsHalted, IsKept as IsKeptAs, Keeps, KeepsIn, caller_acts, caller_frames, first_slot, slots_in, stacked}
-use Rattle.py_vm.specs.Turns.{past_at, setting_at, AnsweredOne, AreReady, CanReply, Comes_on, FirstAsks, HasOwnSlot, HoldsIn, IsBusy, IsReady, IsSaid, Replies, Started, Turned, Turns}
+use Rattle.py_vm.specs.Turns.{past_at, setting_at, AnsweredOne, AreReady, CanNote, CanReply, Comes_on, FirstAsks, HasOwnSlot, HoldsIn, IsBusy, IsReady, IsSaid, Replies, Started, Turned, Turns}
 use Rattle.py_vm.proofs.WantedLemmas.{said_wanted}
 use Rattle.py_vm.proofs.KeptLemmas.{kept_object}
 use Rattle.py_vm.proofs.ChainLemmas.{Anyone, AreHalted, all_others, inside_halted, raised_grown, slots_low, slots_shape, slots_there, topmost_holds}
@@ -48,11 +48,11 @@ use Rattle.py_vm.proofs.ChangesLemmas.{IsChange, each_at}
 use Rattle.py_vm.proofs.ShuttingLemmas.{said_change}
 use Rattle.py_vm.proofs.NextLemmas.{done_counted, made_counted}
 use Rattle.py_vm.proofs.QuestionsLemmas.{IsOpen, body_open, drive_below, drive_open, said_answers}
-use Rattle.py_vm.proofs.GoingLemmas.{stepped_law}
+use Rattle.py_vm.proofs.TellingLemmas.{stepped_law}
 use Rattle.py_vm.proofs.AskedLemmas.{AskedBy, FitsWho, IsFold, MayBe, replies_law}
 use Rattle.py_vm.proofs.TurnsLemmas.{begun_law, made_law, IsTheirs}
 use Rattle.py_vm.proofs.EnteringLemmas.{asked_halted, entered_law, resumed_law}
-use Rattle.py_vm.proofs.FinishingLemmas.{Asker, asker, created_law, finished_law}
+use Rattle.py_vm.proofs.FinishingLemmas.{Asker, asker, calling_none, created_law, finished_law}
 
 -- ---- an open question comes on
 
@@ -174,7 +174,7 @@ entered_runs m d s each asks g is = by_kind s.running.kind asks.entered
     ]
 
     by_kind : (kind : Option CoroKind) → HasEntered m.generators asks.q kind s.running.act → IsRunningNow m.generators g × IsGenerator m.store.made g
-    by_kind None (f, vs, call) = absurd (let clash : None ≡ Some g = sym (ap generator_asked call) ∙ is in cc clash)
+    by_kind None calls = absurd (let clash : None ≡ Some g = sym (calling_none asks.q calls) ∙ is in cc clash)
     by_kind (Some kind) enters =
         let both : Some enters.object ≡ Some g = sym enters.asks ∙ is in
         let same : enters.object ≡ g = cc both in
@@ -182,6 +182,17 @@ entered_runs m d s each asks g is = by_kind s.running.kind asks.entered
         let x : IsKeptAs m.codes m.globals m.store.made m.events m.made enters.kept = each_at m.codes m.globals m.store.made m.events m.made m.generators g enters.kept here each in
         let object : enters.kept.object ≡ g = ap (λ n. let o : Obj = record { number = n } in o) (number_is enters.kept here) in
         ((enters.kept, here, enters.runs), (x.body, subst (λ o. HasPayload m.store.made o (payload.Generator x.body)) object x.entry))
+
+-- an activation that waits stands at a unit of its code
+can_note : (m : Core) (h : Halted) (slot : Option PyBaseExceptionRef) → IsHalted m.codes m.globals m.store.made m.events h slot → CanNote m.codes h
+can_note m h slot x = record { code = x.plays.code; is_code = ap (slice_get m.codes.codes) x.plays.placed ∙ x.plays.is_code; within = x.plays.running.within }
+
+-- the innermost of those that wait asked something
+first_asks : (m : Core) (hs : List Halted) → AreHalted m hs → FirstAsks m.codes m.events hs
+first_asks m [] halted = tt
+first_asks m (h ∷ hs) halted =
+    let q = halted.0.question in
+    ((q.act, q.request, q.own, q.at, q.entry), can_note m h (first_slot h.running.kind hs) halted.0)
 
 -- a machine that keeps its invariant is ready for its turn
 pub ready_law : (m : Core) (d : Drive) (s : Stage) → Keeps m d s → IsBusy s → IsCallable m.store.made d → IsReady m d s
@@ -195,6 +206,7 @@ ready_law m d (stage.Made r f) k busy callable =
       done_counted m d (stage.Made r f) k,
       (p.body, subst (λ o. HasPayload m.store.made o (payload.Function p.body)) k.at_stage.1 p.is_function),
       can_reply m d (stage.Made r f) m.callers k k.nested.slots (inside_halted m m.generators d None r.act m.callers k.at_stage.5),
+      first_asks m m.callers (inside_halted m m.generators d None r.act m.callers k.at_stage.5),
     )
 ready_law m d (stage.Going r) k busy callable =
     let going : IsGoing m.codes m.globals m.store.made m.events r (first_slot r.kind m.callers) = k.at_stage.0 in
@@ -210,20 +222,19 @@ ready_law m d (stage.Going r) k busy callable =
         fit = k.stored.readable.fit;
       },
       subst (HasOwnSlot r.kind) (sym k.nested.slots) (own_over m r.kind r.frame.state.slot m.callers),
+      k.stored.readable,
+      k.raised.there,
     )
 ready_law m d (stage.Waiting h) k busy callable = (
   done_counted m d (stage.Waiting h) k,
   made_counted m d (stage.Waiting h) k,
   can_reply m d (stage.Waiting h) (h ∷ m.callers) k k.nested.slots (k.at_stage.0, inside_halted m m.generators d h.running.kind h.running.act m.callers k.at_stage.1.inside),
   k.at_stage.0.question,
+  can_note m h (first_slot h.running.kind m.callers) k.at_stage.0,
 )
 ready_law m d (stage.Due s how) k busy callable =
     let asks : Asker m d m.callers s.running.kind s.running.act = asker m d s.running.kind s.running.act m.callers k.follows.stack k.nested.frames k.nested.slots k.nested.apart k.at_stage.2.inside in
     let halted : AreHalted m m.callers = inside_halted m m.generators d s.running.kind s.running.act m.callers k.at_stage.2.inside in (
       done_counted m d (stage.Due s how) k,
-      (k.stored, k.at_stage.0, (λ q questioned g is. entered_runs m d s k.kept.each asks g (ap generator_asked (sym (asks.is q questioned)) ∙ is)), first_asks m.callers halted),
+      (k.stored, k.at_stage.0, (λ q questioned g is. entered_runs m d s k.kept.each asks g (ap generator_asked (sym (asks.is q questioned)) ∙ is)), first_asks m m.callers halted),
     )
-  where
-    first_asks : (hs : List Halted) → AreHalted m hs → FirstAsks m.store.made m.events hs
-    first_asks [] halted = tt
-    first_asks (h ∷ hs) halted = halted.0.question

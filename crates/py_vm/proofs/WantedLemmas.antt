@@ -134,6 +134,9 @@ replies_wanted objects before (request.Call f vs named) reply g raises said give
 replies_wanted objects before (request.Send o v) reply g raises said gives = any_wanted objects before reply g raises gives
 replies_wanted objects before (request.Throw o c v t) reply g raises said gives = any_wanted objects before reply g raises gives
 replies_wanted objects before (request.Close o) reply g raises said gives = any_wanted objects before reply g raises gives
+replies_wanted objects before (request.Enter m) reply g raises said gives = any_wanted objects before reply g raises gives
+replies_wanted objects before (request.Exit x c e t) reply g raises said gives = any_wanted objects before reply g raises gives
+replies_wanted objects before (request.NoExit m) reply g raises (p, has, (n, named, is)) gives = suited_given objects before want.NoValue reply g (subst (IsSuited objects want.NoValue) (sym is) tt) gives
 replies_wanted objects before _ reply g raises replies gives = absurd replies
 
 -- what is handled is an exception
@@ -158,4 +161,6 @@ module _ (at : Setting) (objects : List Payload) (before : List Event) (q : Requ
       suited_given objects before (wanted q) reply g (subst (λ r. IsSuited objects (wanted r) reply) (sym is) (subst (IsSuited objects (want.Of kind.Exc)) same (handled_suited objects at.handled there))) gives
   said_wanted (inr (inr (inr (inl (o, v, is, sends))))) = of_any _ is refl
   said_wanted (inr (inr (inr (inr (inl (o, k, v, is, throws)))))) = of_any _ is refl
-  said_wanted (inr (inr (inr (inr (inr (o, is, closes)))))) = of_any _ is refl
+  said_wanted (inr (inr (inr (inr (inr (inl (o, is, closes))))))) = of_any _ is refl
+  said_wanted (inr (inr (inr (inr (inr (inr (inl (o, is, enters)))))))) = of_any _ is refl
+  said_wanted (inr (inr (inr (inr (inr (inr (inr (x, k, v, t, is, leaves)))))))) = of_any _ is refl

@@ -1,11 +1,12 @@
 -- What the machine promises of requests: the course that the code makes is one that the definitions have.
-use Rattle.std.specs.Prelude.{ℕ, ◌<◌, false, Option, Some, None, List, ◌≡◌, length, map}
+use Rattle.std.specs.Prelude.{ℕ, ◌<◌, false, Option, Some, None, List, [], ◌≡◌, length, map}
 use Rattle.py_code.specs.declared.names.NameId.{NameId}
 use Rattle.py_objects.specs.declared.refs.PyBaseExceptionRef.{PyBaseExceptionRef}
 use Rattle.py_objects.specs.declared.payload.Payload.{Payload}
 use Rattle.py_objects.specs.declared.payload.Payload.TheVariants as payload
 use Rattle.py_objects.specs.declared.payload.CoroBody.{CoroBody}
 use Rattle.py_objects.specs.declared.payload.Fault.{Fault}
+use Rattle.py_objects.specs.declared.payload.ManagerBody.{ManagerBody}
 use Rattle.py_objects.specs.Edits.{Kept}
 use Rattle.py_objects.specs.declared.request.Request.{Request}
 use Rattle.py_objects.specs.declared.request.Request.TheVariants as request
@@ -25,7 +26,7 @@ use Rattle.py_frame.specs.declared.input.Answer.TheVariants as given
 use Rattle.py_frame.specs.Steps.{got_of}
 use Rattle.py_coro.specs.Modes.{Mode, Fresh, Suspended as Left, Running, Closed, Row, Stops as RowStops, Raises as RowRaises, Done as RowDone, Starts as RowStarts, Sends as RowSends, Throws as RowThrows, Exits as RowExits, Refuses as RowRefuses, thrown}
 use Rattle.py_coro.specs.Refusals.{refused, word_of}
-use Rattle.py_run.specs.Calls.{Course, Says, Enters, Begins, Sends, Throws, Setting, ComesTo, CallsFunction}
+use Rattle.py_run.specs.Calls.{Course, Says, Enters, Begins, Sends, Throws, Setting, ComesTo, CallsFunction, exit_of}
 use Rattle.py_vm.specs.declared.calls.Course.{Course as MadeCourse}
 use Rattle.py_vm.specs.declared.calls.Course.TheVariants as course
 use Rattle.py_vm.specs.declared.calls.Standing.{Standing}
@@ -145,6 +146,13 @@ abbrev pub IsCourseOf : Setting → (old new : Kept) → Obj → List Obj → Ma
 IsCourseOf at old new f vs (course.Says w) = (reply : Reply) × CallsFunction at old.made f vs (Says reply) × IsReplied old.made new.made reply w
 IsCourseOf at old new f vs (course.Enters g ws) = CallsFunction at old.made f vs (Enters g ws) × (new ≡ old)
 IsCourseOf at old new f vs (course.Resumes g h) = ⊥
+
+-- the same of the entry of a manager, and of an exit that is told this
+abbrev pub IsEntryCourse : Setting → (old new : Kept) → Obj → MadeCourse → Type 0
+IsEntryCourse at old new m c = (body : ManagerBody) × HasPayload old.made m (payload.Manager body) × IsCourseOf at old new body.enter [] c
+
+abbrev pub IsExitCourse : Setting → (old new : Kept) → Obj → List Obj → MadeCourse → Type 0
+IsExitCourse at old new x told c = (p : Payload) × HasPayload old.made x p × IsCourseOf at old new (exit_of p x) told c
 
 -- a course says that a fault is raised
 abbrev pub IsRefusedBy : (old new : List Payload) → Fault → MadeCourse → Type 0

@@ -4,7 +4,7 @@ ghost use Rattle.std.specs.Prelude.{◌≡◌, ◌≤◌, length, IfOk, OnOk, On
 ghost use Rattle.py_objects.specs.Objects.{IsFunction};
 ghost use Rattle.py_answers.specs.Readable.{IsReadable};
 ghost use Rattle.py_vm.specs.Holds.{AreRunnable};
-ghost use Rattle.py_vm.specs.Turns.{entered_by, input_of, CanReply, CreatedOne, Halts, IsFreshFor, IsResumable, MadeOne, ResumedOne, Started};
+ghost use Rattle.py_vm.specs.Turns.{entered_by, input_of, CanReply, CreatedOne, FirstAsks, Halts, IsFreshFor, IsResumable, MadeOne, ResumedOne, Started};
 
 use crate::calls::kind_of;
 use crate::generators::KeptGenerator;
@@ -54,6 +54,7 @@ impl Core {
         requires done { self.old.done ≤ length self.old.events }
         requires can { CanReply self.old }
         requires function { IsFunction self.old.store.made function }
+        requires first { FirstAsks self.old.codes self.old.events self.old.callers }
         ensures ok { IfOk result (λ answer. Started self.old running function running.kind answer self.new) }
         ensures err { OnErr result (Halts self.old self.new) }
     {

@@ -68,7 +68,7 @@ impl Core {
 
     /// The generator that the open question has entered, if it has entered one.
     fn generator_entered(&self, drive: &Drive) -> Option<PyObjectRef>
-        requires { FirstAsks self.now.store.made self.now.events self.now.callers }
+        requires { FirstAsks self.now.codes self.now.events self.now.callers }
         ensures { (q : Asked) → Questioned self.now.events drive.now self.now.callers q → result ≡ generator_asked q }
     {
         let Some(halted) = self.callers.last() else {

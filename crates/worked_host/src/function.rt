@@ -2,7 +2,7 @@
 
 ghost use Rattle.std.specs.Prelude.{◌≡◌, IfOk, false};
 ghost use Rattle.py_tree.specs.declared.body.BodyKind.TheVariants.{Function};
-ghost use Rattle.py_tree.specs.Compilable.{IsCompilable, OperationFits, SuiteFits, statements};
+ghost use Rattle.py_tree.specs.Compilable.{IsCompilable, OperationFits, SuiteFits, SuiteNests, statements};
 ghost use Rattle.py_tree.specs.Views.{suite_of, tree_of};
 
 use py_body::{
@@ -45,6 +45,7 @@ pub(crate) fn count_down(alloc: Global) -> Result<Body, NoMemory>
 /// The two lines in the `if`.
 fn call_of_less(alloc: Global) -> Result<StmtList, NoMemory>
     ensures fits { IfOk result (λ suite. SuiteFits Function false (suite_of suite)) }
+    ensures nests { IfOk result (λ suite. SuiteNests 0 (suite_of suite)) }
     ensures counted { IfOk result (λ suite. statements (suite_of suite) ≡ 2) }
 {
     let mut suite = StmtList::new(alloc);

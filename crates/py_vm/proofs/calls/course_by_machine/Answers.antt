@@ -1,5 +1,5 @@
 use Rattle.std.proofs.lemmas.Result.{IfOk-weaker}
-use Rattle.py_vm.proofs.CallsLemmas.{asked_course, handled_course, call_course, machine_call, machine_send, machine_throw, machine_close, never_other}
+use Rattle.py_vm.proofs.CallsLemmas.{asked_course, handled_course, call_course, entry_course, exit_course, machine_call, machine_send, machine_throw, machine_close, machine_enter, machine_exit, never_other}
 use Rattle.py_vm.proofs.calls.course_by_machine.Goals as goal
 
 pub returns-in_ok-reraised-in-Handled-clause-course : goal.returns-in_ok-reraised-in-Handled-clause-course
@@ -45,7 +45,24 @@ returns-in-Close-clause-course c =
     (λ course made. asked_course c.args.codes.now c.args.at c.args.store.now c.close.new.store c.args.generators.now c.close.new.generators c.args.request.now _ course
     c.in-Close.is made) c.close.ensures.course
 
+pub entered-requires-clause-manager : goal.entered-requires-clause-manager
+entered-requires-clause-manager c = machine_enter c.args.store.now.made c.args.request.now _ c.in-Enter.is c.requires.machine
+
+pub returns-in-Enter-clause-course : goal.returns-in-Enter-clause-course
+returns-in-Enter-clause-course c =
+    IfOk-weaker c.entered.result _ _
+    (λ course made. entry_course _ c.args.store.now c.entered.new.store c.args.generators.now c.args.request.now _ course c.in-Enter.is (made c.args.generators.now)) c.entered.ensures.course
+
+pub exited-requires-clause-exit : goal.exited-requires-clause-exit
+exited-requires-clause-exit c = machine_exit c.args.store.now.made c.args.request.now _ _ _ _ c.in-Exit.is c.requires.machine
+
+pub returns-in_ok-told-in-Exit-clause-course : goal.returns-in_ok-told-in-Exit-clause-course
+returns-in_ok-told-in-Exit-clause-course c =
+    IfOk-weaker c.exited.result _ _
+    (λ course made. exit_course _ c.args.store.now c.exited.new.store c.args.generators.now c.args.request.now _ _ _ _ course c.in-Exit.is
+    (rw c.in_ok-told-in-Exit.ensures at (made c.args.generators.now))) c.exited.ensures.course
+
 pub unreachable-requires : goal.unreachable-requires
 unreachable-requires c =
     never_other c.args.store.now.made c.args.request.now c.requires.machine c.in_default.not-Handled (λ f vs named. c.in_default.not-Call f vs named) (λ g v. c.in_default.not-Send g v)
-    (λ g k v t. c.in_default.not-Throw g k v t) (λ g. c.in_default.not-Close g)
+    (λ g k v t. c.in_default.not-Throw g k v t) (λ g. c.in_default.not-Close g) (λ m. c.in_default.not-Enter m) (λ x k v t. c.in_default.not-Exit x k v t)

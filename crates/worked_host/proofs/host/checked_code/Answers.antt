@@ -1,4 +1,4 @@
-use Rattle.std.proofs.Common.{refl, subst, sym}
+use Rattle.std.proofs.Common.{subst, sym}
 use Rattle.py_check.specs.declared.annotated.Annotated.{Annotated}
 use Rattle.py_rows.specs.Sound.{AreNames}
 use Rattle.py_tree.specs.declared.body.BodyKind.{BodyKind}
@@ -21,7 +21,7 @@ returns-clause-named c =
 
 -- the machine answers what code asks that bodies are compiled to
 compiled_answered : AreAnswered is_compiled
-compiled_answered = record { no_enter = λ arg. refl; no_exit = λ arg. refl; no_cause = compiled_raise }
+compiled_answered = record { no_cause = compiled_raise }
 
 -- and drives their activations
 kind_driven : (k : BodyKind) → IsDriven (seen_as k)

@@ -1,11 +1,12 @@
-use Rattle.std.proofs.Common.{◌≡◌, [], sym, subst}
+use Rattle.std.proofs.Common.{◌≡◌, [], refl, sym, subst}
+use Rattle.std.specs.Prelude.{None}
 use Rattle.std.proofs.lemmas.Result.{IfOk-weaker}
 use Rattle.py_run.specs.Drives.{request_of}
 use Rattle.py_vm.specs.declared.stage.Stage.{Stage}
 use Rattle.py_vm.specs.declared.stage.Stage.TheVariants as stage
 use Rattle.py_vm.specs.Turns.{Turned}
 use Rattle.py_vm.proofs.LeavingLemmas.{finished_at, started_at}
-use Rattle.py_vm.proofs.PartsLemmas.{answered_at, comes_on_at}
+use Rattle.py_vm.proofs.PartsLemmas.{answered_at, comes_on_at, went_on_at}
 use Rattle.py_vm.proofs.machinery.Core.turn.Goals as goal
 
 pub returns-in-Asking-clause-ok : goal.returns-in-Asking-clause-ok
@@ -21,6 +22,12 @@ returns-in-Made-clause-ok c =
     IfOk-weaker c.start.result _ _
     (λ a starts. subst (λ (s : Stage). Turned c.args.self.now c.args.drive.now s a c.start.new.self) (sym is)
     (started_at c.args.self.now c.replace.new.dest c.in-Made.running c.in-Made.function c.in-Made.running.kind a c.start.new.self starts)) c.start.ensures.ok
+
+pub returns-in_ok-go-in-Going-clause-ok : goal.returns-in_ok-go-in-Going-clause-ok
+returns-in_ok-go-in-Going-clause-ok c =
+    let is : c.args.self.now.stage ≡ stage.Going c.in-Going.running = cc in
+    subst (λ (s : Stage). Turned c.args.self.now c.args.drive.now s None c.go.new.self) (sym is)
+    (refl, went_on_at c.args.self.now c.replace.new.dest c.in-Going.running c.go.new.self c.in_ok-go-in-Going.ensures.ok)
 
 pub returns-in-Waiting-clause-ok : goal.returns-in-Waiting-clause-ok
 returns-in-Waiting-clause-ok c =
