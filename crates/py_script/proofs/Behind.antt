@@ -1,24 +1,16 @@
--- Objects behind those that each machine begins with: what the first ones are, what is declared, and when all are a script's.
-use Rattle.std.proofs.Common.{◌≡◌, ◌+◌, ◌-◌, ℕ, zero, suc, List, [], ◌∷◌, ◌++◌, length, Bool, true, false, cond, Some, None, refl, sym, ap, ◌∙◌, subst, arith, inl, inr}
-use Rattle.std.proofs.lemmas.Bool.{or_parts}
-use Rattle.std.specs.Prelude.{slice_get, map, bytes_eq}
-use Rattle.std.specs.List.{list_any}
+-- What each machine begins with: what the first objects are, and what is declared among them and behind them.
+use Rattle.std.proofs.Common.{◌≡◌, ◌+◌, ℕ, zero, suc, List, [], ◌∷◌, ◌++◌, length, Bool, true, false, cond, Some, None, refl, sym, ap, ◌∙◌, subst, arith, inl}
+use Rattle.std.specs.Prelude.{slice_get, bytes_eq}
+use Rattle.std.proofs.lemmas.Slice.Eq.{bytes_eq-Decides}
 use Rattle.py_objects.specs.declared.payload.Payload.{Payload}
 use Rattle.py_objects.specs.declared.payload.Payload.TheVariants as payload
-use Rattle.py_objects.specs.declared.payload.ClassBody.{ClassBody}
-use Rattle.py_objects.specs.declared.payload.FunctionBody.{FunctionBody}
-use Rattle.py_objects.specs.declared.payload.ManagerBody.{ManagerBody}
 use Rattle.py_objects.specs.declared.error_kind.ErrorKind.{ErrorKind}
-use Rattle.py_objects.specs.ErrorKinds.{name_of, error_kinds}
-use Rattle.py_objects.specs.Objects.{Obj, Name, HasPayload, declares, is_name, declared, declared_from, AllFit}
+use Rattle.py_objects.specs.Objects.{Obj, Name, declares, is_name, declared, declared_from}
 use Rattle.py_objects.specs.Singletons.{singletons}
-use Rattle.py_objects.proofs.GrowthLemmas.{slice_get_split}
-use Rattle.py_exceptions.specs.Classes.{class_of, class_payload, first_classes, HaveClasses}
+use Rattle.py_exceptions.specs.Classes.{class_of, first_classes, HaveClasses}
 use Rattle.py_exceptions.proofs.ClassesLemmas.{classes_grown}
-use Rattle.py_tree.specs.Tree.{Tree}
-use Rattle.py_grammar.specs.Rules.{is_builtin_class}
 use Rattle.py_vm.specs.First.{first_objects}
-use Rattle.py_vm.proofs.FirstLemmas.{each_first, first_have}
+use Rattle.py_vm.proofs.FirstLemmas.{each_first, first_fit, first_have}
 use Rattle.py_script.specs.Whole.{AreObjects}
 
 -- ---- the first objects
@@ -43,6 +35,21 @@ are_first n p is = each_first IsFirst single (λ kind. (kind, refl)) (λ i. tt) 
 pub have_classes : (own : List Payload) → HaveClasses first_classes (first_objects ++ own)
 have_classes own = classes_grown first_classes first_objects (first_objects ++ own) (own, refl) first_have
 
+-- the first objects are those of no declarations
+pub none_declared : AreObjects [] first_objects
+none_declared = record {
+  functions = λ i t none. absurd (cc none);
+  classes = λ i c b none. absurd (cc none);
+  managers = λ i m e x none. absurd (cc none);
+  builtins = λ kind. (class_of first_classes kind, first_have kind);
+  only_functions = λ f b is. absurd (are_first f.number (payload.Function b) is);
+  only_classes = λ c b is.
+      let (kind, at) = are_first c.number (payload.Class b) is in
+      inl (kind, (first_have kind).is_declared ∙ ap (λ n. Some (record { number = n })) (sym at));
+  only_managers = λ m b is. absurd (are_first m.number (payload.Manager b) is);
+  fit = first_fit;
+}
+
 -- ---- what is declared
 
 -- a name that the objects in front don't declare is declared as by those behind them
@@ -58,57 +65,26 @@ declared_behind i (p ∷ front) own x none =
     let cases : (b : Bool) → P b = λ b. elim b as P [ true ↦ here | false ↦ there ] in
     cases (is_name x (declares p)) none
 
--- a name that none of these kinds has, their classes don't declare
-none_from : (i : ℕ) (kinds : List ErrorKind) (x : Name) → list_any (bytes_eq x) (map name_of kinds) ≡ false
-    → declared_from i (map (class_payload first_classes) kinds ++ payload.Dict [] ∷ []) x ≡ None
-none_from i [] x none = refl
-none_from i (kind ∷ kinds) x none =
-    let (other, others) = or_parts (bytes_eq x (name_of kind)) (list_any (bytes_eq x) (map name_of kinds)) none in
-    ap (λ b. cond b (Some (record { number = i })) (declared_from (suc i) (map (class_payload first_classes) kinds ++ payload.Dict [] ∷ []) x)) other
-    ∙ none_from (suc i) kinds x others
+-- an object behind those that don't declare its name is the one that is declared under it
+pub newest_declared : (objects : List Payload) (p : Payload) (x : Name) → declared objects x ≡ None → declares p ≡ Some x
+    → declared (objects ++ p ∷ []) x ≡ Some (record { number = length objects })
+newest_declared objects p x none says =
+    let hit : is_name x (declares p) ≡ true = ap (is_name x) says ∙ (bytes_eq-Decides x x).1 refl in
+    declared_behind 0 objects (p ∷ []) x none
+    ∙ (ap (λ b. cond b (Some (record { number = 0 + length objects })) None) hit
+    ∙ ap (λ n. Some (record { number = n })) (let e : 0 + length objects ≡ length objects = omega arith in e))
 
--- a name that no built-in class has is declared as by the objects behind the first ones
-pub declared_own : (own : List Payload) (x : Name) → is_builtin_class x ≡ false → declared (first_objects ++ own) x ≡ declared_from (length first_objects) own x
-declared_own own x none = declared_behind 0 first_objects own x (none_from (length singletons) error_kinds x none)
-
--- ---- the objects of a script
-
--- one of these functions, by the place of its body, or what is no function, no class and no manager
-abbrev pub IsOwn : List Tree → Payload → Type 0
-IsOwn ts (payload.Function b) = (t : Tree) × (slice_get ts b.code ≡ Some t) × (b.name ≡ t.name)
-IsOwn ts (payload.Class b) = ⊥
-IsOwn ts (payload.Manager b) = ⊥
-IsOwn ts _ = Unit {0}
-
--- the body at a place has its function
-abbrev pub HasFunction : List Payload → ℕ → Tree → Type 0
-HasFunction objects i t = (f : Obj) × (declared objects t.name ≡ Some f) × HasPayload objects f (payload.Function (record { name = t.name; code = i }))
-
-module _ (ts : List Tree) (own : List Payload) (owned : (j : ℕ) (p : Payload) → slice_get own j ≡ Some p → IsOwn ts p) where
-  abbrev objects : List Payload
-  objects = first_objects ++ own
-
-  only_functions : (f : Obj) (b : FunctionBody) → HasPayload objects f (payload.Function b) → IsOwn ts (payload.Function b)
-  only_functions f b is = elim (slice_get_split first_objects own f.number (payload.Function b) is) [
-    | inl first ↦ absurd (are_first f.number (payload.Function b) first)
-    | inr behind ↦ owned (f.number - length first_objects) (payload.Function b) behind
-  ]
-
-  no_managers : (m : Obj) (b : ManagerBody) → HasPayload objects m (payload.Manager b) → ⊥
-  no_managers m b is = elim (slice_get_split first_objects own m.number (payload.Manager b) is) [
-    | inl first ↦ are_first m.number (payload.Manager b) first
-    | inr behind ↦ owned (m.number - length first_objects) (payload.Manager b) behind
-  ]
-
-  only_classes : (c : Obj) (b : ClassBody) → HasPayload objects c (payload.Class b) → (kind : ErrorKind) × (declared objects (name_of kind) ≡ Some c)
-  only_classes c b is = elim (slice_get_split first_objects own c.number (payload.Class b) is) [
-    | inl first ↦
-        let (kind, at) = are_first c.number (payload.Class b) first in
-        (kind, (have_classes own kind).is_declared ∙ ap (λ n. Some (record { number = n })) (sym at))
-    | inr behind ↦ absurd (owned (c.number - length first_objects) (payload.Class b) behind)
-  ]
-
-  -- objects behind the first ones are a script's, where each declaration has its function
-  pub script_has : ((i : ℕ) (t : Tree) → slice_get ts i ≡ Some t → HasFunction objects i t) → AllFit objects → AreObjects ts objects
-  script_has functions fit =
-      record { functions = functions; classes = λ kind. (class_of first_classes kind, have_classes own kind); only_functions = only_functions; only_classes = only_classes; no_managers = no_managers; fit = fit }
+-- what is declared under a name has it
+pub declares_it : (i : ℕ) (store : List Payload) (x : Name) (v : Obj) → declared_from i store x ≡ Some v
+    → (k : ℕ) × (p : Payload) × (v.number ≡ i + k) × (slice_get store k ≡ Some p) × (is_name x (declares p) ≡ true)
+declares_it i [] x v e = absurd (cc e)
+declares_it i (p ∷ store) x v e = go (is_name x (declares p)) refl e (declares_it (suc i) store x v)
+  where
+    go : (b : Bool) → is_name x (declares p) ≡ b → cond b (Some (record { number = i })) (declared_from (suc i) store x) ≡ Some v
+        → (declared_from (suc i) store x ≡ Some v → (k : ℕ) × (q : Payload) × (v.number ≡ suc i + k) × (slice_get store k ≡ Some q) × (is_name x (declares q) ≡ true))
+        → (k : ℕ) × (q : Payload) × (v.number ≡ i + k) × (slice_get (p ∷ store) k ≡ Some q) × (is_name x (declares q) ≡ true)
+    go true hit e later = let number : i ≡ v.number = number_of e in (0, p, omega (arith, number), refl, hit)
+      where
+        number_of : Some (record { number = i }) ≡ Some v → i ≡ v.number
+        number_of same = let one : record { number = i } ≡ v = cc same in ap (λ (v : Obj). v.number) one
+    go false miss e later = let (k, q, number, here, hit) = later e in (suc k, q, omega (arith, number), here, hit)

@@ -1,4 +1,4 @@
--- How a machine is loaded, declaration by declaration.
+-- The codes of a script's functions, one behind the other.
 use Rattle.std.proofs.Common.{◌≡◌, ◌<◌, ◌≤◌, ◌+◌, ℕ, zero, suc, List, [], ◌∷◌, ◌++◌, length, Some, refl, sym, ap, ◌∙◌, subst, arith, length-append, append_assoc, ◌⊎◌, inl, inr, get_or, take}
 use Rattle.std.specs.Prelude.{Option, option_map, chars, slice_get, map, All}
 use Rattle.std.proofs.lemmas.List.{map-append, length-map, length-take-le, take_all}
@@ -6,8 +6,6 @@ use Rattle.std.proofs.lemmas.Grind.{take_at_read}
 use Rattle.std.proofs.lemmas.Option.{slice_get-map, slice_get-get_or, slice_get_within, get_or_from_slice_get}
 use Rattle.py_code.specs.declared.names.NameId.{NameId}
 use Rattle.py_check.specs.declared.annotated.Annotated.{Annotated}
-use Rattle.py_objects.specs.declared.payload.Payload.{Payload}
-use Rattle.py_objects.specs.declared.payload.Payload.TheVariants as payload
 use Rattle.py_objects.specs.declared.payload.CoroKind.{CoroKind}
 use Rattle.py_objects.specs.Objects.{Obj, Name, numbers, AllBelow}
 use Rattle.py_rows.specs.Asked.{name_in}
@@ -19,13 +17,15 @@ use Rattle.py_tree.specs.declared.body.BodyKind.TheVariants as kind
 use Rattle.py_tree.specs.Tree.{Tree, seen_as}
 use Rattle.py_laid.specs.Fits.{Fits, Continues}
 use Rattle.py_grammar.specs.declared.script.Declaration.{Declaration}
-use Rattle.py_grammar.specs.Script.{declared_tree}
+use Rattle.py_grammar.specs.Grammar.{Decl}
+use Rattle.py_grammar.specs.Script.{decl_of}
 use Rattle.py_run.specs.Run.{Signature}
 use Rattle.py_vm.specs.Codes.{Checked, IsDriven, plain_codes, signature_in, signatures_of}
 use Rattle.py_run.proofs.BoundLemmas.{AreSigned}
 use Rattle.py_objects.proofs.NewLemmas.{newest}
 use Rattle.py_script.specs.Whole.{AreCompiled, signature_of}
-use Rattle.py_script.specs.Loaded.{AreChecked, function_entries}
+use Rattle.py_script.specs.Loaded.{AreChecked}
+use Rattle.py_script.proofs.Entries.{one_more}
 
 -- the entry of a list that is mapped
 pub entry_mapped : {A B : Type 0} (f : A → B) (xs : List A) (i : ℕ) (x : A) → slice_get xs i ≡ Some x → slice_get (map f xs) i ≡ Some (f x)
@@ -45,16 +45,9 @@ front_length f xs i low = length-map (take i xs) f ∙ length-take-le i xs (omeg
 pub front_whole : {A B : Type 0} (f : A → B) (xs : List A) (i : ℕ) → length xs ≤ i → map f (take i xs) ≡ map f xs
 front_whole f xs i high = ap (map f) (take_all i xs high)
 
--- what was said of the trees of a slice holds of those of its list
-pub of_trees : (P : List Tree → Type 0) (some all : List Declaration) → some ≡ all → P (map declared_tree some) → P (map declared_tree all)
-of_trees P some all same is = subst (λ (l : List Declaration). P (map declared_tree l)) same is
-
--- an entry of a list with one more is one of the list, or that one
-pub one_more : {X : Type 0} (xs : List X) (y x : X) (i : ℕ) → slice_get (xs ++ y ∷ []) i ≡ Some x → (slice_get xs i ≡ Some x) ⊎ ((i ≡ length xs) × (y ≡ x))
-one_more [] y x zero h = inr (refl, cc h)
-one_more [] y x (suc i) h = absurd (cc h)
-one_more (z ∷ xs) y x zero h = inl h
-one_more (z ∷ xs) y x (suc i) h = elim (one_more xs y x i h) [ inl old ↦ inl old | inr new ↦ inr (ap suc new.0, new.1) ]
+-- what was said of the declarations of a slice holds of those of its list
+pub of_decls : (P : List Decl → Type 0) (some all : List Declaration) → some ≡ all → P (map decl_of some) → P (map decl_of all)
+of_decls P some all same is = subst (λ (l : List Declaration). P (map decl_of l)) same is
 
 -- a code that is sound for a table is so for one that goes on
 sound_continues : (names names' : List (List ℕ)) (c : Annotated) → Continues names names' → IsSound names c → IsSound names' c
@@ -188,24 +181,6 @@ signed_by_body ts i s is =
     let (t, at, signs) = mapped_entry signature_of ts i s is in
     (t, at, ap (λ (k : Signature). k.params) (sym signs))
 
-entries_more_from : (i : ℕ) (ts : List Tree) (t : Tree) → function_entries i (ts ++ t ∷ []) ≡ function_entries i ts ++ payload.Function (record { name = t.name; code = i + length ts }) ∷ []
-entries_more_from i [] t = ap (λ n. payload.Function (record { name = t.name; code = n }) ∷ []) (let e : i ≡ i + 0 = omega arith in e)
-entries_more_from i (s ∷ ts) t =
-    ap (λ l. payload.Function (record { name = s.name; code = i }) ∷ l)
-    (entries_more_from (suc i) ts t ∙ ap (λ n. function_entries (suc i) ts ++ payload.Function (record { name = t.name; code = n }) ∷ []) (let e : suc i + length ts ≡ i + suc (length ts) = omega arith in e))
-
-pub entries_more : (ts : List Tree) (t : Tree) (n : ℕ) → n ≡ length ts → function_entries 0 (ts ++ t ∷ []) ≡ function_entries 0 ts ++ payload.Function (record { name = t.name; code = n }) ∷ []
-entries_more ts t n same = entries_more_from 0 ts t ∙ ap (λ k. function_entries 0 ts ++ payload.Function (record { name = t.name; code = k }) ∷ []) (let e : 0 + length ts ≡ n = omega (arith, same) in e)
-
 pub numbers_more : (n : ℕ) (vs : List Obj) (v : Obj) → AllBelow n (numbers vs) → v.number < n → AllBelow n (numbers (vs ++ v ∷ []))
 numbers_more n [] v below low = (low, tt)
 numbers_more n (w ∷ vs) v below low = (below.0, numbers_more n vs v below.1 low)
-
--- one more entry behind those of a list's front
-pub next_entry : (first : List Payload) (ds : List Declaration) (i : ℕ) (d : Declaration) (objects : List Payload) → i < length ds → d ≡ get_or ds i d → objects ≡ first ++ function_entries 0 (map declared_tree (take i ds))
-    → objects ++ payload.Function (record { name = (declared_tree d).name; code = i }) ∷ [] ≡ first ++ function_entries 0 (map declared_tree (take (i + 1) ds))
-next_entry first ds i d objects low is before =
-    let front = map declared_tree (take i ds) in
-    let new : List Payload = payload.Function (record { name = (declared_tree d).name; code = i }) ∷ [] in
-    ap (λ os. os ++ new) before ∙ (append_assoc first (function_entries 0 front) new
-    ∙ ap (λ es. first ++ es) (sym (ap (function_entries 0) (front_more declared_tree ds i d low is) ∙ entries_more front (declared_tree d) i (sym (front_length declared_tree ds i low)))))

@@ -1,5 +1,5 @@
 -- What is said of every journal worked by hand, whose script has one function.
-use Rattle.std.proofs.Common.{◌≡◌, ℕ, zero, suc, ◌+◌, List, [], ◌∷◌, ◌++◌, Some, None, Bool, true, false, cond, ◌&&◌, ◌<◌, ◌≤◌, refl, sym, ap, subst, inl, inr, lit<, lit≤, ◌∙◌, arith, length, eqb, eq-eqb, ne_eqb}
+use Rattle.std.proofs.Common.{◌≡◌, append_assoc, ℕ, zero, suc, ◌+◌, List, [], ◌∷◌, ◌++◌, Some, None, Bool, true, false, cond, ◌&&◌, ◌<◌, ◌≤◌, refl, sym, ap, subst, inl, inr, lit<, lit≤, ◌∙◌, arith, length, eqb, eq-eqb, ne_eqb}
 use Rattle.std.proofs.lemmas.Fmt.{decimal_digit, decimal_step}
 use Rattle.std.proofs.lemmas.Bool.{and_parts, ltb-true}
 use Rattle.std.proofs.lemmas.Str.{encode_ascii}
@@ -16,7 +16,7 @@ use Rattle.py_objects.specs.declared.error_kind.ErrorKind.TheVariants.{OverflowE
 use Rattle.py_code.specs.declared.operator.BinaryOperator.TheVariants as binary
 use Rattle.py_objects.specs.declared.request.Keywords.TheVariants as keywords
 use Rattle.py_objects.specs.declared.request.Request.{Request}
-use Rattle.py_objects.specs.declared.request.Request.TheVariants.{Binary, Call as Calling, Close, Handled, Send, Throw}
+use Rattle.py_objects.specs.declared.request.Request.TheVariants.{Binary, Call as Calling, Close, Enter, Exit, Handled, Send, Throw}
 use Rattle.py_objects.specs.declared.event.ResumeHow.TheVariants.{Start}
 use Rattle.py_objects.specs.declared.event.GotAnswer.{GotAnswer}
 use Rattle.py_objects.specs.declared.event.GotAnswer.TheVariants as got
@@ -28,7 +28,8 @@ use Rattle.py_objects.specs.Objects.{Obj, Name, HasPayload, as_object, declares,
 use Rattle.py_objects.specs.Own.{Own, Makes, Resumes, Asks, Gets, Ends, own_events, own_from, told_by}
 use Rattle.py_objects.specs.Telling.{AfterValue, Answered, Answers, Asked}
 use Rattle.py_objects.specs.Values.{new_exception}
-use Rattle.py_objects.proofs.GrowthLemmas.{below_more, length_grown, made_grown, slice_get_split}
+use Rattle.py_objects.proofs.GrowthLemmas.{below_more, declared_grown, length_grown, made_grown, slice_get_split}
+use Rattle.py_objects.proofs.NewLemmas.{declared_within}
 use Rattle.py_exceptions.specs.Classes.{class_of, first_classes}
 use Rattle.py_tree.specs.Tree.{Tree, seen_as}
 use Rattle.py_tree.specs.Scene.{Scene, anywhere}
@@ -38,7 +39,7 @@ use Rattle.py_lines.specs.declared.drive.DriveLine.{DriveLine}
 use Rattle.py_lines.specs.declared.drive.DriveLine.TheVariants as drive
 use Rattle.py_lines.specs.declared.line.LineRead.{LineRead}
 use Rattle.py_lines.specs.declared.line.LineRead.TheVariants.{Said}
-use Rattle.py_grammar.specs.Grammar.{Row, Item, items_rows}
+use Rattle.py_grammar.specs.Grammar.{Row, Decl, FunctionDecl, Item, items_rows}
 use Rattle.py_answers.specs.Answers.{This, Reply, Passes, Replies, CallsAs, GivesBody, IsRaised, sum, whole}
 use Rattle.py_coro.specs.declared.coro.CoroEnd.{CoroEnd}
 use Rattle.py_run.specs.Run.{Signature, Posed, Plan, Activation, Phase, Asking, IsTop, question, start, state_after}
@@ -49,7 +50,8 @@ use Rattle.py_vm.specs.First.{first_objects}
 use Rattle.py_vm.proofs.FirstLemmas.{first_fit}
 use Rattle.py_script.specs.Whole.{AreOf, AsksThis, AreAsked, AreGlobals, AreObjects, Traces, IsRunOf, plan_of, signature_of}
 use Rattle.py_script.specs.Worked.{call_of, object, exception, function_entry, loaded, objects_of, entered, asked, greatest, overflowing_of, out_of_range, error_entry, error_objects, raising_by, raised, raises, overflow_by}
-use Rattle.py_script.proofs.Behind.{HasFunction, IsOwn, have_classes, script_has}
+use Rattle.py_script.proofs.Behind.{declares_it, have_classes, none_declared}
+use Rattle.py_script.proofs.Entries.{objects_more, one_declared}
 
 pub decimal_1 : decimal 1 ≡ codes "1"
 decimal_1 = decimal_digit 1 (lit< tt)
@@ -191,18 +193,6 @@ made_exception own kind args arguments are =
       traceback = tt;
     }
 
--- what is declared under a name has it
-declares_it : (i : ℕ) (store : List Payload) (x : Name) (v : Obj) → declared_from i store x ≡ Some v
-    → (k : ℕ) × (p : Payload) × (v.number ≡ i + k) × (slice_get store k ≡ Some p) × (is_name x (declares p) ≡ true)
-declares_it i [] x v e = absurd (cc e)
-declares_it i (p ∷ store) x v e = go (is_name x (declares p)) refl e (declares_it (suc i) store x v)
-  where
-    go : (b : Bool) → is_name x (declares p) ≡ b → cond b (Some (record { number = i })) (declared_from (suc i) store x) ≡ Some v
-        → (declared_from (suc i) store x ≡ Some v → (k : ℕ) × (q : Payload) × (v.number ≡ suc i + k) × (slice_get store k ≡ Some q) × (is_name x (declares q) ≡ true))
-        → (k : ℕ) × (q : Payload) × (v.number ≡ i + k) × (slice_get (p ∷ store) k ≡ Some q) × (is_name x (declares q) ≡ true)
-    go true hit e later = let number : i ≡ v.number = ap (λ (v : Obj). v.number) (some_is _ _ e) in (0, p, omega (arith, number), refl, hit)
-    go false miss e later = let (k, q, number, here, hit) = later e in (suc k, q, omega (arith, number), here, hit)
-
 -- an entry that declares nothing is declared under no name
 undeclared : (store : List Payload) (n : ℕ) (p : Payload) → slice_get store n ≡ Some p → declares p ≡ None → (x : Name) (v : Obj)
     → declared store x ≡ Some v → eqb n v.number ≡ false
@@ -250,10 +240,12 @@ pub record IsPlain (r : Request) : Type 0 where
   pub no_send : (g v : Obj) → r ≡ Send g v → ⊥
   pub no_throw : (g k : Obj) (v : Option Obj) → r ≡ Throw g k v None → ⊥
   pub no_close : (g : Obj) → r ≡ Close g → ⊥
+  pub no_enter : (m : Obj) → r ≡ Enter m → ⊥
+  pub no_exit : (x k v t : Obj) → r ≡ Exit x k v t → ⊥
 
 -- a sum is
 pub sum_plain : (a b : Obj) → IsPlain (Binary binary.Add a b)
-sum_plain a b = record { no_call = λ f vs e. cc; not_handled = λ e. cc; no_send = λ g v e. cc; no_throw = λ g k v e. cc; no_close = λ g e. cc }
+sum_plain a b = record { no_call = λ f vs e. cc; not_handled = λ e. cc; no_send = λ g v e. cc; no_throw = λ g k v e. cc; no_close = λ g e. cc; no_enter = λ m e. cc; no_exit = λ x k v t e. cc }
 
 -- it comes to a reply
 pub plainly : (at : Setting) (store : List Payload) (r : Request) (c : Course) → IsPlain r → ComesTo at store r c → (reply : Reply) × (c ≡ Says reply) × Replies store r reply
@@ -262,7 +254,9 @@ plainly at store r c plain (inr (inl (f, vs, is, h))) = absurd (plain.no_call f 
 plainly at store r c plain (inr (inr (inl (is, says)))) = absurd (plain.not_handled is)
 plainly at store r c plain (inr (inr (inr (inl (g, v, is, h))))) = absurd (plain.no_send g v is)
 plainly at store r c plain (inr (inr (inr (inr (inl (g, k, v, is, h)))))) = absurd (plain.no_throw g k v is)
-plainly at store r c plain (inr (inr (inr (inr (inr (g, is, h)))))) = absurd (plain.no_close g is)
+plainly at store r c plain (inr (inr (inr (inr (inr (inl (g, is, h))))))) = absurd (plain.no_close g is)
+plainly at store r c plain (inr (inr (inr (inr (inr (inr (inl (m, is, h)))))))) = absurd (plain.no_enter m is)
+plainly at store r c plain (inr (inr (inr (inr (inr (inr (inr (x, k, v, t, is, h)))))))) = absurd (plain.no_exit x k v t is)
 
 -- which answers it
 pub replied : (at : Setting) (store : List Payload) (r : Request) (reply : Reply) → IsPlain r → ComesTo at store r (Says reply) → Replies store r reply
@@ -279,7 +273,9 @@ called at store f b vs c entry (inl (reply, is, (positional, (p, has, calls)))) 
 called at store f b vs c entry (inr (inr (inl (is, says)))) = absurd (cc is)
 called at store f b vs c entry (inr (inr (inr (inl (g, v, is, h))))) = absurd (cc is)
 called at store f b vs c entry (inr (inr (inr (inr (inl (g, k, v, is, h)))))) = absurd (cc is)
-called at store f b vs c entry (inr (inr (inr (inr (inr (g, is, h)))))) = absurd (cc is)
+called at store f b vs c entry (inr (inr (inr (inr (inr (inl (g, is, h))))))) = absurd (cc is)
+called at store f b vs c entry (inr (inr (inr (inr (inr (inr (inl (m, is, h)))))))) = absurd (cc is)
+called at store f b vs c entry (inr (inr (inr (inr (inr (inr (inr (x, k, v, t, is, h)))))))) = absurd (cc is)
 called at store f b vs c entry (inr (inl (g, ws, is, h))) =
     let function : f ≡ g = cc is in
     let args : vs ≡ ws = cc is in
@@ -324,6 +320,41 @@ gives_sum plan store p a b i j w left right (reply, (r, asks, replies), gives) =
     subst (λ (x : Reply). GivesBody store p.events x w)
     (reply_of_sum store a b i j reply left right (replied (setting plan p) store (Binary binary.Add a b) reply (sum_plain a b) says)) gives
 
+-- what is declared behind the first objects isn't among them
+not_before : (store : List Payload) (x : Name) (own : List Payload) → store ≡ first_objects ++ own → declared store x ≡ Some (object 0) → declared first_objects x ≡ None
+not_before store x own is found = go (declared first_objects x) refl
+  where
+    go : (o : Option Obj) → declared first_objects x ≡ o → declared first_objects x ≡ None
+    go None e = e
+    go (Some v) e =
+        let low = declared_within first_objects x v e in
+        let same : Some v ≡ Some (object 0) = sym (declared_grown first_objects store x v (own, is) e) ∙ found in
+        let number : v.number ≡ length first_objects + 0 = ap (λ (w : Obj). w.number) (some_is v (object 0) same) in
+        absurd (omega (arith, low, number))
+
+-- an entry that is no function, no class and no manager
+abbrev pub DeclaresNothing : Payload → Type 0
+DeclaresNothing (payload.Function b) = ⊥
+DeclaresNothing (payload.Class b) = ⊥
+DeclaresNothing (payload.Manager b) = ⊥
+DeclaresNothing _ = Unit {0}
+
+declares_nothing : (p : Payload) (x : Name) → DeclaresNothing p → declares p ≡ Some x → ⊥
+declares_nothing (payload.Function b) x plain says = plain
+declares_nothing (payload.Class b) x plain says = plain
+declares_nothing (payload.Manager b) x plain says = plain
+declares_nothing _ x plain says = cc says
+
+-- a script's objects stay so with such entries behind them
+pub objects_behind : (ds : List Decl) (objects rest store : List Payload) → store ≡ objects ++ rest → AreObjects ds objects → Each DeclaresNothing rest → AllFit store → AreObjects ds store
+objects_behind ds objects rest store is are plain fit = objects_more ds objects store (rest, is) are before fit
+  where
+    before : (v : Obj) (p : Payload) (x : Name) → declares p ≡ Some x → HasPayload store v p → HasPayload objects v p
+    before v p x says has = elim (slice_get_split objects rest v.number p (ap (λ os. slice_get os v.number) (sym is) ∙ has)) [
+      | inl old ↦ old
+      | inr new ↦ absurd (declares_nothing p x (each_at DeclaresNothing rest plain _ p new) says)
+    ]
+
 -- the script's only function
 module _ (t : Tree) where
   -- the objects of the script with two numbers, and more
@@ -342,22 +373,23 @@ module _ (t : Tree) where
   abbrev pub IsDeclared : List Payload → Type 0
   IsDeclared store = declared store t.name ≡ Some (object 0)
 
-  has_entry : (more : List Payload) → IsDeclared (loaded_with more) → (i : ℕ) (u : Tree) → slice_get (t ∷ []) i ≡ Some u → HasFunction (loaded_with more) i u
-  has_entry more d zero u e = subst (HasFunction (loaded_with more) 0) (some_is t u e) (object 0, d, refl)
-  has_entry more d (suc i) u e = absurd cc
-
   pub fits : (more : List Payload) → list_all (λ p. are_below (length (loaded_with more)) (payload_numbers p)) (own_with more) ≡ true → Each (IsMade (loaded_with more)) more → AllFit (loaded_with more)
   fits more below made = all_fit (own_with more) below (tt, (tt, (tt, made)))
 
-  pub are_loaded : (more : List Payload) → IsDeclared (loaded_with more) → Each (IsOwn (t ∷ [])) more → AllFit (loaded_with more) → AreObjects (t ∷ []) (loaded_with more)
-  are_loaded more d own fit = script_has (t ∷ []) (own_with more) (each_at (IsOwn (t ∷ [])) (own_with more) ((t, refl, refl), (tt, (tt, own)))) (has_entry more d) fit
+  pub are_loaded : (more : List Payload) → IsDeclared (loaded_with more) → Each DeclaresNothing more → AllFit (loaded_with more) → AreObjects (FunctionDecl t ∷ []) (loaded_with more)
+  are_loaded more d plain fit =
+      let function : List Payload = function_entry t.name 0 ∷ [] in
+      let rest : List Payload = payload.Str t.name ∷ payload.Dict ((object 1, object 0) ∷ []) ∷ more in
+      let first : AreObjects (FunctionDecl t ∷ []) (first_objects ++ function) =
+      one_declared [] first_objects (FunctionDecl t) (function_entry t.name 0) none_declared (not_before (loaded_with more) t.name (own_with more) refl d) tt refl in
+      objects_behind (FunctionDecl t ∷ []) (first_objects ++ function) rest (loaded_with more) (sym (append_assoc first_objects function rest)) first (tt, (tt, plain)) fit
 
   -- the same with two numbers
-  pub are_objects : (m n : ℤ) (more : List Payload) → IsDeclared (with_more m n more) → Each (IsOwn (t ∷ [])) more → AllFit (with_more m n more) → AreObjects (t ∷ []) (with_more m n more)
+  pub are_objects : (m n : ℤ) (more : List Payload) → IsDeclared (with_more m n more) → Each DeclaresNothing more → AllFit (with_more m n more) → AreObjects (FunctionDecl t ∷ []) (with_more m n more)
   are_objects m n more d own fit = are_loaded (payload.Int m ∷ payload.Int n ∷ payload.Frame 0 ∷ more) d (tt, (tt, (tt, own))) fit
 
   -- the globals bind the function
-  pub are_globals : (more : List Payload) → IsDeclared (loaded_with more) → AreGlobals (t ∷ []) (loaded_with more) (object 2)
+  pub are_globals : (more : List Payload) → IsDeclared (loaded_with more) → AreGlobals (FunctionDecl t ∷ []) (loaded_with more) (object 2)
   are_globals more d = record { pairs = (object 1, object 0) ∷ []; dict = refl; bindings = (object 1, object 0) ∷ []; bind = ((refl, d), tt); same = IsPermutation-refl _ }
 
   -- the two numbers are taken
@@ -386,8 +418,8 @@ module _ (t : Tree) where
   plan_with qs = plan_of (t ∷ []) (call ∷ qs)
 
   -- such a run, where its events are told to be one
-  pub call_runs : (m n : ℤ) (more : List Payload) (events : List Event) → IsDeclared (with_more m n more) → Each (IsOwn (t ∷ [])) more → AllFit (with_more m n more) → Comes (plan_with []) (with_more m n more) nothing events
-      → EachTells (Traces (t ∷ []) (object 2) (with_more m n more)) events → AreNamed (with_more m n more) events → IsRunOf (t ∷ []) (call_of t.name m n ∷ []) (with_more m n more) events
+  pub call_runs : (m n : ℤ) (more : List Payload) (events : List Event) → IsDeclared (with_more m n more) → Each DeclaresNothing more → AllFit (with_more m n more) → Comes (plan_with []) (with_more m n more) nothing events
+      → EachTells (Traces (t ∷ []) (object 2) (with_more m n more)) events → AreNamed (with_more m n more) events → IsRunOf (FunctionDecl t ∷ []) (call_of t.name m n ∷ []) (with_more m n more) events
   call_runs m n more events d own fit comes tells named = record {
     asked = call ∷ [];
     are_asked = (asks_numbers m n more events d, tt);
@@ -402,7 +434,7 @@ module _ (t : Tree) where
       → Comes (plan_with qs) (with_more m n more) (past_behind (plan_with qs) nothing (entered 1 (asked 1 (object 3) (object 4) []))) rest → Comes (plan_with qs) (with_more m n more) nothing (entered 1 (asked 1 (object 3) (object 4) rest))
   asking_comes qs m n more rest few binds plain k = (
     (refl, refl, few),
-    ((refl, (refl, (call.request, refl, inr (inl (object 0, object 3 ∷ object 4 ∷ [], refl, binds))))), ((refl, is_of_kind _ _ _ _ _ _ refl refl plain), ((refl, refl), k))),
+    ((refl, (refl, (call.request, refl, inr (inl (object 0, object 3 ∷ object 4 ∷ [], refl, binds))))), ((refl, is_of_kind _ _ _ _ _ _ refl refl plain), (((refl, refl), tt), k))),
   )
 
   -- what gives the sum may answer that question
@@ -423,16 +455,16 @@ module _ (t : Tree) where
 
   -- what a run of the script says of its activation
   pub traced_with : (vs : List Obj) (store : List Payload) (drives : List DriveLine) (events : List Event) → HasPayload store (object 0) (function_entry t.name 0) → slice_get (state_after start events).made 0 ≡ Some (record { function = object 0; args = vs })
-      → (r : IsRunOf (t ∷ []) drives store events) → IsTrace (anywhere store r.globals) t vs (own_events 1 events)
+      → (r : IsRunOf (FunctionDecl t ∷ []) drives store events) → IsTrace (anywhere store r.globals) t vs (own_events 1 events)
   traced_with vs store drives events p e r = traced_by r.globals store (object 0) vs (own_events 1 events) p (r.run.tells 0 (record { function = object 0; args = vs }) e)
 
   -- the same of an activation with two arguments
   pub traced : (store : List Payload) (drives : List DriveLine) (events : List Event) → HasPayload store (object 0) (function_entry t.name 0) → slice_get (state_after start events).made 0 ≡ Some (record { function = object 0; args = object 3 ∷ object 4 ∷ [] })
-      → (r : IsRunOf (t ∷ []) drives store events) → IsTrace (anywhere store r.globals) t (object 3 ∷ object 4 ∷ []) (own_events 1 events)
+      → (r : IsRunOf (FunctionDecl t ∷ []) drives store events) → IsTrace (anywhere store r.globals) t (object 3 ∷ object 4 ∷ []) (own_events 1 events)
   traced store drives events p e r = traced_with (object 3 ∷ object 4 ∷ []) store drives events p e r
 
   -- the entry of the function, where it is the script's
-  pub entry_of : (store : List Payload) (f : Obj) → AreObjects (t ∷ []) store → declared store t.name ≡ Some f → HasPayload store f (function_entry t.name 0)
+  pub entry_of : (store : List Payload) (f : Obj) → AreObjects (FunctionDecl t ∷ []) store → declared store t.name ≡ Some f → HasPayload store f (function_entry t.name 0)
   entry_of store f h e =
       let entry = h.functions 0 t refl in
       subst (λ (f : Obj). HasPayload store f (function_entry t.name 0)) (some_is _ _ (sym entry.1 ∙ e)) entry.2
@@ -474,7 +506,7 @@ module _ (t : Tree) where
   overflow_tells h = one_tells (Traces (t ∷ []) (object 2) (overflow_with [])) (object 0) (object 3 ∷ object 4 ∷ []) (overflow_by (exception 8)) refl (_, refl, (t, refl, h))
 
   -- the run of one drive that overflows
-  pub overflow_is_run : IsDeclared (overflow_with []) → Binds (overflow_with []) → seen_as t.kind ≡ None → RaiseIsTraced [] 2 4 (exception 8) → IsRunOf (t ∷ []) (overflowing_of t.name ∷ []) (overflow_with []) (overflow_by (exception 8))
+  pub overflow_is_run : IsDeclared (overflow_with []) → Binds (overflow_with []) → seen_as t.kind ≡ None → RaiseIsTraced [] 2 4 (exception 8) → IsRunOf (FunctionDecl t ∷ []) (overflowing_of t.name ∷ []) (overflow_with []) (overflow_by (exception 8))
   overflow_is_run d binds plain h =
       call_runs greatest (pos 1) (error_objects OverflowError []) (overflow_by (exception 8)) d (tt, (tt, (tt, tt))) overflow_fits (first_raises [] [] [] (lit< tt) binds plain tt) (overflow_tells h)
       (are_named (overflow_with []) (overflow_by (exception 8)) overflow_fits refl)

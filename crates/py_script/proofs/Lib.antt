@@ -1,11 +1,12 @@
 -- what a script gives the compiler and the machine
-pub mod Functions
 pub mod Behind
+pub mod Entries
 pub mod Objects
 -- what a machine's run is in the script's own words
 pub mod Made
 pub mod Traced
 pub mod Declarations
+pub mod Adding
 pub mod Driven
 pub mod Asking
 pub mod Loaded
@@ -28,3 +29,4 @@ mod OneText
 mod WorkedCallLemmas
 mod WorkedFinallyLemmas
 mod WorkedGeneratorLemmas
+mod WorkedWithLemmas

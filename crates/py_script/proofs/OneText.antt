@@ -27,6 +27,7 @@ use Rattle.py_objects.specs.Objects.{Obj, Name, HasPayload, class_object, declar
 use Rattle.py_objects.specs.Own.{Own, Asks, Gets, Ends, whose, own_of, own_from, told_by}
 use Rattle.py_objects.specs.Telling.{Given, Failed, AfterValue, Asked, Answered, Answers}
 use Rattle.py_tree.specs.Tree.{Tree}
+use Rattle.py_grammar.specs.Grammar.{Decl, functions_in}
 use Rattle.py_tree.specs.Scene.{anywhere}
 use Rattle.py_tree.specs.Trace.{IsBegun, Ended}
 use Rattle.py_lines.specs.declared.drive.DriveAtom.TheVariants as atom
@@ -41,7 +42,7 @@ use Rattle.py_script.specs.Repr.{class_name, items_of, payload_of, repr_within, 
 use Rattle.py_script.specs.Said.{said_by}
 use Rattle.py_script.specs.Text.{details, events_text, numbered, raised, result_text, str_by, str_within}
 use Rattle.py_script.proofs.TextLemmas.{plain_text, unchanged}
-use Rattle.py_script.specs.Worked.{Writes, call_of, events, exception, function, greatest, objects, out_of_range, overflow_by, overflow_objects, trees}
+use Rattle.py_script.specs.Worked.{Writes, call_of, events, exception, function, greatest, objects, out_of_range, overflow_by, overflow_objects, decls}
 use Rattle.py_script.proofs.Journals.{ascii_bytes, asked_for, begun, called, course_is, decimal_1, decimal_45, due_leaves, entry_of, few_asked, gives_sum, gotten, never_suspended, plainly, some_is, sum_plain, traced_by}
 use Rattle.py_script.proofs.WorkedLemmas.{is_run, overflow_is_run}
 
@@ -108,7 +109,7 @@ WritesAt store line w = (x : Ending) × ((ts : List Own) → EndedBy w ts → En
 module _ (store : List Payload) (globals : Obj) (journal : List Event) (qs : List Posed) (m n : ℤ) (line : List ℕ) (given : (before : List Event) (w : GotAnswer) → GivesBody store before (whole (m +ℤ n)) w → WritesAt store line w) where
   -- what the run is of
   abbrev plan : Plan
-  plan = plan_of trees qs
+  plan = plan_of (functions_in decls) qs
 
   -- the script's function is called with the two numbers
   abbrev IsCalled : Obj → List Obj → Type 0
@@ -142,6 +143,7 @@ module _ (store : List Payload) (globals : Obj) (journal : List Event) (qs : Lis
   idle_next before s xs (event.Resume a (how.Send v)) p h = absurd (not_opened before s xs Idle _ p (λ e. cc) h)
   idle_next before s xs (event.Resume a (how.Throw e)) p h = absurd (not_opened before s xs Idle _ p (λ e. cc) h.1)
   idle_next before s xs (event.Got a w) p (top, (reply, (r, asks, replies), gives)) = absurd (subst (λ (x : Phase). IsReply plan store (past_with before s xs) x r reply) p replies)
+  idle_next before s xs (event.Ask a r own at) p h = absurd (cc h.0.0)
   idle_next before s xs _ p h = absurd (cc h.0)
 
   -- the open question enters a function, and nothing else
@@ -171,6 +173,7 @@ module _ (store : List Payload) (globals : Obj) (journal : List Event) (qs : Lis
   asked_next before s (event.Resume a (how.Send v)) p q only h = let (f, vs, is) = entered_alone before s _ only h in absurd (cc is)
   asked_next before s (event.Resume a (how.Throw e)) p q only h = let (f, vs, is) = entered_alone before s _ only h.1 in absurd (cc is)
   asked_next before s (event.Got a w) p q only h = absurd (subst (IsTop a) q h.0)
+  asked_next before s (event.Ask a r own at) p q only h = absurd (cc h.0.0)
   asked_next before s _ p q only h = absurd (cc h.0)
 
   -- the script's function makes no generator
@@ -184,6 +187,7 @@ module _ (store : List Payload) (globals : Obj) (journal : List Event) (qs : Lis
   made_next before s (event.Resume a (how.Send v)) f p h = absurd (not_opened before s [] (Made f) _ p (λ e. cc) h)
   made_next before s (event.Resume a (how.Throw e)) f p h = absurd (not_opened before s [] (Made f) _ p (λ e. cc) h.1)
   made_next before s (event.Got a w) f p (top, (reply, (r, asks, replies), gives)) = absurd (not_made before s f r reply (subst (λ (x : Phase). In before s x r reply) p replies))
+  made_next before s (event.Ask a r own at) f p h = absurd (cc h.0.0)
   made_next before s _ f p h = absurd (cc h.0)
 
   -- the innermost activation tells something
@@ -195,6 +199,7 @@ module _ (store : List Payload) (globals : Obj) (journal : List Event) (qs : Lis
   going_next before s k (event.Resume a (how.Send v)) p h = absurd (not_opened before s [] Going _ p (λ e. cc) h)
   going_next before s k (event.Resume a (how.Throw e)) p h = absurd (not_opened before s [] Going _ p (λ e. cc) h.1)
   going_next before s k (event.Got a w) p (top, (reply, (r, asks, replies), gives)) = absurd (subst (λ (x : Phase). In before s x r reply) p replies)
+  going_next before s k (event.Ask a r own at) p h = (h.0.1, (_, refl))
   going_next before s k _ p h = (h.1, (_, refl))
 
   -- an open question is answered at once, by this
@@ -221,6 +226,7 @@ module _ (store : List Payload) (globals : Obj) (journal : List Event) (qs : Lis
   got_next before s (event.Resume a (how.Send v)) top x y p q t h = let (reply, is) = replied_alone before s top _ x y q t h in absurd (cc is)
   got_next before s (event.Resume a (how.Throw e)) top x y p q t h = let (reply, is) = replied_alone before s top _ x y q t h.1 in absurd (cc is)
   got_next before s (event.Got a w) top x y p q t (is_top, (reply, (r, asks, replies), gives)) = (w, refl, is_top, (reply, (r, asks, subst (λ (x : Phase). In before s x r reply) p replies), gives))
+  got_next before s (event.Ask a r own at) top x y p q t h = absurd (cc h.0.0)
   got_next before s _ top x y p q t h = absurd (cc h.0)
 
   -- an activation was left
@@ -235,6 +241,7 @@ module _ (store : List Payload) (globals : Obj) (journal : List Event) (qs : Lis
   due_next before s (event.Resume a (how.Send v)) left p q call h = absurd (not_opened before s [] (Due left) _ p (λ e. cc) h)
   due_next before s (event.Resume a (how.Throw e)) left p q call h = absurd (not_opened before s [] (Due left) _ p (λ e. cc) h.1)
   due_next before s (event.Got a w) left p q call h = absurd (subst (IsTop a) q h.0)
+  due_next before s (event.Ask a r own at) left p q call h = absurd (cc h.0.0)
   due_next before s _ left p q call h = absurd (cc h.0)
 
   -- a state in which so many drives are done
@@ -347,7 +354,7 @@ module _ (store : List Payload) (globals : Obj) (journal : List Event) (qs : Lis
   none_entered (x ∷ xs) h = h.0.1
 
   -- with so many arguments as it takes the function is entered
-  entered_by : (f : Obj) (vs : List Obj) (place : Setting) (course : Course) → AreObjects trees store → place.signatures ≡ map signature_of trees → place.depth ≡ 0 → IsCalled f vs → CallsFunction place store f vs course → course ≡ Enters f vs
+  entered_by : (f : Obj) (vs : List Obj) (place : Setting) (course : Course) → AreObjects decls store → place.signatures ≡ map signature_of (functions_in decls) → place.depth ≡ 0 → IsCalled f vs → CallsFunction place store f vs course → course ≡ Enters f vs
   entered_by f [] place course o signed at_zero q calls = absurd q.1
   entered_by f (a ∷ []) place course o signed at_zero q calls = absurd q.1.1
   entered_by f (a ∷ b ∷ c ∷ vs) place course o signed at_zero q calls = absurd q.1.1.1
@@ -356,7 +363,7 @@ module _ (store : List Payload) (globals : Obj) (journal : List Event) (qs : Lis
       course_is place store f (record { name = codes "f"; code = 0 }) (signature_of function) (a ∷ b ∷ []) course (entry_of function store f o q.0) (ap (λ (xs : List Signature). slice_get xs 0) signed) calls in
       is ∙ ap (λ (k : ℕ). entry_at k (Enters f (a ∷ b ∷ []))) at_zero
 
-  enters_only : (xs : List Posed) (r : Request) (course : Course) (place : Setting) → AreObjects trees store → place.signatures ≡ map signature_of trees → AreAsked store journal (call_of (codes "f") m n ∷ []) xs → place.depth ≡ 0
+  enters_only : (xs : List Posed) (r : Request) (course : Course) (place : Setting) → AreObjects decls store → place.signatures ≡ map signature_of (functions_in decls) → AreAsked store journal (call_of (codes "f") m n ∷ []) xs → place.depth ≡ 0
       → open_in (slice_get xs 0) [] ≡ Some r → ComesTo place store r course → (f : Obj) × (vs : List Obj) × (course ≡ Enters f vs) × (r ≡ Calling f vs keywords.None)
   enters_only [] r course place o signed h at_zero e c = absurd cc
   enters_only (x ∷ xs) r course place o signed h at_zero e c =
@@ -371,9 +378,9 @@ module _ (store : List Payload) (globals : Obj) (journal : List Event) (qs : Lis
 
   -- what the first activation that is made tells among these events, the first of which has this number
   abbrev Tells : State → ℕ → List Event → Type 0
-  Tells s i es = (a : Activation) → slice_get (state_after s es).made 0 ≡ Some a → Traces trees globals store a.function a.args (own_from 1 i es)
+  Tells s i es = (a : Activation) → slice_get (state_after s es).made 0 ≡ Some a → Traces (functions_in decls) globals store a.function a.args (own_from 1 i es)
 
-  making : (f : Obj) (vs : List Obj) (before es : List Event) → AreObjects trees store → AreCalls → IsCalled f vs → Tells (at 0 Asking [] []) 1 (event.Make 1 f vs ∷ es) → Follows before (at 0 Asking [] []) (event.Make 1 f vs ∷ es) → plain_text store (event.Make 1 f vs ∷ es) ≡ line
+  making : (f : Obj) (vs : List Obj) (before es : List Event) → AreObjects decls store → AreCalls → IsCalled f vs → Tells (at 0 Asking [] []) 1 (event.Make 1 f vs ∷ es) → Follows before (at 0 Asking [] []) (event.Make 1 f vs ∷ es) → plain_text store (event.Make 1 f vs ∷ es) ≡ line
   unfolding own_from told_by
   making f [] before es o asked q t h = absurd q.1
   making f (a ∷ []) before es o asked q t h = absurd q.1.1
@@ -383,7 +390,7 @@ module _ (store : List Payload) (globals : Obj) (journal : List Event) (qs : Lis
       let trace = traced_by function globals store f (a ∷ b ∷ []) _ (entry_of function store f o q.0) (t made (kept (at 0 (Made f) [] (made ∷ [])) es made refl)) in
       entry_behind f a b _ es (q.1.0, q.1.1.0) asked (begun (anywhere store globals) function (a ∷ b ∷ []) (own_from 1 2 es) trace) (h.0.1, h.1)
 
-  making_behind : (before es : List Event) → AreObjects trees store → AreAsked store journal (call_of (codes "f") m n ∷ []) qs → Tells (at 0 Asking [] []) 1 es → Follows before (at 0 Asking [] []) es → plain_text store es ≡ line
+  making_behind : (before es : List Event) → AreObjects decls store → AreAsked store journal (call_of (codes "f") m n ∷ []) qs → Tells (at 0 Asking [] []) 1 es → Follows before (at 0 Asking [] []) es → plain_text store es ≡ line
   making_behind before [] o asked t h = absurd (cc h.1)
   making_behind before (e ∷ es) o asked t h =
       let none = none_entered qs asked in
@@ -391,7 +398,7 @@ module _ (store : List Payload) (globals : Obj) (journal : List Event) (qs : Lis
       subst (λ (x : Event). Tells (at 0 Asking [] []) 1 (x ∷ es) → Follows before (at 0 Asking [] []) (x ∷ es) → plain_text store (x ∷ es) ≡ line) (sym c.2)
       (λ u l. making c.0 c.1 before es o asked (first_asked qs c.0 c.1 asked c.3) u l) t h
 
-  all_behind : (es : List Event) → AreObjects trees store → AreAsked store journal (call_of (codes "f") m n ∷ []) qs → Tells start 0 es → Follows [] start es → plain_text store es ≡ line
+  all_behind : (es : List Event) → AreObjects decls store → AreAsked store journal (call_of (codes "f") m n ∷ []) qs → Tells start 0 es → Follows [] start es → plain_text store es ≡ line
   unfolding own_from told_by
   all_behind [] o asked t h = absurd (cc h.1)
   all_behind (e ∷ es) o asked t h =
@@ -420,9 +427,9 @@ text_of_sum m n i store es r d =
     es r.are_objects r.are_asked (r.run.tells 0) (r.run.comes, d.done)
 
 -- the class that is declared under the name of a kind has it
-class_named : (ts : List Tree) (store : List Payload) (kind : ErrorKind) (c : Obj) → AreObjects ts store → declared store (name_of kind) ≡ Some c → class_name (payload_of store c) ≡ name_of kind
+class_named : (ts : List Decl) (store : List Payload) (kind : ErrorKind) (c : Obj) → AreObjects ts store → declared store (name_of kind) ≡ Some c → class_name (payload_of store c) ≡ name_of kind
 class_named ts store kind c o e =
-    let (class, is) = o.classes kind in
+    let (class, is) = o.builtins kind in
     ap (λ (c : Obj). class_name (payload_of store c)) (some_is c (class_object class) (sym e ∙ is.is_declared)) ∙ ap class_name is.entry
 
 -- a text is itself, so deep as it may be
@@ -431,7 +438,7 @@ text_within zero store v text is = ap (λ (p : Option Payload). str_by None (rep
 text_within (suc k) store v text is = ap (λ (p : Option Payload). str_by (Some (said_by (str_within k store) (repr_within k store) store)) (repr_within (suc k) store v) store p) is
 
 -- an exception of a kind with a text is written, as the result of any drive
-pub raise_line_of : (d : ℕ) (ts : List Tree) (store : List Payload) (kind : ErrorKind) (text : Name) → list_all (λ c. nat_lt c 128) (name_of kind) ≡ true → list_all (λ c. nat_lt c 128) text ≡ true
+pub raise_line_of : (d : ℕ) (ts : List Decl) (store : List Payload) (kind : ErrorKind) (text : Name) → list_all (λ c. nat_lt c 128) (name_of kind) ≡ true → list_all (λ c. nat_lt c 128) text ≡ true
     → AreObjects ts store → (before : List Event) (e : PyBaseExceptionRef) → IsRaised store before kind text e
     → result_text store d (answer.Raises e) ≡ numbered d (codes " raises " ++ (name_of kind ++ (codes ": " ++ text)))
 raise_line_of d ts store kind text ascii_name ascii_text o before e h =
@@ -443,20 +450,20 @@ raise_line_of d ts store kind text ascii_name ascii_text o before e h =
     ∙ ap (λ (t : List ℕ). numbered d (codes " raises " ++ (name_of kind ++ (codes ": " ++ t)))) (ascii_bytes text ascii_text)))))
 
 -- the same of the only drive
-pub raise_line : (ts : List Tree) (store : List Payload) (kind : ErrorKind) (text : Name) → list_all (λ c. nat_lt c 128) (name_of kind) ≡ true → list_all (λ c. nat_lt c 128) text ≡ true
+pub raise_line : (ts : List Decl) (store : List Payload) (kind : ErrorKind) (text : Name) → list_all (λ c. nat_lt c 128) (name_of kind) ≡ true → list_all (λ c. nat_lt c 128) text ≡ true
     → AreObjects ts store → (before : List Event) (e : PyBaseExceptionRef) → IsRaised store before kind text e
     → result_text store 1 (answer.Raises e) ≡ codes "1" ++ ((codes " raises " ++ (name_of kind ++ (codes ": " ++ text))) ++ codes "\n")
 raise_line ts store kind text ascii_name ascii_text o before e h =
     raise_line_of 1 ts store kind text ascii_name ascii_text o before e h ∙ first_line (codes " raises " ++ (name_of kind ++ (codes ": " ++ text)))
 
 -- so is a sum that is out of range
-pub overflow_line : (ts : List Tree) (store : List Payload) → AreObjects ts store → (before : List Event) (e : PyBaseExceptionRef) → IsRaised store before OverflowError out_of_range e
+pub overflow_line : (ts : List Decl) (store : List Payload) → AreObjects ts store → (before : List Event) (e : PyBaseExceptionRef) → IsRaised store before OverflowError out_of_range e
     → result_text store 1 (answer.Raises e) ≡ codes "1 raises OverflowError: integer out of range\n"
 overflow_line ts store o before e h = raise_line ts store OverflowError out_of_range refl refl o before e h
 
 -- so is what a raise ends
-of_raise : (store : List Payload) → AreObjects trees store → (before : List Event) (w : GotAnswer) → GivesBody store before (Fails OverflowError out_of_range) w → WritesAt store (codes "1 raises OverflowError: integer out of range\n") w
-of_raise store o before (got.Raise e) h = (ending.Raise e, λ ts t. t, overflow_line trees store o before e h)
+of_raise : (store : List Payload) → AreObjects decls store → (before : List Event) (w : GotAnswer) → GivesBody store before (Fails OverflowError out_of_range) w → WritesAt store (codes "1 raises OverflowError: integer out of range\n") w
+of_raise store o before (got.Raise e) h = (ending.Raise e, λ ts t. t, overflow_line decls store o before e h)
 of_raise store o before _ h = absurd h
 
 -- the text of each sum out of range

@@ -23,7 +23,7 @@ use Rattle.py_objects.specs.Own.{Makes, Resumes, Ends, own_events, own_from, tol
 use Rattle.py_tree.specs.Tree.{Tree}
 use Rattle.py_tree.specs.Scene.{anywhere}
 use Rattle.py_tree.specs.Trace.{IsTrace}
-use Rattle.py_grammar.specs.Grammar.{Declares, Drives}
+use Rattle.py_grammar.specs.Grammar.{Declares, Drives, FunctionDecl, functions_in}
 use Rattle.py_lines.specs.declared.drive.DriveAtom.TheVariants as argument
 use Rattle.py_lines.specs.declared.drive.DriveLine.{DriveLine}
 use Rattle.py_lines.specs.declared.drive.DriveLine.TheVariants as drive
@@ -38,26 +38,28 @@ use Rattle.py_run.specs.Past.{past_behind}
 use Rattle.std.proofs.lemmas.List.Sorted.{IsPermutation-refl, IsPermutation-reverse, sum_by-IsPermutation}
 use Rattle.py_script.specs.Whole.{AreAsked, Binds, AreGlobals, AreObjects, AsksThis, IsLeft, Traces, IsRunOf, plan_of, signature_of}
 use Rattle.py_script.specs.Text.{events_text, numbered, result_text}
+use Rattle.py_vm.specs.First.{first_objects}
 use Rattle.py_script.specs.Worked.{object, exception, function_entry}
-use Rattle.py_script.specs.WorkedCall.{values, refusal_text, refusal_objects, objects_by, pair_of_g, pair_of_f, script, callee, caller, trees, drives, objects, asking, left, returned, again, events, made_twice, numbered_on, swapped, refused_made, IsFull}
-use Rattle.py_run.proofs.BoundLemmas.{enters_call}
-use Rattle.py_script.proofs.Behind.{HasFunction, IsOwn, script_has}
-use Rattle.py_script.proofs.Journals.{Each, all_fit, are_named, asked_for, course_is, decimal_1, differ, due_leaves, each_at, is_of_kind, is_raised, made_exception, reads_of, runs, some_is}
+use Rattle.py_script.specs.WorkedCall.{values, refusal_text, refusal_objects, objects_by, pair_of_g, pair_of_f, script, callee, caller, decls, drives, objects, asking, left, returned, again, events, made_twice, numbered_on, swapped, refused_made, IsFull}
+use Rattle.py_run.proofs.BoundLemmas.{enters_call, IsMaking}
+use Rattle.py_script.proofs.Behind.{none_declared}
+use Rattle.py_script.proofs.Entries.{one_declared}
+use Rattle.py_script.proofs.Journals.{all_fit, are_named, asked_for, course_is, decimal_1, differ, due_leaves, each_at, is_of_kind, is_raised, made_exception, objects_behind, reads_of, runs, some_is}
 use Rattle.py_script.proofs.OneText.{raise_line_of, returned_so}
 
 -- call g $1 9
 abbrev second_drive : DriveLine
 second_drive = drive.Call (codes "g") (argument.Drive 1 ∷ argument.Int (pos 9) ∷ [])
 
-pub spelled : Spells (lines script) trees drives
+pub spelled : Spells (lines script) decls drives
 spelled =
-    let items = Declares callee ∷ Declares caller ∷ Drives (drive.Call (codes "f") []) ∷ Drives second_drive ∷ Drives (drive.Call (codes "f") (argument.Drive 1 ∷ [])) ∷ [] in
+    let items = Declares (FunctionDecl callee) ∷ Declares (FunctionDecl caller) ∷ Drives (drive.Call (codes "f") []) ∷ Drives second_drive ∷ Drives (drive.Call (codes "f") (argument.Drive 1 ∷ [])) ∷ [] in
     record {
       items = items;
       reads = reads_of items;
       read = (refl, (refl, (refl, (refl, (refl, (refl, (refl, (refl, (refl, (refl, tt))))))))));
       spelled = refl;
-      well = (refl, ((refl, tt), (refl, ((refl, (refl, tt)), (refl, (refl, (refl, tt)))))));
+      well = ((refl, (refl, tt)), ((refl, (refl, (refl, tt))), (refl, (refl, (refl, tt)))));
       declared = refl;
       driven = refl;
     }
@@ -72,34 +74,39 @@ in_order = pair_of_g ∷ pair_of_f ∷ []
 abbrev own : List Payload
 own = function_entry (codes "g") 0 ∷ function_entry (codes "f") 1 ∷ values in_order refusal_objects
 
-own_are : Each (IsOwn trees) own
-own_are = ((callee, refl, refl), ((caller, refl, refl), (tt, (tt, (tt, (tt, (tt, (tt, (tt, (tt, (tt, (tt, (tt, (tt, tt))))))))))))))
-
 fits : AllFit objects
 fits = all_fit own refl (tt, (tt, (tt, (tt, (tt, (tt, (tt, (tt, (tt, (tt, (tt, (tt, (tt, (made_exception own TypeError (object 12) (object 11 ∷ []) refl, tt))))))))))))))
 
-has_entry : (i : ℕ) (u : Tree) → slice_get trees i ≡ Some u → HasFunction objects i u
-has_entry zero u e = subst (HasFunction objects 0) (some_is callee u e) (object 0, refl, refl)
-has_entry (suc zero) u e = subst (HasFunction objects 1) (some_is caller u e) (object 1, refl, refl)
-has_entry (suc (suc i)) u e = absurd cc
+-- the objects behind those of g, and behind those of both
+abbrev first_part : List Payload
+first_part = first_objects ++ function_entry (codes "g") 0 ∷ []
 
-are_objects : AreObjects trees objects
-are_objects = script_has trees own (each_at (IsOwn trees) own own_are) has_entry fits
+abbrev both_parts : List Payload
+both_parts = first_part ++ function_entry (codes "f") 1 ∷ []
 
-are_globals : AreGlobals trees objects (object 4)
+g_there : AreObjects (FunctionDecl callee ∷ []) first_part
+g_there = one_declared [] first_objects (FunctionDecl callee) (function_entry (codes "g") 0) none_declared refl tt refl
+
+both_there : AreObjects decls both_parts
+both_there = one_declared (FunctionDecl callee ∷ []) first_part (FunctionDecl caller) (function_entry (codes "f") 1) g_there refl tt refl
+
+are_objects : AreObjects decls objects
+are_objects = objects_behind decls both_parts (values in_order refusal_objects) objects refl both_there (tt, (tt, (tt, (tt, (tt, (tt, (tt, (tt, (tt, (tt, (tt, (tt, tt)))))))))))) fits
+
+are_globals : AreGlobals decls objects (object 4)
 are_globals = record { pairs = in_order; dict = refl; bindings = in_order; bind = ((refl, refl), ((refl, refl), tt)); same = IsPermutation-refl in_order }
 
 -- so are they the other way round
-pub any_order : AreGlobals trees (objects_by (pair_of_f ∷ pair_of_g ∷ [])) (object 4)
+pub any_order : AreGlobals decls (objects_by (pair_of_f ∷ pair_of_g ∷ [])) (object 4)
 any_order = record { pairs = pair_of_f ∷ pair_of_g ∷ []; dict = refl; bindings = in_order; bind = ((refl, refl), ((refl, refl), tt)); same = IsPermutation-reverse in_order }
 
-two_bound : (store : List Payload) (ps : List (Obj × Obj)) → AllZip (Binds store) trees ps → sum_by (λ p. 1) ps ≡ 2
+two_bound : (store : List Payload) (ps : List (Obj × Obj)) → AllZip (Binds store) decls ps → sum_by (λ p. 1) ps ≡ 2
 two_bound store [] bind = absurd bind
 two_bound store (p ∷ []) bind = absurd bind.1
 two_bound store (p ∷ q ∷ []) bind = refl
 two_bound store (p ∷ q ∷ r ∷ ps) bind = absurd bind.1.1
 
-pub no_name_unbound : AreGlobals trees (objects_by (pair_of_g ∷ [])) (object 4) → ⊥
+pub no_name_unbound : AreGlobals decls (objects_by (pair_of_g ∷ [])) (object 4) → ⊥
 no_name_unbound are =
     let pairs : pair_of_g ∷ [] ≡ are.pairs = let dict = are.dict in cc in
     let same = sum_by-IsPermutation (λ p. 1) are.bindings are.pairs are.same in
@@ -144,7 +151,7 @@ refused =
 
 -- what the run is of
 abbrev plan : Plan
-plan = plan_of trees asked
+plan = plan_of (functions_in decls) asked
 
 -- the third drive and the second one, each with what follows
 abbrev third : List Event
@@ -187,11 +194,11 @@ comes = (
     (
       (refl, is_of_kind _ _ _ _ _ _ refl refl refl),
       (
-        (refl, refl),
+        ((refl, refl), tt),
         (
           (refl, (Is (object 0), (Global (object 4) (codes "g"), refl, inl (Is (object 0), refl, refl)), refl)),
           (
-            (refl, refl),
+            ((refl, refl), tt),
             (
               (refl, (refl, (_, refl, inr (inl (object 0, object 6 ∷ object 7 ∷ [], refl, runs _ _ _ _ _ _ _ refl refl refl))))),
               (
@@ -223,16 +230,16 @@ callee_traced : (k : ℕ) (w : Obj) → IsTrace (anywhere objects (object 4)) ca
 callee_traced k w = (refl, (_, refl, inr (inr (1, refl))))
 
 abbrev Tells : ℕ → Activation → Type 0
-Tells i a = Traces trees (object 4) objects a.function a.args (own_events (suc i) events)
+Tells i a = Traces (functions_in decls) (object 4) objects a.function a.args (own_events (suc i) events)
 
-tells : EachTells (Traces trees (object 4) objects) events
+tells : EachTells (Traces (functions_in decls) (object 4) objects) events
 unfolding own_from told_by
 tells zero a e = subst (Tells 0) (some_is _ a e) (_, refl, (caller, refl, caller_traced))
 tells (suc zero) a e = subst (Tells 1) (some_is _ a e) (_, refl, (callee, refl, callee_traced 7 (object 7)))
 tells (suc (suc zero)) a e = subst (Tells 2) (some_is _ a e) (_, refl, (callee, refl, callee_traced 14 (object 9)))
 tells (suc (suc (suc i))) a e = absurd cc
 
-pub is_run : IsRunOf trees drives objects events
+pub is_run : IsRunOf decls drives objects events
 is_run =
     record { asked = asked; are_asked = are_asked; globals = object 4; are_globals = are_globals; run = record { comes = comes; tells = tells; named = are_named objects events fits refl }; are_objects = are_objects }
 
@@ -244,7 +251,7 @@ line_of d digits e =
 
 third_line : result_text objects 3 (answer.Raises (exception 13)) ≡ codes "3 raises TypeError: f() takes 0 positional arguments but 1 were given\n"
 third_line =
-    raise_line_of 3 trees objects TypeError refusal_text refl refl are_objects refusing (exception 13) refused
+    raise_line_of 3 decls objects TypeError refusal_text refl refl are_objects refusing (exception 13) refused
     ∙ ap (λ (ds : List ℕ). ds ++ ((codes " raises " ++ (name_of TypeError ++ (codes ": " ++ refusal_text))) ++ codes "\n")) (decimal_digit 3 (lit< tt))
 
 pub text : events_text objects [] events ≡ codes "1 returns 7\n2 returns 7\n3 raises TypeError: f() takes 0 positional arguments but 1 were given\n"
@@ -263,35 +270,39 @@ first_left i w h =
     i (event.Result 1 w) h w refl
 
 -- so the second one doesn't ask this
-not_asked : (qs : List Posed) → AreAsked objects (again (object 0) []) drives qs → open_in (slice_get qs 1) [] ≡ Some (Calling (object 0) (object 0 ∷ object 9 ∷ []) keywords.None) → ⊥
-not_asked [] h e = absurd cc
-not_asked (p ∷ []) h e = absurd cc
-not_asked (p ∷ q ∷ qs) h e =
+not_asked : (qs : List Posed) (r : Request) → AreAsked objects (again (object 0) []) drives qs → open_in (slice_get qs 1) [] ≡ Some r → IsMaking objects r (object 0) (object 0 ∷ object 9 ∷ []) → ⊥
+not_asked [] r h e making = absurd cc
+not_asked (p ∷ []) r h e making = absurd cc
+not_asked (p ∷ q ∷ qs) r h e making =
     let asks = subst (AsksThis objects (again (object 0) []) second_drive) (some_is _ _ e) h.1.0.0 in
-    let (is, args) = asked_for objects (again (object 0) []) (codes "g") (argument.Drive 1 ∷ argument.Int (pos 9) ∷ []) (object 0) (object 0 ∷ object 9 ∷ []) asks in
+    let call = subst (λ (x : Request). IsMaking objects x (object 0) (object 0 ∷ object 9 ∷ [])) asks.2 making in
+    let (is, args) =
+    asked_for objects (again (object 0) []) (codes "g") (argument.Drive 1 ∷ argument.Int (pos 9) ∷ []) (object 0) (object 0 ∷ object 9 ∷ [])
+    (subst (AsksThis objects (again (object 0) []) second_drive) (asks.2 ∙ call) asks) in
     let (i, w, here, leaves) = args.0 in
     differ 0 6 refl (subst (λ (w : DriveAnswer). IsLeft objects w (object 0)) (first_left i w here) leaves)
 
-pub no_other_object : IsRunOf trees drives objects (again (object 0) []) → ⊥
+pub no_other_object : IsRunOf decls drives objects (again (object 0) []) → ⊥
 no_other_object r =
-    let at : Setting = setting (plan_of trees r.asked) (past_behind (plan_of trees r.asked) nothing (returned (object 6) (event.Drive 2 ∷ []))) in
+    let at : Setting = setting (plan_of (functions_in decls) r.asked) (past_behind (plan_of (functions_in decls) r.asked) nothing (returned (object 6) (event.Drive 2 ∷ []))) in
     let opened = r.run.comes.1.1.1.1.1.1.1.1.1.1.1.1.1.0.1.1 in
-    not_asked r.asked r.are_asked (opened.1 ∙ ap Some (enters_call at objects opened.0 (object 0) (object 0 ∷ object 9 ∷ []) opened.2).0)
+    not_asked r.asked opened.0 r.are_asked opened.1 (enters_call at objects opened.0 (object 0) (object 0 ∷ object 9 ∷ []) opened.2).0
 
-pub no_callee_made_twice : IsRunOf trees drives objects made_twice → ⊥
+pub no_callee_made_twice : IsRunOf decls drives objects made_twice → ⊥
 no_callee_made_twice r = cc r.run.comes.1.1.1.1.1.1.1.0.1.0
 
-pub no_other_number : IsRunOf trees drives objects numbered_on → ⊥
+pub no_other_number : IsRunOf decls drives objects numbered_on → ⊥
 no_other_number r = let number : 3 ≡ 2 = r.run.comes.1.1.1.1.1.1.0.0 in omega (arith, number)
 
 first_argument : (f a b c d : Obj) → Calling f (a ∷ b ∷ []) keywords.None ≡ Calling f (c ∷ d ∷ []) keywords.None → a ≡ c
 first_argument f a b c d e = cc
 
-pub no_swapped_arguments : IsRunOf trees drives objects swapped → ⊥
+pub no_swapped_arguments : IsRunOf decls drives objects swapped → ⊥
 no_swapped_arguments r =
-    let at : Setting = setting (plan_of trees r.asked) (past_behind (plan_of trees r.asked) nothing (asking [])) in
+    let at : Setting = setting (plan_of (functions_in decls) r.asked) (past_behind (plan_of (functions_in decls) r.asked) nothing (asking [])) in
     let opened = r.run.comes.1.1.1.1.1.1.0.1.1 in
-    let asks = some_is _ _ (opened.1 ∙ ap Some (enters_call at objects opened.0 (object 0) (object 7 ∷ object 6 ∷ []) opened.2).0) in
+    let asked : Calling (object 0) (object 6 ∷ object 7 ∷ []) keywords.None ≡ opened.0 = some_is _ _ opened.1 in
+    let asks = subst (λ (x : Request). IsMaking objects x (object 0) (object 7 ∷ object 6 ∷ [])) (sym asked) (enters_call at objects opened.0 (object 0) (object 7 ∷ object 6 ∷ []) opened.2).0 in
     differ 6 7 refl (first_argument (object 0) (object 6) (object 7) (object 7) (object 6) asks)
 
 result_value : (v w : Obj) → answer.Returns v ≡ answer.Returns w → v ≡ w
@@ -304,7 +315,7 @@ result_due (p ∷ qs) q reply are asks due =
     let (f, vs, is, named, of) = are.0.0 in
     due_leaves objects q f vs (how.Return (object 6)) reply (sym (some_is _ _ asks) ∙ is) due
 
-pub no_other_result : IsRunOf trees drives objects (returned (object 0) []) → ⊥
+pub no_other_result : IsRunOf decls drives objects (returned (object 0) []) → ⊥
 no_other_result r =
     let before : List Event = left (event.Got 1 (got.Value (object 6)) ∷ event.End 1 (ending.Return (object 6)) 6 ∷ []) in
     let (reply, (q, asks, due), gives) = r.run.comes.1.1.1.1.1.1.1.1.1.1.1.0.2 in
@@ -312,9 +323,9 @@ no_other_result r =
     let same = returned_so objects before (object 6) (answer.Returns (object 0)) (subst (λ (x : Reply). GivesDrive objects before x (answer.Returns (object 0))) is gives) in
     differ 0 6 refl (result_value (object 0) (object 6) same)
 
-pub no_activation_of_a_refused_drive : IsRunOf trees drives objects refused_made → ⊥
+pub no_activation_of_a_refused_drive : IsRunOf decls drives objects refused_made → ⊥
 no_activation_of_a_refused_drive r =
-    let at : Setting = setting (plan_of trees r.asked) (past_behind (plan_of trees r.asked) nothing refusing) in
+    let at : Setting = setting (plan_of (functions_in decls) r.asked) (past_behind (plan_of (functions_in decls) r.asked) nothing refusing) in
     let opened = r.run.comes.1.1.1.1.1.1.1.1.1.1.1.1.1.1.1.1.1.1.0.1.1 in
     let calls = enters_call at objects opened.0 (object 1) (object 6 ∷ []) opened.2 in
     let course : Enters (object 1) (object 6 ∷ []) ≡ Says (Fails TypeError (too_many (codes "f") 0 1)) =

@@ -17,7 +17,7 @@ use Rattle.py_tree.specs.Binding.{start_env}
 use Rattle.py_tree.specs.Outcome.{Raises, On_normal, Behind_finally, RunsSuite}
 use Rattle.py_tree.specs.Scene.{Scene, anywhere}
 use Rattle.py_tree.specs.Trace.{IsTrace, EndsBy}
-use Rattle.py_grammar.specs.Grammar.{Declares, Drives}
+use Rattle.py_grammar.specs.Grammar.{Declares, Drives, FunctionDecl, functions_in}
 use Rattle.py_lines.specs.declared.drive.DriveLine.TheVariants as drive
 use Rattle.py_grammar.specs.Lines.{lines}
 use Rattle.py_grammar.specs.Script.{Spells}
@@ -28,20 +28,20 @@ use Rattle.py_script.specs.Whole.{Traces, IsRunOf, plan_of}
 use Rattle.py_script.specs.Text.{events_text, result_text}
 use Rattle.py_script.specs.Worked.{object, exception}
 use Rattle.py_script.specs.WorkedLoop.{drives, not_defined}
-use Rattle.py_script.specs.WorkedFinally.{script, function, trees, run_objects, objects, asked, events, passed_by, unhandled, swallowed}
+use Rattle.py_script.specs.WorkedFinally.{script, function, decls, run_objects, objects, asked, events, passed_by, unhandled, swallowed}
 use Rattle.py_script.proofs.Journals.{are_globals, are_loaded, are_named, asked_so, asked_under, begun, decimal_1, fits, is_of_kind, is_raised, made_exception, one_tells, own_with, reads_of, runs, traced_with}
 use Rattle.py_script.proofs.OneText.{raise_line}
 use Rattle.py_script.proofs.WorkedLoopLemmas.{call}
 
-pub spelled : Spells (lines script) trees drives
+pub spelled : Spells (lines script) decls drives
 spelled =
-    let items = Declares function ∷ Drives (drive.Call (codes "f") []) ∷ [] in
+    let items = Declares (FunctionDecl function) ∷ Drives (drive.Call (codes "f") []) ∷ [] in
     record {
       items = items;
       reads = reads_of items;
       read = (refl, (refl, (refl, (refl, (refl, (refl, (refl, (refl, tt))))))));
       spelled = refl;
-      well = (refl, (((refl, ((refl, tt), (refl, tt))), tt), (refl, tt)));
+      well = ((refl, ((refl, ((refl, tt), (refl, tt))), tt)), (refl, tt));
       declared = refl;
       driven = refl;
     }
@@ -58,7 +58,7 @@ raised_new = is_raised own (asked []) NameError not_defined (object 4) (object 5
 
 -- what the run is of
 abbrev plan : Plan
-plan = plan_of trees (call ∷ [])
+plan = plan_of (functions_in decls) (call ∷ [])
 
 comes : Comes plan objects at_first events
 comes = (
@@ -68,11 +68,11 @@ comes = (
     (
       (refl, is_of_kind _ _ _ _ _ _ refl refl refl),
       (
-        (refl, refl),
+        ((refl, refl), tt),
         (
           (refl, (Fails NameError (unknown_text (codes "z")), (Global (object 2) (codes "z"), refl, inl (Fails NameError (unknown_text (codes "z")), refl, refl)), raised_new)),
           (
-            (refl, refl),
+            ((refl, refl), tt),
             (
               (refl, (Has payload.None, (Showing (object 7), refl, inl (Has payload.None, refl, refl)), refl)),
               ((refl, refl), ((refl, refl, (Passes (This (exception 6)), (_, refl, (refl, refl)), refl)), tt)),
@@ -89,21 +89,21 @@ unfolding own_from told_by
 traced =
     (refl, (_, refl, inr (inr (inr (1, _, refl, refl, inr (4, got.Raise (exception 6), _, refl, inr (inr (object 7, refl, inr (4, _, refl, refl, inr (6, got.Value none_object, _, refl, inr (inr (6, refl))))))))))))
 
-pub is_run : IsRunOf trees drives objects events
+pub is_run : IsRunOf decls drives objects events
 is_run =
     record {
       asked = call ∷ [];
       are_asked = (((object 0, [], refl, refl, tt), refl), tt);
       globals = object 2;
       are_globals = are_globals function (payload.Frame 0 ∷ run_objects) refl;
-      run = record { comes = comes; tells = one_tells (Traces trees (object 2) objects) (object 0) [] events refl (_, refl, (function, refl, traced)); named = are_named objects events all_fit refl };
+      run = record { comes = comes; tells = one_tells (Traces (functions_in decls) (object 2) objects) (object 0) [] events refl (_, refl, (function, refl, traced)); named = are_named objects events all_fit refl };
       are_objects = are_loaded function (payload.Frame 0 ∷ run_objects) refl (tt, (tt, (tt, (tt, (tt, tt))))) all_fit;
     }
 
 pub text : events_text objects [] events ≡ codes "1\n1 raises NameError: name 'z' is not defined\n"
 text =
     ap (λ (ds : List ℕ). (ds ++ codes "\n") ++ (result_text objects 1 (answer.Raises (exception 6)) ++ [])) decimal_1
-    ∙ ap (λ (line : List ℕ). codes "1\n" ++ (line ++ [])) (raise_line trees objects NameError not_defined refl refl is_run.are_objects (asked []) (exception 6) raised_new)
+    ∙ ap (λ (line : List ℕ). codes "1\n" ++ (line ++ [])) (raise_line decls objects NameError not_defined refl refl is_run.are_objects (asked []) (exception 6) raised_new)
 
 -- ---- what is none
 
@@ -118,19 +118,19 @@ behind_raise scene ts h =
     let b = begun scene function [] _ h in
     ⊎_elim (λ cut. cc cut.0) (λ run. ⊎_elim (λ cut. cc cut.0) (λ body. asked_so _ (Global scene.globals (codes "z")) (Global (object 2) (codes "z")) 1 2 4 (got.Raise (exception 6)) ts _ body) run) b
 
-pub no_finally_passed_by : IsRunOf trees drives objects passed_by → ⊥
+pub no_finally_passed_by : IsRunOf decls drives objects passed_by → ⊥
 unfolding own_from told_by
 no_finally_passed_by r =
     let f = behind_raise (anywhere objects r.globals) _ (traced_with function [] objects drives passed_by refl refl r) in
     ⊎_elim (λ cut. cc cut.0) (λ run. ⊎_elim (λ cut. cc cut.0) (λ loads. ⊎_elim (λ cut. cc cut.0) (λ asks. cc asks.3) loads.2) run) f
 
-pub no_finally_without : IsRunOf trees drives objects unhandled → ⊥
+pub no_finally_without : IsRunOf decls drives objects unhandled → ⊥
 unfolding own_from told_by
 no_finally_without r =
     let f = behind_raise (anywhere objects r.globals) _ (traced_with function [] objects drives unhandled refl refl r) in
     ⊎_elim (λ cut. cc cut.0) (λ run. ⊎_elim (λ cut. cc cut.0) (λ loads. ⊎_elim (λ cut. cc cut.0) (λ asks. cc asks.3) loads.2) run) f
 
-pub no_exception_swallowed : IsRunOf trees drives objects swallowed → ⊥
+pub no_exception_swallowed : IsRunOf decls drives objects swallowed → ⊥
 unfolding own_from told_by
 no_exception_swallowed r =
     let f = behind_raise (anywhere objects r.globals) _ (traced_with function [] objects drives swallowed refl refl r) in

@@ -16,7 +16,7 @@ use Rattle.py_objects.specs.Own.{Own, Yields as Yielding, own_events, own_from, 
 use Rattle.py_tree.specs.Scene.{anywhere}
 use Rattle.py_tree.specs.Trace.{IsTrace}
 use Rattle.py_lines.specs.declared.drive.DriveLine.TheVariants as drive
-use Rattle.py_grammar.specs.Grammar.{Declares, Drives}
+use Rattle.py_grammar.specs.Grammar.{Declares, Drives, FunctionDecl, functions_in}
 use Rattle.py_grammar.specs.Lines.{lines}
 use Rattle.py_grammar.specs.Script.{Spells}
 use Rattle.py_coro.specs.declared.coro.CoroAnswer.TheVariants as told
@@ -29,13 +29,13 @@ use Rattle.py_run.specs.Coming.{IsOfKind, nothing as at_first, Comes}
 use Rattle.py_script.specs.Whole.{AreAsked, Traces, IsRunOf, plan_of, signature_of}
 use Rattle.py_script.specs.Text.{events_text, result_text}
 use Rattle.py_script.specs.Worked.{object}
-use Rattle.py_script.specs.WorkedGenerator.{script, function, trees, drives, own_objects, objects, events_by, events, never_entered, entered_by_call, returned_other}
+use Rattle.py_script.specs.WorkedGenerator.{script, function, decls, drives, own_objects, objects, events_by, events, never_entered, entered_by_call, returned_other}
 use Rattle.py_script.proofs.Journals.{are_globals, are_loaded, are_named, ascii_bytes, begun, decimal_1, differ, fits, is_new, is_of_kind, one_tells, reads_of, runs, some_is, traced_with}
 
-pub spelled : Spells (lines script) trees drives
+pub spelled : Spells (lines script) decls drives
 spelled =
-    let items = Declares function ∷ Drives (drive.Call (codes "g") []) ∷ Drives (drive.Next 1) ∷ [] in
-    record { items = items; reads = reads_of items; read = (refl, (refl, (refl, (refl, (refl, tt))))); spelled = refl; well = (refl, ((refl, tt), (refl, (refl, tt)))); declared = refl; driven = refl }
+    let items = Declares (FunctionDecl function) ∷ Drives (drive.Call (codes "g") []) ∷ Drives (drive.Next 1) ∷ [] in
+    record { items = items; reads = reads_of items; read = (refl, (refl, (refl, (refl, (refl, tt))))); spelled = refl; well = ((refl, (refl, tt)), (refl, (refl, tt))); declared = refl; driven = refl }
 
 all_fit : AllFit objects
 all_fit = fits function own_objects refl (tt, (tt, (tt, tt)))
@@ -49,7 +49,7 @@ are_asked = (((object 0, [], refl, refl, tt), refl), (((object 4, none_object, r
 
 -- what the run is of
 abbrev plan : Plan
-plan = plan_of trees asked
+plan = plan_of (functions_in decls) asked
 
 -- the generator is a new object
 new : IsNew objects (event.Drive 1 ∷ event.Make 1 (object 0) [] ∷ []) (object 4).number
@@ -77,14 +77,14 @@ traced : IsTrace (anywhere objects (object 2)) function [] (own_events 1 events)
 unfolding own_from told_by
 traced = (refl, (_, refl, inr (inr (object 5, refl, inr (1, _, refl, refl, inl (refl, refl))))))
 
-pub is_run : IsRunOf trees drives objects events
+pub is_run : IsRunOf decls drives objects events
 is_run =
     record {
       asked = asked;
       are_asked = are_asked;
       globals = object 2;
       are_globals = are_globals function own_objects refl;
-      run = record { comes = comes; tells = one_tells (Traces trees (object 2) objects) (object 0) [] events refl (_, refl, (function, refl, traced)); named = are_named objects events all_fit refl };
+      run = record { comes = comes; tells = one_tells (Traces (functions_in decls) (object 2) objects) (object 0) [] events refl (_, refl, (function, refl, traced)); named = are_named objects events all_fit refl };
       are_objects = are_loaded function own_objects refl (tt, (tt, (tt, tt))) all_fit;
     }
 
@@ -107,20 +107,20 @@ text =
 -- ---- what is none
 
 -- the activations of g can be suspended
-suspended : (qs : List Posed) → IsOfKind (plan_of trees qs) objects (object 0) None → ⊥
+suspended : (qs : List Posed) → IsOfKind (plan_of (functions_in decls) qs) objects (object 0) None → ⊥
 suspended qs is = go is.body.code is.signed
   where
-    go : (i : ℕ) → slice_get (map signature_of trees) i ≡ Some is.signature → ⊥
+    go : (i : ℕ) → slice_get (map signature_of (functions_in decls)) i ≡ Some is.signature → ⊥
     go zero signed =
         let own : Some coro.Generator ≡ is.signature.kind = ap (λ (s : Signature). s.kind) (some_is _ _ signed) in
         let clash : Some coro.Generator ≡ None = own ∙ is.kind_is in
         cc clash
     go (suc i) signed = cc signed
 
-pub no_entry_by_the_call : IsRunOf trees drives objects entered_by_call → ⊥
+pub no_entry_by_the_call : IsRunOf decls drives objects entered_by_call → ⊥
 no_entry_by_the_call r = suspended r.asked r.run.comes.1.1.0.1
 
-pub no_other_returned : IsRunOf trees drives objects returned_other → ⊥
+pub no_other_returned : IsRunOf decls drives objects returned_other → ⊥
 no_other_returned r =
     let (reply, (q, asks, (kind, is, creates)), gives) = r.run.comes.1.1.0.2 in
     let (is_new, has) = subst (λ (x : Reply). GivesDrive objects (event.Drive 1 ∷ event.Make 1 (object 0) [] ∷ []) x (answer.Returns (object 0))) creates gives in
@@ -138,7 +138,7 @@ yield_due es (p ∷ p' ∷ qs) q v reply are asks due =
 yields_one : (v w : Obj) → Yields v ≡ Yields w → v ≡ w
 yields_one v w e = cc
 
-pub no_other_value_yielded : IsRunOf trees drives objects (events_by (object 5) (object 3)) → ⊥
+pub no_other_value_yielded : IsRunOf decls drives objects (events_by (object 5) (object 3)) → ⊥
 no_other_value_yielded r =
     let (reply, (q, asks, due), gives) = r.run.comes.1.1.1.1.1.1.0.2 in
     let is : reply ≡ Yields (object 5) = yield_due (events_by (object 5) (object 3)) r.asked q (object 5) reply r.are_asked asks due in
@@ -147,7 +147,7 @@ no_other_value_yielded r =
 yielded_one : (at at' : ℕ) (v w : Obj) (ts us : List Own) → Yielding at v ∷ ts ≡ Yielding at' w ∷ us → v ≡ w
 yielded_one at at' v w ts us e = cc
 
-pub no_other_value_of_the_body : IsRunOf trees drives objects (events_by (object 3) (object 3)) → ⊥
+pub no_other_value_of_the_body : IsRunOf decls drives objects (events_by (object 3) (object 3)) → ⊥
 unfolding own_from told_by
 no_other_value_of_the_body r =
     let b = begun (anywhere objects r.globals) function [] _ (traced_with function [] objects drives (events_by (object 3) (object 3)) refl refl r) in
@@ -156,5 +156,5 @@ no_other_value_of_the_body r =
     let clash = subst (λ (v : Obj). HasPayload objects v (payload.Int (pos 1))) (sym same) loads.1 in
     cc clash) loads.2) run) b
 
-pub no_yield_without_an_entry : IsRunOf trees drives objects never_entered → ⊥
+pub no_yield_without_an_entry : IsRunOf decls drives objects never_entered → ⊥
 no_yield_without_an_entry r = cc r.run.comes.1.1.1.1.0.0

@@ -19,7 +19,7 @@ use Rattle.py_tree.specs.Scene.{Scene, anywhere}
 use Rattle.py_tree.specs.Outcome.{After, Normal, On_normal, On_turn, Chooses, By_truth, Loops, RunsSuite}
 use Rattle.py_tree.specs.Trace.{IsTrace, EndsBy}
 use Rattle.py_lines.specs.declared.drive.DriveLine.TheVariants as drive
-use Rattle.py_grammar.specs.Grammar.{Declares, Drives}
+use Rattle.py_grammar.specs.Grammar.{Declares, Drives, FunctionDecl, functions_in}
 use Rattle.py_grammar.specs.Lines.{lines}
 use Rattle.py_grammar.specs.Script.{Spells}
 use Rattle.py_answers.specs.Answers.{This, Has, Fails, Passes, unknown_text, IsRaised}
@@ -28,14 +28,14 @@ use Rattle.py_run.specs.Coming.{nothing as at_first, Comes}
 use Rattle.py_script.specs.Whole.{AreGlobals, Traces, IsRunOf, plan_of}
 use Rattle.py_script.specs.Text.{events_text, result_text}
 use Rattle.py_script.specs.Worked.{object, exception}
-use Rattle.py_script.specs.WorkedLoop.{script, function_of, function, trees, drives, objects, events, without_round, untested, left_early, unknown_script, unknown_trees, not_defined, raised_objects, unknown_objects, asked_in, asked, unknown_events}
+use Rattle.py_script.specs.WorkedLoop.{script, function_of, function, decls, drives, objects, events, without_round, untested, left_early, unknown_script, unknown_decls, not_defined, raised_objects, unknown_objects, asked_in, asked, unknown_events}
 use Rattle.py_script.proofs.Journals.{are_globals, are_loaded, are_named, asked_so, begun, fits, is_of_kind, is_raised, made_exception, one_tells, own_with, reads_of, runs, traced_with}
 use Rattle.py_script.proofs.OneText.{raise_line}
 
-pub spelled : Spells (lines script) trees drives
+pub spelled : Spells (lines script) decls drives
 spelled =
-    let items = Declares function ∷ Drives (drive.Call (codes "f") []) ∷ [] in
-    record { items = items; reads = reads_of items; read = (refl, (refl, (refl, (refl, (refl, tt))))); spelled = refl; well = (refl, (((refl, tt), tt), (refl, tt))); declared = refl; driven = refl }
+    let items = Declares (FunctionDecl function) ∷ Drives (drive.Call (codes "f") []) ∷ [] in
+    record { items = items; reads = reads_of items; read = (refl, (refl, (refl, (refl, (refl, tt))))); spelled = refl; well = ((refl, ((refl, tt), tt)), (refl, tt)); declared = refl; driven = refl }
 
 -- the question of the drive
 abbrev pub call : Posed
@@ -43,7 +43,7 @@ call = record { request = Calling (object 0) [] keywords.None; entered = 0 }
 
 -- what the run is of
 abbrev plan : Plan
-plan = plan_of trees (call ∷ [])
+plan = plan_of (functions_in decls) (call ∷ [])
 
 loop_fits : AllFit objects
 loop_fits = fits function (payload.Frame 0 ∷ payload.Bool true ∷ payload.Bool true ∷ []) refl (tt, (tt, (tt, tt)))
@@ -55,7 +55,7 @@ comes = (
     (refl, (refl, (call.request, refl, inr (inl (object 0, [], refl, runs _ _ _ _ _ _ _ refl refl refl))))),
     (
       (refl, is_of_kind _ _ _ _ _ _ refl refl refl),
-      ((refl, refl), ((refl, refl), ((refl, (Has (payload.Bool true), (Truth (object 4), refl, inl (Has (payload.Bool true), refl, (payload.Bool true, refl, refl))), refl)), ((refl, refl), tt)))),
+      ((refl, refl), (((refl, refl), tt), ((refl, (Has (payload.Bool true), (Truth (object 4), refl, inl (Has (payload.Bool true), refl, (payload.Bool true, refl, refl))), refl)), ((refl, refl), tt)))),
     ),
   ),
 )
@@ -65,14 +65,14 @@ unfolding own_from told_by
 loop_traced =
     (refl, (_, refl, inr (1, inr (0, _, refl, inr (object 4, refl, inr (2, _, refl, refl, inr (5, got.Value (object 5), _, refl, (true, refl, inr (inr (3, _, refl, inl (refl, refl)))))))))))
 
-pub is_run : IsRunOf trees drives objects events
+pub is_run : IsRunOf decls drives objects events
 is_run =
     record {
       asked = call ∷ [];
       are_asked = (((object 0, [], refl, refl, tt), refl), tt);
       globals = object 2;
       are_globals = are_globals function (payload.Frame 0 ∷ payload.Bool true ∷ payload.Bool true ∷ []) refl;
-      run = record { comes = comes; tells = one_tells (Traces trees (object 2) objects) (object 0) [] events refl (_, refl, (function, refl, loop_traced)); named = are_named objects events loop_fits refl };
+      run = record { comes = comes; tells = one_tells (Traces (functions_in decls) (object 2) objects) (object 0) [] events refl (_, refl, (function, refl, loop_traced)); named = are_named objects events loop_fits refl };
       are_objects = are_loaded function (payload.Frame 0 ∷ payload.Bool true ∷ payload.Bool true ∷ []) refl (tt, (tt, (tt, tt))) loop_fits;
     }
 
@@ -126,14 +126,14 @@ next_round g (suc n) k x ts h =
 begins_loop : (g : Obj) (k : ℕ) (x : Own) (ts : List Own) → IsTrace (scene_of g) function [] (Makes ∷ Resumes k Start ∷ x ∷ ts) → (n : ℕ) × Going g n k (x ∷ ts)
 begins_loop g k x ts h = let b = begun (scene_of g) function [] _ h in ⊎_elim (λ cut. absurd (cc cut.0)) (λ going. going) b
 
-pub no_round_untold : IsRunOf trees drives objects without_round → ⊥
+pub no_round_untold : IsRunOf decls drives objects without_round → ⊥
 unfolding own_from told_by
 no_round_untold r =
     let going = begins_loop r.globals 2 _ _ (traced_with function [] objects drives without_round refl refl r) in
     let next = goes_round r.globals going.0 2 _ _ going.1 in
     cc next.1
 
-pub no_round_untested : IsRunOf trees drives objects untested → ⊥
+pub no_round_untested : IsRunOf decls drives objects untested → ⊥
 unfolding own_from told_by
 no_round_untested r =
     let going = begins_loop r.globals 2 _ _ (traced_with function [] objects drives untested refl refl r) in
@@ -146,7 +146,7 @@ is_true : (b : Bool) → HasPayload objects (object 5) (payload.Bool b) → b �
 is_true true h = refl
 is_true false h = absurd (cc h)
 
-pub no_end_where_it_is_true : IsRunOf trees drives objects left_early → ⊥
+pub no_end_where_it_is_true : IsRunOf decls drives objects left_early → ⊥
 unfolding own_from told_by
 no_end_where_it_is_true r =
     let going = begins_loop r.globals 2 _ _ (traced_with function [] objects drives left_early refl refl r) in
@@ -161,10 +161,10 @@ no_end_where_it_is_true r =
 abbrev unknown_function : Tree
 unknown_function = function_of (first 2 (Show (atom.Name (codes "z"))) nothing)
 
-pub unknown_spelled : Spells (lines unknown_script) unknown_trees drives
+pub unknown_spelled : Spells (lines unknown_script) unknown_decls drives
 unknown_spelled =
-    let items = Declares unknown_function ∷ Drives (drive.Call (codes "f") []) ∷ [] in
-    record { items = items; reads = reads_of items; read = (refl, (refl, (refl, (refl, tt)))); spelled = refl; well = (refl, ((refl, tt), (refl, tt))); declared = refl; driven = refl }
+    let items = Declares (FunctionDecl unknown_function) ∷ Drives (drive.Call (codes "f") []) ∷ [] in
+    record { items = items; reads = reads_of items; read = (refl, (refl, (refl, (refl, tt)))); spelled = refl; well = ((refl, (refl, tt)), (refl, tt)); declared = refl; driven = refl }
 
 -- its objects behind the first ones
 abbrev unknown_own : List Payload
@@ -177,7 +177,7 @@ unknown_fits = fits unknown_function (payload.Frame 0 ∷ raised_objects NameErr
 unknown_raised : IsRaised unknown_objects (asked []) NameError not_defined (exception 6)
 unknown_raised = is_raised unknown_own (asked []) NameError not_defined (object 4) (object 5) (exception 6) refl refl refl (refl, (refl, (refl, (refl, tt))))
 
-unknown_comes : Comes (plan_of unknown_trees (call ∷ [])) unknown_objects at_first unknown_events
+unknown_comes : Comes (plan_of (functions_in unknown_decls) (call ∷ [])) unknown_objects at_first unknown_events
 unknown_comes = (
   (refl, refl, lit< tt),
   (
@@ -185,7 +185,7 @@ unknown_comes = (
     (
       (refl, is_of_kind _ _ _ _ _ _ refl refl refl),
       (
-        (refl, refl),
+        ((refl, refl), tt),
         (
           (refl, (Fails NameError (unknown_text (codes "z")), (Global (object 2) (codes "z"), refl, inl (Fails NameError (unknown_text (codes "z")), refl, refl)), unknown_raised)),
           ((refl, refl), ((refl, refl, (Passes (This (exception 6)), (_, refl, (refl, refl)), refl)), tt)),
@@ -199,7 +199,7 @@ unknown_traced : IsTrace (anywhere unknown_objects (object 2)) unknown_function 
 unfolding own_from told_by
 unknown_traced = (refl, (_, refl, inr (inr (0, _, refl, refl, inr (4, got.Raise (exception 6), _, refl, inr (0, refl))))))
 
-pub unknown_is_run : IsRunOf unknown_trees drives unknown_objects unknown_events
+pub unknown_is_run : IsRunOf unknown_decls drives unknown_objects unknown_events
 unknown_is_run =
     record {
       asked = call ∷ [];
@@ -209,7 +209,7 @@ unknown_is_run =
       run =
           record {
             comes = unknown_comes;
-            tells = one_tells (Traces unknown_trees (object 2) unknown_objects) (object 0) [] unknown_events refl (_, refl, (unknown_function, refl, unknown_traced));
+            tells = one_tells (Traces (functions_in unknown_decls) (object 2) unknown_objects) (object 0) [] unknown_events refl (_, refl, (unknown_function, refl, unknown_traced));
             named = are_named unknown_objects unknown_events unknown_fits refl;
           };
       are_objects = are_loaded unknown_function (payload.Frame 0 ∷ raised_objects NameError) refl (tt, (tt, (tt, (tt, tt)))) unknown_fits;
@@ -218,16 +218,16 @@ unknown_is_run =
 asked_object : (at at' : ℕ) (v w : Obj) (x : Name) (ts us : List Own) → Asks at (Global v x) None ∷ ts ≡ Asks at' (Global w x) None ∷ us → v ≡ w
 asked_object at at' v w x ts us e = let request : Global v x ≡ Global w x = cc e in cc request
 
-pub no_name_asked_of_none : IsRunOf unknown_trees drives unknown_objects (asked_in none_object []) → ⊥
+pub no_name_asked_of_none : IsRunOf unknown_decls drives unknown_objects (asked_in none_object []) → ⊥
 unfolding own_from told_by
 no_name_asked_of_none r =
     let b = begun (anywhere unknown_objects r.globals) unknown_function [] _ (traced_with unknown_function [] unknown_objects drives (asked_in none_object []) refl refl r) in
     ⊎_elim (λ cut. cc cut.0) (λ loads. ⊎_elim (λ cut. cc cut.0) (λ asks.
     let same : none_object ≡ r.globals = asked_object _ _ _ _ _ _ _ asks.3 in
-    let none = subst (AreGlobals unknown_trees unknown_objects) (sym same) r.are_globals in
+    let none = subst (AreGlobals unknown_decls unknown_objects) (sym same) r.are_globals in
     cc none.dict) loads) b
 
 pub unknown_line : events_text unknown_objects [] unknown_events ≡ codes "1 raises NameError: name 'z' is not defined\n"
 unknown_line =
     append-nil (result_text unknown_objects 1 (answer.Raises (exception 6)))
-    ∙ raise_line unknown_trees unknown_objects NameError not_defined refl refl unknown_is_run.are_objects (asked []) (exception 6) unknown_raised
+    ∙ raise_line unknown_decls unknown_objects NameError not_defined refl refl unknown_is_run.are_objects (asked []) (exception 6) unknown_raised

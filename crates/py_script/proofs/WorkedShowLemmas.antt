@@ -25,7 +25,7 @@ use Rattle.py_tree.specs.Binding.{Env, start_env, set_local}
 use Rattle.py_tree.specs.Outcome.{Normal, Use, On_normal, RunsSuite}
 use Rattle.py_tree.specs.Scene.{Scene, anywhere}
 use Rattle.py_tree.specs.Trace.{IsTrace, EndsBy}
-use Rattle.py_grammar.specs.Grammar.{Declares, Drives}
+use Rattle.py_grammar.specs.Grammar.{Declares, Drives, FunctionDecl, functions_in}
 use Rattle.py_grammar.specs.Lines.{lines}
 use Rattle.py_grammar.specs.Script.{Spells}
 use Rattle.py_answers.specs.Answers.{Reply, Has, Is, GivesBody}
@@ -35,14 +35,14 @@ use Rattle.py_run.specs.Past.{past_behind}
 use Rattle.py_script.specs.Whole.{Traces, IsRunOf, plan_of}
 use Rattle.py_script.specs.Text.{events_text, result_text}
 use Rattle.py_script.specs.Worked.{object, exception, entered, asked, greatest, overflow_by}
-use Rattle.py_script.specs.WorkedShow.{script, function, trees, drive, drives, objects, summed, shows, answered, ended, events_by, events, without_show, shown_twice, overflowing, overflow_objects, shown_behind_raise}
+use Rattle.py_script.specs.WorkedShow.{script, function, decls, drive, drives, objects, summed, shows, answered, ended, events_by, events, without_show, shown_twice, overflowing, overflow_objects, shown_behind_raise}
 use Rattle.py_script.proofs.Journals.{IsPlain, RaiseIsTraced, asked_so, asking_comes, begun, call_runs, decimal_1, decimal_45, differ, each_at, fits, gives_sum, one_tells, plan_with, reads_of, replied, runs, some_is, sum_comes, traced, overflow_is_run as overflow_run}
 use Rattle.py_script.proofs.OneText.{overflow_line}
 
-pub spelled : Spells (lines script) trees drives
+pub spelled : Spells (lines script) decls drives
 spelled =
-    let items = Declares function ∷ Drives drive ∷ [] in
-    record { items = items; reads = reads_of items; read = (refl, (refl, (refl, (refl, (refl, tt))))); spelled = refl; well = (refl, ((refl, (refl, tt)), (refl, tt))); declared = refl; driven = refl }
+    let items = Declares (FunctionDecl function) ∷ Drives drive ∷ [] in
+    record { items = items; reads = reads_of items; read = (refl, (refl, (refl, (refl, (refl, tt))))); spelled = refl; well = ((refl, (refl, (refl, tt))), (refl, tt)); declared = refl; driven = refl }
 
 all_fit : AllFit objects
 all_fit = fits function (payload.Int (pos 33) ∷ payload.Int (pos 12) ∷ payload.Frame 0 ∷ payload.Int (pos 45) ∷ payload.None ∷ []) refl (tt, (tt, (tt, (tt, (tt, tt)))))
@@ -61,7 +61,7 @@ comes a r n m =
     let more = payload.Int (pos 45) ∷ payload.None ∷ [] in
     asking_comes function [] (pos 33) (pos 12) more (event.Got 1 (got.Value (object 6)) ∷ shows (object 6) (answered a (ended r))) (lit< tt) (runs _ _ _ _ _ _ _ refl refl refl) refl (
       sum_comes function plan (pos 33) (pos 12) more asking 1 (got.Value (object 6)) refl refl refl refl,
-      ((refl, refl), ((refl, (Has payload.None, (request.Show (object 6), refl, inl (Has payload.None, refl, refl)), n)), ((refl, refl), ((refl, refl, (Is r, (_, refl, (refl, refl)), refl)), tt)))),
+      (((refl, refl), tt), ((refl, (Has payload.None, (request.Show (object 6), refl, inl (Has payload.None, refl, refl)), n)), ((refl, refl), ((refl, refl, (Is r, (_, refl, (refl, refl)), refl)), tt)))),
     )
 
 shown_traced : (a r : Obj) → IsNone r → IsTrace (anywhere objects (object 2)) function (object 3 ∷ object 4 ∷ []) (own_events 1 (events_by (object 6) a r))
@@ -80,10 +80,10 @@ named a r n m =
     }
 
 -- any None answers the show, and any None is returned
-pub any_none : (a r : Obj) → IsNone a → IsNone r → IsRunOf trees drives objects (events_by (object 6) a r)
+pub any_none : (a r : Obj) → IsNone a → IsNone r → IsRunOf decls drives objects (events_by (object 6) a r)
 any_none a r n m =
     call_runs function (pos 33) (pos 12) (payload.Int (pos 45) ∷ payload.None ∷ []) (events_by (object 6) a r) refl (tt, (tt, tt)) all_fit (comes a r n m)
-    (one_tells (Traces trees (object 2) objects) (object 0) (object 3 ∷ object 4 ∷ []) (events_by (object 6) a r) refl (_, refl, (function, refl, shown_traced a r m))) (named a r n m)
+    (one_tells (Traces (functions_in decls) (object 2) objects) (object 0) (object 3 ∷ object 4 ∷ []) (events_by (object 6) a r) refl (_, refl, (function, refl, shown_traced a r m))) (named a r n m)
 
 pub text : events_text objects [] events ≡ codes "45\n1 returns None\n"
 text = simp (decimal_45, decimal_1)
@@ -123,19 +123,19 @@ last_told g v k o ts h = ⊎_elim (λ cut. cc cut.0) (λ more. ⊎_elim (λ cut.
 shown_one : (at at' : ℕ) (v w : Obj) (own own' : Option PyBaseExceptionRef) → Asks at (request.Show v) own ≡ Asks at' (request.Show w) own' → v ≡ w
 shown_one at at' v w own own' e = cc
 
-pub no_show_dropped : IsRunOf trees drives objects without_show → ⊥
+pub no_show_dropped : IsRunOf decls drives objects without_show → ⊥
 unfolding own_from told_by
 no_show_dropped r =
     let e = first_shown (anywhere objects r.globals) (object 6) 4 _ _ (behind_sum (anywhere objects r.globals) (got.Value (object 6)) _ (traced function objects drives without_show refl refl r)) in
     cc e.1
 
-pub no_other_value : IsRunOf trees drives objects (events_by (object 3) none_object (object 7)) → ⊥
+pub no_other_value : IsRunOf decls drives objects (events_by (object 3) none_object (object 7)) → ⊥
 unfolding own_from told_by
 no_other_value r =
     let e = first_shown (anywhere objects r.globals) (object 6) 4 _ _ (behind_sum (anywhere objects r.globals) (got.Value (object 6)) _ (traced function objects drives (events_by (object 3) none_object (object 7)) refl refl r)) in
     differ 3 6 refl (shown_one 5 e.0 (object 3) (object 6) None None e.1)
 
-pub no_show_twice : IsRunOf trees drives objects shown_twice → ⊥
+pub no_show_twice : IsRunOf decls drives objects shown_twice → ⊥
 unfolding own_from told_by
 no_show_twice r =
     let e = last_told r.globals (object 6) 6 _ _ (behind_show (anywhere objects r.globals) (object 6) (object 6) none_object 4 6 _ (behind_sum (anywhere objects r.globals) (got.Value (object 6)) _ (traced function objects drives shown_twice refl refl r))) in
@@ -143,7 +143,7 @@ no_show_twice r =
 
 -- what is shown is no call, and asks for nothing of a generator
 show_plain : (v : Obj) → IsPlain (request.Show v)
-show_plain v = record { no_call = λ f vs e. cc; not_handled = λ e. cc; no_send = λ g w e. cc; no_throw = λ g k w e. cc; no_close = λ g e. cc }
+show_plain v = record { no_call = λ f vs e. cc; not_handled = λ e. cc; no_send = λ g w e. cc; no_throw = λ g k w e. cc; no_close = λ g e. cc; no_enter = λ m e. cc; no_exit = λ x k w t e. cc }
 
 -- what is shown is answered by None
 gives_none : (plan : Plan) (store : List Payload) (p : Past) (v : Obj) (w : GotAnswer)
@@ -152,15 +152,15 @@ gives_none plan store p v w (reply, (r, asks, replies), gives) =
     let says = subst (λ (x : Request). IsReply plan store p Asking x reply) (sym (some_is _ _ asks)) replies in
     subst (λ (x : Reply). GivesBody store p.events x w) (replied (setting plan p) store (request.Show v) reply (show_plain v) says) gives
 
-pub no_other_answer : IsRunOf trees drives objects (events_by (object 6) (object 6) (object 7)) → ⊥
+pub no_other_answer : IsRunOf decls drives objects (events_by (object 6) (object 6) (object 7)) → ⊥
 no_other_answer r =
-    let e = gives_none (plan_of trees r.asked) objects (past_behind (plan_of trees r.asked) at_first (summed (shows (object 6) []))) (object 6) (got.Value (object 6)) r.run.comes.1.1.1.1.1.1.0.1 in
+    let e = gives_none (plan_of (functions_in decls) r.asked) objects (past_behind (plan_of (functions_in decls) r.asked) at_first (summed (shows (object 6) []))) (object 6) (got.Value (object 6)) r.run.comes.1.1.1.1.1.1.0.1 in
     cc
 
 returned_one : (at at' : ℕ) (v w : Obj) → Ends at (ending.Return v) ≡ Ends at' (ending.Return w) → v ≡ w
 returned_one at at' v w e = cc
 
-pub no_other_end : IsRunOf trees drives objects (events_by (object 6) none_object (object 6)) → ⊥
+pub no_other_end : IsRunOf decls drives objects (events_by (object 6) none_object (object 6)) → ⊥
 unfolding own_from told_by
 no_other_end r =
     let e = last_told r.globals (object 6) 6 _ _ (behind_show (anywhere objects r.globals) (object 6) (object 6) none_object 4 6 _ (behind_sum (anywhere objects r.globals) (got.Value (object 6)) _ (traced function objects drives (events_by (object 6) none_object (object 6)) refl refl r))) in
@@ -170,17 +170,17 @@ no_other_end r =
 raise_traced : RaiseIsTraced function [] 2 4 (exception 8)
 raise_traced = (refl, (_, refl, inr (inr (2, _, refl, refl, inr (4, got.Raise (exception 8), _, refl, inr (2, refl))))))
 
-pub raise_ends : IsRunOf trees (overflowing ∷ []) overflow_objects (overflow_by (exception 8))
+pub raise_ends : IsRunOf decls (overflowing ∷ []) overflow_objects (overflow_by (exception 8))
 raise_ends = overflow_run function refl (runs _ _ _ _ _ _ _ refl refl refl) refl raise_traced
 
 pub raise_text : events_text overflow_objects [] (overflow_by (exception 8)) ≡ codes "1 raises OverflowError: integer out of range\n"
 raise_text =
-    let asking : Past = past_behind (plan_of trees raise_ends.asked) at_first (entered 1 (asked 1 (object 3) (object 4) [])) in
+    let asking : Past = past_behind (plan_of (functions_in decls) raise_ends.asked) at_first (entered 1 (asked 1 (object 3) (object 4) [])) in
     append-nil (result_text overflow_objects 1 (answer.Raises (exception 8)))
-    ∙ overflow_line trees overflow_objects raise_ends.are_objects asking.events (exception 8)
-    (gives_sum (plan_of trees raise_ends.asked) overflow_objects asking (object 3) (object 4) greatest (pos 1) (got.Raise (exception 8)) refl refl raise_ends.run.comes.1.1.1.1.0.1)
+    ∙ overflow_line decls overflow_objects raise_ends.are_objects asking.events (exception 8)
+    (gives_sum (plan_of (functions_in decls) raise_ends.asked) overflow_objects asking (object 3) (object 4) greatest (pos 1) (got.Raise (exception 8)) refl refl raise_ends.run.comes.1.1.1.1.0.1)
 
-pub no_show_behind_a_raise : IsRunOf trees (overflowing ∷ []) overflow_objects shown_behind_raise → ⊥
+pub no_show_behind_a_raise : IsRunOf decls (overflowing ∷ []) overflow_objects shown_behind_raise → ⊥
 unfolding own_from told_by
 no_show_behind_a_raise r =
     ⊎_elim (λ cut. cc cut) (λ end. cc end.1) (behind_sum (anywhere overflow_objects r.globals) (got.Raise (exception 8)) _ (traced function overflow_objects (overflowing ∷ []) shown_behind_raise refl refl r))

@@ -15,6 +15,7 @@ pub mod WorkedLoop
 pub mod WorkedFinally
 pub mod WorkedCall
 pub mod WorkedGenerator
+pub mod WorkedWith
 -- what functions inside the crate promise each other
 pub mod Steps
 pub mod Loaded

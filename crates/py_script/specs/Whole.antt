@@ -1,5 +1,5 @@
 -- What a script means: which journals are runs of it.
-use Rattle.std.specs.Prelude.{ℕ, ◌≤◌, Option, Some, None, List, [], ◌∷◌, ◌≡◌, slice_get, length, map}
+use Rattle.std.specs.Prelude.{ℕ, ◌≤◌, ◌⊎◌, Option, Some, None, List, [], ◌∷◌, ◌≡◌, slice_get, length, map}
 use Rattle.std.specs.List.{AllZip}
 use Rattle.std.specs.List.Sorted.{IsPermutation}
 use Rattle.py_objects.specs.declared.refs.PyTypeRef.{PyTypeRef}
@@ -17,7 +17,7 @@ use Rattle.py_objects.specs.declared.event.DriveAnswer.TheVariants as answer
 use Rattle.py_objects.specs.declared.event.Event.{Event}
 use Rattle.py_objects.specs.declared.event.Event.TheVariants as event
 use Rattle.py_objects.specs.ErrorKinds.{name_of}
-use Rattle.py_objects.specs.Objects.{Obj, HasPayload, as_object, declared, AllFit}
+use Rattle.py_objects.specs.Objects.{Obj, Name, HasPayload, as_object, declared, AllFit}
 use Rattle.py_code.specs.Codes.{Codes}
 use Rattle.py_code.specs.declared.code.PyCode.{PyCode}
 use Rattle.py_check.specs.declared.note.Note.{Note}
@@ -30,7 +30,8 @@ use Rattle.py_lines.specs.declared.drive.DriveAtom.TheVariants as atom
 use Rattle.py_lines.specs.declared.drive.DriveLine.{DriveLine}
 use Rattle.py_lines.specs.declared.drive.DriveLine.TheVariants as drive
 use Rattle.py_grammar.specs.declared.script.Script.{Script}
-use Rattle.py_grammar.specs.Script.{trees_of, IsScript}
+use Rattle.py_grammar.specs.Grammar.{Decl, ClassDecl, ManagerDecl, decl_name, functions_in}
+use Rattle.py_grammar.specs.Script.{decls_of, trees_of, IsScript}
 use Rattle.py_exceptions.specs.BuiltIn.{IsClassOf}
 use Rattle.py_vm.specs.declared.journal.Journal.{Journal}
 use Rattle.py_run.specs.Run.{Signature, Posed, Plan}
@@ -91,31 +92,68 @@ AreAsked objects events (d ∷ ds) (q ∷ qs) = Asks objects events d q × AreAs
 abbrev pub signature_of : Tree → Signature
 signature_of t = record { params = t.params; kind = seen_as t.kind }
 
--- what a run of these declarations is of, where the drives that were begun ask this
+-- what a run of these functions is of, where the drives that were begun ask this
 abbrev pub plan_of : List Tree → List Posed → Plan
 plan_of trees asked = record { signatures = map signature_of trees; asked = asked }
 
 -- a pair binds the name of a declaration, as a text, to the object that is declared under it
-abbrev pub Binds : List Payload → Tree → Obj × Obj → Type 0
-Binds objects t p = HasPayload objects p.0 (payload.Str t.name) × (declared objects t.name ≡ Some p.1)
+abbrev pub Binds : List Payload → Decl → Obj × Obj → Type 0
+Binds objects d p = HasPayload objects p.0 (payload.Str (decl_name d)) × (declared objects (decl_name d) ≡ Some p.1)
 
 -- the globals: a dict that holds the declarations and nothing else, in any order
-pub record AreGlobals (trees : List Tree) (objects : List Payload) (globals : Obj) : Type 0 where
+pub record AreGlobals (decls : List Decl) (objects : List Payload) (globals : Obj) : Type 0 where
   pub pairs : List (Obj × Obj)
   pub dict : HasPayload objects globals (payload.Dict pairs)
   pub bindings : List (Obj × Obj)
-  pub bind : AllZip (Binds objects) trees bindings
+  pub bind : AllZip (Binds objects) decls bindings
   pub same : IsPermutation bindings pairs
 
--- the objects of a script: each name that it declares, and each built-in class, has its entry; no other function or class is
--- there, and no manager; a function's entry has the place of its body; each entry names objects that are there, of the kinds
--- that it needs
-pub record AreObjects (trees : List Tree) (objects : List Payload) : Type 0 where
-  pub functions : (i : ℕ) (t : Tree) → slice_get trees i ≡ Some t → (f : Obj) × (declared objects t.name ≡ Some f) × HasPayload objects f (payload.Function (record { name = t.name; code = i }))
-  pub classes : (kind : ErrorKind) → (c : PyTypeRef) × IsClassOf objects kind c
-  pub only_functions : (f : Obj) (b : FunctionBody) → HasPayload objects f (payload.Function b) → (t : Tree) × (slice_get trees b.code ≡ Some t) × (b.name ≡ t.name)
-  pub only_classes : (c : Obj) (b : ClassBody) → HasPayload objects c (payload.Class b) → (kind : ErrorKind) × (declared objects (name_of kind) ≡ Some c)
-  pub no_managers : (m : Obj) (b : ManagerBody) → HasPayload objects m (payload.Manager b) → ⊥
+-- a function has its entry, which is declared under its name and names the code of this number
+abbrev pub HasFunction : List Payload → ℕ → Tree → Type 0
+HasFunction objects i t = (f : Obj) × (declared objects t.name ≡ Some f) × HasPayload objects f (payload.Function (record { name = t.name; code = i }))
+
+-- a class has its entry, which is declared under its name: it derives from what is declared under its base's name, and then from all that that
+-- class derives from
+pub record HasClass (objects : List Payload) (name base_name : Name) : Type 0 where
+  pub class : Obj
+  pub is_declared : declared objects name ≡ Some class
+  pub base : Obj
+  pub is_base : declared objects base_name ≡ Some base
+  pub above : ClassBody
+  pub base_entry : HasPayload objects base (payload.Class above)
+  pub entry : HasPayload objects class (payload.Class (record { name = name; mro = base ∷ above.mro }))
+
+-- a manager has its entry, which is declared under its name: it is entered and left by what is declared under the names of its two functions
+pub record HasManager (objects : List Payload) (name enter_name exit_name : Name) : Type 0 where
+  pub manager : Obj
+  pub is_declared : declared objects name ≡ Some manager
+  pub enter : Obj
+  pub is_enter : declared objects enter_name ≡ Some enter
+  pub exit : Obj
+  pub is_exit : declared objects exit_name ≡ Some exit
+  pub entry : HasPayload objects manager (payload.Manager (record { name = name; enter = enter; exit = exit }))
+
+-- an object is the one of a built-in class, of a class that is declared, or of a manager that is
+abbrev pub IsBuiltinClass : List Payload → Obj → Type 0
+IsBuiltinClass objects v = (kind : ErrorKind) × (declared objects (name_of kind) ≡ Some v)
+
+abbrev pub IsDeclaredClass : List Decl → List Payload → Obj → Type 0
+IsDeclaredClass decls objects v = (i : ℕ) × (c : Name) × (b : Name) × (slice_get decls i ≡ Some (ClassDecl c b)) × (declared objects c ≡ Some v)
+
+abbrev pub IsDeclaredManager : List Decl → List Payload → Obj → Type 0
+IsDeclaredManager decls objects v = (i : ℕ) × (m : Name) × (e : Name) × (x : Name) × (slice_get decls i ≡ Some (ManagerDecl m e x)) × (declared objects m ≡ Some v)
+
+-- the objects of a script: each function, class and manager that it declares, and each built-in class, has its entry, where a function's has the
+-- place of its body among the bodies; no other function, class or manager is there; each entry names objects that are there, of the kinds that it
+-- needs
+pub record AreObjects (decls : List Decl) (objects : List Payload) : Type 0 where
+  pub functions : (i : ℕ) (t : Tree) → slice_get (functions_in decls) i ≡ Some t → HasFunction objects i t
+  pub classes : (i : ℕ) (c b : Name) → slice_get decls i ≡ Some (ClassDecl c b) → HasClass objects c b
+  pub managers : (i : ℕ) (m e x : Name) → slice_get decls i ≡ Some (ManagerDecl m e x) → HasManager objects m e x
+  pub builtins : (kind : ErrorKind) → (c : PyTypeRef) × IsClassOf objects kind c
+  pub only_functions : (f : Obj) (b : FunctionBody) → HasPayload objects f (payload.Function b) → (t : Tree) × (slice_get (functions_in decls) b.code ≡ Some t) × (b.name ≡ t.name)
+  pub only_classes : (c : Obj) (b : ClassBody) → HasPayload objects c (payload.Class b) → IsBuiltinClass objects c ⊎ IsDeclaredClass decls objects c
+  pub only_managers : (m : Obj) (b : ManagerBody) → HasPayload objects m (payload.Manager b) → IsDeclaredManager decls objects m
   pub fit : AllFit objects
 
 -- an activation's own events are a trace of the body of its function, where this is the dict of the globals
@@ -124,17 +162,17 @@ Traces trees globals objects f vs own =
     (b : FunctionBody) × HasPayload objects f (payload.Function b) × ((t : Tree) × (slice_get trees b.code ≡ Some t) × IsTrace (anywhere objects globals) t vs own)
 
 -- a prefix of a run of these declarations and drives
-pub record IsRunOf (trees : List Tree) (drives : List DriveLine) (objects : List Payload) (events : List Event) : Type 0 where
+pub record IsRunOf (decls : List Decl) (drives : List DriveLine) (objects : List Payload) (events : List Event) : Type 0 where
   pub asked : List Posed
   pub are_asked : AreAsked objects events drives asked
   pub globals : Obj  -- one and the same dict throughout
-  pub are_globals : AreGlobals trees objects globals
-  pub run : IsRunBy (Traces trees globals objects) (plan_of trees asked) objects events
-  pub are_objects : AreObjects trees objects
+  pub are_globals : AreGlobals decls objects globals
+  pub run : IsRunBy (Traces (functions_in decls) globals objects) (plan_of (functions_in decls) asked) objects events
+  pub are_objects : AreObjects decls objects
 
 -- the journal is a prefix of a run of a script
 pub record IsRun (s : Script) (j : Journal) : Type 0 where
-  pub run : IsRunOf (trees_of s) s.drives j.objects j.events
+  pub run : IsRunOf (decls_of s) s.drives j.objects j.events
   pub unchanged : j.changes ≡ []
 
 -- every drive of the script has its result, and nothing runs
@@ -151,7 +189,7 @@ pub record AreCompiled (ts : List Tree) (cs : Codes) : Type 0 where
 pub record RunsItsCodes (s : Script) (j : Journal) : Type 0 where
   pub compiled : AreCompiled (trees_of s) j.codes
   pub globals : Obj
-  pub are_globals : AreGlobals (trees_of s) j.objects globals
+  pub are_globals : AreGlobals (decls_of s) j.objects globals
   pub tells : EachTells (RowsOf j.codes globals j.objects) j.events
 
 -- the journal where nothing ran

@@ -21,6 +21,7 @@ use Rattle.py_tree.specs.declared.expr.Atom.TheVariants as atom
 use Rattle.py_tree.specs.declared.expr.Operation.TheVariants as operation
 use Rattle.py_tree.specs.declared.expr.Expr.TheVariants as expr
 use Rattle.py_tree.specs.Tree.{Tree, Assign, Return, nothing, first}
+use Rattle.py_grammar.specs.Grammar.{Decl, FunctionDecl}
 use Rattle.py_lines.specs.declared.drive.DriveAtom.TheVariants as argument
 use Rattle.py_lines.specs.declared.drive.DriveLine.{DriveLine}
 use Rattle.py_lines.specs.declared.drive.DriveLine.TheVariants as drive
@@ -45,8 +46,8 @@ function =
     }
 
 -- what the script declares
-abbrev pub trees : List Tree
-trees = function ∷ []
+abbrev pub decls : List Decl
+decls = FunctionDecl function ∷ []
 
 -- the call of a function with two numbers
 abbrev pub call_of : Name → ℤ → ℤ → DriveLine
@@ -191,4 +192,4 @@ overflow_by e = raises 1 e []
 
 -- each whole run of the call with these numbers writes this
 abbrev pub Writes : ℤ → ℤ → List ℕ → Type 0
-Writes m n line = (store : List Payload) (es : List Event) → IsRunOf trees (call_of (codes "f") m n ∷ []) store es → IsDone 1 es → events_text store [] es ≡ line
+Writes m n line = (store : List Payload) (es : List Event) → IsRunOf decls (call_of (codes "f") m n ∷ []) store es → IsDone 1 es → events_text store [] es ≡ line

@@ -18,6 +18,7 @@ use Rattle.py_tree.specs.declared.expr.Atom.TheVariants as atom
 use Rattle.py_tree.specs.declared.expr.Operation.TheVariants as operation
 use Rattle.py_tree.specs.declared.expr.Expr.TheVariants as expr
 use Rattle.py_tree.specs.Tree.{Tree, Assign, Return, nothing, first}
+use Rattle.py_grammar.specs.Grammar.{Decl, FunctionDecl}
 use Rattle.py_lines.specs.declared.drive.DriveAtom.TheVariants as argument
 use Rattle.py_lines.specs.declared.drive.DriveLine.{DriveLine}
 use Rattle.py_lines.specs.declared.drive.DriveLine.TheVariants as drive
@@ -45,8 +46,8 @@ caller =
     }
 
 -- what the script declares
-abbrev pub trees : List Tree
-trees = callee ∷ caller ∷ []
+abbrev pub decls : List Decl
+decls = FunctionDecl callee ∷ FunctionDecl caller ∷ []
 
 -- what it drives: call f, call g $1 9, call f $1
 abbrev pub drives : List DriveLine

@@ -13,6 +13,7 @@ use Rattle.py_objects.specs.declared.event.Event.TheVariants as event
 use Rattle.py_objects.specs.Singletons.{none_object}
 use Rattle.py_tree.specs.declared.expr.Atom.TheVariants as atom
 use Rattle.py_tree.specs.Tree.{Tree, Show, TryFinally, nothing, first}
+use Rattle.py_grammar.specs.Grammar.{Decl, FunctionDecl}
 use Rattle.py_script.specs.Worked.{object, exception}
 use Rattle.py_script.specs.WorkedLoop.{function_of, objects_with, raised_objects, entered}
 
@@ -25,8 +26,8 @@ abbrev pub function : Tree
 function = function_of (first 2 (TryFinally (first 3 (Show (atom.Name (codes "z"))) nothing) (first 5 (Show (atom.Int (pos 1))) nothing)) nothing)
 
 -- what the script declares
-abbrev pub trees : List Tree
-trees = function ∷ []
+abbrev pub decls : List Decl
+decls = FunctionDecl function ∷ []
 
 -- the objects that the run adds behind the frame, 3: those of the raise of NameError, 4 to 6, and the number that is shown, 7
 abbrev pub run_objects : List Payload

@@ -12,6 +12,7 @@ use Rattle.py_tree.specs.declared.body.BodyKind.TheVariants.{Generator}
 use Rattle.py_tree.specs.declared.expr.Atom.TheVariants as atom
 use Rattle.py_tree.specs.declared.expr.Operation.TheVariants as operation
 use Rattle.py_tree.specs.Tree.{Tree, Do, nothing, first}
+use Rattle.py_grammar.specs.Grammar.{Decl, FunctionDecl}
 use Rattle.py_lines.specs.declared.drive.DriveLine.{DriveLine}
 use Rattle.py_lines.specs.declared.drive.DriveLine.TheVariants as drive
 use Rattle.py_script.specs.Worked.{object, function_entry, loaded}
@@ -25,8 +26,8 @@ abbrev pub function : Tree
 function = record { kind = Generator; name = codes "g"; params = []; suite = first 2 (Do (operation.Yield (atom.Int (pos 1)))) nothing; line = 1 }
 
 -- what the script declares
-abbrev pub trees : List Tree
-trees = function ∷ []
+abbrev pub decls : List Decl
+decls = FunctionDecl function ∷ []
 
 -- what it drives: call g, next 1
 abbrev pub drives : List DriveLine

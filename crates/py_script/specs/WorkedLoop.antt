@@ -17,6 +17,7 @@ use Rattle.py_objects.specs.Singletons.{none_object}
 use Rattle.py_tree.specs.declared.body.BodyKind.TheVariants.{Function}
 use Rattle.py_tree.specs.declared.expr.Atom.TheVariants as atom
 use Rattle.py_tree.specs.Tree.{Suite, Show, While, nothing, first, Tree}
+use Rattle.py_grammar.specs.Grammar.{Decl, FunctionDecl}
 use Rattle.py_lines.specs.declared.drive.DriveLine.{DriveLine}
 use Rattle.py_lines.specs.declared.drive.DriveLine.TheVariants as drive
 use Rattle.py_script.specs.Worked.{object, exception, exception_entry, function_entry, loaded}
@@ -34,8 +35,8 @@ abbrev pub function : Tree
 function = function_of (first 2 (While (atom.Bool true) nothing) nothing)
 
 -- what the script declares
-abbrev pub trees : List Tree
-trees = function ∷ []
+abbrev pub decls : List Decl
+decls = FunctionDecl function ∷ []
 
 -- what it drives: call f
 abbrev pub drives : List DriveLine
@@ -86,8 +87,8 @@ abbrev pub unknown_script : List ℕ
 unknown_script = codes "def f\nshow z\nend\ncall f\n"
 
 -- def f / show z / end
-abbrev pub unknown_trees : List Tree
-unknown_trees = function_of (first 2 (Show (atom.Name (codes "z"))) nothing) ∷ []
+abbrev pub unknown_decls : List Decl
+unknown_decls = FunctionDecl (function_of (first 2 (Show (atom.Name (codes "z"))) nothing)) ∷ []
 
 -- the entry of an exception of a kind with the arguments 5
 abbrev pub unknown_error : ErrorKind → Payload

@@ -16,6 +16,7 @@ use Rattle.py_tree.specs.declared.expr.Atom.TheVariants as atom
 use Rattle.py_tree.specs.declared.expr.Operation.TheVariants as operation
 use Rattle.py_tree.specs.declared.expr.Expr.TheVariants as expr
 use Rattle.py_tree.specs.Tree.{Tree, Assign, Show, nothing, first}
+use Rattle.py_grammar.specs.Grammar.{Decl, FunctionDecl}
 use Rattle.py_lines.specs.declared.drive.DriveLine.{DriveLine}
 use Rattle.py_script.specs.Worked.{call_of, overflowing_of, object, exception, function_entry, objects_of, entered, asked, raising_by}
 
@@ -35,8 +36,8 @@ function =
     }
 
 -- what the script declares
-abbrev pub trees : List Tree
-trees = function ∷ []
+abbrev pub decls : List Decl
+decls = FunctionDecl function ∷ []
 
 -- call g 33 12
 abbrev pub drive : DriveLine

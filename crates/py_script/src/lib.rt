@@ -3,6 +3,7 @@
 
 mod attributes;
 mod command;
+mod declaring;
 mod fault;
 mod journal;
 mod loading;
@@ -21,6 +22,7 @@ mod worked_finally;
 mod worked_generator;
 mod worked_loop;
 mod worked_show;
+mod worked_with;
 mod write;
 
 pub use command::{run_command, run_script};
@@ -40,3 +42,4 @@ pub use worked_finally::worked_finallies;
 pub use worked_generator::worked_generators;
 pub use worked_loop::worked_loops;
 pub use worked_show::worked_shows;
+pub use worked_with::worked_withs;

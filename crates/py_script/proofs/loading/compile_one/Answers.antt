@@ -4,7 +4,7 @@ use Rattle.py_laid.specs.Fits.{Fits}
 use Rattle.py_laid.specs.Instructions.{UsesCompiled, is_compiled}
 use Rattle.py_laid.proofs.Uses.{compiled_raise}
 use Rattle.py_body.proofs.CodesLemmas.{last_of_each}
-use Rattle.py_grammar.specs.Script.{declared_tree}
+use Rattle.py_tree.specs.Views.{tree_of}
 use Rattle.py_vm.specs.Codes.{CodeIsAnswered}
 use Rattle.py_vm.proofs.CodesLemmas.{AreAnswered, code_answered}
 use Rattle.py_script.proofs.Declarations.{fits_driven}
@@ -12,17 +12,17 @@ use Rattle.py_script.proofs.loading.compile_one.Goals as goal
 
 pub returns-clause-fits : goal.returns-clause-fits
 returns-clause-fits c =
-    let fits = λ (code : Annotated). Fits c.compile_declaration.new.names code (declared_tree c.args.declaration.now) in
+    let fits = λ (code : Annotated). Fits c.compile_body.new.names code (tree_of c.args.body.now) in
     subst fits (sym c.of.ensures) (last_of_each fits _ _ _ _ _ c.into_vec.ensures c.pop.ensures.items c.in-Some.is c.in_ok-codes.ensures.fits)
 
 -- the machine answers what code asks that bodies are compiled to
 compiled_answered : AreAnswered is_compiled
-compiled_answered = record { no_enter = λ arg. refl; no_exit = λ arg. refl; no_cause = compiled_raise }
+compiled_answered = record { no_cause = compiled_raise }
 
 pub returns-clause-answered : goal.returns-clause-answered
 returns-clause-answered c =
-    let names = c.compile_declaration.new.names in
-    let tree = declared_tree c.args.declaration.now in
+    let names = c.compile_body.new.names in
+    let tree = tree_of c.args.body.now in
     let uses = last_of_each (λ (code : Annotated). UsesCompiled code.code) _ _ _ _ _ c.into_vec.ensures c.pop.ensures.items c.in-Some.is c.in_ok-codes.ensures.uses in
     let fits = last_of_each (λ (code : Annotated). Fits names code tree) _ _ _ _ _ c.into_vec.ensures c.pop.ensures.items c.in-Some.is c.in_ok-codes.ensures.fits in
     subst (λ (code : Annotated). CodeIsAnswered code.code) (sym c.of.ensures) (code_answered is_compiled compiled_answered c.in-Some.code.code uses (fits_driven names c.in-Some.code tree fits))

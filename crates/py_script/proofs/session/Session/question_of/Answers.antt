@@ -1,5 +1,23 @@
+use Rattle.std.proofs.Common.{subst}
+use Rattle.py_lines.specs.declared.drive.DriveLine.{DriveLine}
+use Rattle.py_grammar.specs.Script.{decls_of}
+use Rattle.py_grammar.specs.WellFormed.{IsWellDriven}
+use Rattle.py_vm.specs.Machine.{done_of}
+use Rattle.py_script.proofs.Entries.{class_known, function_known}
 use Rattle.py_script.proofs.Asking.{asks_call, asks_send, asks_throw, named_there, there_still}
 use Rattle.py_script.proofs.session.Session.question_of.Goals as goal
+
+pub object_named-function-requires-clause-known : goal.object_named-function-requires-clause-known
+object_named-function-requires-clause-known c =
+    let decls = decls_of c.args.script.now in
+    let well = subst (λ (l : DriveLine). IsWellDriven decls (done_of c.args.self.now.vm) l) c.in-Call.is c.requires.well in
+    function_known decls c.in-Call.name well.function
+
+pub object_named-class-requires-clause-known : goal.object_named-class-requires-clause-known
+object_named-class-requires-clause-known c =
+    let decls = decls_of c.args.script.now in
+    let well = subst (λ (l : DriveLine). IsWellDriven decls (done_of c.args.self.now.vm) l) c.in-Throw.is c.requires.well in
+    class_known decls c.in-Throw.name well.class
 
 pub returns-in_ok-args-in-Call-clause-asks : goal.returns-in_ok-args-in-Call-clause-asks
 returns-in_ok-args-in-Call-clause-asks c =
