@@ -21,3 +21,5 @@ mod objects;
 mod outside;
 #[cfg(test)]
 mod scripts;
+#[cfg(test)]
+mod tracebacks;

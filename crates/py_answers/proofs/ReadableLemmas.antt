@@ -1,17 +1,13 @@
 -- Objects that answers can read: as they grow, and behind one more change.
-use Rattle.std.proofs.Common.{◌≡◌, List, [], ◌∷◌, ◌++◌, Some, inl, inr, refl, sym, subst}
+use Rattle.std.proofs.Common.{List, [], ◌∷◌, ◌++◌, Some, inl, inr, subst}
 use Rattle.std.specs.Prelude.{Option, None}
 use Rattle.py_objects.specs.declared.payload.Payload.{Payload}
 use Rattle.py_objects.specs.declared.payload.Payload.TheVariants as payload
-use Rattle.py_objects.specs.declared.edit.Edit.{Edit}
-use Rattle.py_objects.specs.declared.edit.Edit.TheVariants as edit
-use Rattle.py_objects.specs.declared.edit.LinkField.TheVariants as link
 use Rattle.py_objects.specs.declared.edit.Change.{Change}
-use Rattle.py_objects.specs.Objects.{Obj, AllFit, IfThere, IsException, IsTraceback}
-use Rattle.py_objects.specs.Edits.{Kept, IsEdited}
+use Rattle.py_objects.specs.Objects.{Obj, IfThere, IsTraceback}
 use Rattle.py_objects.specs.Growth.{Grows}
 use Rattle.py_objects.proofs.GrowthLemmas.{one_entry, payload_grown, slice_get_split}
-use Rattle.py_answers.specs.Readable.{ChangeUnread, IsReadable, IsUnread}
+use Rattle.py_answers.specs.Readable.{ChangeUnread, IsUnread}
 
 -- a traceback, where there is one, is one among more objects
 traceback_stays : (objects objects' : List Payload) (t : Option Obj) → Grows objects objects' → IfThere (IsTraceback objects) t → IfThere (IsTraceback objects') t
@@ -34,18 +30,3 @@ change_unread objects cs c one unread i d here = elim (slice_get_split cs (c ∷
   | inl front ↦ unread i d front
   | inr back ↦ subst (IsUnread objects) (one_entry c d _ back) one
 ]
-
--- objects that answers can read still are that behind an edit of what no answer reads
-pub edit_readable : (old new : Kept) (o : Obj) (x : Edit) → IsEdited old new o x → IsUnread old.made (record { after = old.mark; object = o; edit = x }) → IsReadable old → IsReadable new
-edit_readable old new o x edited one readable =
-    let c : Change = record { after = old.mark; object = o; edit = x } in
-    record {
-      unread = subst (λ (l : List Payload). ChangeUnread l new.changes) (sym edited.made)
-          (subst (ChangeUnread old.made) (sym edited.changes) (change_unread old.made old.changes c one readable.unread));
-      fit = subst AllFit (sym edited.made) readable.fit;
-    }
-
--- and where an exception got a traceback, or lost it
-pub traceback_readable : (old new : Kept) (exc : Obj) (t : Option Obj) → IsException old.made exc → IfThere (IsTraceback old.made) t
-    → IsEdited old new exc (edit.Link link.Traceback t) → IsReadable old → IsReadable new
-traceback_readable old new exc t is_exception made edited readable = edit_readable old new exc (edit.Link link.Traceback t) edited (inr (is_exception, (t, refl, made))) readable

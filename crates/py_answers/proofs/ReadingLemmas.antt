@@ -14,10 +14,9 @@ use Rattle.py_objects.specs.declared.edit.Change.{Change}
 use Rattle.py_objects.specs.declared.request.Request.TheVariants as request
 use Rattle.py_code.specs.declared.operator.BinaryOperator.{BinaryOperator}
 use Rattle.py_code.specs.declared.operator.BinaryOperator.TheVariants as binary
-use Rattle.py_objects.specs.Objects.{Obj, Name, HasPayload, class_object, IfThere, IsException, IsExceptionMade, IsMade, IsTraceback, AllFit}
+use Rattle.py_objects.specs.Objects.{Obj, Name, HasPayload, class_object, IfThere, IsExceptionMade, IsMade, IsTraceback, AllFit}
 use Rattle.py_objects.specs.Pairs.{Pairs}
 use Rattle.py_objects.specs.Edits.{Kept, edited, edited_pairs, edited_entry, with_edit, changed_by, objects_of}
-use Rattle.py_objects.specs.Originals.{IsDict}
 use Rattle.py_objects.specs.Ancestry.{IsDerived}
 use Rattle.py_objects.proofs.AncestryLemmas.{changed_derives}
 use Rattle.py_objects.proofs.ChangesLemmas.{changes_keep, class_object_now, class_made}

@@ -16,4 +16,5 @@ mod reply;
 mod values;
 
 pub use answering::{Answered, answer};
+pub use managers::told;
 pub use values::entry;

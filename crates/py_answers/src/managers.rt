@@ -63,7 +63,7 @@ pub(crate) fn exited(
 }
 
 /// What an exit is told, as the arguments of a call.
-pub(crate) fn told(
+pub fn told(
     alloc: Global,
     class: PyObjectRef,
     exception: PyObjectRef,

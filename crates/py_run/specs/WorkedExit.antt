@@ -69,6 +69,12 @@ told_another = raising (exited 4 (object 8) (exit (object 10) ∷ []))
 abbrev pub told_none : List Event
 told_none = raising (exit (object 0) ∷ [])
 
+-- the exit function raises the exception again, and the second exit is told the traceback of the raise before
+abbrev pub told_old : List Event
+told_old =
+    raising (exiting 4 (object 3) (object 8) (event.Resume 4 how.Start ∷ event.Ask 4 request.Handled None 0 ∷ event.Got 4 (got.Value (object 7)) ∷ event.End 4 (ending.Raise (exception 7)) 1
+    ∷ event.Got 1 (got.Raise (exception 7)) ∷ exit (object 8) ∷ []))
+
 -- the exit calls the enter function
 abbrev pub enters_again : List Event
 enters_again = raising (exiting 4 (object 2) (object 8) [])

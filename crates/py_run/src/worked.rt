@@ -10,7 +10,7 @@ ghost use Rattle.py_run.specs.WorkedStop.{objects as stop_objects, plan as stop_
 ghost use Rattle.py_run.specs.WorkedSelf.{objects as self_objects, plan as self_plan, sending, refused as self_refused, events as self_events};
 ghost use Rattle.py_run.specs.WorkedIgnored.{objects as ignored_objects, plan as ignored_plan, ignored, events as ignored_events};
 ghost use Rattle.py_run.specs.WorkedThrow.{objects as throw_objects, plan as throw_plan, throwing, refused as throw_refused, events as throw_events, sending as send_plan, started};
-ghost use Rattle.py_run.specs.WorkedExit.{objects as exit_objects, plan as exit_plan, events as exit_events, told_another, told_none, enters_again};
+ghost use Rattle.py_run.specs.WorkedExit.{objects as exit_objects, plan as exit_plan, events as exit_events, told_another, told_none, told_old, enters_again};
 ghost use Rattle.py_run.specs.WorkedHandled.{objects as handled_objects, plan as handled_plan, events as handled_events, got_another};
 
 /// A generator yields, stops, and stays closed. What its call gives is a new object, and the first next enters no activation but its own.
@@ -77,5 +77,6 @@ pub fn worked_exit()
     ensures is_whole { IsDone 1 exit_events }
     ensures no_other_traceback { Comes exit_plan exit_objects nothing told_another → ⊥ }
     ensures no_none_as_traceback { Comes exit_plan exit_objects nothing told_none → ⊥ }
+    ensures no_old_traceback { Comes exit_plan exit_objects nothing told_old → ⊥ }
     ensures no_other_callee { Comes exit_plan exit_objects nothing enters_again → ⊥ }
 {}

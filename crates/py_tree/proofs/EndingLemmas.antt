@@ -5,25 +5,21 @@ use Rattle.std.proofs.lemmas.Slice.Eq.{bytes_eq-Decides}
 use Rattle.py_objects.specs.Own.{Own, Gets}
 use Rattle.py_objects.specs.declared.refs.PyBaseExceptionRef.{PyBaseExceptionRef}
 use Rattle.py_objects.specs.declared.request.Request.TheVariants as request
-use Rattle.py_objects.specs.declared.payload.Payload.{Payload}
-use Rattle.py_objects.specs.declared.payload.Payload.TheVariants as payload
-use Rattle.py_objects.specs.Objects.{Obj, as_exception, as_object, class_object}
+use Rattle.py_objects.specs.Objects.{Obj, as_exception, as_object}
 use Rattle.py_objects.specs.declared.request.Request.{Request}
 use Rattle.py_objects.specs.declared.event.GotAnswer.{GotAnswer}
 use Rattle.py_objects.specs.declared.event.GotAnswer.TheVariants as got
-use Rattle.py_objects.specs.Telling.{Value, Given, AfterValue, Answers, IsLiteral}
-use Rattle.py_tree.specs.declared.expr.Atom.{Atom}
-use Rattle.py_tree.specs.declared.expr.Atom.TheVariants as atom
+use Rattle.py_objects.specs.Telling.{Answers}
 use Rattle.py_tree.specs.Tree.{Name, Suite, Clauses}
 use Rattle.py_tree.specs.Binding.{Env, find_local, set_local, bind, start_env}
 use Rattle.py_tree.specs.Scene.{Scene}
 use Rattle.py_tree.specs.Trace.{EndsBy}
-use Rattle.py_tree.specs.Outcome.{Outcome, Normal, Breaks, Continues, Returns, Raises, Cut, Handled, After, Runner, Behind_finally, On_finally, Finally, Forgets, Handles, RunsSuite, Tries, Use, By_truth, On_raise, Requests, Named, Loads, On_normal, is_manager, Leaves, LeavesBy, On_exit, Manages, Runs}
-use Rattle.py_tree.specs.Endings.{Point, Reaches, TracesComeToPoints, StatementsGoOn, handled_behind, IsPassedOn, FinallyPassesOn, CutStaysCut, FinallyIsRun, NameIsUnset, IsButFor, ClauseEndsAsSuite, SuiteEndsClause, ClausesRunOnRaise, IsStopped, Gives, FirstDecides, FirstClauseDecides, NoClauseRaises, IsEntered, ExitPasses, ExitDecides, ExitEnds, ExitIsAsked, ExitGoesOn}
-use Rattle.py_tree.proofs.Reaching.{GivesOne, RunnerEnds, runs_end, suite_ends, forgets_end, loads_give, requests_give, leaves_give, leaves_by_gives}
+use Rattle.py_tree.specs.Outcome.{Outcome, Normal, Breaks, Continues, Returns, Raises, Cut, Handled, After, Runner, Behind_finally, On_finally, Finally, Forgets, Handles, RunsSuite, Tries, Use, By_truth, On_raise, Requests, Named, On_normal, Runs}
+use Rattle.py_tree.specs.Endings.{Point, Reaches, TracesComeToPoints, StatementsGoOn, handled_behind, IsPassedOn, FinallyPassesOn, CutStaysCut, FinallyIsRun, NameIsUnset, IsButFor, ClauseEndsAsSuite, SuiteEndsClause, ClausesRunOnRaise, IsStopped, Gives, FirstDecides, FirstClauseDecides, NoClauseRaises}
+use Rattle.py_tree.proofs.Reaching.{RunnerEnds, runs_end, suite_ends, forgets_end}
 
 -- just at a point
-abbrev At : Point → After
+abbrev pub At : Point → After
 At e env o event ts = e ≡ record { env = env; outcome = o; event = event; left = ts }
 
 -- what holds at a point
@@ -31,14 +27,14 @@ abbrev Here : After → Point → Type 0
 Here K e = K e.env e.outcome e.event e.left
 
 -- a part of a tree comes to a point where what follows holds
-comes : (part : Runner) → RunnerEnds part → (env : Env) (h : Handled) (event : ℕ) (ts : List Own) (K : After) → part env h event ts K → (e : Point) × Reaches part env h event ts e × Here K e
+pub comes : (part : Runner) → RunnerEnds part → (env : Env) (h : Handled) (event : ℕ) (ts : List Own) (K : After) → part env h event ts K → (e : Point) × Reaches part env h event ts e × Here K e
 comes part ends env h event ts K k =
     let c = ends env h event ts K k in
     let e : Point = record { env = c.env; outcome = c.outcome; event = c.event; left = c.left } in
     (e, c.instead (At e) refl, c.here)
 
 -- and where it comes to one at which something holds, that may follow
-follows : (part : Runner) → RunnerEnds part → (env : Env) (h : Handled) (event : ℕ) (ts : List Own) (e : Point) (K : After) → Reaches part env h event ts e → Here K e → part env h event ts K
+pub follows : (part : Runner) → RunnerEnds part → (env : Env) (h : Handled) (event : ℕ) (ts : List Own) (e : Point) (K : After) → Reaches part env h event ts e → Here K e → part env h event ts K
 follows part ends env h event ts e K k here =
     let c = ends env h event ts (At e) k in
     c.instead K (subst (λ (a : Point). Here K a) c.here here)
@@ -283,27 +279,6 @@ module _ (scene : Scene) (env : Env) (h : Handled) (whole : Point) (R : Type 0) 
   loaded line (Some None) x event ts Next k on = answered line (request.Unbound x) event ts Next k on
   loaded line (Some (Some v)) x event ts Next k on = on v event ts (refl, refl, refl) k
 
-  -- what follows a literal, and what follows an atom
-  literal : (p : Payload) (event : ℕ) (ts : List Own) (Next : Obj → ℕ → List Own → Type 0) → IsLiteral scene.objects p event ts (Use env (At whole) Next)
-      → ((v : Obj) (i : ℕ) (rest : List Own) → IsLiteral scene.objects p event ts (Gives v i rest) → Next v i rest → IsStopped env whole ⊎ R) → IsStopped env whole ⊎ R
-  literal p event ts Next (inl (e, k)) on = inl (stopped_at env whole event [] k)
-  literal p event ts Next (inr (v, has, k)) on = on v event ts (inr (v, has, (refl, refl, refl))) k
-
-  taken : (line : ℕ) (a : Atom) (event : ℕ) (ts : List Own) (Next : Obj → ℕ → List Own → Type 0) → Loads scene line env h a event ts (Use env (At whole) Next)
-      → ((v : Obj) (i : ℕ) (rest : List Own) → Loads scene line env h a event ts (Gives v i rest) → Next v i rest → IsStopped env whole ⊎ R) → IsStopped env whole ⊎ R
-  taken line atom.None event ts Next k on = literal payload.None event ts Next k on
-  taken line (atom.Bool b) event ts Next k on = literal (payload.Bool b) event ts Next k on
-  taken line (atom.Int n) event ts Next k on = literal (payload.Int n) event ts Next k on
-  taken line (atom.Str s) event ts Next k on = literal (payload.Str s) event ts Next k on
-  taken line (atom.Name x) event ts Next k on = loaded line (find_local x env) x event ts Next k on
-
-  -- what follows the answer of an exit
-  left_plainly : (line : ℕ) (m : Obj) (event : ℕ) (ts : List Own) (Next : Obj → ℕ → List Own → Type 0) → Leaves scene line m h event ts (Use env (At whole) Next)
-      → ((v : Obj) (i : ℕ) (rest : List Own) → Leaves scene line m h event ts (Gives v i rest) → Next v i rest → IsStopped env whole ⊎ R) → IsStopped env whole ⊎ R
-  left_plainly line m event ts Next (inl (e, k)) on = inl (stopped_at env whole event [] k)
-  left_plainly line m event ts Next (inr (c, v, t, is_c, is_v, is_t, told)) on =
-      answered line (request.Exit m c v t) event ts Next told (λ w i rest asked. on w i rest (inr (c, v, t, is_c, is_v, is_t, asked)))
-
 -- by whether it matched
 decided : (scene : Scene) (line : ℕ) (x : Option Name) (s : Suite) (more : Clauses) (e : PyBaseExceptionRef) (env : Env) (h : Handled) (whole : Point) (b : Bool) (i : ℕ) (rest : List Own)
     → By_truth b (Handles x (RunsSuite scene s) (bind x (as_object e) env) h i rest (At whole)) (Tries scene line more e env h i rest (At whole)) → FirstDecides scene line x s more e env h b i rest whole
@@ -339,146 +314,3 @@ pub no_clause_raises : NoClauseRaises
 no_clause_raises scene line e env h event ts whole k =
     elim (answered scene env h whole (IsStopped env whole) line request.Handled event ts _ k (λ v i rest asked raised. inr (ap (λ (p : Point). p.env) raised, inr (as_exception v, ap (λ (p : Point). p.outcome) raised))))
     [ inl stopped ↦ stopped | inr stopped ↦ stopped ]
-
--- ---- withs
-
-module _ (scene : Scene) (line : ℕ) (m : Obj) (h : Handled) (whole : Point) where
-  -- behind an exit without a raise
-  exit_passes : (env : Env) (o : Outcome) (event : ℕ) (ts : List Own) → Leaves scene line m h event ts (Use env (At whole) (λ w. At whole env o))
-      → IsStopped env whole ⊎ ExitPasses scene line m h (record { env = env; outcome = o; event = event; left = ts }) whole
-  exit_passes env o event ts k = left_plainly scene env h whole _ line m event ts _ k (λ w i rest leaves is. inr (w, i, rest, leaves, is))
-
-  -- by the truth of an exit's answer
-  outcome_is : (b : Bool) (env : Env) (e : PyBaseExceptionRef) (i : ℕ) (rest : List Own) → By_truth b (At whole env Normal i rest) (At whole env (Raises e) i rest)
-      → (whole.env ≡ env) × (whole.event ≡ i) × (whole.left ≡ rest) × By_truth b (whole.outcome ≡ Normal) (whole.outcome ≡ Raises e)
-  outcome_is true env e i rest k = (ap (λ (p : Point). p.env) k, ap (λ (p : Point). p.event) k, ap (λ (p : Point). p.left) k, ap (λ (p : Point). p.outcome) k)
-  outcome_is false env e i rest k = (ap (λ (p : Point). p.env) k, ap (λ (p : Point). p.event) k, ap (λ (p : Point). p.left) k, ap (λ (p : Point). p.outcome) k)
-
-  -- behind the exit of a raise
-  exit_decides : (env : Env) (e : PyBaseExceptionRef) (event : ℕ) (ts : List Own) → On_exit scene line m h (At whole) env (Raises e) event ts
-      → IsStopped env whole ⊎ ExitDecides scene line m e h (record { env = env; outcome = Raises e; event = event; left = ts }) whole
-  exit_decides env e event ts (inl (none, k)) = inl (stopped_at env whole event [] k)
-  exit_decides env e event ts (inr (body, t, has, told)) =
-      answered scene env (Some e) whole _ line (request.Exit m (class_object body.class) (as_object e) t) event ts _ told (λ w i mid leaves k1.
-      answered scene env h whole _ line (request.Truth w) i mid _ k1 (λ u j rest tests k2.
-      let (same_env, same_event, same_left, outcome) = outcome_is k2.0 env e j rest k2.2 in
-      inr (record {
-        answer = w;
-        answered = i;
-        behind_answer = mid;
-        leaves = inr (body, t, has, leaves);
-        truth = u;
-        swallows = k2.0;
-        is = k2.1;
-        tests = subst (λ (l : List Own). Requests scene line (request.Truth w) h i mid (Gives u whole.event l)) (sym same_left)
-            (subst (λ (n : ℕ). Requests scene line (request.Truth w) h i mid (Gives u n rest)) (sym same_event) tests);
-        env = same_env;
-        outcome = outcome;
-      })))
-
-  -- behind each outcome of the body
-  exit_ends : (env : Env) (o : Outcome) (event : ℕ) (ts : List Own) → On_exit scene line m h (At whole) env o event ts
-      → IsStopped env whole ⊎ ExitEnds scene line m h (record { env = env; outcome = o; event = event; left = ts }) whole
-  exit_ends env Normal event ts k = elim (exit_passes env Normal event ts k) [ inl stopped ↦ inl stopped | inr is ↦ inr (inr (inr (λ cut. absurd (cc cut), λ e same. absurd (cc same), is))) ]
-  exit_ends env Breaks event ts k = elim (exit_passes env Breaks event ts k) [ inl stopped ↦ inl stopped | inr is ↦ inr (inr (inr (λ cut. absurd (cc cut), λ e same. absurd (cc same), is))) ]
-  exit_ends env Continues event ts k = elim (exit_passes env Continues event ts k) [ inl stopped ↦ inl stopped | inr is ↦ inr (inr (inr (λ cut. absurd (cc cut), λ e same. absurd (cc same), is))) ]
-  exit_ends env (Returns v) event ts k = elim (exit_passes env (Returns v) event ts k) [ inl stopped ↦ inl stopped | inr is ↦ inr (inr (inr (λ cut. absurd (cc cut), λ e same. absurd (cc same), is))) ]
-  exit_ends env (Raises e) event ts k = elim (exit_decides env e event ts k) [ inl stopped ↦ inl stopped | inr is ↦ inr (inr (inl (e, refl, is))) ]
-  exit_ends env Cut event ts k = inr (inl (refl, k))
-
-  -- the body of a with, and its exit
-  body_and_exit : (x : Option Name) (v : Obj) (s : Suite) (env : Env) (i : ℕ) (rest : List Own) → RunsSuite scene s (bind x v env) h i rest (On_exit scene line m h (At whole))
-      → (body : Point) × Reaches (RunsSuite scene s) (bind x v env) h i rest body × (IsStopped body.env whole ⊎ ExitEnds scene line m h body whole)
-  body_and_exit x v s env i rest run =
-      let (body, comes_to, here) = comes (RunsSuite scene s) (suite_ends scene s) (bind x v env) h i rest (On_exit scene line m h (At whole)) run in
-      (body, comes_to, exit_ends body.env body.outcome body.event body.left here)
-
--- what a with comes to behind an entry
-abbrev WithEnds : Scene → ℕ → Atom → Option Name → Suite → Env → Handled → ℕ → List Own → Point → Type 0
-WithEnds scene line a x s env h event ts whole =
-    (m : Obj) × (v : Obj) × (i : ℕ) × (rest : List Own) × IsEntered scene line a m v env h event ts i rest
-    × ((body : Point) × Reaches (RunsSuite scene s) (bind x v env) h i rest body × (IsStopped body.env whole ⊎ ExitEnds scene line m h body whole))
-
--- by whether it is a manager
-managed : (scene : Scene) (line : ℕ) (a : Atom) (x : Option Name) (s : Suite) (m v : Obj) (env : Env) (h : Handled) (event : ℕ) (ts : List Own) (i : ℕ) (rest : List Own) (whole : Point)
-    → IsEntered scene line a m v env h event ts i rest → (b : Bool)
-    → By_truth b (RunsSuite scene s (bind x v env) h i rest (On_exit scene line m h (At whole))) (Requests scene line (request.NoExit m) h i rest (Use env (At whole) (λ u j mid. ⊥)))
-    → IsStopped env whole ⊎ WithEnds scene line a x s env h event ts whole
-managed scene line a x s m v env h event ts i rest whole is true run = inr (m, v, i, rest, is, body_and_exit scene line m h whole x v s env i rest run)
-managed scene line a x s m v env h event ts i rest whole is false asked = answered scene env h whole _ line (request.NoExit m) i rest _ asked (λ u j mid told never. absurd never)
-
-entered : (scene : Scene) (line : ℕ) (a : Atom) (x : Option Name) (s : Suite) (m v : Obj) (env : Env) (h : Handled) (event : ℕ) (ts : List Own) (i : ℕ) (rest : List Own) (whole : Point)
-    → IsEntered scene line a m v env h event ts i rest → Manages scene line m x v (RunsSuite scene s) env h i rest (At whole) → IsStopped env whole ⊎ WithEnds scene line a x s env h event ts whole
-entered scene line a x s m v env h event ts i rest whole is (inl (none, k)) = inl (stopped_at env whole i [] k)
-entered scene line a x s m v env h event ts i rest whole is (inr (p, has, k)) = managed scene line a x s m v env h event ts i rest whole is (is_manager p) k
-
-pub exit_is_asked : ExitIsAsked
-exit_is_asked scene line a x s env h event ts whole k =
-    taken scene env h whole _ line a event ts _ k (λ m j mid loads k1.
-    answered scene env h whole _ line (request.Enter m) j mid _ k1 (λ v i rest enters k2.
-    entered scene line a x s m v env h event ts i rest whole (record { loaded = j; behind_atom = mid; loads = loads; enters = enters }) k2))
-
--- what follows a value that is given
-gives : (Told : AfterValue → Type 0) (v : Obj) (i : ℕ) (rest : List Own) → GivesOne Told (Gives v i rest) → (K : AfterValue) → K (Given v) i rest → Told K
-gives Told v i rest g K k =
-    let (value, event, left) = g.here in
-    g.instead K (subst (λ (w : Value). K w g.event g.left) (sym value) (subst (λ (j : ℕ). K (Given v) j g.left) (sym event) (subst (λ (l : List Own). K (Given v) i l) (sym left) k)))
-
-module _ (scene : Scene) (line : ℕ) (m : Obj) (h : Handled) (whole : Point) where
-  passes_exit : (env : Env) (o : Outcome) (event : ℕ) (ts : List Own) → ExitPasses scene line m h (record { env = env; outcome = o; event = event; left = ts }) whole
-      → Leaves scene line m h event ts (Use env (At whole) (λ w. At whole env o))
-  passes_exit env o event ts (w, i, rest, leaves, is) =
-      gives (λ K. Leaves scene line m h event ts K) w i rest (leaves_give scene line m h event ts _ leaves) (Use env (At whole) (λ w. At whole env o)) is
-
-  -- where a point is by its parts
-  is_at : (env : Env) (o : Outcome) → whole.env ≡ env → whole.outcome ≡ o → At whole env o whole.event whole.left
-  is_at env o same outcome =
-      ap (λ (q : Env). let p : Point = record whole { env = q } in p) same ∙ ap (λ (q : Outcome). let p : Point = record whole { env = env; outcome = q } in p) outcome
-
-  by_answer : (b : Bool) (env : Env) (e : PyBaseExceptionRef) → whole.env ≡ env → By_truth b (whole.outcome ≡ Normal) (whole.outcome ≡ Raises e)
-      → By_truth b (At whole env Normal whole.event whole.left) (At whole env (Raises e) whole.event whole.left)
-  by_answer true env e same outcome = is_at env Normal same outcome
-  by_answer false env e same outcome = is_at env (Raises e) same outcome
-
-  decides_exit : (env : Env) (e : PyBaseExceptionRef) (event : ℕ) (ts : List Own) → ExitDecides scene line m e h (record { env = env; outcome = Raises e; event = event; left = ts }) whole
-      → On_exit scene line m h (At whole) env (Raises e) event ts
-  decides_exit env e event ts d =
-      gives (λ K. LeavesBy scene line m e event ts K) d.answer d.answered d.behind_answer (leaves_by_gives scene line m e event ts _ d.leaves) _
-      (gives (λ K. Requests scene line (request.Truth d.answer) h d.answered d.behind_answer K) d.truth whole.event whole.left
-      (requests_give scene line (request.Truth d.answer) h d.answered d.behind_answer _ d.tests) _ (d.swallows, d.is, by_answer d.swallows env e d.env d.outcome))
-
-  ends_exit : (env : Env) (o : Outcome) (event : ℕ) (ts : List Own) → ExitEnds scene line m h (record { env = env; outcome = o; event = event; left = ts }) whole
-      → On_exit scene line m h (At whole) env o event ts
-  ends_exit env Normal event ts (inl (cut, is)) = absurd (cc cut)
-  ends_exit env Normal event ts (inr (inl (e, same, is))) = absurd (cc same)
-  ends_exit env Normal event ts (inr (inr (ended, other, is))) = passes_exit env Normal event ts is
-  ends_exit env Breaks event ts (inl (cut, is)) = absurd (cc cut)
-  ends_exit env Breaks event ts (inr (inl (e, same, is))) = absurd (cc same)
-  ends_exit env Breaks event ts (inr (inr (ended, other, is))) = passes_exit env Breaks event ts is
-  ends_exit env Continues event ts (inl (cut, is)) = absurd (cc cut)
-  ends_exit env Continues event ts (inr (inl (e, same, is))) = absurd (cc same)
-  ends_exit env Continues event ts (inr (inr (ended, other, is))) = passes_exit env Continues event ts is
-  ends_exit env (Returns v) event ts (inl (cut, is)) = absurd (cc cut)
-  ends_exit env (Returns v) event ts (inr (inl (e, same, is))) = absurd (cc same)
-  ends_exit env (Returns v) event ts (inr (inr (ended, other, is))) = passes_exit env (Returns v) event ts is
-  ends_exit env (Raises e) event ts (inl (cut, is)) = absurd (cc cut)
-  ends_exit env (Raises e) event ts (inr (inl (x, same, is))) =
-      let raised : x ≡ e = cc same in
-      decides_exit env e event ts (subst (λ (y : PyBaseExceptionRef). ExitDecides scene line m y h (record { env = env; outcome = Raises e; event = event; left = ts }) whole) raised is)
-  ends_exit env (Raises e) event ts (inr (inr (ended, other, is))) = absurd (other e refl)
-  ends_exit env Cut event ts (inl (cut, is)) = is
-  ends_exit env Cut event ts (inr (inl (e, same, is))) = absurd (cc same)
-  ends_exit env Cut event ts (inr (inr (ended, other, is))) = absurd (ended refl)
-
-pub exit_goes_on : ExitGoesOn
-exit_goes_on scene line a x s env h event ts m v manager i rest body whole is has run ends =
-    gives (λ K. Loads scene line env h a event ts K) m is.loaded is.behind_atom (loads_give scene line env h a event ts _ is.loads)
-    (Use env (At whole) (λ m i mid. Requests scene line (request.Enter m) h i mid (Use env (At whole) (λ v j left. Manages scene line m x v (RunsSuite scene s) env h j left (At whole)))))
-    (gives (λ K. Requests scene line (request.Enter m) h is.loaded is.behind_atom K) v i rest (requests_give scene line (request.Enter m) h is.loaded is.behind_atom _ is.enters)
-    (Use env (At whole) (λ v j left. Manages scene line m x v (RunsSuite scene s) env h j left (At whole)))
-    (inr (
-      payload.Manager manager,
-      has,
-      follows (RunsSuite scene s) (suite_ends scene s) (bind x v env) h i rest body (On_exit scene line m h (At whole)) run
-          (ends_exit scene line m h whole body.env body.outcome body.event body.left ends),
-    )))

@@ -6,3 +6,4 @@ mod WorkedGeneratorLemmas
 mod WorkedManagerLemmas
 mod Reaching
 mod EndingLemmas
+mod ManagerLemmas

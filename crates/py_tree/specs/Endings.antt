@@ -2,20 +2,21 @@
 -- withs.
 use Rattle.std.specs.Prelude.{ℕ, Bool, true, false, Option, Some, None, List, [], ◌∷◌, ◌≡◌, ◌≢◌, ◌⊎◌}
 use Rattle.py_objects.specs.declared.refs.PyBaseExceptionRef.{PyBaseExceptionRef}
+use Rattle.py_objects.specs.declared.payload.Payload.{Payload}
 use Rattle.py_objects.specs.declared.payload.Payload.TheVariants as payload
 use Rattle.py_objects.specs.declared.payload.ManagerBody.{ManagerBody}
 use Rattle.py_objects.specs.declared.request.Request.TheVariants as request
 use Rattle.py_objects.specs.declared.event.ResumeHow.TheVariants as how
 use Rattle.py_objects.specs.Objects.{Obj, HasPayload, as_object}
 use Rattle.py_objects.specs.Own.{Own, Resumes}
-use Rattle.py_objects.specs.Telling.{Given, AfterValue}
+use Rattle.py_objects.specs.Telling.{Given, Failed, Stopped, AfterValue}
 use Rattle.py_tree.specs.declared.expr.Atom.{Atom}
 use Rattle.py_tree.specs.declared.expr.Atom.TheVariants as atom
 use Rattle.py_tree.specs.Tree.{Name, Form, TryExcept, TryFinally, With as WithForm, Suite, first, Clauses, no_more, clause, Tree}
 use Rattle.py_tree.specs.Binding.{Env, find_local, bind, start_env}
 use Rattle.py_tree.specs.Scene.{Scene}
 use Rattle.py_tree.specs.Trace.{EndsBy, IsBegun}
-use Rattle.py_tree.specs.Outcome.{Outcome, Normal, Breaks, Continues, Returns, Raises, Cut, Handled, Runner, Handles, By_truth, Requests, Loads, Leaves, LeavesBy, Runs, RunsSuite, Tries}
+use Rattle.py_tree.specs.Outcome.{Outcome, Normal, Breaks, Continues, Returns, Raises, Cut, Handled, Runner, Handles, By_truth, Requests, Loads, is_manager, Leaves, LeavesBy, Runs, RunsSuite, Tries}
 
 -- a point of a run: the locals, the outcome, the number of the event heard last, and the events that are left
 pub record Point : Type 0 where
@@ -174,21 +175,53 @@ pub record ExitDecides (scene : Scene) (line : ℕ) (m : Obj) (e : PyBaseExcepti
   pub env : whole.env ≡ body.env
   pub outcome : By_truth swallows (whole.outcome ≡ Normal) (whole.outcome ≡ Raises e)
 
--- what a with comes to behind its body, unless a question of its exit is what stops it
+-- what a with comes to behind its body, where no question of its exit stops it
 abbrev pub ExitEnds : Scene → ℕ → Obj → Handled → Point → Point → Type 0
 ExitEnds scene line m h body whole =
     ((body.outcome ≡ Cut) × (whole ≡ body))
     ⊎ (((e : PyBaseExceptionRef) × (body.outcome ≡ Raises e) × ExitDecides scene line m e h body whole)
     ⊎ ((body.outcome ≢ Cut) × ((e : PyBaseExceptionRef) → body.outcome ≢ Raises e) × ExitPasses scene line m h body whole))
 
--- a with comes to what stopped a question in front of its body, or its body runs, with the value bound or dropped, and behind it comes what the
--- exit leads to, or what stopped a question of that
+-- a question stops the whole there: it is cut, or answered by a raise, which is the outcome then
+abbrev pub Stops : Env → Point → AfterValue
+Stops env whole (Given v) event ts = ⊥
+Stops env whole (Failed e) event ts = whole ≡ record { env = env; outcome = Raises e; event = event; left = ts }
+Stops env whole Stopped event ts = whole ≡ record { env = env; outcome = Cut; event = event; left = ts }
+
+-- behind the entry of m nothing more is told, or m is no manager, and the question for its exit stops the with
+abbrev pub LacksExit : Scene → ℕ → Obj → Env → Handled → ℕ → List Own → Point → Type 0
+LacksExit scene line m env h event ts whole =
+    ((ts ≡ []) × (whole ≡ record { env = env; outcome = Cut; event = event; left = [] }))
+    ⊎ ((p : Payload) × HasPayload scene.objects m p × (is_manager p ≡ false) × Requests scene line (request.NoExit m) h event ts (Stops env whole))
+
+-- a with is stopped in front of its body: at the load of its manager, at its entry, or behind that
+abbrev pub EntryStops : Scene → ℕ → Atom → Env → Handled → ℕ → List Own → Point → Type 0
+EntryStops scene line a env h event ts whole =
+    Loads scene line env h a event ts (Stops env whole)
+    ⊎ (((m : Obj) × (i : ℕ) × (mid : List Own) × Loads scene line env h a event ts (Gives m i mid) × Requests scene line (request.Enter m) h i mid (Stops env whole))
+    ⊎ ((m : Obj) × (v : Obj) × (i : ℕ) × (rest : List Own) × IsEntered scene line a m v env h event ts i rest × LacksExit scene line m env h i rest whole))
+
+-- behind the raise of e the exit stops the with, or the test of its answer does
+abbrev pub ExitStopsRaise : Scene → ℕ → Obj → PyBaseExceptionRef → Handled → Point → Point → Type 0
+ExitStopsRaise scene line m e h body whole =
+    LeavesBy scene line m e body.event body.left (Stops body.env whole)
+    ⊎ ((w : Obj) × (i : ℕ) × (rest : List Own) × LeavesBy scene line m e body.event body.left (Gives w i rest) × Requests scene line (request.Truth w) h i rest (Stops body.env whole))
+
+-- behind its body a with is stopped at the exit
+abbrev pub ExitStops : Scene → ℕ → Obj → Handled → Point → Point → Type 0
+ExitStops scene line m h body whole =
+    ((e : PyBaseExceptionRef) × (body.outcome ≡ Raises e) × ExitStopsRaise scene line m e h body whole)
+    ⊎ ((body.outcome ≢ Cut) × ((e : PyBaseExceptionRef) → body.outcome ≢ Raises e) × Leaves scene line m h body.event body.left (Stops body.env whole))
+
+-- a with is stopped in front of its body, or its body runs, with the value bound or dropped, and behind it the exit is asked, and stops the with
+-- or ends it
 abbrev pub ExitIsAsked : Type 0
 ExitIsAsked = (scene : Scene) (line : ℕ) (a : Atom) (x : Option Name) (s : Suite) (env : Env) (h : Handled) (event : ℕ) (ts : List Own) (whole : Point)
     → Reaches (Runs scene line (WithForm a x s)) env h event ts whole
-    → IsStopped env whole
+    → EntryStops scene line a env h event ts whole
     ⊎ ((m : Obj) × (v : Obj) × (i : ℕ) × (rest : List Own) × IsEntered scene line a m v env h event ts i rest
-    × ((body : Point) × Reaches (RunsSuite scene s) (bind x v env) h i rest body × (IsStopped body.env whole ⊎ ExitEnds scene line m h body whole)))
+    × ((p : Payload) × HasPayload scene.objects m p × (is_manager p ≡ true))
+    × ((body : Point) × Reaches (RunsSuite scene s) (bind x v env) h i rest body × (ExitStops scene line m h body whole ⊎ ExitEnds scene line m h body whole)))
 
 -- and wherever its body may end behind the entry of a manager, and the exit be answered, the with does
 abbrev pub ExitGoesOn : Type 0

@@ -1,5 +1,5 @@
 -- Small trees with managers: what their exits are asked, and what goes on behind them.
-use Rattle.std.specs.Prelude.{ℕ, Some, None, List, [], ◌∷◌, true, codes, eqb}
+use Rattle.std.specs.Prelude.{ℕ, Some, None, List, [], ◌∷◌, true, false, codes, eqb}
 use Rattle.py_objects.specs.declared.refs.PyBaseExceptionRef.{PyBaseExceptionRef}
 use Rattle.py_objects.specs.declared.payload.Payload.TheVariants as payload
 use Rattle.py_objects.specs.declared.payload.ManagerBody.{ManagerBody}
@@ -8,10 +8,10 @@ use Rattle.py_objects.specs.declared.request.Request.TheVariants as request
 use Rattle.py_objects.specs.declared.event.ResumeHow.TheVariants as how
 use Rattle.py_objects.specs.declared.event.GotAnswer.TheVariants as got
 use Rattle.py_objects.specs.declared.event.Ending.TheVariants as ending
-use Rattle.py_objects.specs.Objects.{Obj, as_object, class_object}
+use Rattle.py_objects.specs.Objects.{Obj, HasPayload, as_object, class_object}
 use Rattle.py_objects.specs.Own.{Own, Makes, Resumes, Asks, Gets, Ends}
 use Rattle.py_tree.specs.declared.expr.Atom.TheVariants as atom
-use Rattle.py_tree.specs.Tree.{Name, Return, Show, With, nothing, first, Tree}
+use Rattle.py_tree.specs.Tree.{Name, Return, Reraise, Show, With, nothing, first, Tree}
 use Rattle.py_tree.specs.Scene.{Scene}
 use Rattle.py_tree.specs.Trace.{IsTrace}
 use Rattle.py_tree.specs.Worked.{function}
@@ -73,3 +73,30 @@ NoExitSkipped = (scene : Scene) (k a b at : ℕ) (m v w : Obj) → IsTrace scene
 abbrev pub NoReturnSwallowed : Type 0
 NoReturnSwallowed = (scene : Scene) (k a b c at : ℕ) (m v r s t w : Obj)
     → IsTrace scene returns_in_with [] (entered_events k a b scene.globals m v (Asks c (request.Exit m r s t) None ∷ Gets 5 (got.Value w) ∷ Asks at (request.Truth w) None ∷ [])) → ⊥
+
+-- ---- what a raise comes to
+
+-- with M / reraise / end
+abbrev pub raises_in_with : Tree
+raises_in_with = function (first 2 (With (atom.Name m_name) None (first 3 Reraise nothing)) nothing)
+
+-- what it tells up to where its body raises
+abbrev pub raised_events : ℕ → ℕ → ℕ → ℕ → Obj → Obj → Obj → PyBaseExceptionRef → List Own → List Own
+raised_events k a b c globals m v e behind = entered_events k a b globals m v (Asks c request.Handled None ∷ Gets 5 (got.Raise e) ∷ behind)
+
+-- it doesn't end by the raise before the exit was asked
+abbrev pub NoExitSkippedByRaise : Type 0
+NoExitSkippedByRaise = (scene : Scene) (k a b c at : ℕ) (m v : Obj) (e : PyBaseExceptionRef)
+    → IsTrace scene raises_in_with [] (raised_events k a b c scene.globals m v e (Ends at (ending.Raise e) ∷ [])) → ⊥
+
+-- the exit isn't asked as if nothing were handled
+abbrev pub NoExitUnhandled : Type 0
+NoExitUnhandled = (scene : Scene) (k a b c at : ℕ) (m v r s t : Obj) (e : PyBaseExceptionRef)
+    → IsTrace scene raises_in_with [] (raised_events k a b c scene.globals m v e (Asks at (request.Exit m r s t) None ∷ [])) → ⊥
+
+-- and where its answer isn't true, the function doesn't return
+abbrev pub NoRaiseSwallowed : Type 0
+NoRaiseSwallowed = (scene : Scene) (k a b c d f at : ℕ) (m v r s t w u z : Obj) (e : PyBaseExceptionRef) → HasPayload scene.objects u (payload.Bool false)
+    → IsTrace scene raises_in_with []
+    (raised_events k a b c scene.globals m v e
+    (Asks d (request.Exit m r s t) (Some e) ∷ Gets 6 (got.Value w) ∷ Asks f (request.Truth w) None ∷ Gets 7 (got.Value u) ∷ Ends at (ending.Return z) ∷ [])) → ⊥

@@ -3,7 +3,7 @@
 ghost use Rattle.py_tree.specs.Worked.{HandledIsTrace, LeftIsTrace, NoExceptionLetOut, NoExceptionStays, NoFinallyBrokenOutOf, NoFinallySkipped, ReturnedIsTrace, ShownIsTrace};
 ghost use Rattle.py_tree.specs.WorkedGenerators.{NoClauseBeforeStart, NoOtherYielded, NoThrowIntoFunction, NoneGoesOnAlone, ThrownInIsTrace, YieldedIsTrace};
 ghost use Rattle.py_tree.specs.WorkedHandlers.{FinallyHandles, NameIsForgotten, NoClauseRaises, NoFinallyForgets, RaisedAgain};
-ghost use Rattle.py_tree.specs.WorkedManagers.{LeftByReturnIsTrace, NoExitSkipped, NoReturnSwallowed, SwallowedIsTrace};
+ghost use Rattle.py_tree.specs.WorkedManagers.{LeftByReturnIsTrace, NoExitSkipped, NoExitSkippedByRaise, NoExitUnhandled, NoRaiseSwallowed, NoReturnSwallowed, SwallowedIsTrace};
 
 /// States what small trees may not tell, and what they may in place of it, and does nothing.
 pub fn worked_trees()
@@ -37,10 +37,14 @@ pub fn worked_yields()
 {}
 
 /// States what the exits of managers are asked in small trees, that one may swallow a raise, and that none is left out behind a
-/// return or swallows it, and does nothing.
+/// return or swallows it, and does nothing. Nor is one left out behind a raise, or asked as if nothing were handled, and a raise goes on
+/// where the answer isn't true.
 pub fn worked_managers()
     ensures swallowed { SwallowedIsTrace }
     ensures left { LeftByReturnIsTrace }
     ensures no_exit_skipped { NoExitSkipped }
     ensures no_return_swallowed { NoReturnSwallowed }
+    ensures no_exit_skipped_by_raise { NoExitSkippedByRaise }
+    ensures no_exit_unhandled { NoExitUnhandled }
+    ensures no_raise_swallowed { NoRaiseSwallowed }
 {}

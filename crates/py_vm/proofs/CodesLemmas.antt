@@ -1,5 +1,5 @@
 -- Codes of units that ask only what the machine answers.
-use Rattle.std.proofs.Common.{◌≡◌, ◌≢◌, ℕ, true, false, refl}
+use Rattle.std.proofs.Common.{◌≡◌, ◌≢◌, ℕ, true, refl}
 use Rattle.std.specs.Prelude.{Bool, Option, Some, slice_get}
 use Rattle.py_code.specs.declared.code.PyCode.{PyCode}
 use Rattle.py_code.specs.declared.instruction.Instruction.{Instruction}

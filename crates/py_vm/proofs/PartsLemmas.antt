@@ -63,13 +63,11 @@ use Rattle.py_vm.specs.Turns.{
   setting_at,
   AnsweredOne,
   AreReady,
-  AsksAt,
   CanFinish,
   CanTell,
   Comes_on,
   CreatedOne,
   Finished,
-  FirstAsks,
   Halts,
   HasOwnSlot,
   HoldsIn,
@@ -93,7 +91,6 @@ use Rattle.py_vm.specs.Turns.{
   WentOn,
 }
 use Rattle.py_vm.specs.Raises.{raise_at, AreThere}
-use Rattle.py_vm.specs.Stands.{IsQuestion}
 use Rattle.py_vm.proofs.JournalLemmas.{below_behind, readable_on}
 use Rattle.py_vm.proofs.KeptLemmas.{kept_changed}
 use Rattle.py_vm.proofs.RaisedLemmas.{there_grown, traced_grows, traced_same}
@@ -384,10 +381,6 @@ pub went_on_at : (m : Core) (s : Stage) (r : Running) (m' : Core) → WentOn (re
 went_on_at m s r m' (store, grown, x, f, told, stepped) =
     (store, grown, x, f, told, stepped_at (record m { store = store; slots = slice_set m.slots 0 f.state.slot }) s (record r { frame = f }) x m' stepped)
 
--- the innermost of those that wait asked something
-pub asks_there : (m : Core) (h : Halted) → IsQuestion m.store.made m.events h.place → AsksAt m.events h.place
-asks_there m h q = (q.act, q.request, q.own, q.at, q.entry)
-
 -- ---- what comes behind a machine that settled, or made a generator
 
 -- it still can reply
@@ -407,11 +400,6 @@ module _ (m n : Core) (g : Obj) (s : Suspended) (how : CoroEnd) (w : MadeReply) 
       let (store, list, (x, here, body, has, a, finishes, grown, changes, replied), same) = settles in
       still_replies m store list n same grown done classes
 
-  pub settled_asks : (first : FirstAsks m.codes m.events m.callers) → FirstAsks n.codes n.events n.callers
-  settled_asks first =
-      let (store, list, (x, here, body, has, a, finishes, grown, changes, replied), same) = settles in
-      subst (λ (y : Core). FirstAsks y.codes y.events y.callers) (sym same) first
-
   pub settled_halts : Halts m n
   settled_halts =
       let (store, list, (x, here, body, has, a, finishes, grown, changes, replied), same) = settles in
@@ -424,9 +412,6 @@ module _ (m n : Core) (r : Running) (f : Obj) (kind : CoroKind) (g : Obj) (creat
 
   pub created_replies : m.done ≤ length m.events → HaveClasses m.zoo m.store.made → (n.done ≤ length n.events) × HaveClasses n.zoo n.store.made
   created_replies done classes = let (x, store, created, is, same) = creates in still_replies m store (m.generators ++ x ∷ []) n same (created_grown store x created) done classes
-
-  pub created_asks : FirstAsks m.codes m.events m.callers → FirstAsks n.codes n.events n.callers
-  created_asks first = let (x, store, created, is, same) = creates in subst (λ (y : Core). FirstAsks y.codes y.events y.callers) (sym same) first
 
   pub created_halts : Halts m n
   created_halts = let (x, store, created, is, same) = creates in still_halts m store (m.generators ++ x ∷ []) n same (created_grown store x created)

@@ -1,5 +1,5 @@
 -- The raises of a machine: those among its events, also behind one more.
-use Rattle.std.proofs.Common.{◌≡◌, ◌≢◌, ◌++◌, ℕ, List, [], ◌∷◌, Bool, true, false, cond, eqb, Some, inl, inr, refl, sym, ap, subst, ◌∙◌, length, ne_eqb, eq-eqb, arith, ◌⊎◌}
+use Rattle.std.proofs.Common.{◌≡◌, ◌≢◌, ◌++◌, ℕ, List, [], ◌∷◌, Bool, true, false, cond, eqb, Some, inl, inr, refl, sym, ap, subst, ◌∙◌, ne_eqb, eq-eqb, arith, ◌⊎◌}
 use Rattle.std.specs.Prelude.{Option, None, nat_eq, option_map}
 use Rattle.std.proofs.lemmas.Bool.Decides.{eqb_tells}
 use Rattle.indexmap.specs.IndexMap.{insert_entry}

@@ -1,5 +1,5 @@
 -- What the running activation's frame asks is told, and it goes on by its step.
-use Rattle.std.proofs.Common.{◌≡◌, ◌-◌, ◌++◌, ◌<◌, ℕ, List, [], ◌∷◌, true, Some, inl, inr, refl, sym, ap, subst, ◌∙◌, ◌⊎◌, length, arith}
+use Rattle.std.proofs.Common.{◌≡◌, ◌-◌, ◌++◌, ◌<◌, ℕ, List, [], ◌∷◌, true, Some, inl, inr, refl, sym, subst, ◌∙◌, ◌⊎◌, length, arith}
 use Rattle.std.specs.Prelude.{Option, None, slice_get, slice_set}
 use Rattle.std.proofs.lemmas.Option.{slice_get_within}
 use Rattle.py_code.specs.declared.unit.CodeUnit.{CodeUnit}

@@ -30,6 +30,7 @@ pub record IsRaiseThere (objects : List Payload) (e : Obj) (x : KeptRaise) : Typ
   pub frame : IsFrame objects x.frame
   pub traceback : IfThere (IsTraceback objects) x.traceback
 
+-- the same of all of them
 abbrev pub AreThere : List Payload → Raises → Type 0
 AreThere objects list = (e : Obj) (x : KeptRaise) → raise_at list e ≡ Some x → IsRaiseThere objects e x
 

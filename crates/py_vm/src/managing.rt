@@ -1,6 +1,6 @@
 //! What the entries of managers and exits come to (Python Language Reference, 8.5): calls of their functions.
 
-ghost use Rattle.std.specs.Prelude.{◌≡◌, ◌∷◌, [], List, IfOk};
+ghost use Rattle.std.specs.Prelude.{List, IfOk};
 ghost use Rattle.py_objects.specs.Growth.{IsGrown};
 ghost use Rattle.py_exceptions.specs.Classes.{HaveClasses};
 ghost use Rattle.py_answers.specs.Readable.{IsReadable};
@@ -63,20 +63,4 @@ pub(crate) fn exited(
         _ => exit,
     };
     called(alloc, store, zoo, codes, function, told, at)
-}
-
-/// What an exit is told, as the arguments of a call.
-pub(crate) fn told(
-    alloc: Global,
-    class: PyObjectRef,
-    exception: PyObjectRef,
-    traceback: PyObjectRef,
-) -> Result<ObjList, NoMemory>
-    ensures { IfOk result (λ told. told ≡ class ∷ exception ∷ traceback ∷ []) }
-{
-    let mut told = ObjList::new(alloc);
-    told.push(class)?;
-    told.push(exception)?;
-    told.push(traceback)?;
-    Ok(told)
 }

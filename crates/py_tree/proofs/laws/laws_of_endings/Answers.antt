@@ -1,4 +1,5 @@
-use Rattle.py_tree.proofs.EndingLemmas.{finally_passes_on, cut_stays_cut, finally_is_run, name_is_unset, clause_ends_as_suite, suite_ends_clause, clauses_run_on_raise, first_clause_decides, no_clause_raises, exit_goes_on, exit_is_asked, traces_come_to_points, statements_go_on}
+use Rattle.py_tree.proofs.EndingLemmas.{finally_passes_on, cut_stays_cut, finally_is_run, name_is_unset, clause_ends_as_suite, suite_ends_clause, clauses_run_on_raise, first_clause_decides, no_clause_raises, traces_come_to_points, statements_go_on}
+use Rattle.py_tree.proofs.ManagerLemmas.{exit_is_asked, exit_goes_on}
 use Rattle.py_tree.proofs.laws.laws_of_endings.Goals as goal
 
 pub returns : goal.returns

@@ -1,0 +1,58 @@
+//! The tracebacks that exits are told, as the journal of a script has them: no script tells two of them apart.
+
+use py_code::NoMemory;
+use py_objects::{Event, Payload, PyObjectRef, Request};
+use py_outside::SourceMemory;
+use py_script::{SinkMemory, run_script};
+use std::alloc::Global;
+use std::test::Fail;
+
+/// Two exits behind the raise of line 9, and one behind that of line 15, out of the call.
+const SCRIPT: &[u8] =
+    b"def e\nend\ndef x t v b\nend\nmanager m e x\ndef r\nwith m\nwith m\nraise KeyError\nend\nend\nend\ndef f\nwith m\ndo (call r)\nend\nend\ncall f\n";
+
+/// What an event tells an exit in the place of a traceback.
+fn told_by(event: &Event) -> Option<PyObjectRef> {
+    let Event::Ask { request, .. } = event else {
+        return None;
+    };
+    let Request::Exit(_, _, _, traceback) = request else {
+        return None;
+    };
+    Some(*traceback)
+}
+
+/// Of each traceback that an exit of the script is told: whether it is the one before, and the line that it names.
+fn tracebacks_told(alloc: Global) -> Result<Vec<(bool, u32)>, NoMemory> {
+    let mut bytes = Vec::new(alloc);
+    for byte in SCRIPT {
+        bytes.push(*byte)?;
+    }
+    let mut source = SourceMemory::new(bytes, Vec::new(alloc), 1000);
+    let mut sink = SinkMemory::new(alloc, Vec::new(alloc), 1000, 1000)?;
+    let Ok(journal) = run_script(alloc, &mut source, &mut sink, 1000) else {
+        return Err(NoMemory);
+    };
+    let mut told = Vec::new(alloc);
+    let mut last = None;
+    for event in journal.events.as_slice() {
+        let Some(traceback) = told_by(event) else {
+            continue;
+        };
+        if let Some(Payload::Traceback(body)) = journal.objects.get(traceback.number as usize) {
+            told.push((last == Some(traceback), body.lineno))?;
+        }
+        last = Some(traceback);
+    }
+    Ok(told)
+}
+
+#[test]
+fn exits_behind_one_raise_are_told_one_traceback_of_its_line(rt: HostRuntime) -> Result<(), Fail> {
+    let told = tracebacks_told(rt.alloc())?;
+    assert_eq!(rt;
+        told.as_slice(),
+        [(false, 9), (true, 9), (false, 15)].as_slice()
+    );
+    Ok(())
+}
