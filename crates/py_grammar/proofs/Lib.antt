@@ -14,7 +14,9 @@ mod Begun
 -- what every script keeps
 mod Short
 mod Keeps
+-- the text of a script
+mod Texts
 -- which verdict lines come to
 mod Walks
-mod Verdicts
+pub mod Verdicts
 mod WorkedLemmas

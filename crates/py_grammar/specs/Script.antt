@@ -1,7 +1,6 @@
 -- Which bytes are a script, and which line of them is the bad one.
 use Rattle.std.specs.Prelude.{◌≡◌, ◌⊎◌, ℕ, suc, List, [], ◌∷◌, ◌++◌, length, Option, Some, None, option_map, map}
 use Rattle.std.specs.List.{AllZip}
-use Rattle.py_tree.specs.Tree.{Tree}
 use Rattle.py_tree.specs.Views.{tree_of}
 use Rattle.py_lines.specs.declared.drive.DriveLine.{DriveLine}
 use Rattle.py_lines.specs.declared.line.LineRead.{LineRead}
@@ -10,7 +9,7 @@ use Rattle.py_lines.specs.Reading.{IsReadAs}
 use Rattle.py_grammar.specs.declared.script.Declaration.{Declaration}
 use Rattle.py_grammar.specs.declared.script.Declaration.TheVariants.{Class, Manager, Function}
 use Rattle.py_grammar.specs.declared.script.Script.{Script}
-use Rattle.py_grammar.specs.Grammar.{Row, row, Decl, ClassDecl, ManagerDecl, FunctionDecl, functions_in, Item, items_rows, decls_in, drives_in, WellItems}
+use Rattle.py_grammar.specs.Grammar.{Row, row, Decl, ClassDecl, ManagerDecl, FunctionDecl, Item, items_rows, decls_in, drives_in, WellItems}
 use Rattle.py_grammar.specs.Lines.{lines}
 
 -- a declaration, as plain data
@@ -22,10 +21,6 @@ decl_of (Function b) = FunctionDecl (tree_of b)
 -- what a script declares
 abbrev pub decls_of : Script → List Decl
 decls_of s = map decl_of s.declarations
-
--- its functions
-abbrev pub trees_of : Script → List Tree
-trees_of s = functions_in (decls_of s)
 
 -- a text by its lines
 abbrev pub Text : Type 0

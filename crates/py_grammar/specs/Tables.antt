@@ -2,7 +2,7 @@
 use Rattle.std.specs.Prelude.{ℕ, Option, Some, None, List, [], ◌∷◌, ◌++◌, ◌&&◌, ◌||◌, not, nat_le, length, Bool, true, map}
 use Rattle.std.specs.List.{list_all}
 use Rattle.py_code.specs.Names.{interned}
-use Rattle.py_tree.specs.Tree.{Name, Tree}
+use Rattle.py_tree.specs.Tree.{Name}
 use Rattle.py_lines.specs.declared.drive.DriveAtom.{DriveAtom}
 use Rattle.py_lines.specs.declared.drive.DriveAtom.TheVariants as argument
 use Rattle.py_lines.specs.declared.drive.DriveLine.{DriveLine}
@@ -26,6 +26,7 @@ names_of ds = map decl_name ds
 abbrev pub function_names : List Decl → List Name
 function_names ds = map (λ t. t.name) (functions_in ds)
 
+-- those of the classes
 abbrev pub class_names : List Decl → List Name
 class_names [] = []
 class_names (ClassDecl c b ∷ ds) = c ∷ class_names ds
@@ -41,6 +42,7 @@ table_of ds (Some o) = record { names = names_of ds ++ o.name ∷ []; functions 
 abbrev pub with_function_name : Table → Name → Table
 with_function_name t f = record { names = interned t.names f; functions = interned t.functions f; classes = t.classes }
 
+-- with the name of a class, or of a manager
 abbrev pub with_class_name : Table → Name → Table
 with_class_name t c = record { names = interned t.names c; functions = t.functions; classes = interned t.classes c }
 

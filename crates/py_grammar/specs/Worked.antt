@@ -1,13 +1,13 @@
 -- Small scripts and rules, worked by hand.
-use Rattle.std.specs.Prelude.{◌≡◌, List, [], ◌∷◌, Some, None, true, false, codes}
+use Rattle.std.specs.Prelude.{◌≡◌, List, [], ◌∷◌, Some, None, false, codes}
 use Rattle.py_tree.specs.declared.body.BodyKind.TheVariants as body
 use Rattle.py_tree.specs.declared.expr.Atom.TheVariants as atom
-use Rattle.py_tree.specs.Tree.{Name, With, nothing, first}
+use Rattle.py_tree.specs.Tree.{With, nothing, first}
 use Rattle.py_lines.specs.declared.drive.DriveAtom.TheVariants as argument
 use Rattle.py_lines.specs.declared.drive.DriveLine.{DriveLine}
 use Rattle.py_lines.specs.declared.drive.DriveLine.TheVariants as drive
 use Rattle.py_grammar.specs.Grammar.{Decl, ClassDecl, ManagerDecl, FunctionDecl, declared_as}
-use Rattle.py_grammar.specs.Rules.{Declared, may_derive, may_manage, may_declare, may_drive}
+use Rattle.py_grammar.specs.Rules.{Declared, may_derive, may_manage, may_drive}
 use Rattle.py_grammar.specs.Script.{Text, Spells}
 
 -- a class, a function, a manager that is entered and left by it, and a generator with a `with`

@@ -1,6 +1,7 @@
 //! Bytes to scripts.
 
-ghost use Rattle.std.specs.Prelude.{◌≡◌, ◌≤◌, ◌⊎◌, IfOk, IsOk, Err, length, ℕ, List, option_map};
+ghost use Rattle.std.specs.Prelude.{◌≡◌, ◌≤◌, ◌⊎◌, IfOk, IsOk, Err, length, ℕ, List, option_map, encode_utf8_all};
+ghost use Rattle.std.specs.Str.{IsUtf8};
 ghost use Rattle.py_lines.specs.declared.drive.DriveLine.{DriveLine};
 ghost use Rattle.py_lines.specs.declared.line.LineRead.{LineRead as Read};
 ghost use Rattle.py_lines.specs.Reading.{IsReadAs};
@@ -17,7 +18,7 @@ use crate::fault::ParseFault;
 use crate::lines::first_line;
 use crate::reader::Reader;
 use crate::script::Script;
-use py_code::NoMemory;
+use py_code::{NoMemory, PyText, text_of_str};
 use py_lines::{LineRead, laws_of_lines, read_line};
 use std::alloc::Global;
 
@@ -56,11 +57,35 @@ fn read_lines(alloc: Global, bytes: &[u8]) -> Result<Script, ParseFault>
     reader.finish(number)
 }
 
-/// The script that bytes are, or the line that makes them none.
-#[tactic(auto, using(crate::proofs::Verdicts::answer_ok, crate::proofs::Verdicts::answer_well_formed, crate::proofs::Verdicts::answer_malformed))]
+/// The script that bytes are, without its text, or the line that makes them none.
+#[tactic(auto, using(crate::proofs::Verdicts::answer_ok, crate::proofs::Verdicts::answer_malformed))]
+fn parse_lines(alloc: Global, bytes: &[u8]) -> Result<Script, ParseFault>
+    requires { length bytes.now ≤ 1048576 }
+    ensures ok { IfOk result (λ script. IsScript bytes.now script) }
+    ensures malformed { (k : ℕ) → result ≡ Err (Malformed k) → IsBadLine bytes.now k }
+    ensures only_scripts { (script : ScriptOf) → IsScript bytes.now script → (result ≡ Err OutOfMemory) ⊎ IsOk result }
+    ensures bad { (k : ℕ) → IsBadLine bytes.now k → (result ≡ Err OutOfMemory) ⊎ (result ≡ Err (Malformed k)) }
+{
+    read_lines(alloc, bytes)
+}
+
+/// The characters of bytes.
+fn characters(alloc: Global, bytes: &[u8]) -> Result<PyText, NoMemory>
+    requires { IsUtf8 bytes.now }
+    ensures { IfOk result (λ text. encode_utf8_all text ≡ bytes.now) }
+{
+    let Ok(text) = str::from_utf8(bytes) else {
+        unreachable!();
+    };
+    let text = text_of_str(alloc, text)?;
+    Ok(text)
+}
+
+/// The script that bytes are, with their characters, or the line that makes them none.
 pub fn parse_script(alloc: Global, bytes: &[u8]) -> Result<Script, ParseFault>
     requires { length bytes.now ≤ 1048576 }
     ensures ok { IfOk result (λ script. IsScript bytes.now script) }
+    ensures text { IfOk result (λ script. encode_utf8_all script.text ≡ bytes.now) }
     ensures well_formed { IfOk result (λ script. IsWellFormed script) }
     ensures malformed { (k : ℕ) → result ≡ Err (Malformed k) → IsBadLine bytes.now k }
 
@@ -68,7 +93,10 @@ pub fn parse_script(alloc: Global, bytes: &[u8]) -> Result<Script, ParseFault>
     ensures only_scripts { (script : ScriptOf) → IsScript bytes.now script → (result ≡ Err OutOfMemory) ⊎ IsOk result }
     ensures bad { (k : ℕ) → IsBadLine bytes.now k → (result ≡ Err OutOfMemory) ⊎ (result ≡ Err (Malformed k)) }
 {
-    read_lines(alloc, bytes)
+    let mut script = parse_lines(alloc, bytes)?;
+    laws_of_lines();
+    script.text = characters(alloc, bytes)?;
+    Ok(script)
 }
 
 /// What the grammar keeps: bytes are one script or have one bad line, never both.

@@ -3,7 +3,7 @@
 ghost use Rattle.std.specs.Prelude.{◌≡◌, ◌++◌, ◌∷◌, IfOk, Some, None, [], option_map, true};
 ghost use Rattle.py_tree.specs.Views.{tree_of};
 ghost use Rattle.py_lines.specs.declared.header.Header.TheVariants.{Class as ClassHeader, Def as DefHeader, Manager as ManagerHeader};
-ghost use Rattle.py_lines.specs.declared.line.Line.TheVariants.{Header as HeaderLine, Drive as DrivenLine};
+ghost use Rattle.py_lines.specs.declared.line.Line.TheVariants.{Drive as DrivenLine};
 ghost use Rattle.py_grammar.specs.Script.{decls_of};
 ghost use Rattle.py_grammar.specs.Grammar.{ClassDecl, FunctionDecl, ManagerDecl};
 ghost use Rattle.py_grammar.specs.Reader.{accept, closed, closes, headed, in_body, opened, outside, start, state};
@@ -54,6 +54,7 @@ impl Reader {
     {
         Reader {
             whole: Script {
+                text: PyText::new(alloc),
                 declarations: DeclList::new(alloc),
                 drives: DriveList::new(alloc),
             },

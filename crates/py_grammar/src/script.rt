@@ -49,9 +49,10 @@ pub type DeclList = ItemList<Declaration>;
 /// Drives in order.
 pub type DriveList = ItemList<DriveLine>;
 
-/// A script.
+/// A script, with the characters that it was read of.
 #[derive(Debug, Drop)]
 pub struct Script {
+    pub text: PyText,
     pub declarations: DeclList,
     pub drives: DriveList,
 }

@@ -13,4 +13,5 @@ mod Classes
 mod OneToOne
 mod Totals
 pub mod Readings
+mod Utf8
 mod WorkedLemmas

@@ -1,8 +1,10 @@
 -- What holds of every line.
-use Rattle.std.specs.Prelude.{◌≡◌, ℕ, List, Some}
+use Rattle.std.specs.Prelude.{◌≡◌, ◌≢◌, ℕ, List, Some}
+use Rattle.std.specs.Str.{IsUtf8}
 use Rattle.py_lines.specs.declared.keyword.Keyword.{Keyword}
 use Rattle.py_lines.specs.declared.line.Line.{Line}
 use Rattle.py_lines.specs.declared.line.LineRead.{LineRead}
+use Rattle.py_lines.specs.declared.line.LineRead.TheVariants.{Malformed}
 use Rattle.py_lines.specs.Keywords.{keyword_of, keyword_text}
 use Rattle.py_lines.specs.Printing.{line_tokens}
 use Rattle.py_lines.specs.Reading.{IsReadAs}
@@ -22,3 +24,7 @@ ReadsOneWay = (bytes : List ℕ) (r s : LineRead) → IsReadAs bytes r → IsRea
 -- all bytes read in one
 abbrev pub ReadsSomeWay : Type 0
 ReadsSomeWay = (bytes : List ℕ) → (r : LineRead) × IsReadAs bytes r
+
+-- what reads well is UTF-8
+abbrev pub ReadsText : Type 0
+ReadsText = (bytes : List ℕ) (r : LineRead) → IsReadAs bytes r → r ≢ Malformed → IsUtf8 bytes

@@ -1,6 +1,7 @@
 use Rattle.py_lines.proofs.OneToOne.{same_line}
 use Rattle.py_lines.proofs.Readings.{one_way, some_way}
 use Rattle.py_lines.proofs.Totals.{read_back}
+use Rattle.py_lines.proofs.Utf8.{line_is_utf8}
 use Rattle.py_lines.proofs.laws.laws_of_lines.Goals as goal
 
 pub returns-clause-keywords : goal.returns-clause-keywords
@@ -14,3 +15,6 @@ returns-clause-one_way c = one_way
 
 pub returns-clause-some_way : goal.returns-clause-some_way
 returns-clause-some_way c = some_way
+
+pub returns-clause-text : goal.returns-clause-text
+returns-clause-text c = line_is_utf8
