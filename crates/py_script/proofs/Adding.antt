@@ -1,5 +1,5 @@
 -- One declaration more of a list that is gone through in order.
-use Rattle.std.proofs.Common.{◌≡◌, ◌<◌, ◌≤◌, ◌+◌, ℕ, List, [], ◌∷◌, ◌++◌, length, take, drop, get_or, Some, None, refl, sym, ap, ◌∙◌, subst, arith, length-append, append-nil, take-append-drop}
+use Rattle.std.proofs.Common.{◌≡◌, ◌<◌, ◌≤◌, ◌+◌, ℕ, List, [], ◌∷◌, ◌++◌, length, take, drop, get_or, Some, None, refl, sym, ap, ◌∙◌, subst, arith, length-append, take-append-drop}
 use Rattle.std.specs.Prelude.{map, slice_get}
 use Rattle.std.proofs.lemmas.List.{map-append, length-map, length-take-le, take-append-le, take_all}
 use Rattle.py_objects.specs.declared.payload.Payload.{Payload}
@@ -7,8 +7,6 @@ use Rattle.py_objects.specs.declared.payload.Payload.TheVariants as payload
 use Rattle.py_objects.specs.Objects.{declared}
 use Rattle.py_objects.proofs.GrowthLemmas.{slice_get_grown}
 use Rattle.py_tree.specs.declared.body.Body.{Body}
-use Rattle.py_tree.specs.Tree.{Tree}
-use Rattle.py_tree.specs.Views.{tree_of}
 use Rattle.py_grammar.specs.declared.script.Declaration.{Declaration}
 use Rattle.py_grammar.specs.declared.script.Declaration.TheVariants.{Class, Manager, Function}
 use Rattle.py_grammar.specs.Grammar.{Decl, decl_name, functions_in}

@@ -1,5 +1,5 @@
 -- What the lines of drives ask, where a session has made their objects.
-use Rattle.std.proofs.Common.{◌≡◌, ◌<◌, ℕ, List, Some, None, length, refl, sym, subst, ◌∙◌, arith}
+use Rattle.std.proofs.Common.{◌≡◌, ◌<◌, ℕ, List, Some, None, length, refl, sym, ap, subst, ◌∙◌, arith}
 use Rattle.std.specs.Prelude.{Option}
 use Rattle.py_objects.specs.declared.request.Keywords.TheVariants as keywords
 use Rattle.py_objects.specs.declared.request.Request.{Request}
@@ -12,9 +12,14 @@ use Rattle.py_lines.specs.declared.drive.DriveLine.{DriveLine}
 use Rattle.py_lines.specs.declared.drive.DriveLine.TheVariants as drive
 use Rattle.py_vm.specs.Machine.{Machine}
 use Rattle.py_script.specs.Whole.{AsksThis, IsLeftBy, IsOf, IsThrown, AreOf}
+use Rattle.py_script.specs.Held.{Held}
 use Rattle.py_script.specs.Session.{OnlyGrew}
 use Rattle.py_script.proofs.Objects.{left_by_grows}
 use Rattle.py_script.proofs.Driven.{same_events, same_events_of}
+
+-- what is seen of a session is in its machine
+pub named_in : {h g : Held} → h ≡ g → (x : Name) (v : Obj) → declared h.vm.objects x ≡ Some v → declared g.vm.objects x ≡ Some v
+named_in same x v is = ap (λ (k : Held). declared k.vm.objects x) (sym same) ∙ is
 
 module _ (old new : Machine) (grew : OnlyGrew old new) where
   -- a name stands for what it stood for

@@ -1,5 +1,5 @@
 -- How the objects of a script's declarations come to be, one declaration behind the other.
-use Rattle.std.proofs.Common.{◌≡◌, ◌≢◌, ◌<◌, ◌≤◌, ◌+◌, ℕ, zero, suc, List, [], ◌∷◌, ◌++◌, length, take, drop, take-append-drop, Bool, true, false, ◌||◌, Some, None, refl, sym, ap, ◌∙◌, subst, arith, append-nil, ◌⊎◌, inl, inr}
+use Rattle.std.proofs.Common.{◌≡◌, ◌<◌, ◌≤◌, ◌+◌, ℕ, zero, suc, List, [], ◌∷◌, ◌++◌, length, take, drop, take-append-drop, Bool, true, false, ◌||◌, Some, None, refl, sym, ap, ◌∙◌, subst, arith, append-nil, ◌⊎◌, inl, inr}
 use Rattle.std.specs.Prelude.{Option, option_map, slice_get, map, bytes_eq}
 use Rattle.std.specs.List.{list_any}
 use Rattle.std.proofs.lemmas.List.{length-take-le}
@@ -21,7 +21,7 @@ use Rattle.py_exceptions.proofs.ClassesLemmas.{class_grown}
 use Rattle.py_tree.specs.Tree.{Tree}
 use Rattle.py_grammar.specs.Grammar.{Decl, ClassDecl, ManagerDecl, FunctionDecl, decl_name, functions_in}
 use Rattle.py_grammar.specs.Rules.{is_builtin_class}
-use Rattle.py_grammar.specs.WellFormed.{IsFunction, IsFunctionNamed, IsClass, IsClassNamed, IsFounded, IsKnown, IsWellDeclared}
+use Rattle.py_grammar.specs.WellFormed.{IsFunction, IsFunctionNamed, IsClass, IsClassNamed, IsFounded, IsKnown}
 use Rattle.py_vm.specs.Declaring.{IsAddable}
 use Rattle.py_script.specs.Whole.{HasFunction, HasClass, HasManager, IsBuiltinClass, IsDeclaredClass, IsDeclaredManager, AreObjects}
 use Rattle.py_script.specs.Loaded.{AreWellDeclared, IsFoundedOn, IsEntryOf}

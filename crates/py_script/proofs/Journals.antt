@@ -1,5 +1,5 @@
 -- What is said of every journal worked by hand, whose script has one function.
-use Rattle.std.proofs.Common.{◌≡◌, append_assoc, ℕ, zero, suc, ◌+◌, List, [], ◌∷◌, ◌++◌, Some, None, Bool, true, false, cond, ◌&&◌, ◌<◌, ◌≤◌, refl, sym, ap, subst, inl, inr, lit<, lit≤, ◌∙◌, arith, length, eqb, eq-eqb, ne_eqb}
+use Rattle.std.proofs.Common.{◌≡◌, append_assoc, ℕ, zero, suc, ◌+◌, List, [], ◌∷◌, ◌++◌, Some, None, Bool, true, false, ◌&&◌, ◌<◌, ◌≤◌, refl, sym, ap, subst, inl, inr, lit<, lit≤, ◌∙◌, arith, length, eqb, eq-eqb, ne_eqb}
 use Rattle.std.proofs.lemmas.Fmt.{decimal_digit, decimal_step}
 use Rattle.std.proofs.lemmas.Bool.{and_parts, ltb-true}
 use Rattle.std.proofs.lemmas.Str.{encode_ascii}
@@ -24,12 +24,11 @@ use Rattle.py_objects.specs.declared.event.Ending.TheVariants as ending
 use Rattle.py_objects.specs.declared.event.Event.{Event}
 use Rattle.py_objects.specs.declared.event.Event.TheVariants as event
 use Rattle.py_objects.specs.ErrorKinds.{name_of}
-use Rattle.py_objects.specs.Objects.{Obj, Name, HasPayload, as_object, declares, is_name, declared, declared_from, payload_numbers, event_numbers, AllBelow, IsMade, AllFit, AreNamed, IsNew, is_among}
+use Rattle.py_objects.specs.Objects.{Obj, Name, HasPayload, as_object, declares, is_name, declared, payload_numbers, event_numbers, AllBelow, IsMade, AllFit, AreNamed, IsNew, is_among}
 use Rattle.py_objects.specs.Own.{Own, Makes, Resumes, Asks, Gets, Ends, own_events, own_from, told_by}
 use Rattle.py_objects.specs.Telling.{AfterValue, Answered, Answers, Asked}
 use Rattle.py_objects.specs.Values.{new_exception}
-use Rattle.py_objects.proofs.GrowthLemmas.{below_more, declared_grown, length_grown, made_grown, slice_get_split}
-use Rattle.py_objects.proofs.NewLemmas.{declared_within}
+use Rattle.py_objects.proofs.GrowthLemmas.{below_more, length_grown, made_grown, slice_get_split}
 use Rattle.py_exceptions.specs.Classes.{class_of, first_classes}
 use Rattle.py_tree.specs.Tree.{Tree, seen_as}
 use Rattle.py_tree.specs.Scene.{Scene, anywhere}
@@ -39,7 +38,7 @@ use Rattle.py_lines.specs.declared.drive.DriveLine.{DriveLine}
 use Rattle.py_lines.specs.declared.drive.DriveLine.TheVariants as drive
 use Rattle.py_lines.specs.declared.line.LineRead.{LineRead}
 use Rattle.py_lines.specs.declared.line.LineRead.TheVariants.{Said}
-use Rattle.py_grammar.specs.Grammar.{Row, Decl, FunctionDecl, Item, items_rows}
+use Rattle.py_grammar.specs.Grammar.{Row, FunctionDecl, Item, items_rows}
 use Rattle.py_answers.specs.Answers.{This, Reply, Passes, Replies, CallsAs, GivesBody, IsRaised, sum, whole}
 use Rattle.py_coro.specs.declared.coro.CoroEnd.{CoroEnd}
 use Rattle.py_run.specs.Run.{Signature, Posed, Plan, Activation, Phase, Asking, IsTop, question, start, state_after}
@@ -51,7 +50,8 @@ use Rattle.py_vm.proofs.FirstLemmas.{first_fit}
 use Rattle.py_script.specs.Whole.{AreOf, AsksThis, AreAsked, AreGlobals, AreObjects, Traces, IsRunOf, plan_of, signature_of}
 use Rattle.py_script.specs.Worked.{call_of, object, exception, function_entry, loaded, objects_of, entered, asked, greatest, overflowing_of, out_of_range, error_entry, error_objects, raising_by, raised, raises, overflow_by}
 use Rattle.py_script.proofs.Behind.{declares_it, have_classes, none_declared}
-use Rattle.py_script.proofs.Entries.{objects_more, one_declared}
+use Rattle.py_script.proofs.Entries.{one_declared}
+use Rattle.py_script.proofs.WorkedObjects.{some_is, Each, each_at, not_before, DeclaresNothing, objects_behind}
 
 pub decimal_1 : decimal 1 ≡ codes "1"
 decimal_1 = decimal_digit 1 (lit< tt)
@@ -62,20 +62,6 @@ decimal_45 = decimal_step 45 (lit≤ tt) (lit< tt) ∙ ap (λ ds. ds ++ 53 ∷ [
 -- what the lines of these items say, where no others stand between them
 abbrev pub reads_of : List Item → List LineRead
 reads_of items = map (λ (r : Row). Said r.line) (items_rows items)
-
--- what is there is one thing
-pub some_is : {X : Type 0} (x y : X) → Some x ≡ Some y → x ≡ y
-some_is x y e = cc
-
--- P holds of each element
-abbrev pub Each : {X : Type 0} → (X → Type 0) → List X → Type 0
-Each P [] = Unit {0}
-Each P (x ∷ xs) = P x × Each P xs
-
-pub each_at : {X : Type 0} (P : X → Type 0) (xs : List X) → Each P xs → (i : ℕ) (x : X) → slice_get xs i ≡ Some x → P x
-each_at P [] h i x e = absurd cc
-each_at P (y ∷ ys) h zero x e = subst P (some_is y x e) h.0
-each_at P (y ∷ ys) h (suc i) x e = each_at P ys h.1 i x e
 
 -- AllBelow as a test
 abbrev pub are_below : ℕ → List ℕ → Bool
@@ -319,41 +305,6 @@ gives_sum plan store p a b i j w left right (reply, (r, asks, replies), gives) =
     let says = subst (λ (x : Request). IsReply plan store p Asking x reply) (sym (some_is _ _ asks)) replies in
     subst (λ (x : Reply). GivesBody store p.events x w)
     (reply_of_sum store a b i j reply left right (replied (setting plan p) store (Binary binary.Add a b) reply (sum_plain a b) says)) gives
-
--- what is declared behind the first objects isn't among them
-not_before : (store : List Payload) (x : Name) (own : List Payload) → store ≡ first_objects ++ own → declared store x ≡ Some (object 0) → declared first_objects x ≡ None
-not_before store x own is found = go (declared first_objects x) refl
-  where
-    go : (o : Option Obj) → declared first_objects x ≡ o → declared first_objects x ≡ None
-    go None e = e
-    go (Some v) e =
-        let low = declared_within first_objects x v e in
-        let same : Some v ≡ Some (object 0) = sym (declared_grown first_objects store x v (own, is) e) ∙ found in
-        let number : v.number ≡ length first_objects + 0 = ap (λ (w : Obj). w.number) (some_is v (object 0) same) in
-        absurd (omega (arith, low, number))
-
--- an entry that is no function, no class and no manager
-abbrev pub DeclaresNothing : Payload → Type 0
-DeclaresNothing (payload.Function b) = ⊥
-DeclaresNothing (payload.Class b) = ⊥
-DeclaresNothing (payload.Manager b) = ⊥
-DeclaresNothing _ = Unit {0}
-
-declares_nothing : (p : Payload) (x : Name) → DeclaresNothing p → declares p ≡ Some x → ⊥
-declares_nothing (payload.Function b) x plain says = plain
-declares_nothing (payload.Class b) x plain says = plain
-declares_nothing (payload.Manager b) x plain says = plain
-declares_nothing _ x plain says = cc says
-
--- a script's objects stay so with such entries behind them
-pub objects_behind : (ds : List Decl) (objects rest store : List Payload) → store ≡ objects ++ rest → AreObjects ds objects → Each DeclaresNothing rest → AllFit store → AreObjects ds store
-objects_behind ds objects rest store is are plain fit = objects_more ds objects store (rest, is) are before fit
-  where
-    before : (v : Obj) (p : Payload) (x : Name) → declares p ≡ Some x → HasPayload store v p → HasPayload objects v p
-    before v p x says has = elim (slice_get_split objects rest v.number p (ap (λ os. slice_get os v.number) (sym is) ∙ has)) [
-      | inl old ↦ old
-      | inr new ↦ absurd (declares_nothing p x (each_at DeclaresNothing rest plain _ p new) says)
-    ]
 
 -- the script's only function
 module _ (t : Tree) where

@@ -10,17 +10,21 @@ pub mod Adding
 pub mod Driven
 pub mod Asking
 pub mod Loaded
+pub mod Sessions
 pub mod Ran
 -- what was read
 pub mod Reading
 -- what a run answers
 pub mod Answering
+-- which statuses come
+pub mod Statuses
 -- what is written
 mod NoteLemmas
 mod PathLemmas
 mod ReprLemmas
 mod TextLemmas
 -- journals worked by hand
+mod WorkedObjects
 mod Journals
 mod WorkedLemmas
 mod WorkedShowLemmas

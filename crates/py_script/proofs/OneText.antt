@@ -26,7 +26,6 @@ use Rattle.py_objects.specs.ErrorKinds.{name_of}
 use Rattle.py_objects.specs.Objects.{Obj, Name, HasPayload, class_object, declared}
 use Rattle.py_objects.specs.Own.{Own, Asks, Gets, Ends, whose, own_of, own_from, told_by}
 use Rattle.py_objects.specs.Telling.{Given, Failed, AfterValue, Asked, Answered, Answers}
-use Rattle.py_tree.specs.Tree.{Tree}
 use Rattle.py_grammar.specs.Grammar.{Decl, functions_in}
 use Rattle.py_tree.specs.Scene.{anywhere}
 use Rattle.py_tree.specs.Trace.{IsBegun, Ended}
@@ -43,7 +42,8 @@ use Rattle.py_script.specs.Said.{said_by}
 use Rattle.py_script.specs.Text.{details, events_text, numbered, raised, result_text, str_by, str_within}
 use Rattle.py_script.proofs.TextLemmas.{plain_text, unchanged}
 use Rattle.py_script.specs.Worked.{Writes, call_of, events, exception, function, greatest, objects, out_of_range, overflow_by, overflow_objects, decls}
-use Rattle.py_script.proofs.Journals.{ascii_bytes, asked_for, begun, called, course_is, decimal_1, decimal_45, due_leaves, entry_of, few_asked, gives_sum, gotten, never_suspended, plainly, some_is, sum_plain, traced_by}
+use Rattle.py_script.proofs.WorkedObjects.{some_is}
+use Rattle.py_script.proofs.Journals.{ascii_bytes, asked_for, begun, called, course_is, decimal_1, decimal_45, due_leaves, entry_of, few_asked, gives_sum, gotten, never_suspended, plainly, sum_plain, traced_by}
 use Rattle.py_script.proofs.WorkedLemmas.{is_run, overflow_is_run}
 
 -- how a drive's answer tells an ending

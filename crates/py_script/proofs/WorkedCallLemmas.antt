@@ -20,7 +20,6 @@ use Rattle.py_objects.specs.declared.event.Event.TheVariants as event
 use Rattle.py_objects.specs.ErrorKinds.{name_of}
 use Rattle.py_objects.specs.Objects.{Obj, Name, declared, AllFit}
 use Rattle.py_objects.specs.Own.{Makes, Resumes, Ends, own_events, own_from, told_by}
-use Rattle.py_tree.specs.Tree.{Tree}
 use Rattle.py_tree.specs.Scene.{anywhere}
 use Rattle.py_tree.specs.Trace.{IsTrace}
 use Rattle.py_grammar.specs.Grammar.{Declares, Drives, FunctionDecl, functions_in}
@@ -44,7 +43,8 @@ use Rattle.py_script.specs.WorkedCall.{values, refusal_text, refusal_objects, ob
 use Rattle.py_run.proofs.BoundLemmas.{enters_call, IsMaking}
 use Rattle.py_script.proofs.Behind.{none_declared}
 use Rattle.py_script.proofs.Entries.{one_declared}
-use Rattle.py_script.proofs.Journals.{all_fit, are_named, asked_for, course_is, decimal_1, differ, due_leaves, each_at, is_of_kind, is_raised, made_exception, objects_behind, reads_of, runs, some_is}
+use Rattle.py_script.proofs.WorkedObjects.{each_at, objects_behind, some_is}
+use Rattle.py_script.proofs.Journals.{all_fit, are_named, asked_for, course_is, decimal_1, differ, due_leaves, is_of_kind, is_raised, made_exception, reads_of, runs}
 use Rattle.py_script.proofs.OneText.{raise_line_of, returned_so}
 
 -- call g $1 9

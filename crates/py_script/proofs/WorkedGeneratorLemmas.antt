@@ -30,7 +30,8 @@ use Rattle.py_script.specs.Whole.{AreAsked, Traces, IsRunOf, plan_of, signature_
 use Rattle.py_script.specs.Text.{events_text, result_text}
 use Rattle.py_script.specs.Worked.{object}
 use Rattle.py_script.specs.WorkedGenerator.{script, function, decls, drives, own_objects, objects, events_by, events, never_entered, entered_by_call, returned_other}
-use Rattle.py_script.proofs.Journals.{are_globals, are_loaded, are_named, ascii_bytes, begun, decimal_1, differ, fits, is_new, is_of_kind, one_tells, reads_of, runs, some_is, traced_with}
+use Rattle.py_script.proofs.WorkedObjects.{some_is}
+use Rattle.py_script.proofs.Journals.{are_globals, are_loaded, are_named, ascii_bytes, begun, decimal_1, differ, fits, is_new, is_of_kind, one_tells, reads_of, runs, traced_with}
 
 pub spelled : Spells (lines script) decls drives
 spelled =

@@ -26,7 +26,8 @@ use Rattle.py_run.specs.Coming.{Past, nothing, Comes, EachTells}
 use Rattle.py_run.specs.Past.{past_behind}
 use Rattle.py_script.specs.Whole.{Traces, IsRunOf, plan_of}
 use Rattle.py_script.specs.Worked.{script, function, decls, call_of, drives, object, exception, function_entry, objects_by, objects, objects_with_manager, entered, asked, events, unfinished, with_round, swapped, driven_twice, greatest, overflowing, error_entry, error_objects, raising_objects, overflow_objects, raises, overflow_by}
-use Rattle.py_script.proofs.Journals.{RaiseIsTraced, are_globals, are_named, are_objects, asking_comes, asks_numbers, begun, call, call_runs, code_of, differ, entry_of, few_asked, first_raises, fits, gives_sum, is_of_kind, made_error, one_tells, overflows, plan_with, reads_of, runs, some_is, sum_comes, traced, overflow_is_run as overflow_run}
+use Rattle.py_script.proofs.WorkedObjects.{some_is}
+use Rattle.py_script.proofs.Journals.{RaiseIsTraced, are_globals, are_named, are_objects, asking_comes, asks_numbers, begun, call, call_runs, code_of, differ, entry_of, few_asked, first_raises, fits, gives_sum, is_of_kind, made_error, one_tells, overflows, plan_with, reads_of, runs, sum_comes, traced, overflow_is_run as overflow_run}
 
 pub spelled : Spells (lines script) decls drives
 spelled =

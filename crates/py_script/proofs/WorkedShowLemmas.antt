@@ -36,7 +36,8 @@ use Rattle.py_script.specs.Whole.{Traces, IsRunOf, plan_of}
 use Rattle.py_script.specs.Text.{events_text, result_text}
 use Rattle.py_script.specs.Worked.{object, exception, entered, asked, greatest, overflow_by}
 use Rattle.py_script.specs.WorkedShow.{script, function, decls, drive, drives, objects, summed, shows, answered, ended, events_by, events, without_show, shown_twice, overflowing, overflow_objects, shown_behind_raise}
-use Rattle.py_script.proofs.Journals.{IsPlain, RaiseIsTraced, asked_so, asking_comes, begun, call_runs, decimal_1, decimal_45, differ, each_at, fits, gives_sum, one_tells, plan_with, reads_of, replied, runs, some_is, sum_comes, traced, overflow_is_run as overflow_run}
+use Rattle.py_script.proofs.WorkedObjects.{each_at, some_is}
+use Rattle.py_script.proofs.Journals.{IsPlain, RaiseIsTraced, asked_so, asking_comes, begun, call_runs, decimal_1, decimal_45, differ, fits, gives_sum, one_tells, plan_with, reads_of, replied, runs, sum_comes, traced, overflow_is_run as overflow_run}
 use Rattle.py_script.proofs.OneText.{overflow_line}
 
 pub spelled : Spells (lines script) decls drives

@@ -1,5 +1,5 @@
 -- What the definitions say of the journal with a class, a manager and a with.
-use Rattle.std.proofs.Common.{◌≡◌, ◌+◌, length, eqb, eq-eqb, ℕ, zero, suc, List, [], ◌∷◌, ◌++◌, Some, None, Bool, true, false, refl, sym, ap, inl, inr, lit<, ⊎_elim, ◌∙◌, subst, arith}
+use Rattle.std.proofs.Common.{◌≡◌, ◌+◌, length, eqb, eq-eqb, ℕ, zero, suc, List, [], ◌∷◌, ◌++◌, Some, None, true, false, refl, sym, ap, inl, inr, lit<, ⊎_elim, ◌∙◌, subst, arith}
 use Rattle.std.specs.Prelude.{pos, codes, decimal, slice_get}
 use Rattle.std.proofs.lemmas.Fmt.{decimal_digit}
 use Rattle.std.proofs.lemmas.List.Sorted.{IsPermutation-refl}
@@ -15,7 +15,7 @@ use Rattle.py_objects.specs.declared.event.ResumeHow.TheVariants.{Start}
 use Rattle.py_objects.specs.declared.event.GotAnswer.TheVariants as got
 use Rattle.py_objects.specs.declared.event.Ending.TheVariants as ending
 use Rattle.py_objects.specs.declared.event.Event.{Event}
-use Rattle.py_objects.specs.Objects.{Obj, Name, AllFit, HasPayload, class_object}
+use Rattle.py_objects.specs.Objects.{Obj, AllFit, HasPayload, class_object}
 use Rattle.py_objects.specs.Singletons.{none_object}
 use Rattle.py_objects.specs.Own.{Own, Makes, Resumes, Asks, Gets, Ends, own_events, own_from, told_by}
 use Rattle.py_exceptions.specs.Classes.{class_of, mro_of, first_classes}
@@ -40,7 +40,8 @@ use Rattle.py_script.specs.WorkedLoop.{drives}
 use Rattle.py_script.specs.WorkedWith.{script, enters, exits, function, decls, pairs, manager_entry, class_entry, values, objects_by, objects, true_object, events, unexited, swallowed, told_value}
 use Rattle.py_script.proofs.Behind.{none_declared}
 use Rattle.py_script.proofs.Entries.{one_declared}
-use Rattle.py_script.proofs.Journals.{all_fit, are_named, asked_so, begun, code_of, decimal_1, differ, is_of_kind, objects_behind, reads_of, runs, some_is}
+use Rattle.py_script.proofs.WorkedObjects.{objects_behind, some_is}
+use Rattle.py_script.proofs.Journals.{all_fit, are_named, asked_so, begun, code_of, decimal_1, differ, is_of_kind, reads_of, runs}
 
 pub spelled : Spells (lines script) decls drives
 spelled =

@@ -1,9 +1,10 @@
 -- When each answer of the top call comes, and what it hands back, writes and notes.
-use Rattle.std.specs.Prelude.{ℕ, ◌<◌, ◌≤◌, ◌^◌, ◌⊎◌, List, [], ◌++◌, Bool, false, IsTrue, Option, IfSome, ◌≡◌, length, codes, decimal, Result, Ok, Err}
+use Rattle.std.specs.Prelude.{ℕ, ◌<◌, ◌≤◌, ◌^◌, ◌⊎◌, List, [], ◌++◌, Bool, false, IsTrue, Option, Some, IfSome, ◌≡◌, length, codes, decimal, Result, Ok, Err}
 use Rattle.std.specs.Io.KnownBytes.{Appends, Keeps, IsAtEnd}
 use Rattle.py_exceptions.specs.Faults.{Rose}
 use Rattle.py_outside.specs.Transfer.{AppendsFront}
-use Rattle.py_grammar.specs.Script.{IsBadLine}
+use Rattle.py_grammar.specs.declared.script.Script.{Script}
+use Rattle.py_grammar.specs.Script.{IsScript, IsBadLine}
 use Rattle.py_vm.specs.declared.journal.Journal.{Journal}
 use Rattle.py_script.specs.declared.words.Command.TheVariants as command
 use Rattle.py_script.specs.declared.fault.ScriptFault.{ScriptFault}
@@ -87,3 +88,40 @@ IsEnding e words (outcome.Fault f) = (turns : ℕ) × (command_in words ≡ comm
 IsEnding e words (outcome.Made summary) = ⊥
 IsEnding e words outcome.Usage = (command_in words ≡ command.Usage) × (e.left' ≡ e.left) × Keeps e.taken e.taken'
 IsEnding e words outcome.NoMemory = ⊥
+
+-- over a sound source: no read fault is counted, the status isn't that of one, and the source stays sound
+pub record ReadsSoundly (faults faults' : ℕ) (sound' : Bool) (result : CommandResult) : Type 0 where
+  pub same : faults' ≡ faults
+  pub stays : IsTrue sound'
+  pub status : status_in result ≡ 5 → ⊥
+
+-- over a sink that takes so many bytes for sure: a write fault is answered only where the text is longer, and none is counted where it isn't or where
+-- nothing is written
+abbrev pub WritesSurely : ℕ → ℕ → ℕ → CommandResult → Type 0
+WritesSurely sure faults faults' (outcome.Ran j) = length (text_of j) ≤ sure → faults' ≡ faults
+WritesSurely sure faults faults' (outcome.Fault (fault.Malformed line)) = faults' ≡ faults
+WritesSurely sure faults faults' (outcome.Fault (fault.Refused code at)) = faults' ≡ faults
+WritesSurely sure faults faults' (outcome.Fault (fault.OutOfTurns j)) = length (text_of j) ≤ sure → faults' ≡ faults
+WritesSurely sure faults faults' (outcome.Fault fault.ReadFault) = faults' ≡ faults
+WritesSurely sure faults faults' (outcome.Fault (fault.WriteFault j)) = sure < length (text_of j)
+WritesSurely sure faults faults' (outcome.Fault fault.TooLong) = faults' ≡ faults
+WritesSurely sure faults faults' (outcome.Fault (fault.NoMemory j)) = faults' ≡ faults
+WritesSurely sure faults faults' (outcome.Made summary) = faults' ≡ faults
+WritesSurely sure faults faults' outcome.Usage = faults' ≡ faults
+WritesSurely sure faults faults' outcome.NoMemory = faults' ≡ faults
+
+-- the status of a run that was made, whole or as far as turns and memory went
+abbrev pub IsOfRun : ℕ → Type 0
+IsOfRun status = (status ≡ 0) ⊎ (status ≡ 4) ⊎ (status ≡ 8)
+
+-- the status of a fault that was counted
+abbrev pub IsOfFault : Ends → ℕ → Type 0
+IsOfFault e status = ((status ≡ 5) × Rose e.read_faults e.read_faults') ⊎ ((status ≡ 6) × Rose e.write_faults e.write_faults')
+
+-- a script of at most 2^20 bytes is run: its status is 0, 4 or 8, or 5 or 6 by a fault that was counted
+abbrev pub RunsScripts : Ends → CommandResult → Type 0
+RunsScripts e result = (bytes : List ℕ) → (s : Script) → e.left ≡ Some bytes → length bytes ≤ 2 ^ 20 → IsScript bytes s → IsOfRun (status_in result) ⊎ IsOfFault e (status_in result)
+
+-- so is one where the words ask for a run
+abbrev pub RunsAskedScripts : Ends → List (List ℕ) → CommandResult → Type 0
+RunsAskedScripts e words result = (turns : ℕ) → command_in words ≡ command.Run turns → RunsScripts e result

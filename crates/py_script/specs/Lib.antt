@@ -1,5 +1,9 @@
 -- what a script means
 pub mod Whole
+-- what a session is, and what its drives come to
+pub mod Held
+pub mod Session
+pub mod Driving
 -- what represents an object, what an exception says, and what is written
 pub mod Repr
 pub mod Said
@@ -19,5 +23,4 @@ pub mod WorkedWith
 -- what functions inside the crate promise each other
 pub mod Steps
 pub mod Loaded
-pub mod Session
 pub mod Writing

@@ -1,5 +1,5 @@
 -- How a script's declarations come into a machine.
-use Rattle.std.specs.Prelude.{ℕ, false, Some, List, ◌∷◌, ◌++◌, ◌≡◌, slice_get, take, length, map}
+use Rattle.std.specs.Prelude.{ℕ, Some, List, ◌∷◌, ◌++◌, ◌≡◌, slice_get, take, length, map}
 use Rattle.py_objects.specs.declared.payload.Payload.{Payload}
 use Rattle.py_objects.specs.declared.payload.Payload.TheVariants as payload
 use Rattle.py_objects.specs.declared.payload.ClassBody.{ClassBody}

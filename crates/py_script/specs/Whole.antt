@@ -31,7 +31,7 @@ use Rattle.py_lines.specs.declared.drive.DriveLine.{DriveLine}
 use Rattle.py_lines.specs.declared.drive.DriveLine.TheVariants as drive
 use Rattle.py_grammar.specs.declared.script.Script.{Script}
 use Rattle.py_grammar.specs.Grammar.{Decl, ClassDecl, ManagerDecl, decl_name, functions_in}
-use Rattle.py_grammar.specs.Script.{decls_of, trees_of, IsScript}
+use Rattle.py_grammar.specs.Script.{decls_of, IsScript}
 use Rattle.py_exceptions.specs.BuiltIn.{IsClassOf}
 use Rattle.py_vm.specs.declared.journal.Journal.{Journal}
 use Rattle.py_run.specs.Run.{Signature, Posed, Plan}
@@ -133,13 +133,15 @@ pub record HasManager (objects : List Payload) (name enter_name exit_name : Name
   pub is_exit : declared objects exit_name ≡ Some exit
   pub entry : HasPayload objects manager (payload.Manager (record { name = name; enter = enter; exit = exit }))
 
--- an object is the one of a built-in class, of a class that is declared, or of a manager that is
+-- an object is the one of a built-in class
 abbrev pub IsBuiltinClass : List Payload → Obj → Type 0
 IsBuiltinClass objects v = (kind : ErrorKind) × (declared objects (name_of kind) ≡ Some v)
 
+-- one that these declarations declare
 abbrev pub IsDeclaredClass : List Decl → List Payload → Obj → Type 0
 IsDeclaredClass decls objects v = (i : ℕ) × (c : Name) × (b : Name) × (slice_get decls i ≡ Some (ClassDecl c b)) × (declared objects c ≡ Some v)
 
+-- a manager that they declare
 abbrev pub IsDeclaredManager : List Decl → List Payload → Obj → Type 0
 IsDeclaredManager decls objects v = (i : ℕ) × (m : Name) × (e : Name) × (x : Name) × (slice_get decls i ≡ Some (ManagerDecl m e x)) × (declared objects m ≡ Some v)
 
@@ -170,10 +172,14 @@ pub record IsRunOf (decls : List Decl) (drives : List DriveLine) (objects : List
   pub run : IsRunBy (Traces (functions_in decls) globals objects) (plan_of (functions_in decls) asked) objects events
   pub are_objects : AreObjects decls objects
 
--- the journal is a prefix of a run of a script
-pub record IsRun (s : Script) (j : Journal) : Type 0 where
-  pub run : IsRunOf (decls_of s) s.drives j.objects j.events
+-- the journal is a prefix of a run of these declarations and drives
+pub record IsJournalOf (decls : List Decl) (drives : List DriveLine) (j : Journal) : Type 0 where
+  pub run : IsRunOf decls drives j.objects j.events
   pub unchanged : j.changes ≡ []
+
+-- it is one of a script
+abbrev pub IsRun : Script → Journal → Type 0
+IsRun s j = IsJournalOf (decls_of s) s.drives j
 
 -- every drive of the script has its result, and nothing runs
 abbrev pub IsWhole : Script → Journal → Type 0
@@ -184,13 +190,17 @@ pub record AreCompiled (ts : List Tree) (cs : Codes) : Type 0 where
   pub count : length cs.codes ≡ length ts
   pub fit : (i : ℕ) (t : Tree) → slice_get ts i ≡ Some t → (c : PyCode) × (slice_get cs.codes i ≡ Some c) × ((notes : List Note) × Fits cs.names (record { code = c; notes = notes }) t)
 
--- the journal's codes are those of the script's bodies, which they fit, and each activation's own events, with their
+-- the journal's codes are those of the bodies that are declared, which they fit, and each activation's own events, with their
 -- units, are a run of the rows of its code
-pub record RunsItsCodes (s : Script) (j : Journal) : Type 0 where
-  pub compiled : AreCompiled (trees_of s) j.codes
+pub record RunsCodesOf (decls : List Decl) (j : Journal) : Type 0 where
+  pub compiled : AreCompiled (functions_in decls) j.codes
   pub globals : Obj
-  pub are_globals : AreGlobals (decls_of s) j.objects globals
+  pub are_globals : AreGlobals decls j.objects globals
   pub tells : EachTells (RowsOf j.codes globals j.objects) j.events
+
+-- those of a script
+abbrev pub RunsItsCodes : Script → Journal → Type 0
+RunsItsCodes s j = RunsCodesOf (decls_of s) j
 
 -- the journal where nothing ran
 pub record IsEmpty (j : Journal) : Type 0 where

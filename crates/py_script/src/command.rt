@@ -1,9 +1,10 @@
 //! The top call: reads a script, runs it, and writes the text of its journal.
 
-ghost use Rattle.std.specs.Prelude.{◌≡◌, ◌+◌, ◌≤◌, ◌^◌, ◌⊎◌};
+ghost use Rattle.std.specs.Prelude.{◌≡◌, ◌+◌, ◌≤◌, ◌^◌, ◌⊎◌, IsTrue};
 ghost use Rattle.std.specs.Io.KnownBytes.{Appends};
 ghost use Rattle.py_exceptions.specs.Faults.{Rose};
-ghost use Rattle.py_script.specs.Causes.{IsAnswer, IsEnding, status_in, note_in};
+ghost use Rattle.py_script.specs.Causes.{IsAnswer, IsEnding, ReadsSoundly, WritesSurely, RunsScripts, RunsAskedScripts, status_in, note_in};
+ghost use Rattle.py_script.specs.Steps.{result_in};
 
 use crate::fault::{CommandResult, Ended, ScriptFault};
 use crate::notes::write_note;
@@ -25,6 +26,24 @@ pub fn run_script<S: Source, K: Sink>(
     turns: u64,
 ) -> Result<Journal, ScriptFault>
     ensures answer { IsAnswer (record { left = S.left source.old; left' = S.left source.new; read_faults = S.faults source.old; read_faults' = S.faults source.new; at_end' = S.at_end source.new; taken = K.taken sink.old; taken' = K.taken sink.new; write_faults = K.faults sink.old; write_faults' = K.faults sink.new }) turns result }
+    ensures sound { IsTrue (S.is_sound source.old) → ReadsSoundly (S.faults source.old) (S.faults source.new) (S.is_sound source.new) (result_in result) }
+    ensures sure { WritesSurely (K.sure sink.old) (K.faults sink.old) (K.faults sink.new) (result_in result) }
+    ensures complete { RunsScripts (record { left = S.left source.old; left' = S.left source.new; read_faults = S.faults source.old; read_faults' = S.faults source.new; at_end' = S.at_end source.new; taken = K.taken sink.old; taken' = K.taken sink.new; write_faults = K.faults sink.old; write_faults' = K.faults sink.new }) (result_in result) }
+    ensures reads { S.reads source.new ≤ S.reads source.old + (2 ^ 20 + 1) }
+{
+    answer_of(alloc, source, sink, turns)
+}
+
+/// What `run_script` answers. That it runs scripts follows from this.
+fn answer_of<S: Source, K: Sink>(
+    alloc: Global,
+    source: &mut S,
+    sink: &mut K,
+    turns: u64,
+) -> Result<Journal, ScriptFault>
+    ensures answer { IsAnswer (record { left = S.left source.old; left' = S.left source.new; read_faults = S.faults source.old; read_faults' = S.faults source.new; at_end' = S.at_end source.new; taken = K.taken sink.old; taken' = K.taken sink.new; write_faults = K.faults sink.old; write_faults' = K.faults sink.new }) turns result }
+    ensures sound { IsTrue (S.is_sound source.old) → ReadsSoundly (S.faults source.old) (S.faults source.new) (S.is_sound source.new) (result_in result) }
+    ensures sure { WritesSurely (K.sure sink.old) (K.faults sink.old) (K.faults sink.new) (result_in result) }
     ensures reads { S.reads source.new ≤ S.reads source.old + (2 ^ 20 + 1) }
 {
     let script = read_script(alloc, source)?;
@@ -74,6 +93,8 @@ fn result_of<S: Source, K: Sink>(
     sink: &mut K,
 ) -> CommandResult
     ensures ending { IsEnding (record { left = S.left source.old; left' = S.left source.new; read_faults = S.faults source.old; read_faults' = S.faults source.new; at_end' = S.at_end source.new; taken = K.taken sink.old; taken' = K.taken sink.new; write_faults = K.faults sink.old; write_faults' = K.faults sink.new }) words.now result }
+    ensures sound { IsTrue (S.is_sound source.old) → ReadsSoundly (S.faults source.old) (S.faults source.new) (S.is_sound source.new) result }
+    ensures sure { WritesSurely (K.sure sink.old) (K.faults sink.old) (K.faults sink.new) result }
     ensures reads { S.reads source.new ≤ S.reads source.old + (2 ^ 20 + 1) }
 {
     match command_of(words) {
@@ -96,6 +117,9 @@ pub fn run_command<S: Source, K: Sink, N: Sink>(
     ensures status { result.status ≡ status_in result.result }
     ensures ending { IsEnding (record { left = S.left source.old; left' = S.left source.new; read_faults = S.faults source.old; read_faults' = S.faults source.new; at_end' = S.at_end source.new; taken = K.taken sink.old; taken' = K.taken sink.new; write_faults = K.faults sink.old; write_faults' = K.faults sink.new }) words.now result.result }
     ensures note { Appends (N.taken notes.old) (N.taken notes.new) (note_in result.result) ⊎ Rose (N.faults notes.old) (N.faults notes.new) }
+    ensures sound { IsTrue (S.is_sound source.old) → ReadsSoundly (S.faults source.old) (S.faults source.new) (S.is_sound source.new) result.result }
+    ensures sure { WritesSurely (K.sure sink.old) (K.faults sink.old) (K.faults sink.new) result.result }
+    ensures complete { RunsAskedScripts (record { left = S.left source.old; left' = S.left source.new; read_faults = S.faults source.old; read_faults' = S.faults source.new; at_end' = S.at_end source.new; taken = K.taken sink.old; taken' = K.taken sink.new; write_faults = K.faults sink.old; write_faults' = K.faults sink.new }) words.now result.result }
     ensures reads { S.reads source.new ≤ S.reads source.old + (2 ^ 20 + 1) }
 {
     let result = result_of(alloc, words, source, sink);

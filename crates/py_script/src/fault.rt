@@ -2,6 +2,13 @@
 
 use py_vm::Journal;
 
+/// Why a script wasn't loaded.
+#[derive(Clone, Copy, Debug, PartialEq, Eq)]
+pub enum LoadFault {
+    /// Memory ran out.
+    NoMemory,
+}
+
 /// Why a script wasn't run to its end and written.
 #[derive(Debug, Drop)]
 pub enum ScriptFault {

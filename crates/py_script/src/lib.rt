@@ -26,14 +26,18 @@ mod worked_with;
 mod write;
 
 pub use command::{run_command, run_script};
-pub use fault::{CommandResult, Ended, ScriptFault, Summary};
+pub use fault::{CommandResult, Ended, LoadFault, ScriptFault, Summary};
 pub use journal::journal_text;
+pub use loading::load_script;
 pub use py_exceptions::{Sink, SinkMemory, StdSink, WriteFailed};
 pub use py_grammar::{
-    DeclList, Declaration, DriveLine, DriveList, ParseFault, Script, parse_script,
+    DeclList, Declaration, DriveAtom, DriveAtomList, DriveLine, DriveList, ParseFault, Script,
+    parse_script,
 };
-pub use py_outside::{ReadFailed, Source, SourceMemory, StdSource, read_bytes, write_bytes};
+pub use py_outside::{LIMIT, ReadFailed, Source, SourceMemory, StdSource, write_bytes};
 pub use py_vm::Journal;
+pub use read::read_bytes;
+pub use session::Session;
 pub use words::{Command, Words, command_of};
 pub use worked::worked_journals;
 pub use worked_answer::worked_answers;

@@ -1,4 +1,4 @@
-//! The declarations of a script in a machine: their codes, their functions, and the dict of their names.
+//! The declarations of a script in a machine: their codes, their objects, and the dict of their names.
 
 ghost use Rattle.std.specs.Prelude.{false, ◌≡◌, ◌<◌, [], IfOk, OnOk, map, length, All};
 ghost use Rattle.py_objects.specs.Objects.{HasPayload, pair_numbers, AllBelow};
@@ -11,9 +11,13 @@ ghost use Rattle.py_grammar.specs.Grammar.{functions_in};
 ghost use Rattle.py_grammar.specs.Script.{decl_of, decls_of};
 ghost use Rattle.py_grammar.specs.WellFormed.{IsWellFormed};
 ghost use Rattle.py_script.specs.Loaded.{AreChecked, AreWellDeclared, with_codes};
-ghost use Rattle.py_script.specs.Session.{AreBindings, AreDeclared, BindsAll, HasDeclarations, IsLoaded, IsValue, OnlyGrew, TakesGlobals};
+ghost use Rattle.py_script.specs.Session.{AreBindings, AreDeclared, BindsAll, HasDeclarations, IsLoaded, IsSessionOf, IsValue, OnlyGrew, TakesGlobals};
+ghost use Rattle.py_run.specs.Coming.{IsDone};
+ghost use Rattle.py_script.specs.Held.{journal_of};
+ghost use Rattle.py_script.specs.Driving.{HasRunOf};
 
 use crate::declaring::{add_declarations, object_named};
+use crate::fault::LoadFault;
 use crate::session::Session;
 use py_body::compile_body;
 use py_check::CheckedCode;
@@ -159,7 +163,7 @@ fn bind_declarations(
 }
 
 /// A machine that holds the declarations of the script, with the dict of their names as its globals.
-pub(crate) fn load_script(alloc: Global, script: &Script) -> Result<Session, NoMemory>
+fn load_session(alloc: Global, script: &Script) -> Result<Session, NoMemory>
     requires { IsWellFormed script.now }
     ensures { IfOk result (λ session. IsLoaded (decls_of script.now) session) }
 {
@@ -169,5 +173,20 @@ pub(crate) fn load_script(alloc: Global, script: &Script) -> Result<Session, NoM
         alloc,
         vm,
         values: ObjList::new(alloc),
+        failed: false,
     })
+}
+
+/// A session of the script's declarations, behind no drive. Its journal has no event, and is a whole run of the declarations without drives.
+pub fn load_script(alloc: Global, script: &Script) -> Result<Session, LoadFault>
+    requires { IsWellFormed script.now }
+    ensures session { IfOk result (λ session. IsSessionOf (decls_of script.now) [] session) }
+    ensures runs { IfOk result (λ session. HasRunOf (decls_of script.now) [] (journal_of session)) }
+    ensures whole { IfOk result (λ session. IsDone 0 (journal_of session).events) }
+    ensures begun { IfOk result (λ session. (journal_of session).events ≡ []) }
+{
+    match load_session(alloc, script) {
+        Ok(session) => Ok(session),
+        Err(NoMemory) => Err(LoadFault::NoMemory),
+    }
 }

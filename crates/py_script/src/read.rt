@@ -1,15 +1,16 @@
 //! Reading a script from a source.
 
-ghost use Rattle.std.specs.Prelude.{◌≤◌, ◌+◌, ◌^◌, IfOk, length};
+ghost use Rattle.std.specs.Prelude.{◌≡◌, ◌≤◌, ◌+◌, ◌^◌, IfOk, IfErr, OnOk, OnErr, IsErrOf, IsTrue, length, vec_len};
+ghost use Rattle.py_outside.specs.Reading.{HasRead, LosesUpTo};
 ghost use Rattle.py_grammar.specs.WellFormed.{IsWellFormed};
 ghost use Rattle.py_script.specs.Whole.{IsEmpty};
-ghost use Rattle.py_script.specs.Steps.{IsParsed, IsReading};
+ghost use Rattle.py_script.specs.Steps.{IsParsed, IsReadFault, IsReading, IsReadSoundly};
 
 use crate::fault::ScriptFault;
 use py_code::{CodeList, Names};
 use py_grammar::{ParseFault, Script, parse_script};
 use py_objects::{ChangeList, EventList, PayloadList};
-use py_outside::{ReadError, Source, read_bytes};
+use py_outside::{ReadError, Source};
 use py_vm::Journal;
 use std::alloc::Global;
 
@@ -38,16 +39,34 @@ fn parse_bytes(alloc: Global, bytes: &[u8]) -> Result<Script, ScriptFault>
     }
 }
 
-/// The script that the source holds.
-pub(crate) fn read_script<S: Source>(alloc: Global, source: &mut S) -> Result<Script, ScriptFault>
-    ensures reading { IsReading (S.left source.old) (S.left source.new) (S.at_end source.new) (S.faults source.old) (S.faults source.new) result }
-    ensures well { IfOk result IsWellFormed }
+/// Reads to the end of the source, or to the byte after the 2^20th. What was read before a fault is lost.
+pub fn read_bytes<S: Source>(alloc: Global, source: &mut S) -> Result<Vec<u8>, ScriptFault>
+    // Exactly the bytes that it had left, where it tells them, and then its end.
+    ensures read { IfOk result (λ bytes. HasRead (S.left source.old) (S.left source.new) bytes.items) }
+    ensures short { IfOk result (λ bytes. vec_len bytes ≤ 2 ^ 20) }
+    ensures end { OnOk result (IsTrue (S.at_end source.new)) }
+    // A fault comes by its cause, and what was taken of the source is gone.
+    ensures fault { IfErr result (IsReadFault (S.left source.old) (S.at_end source.new) (S.faults source.old) (S.faults source.new)) }
+    ensures lost { OnErr result (LosesUpTo (S.left source.old) (S.left source.new) (2 ^ 20 + 1)) }
+    ensures counted { (IsErrOf result ScriptFault.ReadFault → ⊥) → S.faults source.new ≡ S.faults source.old }
+    ensures sound { IsTrue (S.is_sound source.old) → IsReadSoundly (S.faults source.old) (S.faults source.new) (S.is_sound source.new) result }
     ensures reads { S.reads source.new ≤ S.reads source.old + (2 ^ 20 + 1) }
 {
-    match read_bytes(alloc, source) {
-        Ok(bytes) => parse_bytes(alloc, bytes.as_slice()),
+    match py_outside::read_bytes(alloc, source) {
+        Ok(bytes) => Ok(bytes),
         Err(ReadError::Fault) => Err(ScriptFault::ReadFault),
         Err(ReadError::TooLong) => Err(ScriptFault::TooLong),
         Err(ReadError::NoMemory) => Err(ScriptFault::NoMemory(empty_journal(alloc))),
     }
+}
+
+/// The script that the source holds.
+pub(crate) fn read_script<S: Source>(alloc: Global, source: &mut S) -> Result<Script, ScriptFault>
+    ensures reading { IsReading (S.left source.old) (S.left source.new) (S.at_end source.new) (S.faults source.old) (S.faults source.new) result }
+    ensures well { IfOk result IsWellFormed }
+    ensures sound { IsTrue (S.is_sound source.old) → IsReadSoundly (S.faults source.old) (S.faults source.new) (S.is_sound source.new) result }
+    ensures reads { S.reads source.new ≤ S.reads source.old + (2 ^ 20 + 1) }
+{
+    let bytes = read_bytes(alloc, source)?;
+    parse_bytes(alloc, bytes.as_slice())
 }

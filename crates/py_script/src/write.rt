@@ -1,6 +1,7 @@
 //! Writing the text of a journal to a sink.
 
-ghost use Rattle.py_script.specs.Steps.{IsWriting};
+ghost use Rattle.py_script.specs.Causes.{WritesSurely};
+ghost use Rattle.py_script.specs.Steps.{IsWriting, result_in};
 
 use crate::fault::ScriptFault;
 use crate::journal::journal_text;
@@ -15,7 +16,8 @@ pub(crate) fn write_text<K: Sink>(
     sink: &mut K,
     journal: Journal,
 ) -> Result<Journal, ScriptFault>
-    ensures { IsWriting (K.taken sink.old) (K.taken sink.new) (K.faults sink.old) (K.faults sink.new) journal result }
+    ensures writing { IsWriting (K.taken sink.old) (K.taken sink.new) (K.faults sink.old) (K.faults sink.new) journal result }
+    ensures sure { WritesSurely (K.sure sink.old) (K.faults sink.old) (K.faults sink.new) (result_in result) }
 {
     let text = match journal_text(alloc, &journal) {
         Ok(text) => text,

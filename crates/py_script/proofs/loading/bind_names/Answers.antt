@@ -1,6 +1,6 @@
 use Rattle.std.proofs.Common.{◌≡◌, ◌∙◌, ◌+◌, ◌++◌, ◌∷◌, [], List, Some, map, take, refl, ap, sym, subst}
 use Rattle.py_objects.specs.declared.payload.Payload.TheVariants as payload
-use Rattle.py_objects.specs.Objects.{Obj, Name, HasPayload, declared}
+use Rattle.py_objects.specs.Objects.{Obj, HasPayload, declared}
 use Rattle.py_grammar.specs.Grammar.{Decl, decl_name}
 use Rattle.py_grammar.specs.Script.{decl_of}
 use Rattle.py_objects.proofs.GrowthLemmas.{declared_stays}

@@ -1,4 +1,4 @@
-use Rattle.std.proofs.Common.{refl, subst, sym}
+use Rattle.std.proofs.Common.{subst, sym}
 use Rattle.py_check.specs.declared.annotated.Annotated.{Annotated}
 use Rattle.py_laid.specs.Fits.{Fits}
 use Rattle.py_laid.specs.Instructions.{UsesCompiled, is_compiled}

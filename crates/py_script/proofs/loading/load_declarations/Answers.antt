@@ -1,4 +1,4 @@
-use Rattle.std.proofs.Common.{◌≡◌, ◌∙◌, ap, length, List, map, sym, subst, arith}
+use Rattle.std.proofs.Common.{◌∙◌, ap, length, List, map, sym, subst, arith}
 use Rattle.std.specs.Prelude.{All}
 use Rattle.py_check.specs.declared.annotated.Annotated.{Annotated}
 use Rattle.py_rows.specs.Sound.{AreNames}

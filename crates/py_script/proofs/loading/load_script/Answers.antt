@@ -1,17 +1,12 @@
-use Rattle.std.proofs.Common.{sym}
 use Rattle.py_grammar.specs.Script.{decls_of}
-use Rattle.py_script.specs.Session.{AreDeclared, BindsAll}
-use Rattle.py_script.proofs.Declarations.{of_decls}
-use Rattle.py_script.proofs.Entries.{are_declared}
-use Rattle.py_script.proofs.Loaded.{all_loaded}
+use Rattle.py_script.proofs.Sessions.{loaded_session, session_done, session_runs}
 use Rattle.py_script.proofs.loading.load_script.Goals as goal
 
-pub bind_declarations-requires-clause-declared : goal.bind_declarations-requires-clause-declared
-bind_declarations-requires-clause-declared c =
-    let objects = c.in_ok-vm.vm.objects in
-    of_decls (AreDeclared objects) c.args.script.now.declarations c.as_slice.result.now (sym c.as_slice.ensures) (are_declared (decls_of c.args.script.now) objects c.in_ok-vm.ensures.are_objects)
+pub returns-in-Ok-clause-session : goal.returns-in-Ok-clause-session
+returns-in-Ok-clause-session c = loaded_session (decls_of c.args.script.now) c.in-Ok.session c.in-Ok.ensures
 
-pub returns : goal.returns
-returns c =
-    let binds = of_decls (λ ds. BindsAll ds c.in_ok-vm.vm c.bind_declarations.new.vm) _ _ c.as_slice.ensures c.in_ok-bind_declarations.ensures in
-    all_loaded c.args.script.now (record { alloc = c.args.alloc; vm = c.bind_declarations.new.vm; values = c.new.result }) c.in_ok-vm.vm c.in_ok-vm.ensures binds c.new.ensures
+pub returns-in-Ok-clause-runs : goal.returns-in-Ok-clause-runs
+returns-in-Ok-clause-runs c = session_runs (decls_of c.args.script.now) _ c.in-Ok.session (loaded_session (decls_of c.args.script.now) c.in-Ok.session c.in-Ok.ensures)
+
+pub returns-in-Ok-clause-whole : goal.returns-in-Ok-clause-whole
+returns-in-Ok-clause-whole c = session_done (decls_of c.args.script.now) _ c.in-Ok.session (loaded_session (decls_of c.args.script.now) c.in-Ok.session c.in-Ok.ensures)

@@ -1,6 +1,7 @@
 use Rattle.std.proofs.Common.{◌≡◌, List, true, false, subst, sym, ◌∙◌}
 use Rattle.py_objects.specs.declared.event.Event.{Event}
-use Rattle.py_grammar.specs.Script.{trees_of}
+use Rattle.py_grammar.specs.Grammar.{functions_in}
+use Rattle.py_grammar.specs.Script.{decls_of}
 use Rattle.py_run.specs.Coming.{Comes, nothing}
 use Rattle.py_script.specs.Whole.{plan_of}
 use Rattle.py_script.proofs.worked_answer.worked_answers.Goals as goal
@@ -16,6 +17,6 @@ returns c = record {
   no_round_before_a_drive = λ e turns j is answer.
       let (s, of, run, whole, short, codes) = answer.0.claimed in
       let r = run.run in
-      let comes = subst (λ (es : List Event). Comes (plan_of (trees_of s) r.asked) j.objects nothing es) is r.run.comes in
+      let comes = subst (λ (es : List Event). Comes (plan_of (functions_in (decls_of s)) r.asked) j.objects nothing es) is r.run.comes in
       absurd (cc comes.0.0);
 }
