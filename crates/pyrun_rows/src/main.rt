@@ -3,6 +3,7 @@
 
 mod expand;
 mod fault;
+mod faults;
 mod outcome;
 mod parse;
 mod report;

@@ -3,10 +3,10 @@
 ghost use Rattle.std.specs.Prelude.{◌≤◌};
 
 use crate::row::Row;
-use crate::run::{Came, run_row};
+use crate::run::{Came, Way, run_row};
 use py_code::NoMemory;
 use py_objects::Event;
-use py_script::{CommandResult, Journal, ScriptFault, Words};
+use py_script::{CommandResult, ScriptFault, Words};
 use std::alloc::Global;
 
 /// The lines that say what must come of a row that ends like this, where the text is that of so many events.
@@ -30,16 +30,31 @@ pub(crate) fn wanted(
     Ok(lines)
 }
 
-/// The lines that say what comes of a row with these words, at most so many bytes a call.
-pub(crate) fn found(
+/// The lines that say what must come of a row that ends like this, where so many bytes of its text are written. Of its events they say nothing.
+pub(crate) fn wanted_front(
     alloc: Global,
     row: &Row,
-    words: &Words,
-    piece: usize,
-) -> Result<Vec<u8>, NoMemory>
-    requires { 1 ≤ piece }
+    status: &str,
+    count: usize,
+) -> Result<Vec<u8>, NoMemory> {
+    let mut lines = Vec::new(alloc);
+    put_said(&mut lines, format!(in alloc; "status {status}")?.as_str())?;
+    put_said(&mut lines, "text")?;
+    let mut left = count;
+    for part in row.parts.as_slice() {
+        let bytes = part.bytes.as_slice();
+        let most = left.min(bytes.len());
+        lines.extend_from_slice(&bytes[..most])?;
+        left -= most;
+    }
+    Ok(lines)
+}
+
+/// The lines that say what comes of a row with these words, whose bytes are moved so.
+pub(crate) fn found(alloc: Global, row: &Row, words: &Words, way: Way) -> Result<Vec<u8>, NoMemory>
+    requires { 1 ≤ way.piece }
 {
-    let came = run_row(alloc, row, words, piece)?;
+    let came = run_row(alloc, row, words, way)?;
     lines_of(alloc, row, &came)
 }
 

@@ -52,7 +52,11 @@ fn take_option(alloc: Global, row: &mut Row, said: &str) -> Result<(), LineFault
             row.wanted_events.push(String::from_str(alloc, said)?)?;
         }
         "text" => begin_text(alloc, row, rest)?,
-        "read" | "write" | "pieces" | "turns" => take_number(row, word, number_of(rest)?)?,
+        "read" | "write" | "pieces" | "faults" | "turns" => take_number(
+            row,
+            word,
+            number_of(rest)?,
+        )?,
         _ => return Err(LineFault::Unknown),
     }
     Ok(())
@@ -82,14 +86,23 @@ fn number_of(text: &str) -> Result<u64, LineFault> {
     text.parse::<u64>().map_err(|_| LineFault::Unknown)
 }
 
+/// The most bytes that a read asks for.
+const LONGEST_PIECE: u64 = 4096;
+
 /// Takes a number that is said of a row. Calls are numbered from 1, and a piece has a byte at least. A row that is run with each
-/// number of turns has no words of its own.
+/// number of turns has no words of its own, and one whose calls fail in turn neither turns nor a piece.
 fn take_number(row: &mut Row, word: &str, number: u64) -> Result<(), LineFault> {
     match word {
         "read" if number > 0 => row.failing_reads.push(number)?,
         "write" if number > 0 => row.failing_writes.push(number)?,
-        "pieces" if number > 0 => row.piece = Some(number as usize),
-        "turns" if row.words.is_none() && row.turns.is_none() => row.turns = Some(number),
+        "pieces" if number > 0 && row.faults.is_empty() => row.piece = Some(number as usize),
+        "faults"
+            if number > 0
+                && number <= LONGEST_PIECE
+                && row.turns.is_none()
+                && row.piece.is_none() => row.faults.push(number as usize)?,
+        "turns" if row.words.is_none() && row.turns.is_none() && row.faults.is_empty() =>
+            row.turns = Some(number),
         _ => return Err(LineFault::Unknown),
     }
     Ok(())

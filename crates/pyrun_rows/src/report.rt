@@ -4,7 +4,7 @@ ghost use Rattle.std.specs.Prelude.{◌≤◌};
 
 use crate::outcome::{found, wanted};
 use crate::row::Row;
-use crate::run::words_of;
+use crate::run::{Way, words_of};
 use py_code::NoMemory;
 use py_script::Words;
 use std::alloc::Global;
@@ -15,7 +15,7 @@ const CUT: &str = "4 out of turns";
 /// What is told of rows, and how many passed.
 #[derive(Drop)]
 pub(crate) struct Report {
-    alloc: Global,
+    pub(crate) alloc: Global,
     /// Whether what came of each row is told.
     shows: bool,
     lines: Vec<u8>,
@@ -66,8 +66,11 @@ impl Report {
         u8::from(self.fails)
     }
 
-    /// Runs a row, or one row for each number of turns.
+    /// Runs a row, or one row for each number of turns, or for each call that may fail.
     fn check(&mut self, row: &Row) -> Result<(), NoMemory> {
+        if !row.faults.is_empty() {
+            return self.check_faults(row);
+        }
         let Some(last) = row.turns else {
             let words = words_of(self.alloc, row.command())?;
             return self.check_words(row, &words, row.status.as_str(), u64::MAX);
@@ -96,32 +99,37 @@ impl Report {
         let lines = wanted(self.alloc, row, status, events)?;
         let lines = lines.as_slice();
         let same = match row.piece {
-            Some(piece) => self.is_same(row, words, piece.max(1), "in pieces", lines)?,
+            Some(piece) => { self.is_same(row, words, Way::of(piece.max(1)), "in pieces", lines)? }
             None => {
-                let at_once = self.is_same(row, words, usize::MAX, "all at once", lines)?;
-                at_once && self.is_same(row, words, 1, "a byte a call", lines)?
+                let at_once = self.is_same(row, words, Way::of(usize::MAX), "all at once", lines)?;
+                at_once && self.is_same(row, words, Way::of(1), "a byte a call", lines)?
             }
         };
+        self.count(same);
+        Ok(())
+    }
+
+    /// Counts a row that passed, or notes that one differs.
+    pub(crate) fn count(&mut self, same: bool) {
         if same {
             self.passed = self.passed.saturating_add(1);
         } else {
             self.fails = true;
         }
-        Ok(())
     }
 
     /// Whether what came of a row is what must come. What differs is told.
-    fn is_same(
+    pub(crate) fn is_same(
         &mut self,
         row: &Row,
         words: &Words,
-        piece: usize,
+        way: Way,
         how: &str,
         lines: &[u8],
     ) -> Result<bool, NoMemory>
-        requires { 1 ≤ piece }
+        requires { 1 ≤ way.piece }
     {
-        let came = found(self.alloc, row, words, piece)?;
+        let came = found(self.alloc, row, words, way)?;
         let same = came.as_slice() == lines;
         if !same {
             self.tell(row, how, "must come", lines)?;

@@ -21,6 +21,8 @@ pub(crate) struct Row {
     pub words: Option<String>,
     /// How many bytes a call of the source or a sink may move; where it isn't said, all, and then one.
     pub piece: Option<usize>,
+    /// How many bytes a call may move where the row is run with each read and each write failing in turn.
+    pub faults: Vec<usize>,
     /// The numbers of the reads that fail, from 1.
     pub failing_reads: Vec<u64>,
     /// The numbers of the writes of the text that fail, from 1.
@@ -44,6 +46,7 @@ impl Row {
             name: format!(in alloc; "{group}: {name}")?,
             words: None,
             piece: None,
+            faults: Vec::new(alloc),
             failing_reads: Vec::new(alloc),
             failing_writes: Vec::new(alloc),
             turns: None,
@@ -60,6 +63,15 @@ impl Row {
             Some(words) => words.as_str(),
             None => "run",
         }
+    }
+
+    /// How many bytes its text has.
+    pub(crate) fn text_len(&self) -> usize {
+        let mut count: usize = 0;
+        for part in self.parts.as_slice() {
+            count = count.saturating_add(part.bytes.len());
+        }
+        count
     }
 
     /// How many events a whole run has, where each number of turns is tried: as many as its last line needs.

@@ -1,14 +1,53 @@
 //! Running a script over a source and a sink in memory.
 
-ghost use Rattle.std.specs.Prelude.{◌≤◌};
+ghost use Rattle.std.specs.Prelude.{◌≡◌, ◌≤◌};
 
 use crate::row::Row;
 use py_code::NoMemory;
 use py_script::{Ended, SinkMemory, SourceMemory, Words, run_command};
 use std::alloc::Global;
+use std::fmt;
 
 /// How many bytes a text may have.
 const ROOM: usize = 200_000;
+
+/// A call of a stream that fails, by its number, from 1.
+#[derive(Clone, Copy)]
+pub(crate) enum Failing {
+    None,
+    Read(u64),
+    Write(u64),
+}
+
+/// How streams move bytes: at most so many a call, and which call fails beside those that the row names.
+#[derive(Clone, Copy)]
+pub(crate) struct Way {
+    pub piece: usize,
+    pub failing: Failing,
+}
+
+impl Way {
+    /// At most so many bytes a call, of which none fails but those that the row names.
+    pub(crate) fn of(piece: usize) -> Way
+        ensures { result.piece ≡ piece }
+    {
+        Way {
+            piece,
+            failing: Failing::None,
+        }
+    }
+}
+
+impl fmt::Display for Way {
+    fn fmt<W: fmt::Write>(&self, f: &mut fmt::Formatter<W>) -> fmt::Result {
+        write!(f, "{} bytes a call", self.piece)?;
+        match self.failing {
+            Failing::None => Ok(()),
+            Failing::Read(number) => write!(f, ", read {number} fails"),
+            Failing::Write(number) => write!(f, ", write {number} fails"),
+        }
+    }
+}
 
 /// What a command reads and writes: a row's script, and sinks for the text and the note.
 #[derive(Drop)]
@@ -26,15 +65,22 @@ pub(crate) struct Came {
 }
 
 impl Streams {
-    /// The streams of a row, of which each call moves at most `piece` bytes.
-    fn of(alloc: Global, row: &Row, piece: usize) -> Result<Streams, NoMemory>
-        requires { 1 ≤ piece }
+    /// The streams of a row, which move bytes so.
+    fn of(alloc: Global, row: &Row, way: Way) -> Result<Streams, NoMemory>
+        requires { 1 ≤ way.piece }
     {
         let script = row.script.clone()?;
+        let mut reads = row.failing_reads.clone()?;
+        let mut writes = row.failing_writes.clone()?;
+        match way.failing {
+            Failing::None => {}
+            Failing::Read(number) => reads.push(number)?,
+            Failing::Write(number) => writes.push(number)?,
+        }
         Ok(Streams {
-            source: SourceMemory::new(script, row.failing_reads.clone()?, piece),
-            text: SinkMemory::new(alloc, row.failing_writes.clone()?, piece, ROOM)?,
-            note: SinkMemory::new(alloc, Vec::new(alloc), piece, 100)?,
+            source: SourceMemory::new(script, reads, way.piece),
+            text: SinkMemory::new(alloc, writes, way.piece, ROOM)?,
+            note: SinkMemory::new(alloc, Vec::new(alloc), way.piece, 100)?,
         })
     }
 
@@ -63,16 +109,11 @@ pub(crate) fn words_of(alloc: Global, text: &str) -> Result<Words, NoMemory> {
     Ok(words)
 }
 
-/// What the words come to over the row's script, at most so many bytes a call.
-pub(crate) fn run_row(
-    alloc: Global,
-    row: &Row,
-    words: &Words,
-    piece: usize,
-) -> Result<Came, NoMemory>
-    requires { 1 ≤ piece }
+/// What the words come to over the row's script, whose bytes are moved so.
+pub(crate) fn run_row(alloc: Global, row: &Row, words: &Words, way: Way) -> Result<Came, NoMemory>
+    requires { 1 ≤ way.piece }
 {
-    let mut streams = Streams::of(alloc, row, piece)?;
+    let mut streams = Streams::of(alloc, row, way)?;
     let ended = streams.run(alloc, words);
     Ok(Came { ended, streams })
 }
