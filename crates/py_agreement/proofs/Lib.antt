@@ -1,0 +1,3 @@
+mod AgreementLemmas
+mod Agreeing
+mod WorkedLemmas

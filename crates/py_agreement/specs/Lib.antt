@@ -1,0 +1,4 @@
+-- when two traces agree, and between which scenes they do
+pub mod Agreement
+-- short lists of events, compared by hand
+pub mod Worked

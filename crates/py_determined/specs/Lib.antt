@@ -1,0 +1,8 @@
+-- when objects are alike
+pub mod Alike
+-- when questions, replies and courses are the same
+pub mod Sameness
+-- when events are
+pub mod Events
+-- which objects two runs relate
+pub mod Related
