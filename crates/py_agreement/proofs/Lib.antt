@@ -1,3 +1,3 @@
 mod AgreementLemmas
-mod Agreeing
+pub mod Agreeing
 mod WorkedLemmas

@@ -1,5 +1,5 @@
 -- Short lists of events, and which of them agree, where objects are the same by their numbers.
-use Rattle.std.specs.Prelude.{ℕ, Bool, true, false, Some, None, List, [], ◌∷◌, ◌≡◌, ◌≢◌, ◌||◌, eqb, bytes_eq, slice_get}
+use Rattle.std.specs.Prelude.{ℕ, Bool, true, false, Some, None, List, [], ◌∷◌, ◌≢◌, ◌||◌, eqb, bytes_eq, slice_get}
 use Rattle.std.specs.Ordering.{int_eq}
 use Rattle.py_code.specs.declared.operator.BinaryOperator.TheVariants as binary
 use Rattle.py_objects.specs.declared.refs.PyBaseExceptionRef.{PyBaseExceptionRef}

@@ -29,7 +29,7 @@ pub one_payload : (objects : List Payload) (v : Obj) (p q : Payload) → HasPayl
 one_payload objects v p q has has' = cc
 
 -- a search finds an entry that passes its test
-found_from : (test : Payload → Bool) (ps : List Payload) (i k : ℕ) → position_from test i ps ≡ Some k
+pub found_from : (test : Payload → Bool) (ps : List Payload) (i k : ℕ) → position_from test i ps ≡ Some k
     → (j : ℕ) × (p : Payload) × (k ≡ i + j) × (slice_get ps j ≡ Some p) × (test p ≡ true)
 found_from test [] i k found = absurd (cc found)
 found_from test (p ∷ ps) i k found =

@@ -1,9 +1,8 @@
 -- What is the same over a relation is the same over one that relates more objects.
-use Rattle.std.proofs.Common.{◌≡◌, List, [], ◌∷◌, Some, None, false}
+use Rattle.std.proofs.Common.{List, [], ◌∷◌, Some, None}
 use Rattle.std.specs.Prelude.{Option}
 use Rattle.py_objects.specs.declared.payload.Payload.{Payload}
 use Rattle.py_objects.specs.declared.payload.Payload.TheVariants as payload
-use Rattle.py_objects.specs.declared.payload.ExceptionBody.{ExceptionBody}
 use Rattle.py_objects.specs.declared.refs.PyBaseExceptionRef.{PyBaseExceptionRef}
 use Rattle.py_objects.specs.declared.request.Request.{Request}
 use Rattle.py_objects.specs.declared.event.GotAnswer.{GotAnswer}
@@ -16,7 +15,7 @@ use Rattle.py_objects.specs.declared.event.DriveAnswer.{DriveAnswer}
 use Rattle.py_objects.specs.declared.event.DriveAnswer.TheVariants as answer
 use Rattle.py_objects.specs.declared.event.Event.{Event}
 use Rattle.py_objects.specs.declared.event.Event.TheVariants as event
-use Rattle.py_objects.specs.Objects.{Obj, HasPayload, as_object}
+use Rattle.py_objects.specs.Objects.{Obj, as_object}
 use Rattle.py_objects.specs.Attrs.{Attrs}
 use Rattle.py_coro.specs.declared.coro.CoroEnd.{CoroEnd}
 use Rattle.py_coro.specs.declared.coro.CoroEnd.TheVariants as left
@@ -24,8 +23,8 @@ use Rattle.py_run.specs.Run.{Posed, Phase, Idle, Asking, Going, Made, Due, Act, 
 use Rattle.py_run.specs.Generators.{Generator}
 use Rattle.py_run.specs.Raises.{Raise}
 use Rattle.py_agreement.specs.Agreement.{Relation, SameException, SameMaybe, SameHandled, SameAll, SameRequest, SameAnswer, SameHow, SameEnding}
-use Rattle.py_determined.specs.Alike.{SameAttrs, AlikeExceptions, Alike}
-use Rattle.py_determined.specs.Sameness.{SameTold, SameAsked, SameLeft, SameGenerator, SameGenerators, SamePosed, SamePhase, SameAct, SameActs, SameActivation, SameActivations, SameState, SameRaise, SameRaises}
+use Rattle.py_determined.specs.Alike.{SameAttrs, Alike}
+use Rattle.py_determined.specs.Sameness.{SameTold, SameAsked, SameLeft, SameGenerators, SamePosed, SamePhase, SameAct, SameActs, SameActivations, SameState, SameRaises}
 use Rattle.py_determined.specs.Events.{SameResult, SameEvent, SameEvents}
 use Rattle.py_determined.proofs.Requests.{BothAsk, BothUnbound, BothGlobal, BothBinary, BothCompare, BothTruth, BothMatch, BothHandled, BothRaisable, BothShow, BothCall, BothSend, BothThrow, BothClose, BothEnter, BothExit, BothNoExit, both_ask}
 

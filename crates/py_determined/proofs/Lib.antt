@@ -6,6 +6,21 @@ pub mod ExceptionsAgree
 pub mod AnswersAgree
 -- calls, sends, throws, closes, entries and exits
 pub mod CoursesAgree
--- what holds of more related objects
+-- the same questions, one kind at a time
 pub mod Requests
+-- what is the same as more objects are related
 pub mod Growing
+-- what the same events make of the same states
+pub mod StatesAgree
+-- one more pair of related objects
+pub mod Pairing
+-- what the same replies give
+pub mod Births
+-- what activations tell next
+pub mod Telling
+-- what may come in each phase
+pub mod Phases
+-- both go on by the same event
+pub mod Steps
+-- two runs of one script are the same
+pub mod RunsAgree

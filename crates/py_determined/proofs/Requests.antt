@@ -1,5 +1,5 @@
 -- The same questions, one kind at a time.
-use Rattle.std.proofs.Common.{◌≡◌, List, Some, None}
+use Rattle.std.proofs.Common.{◌≡◌, List}
 use Rattle.std.specs.Prelude.{Option}
 use Rattle.py_code.specs.declared.operator.BinaryOperator.{BinaryOperator}
 use Rattle.py_code.specs.declared.operator.ComparisonOperator.{ComparisonOperator}

@@ -1,0 +1,6 @@
+//! What any two runs of one script have in common: a law about the definitions of runs, with no code.
+#![tactic(auto)]
+
+mod laws;
+
+pub use laws::laws_of_scripts;
