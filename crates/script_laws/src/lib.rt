@@ -2,5 +2,7 @@
 #![tactic(auto)]
 
 mod laws;
+mod worked;
 
 pub use laws::laws_of_scripts;
+pub use worked::worked_runs;

@@ -1,0 +1,2 @@
+-- short runs, compared by hand
+pub mod Worked
