@@ -11,3 +11,4 @@ pub mod DeterminedRuns
 pub mod TextsAgree
 -- two runs of one script
 pub mod ScriptsAgree
+mod WorkedLemmas

@@ -43,3 +43,7 @@ abbrev pub NoOtherIdentity : Type 0
 NoOtherIdentity =
     AlikeBy (generator ∷ []) (generator ∷ generator ∷ []) (event.Ask 1 (request.Compare comparison.Equal (numbered 0) (numbered 0)) None 0)
     (event.Ask 1 (request.Compare comparison.Equal (numbered 0) (numbered 1)) None 0) → ⊥
+
+-- an answer of 1, which is the object 0 in the one run and the object 1 in the other
+abbrev pub OtherNumbers : Type 0
+OtherNumbers = AlikeBy (one ∷ []) (two ∷ one ∷ []) answer (event.Got 1 (got.Value (numbered 1)))

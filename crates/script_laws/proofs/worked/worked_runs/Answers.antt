@@ -2,6 +2,7 @@ use Rattle.std.proofs.Common.{◌≡◌, pos, refl, inl, inr, true, false}
 use Rattle.std.specs.Prelude.{Bool, ℤ}
 use Rattle.py_determined.specs.Alike.{numbered}
 use Rattle.script_laws.specs.Worked.{one, two, generator}
+use Rattle.script_laws.proofs.WorkedLemmas.{other_numbers}
 use Rattle.script_laws.proofs.worked.worked_runs.Goals as goal
 
 pub returns : goal.returns
@@ -10,4 +11,5 @@ returns c = record {
   no_other_order = λ alike. let same : pos 1 ≡ pos 2 = alike.payloads (numbered 0) (numbered 1) one two (inr (inr (inl (refl, refl)))) refl refl in cc same;
   no_other_identity = λ alike.
       let same : true ≡ false = alike.one (numbered 0) (numbered 0) (numbered 0) (numbered 1) generator (inr (inr (inl (refl, refl)))) (inr (inr (inr (inl (refl, refl))))) refl refl in cc same;
+  other_numbers = other_numbers;
 }
