@@ -4,7 +4,7 @@ use Rattle.py_objects.specs.declared.payload.Payload.{Payload}
 use Rattle.py_objects.specs.Objects.{Obj, HasPayload}
 use Rattle.py_agreement.specs.Agreement.{has_literal}
 use Rattle.py_determined.specs.Alike.{Alike}
-use Rattle.py_determined.specs.Related.{Related, IsPair}
+use Rattle.py_determined.specs.Related.{Related}
 use Rattle.script_laws.specs.Worked.{OtherNumbers, one, two}
 
 -- the one object of a list of one
@@ -19,9 +19,11 @@ alone v p has = go v.number has
 second : (v : Obj) (p : Payload) → v.number ≡ 1 → HasPayload (two ∷ one ∷ []) v p → p ≡ one
 second v p here has = let it : slice_get (two ∷ one ∷ []) 1 ≡ Some p = ap (slice_get (two ∷ one ∷ [])) (sym here) ∙ has in cc it
 
+-- where a literal stands for the one object there is no other
 plain : (v : Obj) (p : Payload) → HasPayload (one ∷ []) v p → has_literal p ≡ false → true ≡ false
 plain v p has none = ap has_literal (sym (alone v p has)) ∙ none
 
+-- one answer may have another number
 pub other_numbers : OtherNumbers
 other_numbers = record {
   literals = λ p v w literal has has'. inl (p, literal, has, has');

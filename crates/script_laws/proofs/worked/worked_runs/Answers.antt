@@ -1,5 +1,4 @@
 use Rattle.std.proofs.Common.{◌≡◌, pos, refl, inl, inr, true, false}
-use Rattle.std.specs.Prelude.{Bool, ℤ}
 use Rattle.py_determined.specs.Alike.{numbered}
 use Rattle.script_laws.specs.Worked.{one, two, generator}
 use Rattle.script_laws.proofs.WorkedLemmas.{other_numbers}
