@@ -26,9 +26,9 @@ use Rattle.py_grammar.specs.declared.rules.Inside.{Inside}
 use Rattle.py_grammar.specs.declared.script.Script.{Script}
 use Rattle.py_grammar.specs.Rules.{Declared, is_among, all_differ, declares, declares_callable, is_callable, is_class, is_base, is_new, is_builtin_class, may_declare, may_manage, numbers_drive, is_drivable, is_thrown, may_drive, may_yield, may_operate, may_compute, body_of, within}
 use Rattle.py_grammar.specs.Grammar.{Decl, ClassDecl, ManagerDecl, FunctionDecl, decl_name, decl_kind, Item, Declares, Drives, declared_as, decl_rows, WellForm, WellSuite, WellClauses, WellDecl, WellItems, items_rows, decls_in, drives_in}
-use Rattle.py_grammar.specs.Script.{IsScript}
+use Rattle.py_grammar.specs.Script.{IsScript, decls_of}
 use Rattle.py_grammar.specs.Tables.{names_of}
-use Rattle.py_grammar.specs.WellFormed.{AreDistinct, IsFunctionNamed, IsClassNamed, IsFunction, IsClass, IsKnown, IsWellDeclared, NumbersDrive, IsDrivable, IsThrowable, IsWellDriven, AreWellFormed, IsWellFormed}
+use Rattle.py_grammar.specs.WellFormed.{AreDistinct, IsFunctionNamed, IsClassNamed, IsFunction, IsClass, IsKnown, IsWellDeclared, NumbersDrive, IsDrivable, IsThrowable, IsWellDriven, AreWellDriven, AreWellFormed, IsWellFormed}
 use Rattle.py_grammar.proofs.Short.{tree_size, script_size}
 use Rattle.py_grammar.proofs.Tables.{declares-names}
 use Rattle.py_grammar.proofs.Whole.{well_behind_one}
@@ -295,10 +295,15 @@ drives_keep (Drives d ∷ is) ts made w (suc i) e at =
     let one : suc made + i ≡ made + suc i = omega arith in
     subst (λ n. IsWellDriven (ts ++ decls_in is) n e) one (drives_keep is ts (suc made) w.1 i e at)
 
-driven_from_none : (is : List Item) → WellItems [] 0 is → (i : ℕ) (d : DriveLine) → slice_get (drives_in is) i ≡ Some d → IsWellDriven (decls_in is) i d
+driven_from_none : (is : List Item) → WellItems [] 0 is → AreWellDriven (decls_in is) (drives_in is)
 driven_from_none is w i d at =
     let none : 0 + i ≡ i = omega arith in
     subst (λ n. IsWellDriven (decls_in is) n d) none (drives_keep is [] 0 w i d at)
+
+-- those of a script, however long it is
+pub script_driven : (bytes : List ℕ) (s : Script) → IsScript bytes s → AreWellDriven (decls_of s) s.drives
+script_driven bytes s is =
+    subst (λ ds. AreWellDriven ds s.drives) (sym is.declared) (subst (λ ls. AreWellDriven (decls_in is.items) ls) (sym is.driven) (driven_from_none is.items is.well))
 
 -- ---- declarations
 
@@ -340,6 +345,6 @@ script_keeps bytes s few is =
     let w : AreWellFormed (decls_in is.items) (drives_in is.items) = record {
       declared = λ i d at. decls_keep is.items [] 0 is.well (omega (arith, size, few)) i d at;
       distinct = names_keep is.items [] 0 is.well (distinct_by_test [] refl);
-      driven = λ i d at. driven_from_none is.items is.well i d at;
+      driven = driven_from_none is.items is.well;
     } in
     subst (λ x. AreWellFormed x s.drives) (sym is.declared) (subst (λ x. AreWellFormed (decls_in is.items) x) (sym is.driven) w)

@@ -13,7 +13,7 @@ mod Sound
 mod Begun
 -- what every script keeps
 mod Short
-mod Keeps
+pub mod Keeps
 -- the text of a script
 mod Texts
 -- which verdict lines come to

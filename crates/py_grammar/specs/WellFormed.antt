@@ -90,11 +90,15 @@ IsWellDriven decls made (drive.Send n a) = IsWellSent decls made n a
 IsWellDriven decls made (drive.Throw n c v) = IsWellThrown decls made n c v
 IsWellDriven decls made (drive.Close n) = NumbersDrive made n
 
+-- each drive, behind those in front of it
+abbrev pub AreWellDriven : List Decl → List DriveLine → Type 0
+AreWellDriven decls drives = (i : ℕ) (d : DriveLine) → slice_get drives i ≡ Some d → IsWellDriven decls i d
+
 -- declarations and drives
 pub record AreWellFormed (decls : List Decl) (drives : List DriveLine) : Type 0 where
   pub declared : (i : ℕ) (d : Decl) → slice_get decls i ≡ Some d → IsWellDeclared (take i decls) d
   pub distinct : AreDistinct (map decl_name decls)
-  pub driven : (i : ℕ) (d : DriveLine) → slice_get drives i ≡ Some d → IsWellDriven decls i d
+  pub driven : AreWellDriven decls drives
 
 -- a script
 abbrev pub IsWellFormed : Script → Type 0

@@ -14,11 +14,12 @@ use Rattle.py_grammar.specs.Script.{decl_of}
 use Rattle.py_grammar.specs.WellFormed.{IsWellDeclared}
 use Rattle.py_vm.specs.First.{first_objects}
 use Rattle.py_vm.specs.Machine.{Machine}
-use Rattle.py_script.specs.Whole.{AreObjects}
-use Rattle.py_script.specs.Loaded.{AreWellDeclared, HasNone, HasObjects, IsFoundedOn, IsEntryOf}
-use Rattle.py_script.proofs.Behind.{none_declared}
+use Rattle.py_meaning.specs.Whole.{AreObjects}
+use Rattle.py_meaning.specs.Entries.{AreWellDeclared, IsFoundedOn, IsEntryOf}
+use Rattle.py_script.specs.Loaded.{HasNone, HasObjects}
+use Rattle.py_meaning.proofs.Behind.{none_declared}
 use Rattle.py_script.proofs.Declarations.{entry_mapped, entry_read, front_more}
-use Rattle.py_script.proofs.Entries.{MayBeAdded, entry_added, founded, functions_append, new_name, one_declared}
+use Rattle.py_meaning.proofs.Entries.{MayBeAdded, entry_added, founded, functions_append, new_name, one_declared}
 
 -- a declaration that is no function's has no code
 pub no_function : (d : Declaration) → ((b : Body) → d ≡ Function b → ⊥) → functions_in (decl_of d ∷ []) ≡ []

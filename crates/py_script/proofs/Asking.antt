@@ -11,7 +11,7 @@ use Rattle.py_lines.specs.declared.drive.DriveAtom.{DriveAtom}
 use Rattle.py_lines.specs.declared.drive.DriveLine.{DriveLine}
 use Rattle.py_lines.specs.declared.drive.DriveLine.TheVariants as drive
 use Rattle.py_vm.specs.Machine.{Machine}
-use Rattle.py_script.specs.Whole.{AsksThis, IsLeftBy, IsOf, IsThrown, AreOf}
+use Rattle.py_meaning.specs.Whole.{AsksThis, IsLeftBy, IsOf, IsThrown, AreOf}
 use Rattle.py_script.specs.Held.{Held}
 use Rattle.py_script.specs.Session.{OnlyGrew}
 use Rattle.py_script.proofs.Objects.{left_by_grows}

@@ -23,9 +23,9 @@ use Rattle.py_run.specs.Run.{Signature}
 use Rattle.py_vm.specs.Codes.{Checked, IsDriven, plain_codes, signature_in, signatures_of}
 use Rattle.py_run.proofs.BoundLemmas.{AreSigned}
 use Rattle.py_objects.proofs.NewLemmas.{newest}
-use Rattle.py_script.specs.Whole.{AreCompiled, signature_of}
+use Rattle.py_meaning.specs.Whole.{AreCompiled, signature_of}
 use Rattle.py_script.specs.Loaded.{AreChecked}
-use Rattle.py_script.proofs.Entries.{one_more}
+use Rattle.py_meaning.proofs.Entries.{one_more}
 
 -- the entry of a list that is mapped
 pub entry_mapped : {A B : Type 0} (f : A → B) (xs : List A) (i : ℕ) (x : A) → slice_get xs i ≡ Some x → slice_get (map f xs) i ≡ Some (f x)

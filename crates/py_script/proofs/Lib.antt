@@ -1,6 +1,4 @@
 -- what a script gives the compiler and the machine
-pub mod Behind
-pub mod Entries
 pub mod Objects
 -- what a machine's run is in the script's own words
 pub mod Made
@@ -18,19 +16,9 @@ pub mod Reading
 pub mod Answering
 -- which statuses come
 pub mod Statuses
+pub mod Settled
 -- what is written
 mod NoteLemmas
 mod PathLemmas
 mod ReprLemmas
 mod TextLemmas
--- journals worked by hand
-mod WorkedObjects
-mod Journals
-mod WorkedLemmas
-mod WorkedShowLemmas
-mod WorkedLoopLemmas
-mod OneText
-mod WorkedCallLemmas
-mod WorkedFinallyLemmas
-mod WorkedGeneratorLemmas
-mod WorkedWithLemmas

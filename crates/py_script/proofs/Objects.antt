@@ -20,9 +20,9 @@ use Rattle.py_lines.specs.declared.drive.DriveLine.{DriveLine}
 use Rattle.py_lines.specs.declared.drive.DriveLine.TheVariants as drive
 use Rattle.py_grammar.specs.Grammar.{Decl, decl_name}
 use Rattle.py_run.specs.Run.{Posed}
-use Rattle.py_script.specs.Whole.{IsLeft, IsLeftBy, IsOf, IsThrown, AreOf, AsksThis, Asks, AreAsked, AreGlobals, AreObjects}
+use Rattle.py_meaning.specs.Whole.{IsLeft, IsLeftBy, IsOf, IsThrown, AreOf, AsksThis, Asks, AreAsked, AreGlobals, AreObjects}
 use Rattle.py_script.specs.Session.{AreBindings}
-use Rattle.py_script.proofs.Entries.{objects_more}
+use Rattle.py_meaning.proofs.Entries.{objects_more}
 
 -- an entry that is a declaration was there before others came plainly
 declared_before : (objects objects' : List Payload) (v : Obj) (p : Payload) (n : Name) → GrowsPlainly objects objects' → declares p ≡ Some n → HasPayload objects' v p → HasPayload objects v p

@@ -1,8 +1,8 @@
 -- The part of a path behind its last /, as a loop over the path finds it.
 use Rattle.std.proofs.Common.{◌≡◌, ℕ, [], ◌∷◌, Bool, true, false, cond, refl, ◌∙◌}
 use Rattle.py_objects.specs.Objects.{Name}
-use Rattle.py_script.specs.Repr.{has}
-use Rattle.py_script.specs.Said.{base_name}
+use Rattle.py_meaning.specs.Repr.{has}
+use Rattle.py_meaning.specs.Said.{base_name}
 
 -- what has no / is all behind it
 without_slash : (s : Name) → has 47 s ≡ false → base_name s ≡ s

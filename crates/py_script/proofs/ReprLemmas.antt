@@ -1,7 +1,7 @@
 -- What is shown with commas between, one after another.
 use Rattle.std.proofs.Common.{◌≡◌, ◌≤◌, List, ℕ, [], ◌∷◌, ◌++◌, ap, sym, ◌∙◌, length, take, take_all, append_assoc, append-nil}
 use Rattle.std.specs.Prelude.{codes, flat_map}
-use Rattle.py_script.specs.Repr.{joined}
+use Rattle.py_meaning.specs.Repr.{joined}
 
 -- all but the first one stand behind a comma
 joined-cons : {A : Type 0} (f : A → List ℕ) (v : A) (vs : List A) → joined f (v ∷ vs) ≡ f v ++ flat_map (λ w. codes ", " ++ f w) vs

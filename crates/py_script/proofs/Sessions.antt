@@ -24,12 +24,12 @@ use Rattle.py_vm.specs.declared.fault.VmFault.{VmFault}
 use Rattle.py_vm.specs.declared.fault.VmFault.TheVariants as fault
 use Rattle.py_vm.specs.declared.journal.Journal.{Journal}
 use Rattle.py_vm.specs.Machine.{Machine, done_of, Adds, EndsBy}
-use Rattle.py_script.specs.Whole.{AreAsked, AsksThis}
+use Rattle.py_meaning.specs.Whole.{AreAsked, AsksThis}
 use Rattle.py_script.specs.Held.{Held, journal_of}
 use Rattle.py_script.specs.Session.{InRun, IsInRun, IsLineThere, IsLoaded, IsOpen, IsReady, IsSessionOf, IsThere, IsThereIf, OnlyGrew}
 use Rattle.py_script.specs.Driving.{GoesOn, HasRunOf, IsDriven, MayBeDriven, NamesKnown}
 use Rattle.py_script.proofs.Declarations.{checked_compiled, entry_read}
-use Rattle.py_script.proofs.Entries.{class_known, function_known, known_declared}
+use Rattle.py_meaning.proofs.Entries.{class_known, function_known, known_declared}
 use Rattle.py_script.proofs.Driven.{IsFinished, IsUnderWay, driven_ready, driven_run, is_run_of, loaded_ready, run_grows, same_codes, same_done, same_events_of}
 
 -- a result whose error is this one

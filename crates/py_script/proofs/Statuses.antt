@@ -1,8 +1,7 @@
 -- Which statuses come where reads and writes don't fail, and which of a script.
 use Rattle.std.proofs.Common.{◌≡◌, ◌<◌, ◌≤◌, ◌^◌, ℕ, List, length, Some, refl, sym, ◌∙◌, subst, arith, inl, inr}
 use Rattle.std.specs.Prelude.{Option, IfSome, Result, Ok, Err}
-use Rattle.py_grammar.specs.declared.script.Script.{Script}
-use Rattle.py_grammar.specs.Script.{IsScript, IsBadLine}
+use Rattle.py_grammar.specs.Script.{IsBadLine}
 use Rattle.py_grammar.proofs.Verdicts.{not_both}
 use Rattle.py_vm.specs.declared.journal.Journal.{Journal}
 use Rattle.py_script.specs.declared.words.Command.TheVariants as command
@@ -10,8 +9,14 @@ use Rattle.py_script.specs.declared.fault.ScriptFault.{ScriptFault}
 use Rattle.py_script.specs.declared.fault.ScriptFault.TheVariants as fault
 use Rattle.py_script.specs.declared.fault.CommandResult.{CommandResult}
 use Rattle.py_script.specs.declared.fault.CommandResult.TheVariants as outcome
-use Rattle.py_script.specs.Causes.{Ends, IsAnswer, IsEnding, RunsScripts, RunsAskedScripts}
+use Rattle.py_script.specs.Causes.{Ends, IsAnswer, IsEnding, Read, RunsScripts, RunsAskedScripts}
 use Rattle.py_script.specs.Steps.{result_in}
+
+-- what was read of a source is what it held
+pub what_it_held : (e : Ends) (bytes : List ℕ) (claim : List ℕ → Type 0) → e.left ≡ Some bytes → Read e claim → claim bytes
+what_it_held e bytes claim is read =
+    let same : read.bytes ≡ bytes = subst (λ (l : Option (List ℕ)). IfSome l (λ all. read.bytes ≡ all)) is read.are in
+    subst claim same read.claimed
 
 -- a short source isn't too long
 short_enough : (left : Option (List ℕ)) (bytes : List ℕ) → left ≡ Some bytes → length bytes ≤ 2 ^ 20 → IfSome left (λ all. 2 ^ 20 < length all) → ⊥
@@ -19,16 +24,10 @@ short_enough left bytes is short long =
     let more : 2 ^ 20 < length bytes = subst (λ (l : Option (List ℕ)). IfSome l (λ all. 2 ^ 20 < length all)) is long in
     omega (arith, short, more)
 
--- nor does what was read of a script have a bad line
-no_bad_line : (left : Option (List ℕ)) (bytes read : List ℕ) (s : Script) (line : ℕ) → left ≡ Some bytes → IsScript bytes s → IfSome left (λ all. read ≡ all) → IsBadLine read line → ⊥
-no_bad_line left bytes read s line is script are bad =
-    let same : read ≡ bytes = subst (λ (l : Option (List ℕ)). IfSome l (λ all. read ≡ all)) is are in
-    not_both bytes s line script (subst (λ (b : List ℕ). IsBadLine b line) same bad)
-
 -- so a script is run, or a fault was counted
 pub answer_runs : (e : Ends) (turns : ℕ) (r : Result Journal ScriptFault) → IsAnswer e turns r → RunsScripts e (result_in r)
 answer_runs e turns (Ok j) is bytes s left short script = inl (inl refl)
-answer_runs e turns (Err (fault.Malformed line)) is bytes s left short script = absurd (no_bad_line e.left bytes is.0.bytes s line left script is.0.are is.0.claimed)
+answer_runs e turns (Err (fault.Malformed line)) is bytes s left short script = absurd (not_both bytes s line script (what_it_held e bytes (λ b. IsBadLine b line) left is.0))
 answer_runs e turns (Err (fault.Refused code at)) is bytes s left short script = absurd is
 answer_runs e turns (Err (fault.OutOfTurns j)) is bytes s left short script = inl (inr (inl refl))
 answer_runs e turns (Err fault.ReadFault) is bytes s left short script = inr (inl (refl, is.0))

@@ -1,13 +1,11 @@
 -- The objects at an event, by those in front of it and the changes that come due.
-use Rattle.std.proofs.Common.{◌≡◌, ◌+◌, ℕ, false, List, [], ◌∷◌, ◌++◌, refl, ap, arith}
-use Rattle.std.specs.Prelude.{filter, flat_map, nat_eq, nat_le, nat_lt}
+use Rattle.std.proofs.Common.{◌≡◌, ℕ, false, List, [], ◌∷◌, refl, ap, arith}
+use Rattle.std.specs.Prelude.{filter, nat_eq, nat_le, nat_lt}
 use Rattle.std.specs.List.{list_any}
 use Rattle.std.proofs.lemmas.Bool.{or_parts}
 use Rattle.py_objects.specs.declared.edit.Change.{Change}
 use Rattle.py_objects.specs.declared.payload.Payload.{Payload}
 use Rattle.py_objects.specs.Edits.{changed_by, store_at}
-use Rattle.py_objects.specs.declared.event.Event.{Event}
-use Rattle.py_script.specs.Text.{event_text, events_text, text_from}
 use Rattle.py_script.specs.Writing.{store_before}
 
 apart : (a k : ℕ) → nat_eq a k ≡ false → nat_lt a k ≡ nat_le a k
@@ -29,14 +27,3 @@ none_lower a = grind arith
 pub none_before : (made : List Payload) (cs : List Change) → store_before made cs 0 ≡ made
 none_before made [] = refl
 none_before made (c ∷ cs) = rw (none_lower c.after) (none_before made cs)
-
--- what is written of events by objects that never change
-abbrev pub plain_text : List Payload → List Event → List ℕ
-plain_text objects events = flat_map (event_text objects) events
-
-pub unchanged_from : (objects : List Payload) (k : ℕ) (events : List Event) → text_from objects [] k events ≡ plain_text objects events
-unchanged_from objects k [] = refl
-unchanged_from objects k (e ∷ es) = ap (λ rest. event_text objects e ++ rest) (unchanged_from objects (k + 1) es)
-
-pub unchanged : (objects : List Payload) (events : List Event) → events_text objects [] events ≡ plain_text objects events
-unchanged objects events = unchanged_from objects 0 events

@@ -12,8 +12,8 @@ use Rattle.py_script.specs.declared.fault.ScriptFault.{ScriptFault}
 use Rattle.py_script.specs.declared.fault.ScriptFault.TheVariants as fault
 use Rattle.py_script.specs.declared.fault.CommandResult.{CommandResult}
 use Rattle.py_script.specs.declared.fault.CommandResult.TheVariants as outcome
-use Rattle.py_script.specs.Whole.{IsRun, IsWhole, RunsItsCodes, IsEmpty}
-use Rattle.py_script.specs.Text.{text_of}
+use Rattle.py_meaning.specs.Whole.{IsRun, IsWhole, RunsItsCodes, IsEmpty}
+use Rattle.py_meaning.specs.Text.{text_of}
 use Rattle.py_script.specs.Causes.{WasRead}
 
 -- what parsing bytes answers

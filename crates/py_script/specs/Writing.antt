@@ -5,9 +5,9 @@ use Rattle.py_objects.specs.declared.payload.Payload.{Payload}
 use Rattle.py_objects.specs.declared.payload.ExceptionBody.{ExceptionBody}
 use Rattle.py_objects.specs.Edits.{changed_by}
 use Rattle.py_objects.specs.Objects.{Obj}
-use Rattle.py_script.specs.Repr.{Inner, items_of, payload_of, repr_within}
-use Rattle.py_script.specs.Said.{key_said, os_said, said, said_by, syntax_said}
-use Rattle.py_script.specs.Text.{str_within}
+use Rattle.py_meaning.specs.Repr.{Inner, items_of, payload_of, repr_within}
+use Rattle.py_meaning.specs.Said.{key_said, os_said, said, said_by, syntax_said}
+use Rattle.py_meaning.specs.Text.{str_within}
 
 -- how the objects inside of one are shown, where that one may hold others so deep
 abbrev pub inner_at : ℕ → List Payload → Inner

@@ -1,8 +1,8 @@
 //! The attributes of exceptions that their texts show.
 
 ghost use Rattle.std.specs.Prelude.{◌≡◌, ◌++◌, IfOk, OnOk, encode_utf8_all, option_copied, string_bytes};
-ghost use Rattle.py_script.specs.Repr.{repr_within};
-ghost use Rattle.py_script.specs.Said.{attribute as attribute_of, base_name as behind_last_slash, files, given as given_object, text_at as text_of_object};
+ghost use Rattle.py_meaning.specs.Repr.{repr_within};
+ghost use Rattle.py_meaning.specs.Said.{attribute as attribute_of, base_name as behind_last_slash, files, given as given_object, text_at as text_of_object};
 
 use crate::repr::push_repr;
 use py_code::{NoMemory, PyText, text_of};

@@ -3,7 +3,7 @@
 ghost use Rattle.std.specs.Prelude.{◌≡◌, ◌+◌, ◌≤◌, ◌^◌, ◌⊎◌, IsTrue};
 ghost use Rattle.std.specs.Io.KnownBytes.{Appends};
 ghost use Rattle.py_exceptions.specs.Faults.{Rose};
-ghost use Rattle.py_script.specs.Causes.{IsAnswer, IsEnding, ReadsSoundly, WritesSurely, RunsScripts, RunsAskedScripts, status_in, note_in};
+ghost use Rattle.py_script.specs.Causes.{IsAnswer, IsEnding, ReadsSoundly, WritesSurely, RunsScripts, RunsAskedScripts, RunsSettle, AskedRunsSettle, status_in, note_in};
 ghost use Rattle.py_script.specs.Steps.{result_in};
 
 use crate::fault::{CommandResult, Ended, ScriptFault};
@@ -29,12 +29,13 @@ pub fn run_script<S: Source, K: Sink>(
     ensures sound { IsTrue (S.is_sound source.old) → ReadsSoundly (S.faults source.old) (S.faults source.new) (S.is_sound source.new) (result_in result) }
     ensures sure { WritesSurely (K.sure sink.old) (K.faults sink.old) (K.faults sink.new) (result_in result) }
     ensures complete { RunsScripts (record { left = S.left source.old; left' = S.left source.new; read_faults = S.faults source.old; read_faults' = S.faults source.new; at_end' = S.at_end source.new; taken = K.taken sink.old; taken' = K.taken sink.new; write_faults = K.faults sink.old; write_faults' = K.faults sink.new }) (result_in result) }
+    ensures settled { RunsSettle (record { left = S.left source.old; left' = S.left source.new; read_faults = S.faults source.old; read_faults' = S.faults source.new; at_end' = S.at_end source.new; taken = K.taken sink.old; taken' = K.taken sink.new; write_faults = K.faults sink.old; write_faults' = K.faults sink.new }) turns (result_in result) }
     ensures reads { S.reads source.new ≤ S.reads source.old + (2 ^ 20 + 1) }
 {
     answer_of(alloc, source, sink, turns)
 }
 
-/// What `run_script` answers. That it runs scripts follows from this.
+/// What `run_script` answers. That it runs scripts, and what their runs settle, follows from this.
 fn answer_of<S: Source, K: Sink>(
     alloc: Global,
     source: &mut S,
@@ -120,6 +121,7 @@ pub fn run_command<S: Source, K: Sink, N: Sink>(
     ensures sound { IsTrue (S.is_sound source.old) → ReadsSoundly (S.faults source.old) (S.faults source.new) (S.is_sound source.new) result.result }
     ensures sure { WritesSurely (K.sure sink.old) (K.faults sink.old) (K.faults sink.new) result.result }
     ensures complete { RunsAskedScripts (record { left = S.left source.old; left' = S.left source.new; read_faults = S.faults source.old; read_faults' = S.faults source.new; at_end' = S.at_end source.new; taken = K.taken sink.old; taken' = K.taken sink.new; write_faults = K.faults sink.old; write_faults' = K.faults sink.new }) words.now result.result }
+    ensures settled { AskedRunsSettle (record { left = S.left source.old; left' = S.left source.new; read_faults = S.faults source.old; read_faults' = S.faults source.new; at_end' = S.at_end source.new; taken = K.taken sink.old; taken' = K.taken sink.new; write_faults = K.faults sink.old; write_faults' = K.faults sink.new }) words.now result.result }
     ensures reads { S.reads source.new ≤ S.reads source.old + (2 ^ 20 + 1) }
 {
     let result = result_of(alloc, words, source, sink);

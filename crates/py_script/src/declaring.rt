@@ -7,8 +7,8 @@ ghost use Rattle.py_objects.specs.Objects.{HasPayload, declared, IsClassObject};
 ghost use Rattle.py_grammar.specs.Grammar.{ClassDecl, ManagerDecl, functions_in};
 ghost use Rattle.py_grammar.specs.Script.{decl_of};
 ghost use Rattle.py_vm.specs.First.{first_objects};
-ghost use Rattle.py_script.specs.Loaded.{AreWellDeclared, HasObjects, IsEntryOf, IsFoundedOn};
-ghost use Rattle.py_script.specs.Session.{IsNamed};
+ghost use Rattle.py_meaning.specs.Entries.{AreWellDeclared, IsEntryOf, IsFoundedOn, IsNamed};
+ghost use Rattle.py_script.specs.Loaded.{HasObjects};
 
 use py_code::{NoMemory, PyText};
 use py_grammar::Declaration;

@@ -3,7 +3,7 @@
 ghost use Rattle.std.specs.Prelude.{◌≡◌, ◌++◌, IfOk, OnOk, nat_eq, string_bytes};
 ghost use Rattle.std.specs.List.{list_any};
 ghost use Rattle.py_objects.specs.Edits.{store_at};
-ghost use Rattle.py_script.specs.Text.{event_text, text_of};
+ghost use Rattle.py_meaning.specs.Text.{event_text, text_of};
 ghost use Rattle.py_script.specs.Writing.{latest, store_before};
 
 use crate::text::push_event;

@@ -1,4 +1,4 @@
-//! Scripts from bytes to lines: what they mean, how they are run, and what is written.
+//! Scripts from bytes to lines: how they are read and run, and what is written.
 #![tactic(auto)]
 
 mod attributes;
@@ -15,14 +15,7 @@ mod session;
 mod str_of;
 mod text;
 mod words;
-mod worked;
 mod worked_answer;
-mod worked_call;
-mod worked_finally;
-mod worked_generator;
-mod worked_loop;
-mod worked_show;
-mod worked_with;
 mod write;
 
 pub use command::{run_command, run_script};
@@ -39,11 +32,4 @@ pub use py_vm::Journal;
 pub use read::read_bytes;
 pub use session::Session;
 pub use words::{Command, Words, command_of};
-pub use worked::worked_journals;
 pub use worked_answer::worked_answers;
-pub use worked_call::worked_calls;
-pub use worked_finally::worked_finallies;
-pub use worked_generator::worked_generators;
-pub use worked_loop::worked_loops;
-pub use worked_show::worked_shows;
-pub use worked_with::worked_withs;

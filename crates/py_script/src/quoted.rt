@@ -1,7 +1,7 @@
 //! Characters behind a text, as they are or between quotes.
 
 ghost use Rattle.std.specs.Prelude.{◌≡◌, [], ◌∷◌, ◌++◌, OnOk, string_bytes, encode_utf8_all};
-ghost use Rattle.py_script.specs.Repr.{has, quote_of, escaped, quoted};
+ghost use Rattle.py_meaning.specs.Repr.{has, quote_of, escaped, quoted};
 
 use py_code::{NoMemory, PyText};
 

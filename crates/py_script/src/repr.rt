@@ -3,7 +3,7 @@
 ghost use Rattle.std.specs.Prelude.{◌≡◌, ◌++◌, Some, OnOk, string_bytes, encode_utf8_all, codes, if◌then◌else◌};
 ghost use Rattle.py_code.specs.BuiltinNames.{builtin_name};
 ghost use Rattle.py_objects.specs.Objects.{class_object};
-ghost use Rattle.py_script.specs.Repr.{class_name, coro_front, coro_of, dict_of, in_parentheses, items_of, joined, pair_by, payload_of, repr_within, shown, tuple_of};
+ghost use Rattle.py_meaning.specs.Repr.{class_name, coro_front, coro_of, dict_of, in_parentheses, items_of, joined, pair_by, payload_of, repr_within, shown, tuple_of};
 ghost use Rattle.py_script.specs.Writing.{inner_at};
 
 use crate::quoted::push_quoted;

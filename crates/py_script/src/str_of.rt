@@ -1,9 +1,9 @@
 //! Objects as texts, behind a text.
 
 ghost use Rattle.std.specs.Prelude.{◌≡◌, ◌++◌, Some, OnOk, string_bytes, codes};
-ghost use Rattle.py_script.specs.Repr.{repr_within};
-ghost use Rattle.py_script.specs.Said.{line_between, whereabouts};
-ghost use Rattle.py_script.specs.Text.{str_by, str_within};
+ghost use Rattle.py_meaning.specs.Repr.{repr_within};
+ghost use Rattle.py_meaning.specs.Said.{line_between, whereabouts};
+ghost use Rattle.py_meaning.specs.Text.{str_by, str_within};
 ghost use Rattle.py_script.specs.Writing.{args_text, exception_text, key_text, os_text, says_at, syntax_text};
 
 use crate::attributes::{attribute, push_base_name, push_files, text_at};

@@ -3,8 +3,8 @@
 ghost use Rattle.std.specs.Prelude.{◌≡◌, ◌++◌, OnOk, string_bytes, codes};
 ghost use Rattle.py_objects.specs.Objects.{as_object};
 ghost use Rattle.py_objects.specs.declared.request.Request.TheVariants.{Show};
-ghost use Rattle.py_script.specs.Repr.{payload_of};
-ghost use Rattle.py_script.specs.Text.{repr, details, raised, numbered, request_text, result_text, event_text};
+ghost use Rattle.py_meaning.specs.Repr.{payload_of};
+ghost use Rattle.py_meaning.specs.Text.{repr, details, raised, numbered, request_text, result_text, event_text};
 
 use crate::repr::{push_class_name, push_repr, tuple_items};
 use crate::str_of::push_said;

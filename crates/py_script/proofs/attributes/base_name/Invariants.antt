@@ -1,6 +1,6 @@
 use Rattle.std.proofs.Common.{◌≡◌, cond, length}
-use Rattle.py_script.specs.Repr.{has}
-use Rattle.py_script.specs.Said.{base_name}
+use Rattle.py_meaning.specs.Repr.{has}
+use Rattle.py_meaning.specs.Said.{base_name}
 use Rattle.py_script.proofs.attributes.base_name.Given as goal
 
 abbrev pub invariant-loop-c : goal.invariant-loop-c

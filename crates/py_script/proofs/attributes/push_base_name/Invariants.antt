@@ -1,6 +1,6 @@
 use Rattle.std.proofs.Common.{◌≡◌, ◌++◌, drop}
 use Rattle.std.specs.Prelude.{encode_utf8_all, string_bytes}
-use Rattle.py_script.specs.Said.{base_name}
+use Rattle.py_meaning.specs.Said.{base_name}
 use Rattle.py_script.proofs.attributes.push_base_name.Given as goal
 
 abbrev pub invariant-loop-c : goal.invariant-loop-c

@@ -1,6 +1,6 @@
 use Rattle.std.proofs.Common.{◌≡◌, ◌++◌, drop}
 use Rattle.std.specs.Prelude.{string_bytes}
-use Rattle.py_script.specs.Text.{text_from}
+use Rattle.py_meaning.specs.Text.{text_from}
 use Rattle.py_script.specs.Writing.{latest, store_before}
 use Rattle.py_script.proofs.journal.journal_text.Given as goal
 

@@ -4,7 +4,8 @@ use Rattle.py_objects.specs.Objects.{Obj, HasPayload, declared}
 use Rattle.py_grammar.specs.Grammar.{Decl, decl_name}
 use Rattle.py_grammar.specs.Script.{decl_of}
 use Rattle.py_objects.proofs.GrowthLemmas.{declared_stays}
-use Rattle.py_script.specs.Session.{AreBindings, IsNamed}
+use Rattle.py_meaning.specs.Entries.{IsNamed}
+use Rattle.py_script.specs.Session.{AreBindings}
 use Rattle.py_script.proofs.Declarations.{entry_mapped, entry_read, front_more}
 use Rattle.py_script.proofs.Objects.{bindings_grow, bindings_more}
 use Rattle.py_script.proofs.Driven.{grew_more}

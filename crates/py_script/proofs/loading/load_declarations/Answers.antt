@@ -5,7 +5,8 @@ use Rattle.py_rows.specs.Sound.{AreNames}
 use Rattle.py_grammar.specs.Grammar.{Decl, functions_in}
 use Rattle.py_grammar.specs.Script.{decl_of}
 use Rattle.py_vm.specs.Machine.{Machine}
-use Rattle.py_script.specs.Loaded.{AreChecked, AreWellDeclared, HasObjects, with_codes}
+use Rattle.py_meaning.specs.Entries.{AreWellDeclared}
+use Rattle.py_script.specs.Loaded.{AreChecked, HasObjects, with_codes}
 use Rattle.py_script.proofs.Declarations.{of_decls, codes_named}
 use Rattle.py_script.proofs.Loaded.{has_declarations}
 use Rattle.py_script.proofs.loading.load_declarations.Goals as goal

@@ -1,8 +1,9 @@
 use Rattle.std.proofs.Common.{false, refl, sym}
 use Rattle.py_grammar.specs.Script.{decls_of}
-use Rattle.py_script.specs.Session.{AreDeclared, BindsAll}
+use Rattle.py_meaning.specs.Entries.{AreDeclared}
+use Rattle.py_script.specs.Session.{BindsAll}
 use Rattle.py_script.proofs.Declarations.{of_decls}
-use Rattle.py_script.proofs.Entries.{are_declared}
+use Rattle.py_meaning.proofs.Entries.{are_declared}
 use Rattle.py_script.proofs.Loaded.{all_loaded}
 use Rattle.py_script.proofs.loading.load_session.Goals as goal
 

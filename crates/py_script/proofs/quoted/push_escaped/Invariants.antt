@@ -1,6 +1,6 @@
 use Rattle.std.proofs.Common.{◌≡◌, ◌++◌, drop}
 use Rattle.std.specs.Prelude.{encode_utf8_all, string_bytes}
-use Rattle.py_script.specs.Repr.{escaped}
+use Rattle.py_meaning.specs.Repr.{escaped}
 use Rattle.py_script.proofs.quoted.push_escaped.Given as goal
 
 abbrev pub invariant-loop-c : goal.invariant-loop-c

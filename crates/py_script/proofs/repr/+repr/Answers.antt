@@ -1,5 +1,5 @@
 use Rattle.py_script.proofs.ReprLemmas.{all_joined}
-use Rattle.py_script.specs.Repr.{pair_by, repr_within}
+use Rattle.py_meaning.specs.Repr.{pair_by, repr_within}
 use Rattle.py_script.proofs.repr.+repr.Goals as goal
 
 pub push_joined-returns : goal.push_joined-returns

@@ -1,6 +1,6 @@
 use Rattle.std.proofs.Common.{◌≡◌, ◌+◌, ◌*◌, ◌++◌, take}
 use Rattle.std.specs.Prelude.{string_bytes, codes, flat_map}
-use Rattle.py_script.specs.Repr.{pair_by, repr_within}
+use Rattle.py_meaning.specs.Repr.{pair_by, repr_within}
 use Rattle.py_script.proofs.repr.+repr.Given as goal
 
 abbrev pub decreases-push_repr : goal.decreases-push_repr

@@ -3,7 +3,7 @@ use Rattle.py_objects.specs.declared.event.Event.{Event}
 use Rattle.py_grammar.specs.Grammar.{functions_in}
 use Rattle.py_grammar.specs.Script.{decls_of}
 use Rattle.py_run.specs.Coming.{Comes, nothing}
-use Rattle.py_script.specs.Whole.{plan_of}
+use Rattle.py_meaning.specs.Whole.{plan_of}
 use Rattle.py_script.proofs.worked_answer.worked_answers.Goals as goal
 
 pub returns : goal.returns

@@ -1,7 +1,8 @@
 use Rattle.std.proofs.Common.{subst, sym}
 use Rattle.py_lines.specs.declared.drive.DriveLine.{DriveLine}
 use Rattle.py_script.specs.Held.{Held}
-use Rattle.py_script.specs.Session.{IsLineThere, IsNamed}
+use Rattle.py_meaning.specs.Entries.{IsNamed}
+use Rattle.py_script.specs.Session.{IsLineThere}
 use Rattle.py_script.proofs.Asking.{asks_call, asks_send, asks_throw, named_in, named_there, there_still}
 use Rattle.py_script.proofs.session.Session.question_of.Goals as goal
 

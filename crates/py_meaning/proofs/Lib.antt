@@ -1,0 +1,26 @@
+-- which objects a script's declarations have
+pub mod Behind
+pub mod Entries
+-- what is written where no object changes
+pub mod PlainText
+-- two runs of one script: what is alike before any event, what drives ask, what activations tell
+mod AlikeObjects
+mod AskedAgree
+mod TracesAgree
+mod OneScript
+-- how they end, and what is written of them
+mod DeterminedRuns
+mod TextsAgree
+pub mod ScriptsAgree
+-- journals worked by hand
+mod WorkedObjects
+mod Journals
+mod WorkedLemmas
+mod WorkedShowLemmas
+mod WorkedLoopLemmas
+mod OneText
+mod WorkedCallLemmas
+mod WorkedFinallyLemmas
+mod WorkedGeneratorLemmas
+mod WorkedWithLemmas
+mod ComparedLemmas

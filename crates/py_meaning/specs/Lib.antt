@@ -1,0 +1,18 @@
+-- what a script means
+pub mod Whole
+-- what represents an object, what an exception says, and what is written
+pub mod Repr
+pub mod Said
+pub mod Text
+-- how the entries of declarations come one behind the other
+pub mod Entries
+-- scripts worked by hand
+pub mod Worked
+pub mod WorkedShow
+pub mod WorkedLoop
+pub mod WorkedFinally
+pub mod WorkedCall
+pub mod WorkedGenerator
+pub mod WorkedWith
+-- events of two runs, compared by hand
+pub mod Compared

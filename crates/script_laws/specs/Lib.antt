@@ -1,2 +1,0 @@
--- short runs, compared by hand
-pub mod Worked
