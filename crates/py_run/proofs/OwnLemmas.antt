@@ -39,10 +39,14 @@ own_events_other b es e other = own_events-append b es e ∙ ap (λ l. own_event
 pub own_events_own : (b : ℕ) (es : List Event) (e : Event) → b ≡ whose e → own_events b (es ++ e ∷ []) ≡ own_events b es ++ own_of (length es) e
 own_events_own b es e own = own_events-append b es e ∙ ap (λ l. own_events b es ++ l) (told_by_own b (length es) e own)
 
+-- the state behind a list and another one
+pub state_lists : (s : State) (es more : List Event) → state_after s (es ++ more) ≡ state_after (state_after s es) more
+state_lists s [] more = refl
+state_lists s (e ∷ es) more = state_lists (after s e) es more
+
 -- the state behind one more event
 pub state_after-append : (s : State) (es : List Event) (e : Event) → state_after s (es ++ e ∷ []) ≡ after (state_after s es) e
-state_after-append s [] e = refl
-state_after-append s (x ∷ es) e = state_after-append (after s x) es e
+state_after-append s es e = state_lists s es (e ∷ [])
 
 -- at most as many drives are done as there are events
 done_counted : (s : State) (es : List Event) → (state_after s es).done ≤ s.done + length es

@@ -220,16 +220,20 @@ asked_in plan s x busy is (inl idle) = absurd (busy (sym is ∙ idle))
 asked_in plan s x busy is (inr within) = within
 
 -- where an activation goes on
-going_busy : Going ≡ Idle → ⊥
+pub going_busy : Going ≡ Idle → ⊥
 going_busy same = cc same
 
 -- where a question is open too
-asking_busy : Asking ≡ Idle → ⊥
+pub asking_busy : Asking ≡ Idle → ⊥
 asking_busy same = cc same
 
--- and where a function was just made
-made_busy : (f : Obj) → Made f ≡ Idle → ⊥
+-- where a function was just made
+pub made_busy : (f : Obj) → Made f ≡ Idle → ⊥
 made_busy f same = cc same
+
+-- and where an answer is due
+pub due_busy : (how : CoroEnd) → Due how ≡ Idle → ⊥
+due_busy how same = cc same
 
 -- where a question of this drive stands
 setting_behind : Plan → Past → Option Posed → Setting
