@@ -11,7 +11,7 @@ use Rattle.py_coro.specs.declared.coro.CoroEnd.{CoroEnd}
 use Rattle.py_coro.specs.Modes.{Mode, Fresh, Suspended, Running, Closed}
 use Rattle.py_coro.specs.Leaving.{mode_behind}
 use Rattle.py_run.specs.Run.{Plan, State, Due, question}
-use Rattle.py_run.specs.Generators.{Generator, generator_at, running_at, with_mode, unentered, closed_by, settled, answered, returned_by, generators_after}
+use Rattle.py_run.specs.Generators.{Generator, generator_at, running_at, with_mode, unentered, closed_by, settled, answered, value_of, returned_by, generators_after}
 use Rattle.py_run.specs.Laws.{AnswersKeepGenerators}
 
 -- ---- what an event makes of generators
@@ -66,9 +66,25 @@ close_keeps g (x ∷ xs) other = pick (eqb x.object.number g.number) other (clos
     pick false other rest = ap (λ l. x ∷ l) (rest other)
 
 -- so no answer without an entry does
-pub answers_keep : AnswersKeepGenerators
+pub answers_keep : (r : Request) (xs : List Generator) → ((g : Obj) (x : Generator) → r ≡ request.Close g → generator_at xs g ≡ Some x → x.mode ≡ Fresh → ⊥)
+    → closed_by (Some r) xs ≡ xs
 answers_keep (request.Close g) xs other = close_keeps g xs (λ x. other g x refl)
 answers_keep _ xs other = refl
+
+-- whatever question is open, if one is
+open_keeps : (q : Option Request) (xs : List Generator) → ((g : Obj) (x : Generator) → q ≡ Some (request.Close g) → generator_at xs g ≡ Some x → x.mode ≡ Fresh → ⊥)
+    → closed_by q xs ≡ xs
+open_keeps None xs other = refl
+open_keeps (Some r) xs other = answers_keep r xs (λ g x is. other g x (ap (λ q. Some q) is))
+
+-- be it to a body or to a drive
+pub generators_kept : AnswersKeepGenerators
+generators_kept plan s xs asks other = (λ a w. stay (value_of w), λ d w. stay (returned_by w))
+  where
+    stay : (v : Option Obj) → answered (question plan s) s.phase (length s.made) v xs ≡ xs
+    stay v =
+        ap (λ x. answered (question plan s) x (length s.made) v xs) asks
+        ∙ open_keeps (question plan s) xs (λ g x asked there fresh. other (record { object = g; asked = asked; generator = x; there = there; fresh = fresh }))
 
 -- ---- their objects and activations
 

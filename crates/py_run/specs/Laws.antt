@@ -4,9 +4,10 @@ use Rattle.std.specs.List.{Any}
 use Rattle.py_objects.specs.declared.payload.Payload.{Payload}
 use Rattle.py_objects.specs.declared.payload.Payload.TheVariants as payload
 use Rattle.py_objects.specs.declared.payload.CoroBody.{CoroBody}
-use Rattle.py_objects.specs.declared.request.Request.{Request}
 use Rattle.py_objects.specs.declared.request.Request.TheVariants as request
+use Rattle.py_objects.specs.declared.event.DriveAnswer.{DriveAnswer}
 use Rattle.py_objects.specs.declared.event.Ending.{Ending}
+use Rattle.py_objects.specs.declared.event.GotAnswer.{GotAnswer}
 use Rattle.py_objects.specs.declared.event.ResumeHow.{ResumeHow}
 use Rattle.py_objects.specs.declared.event.Event.{Event}
 use Rattle.py_objects.specs.declared.event.Event.TheVariants as event
@@ -18,8 +19,8 @@ use Rattle.py_exceptions.specs.declared.ctor.Instantiate.{Instantiate}
 use Rattle.py_exceptions.specs.declared.ctor.Instantiate.TheVariants as comes
 use Rattle.py_coro.specs.Modes.{Fresh, Closed}
 use Rattle.py_answers.specs.Answers.{This, Called, Passes, Stops, Closes}
-use Rattle.py_run.specs.Run.{Posed, Plan, Act, Activation, State, start, state_after, question, depth, handled_among}
-use Rattle.py_run.specs.Generators.{Generator, generator_at, closed_by}
+use Rattle.py_run.specs.Run.{Posed, Plan, Asking, Act, Activation, State, start, state_after, question, depth, handled_among}
+use Rattle.py_run.specs.Generators.{Generator, generator_at, generators_after}
 use Rattle.py_run.specs.Calls.{Course, Says, Setting, kept_or_closed, ComesTo, failing}
 use Rattle.py_run.specs.Coming.{nothing, MayCome, Comes}
 use Rattle.py_run.specs.Past.{past_behind}
@@ -114,7 +115,16 @@ ClosedRaises =
 abbrev pub ClosedCloses : Type 0
 ClosedCloses = (at : Setting) (objects : List Payload) (g : Obj) (c : Course) → IsClosed at objects g → ComesTo at objects (request.Close g) c → c ≡ Says Closes
 
--- a question that is answered without an entry leaves all generators as they are, but for a close, which closes one that wasn't entered yet
+-- the open question is a close of a generator that wasn't entered yet
+pub record ClosesFresh (plan : Plan) (s : State) (xs : List Generator) : Type 0 where
+  pub object : Obj
+  pub asked : question plan s ≡ Some (request.Close object)
+  pub generator : Generator
+  pub there : generator_at xs object ≡ Some generator
+  pub fresh : generator.mode ≡ Fresh
+
+-- an answer at once, without an entry, to a body or to a drive, leaves all generators as they are, but for one to such a close
 abbrev pub AnswersKeepGenerators : Type 0
 AnswersKeepGenerators =
-    (r : Request) (xs : List Generator) → ((g : Obj) (x : Generator) → r ≡ request.Close g → generator_at xs g ≡ Some x → x.mode ≡ Fresh → ⊥) → closed_by (Some r) xs ≡ xs
+    (plan : Plan) (s : State) (xs : List Generator) → s.phase ≡ Asking → (ClosesFresh plan s xs → ⊥)
+    → ((a : ℕ) (w : GotAnswer) → generators_after plan s xs (event.Got a w) ≡ xs) × ((d : ℕ) (w : DriveAnswer) → generators_after plan s xs (event.Result d w) ≡ xs)

@@ -23,8 +23,8 @@ pub fn laws_of_runs()
 /// States laws, and does nothing.
 ///
 /// A closed generator answers each send by a stop without a value, each throw by the exception that its arguments normalise to, or by their
-/// refusal, and each close by nothing more, at any depth (Python Language Reference, 6.2.9.1). An answer that enters no generator leaves all of
-/// them as they are, a refusal too; a close alone closes one that hasn't been entered yet.
+/// refusal, and each close by nothing more, at any depth (Python Language Reference, 6.2.9.1). An answer at once, which enters no generator,
+/// leaves all of them as they are, a refusal too; that to a close alone closes one that hasn't been entered yet.
 pub fn laws_of_generators()
     ensures stops { ClosedStops }
     ensures raises { ClosedRaises }

@@ -1,5 +1,5 @@
-use Rattle.py_run.proofs.GeneratorsLemmas.{answers_keep}
+use Rattle.py_run.proofs.GeneratorsLemmas.{generators_kept}
 use Rattle.py_run.proofs.laws.laws_of_generators.Goals as goal
 
 pub returns-clause-keeps : goal.returns-clause-keeps
-returns-clause-keeps c = answers_keep
+returns-clause-keeps c = generators_kept
