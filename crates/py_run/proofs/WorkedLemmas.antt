@@ -1,23 +1,25 @@
 -- The journals of generators worked by hand are runs.
-use Rattle.std.proofs.Common.{List, [], ◌∷◌, true, false, None, inl, inr, refl, lit<, arith}
+use Rattle.std.proofs.Common.{◌≡◌, List, [], ◌∷◌, true, false, Some, None, inl, inr, refl, subst, lit<, arith}
 use Rattle.std.specs.Prelude.{codes, drop}
 use Rattle.py_objects.specs.declared.error_kind.ErrorKind.TheVariants.{RuntimeError, TypeError, ValueError}
 use Rattle.py_objects.specs.declared.payload.Payload.{Payload}
+use Rattle.py_objects.specs.declared.payload.CoroKind.TheVariants as coro
 use Rattle.py_objects.specs.declared.event.DriveAnswer.TheVariants as answer
 use Rattle.py_objects.specs.declared.event.Event.{Event}
 use Rattle.py_objects.specs.declared.event.Event.TheVariants as event
+use Rattle.py_objects.specs.Objects.{IsNew}
 use Rattle.py_exceptions.specs.declared.ctor.ExceptionCtor.TheVariants as ctor
 use Rattle.py_exceptions.specs.declared.ctor.Instantiate.TheVariants as comes
 use Rattle.py_exceptions.specs.Raisable.{not_exception}
 use Rattle.py_exceptions.specs.Normalizing.{Normalizes}
-use Rattle.py_answers.specs.Answers.{This, Called, Is, Fails, FailsFrom, Passes, Stops, Closes, IsCalled, IsRaised, IsRaisedFrom}
+use Rattle.py_answers.specs.Answers.{This, Called, Is, Fails, FailsFrom, Passes, Stops, Closes, IsCalled, IsRaised, IsRaisedFrom, GivesDrive}
 use Rattle.py_coro.specs.Modes.{Fresh}
 use Rattle.py_run.specs.Run.{Posed, Plan}
 use Rattle.py_run.specs.Generators.{Generator}
 use Rattle.py_run.specs.Coming.{nothing, Comes, IsRunBy}
 use Rattle.py_run.specs.Past.{past_behind}
 use Rattle.py_run.specs.Worked.{object, exception, send, close, throw, call, plain, anything, plan_with, created, yielded}
-use Rattle.py_run.specs.WorkedNext.{objects as next_objects, plan as next_plan, events as next_events}
+use Rattle.py_run.specs.WorkedNext.{objects as next_objects, plan as next_plan, events as next_events, two_objects, naming, giving}
 use Rattle.py_run.specs.WorkedClose.{objects as close_objects, plan as close_plan, events as close_events}
 use Rattle.py_run.specs.WorkedStop.{objects as stop_objects, plan as stop_plan, raising, events_by}
 use Rattle.py_run.specs.WorkedSelf.{objects as self_objects, plan as self_plan, sending, events as self_events}
@@ -51,6 +53,31 @@ next_comes =
 -- that is a run
 pub next_is_run : IsRunBy anything next_plan next_objects next_events
 next_is_run = record { comes = next_comes; tells = λ i a here. tt; named = are_named next_objects next_events refl refl }
+
+-- the call that names one generator gives the other one
+naming_comes : Comes naming two_objects nothing (giving 4)
+naming_comes = (
+  (refl, refl, lit< tt),
+  (
+    (refl, (refl, (_, refl, call_is _ _ _ _ _ _ _ refl refl refl))),
+    ((refl, refl, (_, (_, refl, (coro.Generator, record { body = _; entry = refl; signature = _; signed = refl; kind_is = refl }, refl)), (is_new two_objects _ 4 refl refl, refl))), tt),
+  ),
+)
+
+-- that is a run
+pub naming_is_run : IsRunBy anything naming two_objects (giving 4)
+naming_is_run = record { comes = naming_comes; tells = λ i a here. tt; named = are_named two_objects (giving 4) refl refl }
+
+-- the one that the call names would have to be new, but the event of its making names it
+pub named_is_none : Comes naming two_objects nothing (giving 2) → ⊥
+named_is_none (drive, (make, ((next, alone, (reply, (r, asked, (kind, of_kind, is)), gives)), rest))) =
+    old (subst (λ q. GivesDrive two_objects made q (answer.Returns (object 2))) is gives).0
+  where
+    made : List Event
+    made = event.Drive 1 ∷ event.Make 1 (object 1) (object 2 ∷ []) ∷ []
+
+    old : IsNew two_objects made 2 → ⊥
+    old new = let clash : true ≡ false = new.unnamed 1 _ refl in absurd (cc clash)
 
 -- the close closes the generator, and the next finds it closed
 close_comes : Comes close_plan close_objects nothing close_events

@@ -48,9 +48,13 @@ class name mro = payload.Class (record { name = name; mro = mro })
 abbrev pub error : ℕ → ℕ → Option Obj → Payload
 error type args cause = payload.Exception (record (new_exception (record { number = type }) (object args)) { cause = cause; suppress = is_some cause })
 
+-- the generator that a call of g makes, where its activation is the first
+abbrev pub generator : Payload
+generator = payload.Generator (record { activation = 1; name = codes "g"; kind = coro.Generator })
+
 -- None is object 0, the generator function g object 1, a generator of it object 2, and the number 1 object 3; then come more
 abbrev pub objects_with : List Payload → List Payload
-objects_with more = payload.None ∷ function (codes "g") 0 ∷ payload.Generator (record { activation = 1; name = codes "g"; kind = coro.Generator }) ∷ payload.Int (pos 1) ∷ more
+objects_with more = payload.None ∷ function (codes "g") 0 ∷ generator ∷ payload.Int (pos 1) ∷ more
 
 -- a function with these parameters
 abbrev pub plain : List Name → Signature

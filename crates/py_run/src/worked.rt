@@ -4,7 +4,7 @@ ghost use Rattle.std.specs.Prelude.{◌≡◌, []};
 ghost use Rattle.py_run.specs.Coming.{nothing, Comes, IsDone, IsRunBy};
 ghost use Rattle.py_run.specs.Past.{past_behind};
 ghost use Rattle.py_run.specs.Worked.{anything, NoneEnters, OnlyEnters, OnlyThrows};
-ghost use Rattle.py_run.specs.WorkedNext.{objects as next_objects, plan as next_plan, entering, stopped, events as next_events, naming, not_new};
+ghost use Rattle.py_run.specs.WorkedNext.{objects as next_objects, plan as next_plan, entering, stopped, events as next_events, two_objects, naming, giving};
 ghost use Rattle.py_run.specs.WorkedClose.{objects as close_objects, plan as close_plan, closing, closed, events as close_events};
 ghost use Rattle.py_run.specs.WorkedStop.{objects as stop_objects, plan as stop_plan, events_by};
 ghost use Rattle.py_run.specs.WorkedSelf.{objects as self_objects, plan as self_plan, sending, refused as self_refused, events as self_events};
@@ -19,7 +19,8 @@ pub fn worked_next()
     ensures is_whole { IsDone 4 next_events }
     ensures enters_its_own { OnlyEnters next_plan next_objects entering 1 }
     ensures no_entry_of_a_closed { NoneEnters next_plan next_objects (stopped []) }
-    ensures no_old_object { Comes naming next_objects nothing not_new → ⊥ }
+    ensures new_object { IsRunBy anything naming two_objects (giving 4) }
+    ensures no_old_object { Comes naming two_objects nothing (giving 2) → ⊥ }
 {}
 
 /// A generator that hasn't begun is closed without being entered, and then stops.
