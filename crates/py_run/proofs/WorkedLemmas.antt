@@ -215,16 +215,16 @@ abbrev fresh : Generator
 fresh = record { object = object 2; act = 1; mode = Fresh }
 
 -- what a number that is thrown is taken for
-not_thrown : Normalizes throw_objects (object 3) None (comes.Fault (not_exception (codes "int")))
+not_thrown : Normalizes throw_objects (object 3) (Some (object 0)) (comes.Fault (not_exception (codes "int")))
 not_thrown = inr (not_exception (codes "int"), (_, refl, (codes "int", refl, refl)), refl)
 
 -- and what the class is
-class_thrown : Normalizes throw_objects (object 4) None (comes.Make (record { number = 4 }) [])
-class_thrown = inl (ctor.Class (record { number = 4 }), (_, refl, (true, (_, refl, refl), refl)), refl)
+class_thrown : Normalizes throw_objects (object 4) (Some (object 0)) (comes.Make (record { number = 4 }) [])
+class_thrown = inl (ctor.Class (record { number = 4 }), (_, refl, (true, (_, refl, refl), refl)), (_, refl, (false, refl, ([], refl, refl))))
 
 -- drives of which the first throws the number
 abbrev throwing_first : List Posed → Plan
-throwing_first asked = plan_with [] (throw (object 2) (object 3) ∷ asked)
+throwing_first asked = plan_with [] (throw (object 2) (object 3) (object 0) ∷ asked)
 
 -- the events behind its refusal
 abbrev refused_first : List Event → List Event
@@ -234,7 +234,7 @@ refused_first rest = created (event.Drive 2 ∷ event.Result 2 (answer.Raises (e
 refuses : (asked : List Posed) (rest : List Event)
     → Comes (throwing_first asked) throw_objects (past_behind (throwing_first asked) nothing (refused_first [])) rest → Comes (throwing_first asked) throw_objects nothing (refused_first rest)
 refuses asked rest then =
-    created_comes [] (throw (object 2) (object 3) ∷ asked) (behind throw_objects) (event.Drive 2 ∷ event.Result 2 (answer.Raises (exception 9)) ∷ rest) (is_new throw_objects _ 2 refl refl) (
+    created_comes [] (throw (object 2) (object 3) (object 0) ∷ asked) (behind throw_objects) (event.Drive 2 ∷ event.Result 2 (answer.Raises (exception 9)) ∷ rest) (is_new throw_objects _ 2 refl refl) (
       (refl, refl, omega arith),
       (
         (
@@ -253,7 +253,7 @@ refuses asked rest then =
 -- then the class is thrown, which ends the generator
 throw_comes : Comes throw_plan throw_objects nothing throw_events
 throw_comes =
-    refuses (throw (object 2) (object 4) ∷ []) (drop 5 throw_events) (
+    refuses (throw (object 2) (object 4) (object 0) ∷ []) (drop 5 throw_events) (
       (refl, refl, lit< tt),
       (
         (Called (record { number = 4 }) [], (refl, (_, refl, throw_is _ _ _ _ _ generator_body fresh _ refl refl (_, class_thrown, refl))), thrown_new),

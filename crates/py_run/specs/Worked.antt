@@ -31,8 +31,8 @@ call f vs = record { request = request.Call f vs keywords.None; entered = 0 }
 abbrev pub send : Obj → Obj → Posed
 send g v = record { request = request.Send g v; entered = 0 }
 
-abbrev pub throw : Obj → Obj → Posed
-throw g k = record { request = request.Throw g k None None; entered = 0 }
+abbrev pub throw : Obj → Obj → Obj → Posed
+throw g k v = record { request = request.Throw g k (Some v) None; entered = 0 }
 
 abbrev pub close : Obj → Posed
 close g = record { request = request.Close g; entered = 0 }

@@ -17,8 +17,9 @@ objects =
     ∷ payload.Str (codes "exceptions must be classes or instances deriving from BaseException, not int") ∷ payload.Tuple (object 7 ∷ []) ∷ error 6 8 None
     ∷ payload.Tuple [] ∷ error 4 10 None ∷ [])
 
+-- a throw without a value has None as its value
 abbrev pub plan : Plan
-plan = plan_with [] (throw (object 2) (object 3) ∷ throw (object 2) (object 4) ∷ [])
+plan = plan_with [] (throw (object 2) (object 3) (object 0) ∷ throw (object 2) (object 4) (object 0) ∷ [])
 
 -- the number comes to be thrown
 abbrev pub throwing : List Event
@@ -34,7 +35,7 @@ events = refused (event.Resume 1 (how.Throw (exception 11)) ∷ event.End 1 (end
 
 -- where a next comes instead
 abbrev pub sending : Plan
-sending = plan_with [] (throw (object 2) (object 3) ∷ send (object 2) (object 0) ∷ [])
+sending = plan_with [] (throw (object 2) (object 3) (object 0) ∷ send (object 2) (object 0) ∷ [])
 
 -- it starts the generator
 abbrev pub started : List Event
