@@ -211,7 +211,7 @@ module _ (decls : List Decl) (objects objects' : List Payload) (are : AreObjects
       (w, payload.Class (record { name = x; mro = ws }), is', has', (named, all))
   declared_alike x v (payload.Function f) is has =
       let named : f.name ≡ x = let says : Some f.name ≡ Some x = entry_named objects x v (payload.Function f) is has in cc says in
-      let (t, at, same) = are.only_functions v f has in
+      let (t, at, same, found) = are.only_functions v f has in
       let (g, is', has') = are'.functions f.code t at in
       (g, payload.Function (record { name = t.name; code = f.code }), ap (declared objects') (sym named ∙ same) ∙ is', has', ap (λ (n : Name). record { name = n; code = f.code }) same)
   declared_alike x v (payload.Manager m) is has =

@@ -16,14 +16,13 @@ use Rattle.py_lines.specs.declared.drive.DriveAtom.{DriveAtom}
 use Rattle.py_lines.specs.declared.drive.DriveAtom.TheVariants as atom
 use Rattle.py_lines.specs.declared.drive.DriveLine.{DriveLine}
 use Rattle.py_lines.specs.declared.drive.DriveLine.TheVariants as drive
-use Rattle.py_grammar.specs.Grammar.{Decl}
-use Rattle.py_grammar.specs.WellFormed.{IsDrivable, IsThrowable, IsWellDriven, AreWellDriven}
 use Rattle.py_run.specs.Run.{Posed, Plan, State, start, after, state_after}
 use Rattle.py_run.specs.Coming.{Past, nothing, past_after, MayCome, Comes}
 use Rattle.py_run.proofs.RunLemmas.{comes_front}
 use Rattle.py_agreement.specs.Agreement.{Relation, SameMaybe, SameAll, has_literal}
 use Rattle.py_determined.specs.Sameness.{SameAsked, SamePosed}
 use Rattle.py_determined.specs.Events.{SameResult, SameEvent, SameEvents}
+use Rattle.py_meaning.specs.Earlier.{AtomIsEarlier, ValueIsEarlier, LineIsEarlier, NameEarlier}
 use Rattle.py_meaning.specs.Whole.{IsLeft, IsLeftBy, IsOf, AreOf, IsThrown, AsksThis, AreAsked}
 
 -- ---- results come in the order of their numbers
@@ -119,26 +118,26 @@ module _ (S : Relation) where
     declared_agree x v w is is' =
         subst (λ (o : Option Obj). SameMaybe S (Some v) o) is' (subst (λ (o : Option Obj). SameMaybe S o (declared objects' x)) is (declares x))
 
-    module _ (decls : List Decl) (made : ℕ) (es es' : List Event)
+    module _ (made : ℕ) (es es' : List Event)
         (left : (n : ℕ) (v w : Obj) → n ≤ made → IsLeftBy objects es n v → IsLeftBy objects' es' n w → S v w) where
       -- ---- what a drive asks behind so many others, where what these left is related
 
-      of_agrees : (a : DriveAtom) (v w : Obj) → IsDrivable decls made a → IsOf objects es a v → IsOf objects' es' a w → S v w
+      of_agrees : (a : DriveAtom) (v w : Obj) → AtomIsEarlier made a → IsOf objects es a v → IsOf objects' es' a w → S v w
       of_agrees atom.None v w may is is' = literals payload.None v w refl is is'
       of_agrees (atom.Bool b) v w may is is' = literals (payload.Bool b) v w refl is is'
       of_agrees (atom.Int n) v w may is is' = literals (payload.Int n) v w refl is is'
       of_agrees (atom.Str s) v w may is is' = literals (payload.Str s) v w refl is is'
       of_agrees (atom.Name x) v w may is is' = declared_agree x v w is is'
-      of_agrees (atom.Drive n) v w may is is' = left n v w may.1 is is'
+      of_agrees (atom.Drive n) v w may is is' = left n v w may is is'
 
-      all_agree : (atoms : List DriveAtom) (vs ws : List Obj) → All (IsDrivable decls made) atoms → AreOf objects es atoms vs → AreOf objects' es' atoms ws → SameAll S vs ws
+      all_agree : (atoms : List DriveAtom) (vs ws : List Obj) → All (AtomIsEarlier made) atoms → AreOf objects es atoms vs → AreOf objects' es' atoms ws → SameAll S vs ws
       all_agree [] [] [] may are are' = tt
-      all_agree (a ∷ atoms) (v ∷ vs) (w ∷ ws) may are are' = (of_agrees a v w (All-head (IsDrivable decls made) a atoms may) are.0 are'.0, all_agree atoms vs ws (All-tail (IsDrivable decls made) a atoms may) are.1 are'.1)
+      all_agree (a ∷ atoms) (v ∷ vs) (w ∷ ws) may are are' = (of_agrees a v w (All-head (AtomIsEarlier made) a atoms may) are.0 are'.0, all_agree atoms vs ws (All-tail (AtomIsEarlier made) a atoms may) are.1 are'.1)
       all_agree [] [] (w ∷ ws) may are are' = absurd are'
       all_agree (a ∷ atoms) (v ∷ vs) [] may are are' = absurd are'
       all_agree _ _ _ may are are' = absurd are
 
-      thrown_agrees : (a : Option DriveAtom) (v w : Obj) → IsThrowable decls made a → IsThrown objects es a v → IsThrown objects' es' a w → S v w
+      thrown_agrees : (a : Option DriveAtom) (v w : Obj) → ValueIsEarlier made a → IsThrown objects es a v → IsThrown objects' es' a w → S v w
       thrown_agrees None v w may is is' = literals payload.None v w refl is is'
       thrown_agrees (Some a) v w may is is' = of_agrees a v w may is is'
 
@@ -146,17 +145,17 @@ module _ (S : Relation) where
       asked_as r r' q q' is is' s = subst (λ (x : Request). SameAsked S x r') (sym is) (subst (λ (x : Request). SameAsked S q x) (sym is') s)
 
       -- the same line asks the same
-      pub asks_agree : (d : DriveLine) (r r' : Request) → IsWellDriven decls made d → AsksThis objects es d r → AsksThis objects' es' d r' → SameAsked S r r'
+      pub asks_agree : (d : DriveLine) (r r' : Request) → LineIsEarlier made d → AsksThis objects es d r → AsksThis objects' es' d r' → SameAsked S r r'
       asks_agree (drive.Call x args) r r' may (g, vs, is, said, are) (g', ws, is', said', are') =
-          asked_as r r' (request.Call g vs keywords.None) (request.Call g' ws keywords.None) is is' ((declared_agree x g g' said said', all_agree args vs ws may.args are are'), tt)
+          asked_as r r' (request.Call g vs keywords.None) (request.Call g' ws keywords.None) is is' ((declared_agree x g g' said said', all_agree args vs ws may are are'), tt)
       asks_agree (drive.Next n) r r' may (g, v, is, by, none) (g', w, is', by', none') =
-          asked_as r r' (request.Send g v) (request.Send g' w) is is' ((left n g g' may.1 by by', literals payload.None v w refl none none'), tt)
+          asked_as r r' (request.Send g v) (request.Send g' w) is is' ((left n g g' may by by', literals payload.None v w refl none none'), tt)
       asks_agree (drive.Send n a) r r' may (g, v, is, by, of) (g', w, is', by', of') =
-          asked_as r r' (request.Send g v) (request.Send g' w) is is' ((left n g g' may.drive.1 by by', of_agrees a v w may.value of of'), tt)
+          asked_as r r' (request.Send g v) (request.Send g' w) is is' ((left n g g' may.0 by by', of_agrees a v w may.1 of of'), tt)
       asks_agree (drive.Throw n x a) r r' may (g, c, v, is, by, said, of) (g', c', w, is', by', said', of') =
           asked_as r r' (request.Throw g c (Some v) None) (request.Throw g' c' (Some w) None) is is'
-          ((left n g g' may.drive.1 by by', declared_agree x c c' said said', thrown_agrees a v w may.value of of', tt), tt)
-      asks_agree (drive.Close n) r r' may (g, is, by) (g', is', by') = asked_as r r' (request.Close g) (request.Close g') is is' (left n g g' may.1 by by', tt)
+          ((left n g g' may.0 by by', declared_agree x c c' said said', thrown_agrees a v w may.1 of of', tt), tt)
+      asks_agree (drive.Close n) r r' may (g, is, by) (g', is', by') = asked_as r r' (request.Close g) (request.Close g') is is' (left n g g' may by by', tt)
 
     -- ---- drives of a run
 
@@ -181,19 +180,19 @@ module _ (S : Relation) where
     asked_at store es (d ∷ ds) (p ∷ asked) (suc i) q are at = asked_at store es ds asked i q are.1 at
 
     -- a drive poses the same in two runs, where the events behind which those in front of it are done are the same
-    pub posed_agree : (decls : List Decl) (ds : List DriveLine) (asked asked' : List Posed) (plan plan' : Plan) (es fs more more' : List Event) (i : ℕ) (q q' : Posed)
-        → AreWellDriven decls ds
+    pub posed_agree : (ds : List DriveLine) (asked asked' : List Posed) (plan plan' : Plan) (es fs more more' : List Event) (i : ℕ) (q q' : Posed)
+        → NameEarlier ds
         → Comes plan objects nothing (es ++ more) → Comes plan' objects' nothing (fs ++ more') → SameEvents S es fs
         → i ≤ (state_after start es).done → i ≤ (state_after start fs).done
         → AreAsked objects (es ++ more) ds asked → AreAsked objects' (fs ++ more') ds asked'
         → slice_get asked i ≡ Some q → slice_get asked' i ≡ Some q' → SamePosed S q q'
-    posed_agree decls ds asked asked' plan plan' es fs more more' i q q' well comes comes' same low low' are are' at at' =
+    posed_agree ds asked asked' plan plan' es fs more more' i q q' well comes comes' same low low' are are' at at' =
         let (d, line, asks, none) = asked_at objects (es ++ more) ds asked i q are at in
         let (d', line', asks', none') = asked_at objects' (fs ++ more') ds asked' i q' are' at' in
         let one : d' ≡ d = one_entry d' d (sym line' ∙ line) in
         record {
           request =
-              asks_agree decls i (es ++ more) (fs ++ more')
+              asks_agree i (es ++ more) (fs ++ more')
               (λ n v w few by by'. left_by_agrees plan plan' es fs more more' n v w comes comes' same (omega (arith, few, low)) (omega (arith, few, low')) by by') d q.request q'.request (well i d line) asks
               (subst (λ (x : DriveLine). AsksThis objects' (fs ++ more') x q'.request) one asks');
           entered = none ∙ sym none';

@@ -1,45 +1,56 @@
--- Objects of two runs that are alike, worked by hand.
-use Rattle.std.proofs.Common.{◌≡◌, ℕ, zero, suc, true, false, Some, [], ◌∷◌, inl, inr, refl, sym, ap, ◌∙◌, slice_get}
+-- What can't differ in two runs of one script.
+use Rattle.std.proofs.Common.{◌≡◌, ℕ, zero, suc, false, Some, List, [], ◌∷◌, pos, eqb, refl, sym, ap, subst, ◌∙◌, slice_get}
+use Rattle.std.proofs.lemmas.Bool.{eqb-true, eq-eqb}
 use Rattle.py_objects.specs.declared.payload.Payload.{Payload}
-use Rattle.py_objects.specs.Objects.{Obj, HasPayload}
-use Rattle.py_agreement.specs.Agreement.{has_literal}
-use Rattle.py_determined.specs.Alike.{Alike}
-use Rattle.py_determined.specs.Related.{Related}
-use Rattle.py_meaning.specs.Compared.{OtherNumbers, one, two}
+use Rattle.py_objects.specs.declared.payload.Payload.TheVariants as payload
+use Rattle.py_objects.specs.declared.event.Event.{Event}
+use Rattle.py_objects.specs.Objects.{Obj}
+use Rattle.py_agreement.specs.Agreement.{Relation}
+use Rattle.py_determined.specs.Alike.{AreAlike}
+use Rattle.py_determined.specs.Events.{SameEvent, SameEvents}
+use Rattle.py_determined.specs.Related.{pairs_of, Related}
+use Rattle.py_meaning.specs.Compared.{AreRuns, Gets, NoOtherAnswer, NoOtherOrder, NoOtherIdentity}
+use Rattle.py_meaning.proofs.ScriptsAgree.{scripts_agree}
 
--- the one object of a list of one
-alone : (v : Obj) (p : Payload) → HasPayload (one ∷ []) v p → p ≡ one
-alone v p has = go v.number has
-  where
-    go : (n : ℕ) → slice_get (one ∷ []) n ≡ Some p → p ≡ one
-    go zero here = cc
-    go (suc n) here = absurd (cc here)
+-- events at one place are the same
+same_at : (S : Relation) (es fs : List Event) (i : ℕ) (e f : Event) → SameEvents S es fs → slice_get es i ≡ Some e → slice_get fs i ≡ Some f → SameEvent S e f
+same_at S [] fs i e f same at at' = absurd (cc at)
+same_at S (x ∷ es) [] i e f same at at' = absurd (cc at')
+same_at S (x ∷ es) (y ∷ fs) zero e f same at at' =
+    let here : x ≡ e = cc at in
+    let there : y ≡ f = cc at' in
+    subst (λ (z : Event). SameEvent S z f) here (subst (λ (z : Event). SameEvent S x z) there same.0)
+same_at S (x ∷ es) (y ∷ fs) (suc i) e f same at at' = same_at S es fs i e f same.1 at at'
 
--- the second of two
-second : (v : Obj) (p : Payload) → v.number ≡ 1 → HasPayload (two ∷ one ∷ []) v p → p ≡ one
-second v p here has = let it : slice_get (two ∷ one ∷ []) 1 ≡ Some p = ap (slice_get (two ∷ one ∷ [])) (sym here) ∙ has in cc it
+module _ (objects objects' : List Payload) (events events' : List Event) (are : AreRuns objects objects' events events') where
+  -- which objects the two runs relate
+  abbrev S : Relation
+  S = Related objects objects' (pairs_of events events')
 
--- where a literal stands for the one object there is no other
-plain : (v : Obj) (p : Payload) → HasPayload (one ∷ []) v p → has_literal p ≡ false → true ≡ false
-plain v p has none = ap has_literal (sym (alone v p has)) ∙ none
+  same : SameEvents S events events'
+  same = (scripts_agree are.decls are.drives are.earlier objects objects' events events' are.run are.run').0
 
--- one answer may have another number
-pub other_numbers : OtherNumbers
-other_numbers = record {
-  literals = λ p v w literal has has'. inl (p, literal, has, has');
-  payloads = payloads;
-  one = λ v v2 w w2 p s s2 has none. absurd (cc (plain v p has none));
-  declares = λ x. tt;
-  first = λ x. tt;
-}
-  where
-    alike_ones : (p q : Payload) → p ≡ one → q ≡ one → Alike (Related (one ∷ []) (two ∷ one ∷ []) ((0, 1) ∷ [])) (one ∷ []) (two ∷ one ∷ []) p q
-    alike_ones p q is is' = rw (is, is') refl
+  alike : AreAlike S objects objects'
+  alike = (scripts_agree are.decls are.drives are.earlier objects objects' events events' are.run are.run').1
 
-    payloads : (v w : Obj) (p q : Payload) → Related (one ∷ []) (two ∷ one ∷ []) ((0, 1) ∷ []) v w → HasPayload (one ∷ []) v p → HasPayload (two ∷ one ∷ []) w q
-        → Alike (Related (one ∷ []) (two ∷ one ∷ []) ((0, 1) ∷ [])) (one ∷ []) (two ∷ one ∷ []) p q
-    payloads v w p q (inl (r, literal, has_v, has_w)) has has' =
-        let same : r ≡ q = cc (has_w, has') in alike_ones p q (alone v p has) (sym same ∙ alone v r has_v)
-    payloads v w p q (inr (inl (x, here, there))) has has' = absurd (cc here)
-    payloads v w p q (inr (inr (inl (here, there)))) has has' = alike_ones p q (alone v p has) (second w q there has')
-    payloads v w p q (inr (inr (inr pair))) has has' = absurd pair
+  -- values that are got at one place are related
+  gets_related : (i : ℕ) (v w : Obj) → Gets events i v → Gets events' i w → S v w
+  gets_related i v w (a, at) (b, at') = (same_at S events events' i _ _ same at at').1
+
+pub no_other_answer : NoOtherAnswer
+no_other_answer objects objects' events events' i v w are gets gets' has has' =
+    let one : pos 1 ≡ pos 2 =
+    (alike objects objects' events events' are).payloads v w (payload.Int (pos 1)) (payload.Int (pos 2)) (gets_related objects objects' events events' are i v w gets gets') has has' in
+    cc one
+
+pub no_other_order : NoOtherOrder
+no_other_order objects objects' events events' i x y are (a, d, own, n, at) (b, d', own', n', at') other =
+    other (same_at (S objects objects' events events' are) events events' i _ _ (same objects objects' events events' are) at at').1.0
+
+pub no_other_identity : NoOtherIdentity
+no_other_identity objects objects' events events' i k v w w2 g are gets gets2 has gets' gets2' other =
+    let first = gets_related objects objects' events events' are i v w gets gets' in
+    let second = gets_related objects objects' events events' are k v w2 gets2 gets2' in
+    let one : eqb v.number v.number ≡ eqb w.number w2.number = (alike objects objects' events events' are).one v v w w2 (payload.Generator g) first second has refl in
+    let number : w.number ≡ w2.number = eqb-true w.number w2.number (sym one ∙ eq-eqb v.number v.number refl) in
+    other (ap (λ (n : ℕ). let z : Obj = record { number = n } in z) number)

@@ -20,7 +20,7 @@ use Rattle.py_run.proofs.PastLemmas.{past_state}
 use Rattle.py_run.proofs.RunLemmas.{comes_rest}
 use Rattle.py_agreement.specs.Agreement.{Relation}
 use Rattle.py_determined.specs.Events.{SameEvent, SameEvents}
-use Rattle.py_meaning.specs.Whole.{AreAsked, IsRunOf, plan_of, IsRun, IsPartOfRun, IsWholeRun, IsCutRun}
+use Rattle.py_meaning.specs.Whole.{AreAsked, IsRunOf, plan_of, IsRun, IsWhole, IsRunFrom, IsWholeFrom, IsUnfinishedFrom}
 
 -- ---- behind a run that is done
 
@@ -117,22 +117,27 @@ module _ (S : Relation) where
 
   -- ---- journals of one script
 
-  -- no run is longer than a whole one with the same events
-  pub no_longer : (bytes : List ℕ) (turns turns' : ℕ) (j j' : Journal) → SameEvents S j.events j'.events → IsWholeRun bytes turns j → IsPartOfRun bytes turns' j'
-      → length j'.events ≤ length j.events
-  no_longer bytes turns turns' j j' same (s, is, ran, whole, few, codes) (t, is', ran', few', codes') =
-      by (cases_lt (length j.events) (length j'.events))
-    where
-      by : (length j.events < length j'.events) ⊎ (length j'.events ≤ length j.events) → length j'.events ≤ length j.events
-      by (inl longer) =
-          let last = whole_is_last (decls_of s) s.drives j'.objects j.events j'.events same (run_of bytes s t j' is is' ran') whole (omega (arith, longer)) in
-          let count = last.0 in omega (arith, count)
-      by (inr shorter) = shorter
+  module _ (bytes : List ℕ) (j j' : Journal) (same : SameEvents S j.events j'.events) where
+    -- a run that is no shorter than a whole one with the same events is whole
+    last_is_whole : (s t : Script) → IsScript bytes s → IsScript bytes t → IsRun s j → IsWhole s j → IsRun t j' → length j.events ≤ length j'.events
+        → (length j'.events ≡ length j.events) × IsWhole t j'
+    last_is_whole s t is is' run whole run' few =
+        let last = whole_is_last (decls_of s) s.drives j'.objects j.events j'.events same (run_of bytes s t j' is is' run') whole few in
+        let drives : t.drives ≡ s.drives = (one_tree bytes t s is' is).1 in
+        (last.0, subst (λ (l : List DriveLine). IsDone (length l) j'.events) (sym drives) last.1)
 
-  -- a script has no cut run that is as long as a whole one with the same events
-  pub not_both : (bytes : List ℕ) (turns turns' : ℕ) (j j' : Journal) → SameEvents S j.events j'.events → IsWholeRun bytes turns j → IsCutRun bytes turns' j'
-      → length j.events ≤ turns' → ⊥
-  not_both bytes turns turns' j j' same (s, is, ran, whole, few, codes) (t, is', ran', unfinished, count, codes') enough =
-      let last = whole_is_last (decls_of s) s.drives j'.objects j.events j'.events same (run_of bytes s t j' is is' ran') whole (omega (arith, count, enough)) in
-      let drives : t.drives ≡ s.drives = (one_tree bytes t s is' is).1 in
-      unfinished (subst (λ (l : List DriveLine). IsDone (length l) j'.events) (sym drives) last.1)
+    -- no run is longer than a whole one with the same events
+    pub no_longer : IsWholeFrom bytes j → IsRunFrom bytes j' → length j'.events ≤ length j.events
+    no_longer (s, is, run, whole) (t, is', run') = by (cases_lt (length j.events) (length j'.events))
+      where
+        by : (length j.events < length j'.events) ⊎ (length j'.events ≤ length j.events) → length j'.events ≤ length j.events
+        by (inl longer) = let count = (last_is_whole s t is is' run whole run' (omega (arith, longer))).0 in omega (arith, count)
+        by (inr shorter) = shorter
+
+    -- and one that isn't whole is shorter
+    pub unfinished_shorter : IsWholeFrom bytes j → IsUnfinishedFrom bytes j' → length j'.events < length j.events
+    unfinished_shorter (s, is, run, whole) (t, is', run', not_whole) = by (cases_lt (length j'.events) (length j.events))
+      where
+        by : (length j'.events < length j.events) ⊎ (length j.events ≤ length j'.events) → length j'.events < length j.events
+        by (inl shorter) = shorter
+        by (inr enough) = absurd (not_whole (last_is_whole s t is is' run whole run' enough).1)

@@ -23,7 +23,7 @@ use Rattle.py_grammar.specs.Grammar.{Decl, ClassDecl, ManagerDecl, FunctionDecl,
 use Rattle.py_grammar.specs.Rules.{is_builtin_class}
 use Rattle.py_grammar.specs.WellFormed.{IsFunction, IsFunctionNamed, IsClass, IsClassNamed, IsFounded, IsKnown}
 use Rattle.py_vm.specs.Declaring.{IsAddable}
-use Rattle.py_meaning.specs.Whole.{HasFunction, HasClass, HasManager, IsBuiltinClass, IsDeclaredClass, IsDeclaredManager, AreObjects}
+use Rattle.py_meaning.specs.Whole.{HasFunction, HasClass, HasManager, IsBuiltinClass, IsDeclaredFunction, IsDeclaredClass, IsDeclaredManager, AreObjects}
 use Rattle.py_meaning.specs.Entries.{AreWellDeclared, IsNamed, AreDeclared, IsFoundedOn, IsEntryOf}
 use Rattle.py_meaning.proofs.Behind.{declares_it, newest_declared}
 
@@ -154,7 +154,7 @@ module _ (ds : List Decl) (objects : List Payload) (are : AreObjects ds objects)
   -- what an entry declares stands for something
   known_by : (v : Obj) (p : Payload) (x : Name) → HasPayload objects v p → is_name x (declares p) ≡ true → IsKnown ds x
   known_by v (payload.Function b) x has hit =
-      let (t, at, named) = are.only_functions v b has in
+      let (t, at, named, found) = are.only_functions v b has in
       let (k, is) = function_declared ds b.code t at in
       known_at k (FunctionDecl t) x is (sym ((bytes_eq-Decides x b.name).0 hit ∙ named))
   known_by v (payload.Class b) x has hit =
@@ -267,12 +267,15 @@ objects_more ds objects objects' grows are before fit = record {
   classes = λ i c b at. class_grows objects objects' c b grows (are.classes i c b at);
   managers = λ i m e x at. manager_grows objects objects' m e x grows (are.managers i m e x at);
   builtins = λ kind. let (class, has) = are.builtins kind in (class, class_grown objects objects' kind class grows has);
-  only_functions = λ f b has. are.only_functions f b (before f (payload.Function b) b.name refl has);
+  only_functions = λ f b has. function_still f b (are.only_functions f b (before f (payload.Function b) b.name refl has));
   only_classes = λ c b has. class_still c (are.only_classes c b (before c (payload.Class b) b.name refl has));
   only_managers = λ m b has. manager_still m (are.only_managers m b (before m (payload.Manager b) b.name refl has));
   fit = fit;
 }
   where
+    function_still : (f : Obj) (b : FunctionBody) → IsDeclaredFunction ds objects f b → IsDeclaredFunction ds objects' f b
+    function_still f b (t, at, named, found) = (t, at, named, declared_grown objects objects' t.name f grows found)
+
     class_still : (c : Obj) → IsBuiltinClass objects c ⊎ IsDeclaredClass ds objects c → IsBuiltinClass objects' c ⊎ IsDeclaredClass ds objects' c
     class_still c (inl (kind, found)) = inl (kind, declared_grown objects objects' (name_of kind) c grows found)
     class_still c (inr (i, x, b, at, found)) = inr (i, x, b, at, declared_grown objects objects' x c grows found)
@@ -379,14 +382,14 @@ module _ (ds : List Decl) (objects : List Payload) (d : Decl) (p : Payload) (nex
     entry = newest objects p ∙ ap Some is;
   }
 
-  only_function : (b : FunctionBody) (e : Decl) → IsEntryOf objects (length (functions_in ds)) e p → p ≡ payload.Function b
-      → (t : Tree) × (slice_get (functions_in ds ++ functions_in (e ∷ [])) b.code ≡ Some t) × (b.name ≡ t.name)
-  only_function b (ClassDecl c x) (base, above, found, has, is) same = absurd (let clash : payload.Class (record { name = c; mro = base ∷ above.mro }) ≡ payload.Function b = sym is ∙ same in cc clash)
-  only_function b (ManagerDecl m e x) (enter, exit, is_enter, is_exit, is) same = absurd (let clash : payload.Manager (record { name = m; enter = enter; exit = exit }) ≡ payload.Function b = sym is ∙ same in cc clash)
-  only_function b (FunctionDecl t) is same =
+  only_function : (b : FunctionBody) (e : Decl) → IsEntryOf objects (length (functions_in ds)) e p → p ≡ payload.Function b → declared more (decl_name e) ≡ Some last
+      → (t : Tree) × (slice_get (functions_in ds ++ functions_in (e ∷ [])) b.code ≡ Some t) × (b.name ≡ t.name) × (declared more t.name ≡ Some last)
+  only_function b (ClassDecl c x) (base, above, found, has, is) same newly = absurd (let clash : payload.Class (record { name = c; mro = base ∷ above.mro }) ≡ payload.Function b = sym is ∙ same in cc clash)
+  only_function b (ManagerDecl m e x) (enter, exit, is_enter, is_exit, is) same newly = absurd (let clash : payload.Manager (record { name = m; enter = enter; exit = exit }) ≡ payload.Function b = sym is ∙ same in cc clash)
+  only_function b (FunctionDecl t) is same newly =
       let one : payload.Function (record { name = t.name; code = length (functions_in ds) }) ≡ payload.Function b = sym is ∙ same in
       let body : record { name = t.name; code = length (functions_in ds) } ≡ b = cc one in
-      (t, ap (λ (k : FunctionBody). slice_get (functions_in ds ++ t ∷ []) k.code) (sym body) ∙ newest (functions_in ds) t, ap (λ (k : FunctionBody). k.name) (sym body))
+      (t, ap (λ (k : FunctionBody). slice_get (functions_in ds ++ t ∷ []) k.code) (sym body) ∙ newest (functions_in ds) t, ap (λ (k : FunctionBody). k.name) (sym body), newly)
 
   only_class : (b : ClassBody) (e : Decl) → IsEntryOf objects (length (functions_in ds)) e p → p ≡ payload.Class b → declared more (decl_name e) ≡ Some last → (e ≡ d) → IsDeclaredClass all more last
   only_class b (ClassDecl c x) entry same newly one = (length ds, c, x, newest ds d ∙ ap Some (sym one), newly)
@@ -402,11 +405,12 @@ module _ (ds : List Decl) (objects : List Payload) (d : Decl) (p : Payload) (nex
   numbered : (v : Obj) → v.number ≡ length objects → last ≡ v
   numbered v at = ap (λ n. let w : Obj = record { number = n } in w) (sym at)
 
-  old_function : (b : FunctionBody) → (t : Tree) × (slice_get (functions_in ds) b.code ≡ Some t) × (b.name ≡ t.name) → (t : Tree) × (slice_get (functions_in all) b.code ≡ Some t) × (b.name ≡ t.name)
-  old_function b (t, at, named) = (t, ap (λ (ts : List Tree). slice_get ts b.code) (functions_append ds (d ∷ [])) ∙ slice_get_grown (functions_in ds) (functions_in (d ∷ [])) b.code t at, named)
+  old_function : (f : Obj) (b : FunctionBody) → IsDeclaredFunction ds objects f b → IsDeclaredFunction all more f b
+  old_function f b (t, at, named, found) =
+      (t, ap (λ (ts : List Tree). slice_get ts b.code) (functions_append ds (d ∷ [])) ∙ slice_get_grown (functions_in ds) (functions_in (d ∷ [])) b.code t at, named, declared_grown objects more t.name f grows found)
 
-  new_function : (b : FunctionBody) → (t : Tree) × (slice_get (functions_in ds ++ functions_in (d ∷ [])) b.code ≡ Some t) × (b.name ≡ t.name) → (t : Tree) × (slice_get (functions_in all) b.code ≡ Some t) × (b.name ≡ t.name)
-  new_function b (t, at, named) = (t, ap (λ (ts : List Tree). slice_get ts b.code) (functions_append ds (d ∷ [])) ∙ at, named)
+  new_function : (b : FunctionBody) → (t : Tree) × (slice_get (functions_in ds ++ functions_in (d ∷ [])) b.code ≡ Some t) × (b.name ≡ t.name) × (declared more t.name ≡ Some last) → IsDeclaredFunction all more last b
+  new_function b (t, at, named, found) = (t, ap (λ (ts : List Tree). slice_get ts b.code) (functions_append ds (d ∷ [])) ∙ at, named, found)
 
   old_class : (c : Obj) → IsBuiltinClass objects c ⊎ IsDeclaredClass ds objects c → IsBuiltinClass more c ⊎ IsDeclaredClass all more c
   old_class c (inl (kind, found)) = inl (kind, declared_grown objects more (name_of kind) c grows found)
@@ -429,8 +433,8 @@ module _ (ds : List Decl) (objects : List Payload) (d : Decl) (p : Payload) (nex
     ];
     builtins = λ kind. let (class, has) = next.are.builtins kind in (class, class_grown objects more kind class grows has);
     only_functions = λ f b has. elim (one_more objects p (payload.Function b) f.number has) [
-      | inl old ↦ old_function b (next.are.only_functions f b old)
-      | inr new ↦ new_function b (only_function b d next.entry new.1)
+      | inl old ↦ old_function f b (next.are.only_functions f b old)
+      | inr new ↦ subst (λ (v : Obj). IsDeclaredFunction all more v b) (numbered f new.0) (new_function b (only_function b d next.entry new.1 is_last))
     ];
     only_classes = λ c b has. elim (one_more objects p (payload.Class b) c.number has) [
       | inl old ↦ old_class c (next.are.only_classes c b old)

@@ -4,6 +4,7 @@ pub mod Entries
 -- what is written where no object changes
 pub mod PlainText
 -- two runs of one script: what is alike before any event, what drives ask, what activations tell
+mod EarlierLemmas
 mod AlikeObjects
 mod AskedAgree
 mod TracesAgree

@@ -7,7 +7,6 @@ use Rattle.py_objects.specs.Objects.{Obj, Name, declared}
 use Rattle.py_objects.specs.Own.{Own}
 use Rattle.py_lines.specs.declared.drive.DriveLine.{DriveLine}
 use Rattle.py_grammar.specs.Grammar.{Decl, functions_in}
-use Rattle.py_grammar.specs.WellFormed.{AreWellDriven}
 use Rattle.py_run.specs.Run.{Posed, Plan, start, state_after}
 use Rattle.py_run.specs.Coming.{nothing, Comes}
 use Rattle.py_run.specs.Past.{past_behind}
@@ -19,6 +18,7 @@ use Rattle.py_determined.specs.Sameness.{SamePosed}
 use Rattle.py_determined.specs.Events.{SameEvents}
 use Rattle.py_determined.specs.Related.{pairs_of, Related}
 use Rattle.py_determined.proofs.Growing.{maybe_grows}
+use Rattle.py_meaning.specs.Earlier.{NameEarlier}
 use Rattle.py_meaning.specs.Whole.{AreAsked, IsRunOf, Traces, plan_of}
 use Rattle.py_meaning.proofs.AlikeObjects.{declared_are_alike}
 use Rattle.py_meaning.proofs.AskedAgree.{posed_agree}
@@ -38,7 +38,7 @@ begins_at plan objects es more d comes =
     let state : (past_behind plan nothing es).state.done ≡ (state_after start es).done = ap (λ s. s.done) (past_state plan es) in
     (omega (arith, next, state), present plan.asked d (omega (arith, next, some)))
 
-module _ (decls : List Decl) (drives : List DriveLine) (well : AreWellDriven decls drives)
+module _ (decls : List Decl) (drives : List DriveLine) (earlier : NameEarlier drives)
     (objects objects' : List Payload) (events events' : List Event) (run : IsRunOf decls drives objects events) (run' : IsRunOf decls drives objects' events') where
   -- which objects two fronts of the events relate
   abbrev pub Pairing : List Event → List Event → Relation
@@ -75,8 +75,8 @@ module _ (decls : List Decl) (drives : List DriveLine) (well : AreWellDriven dec
       let (low, (q, at)) = begins_at (plan_of (functions_in decls) run.asked) objects es more d comes in
       let (low', (q', at')) = begins_at (plan_of (functions_in decls) run'.asked) objects' fs more' d comes' in
       let posed : SamePosed (Pairing es fs) q q' =
-      posed_agree (Pairing es fs) objects objects' (λ p v w literal has has'. inl (p, literal, has, has')) (declares_agree es fs) decls drives run.asked run'.asked
-      (plan_of (functions_in decls) run.asked) (plan_of (functions_in decls) run'.asked) es fs (event.Drive (suc d) ∷ more) (event.Drive (suc d) ∷ more') d q q' well comes comes' same low low'
+      posed_agree (Pairing es fs) objects objects' (λ p v w literal has has'. inl (p, literal, has, has')) (declares_agree es fs) drives run.asked run'.asked
+      (plan_of (functions_in decls) run.asked) (plan_of (functions_in decls) run'.asked) es fs (event.Drive (suc d) ∷ more) (event.Drive (suc d) ∷ more') d q q' earlier comes comes' same low low'
       (subst (λ (l : List Event). AreAsked objects l drives run.asked) is run.are_asked) (subst (λ (l : List Event). AreAsked objects' l drives run'.asked) is' run'.are_asked) at at' in
       subst (λ (o : Option Posed). SameMaybe (SamePosed (Pairing es fs)) o (slice_get run'.asked d)) (sym at)
       (subst (λ (o : Option Posed). SameMaybe (SamePosed (Pairing es fs)) (Some q) o) (sym at') posed)

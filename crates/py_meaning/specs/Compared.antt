@@ -1,49 +1,55 @@
--- Single events of two runs whose objects aren't alike: what two runs of one script can't have.
-use Rattle.std.specs.Prelude.{None, List, [], ◌∷◌, pos}
-use Rattle.py_code.specs.declared.operator.BinaryOperator.TheVariants as binary
-use Rattle.py_code.specs.declared.operator.ComparisonOperator.TheVariants as comparison
+-- Two runs of one script: what can't differ in them, and what may.
+use Rattle.std.specs.Prelude.{ℕ, Some, Option, List, ◌≡◌, pos, slice_get}
+use Rattle.py_objects.specs.declared.refs.PyBaseExceptionRef.{PyBaseExceptionRef}
 use Rattle.py_objects.specs.declared.payload.Payload.{Payload}
 use Rattle.py_objects.specs.declared.payload.Payload.TheVariants as payload
-use Rattle.py_objects.specs.declared.payload.CoroKind.TheVariants as kind
+use Rattle.py_objects.specs.declared.payload.CoroBody.{CoroBody}
 use Rattle.py_objects.specs.declared.request.Request.TheVariants as request
 use Rattle.py_objects.specs.declared.event.GotAnswer.TheVariants as got
 use Rattle.py_objects.specs.declared.event.Event.{Event}
 use Rattle.py_objects.specs.declared.event.Event.TheVariants as event
-use Rattle.py_determined.specs.Alike.{AreAlike, numbered}
-use Rattle.py_determined.specs.Related.{Related, pairs_of}
+use Rattle.py_objects.specs.Objects.{Obj, Name, HasPayload}
+use Rattle.py_objects.specs.Singletons.{none_object}
+use Rattle.py_grammar.specs.Grammar.{Decl}
+use Rattle.py_lines.specs.declared.drive.DriveLine.{DriveLine}
+use Rattle.py_meaning.specs.Earlier.{NameEarlier}
+use Rattle.py_meaning.specs.Whole.{IsRunOf}
+use Rattle.py_meaning.specs.Worked.{object}
+use Rattle.py_meaning.specs.WorkedShow.{decls, drives, objects, events_by}
 
--- the objects of two runs are alike, where these are their events
-abbrev pub AlikeBy : List Payload → List Payload → Event → Event → Type 0
-AlikeBy objects objects' e f = AreAlike (Related objects objects' (pairs_of (e ∷ []) (f ∷ []))) objects objects'
+-- prefixes of two runs of the same declarations and drives
+pub record AreRuns (objects objects' : List Payload) (events events' : List Event) : Type 0 where
+  pub decls : List Decl
+  pub drives : List DriveLine
+  pub earlier : NameEarlier drives
+  pub run : IsRunOf decls drives objects events
+  pub run' : IsRunOf decls drives objects' events'
 
--- numbers, and generators of one activation
-abbrev pub one : Payload
-one = payload.Int (pos 1)
+-- at this place some activation gets this value
+abbrev pub Gets : List Event → ℕ → Obj → Type 0
+Gets events i v = (a : ℕ) × (slice_get events i ≡ Some (event.Got a (got.Value v)))
 
-abbrev pub two : Payload
-two = payload.Int (pos 2)
+-- at this place one looks up this name
+abbrev pub LooksUp : List Event → ℕ → Name → Type 0
+LooksUp events i x = (a : ℕ) × (d : Obj) × (own : Option PyBaseExceptionRef) × (at : ℕ) × (slice_get events i ≡ Some (event.Ask a (request.Global d x) own at))
 
-abbrev pub generator : Payload
-generator = payload.Generator (record { activation = 1; name = []; kind = kind.Generator })
-
--- an answer of 1 in the one run, and of 2 in the other
-abbrev pub answer : Event
-answer = event.Got 1 (got.Value (numbered 0))
-
+-- where the one run gets a 1, the other doesn't get a 2
 abbrev pub NoOtherAnswer : Type 0
-NoOtherAnswer = AlikeBy (one ∷ []) (two ∷ []) answer answer → ⊥
+NoOtherAnswer =
+    (objects objects' : List Payload) (events events' : List Event) (i : ℕ) (v w : Obj) → AreRuns objects objects' events events' → Gets events i v → Gets events' i w
+    → HasPayload objects v (payload.Int (pos 1)) → HasPayload objects' w (payload.Int (pos 2)) → ⊥
 
--- 1 is added to 2 in the one run, and 2 to 1 in the other
+-- where the one run looks up a name, the other doesn't look up another one
 abbrev pub NoOtherOrder : Type 0
 NoOtherOrder =
-    AlikeBy (one ∷ two ∷ []) (one ∷ two ∷ []) (event.Ask 1 (request.Binary binary.Add (numbered 0) (numbered 1)) None 0) (event.Ask 1 (request.Binary binary.Add (numbered 1) (numbered 0)) None 0) → ⊥
+    (objects objects' : List Payload) (events events' : List Event) (i : ℕ) (x y : Name) → AreRuns objects objects' events events' → LooksUp events i x → LooksUp events' i y → (x ≡ y → ⊥) → ⊥
 
--- a generator is compared with itself in the one run, and with another one in the other
+-- where the one run gets one generator at two places, the other doesn't get two
 abbrev pub NoOtherIdentity : Type 0
 NoOtherIdentity =
-    AlikeBy (generator ∷ []) (generator ∷ generator ∷ []) (event.Ask 1 (request.Compare comparison.Equal (numbered 0) (numbered 0)) None 0)
-    (event.Ask 1 (request.Compare comparison.Equal (numbered 0) (numbered 1)) None 0) → ⊥
+    (objects objects' : List Payload) (events events' : List Event) (i k : ℕ) (v w w2 : Obj) (g : CoroBody) → AreRuns objects objects' events events'
+    → Gets events i v → Gets events k v → HasPayload objects v (payload.Generator g) → Gets events' i w → Gets events' k w2 → (w ≡ w2 → ⊥) → ⊥
 
--- an answer of 1, which is the object 0 in the one run and the object 1 in the other
+-- but which None is returned is free: two lists of events that differ in it are both runs
 abbrev pub OtherNumbers : Type 0
-OtherNumbers = AlikeBy (one ∷ []) (two ∷ one ∷ []) answer (event.Got 1 (got.Value (numbered 1)))
+OtherNumbers = IsRunOf decls drives objects (events_by (object 6) none_object (object 7)) × IsRunOf decls drives objects (events_by (object 6) none_object none_object)

@@ -6,6 +6,8 @@ pub mod Said
 pub mod Text
 -- how the entries of declarations come one behind the other
 pub mod Entries
+-- which drives the lines of a script name
+pub mod Earlier
 -- scripts worked by hand
 pub mod Worked
 pub mod WorkedShow

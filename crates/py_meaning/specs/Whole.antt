@@ -145,6 +145,10 @@ IsDeclaredClass decls objects v = (i : ℕ) × (c : Name) × (b : Name) × (slic
 abbrev pub IsDeclaredManager : List Decl → List Payload → Obj → Type 0
 IsDeclaredManager decls objects v = (i : ℕ) × (m : Name) × (e : Name) × (x : Name) × (slice_get decls i ≡ Some (ManagerDecl m e x)) × (declared objects m ≡ Some v)
 
+-- a function that they declare, whose body has its place among the bodies
+abbrev pub IsDeclaredFunction : List Decl → List Payload → Obj → FunctionBody → Type 0
+IsDeclaredFunction decls objects v b = (t : Tree) × (slice_get (functions_in decls) b.code ≡ Some t) × (b.name ≡ t.name) × (declared objects t.name ≡ Some v)
+
 -- the objects of a script: each function, class and manager that it declares, and each built-in class, has its entry, where a function's has the
 -- place of its body among the bodies; no other function, class or manager is there; each entry names objects that are there, of the kinds that it
 -- needs
@@ -153,7 +157,7 @@ pub record AreObjects (decls : List Decl) (objects : List Payload) : Type 0 wher
   pub classes : (i : ℕ) (c b : Name) → slice_get decls i ≡ Some (ClassDecl c b) → HasClass objects c b
   pub managers : (i : ℕ) (m e x : Name) → slice_get decls i ≡ Some (ManagerDecl m e x) → HasManager objects m e x
   pub builtins : (kind : ErrorKind) → (c : PyTypeRef) × IsClassOf objects kind c
-  pub only_functions : (f : Obj) (b : FunctionBody) → HasPayload objects f (payload.Function b) → (t : Tree) × (slice_get (functions_in decls) b.code ≡ Some t) × (b.name ≡ t.name)
+  pub only_functions : (f : Obj) (b : FunctionBody) → HasPayload objects f (payload.Function b) → IsDeclaredFunction decls objects f b
   pub only_classes : (c : Obj) (b : ClassBody) → HasPayload objects c (payload.Class b) → IsBuiltinClass objects c ⊎ IsDeclaredClass decls objects c
   pub only_managers : (m : Obj) (b : ManagerBody) → HasPayload objects m (payload.Manager b) → IsDeclaredManager decls objects m
   pub fit : AllFit objects
@@ -208,6 +212,18 @@ pub record IsEmpty (j : Journal) : Type 0 where
   pub objects : j.objects ≡ []
   pub changes : j.changes ≡ []
   pub codes : j.codes.codes ≡ []
+
+-- the journal is a prefix of a run of the script that the bytes are, whatever codes it has
+abbrev pub IsRunFrom : List ℕ → Journal → Type 0
+IsRunFrom bytes j = (s : Script) × IsScript bytes s × IsRun s j
+
+-- a whole one
+abbrev pub IsWholeFrom : List ℕ → Journal → Type 0
+IsWholeFrom bytes j = (s : Script) × IsScript bytes s × IsRun s j × IsWhole s j
+
+-- one that isn't whole
+abbrev pub IsUnfinishedFrom : List ℕ → Journal → Type 0
+IsUnfinishedFrom bytes j = (s : Script) × IsScript bytes s × IsRun s j × (IsWhole s j → ⊥)
 
 -- the journal is a prefix of a run of the script that the bytes are, of at most so many events
 abbrev pub IsPartOfRun : List ℕ → ℕ → Journal → Type 0

@@ -1,10 +1,9 @@
-//! Events of two runs, compared by hand.
+//! Two runs of one script, compared.
 
 ghost use Rattle.py_meaning.specs.Compared.{NoOtherAnswer, NoOtherIdentity, NoOtherOrder, OtherNumbers};
 
-/// States what two runs of one script can't have, since their objects are alike, and does nothing: one answer that is 1 in the one run and 2 in the
-/// other, operands in another order, and an object that is compared with itself in the one run and with another one in the other. One answer may be the
-/// object 0 in the one run and the object 1 in the other.
+/// States what can't differ in two runs of one script, and does nothing: at one place the one run doesn't get a 1 and the other a 2, nor does the one look
+/// up a name and the other another one, and where the one gets one generator at two places the other doesn't get two. Which None is returned may differ.
 pub fn worked_runs()
     ensures no_other_answer { NoOtherAnswer }
     ensures no_other_order { NoOtherOrder }

@@ -1,30 +1,30 @@
 //! What follows for two runs of one script.
 
-ghost use Rattle.std.specs.Prelude.{List, length, ℕ, ◌≡◌, ◌≤◌};
+ghost use Rattle.std.specs.Prelude.{List, length, ℕ, ◌≡◌, ◌≤◌, ◌<◌};
 ghost use Rattle.py_objects.specs.declared.payload.Payload.{Payload};
 ghost use Rattle.py_objects.specs.declared.event.Event.{Event};
 ghost use Rattle.py_lines.specs.declared.drive.DriveLine.{DriveLine};
 ghost use Rattle.py_grammar.specs.Grammar.{Decl};
-ghost use Rattle.py_grammar.specs.WellFormed.{AreWellDriven};
 ghost use Rattle.py_vm.specs.declared.journal.Journal.{Journal};
 ghost use Rattle.py_determined.specs.Alike.{AreAlike};
 ghost use Rattle.py_determined.specs.Events.{SameEvents};
 ghost use Rattle.py_determined.specs.Related.{Related, pairs_of};
-ghost use Rattle.py_meaning.specs.Whole.{IsCutRun, IsPartOfRun, IsRunOf, IsWholeRun};
+ghost use Rattle.py_meaning.specs.Earlier.{NameEarlier};
+ghost use Rattle.py_meaning.specs.Whole.{IsRunFrom, IsRunOf, IsUnfinishedFrom, IsWholeFrom};
 ghost use Rattle.py_meaning.specs.Text.{text_of};
 
 /// States laws, and does nothing. Two runs of the same declarations and drives are the same, event by event, as far as both go, but for the numbers
 /// of objects and of units: their events are of one kind, of one drive or activation, and name related objects, where two objects are related that
 /// one literal may stand for, that are declared under one name, or that the events name at one place; and these are alike. So where the script that
-/// bytes are has a whole run, no other is longer, and none is cut that may have as many events; runs of as many events have one text, and so have
-/// all whole ones.
+/// bytes are has a whole run, no other is longer, and one that isn't whole is shorter; runs of as many events have one text, and so have all whole ones.
 pub fn laws_of_scripts()
-    ensures same { (decls : List Decl) (drives : List DriveLine) (objects objects' : List Payload) (events events' : List Event) → AreWellDriven decls drives → IsRunOf decls drives objects events → IsRunOf decls drives objects' events' → SameEvents (Related objects objects' (pairs_of events events')) events events' }
-    ensures alike { (decls : List Decl) (drives : List DriveLine) (objects objects' : List Payload) (events events' : List Event) → AreWellDriven decls drives → IsRunOf decls drives objects events → IsRunOf decls drives objects' events' → AreAlike (Related objects objects' (pairs_of events events')) objects objects' }
-    ensures journals { (bytes : List ℕ) (turns turns' : ℕ) (j j' : Journal) → IsPartOfRun bytes turns j → IsPartOfRun bytes turns' j' → SameEvents (Related j.objects j'.objects (pairs_of j.events j'.events)) j.events j'.events × AreAlike (Related j.objects j'.objects (pairs_of j.events j'.events)) j.objects j'.objects }
-    ensures never_cut { (bytes : List ℕ) (turns turns' : ℕ) (j j' : Journal) → IsWholeRun bytes turns j → IsCutRun bytes turns' j' → length j.events ≤ turns' → ⊥ }
-    ensures never_longer { (bytes : List ℕ) (turns turns' : ℕ) (j j' : Journal) → IsWholeRun bytes turns j → IsPartOfRun bytes turns' j' → length j'.events ≤ length j.events }
-    ensures as_long { (bytes : List ℕ) (turns turns' : ℕ) (j j' : Journal) → IsWholeRun bytes turns j → IsWholeRun bytes turns' j' → length j.events ≡ length j'.events }
-    ensures same_text { (bytes : List ℕ) (turns turns' : ℕ) (j j' : Journal) → IsPartOfRun bytes turns j → IsPartOfRun bytes turns' j' → length j.events ≡ length j'.events → text_of j ≡ text_of j' }
-    ensures one_text { (bytes : List ℕ) (turns turns' : ℕ) (j j' : Journal) → IsWholeRun bytes turns j → IsWholeRun bytes turns' j' → text_of j ≡ text_of j' }
+    ensures same { (decls : List Decl) (drives : List DriveLine) (objects objects' : List Payload) (events events' : List Event) → NameEarlier drives → IsRunOf decls drives objects events → IsRunOf decls drives objects' events' → SameEvents (Related objects objects' (pairs_of events events')) events events' }
+    ensures alike { (decls : List Decl) (drives : List DriveLine) (objects objects' : List Payload) (events events' : List Event) → NameEarlier drives → IsRunOf decls drives objects events → IsRunOf decls drives objects' events' → AreAlike (Related objects objects' (pairs_of events events')) objects objects' }
+    // Of journals of the script that bytes are.
+    ensures journals { (bytes : List ℕ) (j j' : Journal) → IsRunFrom bytes j → IsRunFrom bytes j' → SameEvents (Related j.objects j'.objects (pairs_of j.events j'.events)) j.events j'.events × AreAlike (Related j.objects j'.objects (pairs_of j.events j'.events)) j.objects j'.objects }
+    ensures shorter { (bytes : List ℕ) (j j' : Journal) → IsWholeFrom bytes j → IsUnfinishedFrom bytes j' → length j'.events < length j.events }
+    ensures never_longer { (bytes : List ℕ) (j j' : Journal) → IsWholeFrom bytes j → IsRunFrom bytes j' → length j'.events ≤ length j.events }
+    ensures as_long { (bytes : List ℕ) (j j' : Journal) → IsWholeFrom bytes j → IsWholeFrom bytes j' → length j.events ≡ length j'.events }
+    ensures same_text { (bytes : List ℕ) (j j' : Journal) → IsRunFrom bytes j → IsRunFrom bytes j' → length j.events ≡ length j'.events → text_of j ≡ text_of j' }
+    ensures one_text { (bytes : List ℕ) (j j' : Journal) → IsWholeFrom bytes j → IsWholeFrom bytes j' → text_of j ≡ text_of j' }
 {}

@@ -12,7 +12,7 @@ use Rattle.py_script.specs.declared.fault.ScriptFault.TheVariants as fault
 use Rattle.py_script.specs.declared.fault.CommandResult.{CommandResult}
 use Rattle.py_script.specs.declared.fault.CommandResult.TheVariants as outcome
 use Rattle.py_script.specs.Words.{command_in}
-use Rattle.py_meaning.specs.Whole.{IsEmpty, IsPartOfRun, IsWholeRun, IsCutRun}
+use Rattle.py_meaning.specs.Whole.{IsEmpty, IsRunFrom, IsWholeFrom, IsUnfinishedFrom, IsPartOfRun, IsWholeRun, IsCutRun}
 use Rattle.py_meaning.specs.Text.{text_of}
 
 -- the source and the sink, before a call and after it: the bytes left and taken, where they are told, the faults, and whether the last
@@ -131,14 +131,14 @@ abbrev pub HasFewer : ℕ → CommandResult → Type 0
 HasFewer turns (outcome.Ran j) = length j.events < turns
 HasFewer turns result = Unit {0}
 
--- what the runs of the script that bytes are settle: where a whole one has at most so many events, turns never run out; where one is cut behind so
--- many, none is answered as whole; what is written is the text of any such run; where none of so many events is whole, an answered one has fewer
+-- what the runs of the script that bytes are settle: where a whole one has at most so many events, turns never run out; where one that isn't whole has
+-- as many, none is answered as whole; what is written is the text of any such run; and where no whole one has just so many, an answered one has fewer
 pub record IsSettled (bytes : List ℕ) (e : Ends) (turns : ℕ) (result : CommandResult) : Type 0 where
-  pub never_cut : (j : Journal) → IsWholeRun bytes turns j → status_in result ≡ 4 → ⊥
-  pub never_whole : (j : Journal) → IsCutRun bytes turns j → status_in result ≡ 0 → ⊥
-  pub whole_text : (j : Journal) (n : ℕ) → IsWholeRun bytes n j → status_in result ≡ 0 → Appends e.taken e.taken' (text_of j)
-  pub cut_text : (j : Journal) → IsCutRun bytes turns j → status_in result ≡ 4 → Appends e.taken e.taken' (text_of j)
-  pub fewer : ((j : Journal) → length j.events ≡ turns → IsWholeRun bytes turns j → ⊥) → HasFewer turns result
+  pub never_cut : (j : Journal) → IsWholeFrom bytes j → length j.events ≤ turns → status_in result ≡ 4 → ⊥
+  pub never_whole : (j : Journal) → IsUnfinishedFrom bytes j → turns ≤ length j.events → status_in result ≡ 0 → ⊥
+  pub whole_text : (j : Journal) → IsWholeFrom bytes j → status_in result ≡ 0 → Appends e.taken e.taken' (text_of j)
+  pub cut_text : (j : Journal) → IsRunFrom bytes j → length j.events ≡ turns → status_in result ≡ 4 → Appends e.taken e.taken' (text_of j)
+  pub fewer : ((j : Journal) → IsWholeFrom bytes j → length j.events ≡ turns → ⊥) → HasFewer turns result
 
 -- those of the script that a source holds
 abbrev pub RunsSettle : Ends → ℕ → CommandResult → Type 0

@@ -1,14 +1,14 @@
-use Rattle.std.proofs.Common.{◌≡◌, pos, refl, inl, inr, true, false}
-use Rattle.py_determined.specs.Alike.{numbered}
-use Rattle.py_meaning.specs.Compared.{one, two, generator}
-use Rattle.py_meaning.proofs.ComparedLemmas.{other_numbers}
+use Rattle.std.proofs.Common.{refl}
+use Rattle.py_objects.specs.Singletons.{none_object}
+use Rattle.py_meaning.specs.Worked.{object}
+use Rattle.py_meaning.proofs.ComparedLemmas.{no_other_answer, no_other_order, no_other_identity}
+use Rattle.py_meaning.proofs.WorkedShowLemmas.{any_none}
 use Rattle.py_meaning.proofs.compared.worked_runs.Goals as goal
 
 pub returns : goal.returns
 returns c = record {
-  no_other_answer = λ alike. let same : pos 1 ≡ pos 2 = alike.payloads (numbered 0) (numbered 0) one two (inr (inr (inl (refl, refl)))) refl refl in cc same;
-  no_other_order = λ alike. let same : pos 1 ≡ pos 2 = alike.payloads (numbered 0) (numbered 1) one two (inr (inr (inl (refl, refl)))) refl refl in cc same;
-  no_other_identity = λ alike.
-      let same : true ≡ false = alike.one (numbered 0) (numbered 0) (numbered 0) (numbered 1) generator (inr (inr (inl (refl, refl)))) (inr (inr (inr (inl (refl, refl))))) refl refl in cc same;
-  other_numbers = other_numbers;
+  no_other_answer = no_other_answer;
+  no_other_order = no_other_order;
+  no_other_identity = no_other_identity;
+  other_numbers = (any_none none_object (object 7) refl refl, any_none none_object none_object refl refl);
 }
