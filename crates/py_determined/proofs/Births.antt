@@ -131,7 +131,15 @@ module _ (S : Relation) where
       has_second = is'.entry;
       is_first = refl;
       is_second = refl;
-      alike = record { class = class; arguments = λ vs ws has has'. arguments_same is.args is'.args args args' vs ws is.are is'.are same has has'; attrs = named; cause = tt };
+      alike = record {
+        class = class;
+        arguments = λ vs ws has has'. arguments_same is.args is'.args args args' vs ws is.are is'.are same has has';
+        attrs = named;
+        cause = tt;
+        context = tt;
+        suppress = refl;
+        traceback = tt;
+      };
       new_first = is.new;
       new_second = is'.new;
     }
@@ -174,6 +182,9 @@ module _ (S : Relation) where
         arguments = λ vs ws has has'. arguments_same is.args is'.args _ _ vs ws is.are is'.are (message_same is.argument is'.argument s t text is.message is'.message, tt) has has';
         attrs = tt;
         cause = cause;
+        context = tt;
+        suppress = refl;
+        traceback = tt;
       };
       new_first = is.new;
       new_second = is'.new;

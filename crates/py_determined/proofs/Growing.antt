@@ -209,6 +209,9 @@ module _ (S S' : Relation) (more : (v w : Obj) → S v w → S' v w) where
       arguments = λ vs ws has has'. all_grow vs ws (s.arguments vs ws has has');
       attrs = attrs_grow e.attrs f.attrs s.attrs;
       cause = maybe_grows S S' more e.cause f.cause s.cause;
+      context = maybe_grows S S' more e.context f.context s.context;
+      suppress = s.suppress;
+      traceback = maybe_grows S S' more e.traceback f.traceback s.traceback;
     }
     alike_grows (payload.Traceback t) (payload.Traceback u) s = tt
     alike_grows _ _ s = absurd s

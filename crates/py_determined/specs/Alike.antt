@@ -14,12 +14,15 @@ SameAttrs S [] [] = Unit {0}
 SameAttrs S (a ∷ attrs) (b ∷ attrs') = (a.0 ≡ b.0) × S a.1 b.1 × SameAttrs S attrs attrs'
 SameAttrs S _ _ = ⊥
 
--- two exceptions of related classes, with related arguments, attributes and causes
+-- two exceptions of related classes, with related arguments, attributes and links, and both with the context left out of what is printed or neither
 pub record AlikeExceptions (S : Relation) (objects objects' : List Payload) (e f : ExceptionBody) : Type 0 where
   pub class : S (class_object e.class) (class_object f.class)
   pub arguments : (vs ws : List Obj) → HasPayload objects e.args (payload.Tuple vs) → HasPayload objects' f.args (payload.Tuple ws) → SameAll S vs ws
   pub attrs : SameAttrs S e.attrs f.attrs
   pub cause : SameMaybe S e.cause f.cause
+  pub context : SameMaybe S e.context f.context
+  pub suppress : e.suppress ≡ f.suppress
+  pub traceback : SameMaybe S e.traceback f.traceback
 
 -- two payloads of one kind: equal values, and entries that name related objects. Tuples, dicts and frames are no values of scripts
 abbrev pub Alike : Relation → List Payload → List Payload → Payload → Payload → Type 0
