@@ -1,3 +1,5 @@
+-- when states and raises are the same
+pub mod SameStates
 -- what is seen of alike payloads
 pub mod AlikeLemmas
 -- what is raised, thrown and answered by generators

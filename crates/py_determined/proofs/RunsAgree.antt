@@ -18,9 +18,10 @@ use Rattle.py_run.proofs.CoursesLemmas.{IsResumed, resumed}
 use Rattle.py_run.proofs.CutLemmas.{AreBelow, IsNumbered, numbered_behind}
 use Rattle.py_agreement.specs.Agreement.{Relation, SameMaybe, SameAll, Agree}
 use Rattle.py_determined.specs.Alike.{AreAlike}
-use Rattle.py_determined.specs.Sameness.{SameAsked, SameSetting, SamePosed, SameActs, SameState, SameGenerators, SameRaises}
+use Rattle.py_determined.specs.Sameness.{SameAsked, SameSetting, SamePosed, SameGenerators}
 use Rattle.py_determined.specs.Events.{SameEvent, SameEvents}
 use Rattle.py_determined.specs.Related.{paired, pairs_of, value_numbers, IsPair, Related}
+use Rattle.py_determined.proofs.SameStates.{SameActs, SameState, SameRaises}
 use Rattle.py_determined.proofs.AlikeLemmas.{derived_agree}
 use Rattle.py_determined.proofs.CoursesAgree.{courses_agree, due_agree}
 use Rattle.py_determined.proofs.Growing.{maybe_grows, event_grows, events_grow, state_grows, posed_grows, generators_grow, raises_grow}

@@ -27,9 +27,10 @@ use Rattle.py_run.specs.Calls.{Course, Says, Enters, Begins, Sends, Throws, Sett
 use Rattle.py_run.specs.Coming.{Past, setting, IsOfKind, MakesGenerator, MayCome}
 use Rattle.py_agreement.specs.Agreement.{Relation, SameMaybe, SameHandled, SameRequest}
 use Rattle.py_determined.specs.Alike.{AreAlike}
-use Rattle.py_determined.specs.Sameness.{SameAsked, SameReply, SameLeft, SameCourse, SameSetting, SamePhase, SameActs, SameState, SameRaises}
+use Rattle.py_determined.specs.Sameness.{SameAsked, SameReply, SameLeft, SameCourse, SameSetting}
 use Rattle.py_determined.specs.Events.{SameEvent}
 use Rattle.py_determined.specs.Related.{paired, value_numbers, IsPair}
+use Rattle.py_determined.proofs.SameStates.{SamePhase, SameActs, SameState, SameRaises}
 use Rattle.py_determined.proofs.Requests.{BothAsk, BothUnbound, BothGlobal, BothBinary, BothCompare, BothTruth, BothMatch, BothHandled, BothRaisable, BothShow, BothCall, BothSend, BothThrow, BothClose, BothEnter, BothExit, BothNoExit, both_ask}
 use Rattle.py_determined.proofs.Growing.{requests_grow, handled_grows}
 use Rattle.py_determined.proofs.StatesAgree.{made_count, raise_same, IsToldRight, AsksRight}

@@ -18,8 +18,8 @@ use Rattle.py_run.proofs.OwnLemmas.{told_by_own}
 use Rattle.py_run.proofs.GeneratorsLemmas.{entries, entries_on, entries_running, entries_closed, entries_settled}
 use Rattle.py_run.proofs.CoursesLemmas.{IsEntering, IsResumed, resumed}
 use Rattle.py_agreement.specs.Agreement.{Relation, SameHandled, SameRequest, SameEnding, Agree}
-use Rattle.py_determined.specs.Sameness.{SameActivation, SameActivations}
 use Rattle.py_determined.specs.Events.{SameEvent, SameEvents}
+use Rattle.py_determined.proofs.SameStates.{SameActivation, SameActivations}
 
 -- ---- the number of an activation that runs
 
