@@ -4,7 +4,6 @@ ghost use Rattle.std.specs.Prelude.{Bool, List, Option, ℕ};
 ghost use Rattle.py_objects.specs.Objects.{Obj};
 ghost use Rattle.py_objects.specs.declared.payload.Payload.{Payload};
 ghost use Rattle.py_objects.specs.declared.request.Request.{Request};
-ghost use Rattle.py_objects.specs.declared.event.Event.{Event};
 ghost use Rattle.py_exceptions.specs.declared.ctor.Instantiate.{Instantiate};
 ghost use Rattle.py_exceptions.specs.Normalizing.{Normalizes};
 ghost use Rattle.py_coro.specs.declared.coro.CoroEnd.{CoroEnd};
@@ -14,7 +13,6 @@ ghost use Rattle.py_answers.specs.Answers.{Replies, Reply};
 ghost use Rattle.py_run.specs.Calls.{ComesTo, Course, IsDue, Setting};
 ghost use Rattle.py_agreement.specs.Agreement.{by_test, SameMaybe};
 ghost use Rattle.py_determined.specs.Alike.{AreAlike};
-ghost use Rattle.py_determined.specs.Events.{SameEvents};
 ghost use Rattle.py_determined.specs.Sameness.{SameAsked, SameCoroAnswer, SameCourse, SameInstance, SameLeft, SameReply, SameSetting};
 
 /// States laws, and does nothing: where the objects of two runs are alike, the same question has the same reply, the same comes of what is thrown,
@@ -30,9 +28,4 @@ pub fn laws_of_answers()
 pub fn laws_of_courses()
     ensures courses { (same : ℕ → ℕ → Bool) (objects objects' : List Payload) (at at' : Setting) (r r' : Request) (c c' : Course) → AreAlike (by_test same) objects objects' → SameSetting (by_test same) at at' → SameAsked (by_test same) r r' → ComesTo at objects r c → ComesTo at' objects' r' c' → SameCourse (by_test same) c c' }
     ensures due { (same : ℕ → ℕ → Bool) (objects objects' : List Payload) (r r' : Request) (how how' : CoroEnd) (reply reply' : Reply) → AreAlike (by_test same) objects objects' → SameAsked (by_test same) r r' → SameLeft (by_test same) how how' → IsDue objects r how reply → IsDue objects' r' how' reply' → SameReply (by_test same) reply reply' }
-{}
-
-/// States a law, and does nothing: events that are the same are the same where more objects are related.
-pub fn laws_of_runs()
-    ensures grow { (same more : ℕ → ℕ → Bool) (es fs : List Event) → ((v w : Obj) → by_test same v w → by_test more v w) → SameEvents (by_test same) es fs → SameEvents (by_test more) es fs }
 {}

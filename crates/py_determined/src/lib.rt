@@ -3,4 +3,4 @@
 
 mod laws;
 
-pub use laws::{laws_of_answers, laws_of_courses, laws_of_runs};
+pub use laws::{laws_of_answers, laws_of_courses};
