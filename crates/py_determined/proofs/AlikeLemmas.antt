@@ -1,7 +1,8 @@
 -- What is seen of alike payloads is the same: values, names of types, and which classes derive from which.
-use Rattle.std.proofs.Common.{◌≡◌, ◌+◌, ◌||◌, ℕ, suc, Bool, true, false, cond, Option, Some, None, List, [], ◌∷◌, ℤ, int_le, bytes_eq, ◌&&◌, refl, sym, ap, ap₂, subst, ◌∙◌, slice_get, eqb, inl, inr, arith}
+use Rattle.std.proofs.Common.{◌≡◌, ◌+◌, ◌||◌, ℕ, suc, Bool, true, false, cond, Option, Some, None, List, [], ◌∷◌, ℤ, int_le, bytes_eq, ◌&&◌, refl, sym, ap, ap₂, subst, ◌∙◌, slice_get, eqb, arith}
 use Rattle.std.specs.List.{list_any, position_from}
-use Rattle.std.proofs.lemmas.Bool.{eqb-true, eqb-false, eq-eqb, ne_eqb, cases_Bool}
+use Rattle.std.proofs.lemmas.Bool.{eqb-true}
+use Rattle.std.proofs.lemmas.Bool.Decides.{nat_tests}
 use Rattle.std.proofs.lemmas.Int.{ints}
 use Rattle.std.proofs.lemmas.Slice.Eq.{bytes_eq-Decides}
 use Rattle.py_objects.specs.declared.payload.Payload.{Payload}
@@ -13,20 +14,15 @@ use Rattle.py_objects.specs.Ancestry.{class_in, has_name, first_class, derives, 
 use Rattle.py_exceptions.specs.TypeNames.{IsTypeName}
 use Rattle.py_exceptions.specs.Deriving.{IsInstanceOf}
 use Rattle.py_answers.specs.Answers.{is_true, is_manager}
+use Rattle.py_answers.specs.Replying.{is_generator}
 use Rattle.py_agreement.specs.Agreement.{Relation, SameMaybe, SameAll, has_literal}
 use Rattle.py_determined.specs.Alike.{Alike, AreAlike, numbered}
 
 -- ---- numbers, and places in lists
 
-eqb_turned : (m n : ℕ) → eqb m n ≡ eqb n m
-eqb_turned m n = elim (cases_Bool (eqb m n)) as (λ c. eqb m n ≡ eqb n m) [
-  | inl same ↦ same ∙ sym (eq-eqb n m (sym (eqb-true m n same)))
-  | inr other ↦ other ∙ sym (ne_eqb n m (λ same. eqb-false m n other (sym same)))
-]
-
--- an object has one payload
-pub one_payload : (objects : List Payload) (v : Obj) (p q : Payload) → HasPayload objects v p → HasPayload objects v q → p ≡ q
-one_payload objects v p q has has' = cc
+-- a test of two numbers is the same both ways
+pub eqb_turned : (m n : ℕ) → eqb m n ≡ eqb n m
+eqb_turned m n = grind (arith, nat_tests)
 
 -- a search finds an entry that passes its test
 pub found_from : (test : Payload → Bool) (ps : List Payload) (i k : ℕ) → position_from test i ps ≡ Some k
@@ -94,18 +90,33 @@ other_key objects a b p q has has' other =
     by true = refl
     by false = refl
 
--- what is seen of a payload: whether it is None, its number and its text, whether it counts as true, whether it is a manager, and whether a
--- literal stands for it
+abbrev is_function : Payload → Bool
+is_function (payload.Function f) = true
+is_function _ = false
+
+-- what is seen of a payload: whether it is None, its number and its text, whether it counts as true, whether it is a function, a generator or a
+-- manager, and whether a literal stands for it
 pub record Seen : Type 0 where
   pub none : Bool
   pub number : Option ℤ
   pub text : Option Name
   pub truth : Bool
+  pub function : Bool
+  pub generator : Bool
   pub manager : Bool
   pub literal : Bool
 
 abbrev pub seen : Payload → Seen
-seen p = record { none = is_none p; number = number_of p; text = text_of p; truth = is_true p; manager = is_manager p; literal = has_literal p }
+seen p = record {
+  none = is_none p;
+  number = number_of p;
+  text = text_of p;
+  truth = is_true p;
+  function = is_function p;
+  generator = is_generator p;
+  manager = is_manager p;
+  literal = has_literal p;
+}
 
 -- whether values are one, by what is seen of them
 abbrev same_seen : Seen → Seen → Bool
@@ -118,7 +129,6 @@ module _ (S : Relation) (objects objects' : List Payload) (alike : AreAlike S ob
   seen_same (payload.Bool b) (payload.Bool c) s = ap (λ x. seen (payload.Bool x)) s
   seen_same (payload.Int m) (payload.Int n) s = ap (λ x. seen (payload.Int x)) s
   seen_same (payload.Str s) (payload.Str t) e = ap (λ x. seen (payload.Str x)) e
-  seen_same (payload.Dict ps) (payload.Dict qs) s = refl
   seen_same (payload.Class c) (payload.Class d) s = refl
   seen_same (payload.Function f) (payload.Function g) s = refl
   seen_same (payload.Builtin f) (payload.Builtin g) s = refl
@@ -156,7 +166,6 @@ module _ (S : Relation) (objects objects' : List Payload) (alike : AreAlike S ob
   type_names_agree (payload.Bool c) (payload.Bool d) n m s a b = a ∙ sym b
   type_names_agree (payload.Int i) (payload.Int j) n m s a b = a ∙ sym b
   type_names_agree (payload.Str t) (payload.Str u) n m s a b = a ∙ sym b
-  type_names_agree (payload.Dict ps) (payload.Dict qs) n m s a b = a ∙ sym b
   type_names_agree (payload.Class c) (payload.Class d) n m s a b = a ∙ sym b
   type_names_agree (payload.Function f) (payload.Function g) n m s a b = a ∙ sym b
   type_names_agree (payload.Builtin f) (payload.Builtin g) n m s a b = a ∙ sym b

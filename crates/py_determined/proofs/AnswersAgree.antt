@@ -32,30 +32,30 @@ use Rattle.py_determined.proofs.ExceptionsAgree.{SameTaken, taken_agree}
 -- ---- replies that name no object
 
 -- a value that a literal stands for, or the raise of a new exception with a text
-abbrev IsPlain : Reply → Type 0
-IsPlain (Has p) = has_literal p ≡ true
-IsPlain (Fails kind text) = Unit {0}
-IsPlain _ = ⊥
+abbrev IsPlainReply : Reply → Type 0
+IsPlainReply (Has p) = has_literal p ≡ true
+IsPlainReply (Fails kind text) = Unit {0}
+IsPlainReply _ = ⊥
 
-on_both_plain : {A : Type 0} (x y : Option A) (f : A → A → Reply) (other : Reply) → ((a b : A) → IsPlain (f a b)) → IsPlain other → IsPlain (on_both x y f other)
+on_both_plain : {A : Type 0} (x y : Option A) (f : A → A → Reply) (other : Reply) → ((a b : A) → IsPlainReply (f a b)) → IsPlainReply other → IsPlainReply (on_both x y f other)
 on_both_plain None y f other plain or_plain = or_plain
 on_both_plain (Some x) None f other plain or_plain = or_plain
 on_both_plain (Some x) (Some y) f other plain or_plain = plain x y
 
-whole_plain : (n : ℤ) → IsPlain (whole n)
+whole_plain : (n : ℤ) → IsPlainReply (whole n)
 whole_plain n = by (in_range n)
   where
-    by : (b : Bool) → IsPlain (if b then Has (payload.Int n) else Fails OverflowError (codes "integer out of range"))
+    by : (b : Bool) → IsPlainReply (if b then Has (payload.Int n) else Fails OverflowError (codes "integer out of range"))
     by true = refl
     by false = tt
 
-sum_plain : (p q : Payload) (n m : Name) → IsPlain (sum p q n m)
+sum_plain : (p q : Payload) (n m : Name) → IsPlainReply (sum p q n m)
 sum_plain p q n m = on_both_plain (text_of p) (text_of q) _ _ (λ s t. refl) (on_both_plain (number_of p) (number_of q) _ _ (λ x y. whole_plain (x +ℤ y)) tt)
 
-difference_plain : (p q : Payload) (n m : Name) → IsPlain (difference p q n m)
+difference_plain : (p q : Payload) (n m : Name) → IsPlainReply (difference p q n m)
 difference_plain p q n m = on_both_plain (number_of p) (number_of q) _ _ (λ x y. whole_plain (x -ℤ y)) tt
 
-less_plain : (p q : Payload) (n m : Name) → IsPlain (less p q n m)
+less_plain : (p q : Payload) (n m : Name) → IsPlainReply (less p q n m)
 less_plain p q n m = on_both_plain (number_of p) (number_of q) _ _ (λ x y. refl) (on_both_plain (text_of p) (text_of q) _ _ (λ s t. refl) tt)
 
 -- operands of which the same is seen, of types of the same names
@@ -82,13 +82,13 @@ module _ (p q p' q' : Payload) (n m n' m' : Name) (first : seen p ≡ seen p') (
   less_same = cc (numbers_first, numbers_second, texts_first, texts_second)
 
 module _ (S : Relation) (objects objects' : List Payload) (alike : AreAlike S objects objects') where
-  plain_same : (reply : Reply) → IsPlain reply → SameReply S reply reply
+  plain_same : (reply : Reply) → IsPlainReply reply → SameReply S reply reply
   plain_same (Has p) plain = (refl, plain)
   plain_same (Fails kind text) plain = (refl, refl)
   plain_same _ plain = absurd plain
 
   -- two replies that say the same and name no object
-  plain_agree : (x y reply reply' : Reply) → IsPlain x → x ≡ y → reply ≡ x → reply' ≡ y → SameReply S reply reply'
+  plain_agree : (x y reply reply' : Reply) → IsPlainReply x → x ≡ y → reply ≡ x → reply' ≡ y → SameReply S reply reply'
   plain_agree x y reply reply' plain same is is' = rw (is, is') (subst (λ z. SameReply S x z) same (plain_same x plain))
 
   -- refusals of alike payloads, by the name of the type

@@ -1,6 +1,5 @@
 -- The same replies give related objects, or new ones that are alike.
-use Rattle.std.proofs.Common.{◌≡◌, ◌⊎◌, inl, inr, List, [], ◌∷◌, Bool, true, false, Some, None, refl, sym, ap, subst, ◌∙◌}
-use Rattle.std.proofs.lemmas.Option.{same_Some}
+use Rattle.std.proofs.Common.{◌≡◌, ◌⊎◌, inl, inr, List, [], ◌∷◌, Bool, true, false, Some, None, refl, sym, subst}
 use Rattle.std.specs.Prelude.{Option}
 use Rattle.py_objects.specs.declared.payload.Payload.{Payload}
 use Rattle.py_objects.specs.declared.payload.Payload.TheVariants as payload
@@ -11,26 +10,21 @@ use Rattle.py_objects.specs.declared.refs.PyTypeRef.{PyTypeRef}
 use Rattle.py_objects.specs.declared.event.Event.{Event}
 use Rattle.py_objects.specs.ErrorKinds.{name_of}
 use Rattle.py_objects.specs.Objects.{Obj, Name, HasPayload, as_object, class_object, declared}
-use Rattle.py_objects.specs.Ancestry.{IsDerived}
 use Rattle.py_objects.specs.Attrs.{Attrs}
 use Rattle.py_objects.specs.Values.{new_exception}
 use Rattle.py_exceptions.specs.Keeping.{os_args, os_attrs, kept_args, kept_attrs}
 use Rattle.py_answers.specs.Answers.{Raised, This, Called, BuiltIn, Reply, Has, Is, Makes, Creates, Fails, FailsFrom, Passes, Yields, Stops, Closes, IsInstance, IsCalled, IsRaised, IsRaisedFrom, IsRaise, GivesValue, GivesRaise, stop_args, for_body}
+use Rattle.py_answers.proofs.ReadingLemmas.{one_payload}
 use Rattle.py_run.specs.Raises.{IsTracebackOf}
 use Rattle.py_agreement.specs.Agreement.{Relation, SameException, SameMaybe, SameAll}
 use Rattle.py_determined.specs.Alike.{SameAttrs, AreAlike}
 use Rattle.py_determined.specs.Sameness.{SameRaised, SameReply}
+use Rattle.py_determined.proofs.AlikeLemmas.{derived_agree}
 use Rattle.py_determined.proofs.Pairing.{AreBorn}
 
--- the entries of a tuple
-entries_of : Payload → List Obj
-entries_of (payload.Tuple vs) = vs
-entries_of _ = []
-
--- one tuple has one list of them
+-- one tuple has one list of entries
 one_tuple : (objects : List Payload) (v : Obj) (vs ws : List Obj) → HasPayload objects v (payload.Tuple vs) → HasPayload objects v (payload.Tuple ws) → vs ≡ ws
-unfolding entries_of
-one_tuple objects v vs ws has has' = ap entries_of (same_Some (payload.Tuple vs) (payload.Tuple ws) (sym has ∙ has'))
+one_tuple objects v vs ws has has' = let same : payload.Tuple vs ≡ payload.Tuple ws = one_payload objects v.number (payload.Tuple vs) (payload.Tuple ws) has has' in cc same
 
 module _ (S : Relation) where
   -- ---- what is kept of related arguments
@@ -111,8 +105,7 @@ module _ (S : Relation) where
 
   -- ---- what is given
 
-  module _ (objects objects' : List Payload) (alike : AreAlike S objects objects')
-      (derives : (c d : Obj) (x : Name) (b b' : Bool) → S c d → IsDerived objects c x b → IsDerived objects' d x b' → b ≡ b') (es fs : List Event) where
+  module _ (objects objects' : List Payload) (alike : AreAlike S objects objects') (es fs : List Event) where
     -- two objects are related, or new and alike
     abbrev pub AreGiven : Obj → Obj → Type 0
     AreGiven v w = S v w ⊎ AreBorn S objects objects' es fs v w
@@ -147,7 +140,7 @@ module _ (S : Relation) where
     called_born : (c d : PyTypeRef) (vs ws : List Obj) (v w : Obj) → S (class_object c) (class_object d) → SameAll S vs ws → IsCalled objects es c vs v → IsCalled objects' fs d ws w
         → AreBorn S objects objects' es fs v w
     called_born c d vs ws v w class same (os, derived, is) (os', derived', is') =
-        let both : os ≡ os' = derives (class_object c) (class_object d) (name_of OSError) os os' class derived derived' in
+        let both : os ≡ os' = derived_agree S objects objects' alike (class_object c) (class_object d) (name_of OSError) os os' class derived derived' in
         instance_born c d _ _ _ _ v w class (kept_args_same os os' vs ws both same) (kept_attrs_same os os' vs ws both same) is is'
 
     -- classes that are declared under one name

@@ -1,8 +1,7 @@
 -- The same question comes to the same in two runs whose objects are alike, and has the same reply where what it entered was left the same.
-use Rattle.std.proofs.Common.{◌≡◌, ℕ, suc, List, [], ◌∷◌, Bool, true, false, eqb, arith, Some, None, inl, inr, refl, sym, ap, subst, ◌∙◌, ◌⊎◌, length, nat_le}
+use Rattle.std.proofs.Common.{◌≡◌, ℕ, suc, List, [], ◌∷◌, Bool, true, false, ◌||◌, eqb, Some, None, inl, inr, refl, sym, ap, subst, ◌∙◌, ◌⊎◌, length, nat_le}
 use Rattle.std.specs.Prelude.{Option, slice_get, if◌then◌else◌, codes}
 use Rattle.std.proofs.lemmas.Option.{same_Some}
-use Rattle.std.proofs.lemmas.Bool.Decides.{nat_tests}
 use Rattle.py_objects.specs.declared.payload.Payload.{Payload}
 use Rattle.py_objects.specs.declared.payload.Payload.TheVariants as payload
 use Rattle.py_objects.specs.declared.payload.CoroBody.{CoroBody}
@@ -34,70 +33,35 @@ use Rattle.py_run.proofs.CoursesLemmas.{ComesAs, comes_as}
 use Rattle.py_agreement.specs.Agreement.{Relation, SameMaybe, SameHandled, SameAll}
 use Rattle.py_determined.specs.Alike.{Alike, AreAlike}
 use Rattle.py_determined.specs.Sameness.{SameAsked, SameReply, SameInstance, SameLeft, SameCoroAnswer, SameCourse, SameGenerator, SameGenerators, SameSetting}
+use Rattle.py_determined.proofs.AlikeLemmas.{eqb_turned, Seen, seen, seen_same}
 use Rattle.py_determined.proofs.ExceptionsAgree.{normalizes_agree, finishes_agree}
 use Rattle.py_determined.proofs.AnswersAgree.{replies_agree}
 
 -- ---- what questions see of payloads
 
--- the kinds of payloads that questions tell apart
-data Kind : Type 0 where
-  OfNone OfFunction OfGenerator OfManager OfOthers : Kind
-
-abbrev kind_of : Payload → Kind
-kind_of payload.None = OfNone
-kind_of (payload.Function f) = OfFunction
-kind_of (payload.Generator g) = OfGenerator
-kind_of (payload.Manager m) = OfManager
-kind_of _ = OfOthers
-
--- whether a call enters a function of this kind
-abbrev for_call : Kind → Bool
-for_call OfFunction = true
-for_call _ = false
+-- whether a call enters a function
+abbrev for_call : Seen → Bool
+for_call x = x.function
 
 -- whether a send, a throw and a close are answered by how one stands
-abbrev for_send : Kind → Bool
-for_send OfGenerator = true
-for_send _ = false
+abbrev for_send : Seen → Bool
+for_send x = x.generator
 
 -- whether an entry calls a function, and an exit
-abbrev for_entry : Kind → Bool
-for_entry OfManager = true
-for_entry _ = false
+abbrev for_entry : Seen → Bool
+for_entry x = x.manager
 
-abbrev for_exit : Kind → Bool
-for_exit OfFunction = true
-for_exit OfManager = true
-for_exit _ = false
+abbrev for_exit : Seen → Bool
+for_exit x = x.function || x.manager
 
--- whether it is None's
-abbrev for_none : Kind → Bool
-for_none OfNone = true
-for_none _ = false
-
--- tests of payloads are tests of their kinds
-manager_seen : (p : Payload) → is_manager p ≡ for_entry (kind_of p)
-manager_seen payload.None = refl
-manager_seen (payload.Function f) = refl
-manager_seen (payload.Generator g) = refl
-manager_seen (payload.Manager m) = refl
-manager_seen _ = refl
-
-none_seen : (p : Payload) → is_none p ≡ for_none (kind_of p)
-none_seen payload.None = refl
-none_seen (payload.Function f) = refl
-none_seen (payload.Generator g) = refl
-none_seen (payload.Manager m) = refl
-none_seen _ = refl
-
--- a test of an object's kind comes to this
-abbrev Sees : List Payload → Obj → (Kind → Bool) → Bool → Type 0
-Sees objects v test b = (p : Payload) × HasPayload objects v p × (test (kind_of p) ≡ b)
+-- a test of what is seen of an object comes to this
+abbrev Sees : List Payload → Obj → (Seen → Bool) → Bool → Type 0
+Sees objects v test b = (p : Payload) × HasPayload objects v p × (test (seen p) ≡ b)
 
 -- ---- where a question is answered at once, and where not
 
 -- a call
-not_called : (objects : List Payload) (f : Obj) (p : Payload) (vs : List Obj) (reply : Reply) → CallsAs objects f p vs reply → for_call (kind_of p) ≡ false
+not_called : (objects : List Payload) (f : Obj) (p : Payload) (vs : List Obj) (reply : Reply) → CallsAs objects f p vs reply → for_call (seen p) ≡ false
 not_called objects f (payload.Function b) vs reply calls = absurd calls
 not_called objects f _ vs reply calls = refl
 
@@ -108,7 +72,7 @@ call_entered : (at : Setting) (objects : List Payload) (f : Obj) (vs : List Obj)
 call_entered at objects f vs c calls = (payload.Function calls.body, calls.entry, refl)
 
 -- a send, a throw and a close
-not_sent : (objects : List Payload) (name : Name) (p : Payload) (reply : Reply) → LacksAs objects name p reply → for_send (kind_of p) ≡ false
+not_sent : (objects : List Payload) (name : Name) (p : Payload) (reply : Reply) → LacksAs objects name p reply → for_send (seen p) ≡ false
 not_sent objects name (payload.Generator g) reply lacks = absurd lacks
 not_sent objects name _ reply lacks = refl
 
@@ -120,13 +84,13 @@ send_entered at objects g kind x kept = (payload.Generator kept.body, kept.entry
 
 -- an entry
 entry_replied : (objects : List Payload) (m : Obj) (reply : Reply) → RefusesEntry objects m reply → Sees objects m for_entry false
-entry_replied objects m reply (p, has, other, refuses) = (p, has, sym (manager_seen p) ∙ other)
+entry_replied objects m reply (p, has, other, refuses) = (p, has, other)
 
 entry_entered : (at : Setting) (objects : List Payload) (m : Obj) (c : Course) → EntersTo at objects m c → Sees objects m for_entry true
 entry_entered at objects m c (body, has, calls) = (payload.Manager body, has, refl)
 
 -- an exit
-not_left : (objects : List Payload) (x : Obj) (p : Payload) (told : List Obj) (reply : Reply) → is_manager p ≡ false → CallsAs objects x p told reply → for_exit (kind_of p) ≡ false
+not_left : (objects : List Payload) (x : Obj) (p : Payload) (told : List Obj) (reply : Reply) → is_manager p ≡ false → CallsAs objects x p told reply → for_exit (seen p) ≡ false
 not_left objects x (payload.Function b) told reply other calls = absurd calls
 not_left objects x (payload.Manager m) told reply other calls = absurd (cc other)
 not_left objects x _ told reply other calls = refl
@@ -140,10 +104,6 @@ exit_entered at objects x told c (payload.Manager m) has calls = (payload.Manage
 exit_entered at objects x told c _ has calls = (payload.Function calls.body, calls.entry, refl)
 
 -- ---- equations
-
--- numbers are the same either way
-same_way : (n m : ℕ) → eqb n m ≡ eqb m n
-same_way n m = grind (arith, nat_tests)
 
 -- one body has one signature
 same_signature : (xs ys : List Signature) (f g : FunctionBody) (x y : Signature) → xs ≡ ys → f ≡ g → slice_get xs f.code ≡ Some x → slice_get ys g.code ≡ Some y → x ≡ y
@@ -253,31 +213,12 @@ module _ (S : Relation) where
   module _ (objects objects' : List Payload) (alike : AreAlike S objects objects') where
     -- ---- what is alike
 
-    -- alike payloads are of one kind
-    alike_kinds : (p q : Payload) → Alike S objects objects' p q → kind_of p ≡ kind_of q
-    alike_kinds payload.None payload.None s = refl
-    alike_kinds (payload.Bool b) (payload.Bool c) s = refl
-    alike_kinds (payload.Int m) (payload.Int n) s = refl
-    alike_kinds (payload.Str t) (payload.Str u) s = refl
-    alike_kinds (payload.Dict ps) (payload.Dict qs) s = refl
-    alike_kinds (payload.Class c) (payload.Class d) s = refl
-    alike_kinds (payload.Function f) (payload.Function g) s = refl
-    alike_kinds (payload.Builtin f) (payload.Builtin g) s = refl
-    alike_kinds (payload.Manager m) (payload.Manager n) s = refl
-    alike_kinds (payload.Generator g) (payload.Generator h) s = refl
-    alike_kinds (payload.Exception e) (payload.Exception f) s = refl
-    alike_kinds (payload.Traceback t) (payload.Traceback u) s = refl
-    alike_kinds _ _ s = absurd s
-
-    same_kinds : (v w : Obj) (p q : Payload) → S v w → HasPayload objects v p → HasPayload objects' w q → kind_of p ≡ kind_of q
-    same_kinds v w p q s has has' = alike_kinds p q (alike.payloads v w p q s has has')
-
-    -- a test comes to the same on both sides
-    same_seen : (test : Kind → Bool) (v w : Obj) (b c : Bool) → S v w → Sees objects v test b → Sees objects' w test c → b ≡ c
-    same_seen test v w b c s (p, has, is) (q, has', is') = sym is ∙ (ap test (same_kinds v w p q s has has') ∙ is')
+    -- a test of what is seen of related objects comes to the same
+    tests_agree : (test : Seen → Bool) (v w : Obj) (b c : Bool) → S v w → Sees objects v test b → Sees objects' w test c → b ≡ c
+    tests_agree test v w b c s (p, has, is) (q, has', is') = sym is ∙ (ap test (seen_same S objects objects' alike p q (alike.payloads v w p q s has has')) ∙ is')
 
     same_none : (v w : Obj) (p q : Payload) → S v w → HasPayload objects v p → HasPayload objects' w q → is_none p ≡ is_none q
-    same_none v w p q s has has' = none_seen p ∙ (ap for_none (same_kinds v w p q s has has') ∙ sym (none_seen q))
+    same_none v w p q s has has' = ap (λ x. x.none) (seen_same S objects objects' alike p q (alike.payloads v w p q s has has'))
 
     -- their exits are related
     alike_exits : (p q : Payload) (x y : Obj) → Alike S objects objects' p q → S x y → S (exit_of p x) (exit_of q y)
@@ -292,7 +233,7 @@ module _ (S : Relation) where
     generators_agree [] [] g g' b same_g has s = tt
     generators_agree (x ∷ xs) (y ∷ ys) g g' b same_g has s =
         here (eqb x.object.number g.number) (eqb y.object.number g'.number)
-        (same_way x.object.number g.number ∙ (alike.one g x.object g' y.object (payload.Generator b) same_g s.0.object has refl ∙ same_way g'.number y.object.number))
+        (eqb_turned x.object.number g.number ∙ (alike.one g x.object g' y.object (payload.Generator b) same_g s.0.object has refl ∙ eqb_turned g'.number y.object.number))
         (generators_agree xs ys g g' b same_g has s.1)
       where
         here : (i j : Bool) → i ≡ j → SameMaybe (SameGenerator S) (generator_at xs g) (generator_at ys g')
@@ -425,19 +366,19 @@ module _ (S : Relation) where
       -- where one is answered at once, the other doesn't enter
       not_second : (r' r : Request) (reply : Reply) (c' : Course) → SameAsked S r r' → Replies objects r reply → ComesAs at' objects' r' c' → ⊥
       not_second (request.Call g ws keywords.None) (request.Call f vs keywords.None) reply c' s a b =
-          absurd (cc (same_seen for_call f g false true s.0.0 (call_replied objects f vs reply a.1) (call_entered at' objects' g ws c' b.1)))
+          absurd (cc (tests_agree for_call f g false true s.0.0 (call_replied objects f vs reply a.1) (call_entered at' objects' g ws c' b.1)))
       not_second request.Handled request.Handled reply c' s a b = a
       not_second (request.Send g' w) (request.Send g v) reply c' s a b =
-          absurd (cc (same_seen for_send g g' false true s.0.0 (send_replied objects (codes "send") g reply a) (send_entered at' objects' g' b.0 b.1 b.2)))
+          absurd (cc (tests_agree for_send g g' false true s.0.0 (send_replied objects (codes "send") g reply a) (send_entered at' objects' g' b.0 b.1 b.2)))
       not_second (request.Throw g' k' v' t') (request.Throw g k v t) reply c' s a b =
-          absurd (cc (same_seen for_send g g' false true s.0.0 (send_replied objects (codes "throw") g reply a) (send_entered at' objects' g' b.1.0 b.1.1 b.1.2)))
+          absurd (cc (tests_agree for_send g g' false true s.0.0 (send_replied objects (codes "throw") g reply a) (send_entered at' objects' g' b.1.0 b.1.1 b.1.2)))
       not_second (request.Close g') (request.Close g) reply c' s a b =
-          absurd (cc (same_seen for_send g g' false true s.0 (send_replied objects (codes "close") g reply a) (send_entered at' objects' g' b.0 b.1 b.2)))
-      not_second (request.Enter m') (request.Enter m) reply c' s a b = absurd (cc (same_seen for_entry m m' false true s.0 (entry_replied objects m reply a) (entry_entered at' objects' m' c' b)))
+          absurd (cc (tests_agree for_send g g' false true s.0 (send_replied objects (codes "close") g reply a) (send_entered at' objects' g' b.0 b.1 b.2)))
+      not_second (request.Enter m') (request.Enter m) reply c' s a b = absurd (cc (tests_agree for_entry m m' false true s.0 (entry_replied objects m reply a) (entry_entered at' objects' m' c' b)))
       not_second (request.Exit x' k' v' t') (request.Exit x k v t) reply c' s a b =
           absurd
           (cc
-          (same_seen for_exit x x' false true s.0.0 (exit_replied objects x (k ∷ v ∷ t ∷ []) reply a) (exit_entered at' objects' x' (k' ∷ v' ∷ t' ∷ []) c' b.0 b.1 b.2)))
+          (tests_agree for_exit x x' false true s.0.0 (exit_replied objects x (k ∷ v ∷ t ∷ []) reply a) (exit_entered at' objects' x' (k' ∷ v' ∷ t' ∷ []) c' b.0 b.1 b.2)))
       not_second (request.Call g ws keywords.None) _ reply c' s a b = absurd s.0
       not_second (request.Call g ws named) _ reply c' s a b = absurd (cc b.0)
       not_second request.Handled (request.Call f vs keywords.None) reply c' s a b = absurd s.0
@@ -456,19 +397,19 @@ module _ (S : Relation) where
 
       not_first : (r r' : Request) (reply' : Reply) (c : Course) → SameAsked S r r' → ComesAs at objects r c → Replies objects' r' reply' → ⊥
       not_first (request.Call f vs keywords.None) (request.Call g ws keywords.None) reply' c s a b =
-          absurd (cc (same_seen for_call f g true false s.0.0 (call_entered at objects f vs c a.1) (call_replied objects' g ws reply' b.1)))
+          absurd (cc (tests_agree for_call f g true false s.0.0 (call_entered at objects f vs c a.1) (call_replied objects' g ws reply' b.1)))
       not_first request.Handled request.Handled reply' c s a b = b
       not_first (request.Send g v) (request.Send g' w) reply' c s a b =
-          absurd (cc (same_seen for_send g g' true false s.0.0 (send_entered at objects g a.0 a.1 a.2) (send_replied objects' (codes "send") g' reply' b)))
+          absurd (cc (tests_agree for_send g g' true false s.0.0 (send_entered at objects g a.0 a.1 a.2) (send_replied objects' (codes "send") g' reply' b)))
       not_first (request.Throw g k v t) (request.Throw g' k' v' t') reply' c s a b =
-          absurd (cc (same_seen for_send g g' true false s.0.0 (send_entered at objects g a.1.0 a.1.1 a.1.2) (send_replied objects' (codes "throw") g' reply' b)))
+          absurd (cc (tests_agree for_send g g' true false s.0.0 (send_entered at objects g a.1.0 a.1.1 a.1.2) (send_replied objects' (codes "throw") g' reply' b)))
       not_first (request.Close g) (request.Close g') reply' c s a b =
-          absurd (cc (same_seen for_send g g' true false s.0 (send_entered at objects g a.0 a.1 a.2) (send_replied objects' (codes "close") g' reply' b)))
-      not_first (request.Enter m) (request.Enter m') reply' c s a b = absurd (cc (same_seen for_entry m m' true false s.0 (entry_entered at objects m c a) (entry_replied objects' m' reply' b)))
+          absurd (cc (tests_agree for_send g g' true false s.0 (send_entered at objects g a.0 a.1 a.2) (send_replied objects' (codes "close") g' reply' b)))
+      not_first (request.Enter m) (request.Enter m') reply' c s a b = absurd (cc (tests_agree for_entry m m' true false s.0 (entry_entered at objects m c a) (entry_replied objects' m' reply' b)))
       not_first (request.Exit x k v t) (request.Exit x' k' v' t') reply' c s a b =
           absurd
           (cc
-          (same_seen for_exit x x' true false s.0.0 (exit_entered at objects x (k ∷ v ∷ t ∷ []) c a.0 a.1 a.2) (exit_replied objects' x' (k' ∷ v' ∷ t' ∷ []) reply' b)))
+          (tests_agree for_exit x x' true false s.0.0 (exit_entered at objects x (k ∷ v ∷ t ∷ []) c a.0 a.1 a.2) (exit_replied objects' x' (k' ∷ v' ∷ t' ∷ []) reply' b)))
       not_first (request.Call f vs keywords.None) _ reply' c s a b = absurd s.0
       not_first (request.Call f vs named) _ reply' c s a b = absurd (cc a.0)
       not_first request.Handled _ reply' c s a b = absurd s.0

@@ -1,6 +1,6 @@
 -- Two runs relate what their events name at one place: their objects stay alike, where what is named is related, or new on both sides and alike.
 use Rattle.std.proofs.Common.{◌≡◌, ℕ, suc, ◌⊎◌, inl, inr, List, [], ◌∷◌, ◌++◌, Bool, true, false, eqb, length, Some, None, ◌||◌, refl, sym, ap, subst, ◌∙◌, append_assoc, arith}
-use Rattle.std.proofs.lemmas.Bool.{eqb-true, eqb-false, eq-eqb, ne_eqb}
+use Rattle.std.proofs.lemmas.Bool.{eqb-true, eq-eqb}
 use Rattle.std.proofs.lemmas.Option.{same_Some}
 use Rattle.std.specs.Prelude.{Option, slice_get}
 use Rattle.py_objects.specs.declared.payload.Payload.{Payload}
@@ -20,11 +20,13 @@ use Rattle.py_objects.specs.declared.event.Event.{Event}
 use Rattle.py_objects.specs.declared.event.Event.TheVariants as event
 use Rattle.py_objects.specs.Objects.{Obj, Name, HasPayload, declared, numbers, numbers_if, number_if, request_numbers, how_numbers, got_numbers, ending_numbers, result_numbers, event_numbers, is_among, IsNew}
 use Rattle.py_objects.specs.Ancestry.{first_class}
+use Rattle.py_answers.proofs.ReadingLemmas.{one_payload}
 use Rattle.py_agreement.specs.Agreement.{Relation, SameMaybe, SameHandled, SameAll, SameAnswer, SameHow, SameEnding, has_literal}
 use Rattle.py_determined.specs.Alike.{Alike, AreAlike, numbered}
 use Rattle.py_determined.specs.Sameness.{SameTold}
 use Rattle.py_determined.specs.Events.{SameResult, SameEvent}
 use Rattle.py_determined.specs.Related.{asked_numbers, value_numbers, paired, pairs_of, IsPair, Related}
+use Rattle.py_determined.proofs.AlikeLemmas.{eqb_turned}
 use Rattle.py_determined.proofs.Requests.{BothAsk, BothUnbound, BothGlobal, BothBinary, BothCompare, BothTruth, BothMatch, BothHandled, BothRaisable, BothShow, BothCall, BothSend, BothThrow, BothClose, BothEnter, BothExit, BothNoExit, both_ask}
 use Rattle.py_determined.proofs.Growing.{maybe_grows, alike_grows}
 
@@ -271,18 +273,15 @@ pub record AreBorn (S : Relation) (objects objects' : List Payload) (es fs : Lis
 of_number : (v w : Obj) → v.number ≡ w.number → v ≡ w
 of_number v w same = ap (λ n. numbered n) same
 
--- two payloads of one object
-one_payload : (objects : List Payload) (v w : Obj) (p q : Payload) → eqb v.number w.number ≡ true → HasPayload objects v p → HasPayload objects w q → p ≡ q
-one_payload objects v w p q same has has' =
-    same_Some p q (sym has ∙ subst (λ n. slice_get objects n ≡ Some q) (sym (eqb-true v.number w.number same)) has')
-
 -- objects of payloads of which only one may be are two
 apart : (objects : List Payload) (test : Payload → Bool) (v w : Obj) (p q : Payload) → HasPayload objects v p → HasPayload objects w q → test p ≡ true → test q ≡ false → eqb v.number w.number ≡ false
 apart objects test v w p q has has' yes_first no_second = pick (eqb v.number w.number) refl
   where
     pick : (b : Bool) → eqb v.number w.number ≡ b → eqb v.number w.number ≡ false
     pick false is = is
-    pick true is = let same : p ≡ q = one_payload objects v w p q is has has' in absurd (cc (sym yes_first ∙ ap test same ∙ no_second))
+    pick true is =
+        let here : HasPayload objects v q = subst (λ n. slice_get objects n ≡ Some q) (sym (eqb-true v.number w.number is)) has' in
+        absurd (cc (sym yes_first ∙ ap test (one_payload objects v.number p q has here) ∙ no_second))
 
 module _ (S S' : Relation) (objects objects' : List Payload) (more : (v w : Obj) → S v w → S' v w) where
   declares_grow : AreAlike S objects objects' → (x : Name) → SameMaybe S' (declared objects x) (declared objects' x)
@@ -319,10 +318,8 @@ module _ (S S' : Relation) (objects objects' : List Payload) (more : (v w : Obj)
     one_grows alike v v2 w w2 p (inr (here, there)) (inl t) has is =
         ap (λ (o : Obj). eqb o.number v2.number) here ∙ none_left v2 w2 t ∙ sym (ap (λ (o : Obj). eqb o.number w2.number) there ∙ none_right v2 w2 t)
     one_grows alike v v2 w w2 p (inl s) (inr (here, there)) has is =
-        ap (λ (o : Obj). eqb v.number o.number) here ∙ turned v.number x.number (none_left v w s) ∙ sym (ap (λ (o : Obj). eqb w.number o.number) there ∙ turned w.number y.number (none_right v w s))
-      where
-        turned : (m n : ℕ) → eqb n m ≡ false → eqb m n ≡ false
-        turned m n is = ne_eqb m n (λ same. eqb-false n m is (sym same))
+        ap (λ (o : Obj). eqb v.number o.number) here ∙ eqb_turned v.number x.number ∙ none_left v w s
+        ∙ sym (ap (λ (o : Obj). eqb w.number o.number) there ∙ eqb_turned w.number y.number ∙ none_right v w s)
     one_grows alike v v2 w w2 p (inr (here, there)) (inr (here2, there2)) has is =
         eq-eqb v.number v2.number (ap (λ (o : Obj). o.number) (here ∙ sym here2)) ∙ sym (eq-eqb w.number w2.number (ap (λ (o : Obj). o.number) (there ∙ sym there2)))
 

@@ -137,8 +137,9 @@ module _ (plan : Plan) (objects : List Payload) where
   created_reply : (p : Past) (reply : Reply) (f : Obj) → p.state.phase ≡ Made f → IsAnswered plan objects p reply → (b : CoroBody) × (reply ≡ Creates b)
   created_reply p reply f made (r, open_, is) = let (kind, of_kind, same) = subst (λ x. IsReply plan objects p x r reply) made is in (_, same)
 
-  created_plain : (p : Past) (reply : Reply) (b : CoroBody) (v : Obj) → reply ≡ Creates b → GivesValue objects p.events reply v → IsPlain objects v
-  created_plain p reply b v is gives = let (new, has) = subst (λ x. GivesValue objects p.events x v) is gives in (payload.Generator b, has, refl)
+  -- a generator that is created is no literal's
+  new_plain : (p : Past) (reply : Reply) (b : CoroBody) (v : Obj) → reply ≡ Creates b → GivesValue objects p.events reply v → IsPlain objects v
+  new_plain p reply b v is gives = let (new, has) = subst (λ x. GivesValue objects p.events x v) is gives in (payload.Generator b, has, refl)
 
   got_plain : (p : Past) (reply : Reply) (b : CoroBody) (w : GotAnswer) (v : Obj) → reply ≡ Creates b → GivesBody objects p.events reply w → value_of w ≡ Some v → IsPlain objects v
   got_plain p reply b (got.Value x) v is gives there =
@@ -147,7 +148,7 @@ module _ (plan : Plan) (objects : List Payload) where
   got_plain p reply b (got.Raise e) v is gives there = absurd (cc there)
 
   drive_plain : (p : Past) (reply : Reply) (b : CoroBody) (w : DriveAnswer) (v : Obj) → reply ≡ Creates b → GivesDrive objects p.events reply w → returned_by w ≡ Some v → IsPlain objects v
-  drive_plain p reply b (answer.Returns x) v is gives there = subst (λ (z : Obj). IsPlain objects z) (same_Some x v there) (created_plain p reply b x is gives)
+  drive_plain p reply b (answer.Returns x) v is gives there = subst (λ (z : Obj). IsPlain objects z) (same_Some x v there) (new_plain p reply b x is gives)
   drive_plain p reply b _ v is gives there = absurd (cc there)
 
   pub plain_next : (p : Past) (e : Event) → MayCome plan objects p e → ArePlain objects p.generators → ArePlain objects (generators_after plan p.state p.generators e)

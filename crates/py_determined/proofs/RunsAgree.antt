@@ -20,16 +20,14 @@ use Rattle.py_agreement.specs.Agreement.{Relation, SameMaybe, SameAll, Agree}
 use Rattle.py_determined.specs.Alike.{AreAlike}
 use Rattle.py_determined.specs.Sameness.{SameAsked, SameSetting, SamePosed, SameGenerators}
 use Rattle.py_determined.specs.Events.{SameEvent, SameEvents}
-use Rattle.py_determined.specs.Related.{paired, pairs_of, value_numbers, IsPair, Related}
-use Rattle.py_determined.proofs.SameStates.{SameActs, SameState, SameRaises}
-use Rattle.py_determined.proofs.AlikeLemmas.{derived_agree}
-use Rattle.py_determined.proofs.CoursesAgree.{courses_agree, due_agree}
+use Rattle.py_determined.specs.Related.{paired, pairs_of, value_numbers, IsPair, Related, Paired}
+use Rattle.py_determined.proofs.SameStates.{SameState, SameRaises}
 use Rattle.py_determined.proofs.Growing.{maybe_grows, event_grows, events_grow, state_grows, posed_grows, generators_grow, raises_grow}
-use Rattle.py_determined.proofs.StatesAgree.{after_same, question_same, setting_same, ArePlain, generators_same, raises_same}
+use Rattle.py_determined.proofs.StatesAgree.{tops_same, after_same, question_same, setting_same, ArePlain, generators_same, raises_same}
 use Rattle.py_determined.proofs.Pairing.{pairs_on, pairs_end, pairs_related, event_same, no_more_alike, born_alike, new_left, new_right, pair_left, pair_right, related_on, related_either}
 use Rattle.py_determined.proofs.Telling.{IsPositive, positive_behind, top_positive, made_stays, both_found, told_behind, told_first, IsTelling, SameTelling, telling_same}
 use Rattle.py_determined.proofs.Phases.{at_phase, IsTold, told_top, idle_next, plain_next}
-use Rattle.py_determined.proofs.Steps.{QuestionsAgree, OrBoth, AreNext, phase_next}
+use Rattle.py_determined.proofs.Steps.{OrBoth, AreNext, phase_next}
 
 -- the same events, with one more behind them
 events_on : (S : Relation) (es fs : List Event) (e f : Event) → length es ≡ length fs → SameEvents S es fs → SameEvent S e f → SameEvents S (es ++ e ∷ []) (fs ++ f ∷ [])
@@ -59,11 +57,6 @@ top_below : (made a : ℕ) (stack : List Act) → AreBelow made stack → IsTop 
 top_below made a [] below top = absurd top
 top_below made a (x ∷ stack) below top = let here = below.0 in omega (arith, here, top)
 
-tops_one : (S : Relation) (a b : ℕ) (stack stack' : List Act) → SameActs S stack stack' → IsTop a stack → IsTop b stack' → a ≡ b
-tops_one S a b [] [] s top top' = absurd top
-tops_one S a b (x ∷ stack) (y ∷ stack') s top top' = sym top ∙ s.0.number ∙ top'
-tops_one S a b _ _ s top top' = absurd s
-
 -- where a question is open, or an activation goes on, something is
 asking_busy : Asking ≡ Idle → ⊥
 asking_busy same = cc same
@@ -84,29 +77,21 @@ behind_one : (a : ℕ) → 0 < a → (i : ℕ) × (a ≡ suc i)
 behind_one zero some = absurd (omega (arith, some))
 behind_one (suc i) some = (i, refl)
 
--- the same questions come to the same, and are answered the same, where objects are alike
-questions_agree : (S : Relation) (objects objects' : List Payload) → AreAlike S objects objects' → QuestionsAgree S objects objects'
-questions_agree S objects objects' alike = record { courses = courses_agree S objects objects' alike; due = due_agree S objects objects' alike; derives = derived_agree S objects objects' alike }
-
 module _ (plan plan' : Plan) (objects objects' : List Payload) (may may' : May) (events events' : List Event) where
-  -- which objects two fronts of the events relate
-  abbrev pub Pairing : List Event → List Event → Relation
-  Pairing es fs = Related objects objects' (pairs_of es fs)
-
   -- what two runs of one script have in common from the beginning: the signatures; that at any pairing whose objects are alike
   -- related functions' activations with related arguments tell what agrees; that what is declared is alike; and that each drive asks the same, as far as the events in front of it relate objects
   pub record OfOneScript : Type 0 where
     pub signatures : plan.signatures ≡ plan'.signatures
-    pub bodies : (es fs : List Event) (f g : Obj) (vs ws : List Obj) (ts us : List Own) → AreAlike (Pairing es fs) objects objects' → Pairing es fs f g → SameAll (Pairing es fs) vs ws
-        → may f vs ts → may' g ws us → Agree (Pairing es fs) ts us
-    pub alike : AreAlike (Pairing [] []) objects objects'
+    pub bodies : (es fs : List Event) (f g : Obj) (vs ws : List Obj) (ts us : List Own) → AreAlike (Paired objects objects' es fs) objects objects' → Paired objects objects' es fs f g
+        → SameAll (Paired objects objects' es fs) vs ws → may f vs ts → may' g ws us → Agree (Paired objects objects' es fs) ts us
+    pub alike : AreAlike (Paired objects objects' [] []) objects objects'
     pub drives : (es fs more more' : List Event) (d : ℕ) → events ≡ es ++ event.Drive (suc d) ∷ more → events' ≡ fs ++ event.Drive (suc d) ∷ more' → length es ≡ length fs
-        → SameEvents (Pairing es fs) es fs → SameMaybe (SamePosed (Pairing es fs)) (slice_get plan.asked d) (slice_get plan'.asked d)
+        → SameEvents (Paired objects objects' es fs) es fs → SameMaybe (SamePosed (Paired objects objects' es fs)) (slice_get plan.asked d) (slice_get plan'.asked d)
 
   module _ (script : OfOneScript) (comes : Comes plan objects nothing events) (comes' : Comes plan' objects' nothing events') (tells : EachTells may events) (tells' : EachTells may' events') where
     -- which objects two pasts relate
     abbrev At : Past → Past → Relation
-    At p q = Pairing p.events q.events
+    At p q = Paired objects objects' p.events q.events
 
     -- two pasts are the same
     record AreSame (p q : Past) : Type 0 where
@@ -130,7 +115,7 @@ module _ (plan plan' : Plan) (objects objects' : List Payload) (may may' : May) 
 
       -- what one event more relates
       abbrev Then : Relation
-      Then = Pairing (p.events ++ e ∷ []) (q.events ++ f ∷ [])
+      Then = Paired objects objects' (p.events ++ e ∷ []) (q.events ++ f ∷ [])
 
       grows : (v w : Obj) → At p q v w → Then v w
       grows v w s = subst (λ ps. Related objects objects' ps v w) (sym further)
@@ -187,7 +172,7 @@ module _ (plan plan' : Plan) (objects objects' : List Payload) (may may' : May) 
       telling told told' =
           let top = told_top plan objects p e told in
           let top' = told_top plan' objects' q f told' in
-          let one : whose e ≡ whose f = tops_one (At p q) (whose e) (whose f) p.state.stack q.state.stack same.state.stack top top' in
+          let one : whose e ≡ whose f = tops_same (At p q) (whose e) (whose f) p.state.stack q.state.stack same.state.stack top top' in
           let (i, number) = behind_one (whose e) (top_positive (whose e) p.state.stack positive.stack top) in
           let low = top_below (length p.state.made) (whose e) p.state.stack numbered.stack top in
           let found = both_found (At p q) p.state.made q.state.made i (omega (arith, low, number)) same.state.made in
@@ -204,7 +189,7 @@ module _ (plan plan' : Plan) (objects objects' : List Payload) (may may' : May) 
 
       next : AreNext (At p q) objects objects' p q e f
       next =
-          phase_next plan plan' objects objects' script.signatures (At p q) same.alike (questions_agree (At p q) objects objects' same.alike) p q same.state p.state.phase q.state.phase e f same.state.phase
+          phase_next plan plan' objects objects' script.signatures (At p q) same.alike p q same.state p.state.phase q.state.phase e f same.state.phase
           same.raises open_now (λ going. telling) coming coming'
 
       -- ---- behind it both are the same
@@ -317,12 +302,12 @@ module _ (plan plan' : Plan) (objects objects' : List Payload) (may may' : May) 
 
     -- two lists of events are the same over what they relate, and the objects are alike
     abbrev pub Agrees : List Event → List Event → Type 0
-    Agrees es fs = SameEvents (Pairing es fs) es fs × AreAlike (Pairing es fs) objects objects'
+    Agrees es fs = SameEvents (Paired objects objects' es fs) es fs × AreAlike (Paired objects objects' es fs) objects objects'
 
     ended : (es fs more : List Event) → length es ≡ length fs → Agrees es fs → Agrees (es ++ more) fs × Agrees es (fs ++ more)
     ended es fs more count agrees =
         let pairs = pairs_end es fs more count in
-        let both = events_end (Pairing es fs) es fs more count agrees.0 in (
+        let both = events_end (Paired objects objects' es fs) es fs more count agrees.0 in (
           subst (λ ps. SameEvents (Related objects objects' ps) (es ++ more) fs × AreAlike (Related objects objects' ps) objects objects') (sym pairs.0) (both.0, agrees.1),
           subst (λ ps. SameEvents (Related objects objects' ps) es (fs ++ more) × AreAlike (Related objects objects' ps) objects objects') (sym pairs.1) (both.1, agrees.1),
         )

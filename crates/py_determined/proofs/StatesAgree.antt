@@ -1,6 +1,6 @@
 -- The same states and the same events make the same states, generators and raises.
 use Rattle.std.proofs.Common.{◌≡◌, ℕ, suc, ◌+◌, ◌⊎◌, inl, inr, List, [], ◌∷◌, ◌++◌, Bool, true, false, eqb, length, Some, None, refl, sym, ap, subst, ◌∙◌}
-use Rattle.std.proofs.lemmas.Bool.{eqb-true, eqb-false, eq-eqb, ne_eqb}
+use Rattle.std.proofs.lemmas.Bool.{eqb-true}
 use Rattle.std.specs.Prelude.{Option, slice_get, drop, if◌then◌else◌}
 use Rattle.std.specs.Option.{option_or}
 use Rattle.std.proofs.lemmas.Option.{same_Some}
@@ -23,7 +23,7 @@ use Rattle.py_coro.specs.declared.coro.CoroEnd.{CoroEnd}
 use Rattle.py_coro.specs.declared.coro.CoroEnd.TheVariants as left
 use Rattle.py_coro.specs.Modes.{Mode, Running}
 use Rattle.py_coro.specs.Leaving.{mode_behind}
-use Rattle.py_run.specs.Run.{Posed, Plan, Phase, Idle, Asking, Going, Made, Due, Act, Activation, State, after, top_asks, left_by, open_in, question, entered_in, depth, handled_among}
+use Rattle.py_run.specs.Run.{Posed, Plan, Phase, Idle, Asking, Going, Made, Due, Act, Activation, State, after, IsTop, top_asks, left_by, open_in, question, entered_in, depth, handled_among}
 use Rattle.py_run.specs.Generators.{Generator, running_at, with_mode, unentered, closed_by, settled, created, answered, value_of, returned_by, generators_after}
 use Rattle.py_run.specs.Raises.{Raise, raise_of, with_raise, with_traceback, is_raising, raised_by, told_by, raises_after}
 use Rattle.py_run.specs.Coming.{Past, setting}
@@ -32,15 +32,8 @@ use Rattle.py_determined.specs.Alike.{Alike, AreAlike}
 use Rattle.py_determined.specs.Sameness.{SameTold, SameAsked, SameLeft, SameGenerator, SameGenerators, SameSetting, SamePosed}
 use Rattle.py_determined.specs.Events.{SameResult, SameEvent}
 use Rattle.py_determined.proofs.SameStates.{SamePhase, SameActs, SameActivation, SameActivations, SameState, SameRaises}
+use Rattle.py_determined.proofs.AlikeLemmas.{eqb_turned}
 use Rattle.py_determined.proofs.Requests.{BothAsk, BothUnbound, BothGlobal, BothBinary, BothCompare, BothTruth, BothMatch, BothHandled, BothRaisable, BothShow, BothCall, BothSend, BothThrow, BothClose, BothEnter, BothExit, BothNoExit, both_ask}
-
--- a test of two numbers is the same both ways
-eqb_turns : (m n : ℕ) → eqb m n ≡ eqb n m
-eqb_turns m n = pick (eqb m n) refl
-  where
-    pick : (b : Bool) → eqb m n ≡ b → eqb m n ≡ eqb n m
-    pick true is = is ∙ sym (eq-eqb n m (sym (eqb-true m n is)))
-    pick false is = is ∙ sym (ne_eqb n m (λ same. eqb-false m n is (sym same)))
 
 module _ (S : Relation) where
   -- ---- states
@@ -86,6 +79,12 @@ module _ (S : Relation) where
   after_same s s' (event.Yield a v at) (event.Yield b w at') same is = record { done = same.done; phase = is.1; stack = rest_same s.stack s'.stack same.stack; made = same.made }
   after_same s s' (event.End a e at) (event.End b f at') same is = record { done = same.done; phase = left_same e f is.1; stack = rest_same s.stack s'.stack same.stack; made = same.made }
   after_same s s' _ _ same is = absurd is
+
+  -- the innermost activations are of one number
+  pub tops_same : (a b : ℕ) (stack stack' : List Act) → SameActs S stack stack' → IsTop a stack → IsTop b stack' → a ≡ b
+  tops_same a b [] [] s top top' = absurd top
+  tops_same a b (x ∷ stack) (y ∷ stack') s top top' = sym top ∙ s.0.number ∙ top'
+  tops_same a b _ _ s top top' = absurd s
 
   -- ---- settings
 
@@ -336,8 +335,9 @@ module _ (S : Relation) (objects objects' : List Payload) (alike : AreAlike S ob
 
   -- ---- raises
 
-  eqb_turned : (v v2 w w2 : Obj) → eqb v2.number v.number ≡ eqb w2.number w.number → eqb v.number v2.number ≡ eqb w.number w2.number
-  eqb_turned v v2 w w2 e = eqb_turns v.number v2.number ∙ e ∙ eqb_turns w2.number w.number
+  -- two tests that come to the same do so turned
+  tests_turned : (v v2 w w2 : Obj) → eqb v2.number v.number ≡ eqb w2.number w.number → eqb v.number v2.number ≡ eqb w.number w2.number
+  tests_turned v v2 w w2 e = eqb_turned v.number v2.number ∙ e ∙ eqb_turned w2.number w.number
 
   -- the last raise of a related exception, with its traceback
   pub raise_same : (e f : Obj) (body : ExceptionBody) (xs ys : List Raise) → S e f → HasPayload objects e (payload.Exception body) → SameRaises S objects xs ys
@@ -345,7 +345,7 @@ module _ (S : Relation) (objects objects' : List Payload) (alike : AreAlike S ob
   raise_same e f body [] [] s has t = tt
   raise_same e f body (x ∷ xs) (y ∷ ys) s has t =
       pick (eqb x.exception.number e.number) (eqb y.exception.number f.number) refl
-      (eqb_turned x.exception e y.exception f (alike.one e x.exception f y.exception (payload.Exception body) s t.0.exception has refl))
+      (tests_turned x.exception e y.exception f (alike.one e x.exception f y.exception (payload.Exception body) s t.0.exception has refl))
       (raise_same e f body xs ys s has t.1)
     where
       pick : (c d : Bool) → eqb x.exception.number e.number ≡ c → c ≡ d → SameMaybe (λ (x : Raise) (y : Raise). SameMaybe S x.traceback y.traceback) (raise_of e xs) (raise_of f ys)
@@ -365,7 +365,7 @@ module _ (S : Relation) (objects objects' : List Payload) (alike : AreAlike S ob
   told_raise_same e f t u body [] [] s told has same = tt
   told_raise_same e f t u body (x ∷ xs) (y ∷ ys) s told has same =
       pick (eqb x.exception.number e.number) (eqb y.exception.number f.number)
-      (eqb_turned x.exception e y.exception f (alike.one e x.exception f y.exception (payload.Exception body) s same.0.exception has refl))
+      (tests_turned x.exception e y.exception f (alike.one e x.exception f y.exception (payload.Exception body) s same.0.exception has refl))
       (told_raise_same e f t u body xs ys s told has same.1)
     where
       pick : (c d : Bool) → c ≡ d → SameRaises S objects (with_traceback e t xs) (with_traceback f u ys)

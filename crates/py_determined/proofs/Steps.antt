@@ -1,5 +1,5 @@
 -- From where two runs of one script are alike both go on by the same event.
-use Rattle.std.proofs.Common.{◌≡◌, ℕ, suc, ◌⊎◌, inl, inr, List, [], ◌∷◌, ◌++◌, Bool, length, Some, None, refl, sym, ap, subst, ◌∙◌}
+use Rattle.std.proofs.Common.{◌≡◌, ℕ, suc, ◌⊎◌, inl, inr, List, [], ◌∷◌, ◌++◌, length, Some, None, refl, sym, ap, subst, ◌∙◌}
 use Rattle.std.specs.Prelude.{Option, slice_get}
 use Rattle.std.proofs.lemmas.Option.{same_Some}
 use Rattle.py_objects.specs.declared.payload.Payload.{Payload}
@@ -17,13 +17,12 @@ use Rattle.py_objects.specs.declared.event.DriveAnswer.TheVariants as answer
 use Rattle.py_objects.specs.declared.event.ResumeHow.TheVariants as how
 use Rattle.py_objects.specs.declared.event.Event.{Event}
 use Rattle.py_objects.specs.declared.event.Event.TheVariants as event
-use Rattle.py_objects.specs.Objects.{Obj, Name, HasPayload, as_object, number_if}
-use Rattle.py_objects.specs.Ancestry.{IsDerived}
+use Rattle.py_objects.specs.Objects.{Obj, HasPayload, as_object, number_if}
 use Rattle.py_coro.specs.declared.coro.CoroEnd.{CoroEnd}
 use Rattle.py_answers.specs.Answers.{Reply, Has, Is, Makes, Creates, Fails, FailsFrom, Passes, Yields, Stops, Closes, GivesBody, GivesDrive, for_body}
 use Rattle.py_run.specs.Run.{Signature, Plan, Phase, Idle, Asking, Going, Made, Due, Act, IsTop, question}
 use Rattle.py_run.specs.Raises.{Raise, raise_of, raises_of, IsToldOf, Tells}
-use Rattle.py_run.specs.Calls.{Course, Says, Enters, Begins, Sends, Throws, Setting, ComesTo, IsDue}
+use Rattle.py_run.specs.Calls.{Course, Says, Enters, Begins, Sends, Throws}
 use Rattle.py_run.specs.Coming.{Past, setting, IsOfKind, MakesGenerator, MayCome}
 use Rattle.py_agreement.specs.Agreement.{Relation, SameMaybe, SameHandled, SameRequest}
 use Rattle.py_determined.specs.Alike.{AreAlike}
@@ -31,20 +30,14 @@ use Rattle.py_determined.specs.Sameness.{SameAsked, SameReply, SameLeft, SameCou
 use Rattle.py_determined.specs.Events.{SameEvent}
 use Rattle.py_determined.specs.Related.{paired, value_numbers, IsPair}
 use Rattle.py_determined.proofs.SameStates.{SamePhase, SameActs, SameState, SameRaises}
+use Rattle.py_determined.proofs.CoursesAgree.{courses_agree, due_agree}
 use Rattle.py_determined.proofs.Requests.{BothAsk, BothUnbound, BothGlobal, BothBinary, BothCompare, BothTruth, BothMatch, BothHandled, BothRaisable, BothShow, BothCall, BothSend, BothThrow, BothClose, BothEnter, BothExit, BothNoExit, both_ask}
 use Rattle.py_determined.proofs.Growing.{requests_grow, handled_grows}
-use Rattle.py_determined.proofs.StatesAgree.{made_count, raise_same, IsToldRight, AsksRight}
+use Rattle.py_determined.proofs.StatesAgree.{tops_same, made_count, raise_same, IsToldRight, AsksRight}
 use Rattle.py_determined.proofs.Pairing.{AreBorn}
 use Rattle.py_determined.proofs.Births.{AreGiven, body_same, raise_given, value_given, raised_given, not_both, nor_both, traceback_given}
 use Rattle.py_determined.proofs.Telling.{SameTelling}
 use Rattle.py_determined.proofs.Phases.{at_phase, IsAnswer, IsCourse, IsTold, idle_next, asking_next, going_next, made_next, due_next}
-
--- where the objects of two runs are alike, the same questions come to the same, the same is due to them, and related classes derive from the same
--- ones
-pub record QuestionsAgree (S : Relation) (objects objects' : List Payload) : Type 0 where
-  pub courses : (at at' : Setting) (r r' : Request) (c c' : Course) → SameSetting S at at' → SameAsked S r r' → ComesTo at objects r c → ComesTo at' objects' r' c' → SameCourse S c c'
-  pub due : (r r' : Request) (how how' : CoroEnd) (reply reply' : Reply) → SameAsked S r r' → SameLeft S how how' → IsDue objects r how reply → IsDue objects' r' how' reply' → SameReply S reply reply'
-  pub derives : (c d : Obj) (x : Name) (b b' : Bool) → S c d → IsDerived objects c x b → IsDerived objects' d x b' → b ≡ b'
 
 -- two objects are related, or both are these
 abbrev pub OrBoth : Relation → Obj → Obj → Obj → Obj → Type 0
@@ -63,22 +56,22 @@ maybe_both R None w a b is is' s = absurd (cc is)
 maybe_both R (Some x) None a b is is' s = absurd (cc is')
 
 -- kinds of results
-pub data Kind : Type 0 where
-  OfValue OfRaise OfYield OfStop OfClose OfReport : Kind
+data ResultKind : Type 0 where
+  OfValue OfRaise OfYield OfStop OfClose OfReport : ResultKind
 
-abbrev kind_of : Reply → Kind
-kind_of (Has p) = OfValue
-kind_of (Is v) = OfValue
-kind_of (Makes c vs) = OfValue
-kind_of (Creates b) = OfValue
-kind_of (Fails k s) = OfRaise
-kind_of (FailsFrom k s e) = OfRaise
-kind_of (Passes x) = OfRaise
-kind_of (Yields v) = OfYield
-kind_of (Stops v) = OfStop
-kind_of Closes = OfClose
+abbrev reply_kind : Reply → ResultKind
+reply_kind (Has p) = OfValue
+reply_kind (Is v) = OfValue
+reply_kind (Makes c vs) = OfValue
+reply_kind (Creates b) = OfValue
+reply_kind (Fails k s) = OfRaise
+reply_kind (FailsFrom k s e) = OfRaise
+reply_kind (Passes x) = OfRaise
+reply_kind (Yields v) = OfYield
+reply_kind (Stops v) = OfStop
+reply_kind Closes = OfClose
 
-abbrev kind_given : DriveAnswer → Kind
+abbrev kind_given : DriveAnswer → ResultKind
 kind_given (answer.Returns v) = OfValue
 kind_given (answer.Raises e) = OfRaise
 kind_given (answer.Yields v) = OfYield
@@ -86,10 +79,11 @@ kind_given (answer.Stops v) = OfStop
 kind_given answer.Closes = OfClose
 kind_given (answer.Reported s) = OfReport
 
-given_kind : (objects : List Payload) (es : List Event) (reply : Reply) (w : DriveAnswer) → GivesDrive objects es reply w → kind_of reply ≡ kind_given w
-given_kind objects es reply (answer.Yields v) is = ap (λ x. kind_of x) is
-given_kind objects es reply (answer.Stops v) is = ap (λ x. kind_of x) is
-given_kind objects es reply answer.Closes is = ap (λ x. kind_of x) is
+-- a result is of the kind of the reply that it gives
+given_kind : (objects : List Payload) (es : List Event) (reply : Reply) (w : DriveAnswer) → GivesDrive objects es reply w → reply_kind reply ≡ kind_given w
+given_kind objects es reply (answer.Yields v) is = ap (λ x. reply_kind x) is
+given_kind objects es reply (answer.Stops v) is = ap (λ x. reply_kind x) is
+given_kind objects es reply answer.Closes is = ap (λ x. reply_kind x) is
 given_kind objects es (Has p) (answer.Returns v) is = refl
 given_kind objects es (Is x) (answer.Returns v) is = refl
 given_kind objects es (Makes c vs) (answer.Returns v) is = refl
@@ -100,35 +94,31 @@ given_kind objects es (Passes x) (answer.Raises e) is = refl
 given_kind objects es _ _ is = absurd is
 
 module _ (S : Relation) where
-  same_kinds : (x y : Reply) → SameReply S x y → kind_of x ≡ kind_of y
-  same_kinds (Has p) (Has q) s = refl
-  same_kinds (Is v) (Is w) s = refl
-  same_kinds (Makes c vs) (Makes d ws) s = refl
-  same_kinds (Creates b) (Creates c) s = refl
-  same_kinds (Fails k t) (Fails l u) s = refl
-  same_kinds (FailsFrom k t e) (FailsFrom l u f) s = refl
-  same_kinds (Passes x) (Passes y) s = refl
-  same_kinds (Yields v) (Yields w) s = refl
-  same_kinds (Stops v) (Stops w) s = refl
-  same_kinds Closes Closes s = refl
-  same_kinds _ _ s = absurd s
+  -- the same replies are of one kind
+  reply_kinds_same : (x y : Reply) → SameReply S x y → reply_kind x ≡ reply_kind y
+  reply_kinds_same (Has p) (Has q) s = refl
+  reply_kinds_same (Is v) (Is w) s = refl
+  reply_kinds_same (Makes c vs) (Makes d ws) s = refl
+  reply_kinds_same (Creates b) (Creates c) s = refl
+  reply_kinds_same (Fails k t) (Fails l u) s = refl
+  reply_kinds_same (FailsFrom k t e) (FailsFrom l u f) s = refl
+  reply_kinds_same (Passes x) (Passes y) s = refl
+  reply_kinds_same (Yields v) (Yields w) s = refl
+  reply_kinds_same (Stops v) (Stops w) s = refl
+  reply_kinds_same Closes Closes s = refl
+  reply_kinds_same _ _ s = absurd s
 
 module _ (plan plan' : Plan) (objects objects' : List Payload) (signatures : plan.signatures ≡ plan'.signatures) (S : Relation) (alike : AreAlike S objects objects')
-    (agrees : QuestionsAgree S objects objects') (p q : Past) where
+    (p q : Past) where
   -- what is given, and what comes next
   abbrev Given : Obj → Obj → Type 0
-  Given v w = AreGiven S objects objects' alike agrees.derives p.events q.events v w
+  Given v w = AreGiven S objects objects' alike p.events q.events v w
 
   abbrev Next : Event → Event → Type 0
   Next e f = AreNext S objects objects' p q e f
 
   moved : (e e' f f' : Event) → e ≡ e' → f ≡ f' → Next e' f' → Next e f
   moved e e' f f' is is' next = subst (λ x. Next x f) (sym is) (subst (λ y. Next e' y) (sym is') next)
-
-  tops_same : (a b : ℕ) (stack stack' : List Act) → SameActs S stack stack' → IsTop a stack → IsTop b stack' → a ≡ b
-  tops_same a b [] [] s top top' = absurd top
-  tops_same a b (x ∷ stack) (y ∷ stack') s top top' = sym top ∙ s.0.number ∙ top'
-  tops_same a b _ _ s top top' = absurd s
 
   top_alone : (a : ℕ) (stack stack' : List Act) → SameActs S stack stack' → IsTop a stack → stack' ≡ [] → ⊥
   top_alone a [] stack' s top alone = top
@@ -144,16 +134,16 @@ module _ (plan plan' : Plan) (objects objects' : List Payload) (signatures : pla
 
   got_next : (a b : ℕ) (x y : Reply) (w w' : GotAnswer) → a ≡ b → SameReply S (for_body x) (for_body y) → GivesBody objects p.events x w → GivesBody objects' q.events y w'
       → Next (event.Got a w) (event.Got b w')
-  got_next a b x y (got.Value v) (got.Value w) same s gives gives' = elim (value_given S objects objects' alike agrees.derives p.events q.events (for_body x) (for_body y) v w s gives gives') [
+  got_next a b x y (got.Value v) (got.Value w) same s gives gives' = elim (value_given S objects objects' alike p.events q.events (for_body x) (for_body y) v w s gives gives') [
     | inl related ↦ record { same = inl (same, related); right = tt }
     | inr born ↦ record { same = inr (v, w, born, (same, inr (refl, refl)), inl (refl, refl)); right = tt }
   ]
-  got_next a b x y (got.Raise e) (got.Raise f) same s gives gives' = elim (raised_given S objects objects' alike agrees.derives p.events q.events (for_body x) (for_body y) e f s gives gives') [
+  got_next a b x y (got.Raise e) (got.Raise f) same s gives gives' = elim (raised_given S objects objects' alike p.events q.events (for_body x) (for_body y) e f s gives gives') [
     | inl related ↦ record { same = inl (same, related); right = tt }
     | inr born ↦ record { same = inr (as_object e, as_object f, born, (same, inr (refl, refl)), inl (refl, refl)); right = tt }
   ]
-  got_next a b x y (got.Value v) (got.Raise f) same s gives gives' = absurd (not_both S objects objects' alike agrees.derives p.events q.events (for_body x) (for_body y) v f s gives gives')
-  got_next a b x y (got.Raise e) (got.Value w) same s gives gives' = absurd (nor_both S objects objects' alike agrees.derives p.events q.events (for_body x) (for_body y) e w s gives gives')
+  got_next a b x y (got.Value v) (got.Raise f) same s gives gives' = absurd (not_both S objects objects' alike p.events q.events (for_body x) (for_body y) v f s gives gives')
+  got_next a b x y (got.Raise e) (got.Value w) same s gives gives' = absurd (nor_both S objects objects' alike p.events q.events (for_body x) (for_body y) e w s gives gives')
   got_next a b x y (got.Stop v) w' same s gives gives' = absurd gives
   got_next a b x y w (got.Stop v) same s gives gives' = absurd gives'
 
@@ -165,11 +155,11 @@ module _ (plan plan' : Plan) (objects objects' : List Payload) (signatures : pla
 
   result_next : (d d' : ℕ) (x y : Reply) (w w' : DriveAnswer) → d ≡ d' → SameReply S x y → kind_given w ≡ kind_given w' → GivesDrive objects p.events x w → GivesDrive objects' q.events y w'
       → Next (event.Result d w) (event.Result d' w')
-  result_next d d' x y (answer.Returns v) (answer.Returns w) same s kind gives gives' = elim (value_given S objects objects' alike agrees.derives p.events q.events x y v w s gives gives') [
+  result_next d d' x y (answer.Returns v) (answer.Returns w) same s kind gives gives' = elim (value_given S objects objects' alike p.events q.events x y v w s gives gives') [
     | inl related ↦ record { same = inl (same, related); right = tt }
     | inr born ↦ record { same = inr (v, w, born, (same, inr (refl, refl)), inl (refl, refl)); right = tt }
   ]
-  result_next d d' x y (answer.Raises e) (answer.Raises f) same s kind gives gives' = elim (raised_given S objects objects' alike agrees.derives p.events q.events x y e f s gives gives') [
+  result_next d d' x y (answer.Raises e) (answer.Raises f) same s kind gives gives' = elim (raised_given S objects objects' alike p.events q.events x y e f s gives gives') [
     | inl related ↦ record { same = inl (same, related); right = tt }
     | inr born ↦ record { same = inr (as_object e, as_object f, born, (same, inr (refl, refl)), inl (refl, refl)); right = tt }
   ]
@@ -183,10 +173,10 @@ module _ (plan plan' : Plan) (objects objects' : List Payload) (signatures : pla
   module _ (state : SameState S p.state q.state) where
     answer_next : (x y : Reply) (e f : Event) → SameReply S x y → IsAnswer plan objects p x e → IsAnswer plan' objects' q y f → Next e f
     answer_next x y (event.Got a w) (event.Got b w') s (top, gives) (top', gives') =
-        got_next a b x y w w' (tops_same a b p.state.stack q.state.stack state.stack top top') (body_same S x y s) gives gives'
+        got_next a b x y w w' (tops_same S a b p.state.stack q.state.stack state.stack top top') (body_same S x y s) gives gives'
     answer_next x y (event.Result d w) (event.Result d' w') s (next, alone, gives) (next', alone', gives') =
         result_next d d' x y w w' (next ∙ ap suc state.done ∙ sym next') s
-        (sym (given_kind objects p.events x w gives) ∙ same_kinds S x y s ∙ given_kind objects' q.events y w' gives') gives gives'
+        (sym (given_kind objects p.events x w gives) ∙ reply_kinds_same S x y s ∙ given_kind objects' q.events y w' gives') gives gives'
     answer_next x y (event.Got a w) (event.Result d w') s (top, gives) (next, alone, gives') = absurd (top_alone a p.state.stack q.state.stack state.stack top alone)
     answer_next x y (event.Result d w) (event.Got a w') s (next, alone, gives) (top, gives') = absurd (alone_top a p.state.stack q.state.stack state.stack alone top)
     answer_next x y (event.Got a w) _ s is is' = absurd is'
@@ -205,7 +195,7 @@ module _ (plan plan' : Plan) (objects objects' : List Payload) (signatures : pla
     course_next (Sends a v) (Sends b w) e f s is is' = moved e _ f _ is is' (record { same = inl (s.0, s.1); right = tt })
     course_next (Throws a x) (Throws b y) e f s (k, is, raise) (l, is', raise') =
         moved e _ f _ is is'
-        (elim (raise_given S objects objects' alike agrees.derives p.events q.events x y k l s.1 raise raise') [
+        (elim (raise_given S objects objects' alike p.events q.events x y k l s.1 raise raise') [
           | inl related ↦ record { same = inl (s.0, related); right = tt }
           | inr born ↦ record { same = inr (as_object k, as_object l, born, (s.0, inr (refl, refl)), inl (refl, refl)); right = tt }
         ])
@@ -245,7 +235,7 @@ module _ (plan plan' : Plan) (objects objects' : List Payload) (signatures : pla
     asking_same e f settings questions may may' =
         let (r, c, open_, comes, is) = asking_next plan objects p e may in
         let (r', c', open_', comes', is') = asking_next plan' objects' q f may' in
-        course_next c c' e f (agrees.courses (setting plan p) (setting plan' q) r r' c c' settings (maybe_both (SameAsked S) _ _ r r' open_ open_' questions) comes comes') is is'
+        course_next c c' e f (courses_agree S objects objects' alike (setting plan p) (setting plan' q) r r' c c' settings (maybe_both (SameAsked S) _ _ r r' open_ open_' questions) comes comes') is is'
 
     made_same : (f g : Obj) (x y : Event) → S f g → MayCome plan objects (at_phase p (Made f)) x → MayCome plan' objects' (at_phase q (Made g)) y → Next x y
     made_same f g x y s may may' = both (made_next plan objects p f x may) (made_next plan' objects' q g y may')
@@ -265,7 +255,7 @@ module _ (plan plan' : Plan) (objects objects' : List Payload) (signatures : pla
     due_same how how' e f left questions may may' =
         let (r, reply, open_, due, is) = due_next plan objects p how e may in
         let (r', reply', open_', due', is') = due_next plan' objects' q how' f may' in
-        answer_next reply reply' e f (agrees.due r r' how how' reply reply' (maybe_both (SameAsked S) _ _ r r' open_ open_' questions) left due due') is is'
+        answer_next reply reply' e f (due_agree S objects objects' alike r r' how how' reply reply' (maybe_both (SameAsked S) _ _ r r' open_ open_' questions) left due due') is is'
 
     -- ---- what is told
 
@@ -276,7 +266,7 @@ module _ (plan plan' : Plan) (objects objects' : List Payload) (signatures : pla
     raise_told : (x y : Option Raise) (t u : Obj) → SameMaybe (λ (x : Raise) (y : Raise). SameMaybe S x.traceback y.traceback) x y → IsToldOf objects p.events x t → IsToldOf objects' q.events y u
         → Given t u
     raise_told None None t u s has has' = inl (none_same t u has has')
-    raise_told (Some x) (Some y) t u s is is' = traceback_given S objects objects' alike agrees.derives p.events q.events x.traceback y.traceback t u s is is'
+    raise_told (Some x) (Some y) t u s is is' = traceback_given S objects objects' alike p.events q.events x.traceback y.traceback t u s is is'
     raise_told _ _ t u s is is' = absurd s
 
     module _ (raises : SameRaises S objects (raises_of p.events) (raises_of q.events)) where
@@ -339,10 +329,10 @@ module _ (plan plan' : Plan) (objects objects' : List Payload) (signatures : pla
       -- what the innermost activations tell, where it agrees
       pub told_next : (e f : Event) → SameTelling S e f → IsTold plan objects p e → IsTold plan' objects' q f → Next e f
       told_next (event.Ask a r own at) (event.Ask b r' own' at') s (top, tells) (top', tells') =
-          ask_kinds a b at at' own own' r r' (tops_same a b p.state.stack q.state.stack state.stack top top') s.1 (both_ask S r r' s.0) s.0 tells tells'
-      told_next (event.Round a at) (event.Round b at') s top top' = record { same = inl (tops_same a b p.state.stack q.state.stack state.stack top top'); right = tt }
-      told_next (event.Yield a v at) (event.Yield b w at') s top top' = record { same = inl (tops_same a b p.state.stack q.state.stack state.stack top top', s); right = tt }
-      told_next (event.End a e at) (event.End b f at') s top top' = record { same = inl (tops_same a b p.state.stack q.state.stack state.stack top top', s); right = tt }
+          ask_kinds a b at at' own own' r r' (tops_same S a b p.state.stack q.state.stack state.stack top top') s.1 (both_ask S r r' s.0) s.0 tells tells'
+      told_next (event.Round a at) (event.Round b at') s top top' = record { same = inl (tops_same S a b p.state.stack q.state.stack state.stack top top'); right = tt }
+      told_next (event.Yield a v at) (event.Yield b w at') s top top' = record { same = inl (tops_same S a b p.state.stack q.state.stack state.stack top top', s); right = tt }
+      told_next (event.End a e at) (event.End b f at') s top top' = record { same = inl (tops_same S a b p.state.stack q.state.stack state.stack top top', s); right = tt }
       told_next _ _ s told told' = absurd s
 
     -- what comes next, in each phase, where what is told next agrees

@@ -10,6 +10,7 @@ use Rattle.py_objects.specs.declared.event.Event.{Event}
 use Rattle.py_objects.specs.declared.event.Event.TheVariants as event
 use Rattle.py_objects.specs.Objects.{Obj}
 use Rattle.py_objects.specs.Own.{Own, Makes, Resumes, Asks, Gets, Rounds, Yields, Ends, whose, own_of, own_if, told_by, own_from}
+use Rattle.py_objects.proofs.GrowthLemmas.{slice_get_grown}
 use Rattle.py_run.specs.Run.{Plan, Phase, Idle, Asking, Going, Made, Due, Act, Activation, State, after, state_after, top_asks, IsTop, question}
 use Rattle.py_run.specs.Generators.{Generator, generator_at, answered, value_of, returned_by}
 use Rattle.py_run.specs.Coming.{Past, nothing, past_after, MayCome, Comes}
@@ -121,15 +122,10 @@ top_positive a (x ∷ stack) are top = subst (λ n. 0 < n) top are.0
 
 -- ---- activations that were made
 
-front_found : {A : Type 0} (xs ys : List A) (i : ℕ) (x : A) → slice_get xs i ≡ Some x → slice_get (xs ++ ys) i ≡ Some x
-front_found [] ys i x found = absurd (cc found)
-front_found (y ∷ xs) ys zero x found = found
-front_found (y ∷ xs) ys (suc i) x found = front_found xs ys i x found
-
 -- one that was made stays
 pub made_stays : (s : State) (es : List Event) (i : ℕ) (x : Activation) → slice_get s.made i ≡ Some x → slice_get (state_after s es).made i ≡ Some x
 made_stays s [] i x found = found
-made_stays s (event.Make a f vs ∷ es) i x found = made_stays (after s (event.Make a f vs)) es i x (front_found s.made (record { function = f; args = vs } ∷ []) i x found)
+made_stays s (event.Make a f vs ∷ es) i x found = made_stays (after s (event.Make a f vs)) es i x (slice_get_grown s.made (record { function = f; args = vs } ∷ []) i x found)
 made_stays s (e ∷ es) i x found = made_stays (after s e) es i x found
 
 -- two of one number

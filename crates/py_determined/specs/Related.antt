@@ -6,7 +6,7 @@ use Rattle.py_objects.specs.declared.request.Request.TheVariants as request
 use Rattle.py_objects.specs.declared.event.Event.{Event}
 use Rattle.py_objects.specs.declared.event.Event.TheVariants as event
 use Rattle.py_objects.specs.Objects.{Obj, Name, HasPayload, declared, event_numbers, number_if, request_numbers}
-use Rattle.py_agreement.specs.Agreement.{has_literal}
+use Rattle.py_agreement.specs.Agreement.{Relation, has_literal}
 
 -- numbers that stand at one place, as far as both lists go
 abbrev pub paired : List ℕ → List ℕ → List (ℕ × ℕ)
@@ -47,3 +47,7 @@ module _ (objects objects' : List Payload) where
   -- two objects are related: one literal may stand for both, they are declared under one name, or the events name them at one place
   abbrev pub Related : List (ℕ × ℕ) → Obj → Obj → Type 0
   Related pairs v w = IsOfLiteral v w ⊎ (IsOfName v w ⊎ IsPair pairs v w)
+
+  -- those that two lists of events relate
+  abbrev pub Paired : List Event → List Event → Relation
+  Paired es fs = Related (pairs_of es fs)

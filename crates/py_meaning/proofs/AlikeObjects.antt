@@ -11,11 +11,12 @@ use Rattle.py_objects.specs.declared.error_kind.ErrorKind.{ErrorKind}
 use Rattle.py_objects.specs.ErrorKinds.{name_of, bases_of}
 use Rattle.py_objects.specs.Objects.{Obj, Name, HasPayload, class_object, declares, is_name, declared}
 use Rattle.py_objects.specs.Ancestry.{class_in, has_name, first_class}
+use Rattle.py_answers.proofs.ReadingLemmas.{one_payload}
 use Rattle.py_grammar.specs.Grammar.{Decl}
 use Rattle.py_agreement.specs.Agreement.{Relation, SameMaybe, SameAll, has_literal}
 use Rattle.py_determined.specs.Alike.{Alike, AreAlike, numbered}
 use Rattle.py_determined.specs.Related.{Related}
-use Rattle.py_determined.proofs.AlikeLemmas.{one_payload, found_from}
+use Rattle.py_determined.proofs.AlikeLemmas.{found_from}
 use Rattle.py_meaning.specs.Whole.{HasClass, HasManager, IsBuiltinClass, IsDeclaredClass, AreObjects}
 use Rattle.py_meaning.proofs.Behind.{declares_it}
 
@@ -36,7 +37,7 @@ named_entry objects x v is =
 entry_named : (objects : List Payload) (x : Name) (v : Obj) (p : Payload) → declared objects x ≡ Some v → HasPayload objects v p → declares p ≡ Some x
 entry_named objects x v p is has =
     let (q, has', says) = named_entry objects x v is in
-    ap declares (one_payload objects v p q has has') ∙ says
+    ap declares (one_payload objects v.number p q has has') ∙ says
 
 -- one object is declared under one name
 one_name : (objects : List Payload) (x y : Name) (v : Obj) → declared objects x ≡ Some v → declared objects y ≡ Some v → x ≡ y
@@ -58,16 +59,11 @@ no_literal _ x says = absurd (cc says)
 
 -- a class has one entry
 one_class : (objects : List Payload) (v : Obj) (c d : ClassBody) → HasPayload objects v (payload.Class c) → HasPayload objects v (payload.Class d) → c ≡ d
-one_class objects v c d has has' = let both : Some c ≡ Some d = ap class_in (sym has ∙ has') in cc both
-
-abbrev manager_in : Option Payload → Option ManagerBody
-manager_in (Some (payload.Manager m)) = Some m
-manager_in _ = None
+one_class objects v c d has has' = let same : payload.Class c ≡ payload.Class d = one_payload objects v.number (payload.Class c) (payload.Class d) has has' in cc same
 
 -- and so has a manager
 one_manager : (objects : List Payload) (v : Obj) (m n : ManagerBody) → HasPayload objects v (payload.Manager m) → HasPayload objects v (payload.Manager n) → m ≡ n
-one_manager objects v m n has has' =
-    let both : Some m ≡ Some n = ap manager_in (sym has ∙ has') in cc both
+one_manager objects v m n has has' = let same : payload.Manager m ≡ payload.Manager n = one_payload objects v.number (payload.Manager m) (payload.Manager n) has has' in cc same
 
 -- a search finds some entry where one passes its test
 finds : (test : Payload → Bool) (ps : List Payload) (i j : ℕ) (p : Payload) → slice_get ps j ≡ Some p → test p ≡ true → (k : ℕ) × (position_from test i ps ≡ Some k)
@@ -243,12 +239,12 @@ module _ (decls : List Decl) (objects objects' : List Payload) (are : AreObjects
 
   related_alike : (v w : Obj) (p q : Payload) → S v w → HasPayload objects v p → HasPayload objects' w q → Alike S objects objects' p q
   related_alike v w p q (inl (r, literal, is, is')) has has' =
-      subst (λ (z : Payload). Alike S objects objects' z q) (one_payload objects v r p is has)
-      (subst (λ (z : Payload). Alike S objects objects' r z) (one_payload objects' w r q is' has') (literal_alike r literal))
+      subst (λ (z : Payload). Alike S objects objects' z q) (one_payload objects v.number r p is has)
+      (subst (λ (z : Payload). Alike S objects objects' r z) (one_payload objects' w.number r q is' has') (literal_alike r literal))
   related_alike v w p q (inr (inl (x, is, is'))) has has' =
       let (u, r, said, entry, alike) = declared_alike x v p is has in
       let here : u ≡ w = one_object objects' x u w said is' in
-      let same : r ≡ q = one_payload objects' w r q (subst (λ (z : Obj). HasPayload objects' z r) here entry) has' in
+      let same : r ≡ q = one_payload objects' w.number r q (subst (λ (z : Obj). HasPayload objects' z r) here entry) has' in
       subst (λ (z : Payload). Alike S objects objects' p z) same alike
   related_alike v w p q (inr (inr pair)) has has' = absurd pair
 
@@ -273,7 +269,7 @@ module _ (decls : List Decl) (objects objects' : List Payload) (are : AreObjects
   same_object v w e = ap (λ (n : ℕ). numbered n) e
 
   one_related : (v v2 w w2 : Obj) (p : Payload) → S v w → S v2 w2 → HasPayload objects v p → has_literal p ≡ false → eqb v.number v2.number ≡ eqb w.number w2.number
-  one_related v v2 w w2 p (inl (r, literal, is, is')) s2 has other = absurd (let same : r ≡ p = one_payload objects v r p is has in cc (sym other ∙ ap has_literal (sym same) ∙ literal))
+  one_related v v2 w w2 p (inl (r, literal, is, is')) s2 has other = absurd (let same : r ≡ p = one_payload objects v.number r p is has in cc (sym other ∙ ap has_literal (sym same) ∙ literal))
   one_related v v2 w w2 p (inr (inl (x, is, is'))) s2 has other = elim (cases_Bool (eqb v.number v2.number)) as (λ c. eqb v.number v2.number ≡ eqb w.number w2.number) [
     | inl same ↦ same ∙ sym (eq-eqb w.number w2.number (ap (λ (z : Obj). z.number) (one_right x v w v2 w2 is is' s2 (same_object v v2 (eqb-true v.number v2.number same)))))
     | inr apart ↦ apart ∙ sym (ne_eqb w.number w2.number (λ e. eqb-false v.number v2.number apart (ap (λ (z : Obj). z.number) (one_left x v w v2 w2 is is' s2 (same_object w w2 e)))))

@@ -12,11 +12,11 @@ use Rattle.py_run.specs.Coming.{nothing, Comes}
 use Rattle.py_run.specs.Past.{past_behind}
 use Rattle.py_run.proofs.PastLemmas.{past_state}
 use Rattle.py_run.proofs.RunLemmas.{comes_rest}
-use Rattle.py_agreement.specs.Agreement.{Relation, SameMaybe, SameAll, Agree}
+use Rattle.py_agreement.specs.Agreement.{SameMaybe, SameAll, Agree}
 use Rattle.py_determined.specs.Alike.{AreAlike}
 use Rattle.py_determined.specs.Sameness.{SamePosed}
 use Rattle.py_determined.specs.Events.{SameEvents}
-use Rattle.py_determined.specs.Related.{pairs_of, Related}
+use Rattle.py_determined.specs.Related.{Paired}
 use Rattle.py_determined.proofs.Growing.{maybe_grows}
 use Rattle.py_meaning.specs.Earlier.{NameEarlier}
 use Rattle.py_meaning.specs.Whole.{AreAsked, IsRunOf, Traces, plan_of}
@@ -40,43 +40,40 @@ begins_at plan objects es more d comes =
 
 module _ (decls : List Decl) (drives : List DriveLine) (earlier : NameEarlier drives)
     (objects objects' : List Payload) (events events' : List Event) (run : IsRunOf decls drives objects events) (run' : IsRunOf decls drives objects' events') where
-  -- which objects two fronts of the events relate
-  abbrev pub Pairing : List Event → List Event → Relation
-  Pairing es fs = Related objects objects' (pairs_of es fs)
-
   -- the functions are the same
   pub signatures_agree : (plan_of (functions_in decls) run.asked).signatures ≡ (plan_of (functions_in decls) run'.asked).signatures
   signatures_agree = refl
 
   -- what is declared is alike
-  pub first_alike : AreAlike (Pairing [] []) objects objects'
+  pub first_alike : AreAlike (Paired objects objects' [] []) objects objects'
   first_alike = declared_are_alike decls objects objects' run.are_objects run'.are_objects
 
-  declares_agree : (es fs : List Event) (x : Name) → SameMaybe (Pairing es fs) (declared objects x) (declared objects' x)
-  declares_agree es fs x = maybe_grows (Pairing [] []) (Pairing es fs) more (declared objects x) (declared objects' x) (first_alike.declares x)
+  declares_agree : (es fs : List Event) (x : Name) → SameMaybe (Paired objects objects' es fs) (declared objects x) (declared objects' x)
+  declares_agree es fs x = maybe_grows (Paired objects objects' [] []) (Paired objects objects' es fs) more (declared objects x) (declared objects' x) (first_alike.declares x)
     where
-      more : (v w : Obj) → Pairing [] [] v w → Pairing es fs v w
+      more : (v w : Obj) → Paired objects objects' [] [] v w → Paired objects objects' es fs v w
       more v w (inl literal) = inl literal
       more v w (inr (inl named)) = inr (inl named)
       more v w (inr (inr pair)) = absurd pair
 
   -- activations of related functions, with related arguments, tell what agrees
-  pub bodies_agree : (es fs : List Event) (f g : Obj) (vs ws : List Obj) (own own' : List Own) → AreAlike (Pairing es fs) objects objects' → Pairing es fs f g → SameAll (Pairing es fs) vs ws
-      → Traces (functions_in decls) run.globals objects f vs own → Traces (functions_in decls) run'.globals objects' g ws own' → Agree (Pairing es fs) own own'
+  pub bodies_agree : (es fs : List Event) (f g : Obj) (vs ws : List Obj) (own own' : List Own) → AreAlike (Paired objects objects' es fs) objects objects' → Paired objects objects' es fs f g
+      → SameAll (Paired objects objects' es fs) vs ws → Traces (functions_in decls) run.globals objects f vs own → Traces (functions_in decls) run'.globals objects' g ws own'
+      → Agree (Paired objects objects' es fs) own own'
   bodies_agree es fs f g vs ws own own' alike related all told told' =
-      told_agree (Pairing es fs) objects objects' alike (functions_in decls) run.globals run'.globals f g vs ws own own' related all told told'
+      told_agree (Paired objects objects' es fs) objects objects' alike (functions_in decls) run.globals run'.globals f g vs ws own own' related all told told'
 
   -- a drive asks the same where it begins in both, as far as the events in front of it relate objects
-  pub drives_agree : (es fs more more' : List Event) (d : ℕ) → events ≡ es ++ event.Drive (suc d) ∷ more → events' ≡ fs ++ event.Drive (suc d) ∷ more' → SameEvents (Pairing es fs) es fs
-      → SameMaybe (SamePosed (Pairing es fs)) (slice_get run.asked d) (slice_get run'.asked d)
+  pub drives_agree : (es fs more more' : List Event) (d : ℕ) → events ≡ es ++ event.Drive (suc d) ∷ more → events' ≡ fs ++ event.Drive (suc d) ∷ more'
+      → SameEvents (Paired objects objects' es fs) es fs → SameMaybe (SamePosed (Paired objects objects' es fs)) (slice_get run.asked d) (slice_get run'.asked d)
   drives_agree es fs more more' d is is' same =
       let comes = subst (λ (l : List Event). Comes (plan_of (functions_in decls) run.asked) objects nothing l) is run.run.comes in
       let comes' = subst (λ (l : List Event). Comes (plan_of (functions_in decls) run'.asked) objects' nothing l) is' run'.run.comes in
       let (low, (q, at)) = begins_at (plan_of (functions_in decls) run.asked) objects es more d comes in
       let (low', (q', at')) = begins_at (plan_of (functions_in decls) run'.asked) objects' fs more' d comes' in
-      let posed : SamePosed (Pairing es fs) q q' =
-      posed_agree (Pairing es fs) objects objects' (λ p v w literal has has'. inl (p, literal, has, has')) (declares_agree es fs) drives run.asked run'.asked
+      let posed : SamePosed (Paired objects objects' es fs) q q' =
+      posed_agree (Paired objects objects' es fs) objects objects' (λ p v w literal has has'. inl (p, literal, has, has')) (declares_agree es fs) drives run.asked run'.asked
       (plan_of (functions_in decls) run.asked) (plan_of (functions_in decls) run'.asked) es fs (event.Drive (suc d) ∷ more) (event.Drive (suc d) ∷ more') d q q' earlier comes comes' same low low'
       (subst (λ (l : List Event). AreAsked objects l drives run.asked) is run.are_asked) (subst (λ (l : List Event). AreAsked objects' l drives run'.asked) is' run'.are_asked) at at' in
-      subst (λ (o : Option Posed). SameMaybe (SamePosed (Pairing es fs)) o (slice_get run'.asked d)) (sym at)
-      (subst (λ (o : Option Posed). SameMaybe (SamePosed (Pairing es fs)) (Some q) o) (sym at') posed)
+      subst (λ (o : Option Posed). SameMaybe (SamePosed (Paired objects objects' es fs)) o (slice_get run'.asked d)) (sym at)
+      (subst (λ (o : Option Posed). SameMaybe (SamePosed (Paired objects objects' es fs)) (Some q) o) (sym at') posed)
