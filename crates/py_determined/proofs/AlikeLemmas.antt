@@ -37,6 +37,7 @@ found_from test (p ∷ ps) i k found =
     by true is here later = let same : i ≡ k = cc in (0, p, omega arith, refl, is)
     by false is there later = let (j, q, e, at, passes) = later there in (suc j, q, omega arith, at, passes)
 
+-- what has the name of a class is one
 class_named : (n : Name) (p : Payload) → has_name n (class_in (Some p)) ≡ true → (c : ClassBody) × (p ≡ payload.Class c)
 class_named n (payload.Class c) e = (c, refl)
 class_named n _ e = absurd (cc e)
@@ -90,6 +91,7 @@ other_key objects a b p q has has' other =
     by true = refl
     by false = refl
 
+-- whether a payload is a function's
 abbrev is_function : Payload → Bool
 is_function (payload.Function f) = true
 is_function _ = false

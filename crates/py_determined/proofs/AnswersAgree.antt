@@ -37,6 +37,7 @@ IsPlainReply (Has p) = has_literal p ≡ true
 IsPlainReply (Fails kind text) = Unit {0}
 IsPlainReply _ = ⊥
 
+-- a choice by whether both values are there is plain where its replies are
 on_both_plain : {A : Type 0} (x y : Option A) (f : A → A → Reply) (other : Reply) → ((a b : A) → IsPlainReply (f a b)) → IsPlainReply other → IsPlainReply (on_both x y f other)
 on_both_plain None y f other plain or_plain = or_plain
 on_both_plain (Some x) None f other plain or_plain = or_plain
@@ -82,6 +83,7 @@ module _ (p q p' q' : Payload) (n m n' m' : Name) (first : seen p ≡ seen p') (
   less_same = cc (numbers_first, numbers_second, texts_first, texts_second)
 
 module _ (S : Relation) (objects objects' : List Payload) (alike : AreAlike S objects objects') where
+  -- one that names no object is the same in both runs
   plain_same : (reply : Reply) → IsPlainReply reply → SameReply S reply reply
   plain_same (Has p) plain = (refl, plain)
   plain_same (Fails kind text) plain = (refl, refl)
@@ -146,6 +148,7 @@ module _ (S : Relation) (objects objects' : List Payload) (alike : AreAlike S ob
   raised_as_agree (ctor.Instance e) (ctor.Instance f) s = s
   raised_as_agree _ _ s = absurd s
 
+  -- related objects are raised as the same, or both are refused
   raises_agree : (v w : Obj) (reply reply' : Reply) → S v w → Raises objects v reply → Raises objects' w reply' → SameReply S reply reply'
   raises_agree v w reply reply' same (inl (c, is, a)) (inl (d, is', a')) =
       let taken : SameTaken S objects objects' alike (Ok c) (Ok d) = taken_agree S objects objects' alike v w (Ok c) (Ok d) same is is' in

@@ -110,11 +110,13 @@ module _ (S : Relation) where
     abbrev pub AreGiven : Obj → Obj → Type 0
     AreGiven v w = S v w ⊎ AreBorn S objects objects' es fs v w
 
+    -- the entries of two tuples are related, whatever they are read as
     arguments_same : (v w : Obj) (args args' vs ws : List Obj) → HasPayload objects v (payload.Tuple args) → HasPayload objects' w (payload.Tuple args') → SameAll S args args'
         → HasPayload objects v (payload.Tuple vs) → HasPayload objects' w (payload.Tuple ws) → SameAll S vs ws
     arguments_same v w args args' vs ws is is' s has has' =
         subst (λ l. SameAll S l ws) (one_tuple objects v args vs is has) (subst (λ l. SameAll S args l) (one_tuple objects' w args' ws is' has') s)
 
+    -- new exceptions of related classes, with related arguments and attributes, are alike
     instance_born : (c d : PyTypeRef) (args args' : List Obj) (attrs attrs' : Attrs) (v w : Obj) → S (class_object c) (class_object d) → SameAll S args args' → SameAttrs S attrs attrs'
         → IsInstance objects es c args attrs v → IsInstance objects' fs d args' attrs' w → AreBorn S objects objects' es fs v w
     instance_born c d args args' attrs attrs' v w class same named is is' = record {
@@ -137,6 +139,7 @@ module _ (S : Relation) where
       new_second = is'.new;
     }
 
+    -- so are those that calls of related classes make
     called_born : (c d : PyTypeRef) (vs ws : List Obj) (v w : Obj) → S (class_object c) (class_object d) → SameAll S vs ws → IsCalled objects es c vs v → IsCalled objects' fs d ws w
         → AreBorn S objects objects' es fs v w
     called_born c d vs ws v w class same (os, derived, is) (os', derived', is') =
@@ -152,15 +155,18 @@ module _ (S : Relation) where
         let here : SameMaybe S (Some (class_object c)) (declared objects' (name_of l)) = subst (λ o. SameMaybe S o (declared objects' (name_of l))) is both in
         subst (λ o. SameMaybe S (Some (class_object c)) o) is' here
 
+    -- objects of one text are related
     message_same : (v w : Obj) (s t : Name) → s ≡ t → HasPayload objects v (payload.Str s) → HasPayload objects' w (payload.Str t) → S v w
     message_same v w s t same has has' = alike.literals (payload.Str s) v w refl has (subst (λ u. HasPayload objects' w (payload.Str u)) (sym same) has')
 
+    -- new exceptions of one built-in class with one text are alike
     raised_born : (k l : ErrorKind) (s t : Name) (e f : PyBaseExceptionRef) → k ≡ l → s ≡ t → IsRaised objects es k s e → IsRaised objects' fs l t f
         → AreBorn S objects objects' es fs (as_object e) (as_object f)
     raised_born k l s t e f kind text is is' =
         instance_born is.class is'.class _ _ [] [] (as_object e) (as_object f) (class_same k l is.class is'.class kind is.is_class is'.is_class)
         (message_same is.argument is'.argument s t text is.message is'.message, tt) tt is.made is'.made
 
+    -- so are those with related causes
     raised_from_born : (k l : ErrorKind) (s t : Name) (x y e f : PyBaseExceptionRef) → k ≡ l → s ≡ t → SameException S x y → IsRaisedFrom objects es k s x e → IsRaisedFrom objects' fs l t y f
         → AreBorn S objects objects' es fs (as_object e) (as_object f)
     raised_from_born k l s t x y e f kind text cause is is' = record {
@@ -244,6 +250,7 @@ module _ (S : Relation) where
     not_both Closes y v e s is is' = is
     not_both _ _ v e s is is' = s
 
+    -- nor a raise in the one and a value in the other
     pub nor_both : (x y : Reply) (e : PyBaseExceptionRef) (w : Obj) → SameReply S x y → GivesRaise objects es x e → GivesValue objects' fs y w → ⊥
     nor_both (Fails k t) (Fails l u) e w s is is' = is'
     nor_both (FailsFrom k t x) (FailsFrom l u y) e w s is is' = is'

@@ -122,6 +122,7 @@ same_closed m n i j same_m same_i = rw (same_m, same_i)
 module _ (S : Relation) where
   -- ---- courses and replies by their parts
 
+  -- courses that are equal to two that are the same are the same
   courses_are : (c c' d d' : Course) → c ≡ d → c' ≡ d' → SameCourse S d d' → SameCourse S c c'
   courses_are c c' d d' is is' s = rw (is, is') s
 
@@ -217,6 +218,7 @@ module _ (S : Relation) where
     tests_agree : (test : Seen → Bool) (v w : Obj) (b c : Bool) → S v w → Sees objects v test b → Sees objects' w test c → b ≡ c
     tests_agree test v w b c s (p, has, is) (q, has', is') = sym is ∙ (ap test (seen_same S objects objects' alike p q (alike.payloads v w p q s has has')) ∙ is')
 
+    -- related objects are both None, or neither is
     same_none : (v w : Obj) (p q : Payload) → S v w → HasPayload objects v p → HasPayload objects' w q → is_none p ≡ is_none q
     same_none v w p q s has has' = ap (λ x. x.none) (seen_same S objects objects' alike p q (alike.payloads v w p q s has has'))
 
@@ -395,6 +397,7 @@ module _ (S : Relation) where
       not_second (request.Exit x k v t) _ reply c' s a b = absurd s.0
       not_second _ _ reply c' s a b = absurd b
 
+      -- nor the other way round
       not_first : (r r' : Request) (reply' : Reply) (c : Course) → SameAsked S r r' → ComesAs at objects r c → Replies objects' r' reply' → ⊥
       not_first (request.Call f vs keywords.None) (request.Call g ws keywords.None) reply' c s a b =
           absurd (cc (tests_agree for_call f g true false s.0.0 (call_entered at objects f vs c a.1) (call_replied objects' g ws reply' b.1)))

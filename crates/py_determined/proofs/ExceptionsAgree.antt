@@ -87,11 +87,13 @@ module _ (S : Relation) (objects objects' : List Payload) (alike : AreAlike S ob
   stands_agree _ (payload.Exception f) v w vs ws same s a a' = absurd s
   stands_agree _ _ v w vs ws same s a a' = rw (a, a') (same, tt)
 
+  -- what a class with a value raises is that value on both sides, or a new exception with its arguments
   class_with_agree : (b : Bool) (c d : PyTypeRef) (v w : Obj) (p q : Payload) (o o' : Instantiate) → S (class_object c) (class_object d) → S v w → Alike S objects objects' p q
       → ClassWith objects c v p b o → ClassWith objects' d w q b o' → SameInstance S o o'
   class_with_agree true c d v w p q o o' same_c same s a a' = rw (a, a') same
   class_with_agree false c d v w p q o o' same_c same s (vs, is, a) (ws, is', a') = rw (a, a') (same_c, stands_agree p q v w vs ws same s is is')
 
+  -- an exception with a value: both are refused, or both are themselves
   instance_with_agree : (p q : Payload) (e f : PyBaseExceptionRef) (v w : Obj) (o o' : Instantiate) → SameException S e f → Alike S objects objects' p q
       → InstantiatesAs objects (ctor.Instance e) v p o → InstantiatesAs objects' (ctor.Instance f) w q o' → SameInstance S o o'
   instance_with_agree (payload.Exception x) (payload.Exception y) e f v w o o' same s a a' = rw (a, a') refl

@@ -72,6 +72,7 @@ module _ (S S' : Relation) (more : (v w : Obj) → S v w → S' v w) where
   pub requests_grow : (r r' : Request) → SameRequest S r r' → SameRequest S' r r'
   requests_grow r r' s = kinds_grow r r' (both_ask S r r' s)
 
+  -- the tracebacks that exits are told, too
   told_grows : (r r' : Request) → BothAsk S r r' → SameTold S r r' → SameTold S' r r'
   told_grows _ _ (BothExit m m' c c' e e' t t' s k x) told = more t t' told
   told_grows _ _ (BothUnbound x y e) told = tt

@@ -179,11 +179,13 @@ abbrev pub NoRight : ℕ → List (ℕ × ℕ) → Type 0
 NoRight n [] = Unit {0}
 NoRight n (p ∷ ps) = (eqb n p.1 ≡ false) × NoRight n ps
 
+-- so it isn't the left number of a pair
 pub no_left : (n : ℕ) (ps : List (ℕ × ℕ)) (v w : Obj) → NoLeft n ps → IsPair ps v w → eqb n v.number ≡ false
 no_left n [] v w none is = absurd is
 no_left n (p ∷ ps) v w none (inl (here, there)) = ap (eqb n) here ∙ none.0
 no_left n (p ∷ ps) v w none (inr rest) = no_left n ps v w none.1 rest
 
+-- nor the right one
 pub no_right : (n : ℕ) (ps : List (ℕ × ℕ)) (v w : Obj) → NoRight n ps → IsPair ps v w → eqb n w.number ≡ false
 no_right n [] v w none is = absurd is
 no_right n (p ∷ ps) v w none (inl (here, there)) = ap (eqb n) there ∙ none.0
@@ -202,6 +204,7 @@ neither : (b c : Bool) → (b || c) ≡ false → (b ≡ false) × (c ≡ false)
 neither false c is = (refl, is)
 neither true c is = absurd (cc is)
 
+-- a number that isn't among those of its side stands in none of their pairs
 left_paired : (n : ℕ) (is js : List ℕ) → is_among n is ≡ false → NoLeft n (paired is js)
 left_paired n [] js none = tt
 left_paired n (i ∷ is) [] none = tt
@@ -212,15 +215,17 @@ right_paired n [] js none = tt
 right_paired n (i ∷ is) [] none = tt
 right_paired n (i ∷ is) (j ∷ js) none = let both = neither (eqb n j) (is_among n js) none in (both.0, right_paired n is js both.1)
 
--- nor is it a value's number where an event doesn't name it
+-- a number that isn't among these isn't among the first of them
 front_unnamed : (n : ℕ) (ms ns : List ℕ) → is_among n (ms ++ ns) ≡ false → is_among n (ms ++ []) ≡ false
 front_unnamed n [] ns none = refl
 front_unnamed n (m ∷ ms) ns none = let both = neither (eqb n m) (is_among n (ms ++ ns)) none in rw (both.0) (front_unnamed n ms ns both.1)
 
+-- so one that a question doesn't name is none of its values'
 asked_unnamed : (n : ℕ) (own : List ℕ) (r : Request) → is_among n (own ++ request_numbers r) ≡ false → is_among n (own ++ asked_numbers r) ≡ false
 asked_unnamed n own (request.Global d x) none = front_unnamed n own (d.number ∷ []) none
 asked_unnamed n own _ none = none
 
+-- nor is one that an event doesn't name
 values_unnamed : (n : ℕ) (e : Event) → is_among n (event_numbers e) ≡ false → is_among n (value_numbers e) ≡ false
 values_unnamed n (event.Ask a r own at) none = asked_unnamed n (number_if own) r none
 values_unnamed n _ none = none
@@ -247,6 +252,7 @@ is_born (payload.Exception e) = true
 is_born (payload.Traceback t) = true
 is_born _ = false
 
+-- no literal stands for one
 born_plain : (p : Payload) → is_born p ≡ true → has_literal p ≡ false
 born_plain (payload.Generator g) is = refl
 born_plain (payload.Exception e) is = refl
@@ -305,6 +311,7 @@ module _ (S S' : Relation) (objects objects' : List Payload) (more : (v w : Obj)
   module _ (es fs : List Event) (x y : Obj) (born : AreBorn S objects objects' es fs x y)
       (either : (v w : Obj) → S' v w → S v w ⊎ ((v ≡ x) × (w ≡ y)))
       (none_left : (v w : Obj) → S v w → eqb x.number v.number ≡ false) (none_right : (v w : Obj) → S v w → eqb y.number w.number ≡ false) where
+    -- the payloads of related objects are alike, those of the two, too
     payloads_grow : AreAlike S objects objects' → (v w : Obj) (p q : Payload) → S v w ⊎ ((v ≡ x) × (w ≡ y)) → HasPayload objects v p → HasPayload objects' w q → Alike S' objects objects' p q
     payloads_grow alike v w p q (inl s) has has' = alike_grows S S' more objects objects' p q (alike.payloads v w p q s has has')
     payloads_grow alike v w p q (inr (here, there)) has has' =
@@ -312,6 +319,7 @@ module _ (S S' : Relation) (objects objects' : List Payload) (more : (v w : Obj)
         let second : born.second ≡ q = same_Some born.second q (sym born.has_second ∙ subst (λ (o : Obj). HasPayload objects' o q) there has') in
         subst (λ a. Alike S' objects objects' a q) first (subst (λ b. Alike S' objects objects' born.first b) second (alike_grows S S' more objects objects' born.first born.second born.alike))
 
+    -- and two are one object on the one side where they are on the other
     one_grows : AreAlike S objects objects' → (v v2 w w2 : Obj) (p : Payload) → S v w ⊎ ((v ≡ x) × (w ≡ y)) → S v2 w2 ⊎ ((v2 ≡ x) × (w2 ≡ y)) → HasPayload objects v p → has_literal p ≡ false
         → eqb v.number v2.number ≡ eqb w.number w2.number
     one_grows alike v v2 w w2 p (inl s) (inl t) has is = alike.one v v2 w w2 p s t has is
@@ -323,6 +331,7 @@ module _ (S S' : Relation) (objects objects' : List Payload) (more : (v w : Obj)
     one_grows alike v v2 w w2 p (inr (here, there)) (inr (here2, there2)) has is =
         eq-eqb v.number v2.number (ap (λ (o : Obj). o.number) (here ∙ sym here2)) ∙ sym (eq-eqb w.number w2.number (ap (λ (o : Obj). o.number) (there ∙ sym there2)))
 
+    -- so the objects stay alike
     pub born_alike : AreAlike S objects objects' → AreAlike S' objects objects'
     born_alike alike = record {
       literals = λ p v w is has has'. more v w (alike.literals p v w is has has');
@@ -334,6 +343,7 @@ module _ (S S' : Relation) (objects objects' : List Payload) (more : (v w : Obj)
 
 -- ---- what is new is related to nothing
 
+-- what a literal stands for isn't born
 literal_unborn : (p : Payload) → has_literal p ≡ true → is_born p ≡ false
 literal_unborn payload.None is = refl
 literal_unborn (payload.Bool b) is = refl

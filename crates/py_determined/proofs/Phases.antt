@@ -51,6 +51,7 @@ module _ (plan : Plan) (objects : List Payload) where
   IsTold p (event.End a e at) = IsTop a p.state.stack
   IsTold p _ = ⊥
 
+  -- an event that is told is the innermost activation's
   pub told_top : (p : Past) (e : Event) → IsTold p e → IsTop (whose e) p.state.stack
   told_top p (event.Ask a r own at) told = told.0
   told_top p (event.Round a at) told = told
@@ -134,23 +135,27 @@ module _ (plan : Plan) (objects : List Payload) where
 
   -- ---- no literal stands for generators
 
+  -- where an activation was made, the reply that comes is its generator
   created_reply : (p : Past) (reply : Reply) (f : Obj) → p.state.phase ≡ Made f → IsAnswered plan objects p reply → (b : CoroBody) × (reply ≡ Creates b)
   created_reply p reply f made (r, open_, is) = let (kind, of_kind, same) = subst (λ x. IsReply plan objects p x r reply) made is in (_, same)
 
-  -- a generator that is created is no literal's
+  -- no literal stands for a generator that is created
   new_plain : (p : Past) (reply : Reply) (b : CoroBody) (v : Obj) → reply ≡ Creates b → GivesValue objects p.events reply v → IsPlain objects v
   new_plain p reply b v is gives = let (new, has) = subst (λ x. GivesValue objects p.events x v) is gives in (payload.Generator b, has, refl)
 
+  -- nor for what a body gets of it
   got_plain : (p : Past) (reply : Reply) (b : CoroBody) (w : GotAnswer) (v : Obj) → reply ≡ Creates b → GivesBody objects p.events reply w → value_of w ≡ Some v → IsPlain objects v
   got_plain p reply b (got.Value x) v is gives there =
       let (new, has) = subst (λ y. GivesBody objects p.events y (got.Value x)) is gives in subst (λ (z : Obj). IsPlain objects z) (same_Some x v there) (payload.Generator b, has, refl)
   got_plain p reply b (got.Stop x) v is gives there = absurd (cc there)
   got_plain p reply b (got.Raise e) v is gives there = absurd (cc there)
 
+  -- nor for what a drive returns of it
   drive_plain : (p : Past) (reply : Reply) (b : CoroBody) (w : DriveAnswer) (v : Obj) → reply ≡ Creates b → GivesDrive objects p.events reply w → returned_by w ≡ Some v → IsPlain objects v
   drive_plain p reply b (answer.Returns x) v is gives there = subst (λ (z : Obj). IsPlain objects z) (same_Some x v there) (new_plain p reply b x is gives)
   drive_plain p reply b _ v is gives there = absurd (cc there)
 
+  -- so none stands for the generators behind an event
   pub plain_next : (p : Past) (e : Event) → MayCome plan objects p e → ArePlain objects p.generators → ArePlain objects (generators_after plan p.state p.generators e)
   plain_next p (event.Drive d) may plain = plain
   plain_next p (event.Result d w) (next, alone, (reply, is, gives)) plain =

@@ -110,6 +110,7 @@ module _ (plan plan' : Plan) (objects objects' : List Payload) (may may' : May) 
         (coming : MayCome plan objects p e) (coming' : MayCome plan' objects' q f) (same : AreSame p q) where
       -- ---- the relation grows
 
+      -- the pairs of both events come behind those in front
       further : pairs_of (p.events ++ e ∷ []) (q.events ++ f ∷ []) ≡ pairs_of p.events q.events ++ (paired (value_numbers e) (value_numbers f) ++ [])
       further = pairs_on p.events q.events e f same.count
 
@@ -117,14 +118,17 @@ module _ (plan plan' : Plan) (objects objects' : List Payload) (may may' : May) 
       abbrev Then : Relation
       Then = Paired objects objects' (p.events ++ e ∷ []) (q.events ++ f ∷ [])
 
+      -- what was related stays so
       grows : (v w : Obj) → At p q v w → Then v w
       grows v w s = subst (λ ps. Related objects objects' ps v w) (sym further)
           (related_on objects objects' p.events q.events (pairs_of p.events q.events) (paired (value_numbers e) (value_numbers f) ++ []) v w s)
 
+      -- what both events name at one place is related
       joins : (v w : Obj) → IsPair (paired (value_numbers e) (value_numbers f)) v w → Then v w
       joins v w pair = subst (λ ps. Related objects objects' ps v w) (sym further)
           (inr (inr (pair_right (pairs_of p.events q.events) (paired (value_numbers e) (value_numbers f) ++ []) v w (pair_left (paired (value_numbers e) (value_numbers f)) [] v w pair))))
 
+      -- and nothing else is
       splits : (v w : Obj) → Then v w → At p q v w ⊎ IsPair (paired (value_numbers e) (value_numbers f)) v w
       splits v w s =
           let pair : IsPair (paired (value_numbers e) (value_numbers f) ++ []) v w → IsPair (paired (value_numbers e) (value_numbers f)) v w =
@@ -168,6 +172,7 @@ module _ (plan plan' : Plan) (objects objects' : List Payload) (may may' : May) 
               subst (λ l. slice_get (state_after start l).made j ≡ Some z) (sym whole)
               (subst (λ (r : State). slice_get r.made j ≡ Some z) (ap (λ r. state_after r ys) front ∙ sym (state_front start xs ys)) (made_stays s ys j z found))
 
+      -- so what it tells next does
       telling : IsTold plan objects p e → IsTold plan' objects' q f → SameTelling (At p q) e f
       telling told told' =
           let top = told_top plan objects p e told in
@@ -304,6 +309,7 @@ module _ (plan plan' : Plan) (objects objects' : List Payload) (may may' : May) 
     abbrev pub Agrees : List Event → List Event → Type 0
     Agrees es fs = SameEvents (Paired objects objects' es fs) es fs × AreAlike (Paired objects objects' es fs) objects objects'
 
+    -- more behind one of both changes nothing
     ended : (es fs more : List Event) → length es ≡ length fs → Agrees es fs → Agrees (es ++ more) fs × Agrees es (fs ++ more)
     ended es fs more count agrees =
         let pairs = pairs_end es fs more count in
@@ -312,6 +318,7 @@ module _ (plan plan' : Plan) (objects objects' : List Payload) (may may' : May) 
           subst (λ ps. SameEvents (Related objects objects' ps) es (fs ++ more) × AreAlike (Related objects objects' ps) objects objects') (sym pairs.1) (both.1, agrees.1),
         )
 
+    -- event by event, from two pasts that are the same
     agree_from : (p q : Past) (es fs : List Event) → events ≡ p.events ++ es → events' ≡ q.events ++ fs → Comes plan objects p es → Comes plan' objects' q fs → AreSame p q → Agrees events events'
     agree_from p q [] fs is is' rest rest' same =
         subst (λ l. Agrees l events') (sym (is ∙ append-nil p.events))

@@ -148,6 +148,7 @@ ArePlain objects [] = Unit {0}
 ArePlain objects (x ∷ xs) = IsPlain objects x.object × ArePlain objects xs
 
 module _ (objects : List Payload) where
+  -- they stay so where a mode changes
   pub running_plain : (a : ℕ) (xs : List Generator) → ArePlain objects xs → ArePlain objects (running_at a xs)
   running_plain a [] plain = tt
   running_plain a (x ∷ xs) plain = (pick (eqb x.act a), running_plain a xs plain.1)
@@ -396,10 +397,12 @@ module _ (S : Relation) (objects objects' : List Payload) (alike : AreAlike S ob
       pick false is rest = (same.0, rest)
   none_left e t _ _ has same = absurd same
 
+  -- what no literal stands for isn't alike to None
   not_none : (p : Payload) → has_literal p ≡ false → Alike S objects objects' p payload.None → ⊥
   not_none payload.None plain is = cc plain
   not_none _ plain is = is
 
+  -- nor do the raises change where None is told of on the other side
   none_right : (f u : Obj) (xs ys : List Raise) → HasPayload objects' f payload.None → SameRaises S objects xs ys → SameRaises S objects xs (with_traceback f u ys)
   none_right f u [] [] has same = tt
   none_right f u (x ∷ xs) (y ∷ ys) has same = pick (eqb y.exception.number f.number) refl (none_right f u xs ys has same.1)

@@ -117,9 +117,11 @@ module _ (plan plan' : Plan) (objects objects' : List Payload) (signatures : pla
   abbrev Next : Event → Event → Type 0
   Next e f = AreNext S objects objects' p q e f
 
+  -- what holds of events holds of those that are equal to them
   moved : (e e' f f' : Event) → e ≡ e' → f ≡ f' → Next e' f' → Next e f
   moved e e' f f' is is' next = subst (λ x. Next x f) (sym is) (subst (λ y. Next e' y) (sym is') next)
 
+  -- where an activation runs in the one run, some runs in the other
   top_alone : (a : ℕ) (stack stack' : List Act) → SameActs S stack stack' → IsTop a stack → stack' ≡ [] → ⊥
   top_alone a [] stack' s top alone = top
   top_alone a (x ∷ stack) [] s top alone = s
@@ -203,6 +205,7 @@ module _ (plan plan' : Plan) (objects objects' : List Payload) (signatures : pla
 
     -- ---- functions
 
+    -- related functions are one, and of one kind
     function_same : (f g : Obj) (k k' : Option CoroKind) (is : IsOfKind plan objects f k) (is' : IsOfKind plan' objects' g k') → S f g → (is.body ≡ is'.body) × (k ≡ k')
     function_same f g k k' is is' s =
         let body : is.body ≡ is'.body = alike.payloads f g (payload.Function is.body) (payload.Function is'.body) s is.entry is'.entry in
@@ -211,6 +214,7 @@ module _ (plan plan' : Plan) (objects objects' : List Payload) (signatures : pla
         let same : is.signature ≡ is'.signature = same_Some is.signature is'.signature (sym there ∙ is'.signed) in
         (body, sym is.kind_is ∙ ap (λ (x : Signature). x.kind) same ∙ is'.kind_is)
 
+    -- so calls of them make the same generator
     generator_same : (f g : Obj) (x y : Reply) → S f g → MakesGenerator plan objects f (length p.state.made) x → MakesGenerator plan' objects' g (length q.state.made) y → SameReply S x y
     generator_same f g x y s (k, is, made) (k', is', made') =
         let both = function_same f g (Some k) (Some k') is is' s in
@@ -259,6 +263,7 @@ module _ (plan plan' : Plan) (objects objects' : List Payload) (signatures : pla
 
     -- ---- what is told
 
+    -- two None are related
     none_same : (v w : Obj) → HasPayload objects v payload.None → HasPayload objects' w payload.None → S v w
     none_same v w has has' = alike.literals payload.None v w refl has has'
 
@@ -270,6 +275,7 @@ module _ (plan plan' : Plan) (objects objects' : List Payload) (signatures : pla
     raise_told _ _ t u s is is' = absurd s
 
     module _ (raises : SameRaises S objects (raises_of p.events) (raises_of q.events)) where
+      -- two exits of related exceptions are told related tracebacks, or new ones; or both are told of None
       exit_told : (m m' c c' e e' t t' : Obj) → S e e' → Tells objects p.events (raises_of p.events) (request.Exit m c e t) → Tells objects' q.events (raises_of q.events) (request.Exit m' c' e' t')
           → Given t t' × IsToldRight objects objects' (request.Exit m c e t) (request.Exit m' c' e' t')
       exit_told m m' c c' e e' t t' s (inl none) (inl none') = (inl (none_same t t' none.2 none'.2), inr (none.1, none'.1))

@@ -57,6 +57,7 @@ entering_positive b xs (request.Throw g k v t) are is = subst (λ n. 0 < n) is.a
 entering_positive b xs (request.Close g) are is = subst (λ n. 0 < n) is.act (positive_found g xs is.generator are is.found)
 entering_positive b xs _ are is = absurd is
 
+-- an activation that is entered has a number from 1 on
 resumed_positive : (plan : Plan) (p : Past) (b : ℕ) → IsPositive p → IsResumed plan p b → 0 < b
 resumed_positive plan p b n (inl (f, made, last)) = subst (λ m. 0 < m) (sym last) (n.made f made)
 resumed_positive plan p b n (inr (asks, (r, open_, is))) = entering_positive b p.generators r n.generators is
@@ -136,6 +137,7 @@ pub record AreFound (S : Relation) (xs ys : List Activation) (i : ℕ) : Type 0 
   pub is_second : slice_get ys i ≡ Some second
   pub same : SameActivation S first second
 
+-- each number below the count has one on both sides
 pub both_found : (S : Relation) (xs ys : List Activation) (i : ℕ) → i < length xs → SameActivations S xs ys → AreFound S xs ys i
 both_found S [] ys i within s = absurd (omega (arith, within))
 both_found S (x ∷ xs) (y ∷ ys) zero within s = record { first = x; second = y; is_first = refl; is_second = refl; same = s.0 }
@@ -154,12 +156,14 @@ IsTelling (event.End a e at) = Unit {0}
 IsTelling _ = ⊥
 
 module _ (S : Relation) where
+  -- an event that no activation tells or hears adds nothing
   told_none : (b c : Bool) (ts us : List Own) → Agree S (own_if b [] ++ ts) (own_if c [] ++ us) → Agree S ts us
   told_none true true ts us agree = agree
   told_none true false ts us agree = agree
   told_none false true ts us agree = agree
   told_none false false ts us agree = agree
 
+  -- one that an activation tells or hears adds to both sides, or to neither
   told_one : (b c : Bool) (t u : Own) (ts us : List Own) → b ≡ c → (Agree S (t ∷ ts) (u ∷ us) → Agree S ts us) → Agree S (own_if b (t ∷ []) ++ ts) (own_if c (u ∷ []) ++ us) → Agree S ts us
   told_one true true t u ts us e on agree = on agree
   told_one false false t u ts us e on agree = agree
@@ -207,6 +211,7 @@ module _ (S : Relation) where
   SameTelling (event.End a e at) (event.End b f at') = SameEnding S e f
   SameTelling _ _ = ⊥
 
+  -- where all that is told agrees, what is told first does
   pub telling_same : (j : ℕ) (e f : Event) (ts us : List Own) → IsTelling e → IsTelling f → Agree S (own_of j e ++ ts) (own_of j f ++ us) → SameTelling e f
   telling_same j (event.Ask a r own at) (event.Ask b r' own' at') ts us told told' agree = (agree.0, agree.1)
   telling_same j (event.Round a at) (event.Round b at') ts us told told' agree = tt
