@@ -8,7 +8,7 @@ use Rattle.py_objects.specs.Objects.{Obj}
 use Rattle.py_agreement.specs.Agreement.{Relation}
 use Rattle.py_determined.specs.Alike.{AreAlike}
 use Rattle.py_determined.specs.Events.{SameEvent, SameEvents}
-use Rattle.py_determined.specs.Related.{pairs_of, Related}
+use Rattle.py_determined.specs.Related.{Paired}
 use Rattle.py_meaning.specs.Compared.{AreRuns, Gets, NoOtherAnswer, NoOtherOrder, NoOtherIdentity}
 use Rattle.py_meaning.proofs.ScriptsAgree.{scripts_agree}
 
@@ -25,7 +25,7 @@ same_at S (x ∷ es) (y ∷ fs) (suc i) e f same at at' = same_at S es fs i e f 
 module _ (objects objects' : List Payload) (events events' : List Event) (are : AreRuns objects objects' events events') where
   -- which objects the two runs relate
   abbrev S : Relation
-  S = Related objects objects' (pairs_of events events')
+  S = Paired objects objects' events events'
 
   same : SameEvents S events events'
   same = (scripts_agree are.decls are.drives are.earlier objects objects' events events' are.run are.run').0

@@ -9,7 +9,7 @@ use Rattle.py_grammar.specs.Script.{decls_of}
 use Rattle.py_vm.specs.declared.journal.Journal.{Journal}
 use Rattle.py_determined.specs.Alike.{AreAlike}
 use Rattle.py_determined.specs.Events.{SameEvents}
-use Rattle.py_determined.specs.Related.{pairs_of, Related}
+use Rattle.py_determined.specs.Related.{Paired}
 use Rattle.py_determined.proofs.RunsAgree.{runs_agree}
 use Rattle.py_meaning.specs.Earlier.{NameEarlier}
 use Rattle.py_meaning.specs.Whole.{IsRunOf, IsRunFrom, IsWholeFrom, IsUnfinishedFrom, Traces, plan_of}
@@ -25,7 +25,7 @@ unchanged_text j none = ap (λ (cs : List Change). events_text j.objects cs j.ev
 -- two runs of the same declarations and drives
 module _ (decls : List Decl) (drives : List DriveLine) (earlier : NameEarlier drives) (objects objects' : List Payload) (events events' : List Event)
     (run : IsRunOf decls drives objects events) (run' : IsRunOf decls drives objects' events') where
-  pub scripts_agree : SameEvents (Related objects objects' (pairs_of events events')) events events' × AreAlike (Related objects objects' (pairs_of events events')) objects objects'
+  pub scripts_agree : SameEvents (Paired objects objects' events events') events events' × AreAlike (Paired objects objects' events events') objects objects'
   scripts_agree =
       runs_agree (plan_of (functions_in decls) run.asked) (plan_of (functions_in decls) run'.asked) objects objects' (Traces (functions_in decls) run.globals objects) (Traces (functions_in decls) run'.globals objects')
       events events' (record {
@@ -46,19 +46,19 @@ unfinished_runs bytes j (s, is, run, not_whole) = (s, is, run)
 module _ (bytes : List ℕ) (j j' : Journal) where
   -- two runs of it have the same events, as far as both go
   pub runs_agree_from : IsRunFrom bytes j → IsRunFrom bytes j'
-      → SameEvents (Related j.objects j'.objects (pairs_of j.events j'.events)) j.events j'.events × AreAlike (Related j.objects j'.objects (pairs_of j.events j'.events)) j.objects j'.objects
+      → SameEvents (Paired j.objects j'.objects j.events j'.events) j.events j'.events × AreAlike (Paired j.objects j'.objects j.events j'.events) j.objects j'.objects
   runs_agree_from (s, is, run) (t, is', run') =
       scripts_agree (decls_of s) s.drives (script_earlier bytes s is) j.objects j'.objects j.events j'.events run.run (run_of bytes s t j' is is' run')
 
   -- one that isn't whole is shorter than a whole one
   pub shorter : IsWholeFrom bytes j → IsUnfinishedFrom bytes j' → length j'.events < length j.events
   shorter whole unfinished =
-      unfinished_shorter (Related j.objects j'.objects (pairs_of j.events j'.events)) bytes j j' (runs_agree_from (whole_runs bytes j whole) (unfinished_runs bytes j' unfinished)).0 whole unfinished
+      unfinished_shorter (Paired j.objects j'.objects j.events j'.events) bytes j j' (runs_agree_from (whole_runs bytes j whole) (unfinished_runs bytes j' unfinished)).0 whole unfinished
 
   -- none is longer than a whole one
   pub never_longer : IsWholeFrom bytes j → IsRunFrom bytes j' → length j'.events ≤ length j.events
   never_longer whole run =
-      no_longer (Related j.objects j'.objects (pairs_of j.events j'.events)) bytes j j' (runs_agree_from (whole_runs bytes j whole) run).0 whole run
+      no_longer (Paired j.objects j'.objects j.events j'.events) bytes j j' (runs_agree_from (whole_runs bytes j whole) run).0 whole run
 
   -- two of as many events have one text
   pub same_text : IsRunFrom bytes j → IsRunFrom bytes j' → length j.events ≡ length j'.events → text_of j ≡ text_of j'
@@ -67,7 +67,7 @@ module _ (bytes : List ℕ) (j j' : Journal) where
       let (s, is, ran) = run in
       let (t, is', ran') = run' in
       unchanged_text j ran.unchanged
-      ∙ (texts_agree (Related j.objects j'.objects (pairs_of j.events j'.events)) j.objects j'.objects alike ran.run.are_objects.fit ran'.run.are_objects.fit j.events j'.events count same ran.run.run.named ran'.run.run.named
+      ∙ (texts_agree (Paired j.objects j'.objects j.events j'.events) j.objects j'.objects alike ran.run.are_objects.fit ran'.run.are_objects.fit j.events j'.events count same ran.run.run.named ran'.run.run.named
       ∙ sym (unchanged_text j' ran'.unchanged))
 
 module _ (bytes : List ℕ) (j j' : Journal) (whole : IsWholeFrom bytes j) (whole' : IsWholeFrom bytes j') where

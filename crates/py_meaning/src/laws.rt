@@ -8,7 +8,7 @@ ghost use Rattle.py_grammar.specs.Grammar.{Decl};
 ghost use Rattle.py_vm.specs.declared.journal.Journal.{Journal};
 ghost use Rattle.py_determined.specs.Alike.{AreAlike};
 ghost use Rattle.py_determined.specs.Events.{SameEvents};
-ghost use Rattle.py_determined.specs.Related.{Related, pairs_of};
+ghost use Rattle.py_determined.specs.Related.{Paired};
 ghost use Rattle.py_meaning.specs.Earlier.{NameEarlier};
 ghost use Rattle.py_meaning.specs.Whole.{IsRunFrom, IsRunOf, IsUnfinishedFrom, IsWholeFrom};
 ghost use Rattle.py_meaning.specs.Text.{text_of};
@@ -18,10 +18,10 @@ ghost use Rattle.py_meaning.specs.Text.{text_of};
 /// one literal may stand for, that are declared under one name, or that the events name at one place; and these are alike. So where the script that
 /// bytes are has a whole run, no other is longer, and one that isn't whole is shorter; runs of as many events have one text, and so have all whole ones.
 pub fn laws_of_scripts()
-    ensures same { (decls : List Decl) (drives : List DriveLine) (objects objects' : List Payload) (events events' : List Event) → NameEarlier drives → IsRunOf decls drives objects events → IsRunOf decls drives objects' events' → SameEvents (Related objects objects' (pairs_of events events')) events events' }
-    ensures alike { (decls : List Decl) (drives : List DriveLine) (objects objects' : List Payload) (events events' : List Event) → NameEarlier drives → IsRunOf decls drives objects events → IsRunOf decls drives objects' events' → AreAlike (Related objects objects' (pairs_of events events')) objects objects' }
+    ensures same { (decls : List Decl) (drives : List DriveLine) (objects objects' : List Payload) (events events' : List Event) → NameEarlier drives → IsRunOf decls drives objects events → IsRunOf decls drives objects' events' → SameEvents (Paired objects objects' events events') events events' }
+    ensures alike { (decls : List Decl) (drives : List DriveLine) (objects objects' : List Payload) (events events' : List Event) → NameEarlier drives → IsRunOf decls drives objects events → IsRunOf decls drives objects' events' → AreAlike (Paired objects objects' events events') objects objects' }
     // Of journals of the script that bytes are.
-    ensures journals { (bytes : List ℕ) (j j' : Journal) → IsRunFrom bytes j → IsRunFrom bytes j' → SameEvents (Related j.objects j'.objects (pairs_of j.events j'.events)) j.events j'.events × AreAlike (Related j.objects j'.objects (pairs_of j.events j'.events)) j.objects j'.objects }
+    ensures journals { (bytes : List ℕ) (j j' : Journal) → IsRunFrom bytes j → IsRunFrom bytes j' → SameEvents (Paired j.objects j'.objects j.events j'.events) j.events j'.events × AreAlike (Paired j.objects j'.objects j.events j'.events) j.objects j'.objects }
     ensures shorter { (bytes : List ℕ) (j j' : Journal) → IsWholeFrom bytes j → IsUnfinishedFrom bytes j' → length j'.events < length j.events }
     ensures never_longer { (bytes : List ℕ) (j j' : Journal) → IsWholeFrom bytes j → IsRunFrom bytes j' → length j'.events ≤ length j.events }
     ensures as_long { (bytes : List ℕ) (j j' : Journal) → IsWholeFrom bytes j → IsWholeFrom bytes j' → length j.events ≡ length j'.events }
