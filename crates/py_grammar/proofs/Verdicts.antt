@@ -1,5 +1,5 @@
 -- The verdict of the reader is the grammar's, and there is one.
-use Rattle.std.proofs.Common.{◌≡◌, ◌≤◌, ◌⊎◌, inl, inr, ℕ, suc, List, [], ◌∷◌, ◌++◌, length, Option, Some, None, refl, sym, ap, ◌∙◌, append_assoc, append-nil, subst}
+use Rattle.std.proofs.Common.{◌≡◌, ◌⊎◌, inl, inr, ℕ, suc, List, [], ◌∷◌, ◌++◌, length, Option, Some, None, refl, sym, ap, ◌∙◌, append_assoc, append-nil, subst}
 use Rattle.std.specs.Prelude.{IsOk}
 use Rattle.std.specs.declared.result.Result.{Result}
 use Rattle.std.specs.declared.result.Result.TheVariants.{Ok, Err}
@@ -13,8 +13,6 @@ use Rattle.py_grammar.specs.Lines.{lines}
 use Rattle.py_grammar.specs.Script.{Text, Spells, Begins, IsFirstBad, IsLeftOpen, IsBadLine, IsScript, decls_of}
 use Rattle.py_grammar.specs.Reader.{Open, State, state, start, takes_line, at_end, Verdict, Good, Bad, Goes, WalksTo}
 use Rattle.py_grammar.specs.Reading.{IsAnswerTo}
-use Rattle.py_grammar.specs.WellFormed.{IsWellFormed}
-use Rattle.py_grammar.proofs.Keeps.{script_keeps}
 use Rattle.py_grammar.proofs.LineReads.{after, after-append, after-one}
 use Rattle.py_grammar.proofs.Begun.{Been, BeenTo, been_start, one_line, been_spells, begins_at, begins, as_lines, script_read, refused, as_bytes, begins_fewer}
 use Rattle.py_grammar.proofs.Walks.{walked}
@@ -100,10 +98,6 @@ script_or_bad some bytes = let w = walked some (lines bytes) 1 start in go w.0 (
 -- from the answer of the reader to that of the grammar
 pub answer_ok : (bytes : List ℕ) (r : Result Script ParseFault) (s : Script) → IsAnswerTo (lines bytes) r → r ≡ Ok s → IsScript bytes s
 answer_ok bytes r s v e = verdict_true (lines bytes) (Good (decls_of s) s.drives) (subst (IsAnswerTo (lines bytes)) e v)
-
-pub answer_well_formed : (bytes : List ℕ) (r : Result Script ParseFault) (s : Script) → length bytes ≤ 1048576 → IsAnswerTo (lines bytes) r → r ≡ Ok s
-    → IsWellFormed s
-answer_well_formed bytes r s few v e = script_keeps bytes s few (answer_ok bytes r s v e)
 
 pub answer_malformed : (bytes : List ℕ) (r : Result Script ParseFault) → IsAnswerTo (lines bytes) r → (k : ℕ) → r ≡ Err (Malformed k) → IsBadLine bytes k
 answer_malformed bytes r v k e = verdict_true (lines bytes) (Bad k) (subst (IsAnswerTo (lines bytes)) e v)
