@@ -11,9 +11,7 @@ use Rattle.py_lines.specs.declared.line.Line.TheVariants as line
 use Rattle.py_lines.specs.declared.plain.Plain.{Plain}
 use Rattle.py_lines.specs.declared.plain.Plain.TheVariants as plain
 use Rattle.py_grammar.specs.declared.rules.Inside.{Inside}
-use Rattle.py_grammar.specs.declared.script.Kind.{Kind}
-use Rattle.py_grammar.specs.declared.script.Kind.TheVariants as kind
-use Rattle.py_grammar.specs.Rules.{Declared, may_declare, may_derive, may_drive, may_manage, body_of, within, may_hold, may_open}
+use Rattle.py_grammar.specs.Rules.{Kind, OfClass, OfManager, OfFunction, Declared, may_declare, may_derive, may_drive, may_manage, body_of, within, may_hold, may_open}
 
 -- a declaration: a class by its name and its base, a manager by its name, its enter and its exit, or a function
 pub data Decl : Type 0 where
@@ -27,9 +25,9 @@ decl_name (ManagerDecl m e x) = m
 decl_name (FunctionDecl t) = t.name
 
 abbrev pub decl_kind : Decl → Kind
-decl_kind (ClassDecl c b) = kind.Class
-decl_kind (ManagerDecl m e x) = kind.Manager
-decl_kind (FunctionDecl t) = kind.Function
+decl_kind (ClassDecl c b) = OfClass
+decl_kind (ManagerDecl m e x) = OfManager
+decl_kind (FunctionDecl t) = OfFunction
 
 -- the functions among declarations
 abbrev pub functions_in : List Decl → List Tree

@@ -18,10 +18,12 @@ use Rattle.py_lines.specs.declared.head.Head.TheVariants as head
 use Rattle.py_lines.specs.declared.plain.Plain.{Plain}
 use Rattle.py_lines.specs.declared.plain.Plain.TheVariants as plain
 use Rattle.py_grammar.specs.declared.rules.Inside.{Inside}
-use Rattle.py_grammar.specs.declared.script.Kind.{Kind}
-use Rattle.py_grammar.specs.declared.script.Kind.TheVariants as kind
 
 -- ---- what was declared before
+
+-- what a declaration declares: a class, a manager, or a function, also one whose calls make generators
+pub data Kind : Type 0 where
+  OfClass OfManager OfFunction : Kind
 
 -- a declaration by what later lines ask of it
 pub record Declared : Type 0 where
@@ -40,14 +42,14 @@ abbrev pub declares : Name → List Declared → Bool
 declares x ds = list_any (λ d. bytes_eq x d.name) ds
 
 abbrev pub is_callable : Kind → Bool
-is_callable kind.Class = false
-is_callable kind.Manager = false
-is_callable kind.Function = true
+is_callable OfClass = false
+is_callable OfManager = false
+is_callable OfFunction = true
 
 abbrev pub is_class : Kind → Bool
-is_class kind.Class = true
-is_class kind.Manager = false
-is_class kind.Function = false
+is_class OfClass = true
+is_class OfManager = false
+is_class OfFunction = false
 
 -- whether what is declared under a name can be called
 abbrev pub declares_callable : Name → List Declared → Bool

@@ -14,5 +14,5 @@ mod worked;
 pub use fault::ParseFault;
 pub use parse::{one_script, parse_script};
 pub use py_lines::{DriveAtom, DriveAtomList, DriveLine};
-pub use script::{DeclList, Declaration, DriveList, Kind, Script};
+pub use script::{DeclList, Declaration, DriveList, Script};
 pub use worked::worked_scripts;

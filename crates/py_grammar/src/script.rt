@@ -8,17 +8,6 @@ use py_code::{ItemList, PyText};
 use py_lines::DriveLine;
 use py_tree::Body;
 
-/// What a declaration declares.
-#[derive(Clone, Copy, Debug, PartialEq, Eq)]
-pub enum Kind {
-    /// `class`: an exception class.
-    Class,
-    /// `manager`: what a `with` enters and leaves.
-    Manager,
-    /// `def` or `gen`: a function, or one whose calls make generators.
-    Function,
-}
-
 /// What a script declares.
 #[derive(Debug, Drop)]
 pub enum Declaration {
