@@ -1,12 +1,12 @@
 //! The body that is open while its lines are read, with the blocks that are open in it.
 //! A block lies on a stack until its `end`, so that no line walks over what was read before it.
 
-ghost use Rattle.std.specs.Prelude.{◌≡◌, IfOk, option_map, Some};
+ghost use Rattle.std.specs.Prelude.{◌≡◌, IfOk, option_map};
 ghost use Rattle.std.specs.List.{list_any};
 ghost use Rattle.py_tree.specs.Views.{clauses_of, form_of, suite_of};
-ghost use Rattle.py_lines.specs.declared.line.Line.TheVariants.{Plain as PlainLine, Opens as OpensLine, Turns as TurnsLine};
+ghost use Rattle.py_lines.specs.declared.line.Line.TheVariants.{Plain as PlainLine, Opens as OpensLine};
 ghost use Rattle.py_grammar.specs.Rules.{is_loop as is_loop_head};
-ghost use Rattle.py_grammar.specs.Reader.{began, closed, deeper, else_behind, ended, except_behind, finally_behind, goes_on, grown, inside as is_inside, only_if, opened, opener, plain_form, turned, turned_by};
+ghost use Rattle.py_grammar.specs.Reader.{began, closed, else_behind, ended, except_behind, finally_behind, goes_on, inside as is_inside, opened, opener, plain_form, turned, turned_by};
 ghost use Rattle.py_tree.specs.Suites.{with_clause as is_with_clause};
 ghost use Rattle.py_grammar.specs.Reading.{began_of, closing_of, open_of};
 
