@@ -1,7 +1,7 @@
 -- how bytes are cut into lines
 mod Cuts
 -- what tables of names have
-mod Tables
+pub mod Tables
 -- the program's reader by the definitions'
 mod Stacks
 mod OpenNames

@@ -22,6 +22,7 @@ use Rattle.py_tree.specs.Tree.{Tree}
 use Rattle.py_grammar.specs.Grammar.{Decl, ClassDecl, ManagerDecl, FunctionDecl, decl_name, functions_in}
 use Rattle.py_grammar.specs.Rules.{is_builtin_class}
 use Rattle.py_grammar.specs.WellFormed.{IsFunction, IsFunctionNamed, IsClass, IsClassNamed, IsFounded, IsKnown}
+use Rattle.py_grammar.proofs.Tables.{functions_in-append}
 use Rattle.py_vm.specs.Declaring.{IsAddable}
 use Rattle.py_meaning.specs.Whole.{HasFunction, HasClass, HasManager, IsBuiltinClass, IsDeclaredFunction, IsDeclaredClass, IsDeclaredManager, AreObjects}
 use Rattle.py_meaning.specs.Entries.{AreWellDeclared, IsNamed, AreDeclared, IsFoundedOn, IsEntryOf}
@@ -35,13 +36,6 @@ one_more [] y x zero h = inr (refl, cc h)
 one_more [] y x (suc i) h = absurd (cc h)
 one_more (z ∷ xs) y x zero h = inl h
 one_more (z ∷ xs) y x (suc i) h = elim (one_more xs y x i h) [ inl old ↦ inl old | inr new ↦ inr (ap suc new.0, new.1) ]
-
--- the functions of declarations are those of the first and of the others
-pub functions_append : (ds es : List Decl) → functions_in (ds ++ es) ≡ functions_in ds ++ functions_in es
-functions_append [] es = refl
-functions_append (ClassDecl c b ∷ ds) es = functions_append ds es
-functions_append (ManagerDecl m e x ∷ ds) es = functions_append ds es
-functions_append (FunctionDecl t ∷ ds) es = ap (λ ts. t ∷ ts) (functions_append ds es)
 
 -- a function that is declared has its place among the functions
 function_place : (ds : List Decl) (k : ℕ) (t : Tree) → slice_get ds k ≡ Some (FunctionDecl t) → (i : ℕ) × (slice_get (functions_in ds) i ≡ Some t)
@@ -407,10 +401,10 @@ module _ (ds : List Decl) (objects : List Payload) (d : Decl) (p : Payload) (nex
 
   old_function : (f : Obj) (b : FunctionBody) → IsDeclaredFunction ds objects f b → IsDeclaredFunction all more f b
   old_function f b (t, at, named, found) =
-      (t, ap (λ (ts : List Tree). slice_get ts b.code) (functions_append ds (d ∷ [])) ∙ slice_get_grown (functions_in ds) (functions_in (d ∷ [])) b.code t at, named, declared_grown objects more t.name f grows found)
+      (t, ap (λ (ts : List Tree). slice_get ts b.code) (functions_in-append ds (d ∷ [])) ∙ slice_get_grown (functions_in ds) (functions_in (d ∷ [])) b.code t at, named, declared_grown objects more t.name f grows found)
 
   new_function : (b : FunctionBody) → (t : Tree) × (slice_get (functions_in ds ++ functions_in (d ∷ [])) b.code ≡ Some t) × (b.name ≡ t.name) × (declared more t.name ≡ Some last) → IsDeclaredFunction all more last b
-  new_function b (t, at, named, found) = (t, ap (λ (ts : List Tree). slice_get ts b.code) (functions_append ds (d ∷ [])) ∙ at, named, found)
+  new_function b (t, at, named, found) = (t, ap (λ (ts : List Tree). slice_get ts b.code) (functions_in-append ds (d ∷ [])) ∙ at, named, found)
 
   old_class : (c : Obj) → IsBuiltinClass objects c ⊎ IsDeclaredClass ds objects c → IsBuiltinClass more c ⊎ IsDeclaredClass all more c
   old_class c (inl (kind, found)) = inl (kind, declared_grown objects more (name_of kind) c grows found)
@@ -422,7 +416,7 @@ module _ (ds : List Decl) (objects : List Payload) (d : Decl) (p : Payload) (nex
   -- the objects of all declarations
   pub next_objects : AreObjects all more
   next_objects = record {
-    functions = λ i t at. function_added i t d refl next.entry is_last (ap (λ (ts : List Tree). slice_get ts i) (sym (functions_append ds (d ∷ []))) ∙ at);
+    functions = λ i t at. function_added i t d refl next.entry is_last (ap (λ (ts : List Tree). slice_get ts i) (sym (functions_in-append ds (d ∷ []))) ∙ at);
     classes = λ i c b at. elim (one_more ds d (ClassDecl c b) i at) [
       | inl old ↦ class_grows objects more c b grows (next.are.classes i c b old)
       | inr new ↦ class_added c b (subst (λ (e : Decl). IsEntryOf objects (length (functions_in ds)) e p) new.1 next.entry) (subst (λ (e : Decl). declared more (decl_name e) ≡ Some last) new.1 is_last)

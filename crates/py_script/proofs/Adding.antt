@@ -12,6 +12,7 @@ use Rattle.py_grammar.specs.declared.script.Declaration.TheVariants.{Class, Mana
 use Rattle.py_grammar.specs.Grammar.{Decl, decl_name, functions_in}
 use Rattle.py_grammar.specs.Script.{decl_of}
 use Rattle.py_grammar.specs.WellFormed.{IsWellDeclared}
+use Rattle.py_grammar.proofs.Tables.{functions_in-append}
 use Rattle.py_vm.specs.First.{first_objects}
 use Rattle.py_vm.specs.Machine.{Machine}
 use Rattle.py_meaning.specs.Whole.{AreObjects}
@@ -19,7 +20,7 @@ use Rattle.py_meaning.specs.Entries.{AreWellDeclared, IsFoundedOn, IsEntryOf}
 use Rattle.py_script.specs.Loaded.{HasNone, HasObjects}
 use Rattle.py_meaning.proofs.Behind.{none_declared}
 use Rattle.py_script.proofs.Declarations.{entry_mapped, entry_read, front_more}
-use Rattle.py_meaning.proofs.Entries.{MayBeAdded, entry_added, founded, functions_append, new_name, one_declared}
+use Rattle.py_meaning.proofs.Entries.{MayBeAdded, entry_added, founded, new_name, one_declared}
 
 -- a declaration that is no function's has no code
 pub no_function : (d : Declaration) → ((b : Body) → d ≡ Function b → ⊥) → functions_in (decl_of d ∷ []) ≡ []
@@ -40,14 +41,14 @@ module _ (ds : List Declaration) (i : ℕ) (d : Declaration) (low : i < length d
 
   -- the functions up to it
   pub functions_more : functions_in (map decl_of (take (i + 1) ds)) ≡ functions_in front ++ functions_in (decl_of d ∷ [])
-  functions_more = ap functions_in (front_more decl_of ds i d low is) ∙ functions_append front (decl_of d ∷ [])
+  functions_more = ap functions_in (front_more decl_of ds i d low is) ∙ functions_in-append front (decl_of d ∷ [])
 
   -- they are no more than all
   pub few_functions : length (functions_in front) + length (functions_in (decl_of d ∷ [])) ≤ length (functions_in (map decl_of ds))
   few_functions =
       let whole : functions_in (map decl_of ds) ≡ functions_in (map decl_of (take (i + 1) ds)) ++ functions_in (map decl_of (drop (i + 1) ds)) =
       ap (λ (xs : List Declaration). functions_in (map decl_of xs)) (sym (take-append-drop (i + 1) ds))
-      ∙ (ap functions_in (map-append decl_of (take (i + 1) ds) (drop (i + 1) ds)) ∙ functions_append (map decl_of (take (i + 1) ds)) (map decl_of (drop (i + 1) ds))) in
+      ∙ (ap functions_in (map-append decl_of (take (i + 1) ds) (drop (i + 1) ds)) ∙ functions_in-append (map decl_of (take (i + 1) ds)) (map decl_of (drop (i + 1) ds))) in
       let some = ap length whole ∙ length-append (functions_in (map decl_of (take (i + 1) ds))) (functions_in (map decl_of (drop (i + 1) ds))) in
       let first = ap length functions_more ∙ length-append (functions_in front) (functions_in (decl_of d ∷ [])) in
       omega (arith, some, first)
