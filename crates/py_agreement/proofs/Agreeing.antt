@@ -15,7 +15,7 @@ use Rattle.py_objects.specs.declared.event.ResumeHow.TheVariants as how
 use Rattle.py_objects.specs.declared.event.Ending.{Ending}
 use Rattle.py_objects.specs.declared.event.Ending.TheVariants as ending
 use Rattle.py_objects.specs.Objects.{Obj, as_exception, as_object, class_object}
-use Rattle.py_objects.specs.Callees.{send_request, throw_request, close_request, builtin_of, own_request, or_call, call_request}
+use Rattle.py_objects.specs.Callees.{send_request, throw_request, close_request, builtin_of, own_request, or_call, call_request, is_manager}
 use Rattle.py_objects.specs.Own.{Own, Makes, Resumes, Ends}
 use Rattle.py_objects.specs.Telling.{Given, Failed, Stopped, AfterValue, IsLiteral, Rounded}
 use Rattle.py_tree.specs.declared.expr.Atom.{Atom}
@@ -27,7 +27,7 @@ use Rattle.py_tree.specs.declared.expr.Operation.TheVariants as operation
 use Rattle.py_tree.specs.Tree.{Name, Form, Assign, Do, Show, Return, Raise, Reraise, Break, Continue, Pass, If, IfElse, While, TryExcept, TryFinally, With as WithForm, Suite, nothing, first, Clauses, no_more, clause, Tree}
 use Rattle.py_tree.specs.Binding.{Env, find_local, set_local, bind, locals_of}
 use Rattle.py_tree.specs.Scene.{Scene}
-use Rattle.py_tree.specs.Outcome.{Outcome, Normal, Breaks, Continues, Returns, Raises, Cut, Handled, After, Runner, With, Use, By_truth, Requests, throws, Named, Loads, LoadsAll, RequestsTwo, Calls, Operates, Evaluates, Tests, Chooses, On_normal, On_turn, On_raise, behind, Behind_finally, On_finally, Finally, Forgets, Handles, Loops, is_manager, Leaves, LeavesBy, On_exit, Manages, Reraises, Runs, RunsSuite, Tries}
+use Rattle.py_tree.specs.Outcome.{Outcome, Normal, Breaks, Continues, Returns, Raises, Cut, Handled, After, Runner, With, Use, By_truth, Requests, throws, Named, Loads, LoadsAll, RequestsTwo, Calls, Operates, Evaluates, Tests, Chooses, On_normal, On_turn, On_raise, behind, Behind_finally, On_finally, Finally, Forgets, Handles, Loops, Leaves, LeavesBy, On_exit, Manages, Reraises, Runs, RunsSuite, Tries}
 use Rattle.py_tree.specs.Trace.{Ended, EndsBy, Entered, IsBegun, IsTrace}
 use Rattle.py_agreement.specs.Agreement.{Relation, SameException, SameMaybe, SameHandled, SameAll, SameRequest, SameHow, SameEnding, Agree, SameEnv, has_literal, IsFaithful}
 use Rattle.py_agreement.proofs.AgreementLemmas.{Agreeing, left_ends, right_ends, both_tell, cut_agree, ValuesAgree, asked_agree, yielded_agree, rounded_agree, find_same, set_same, bind_same, begun_same}

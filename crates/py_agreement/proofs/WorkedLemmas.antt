@@ -7,11 +7,10 @@ use Rattle.std.proofs.lemmas.Slice.Eq.{bytes_eq-Decides}
 use Rattle.py_objects.specs.declared.payload.Payload.{Payload}
 use Rattle.py_objects.specs.declared.payload.Payload.TheVariants as payload
 use Rattle.py_objects.specs.declared.payload.ExceptionBody.{ExceptionBody}
-use Rattle.py_objects.specs.Callees.{builtin_of}
+use Rattle.py_objects.specs.Callees.{builtin_of, is_manager}
 use Rattle.py_objects.specs.Objects.{Obj, HasPayload, as_exception, as_object}
 use Rattle.py_objects.specs.Growth.{Grows}
 use Rattle.py_objects.specs.Values.{both}
-use Rattle.py_tree.specs.Outcome.{is_manager}
 use Rattle.py_objects.proofs.GrowthLemmas.{payload_grown}
 use Rattle.py_agreement.specs.Agreement.{by_test, has_literal}
 use Rattle.py_agreement.specs.Worked.{same_literal, is_like, NoOperandsSwapped, NoOtherShown, NoOtherHandled, NoQuestionForEnd, NoOtherEnd, NothingBehindAnswers, NumbersAreFree, ScenesAreFaithful}

@@ -15,10 +15,10 @@ use Rattle.py_objects.specs.declared.event.Ending.{Ending}
 use Rattle.py_objects.specs.declared.event.Ending.TheVariants as ending
 use Rattle.py_objects.specs.Objects.{Obj, HasPayload, as_object, class_object}
 use Rattle.py_objects.specs.Own.{Own, Makes, Resumes, Asks, Gets, Rounds, Yields, Ends}
-use Rattle.py_objects.specs.Callees.{builtin_of}
+use Rattle.py_objects.specs.Callees.{builtin_of, is_manager}
 use Rattle.py_tree.specs.Binding.{Env}
 use Rattle.py_tree.specs.Scene.{Scene}
-use Rattle.py_tree.specs.Outcome.{Handled, is_manager}
+use Rattle.py_tree.specs.Outcome.{Handled}
 
 -- which objects of two runs are related: the first one is of the one run, the second one of the other
 abbrev pub Relation : Type 1

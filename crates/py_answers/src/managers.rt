@@ -2,7 +2,8 @@
 
 ghost use Rattle.std.specs.Prelude.{◌≡◌, ◌<◌, ◌∷◌, [], length, IfOk};
 ghost use Rattle.py_objects.specs.Objects.{IsMade};
-ghost use Rattle.py_answers.specs.Answers.{is_manager, no_exit, no_protocol, IsRefusedBy, RefusesExit};
+ghost use Rattle.py_objects.specs.Callees.{is_manager};
+ghost use Rattle.py_answers.specs.Answers.{no_exit, no_protocol, IsRefusedBy, RefusesExit};
 ghost use Rattle.py_answers.specs.Readable.{IsReadable};
 ghost use Rattle.py_answers.specs.Replying.{reply_of, IsEntryReplied, IsExitReplied, IsSized};
 

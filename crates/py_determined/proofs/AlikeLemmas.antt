@@ -10,10 +10,11 @@ use Rattle.py_objects.specs.declared.payload.Payload.TheVariants as payload
 use Rattle.py_objects.specs.declared.payload.ClassBody.{ClassBody}
 use Rattle.py_objects.specs.Objects.{Obj, Name, HasPayload, class_object}
 use Rattle.py_objects.specs.Values.{number_of, text_of, is_none, both, same_number, same_value, same_key}
+use Rattle.py_objects.specs.Callees.{is_manager}
 use Rattle.py_objects.specs.Ancestry.{class_in, has_name, first_class, derives, derives_by, IsDerived}
 use Rattle.py_exceptions.specs.TypeNames.{IsTypeName}
 use Rattle.py_exceptions.specs.Deriving.{IsInstanceOf}
-use Rattle.py_answers.specs.Answers.{is_true, is_manager}
+use Rattle.py_answers.specs.Answers.{is_true}
 use Rattle.py_answers.specs.Replying.{is_generator}
 use Rattle.py_agreement.specs.Agreement.{Relation, SameMaybe, SameAll, has_literal}
 use Rattle.py_determined.specs.Alike.{Alike, AreAlike, numbered}

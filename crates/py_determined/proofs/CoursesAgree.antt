@@ -15,6 +15,7 @@ use Rattle.py_objects.specs.declared.request.Request.{Request}
 use Rattle.py_objects.specs.declared.request.Request.TheVariants as request
 use Rattle.py_objects.specs.Objects.{Obj, Name, HasPayload}
 use Rattle.py_objects.specs.Values.{is_none}
+use Rattle.py_objects.specs.Callees.{is_manager}
 use Rattle.py_exceptions.specs.declared.ctor.Instantiate.{Instantiate}
 use Rattle.py_exceptions.specs.declared.ctor.Instantiate.TheVariants as comes
 use Rattle.py_exceptions.specs.Normalizing.{Normalizes}
@@ -25,7 +26,7 @@ use Rattle.py_coro.specs.declared.coro.CoroAnswer.TheVariants as answer
 use Rattle.py_coro.specs.declared.refusal.CoroRefusal.TheVariants as refused
 use Rattle.py_coro.specs.Modes.{Mode, Fresh, Suspended, Running, Closed, Row, Stops as RowStops, Raises as RowRaises, Done as RowDone, Starts as RowStarts, Sends as RowSends, Throws as RowThrows, Exits as RowExits, Refuses as RowRefuses, most_depth, sent, thrown, closed}
 use Rattle.py_coro.specs.Refusals.{refused as fault_of, too_deep, word_of}
-use Rattle.py_answers.specs.Answers.{This, Called, BuiltIn, Reply, Is, Fails, Passes, CallsAs, Calls, LacksAs, Lacks, is_manager, RefusesEntry, CallsExit, Replies}
+use Rattle.py_answers.specs.Answers.{This, Called, BuiltIn, Reply, Is, Fails, Passes, CallsAs, Calls, LacksAs, Lacks, RefusesEntry, CallsExit, Replies}
 use Rattle.py_run.specs.Run.{Signature}
 use Rattle.py_run.specs.Generators.{Generator, generator_at}
 use Rattle.py_run.specs.Calls.{Course, Says, Enters, Sends, Throws, refusal, entry_at, bound_by, reraised, made_at, Setting, unthrown, course_by, throws_by, kept_or_closed, exit_of, CallsFunction, IsKept, ThrowsAs, SendsTo, ThrowsTo, ClosesTo, EntersTo, ExitsTo, ComesTo, LeavesCalled, reply_by, LeavesGenerator, IsDue}

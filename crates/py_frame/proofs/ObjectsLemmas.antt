@@ -13,9 +13,8 @@ use Rattle.py_objects.specs.declared.edit.Edit.TheVariants as edit
 use Rattle.py_objects.specs.declared.edit.LinkField.TheVariants as link
 use Rattle.py_objects.specs.declared.edit.Change.{Change}
 use Rattle.py_objects.specs.Objects.{Obj, HasPayload}
-use Rattle.py_objects.specs.Callees.{builtin_of}
+use Rattle.py_objects.specs.Callees.{builtin_of, is_manager}
 use Rattle.py_objects.specs.Edits.{edited, edited_exception, edited_entry, with_edit, changed_by}
-use Rattle.py_rows.specs.RunOfRows.{is_manager}
 
 -- the same of every payload and every edit of it
 module _ {A : Type 0} (view : Payload → A) (stays : (objects : List Payload) (x : Edit) (p : Payload) → view (edited objects x p) ≡ view p) where

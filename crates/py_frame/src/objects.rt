@@ -5,10 +5,9 @@ ghost use Rattle.py_code.specs.declared.literal.Literal.{Literal as LiteralOf};
 ghost use Rattle.py_objects.specs.declared.payload.Payload.{Payload as PayloadOf};
 ghost use Rattle.py_objects.specs.declared.payload.Payload.TheVariants as payload;
 ghost use Rattle.py_objects.specs.Objects.{HasPayload, IsTraceback, as_exception, as_object};
-ghost use Rattle.py_objects.specs.Callees.{builtin_of};
+ghost use Rattle.py_objects.specs.Callees.{builtin_of, is_manager};
 ghost use Rattle.py_objects.specs.Growth.{GrowsPlainly};
 ghost use Rattle.py_rows.specs.Rows.{payload_of};
-ghost use Rattle.py_rows.specs.RunOfRows.{is_manager};
 
 use py_code::{BuiltinFn, NoMemory};
 use py_objects::{Payload, PyBaseExceptionRef, PyObjectRef, Store};

@@ -12,6 +12,7 @@ use Rattle.py_objects.specs.declared.request.Request.TheVariants as request
 use Rattle.py_objects.specs.declared.event.GotAnswer.{GotAnswer}
 use Rattle.py_objects.specs.declared.event.GotAnswer.TheVariants as got
 use Rattle.py_objects.specs.Objects.{Obj, HasPayload, as_object, class_object}
+use Rattle.py_objects.specs.Callees.{is_manager}
 use Rattle.py_objects.specs.Own.{Own, Rounds}
 use Rattle.py_objects.specs.Telling.{AfterValue, Stopped, Answers, Answered}
 use Rattle.py_rows.specs.declared.block.Block.{Block}
@@ -28,12 +29,12 @@ use Rattle.py_rows.specs.Unwinding.{unwind, unwinds, meets, left, left_handler}
 use Rattle.py_rows.specs.Answers.{IsAnswer}
 use Rattle.py_rows.specs.Rows.{asks, raised_by, takes_off, where_there, finishes, unit_move}
 use Rattle.py_rows.specs.Receiving.{entered as entered_at, asks_again, passes_if}
-use Rattle.py_rows.specs.RunOfRows.{IsExit, is_manager as is_exit}
+use Rattle.py_rows.specs.RunOfRows.{IsExit}
 use Rattle.py_tree.specs.declared.expr.Atom.{Atom}
 use Rattle.py_tree.specs.Tree.{Name}
 use Rattle.py_tree.specs.Binding.{Env, bind}
 use Rattle.py_tree.specs.Scene.{Scene}
-use Rattle.py_tree.specs.Outcome.{Outcome, Normal, Breaks, Continues, Returns, Raises, Cut, Handled, Runner, Use, Loads, Requests, Tests, By_truth, Leaves, LeavesBy, On_exit, Manages, is_manager}
+use Rattle.py_tree.specs.Outcome.{Outcome, Normal, Breaks, Continues, Returns, Raises, Cut, Handled, Runner, Use, Loads, Requests, Tests, By_truth, Leaves, LeavesBy, On_exit, Manages}
 use Rattle.py_laid.specs.Code.{Around, Scope, on, before_finally, in_finally, Stands, LaidAtom, LaidTarget, LaidWith}
 use Rattle.py_laid.specs.Fits.{is_line}
 use Rattle.py_laid.proofs.Env.{env_of}
@@ -65,11 +66,6 @@ told_raise scene line m e event ts V (inr (t, v, b, is, asked)) =
       subst (λ (w : Obj). Requests scene line (request.Exit m (class_object body.class) w b) (Some e) event ts V) is.0
           (subst (λ (w : Obj). Requests scene line (request.Exit m w v b) (Some e) event ts V) is_class asked),
     )
-
--- both notions of a manager are one
-same_manager : (p : Payload) → is_exit p ≡ is_manager p
-same_manager (payload.Manager m) = refl
-same_manager _ = refl
 
 module _ (ex : Execution) where
   -- ---- units that have asked before
@@ -400,7 +396,7 @@ module _ (ex : Execution) where
         (body_ends_run around c scope line handler ends to m starts done after high later pops enter)) last n event ts most same run
 
     -- behind the entry: a manager's body, or the question for the exit that is missing
-    entry_run : (m v : Obj) (now : Now) (k p n event : ℕ) (ts : List Own) → sets ≤ k → suc k ≡ binds → n < c.limit → length now.locals ≡ length ex.vars → (q : Payload) (b : Bool) → is_exit q ≡ b
+    entry_run : (m v : Obj) (now : Now) (k p n event : ℕ) (ts : List Own) → sets ≤ k → suc k ≡ binds → n < c.limit → length now.locals ≡ length ex.vars → (q : Payload) (b : Bool) → is_manager q ≡ b
         → Behind ex n (cond b (entered_at handler v (begun k p (m ∷ c.base) c.blocks now)) (asks_again (request.NoExit m) (begun k p (m ∷ c.base) c.blocks now))) ts
         → By_truth b (body (bind x v (env_of ex.vars now.locals)) handled_now event ts (On_exit (scene_of ex) line m handled_now c.K))
         (Requests (scene_of ex) line (request.NoExit m) handled_now event ts (Use (env_of ex.vars now.locals) c.K (λ u i mid. ⊥)))
@@ -433,7 +429,7 @@ module _ (ex : Execution) where
           q,
           has,
           subst (λ (t : Bool). By_truth t (body (bind x v env) handled_now l rest (On_exit (scene_of ex) line m handled_now c.K)) (Requests (scene_of ex) line (request.NoExit m) handled_now l rest (Use env c.K (λ u i2 mid. ⊥))))
-              (sym is ∙ same_manager q)
+              (sym is)
               (entry_run m v now k p g l rest from is_next (omega (arith, fewer, less, most)) same q b is (subst (λ (s : Step). Behind ex g s rest) (sym same_step) step)),
         ))) a load
 

@@ -5,10 +5,9 @@ use Rattle.py_objects.specs.declared.payload.Payload.TheVariants as payload
 use Rattle.py_objects.specs.declared.payload.FunctionBody.{FunctionBody}
 use Rattle.py_objects.specs.Objects.{Obj, as_object}
 use Rattle.py_objects.specs.Own.{Own}
-use Rattle.py_objects.specs.Callees.{builtin_of}
+use Rattle.py_objects.specs.Callees.{builtin_of, is_manager}
 use Rattle.py_tree.specs.Tree.{Tree}
 use Rattle.py_tree.specs.Scene.{anywhere}
-use Rattle.py_tree.specs.Outcome.{is_manager}
 use Rattle.py_tree.specs.Trace.{IsTrace}
 use Rattle.py_agreement.specs.Agreement.{Relation, SameAll, Agree, IsFaithful}
 use Rattle.py_agreement.proofs.Agreeing.{traces_agree}

@@ -16,12 +16,13 @@ use Rattle.py_objects.specs.declared.event.GotAnswer.TheVariants as got
 use Rattle.py_objects.specs.declared.event.Ending.TheVariants as ending
 use Rattle.py_objects.specs.declared.event.Event.{Event}
 use Rattle.py_objects.specs.Objects.{Obj, AllFit, HasPayload, class_object}
+use Rattle.py_objects.specs.Callees.{is_manager}
 use Rattle.py_objects.specs.Singletons.{none_object}
 use Rattle.py_objects.specs.Own.{Own, Makes, Resumes, Asks, Gets, Ends, own_events, own_from, told_by}
 use Rattle.py_exceptions.specs.Classes.{class_of, mro_of, first_classes}
 use Rattle.py_tree.specs.declared.expr.Atom.TheVariants as atom
 use Rattle.py_tree.specs.Binding.{bind, start_env}
-use Rattle.py_tree.specs.Outcome.{By_truth, On_exit, On_normal, Requests, RunsSuite, Use, is_manager}
+use Rattle.py_tree.specs.Outcome.{By_truth, On_exit, On_normal, Requests, RunsSuite, Use}
 use Rattle.py_tree.specs.Scene.{Scene, anywhere}
 use Rattle.py_tree.specs.Trace.{IsTrace, EndsBy}
 use Rattle.py_tree.specs.Tree.{Return, Tree, nothing, first}

@@ -1,5 +1,5 @@
 -- What a call asks, by what is called: a generator is driven by calls of functions of the machine's own (Python Language Reference, 6.2.9.1).
-use Rattle.std.specs.Prelude.{Option, Some, None, List, [], ◌∷◌}
+use Rattle.std.specs.Prelude.{Bool, true, false, Option, Some, None, List, [], ◌∷◌}
 use Rattle.py_code.specs.declared.literal.BuiltinFn.{BuiltinFn}
 use Rattle.py_code.specs.declared.literal.BuiltinFn.TheVariants as builtin
 use Rattle.py_objects.specs.declared.payload.Payload.{Payload}
@@ -36,6 +36,11 @@ builtin_request _ vs = None
 abbrev pub builtin_of : Payload → Option BuiltinFn
 builtin_of (payload.Builtin f) = Some f
 builtin_of _ = None
+
+-- whether a payload is a manager's, which has an exit
+abbrev pub is_manager : Payload → Bool
+is_manager (payload.Manager m) = true
+is_manager _ = false
 
 -- the request of its own that a call of one comes to, where there is one
 abbrev pub own_request : Option BuiltinFn → List Obj → Option Request

@@ -7,12 +7,13 @@ use Rattle.py_code.proofs.NamesLemmas.{slice_get-append_last}
 use Rattle.py_objects.specs.declared.payload.Payload.{Payload}
 use Rattle.py_objects.specs.declared.payload.Payload.TheVariants as payload
 use Rattle.py_objects.specs.Objects.{Obj, HasPayload, as_object, class_object}
+use Rattle.py_objects.specs.Callees.{is_manager}
 use Rattle.py_objects.specs.Growth.{Grows}
 use Rattle.py_objects.specs.Own.{Own}
 use Rattle.py_check.specs.declared.annotated.Annotated.{Annotated}
 use Rattle.py_rows.specs.States.{Setting, State, Step, Goes, Tells, Stuck, Move, Plainly, Loads, Decides, Manages, Resolves, Exits}
 use Rattle.py_rows.specs.Receiving.{moves}
-use Rattle.py_rows.specs.RunOfRows.{is_manager, MayLead, Steps, silent, telling}
+use Rattle.py_rows.specs.RunOfRows.{MayLead, Steps, silent, telling}
 use Rattle.py_rows.specs.Fitting.{FitsAt}
 use Rattle.py_rows.specs.Sound.{IsSound}
 use Rattle.py_rows.specs.Laws.{LeadsTo, AlwaysLeads, IsMoving, setting_of}

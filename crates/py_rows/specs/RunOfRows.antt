@@ -1,5 +1,5 @@
 -- A run of the rows of a code: which own events an activation may tell, step by step, and where it has come to.
-use Rattle.std.specs.Prelude.{ℕ, ◌<◌, zero, suc, Bool, true, false, ◌||◌, ◌==◌, Option, Some, None, List, [], ◌∷◌, ◌++◌, ◌≡◌, ◌⊎◌, length}
+use Rattle.std.specs.Prelude.{ℕ, ◌<◌, zero, suc, Bool, true, ◌||◌, ◌==◌, Option, Some, None, List, [], ◌∷◌, ◌++◌, ◌≡◌, ◌⊎◌, length}
 use Rattle.py_code.specs.declared.code.PyCode.{PyCode}
 use Rattle.py_objects.specs.declared.refs.PyBaseExceptionRef.{PyBaseExceptionRef}
 use Rattle.py_objects.specs.declared.payload.Payload.{Payload}
@@ -8,6 +8,7 @@ use Rattle.py_objects.specs.declared.event.GotAnswer.TheVariants as got
 use Rattle.py_objects.specs.declared.event.ResumeHow.TheVariants as how
 use Rattle.py_objects.specs.declared.payload.ExceptionBody.{ExceptionBody}
 use Rattle.py_objects.specs.Objects.{Obj, HasPayload, IsTraceback, as_object, class_object}
+use Rattle.py_objects.specs.Callees.{is_manager}
 use Rattle.py_objects.specs.Own.{Own, Resumes, Gets}
 use Rattle.py_code.specs.declared.flags.TheConstants.CodeFlags.{IS_GENERATOR, IS_COROUTINE}
 use Rattle.py_check.specs.WholeCode.{counts_if}
@@ -23,11 +24,6 @@ use Rattle.py_rows.specs.Receiving.{moves}
 abbrev pub IsExit : List Payload → Option PyBaseExceptionRef → Obj → Obj → Obj → Type 0
 IsExit objects None t v b = HasPayload objects t payload.None × HasPayload objects v payload.None × HasPayload objects b payload.None
 IsExit objects (Some e) t v b = (v ≡ as_object e) × ((body : ExceptionBody) × HasPayload objects v (payload.Exception body) × (t ≡ class_object body.class)) × (t.number < length objects) × (HasPayload objects b payload.None ⊎ IsTraceback objects b)
-
--- whether a payload is a manager, which has an exit
-abbrev pub is_manager : Payload → Bool
-is_manager (payload.Manager m) = true
-is_manager _ = false
 
 -- a move may lead to a step
 abbrev pub MayLead : List Payload → Move → Step → Type 0

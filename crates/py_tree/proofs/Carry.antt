@@ -14,7 +14,7 @@ use Rattle.py_objects.specs.declared.event.ResumeHow.{ResumeHow}
 use Rattle.py_objects.specs.declared.event.ResumeHow.TheVariants as how
 use Rattle.py_objects.specs.declared.event.Ending.{Ending}
 use Rattle.py_objects.specs.Objects.{Obj, as_exception, as_object, class_object}
-use Rattle.py_objects.specs.Callees.{call_request}
+use Rattle.py_objects.specs.Callees.{call_request, is_manager}
 use Rattle.py_objects.specs.Own.{Own, Makes, Resumes, Asks, Gets, Rounds, Yields, Ends}
 use Rattle.py_objects.specs.Telling.{Value, Given, Failed, Stopped, AfterValue, IsLiteral, Answers, Answered, GoesOn, Resumed, Rounded}
 use Rattle.py_tree.specs.declared.expr.Atom.{Atom}
@@ -26,7 +26,7 @@ use Rattle.py_tree.specs.declared.expr.Operation.TheVariants as operation
 use Rattle.py_tree.specs.Tree.{Name, Form, Assign, Do, Show, Return, Raise, Reraise, Break, Continue, Pass, If, IfElse, While, TryExcept, TryFinally, With as WithForm, Suite, nothing, first, Clauses, no_more, clause, Tree}
 use Rattle.py_tree.specs.Binding.{Env, find_local, set_local, bind}
 use Rattle.py_tree.specs.Scene.{Scene}
-use Rattle.py_tree.specs.Outcome.{Outcome, Normal, Breaks, Continues, Returns, Raises, Cut, Handled, After, Runner, With, Use, By_truth, Requests, Suspends, throws, Named, Loads, LoadsAll, RequestsTwo, Calls, Operates, Evaluates, Tests, Chooses, On_normal, On_turn, On_raise, behind, Behind_finally, On_finally, Finally, Forgets, Handles, Loops, is_manager, Leaves, LeavesBy, On_exit, Manages, Reraises, Runs, RunsSuite, Tries}
+use Rattle.py_tree.specs.Outcome.{Outcome, Normal, Breaks, Continues, Returns, Raises, Cut, Handled, After, Runner, With, Use, By_truth, Requests, Suspends, throws, Named, Loads, LoadsAll, RequestsTwo, Calls, Operates, Evaluates, Tests, Chooses, On_normal, On_turn, On_raise, behind, Behind_finally, On_finally, Finally, Forgets, Handles, Loops, Leaves, LeavesBy, On_exit, Manages, Reraises, Runs, RunsSuite, Tries}
 use Rattle.py_tree.specs.Trace.{Ended, EndsBy, Entered, IsBegun, IsTrace}
 use Rattle.py_tree.specs.Laws.{Widens, TracesCarry}
 use Rattle.py_objects.proofs.GrowthLemmas.{payload_grown}

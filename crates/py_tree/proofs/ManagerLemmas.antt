@@ -6,12 +6,13 @@ use Rattle.py_objects.specs.declared.request.Request.TheVariants as request
 use Rattle.py_objects.specs.declared.payload.Payload.{Payload}
 use Rattle.py_objects.specs.declared.payload.Payload.TheVariants as payload
 use Rattle.py_objects.specs.Objects.{Obj, HasPayload}
+use Rattle.py_objects.specs.Callees.{is_manager}
 use Rattle.py_objects.specs.Telling.{Value, Given, Failed, Stopped, AfterValue}
 use Rattle.py_tree.specs.declared.expr.Atom.{Atom}
 use Rattle.py_tree.specs.Tree.{Name, Suite}
 use Rattle.py_tree.specs.Binding.{Env, bind}
 use Rattle.py_tree.specs.Scene.{Scene}
-use Rattle.py_tree.specs.Outcome.{Outcome, Normal, Breaks, Continues, Returns, Raises, Cut, Handled, RunsSuite, Use, By_truth, Requests, Loads, is_manager, Leaves, LeavesBy, On_exit, Manages}
+use Rattle.py_tree.specs.Outcome.{Outcome, Normal, Breaks, Continues, Returns, Raises, Cut, Handled, RunsSuite, Use, By_truth, Requests, Loads, Leaves, LeavesBy, On_exit, Manages}
 use Rattle.py_tree.specs.Endings.{Point, Reaches, Gives, Stops, IsEntered, EntryStops, ExitPasses, ExitDecides, ExitStopsRaise, ExitStops, ExitEnds, ExitIsAsked, ExitGoesOn}
 use Rattle.py_tree.proofs.Reaching.{GivesOne, suite_ends, loads_give, requests_give, leaves_give, leaves_by_gives}
 use Rattle.py_tree.proofs.EndingLemmas.{At, comes, follows}

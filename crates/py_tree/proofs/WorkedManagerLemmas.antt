@@ -6,11 +6,12 @@ use Rattle.py_objects.specs.declared.payload.Payload.TheVariants as payload
 use Rattle.py_objects.specs.declared.event.GotAnswer.TheVariants as got
 use Rattle.py_objects.specs.declared.event.Ending.TheVariants as ending
 use Rattle.py_objects.specs.Objects.{Obj, HasPayload}
+use Rattle.py_objects.specs.Callees.{is_manager}
 use Rattle.py_objects.specs.Own.{Own, Asks, Gets, Ends}
 use Rattle.py_tree.specs.Scene.{Scene}
 use Rattle.py_objects.specs.Telling.{AfterValue}
 use Rattle.py_tree.specs.declared.expr.Atom.TheVariants as atom
-use Rattle.py_tree.specs.Outcome.{After, Raises, By_truth, is_manager, Requests, On_normal, On_exit, Manages, RunsSuite}
+use Rattle.py_tree.specs.Outcome.{After, Raises, By_truth, Requests, On_normal, On_exit, Manages, RunsSuite}
 use Rattle.py_tree.specs.Trace.{EndsBy, IsTrace}
 use Rattle.py_tree.specs.Tree.{Return, Reraise, With, Suite, nothing, first}
 use Rattle.py_tree.specs.WorkedHandlers.{none_object}

@@ -8,6 +8,7 @@ use Rattle.py_objects.specs.declared.payload.ManagerBody.{ManagerBody}
 use Rattle.py_objects.specs.declared.request.Request.TheVariants as request
 use Rattle.py_objects.specs.declared.event.ResumeHow.TheVariants as how
 use Rattle.py_objects.specs.Objects.{Obj, HasPayload, as_object}
+use Rattle.py_objects.specs.Callees.{is_manager}
 use Rattle.py_objects.specs.Own.{Own, Resumes}
 use Rattle.py_objects.specs.Telling.{Given, Failed, Stopped, AfterValue}
 use Rattle.py_tree.specs.declared.expr.Atom.{Atom}
@@ -16,7 +17,7 @@ use Rattle.py_tree.specs.Tree.{Name, Form, TryExcept, TryFinally, With as WithFo
 use Rattle.py_tree.specs.Binding.{Env, find_local, bind, start_env}
 use Rattle.py_tree.specs.Scene.{Scene}
 use Rattle.py_tree.specs.Trace.{EndsBy, IsBegun}
-use Rattle.py_tree.specs.Outcome.{Outcome, Normal, Breaks, Continues, Returns, Raises, Cut, Handled, Runner, Handles, By_truth, Requests, Loads, is_manager, Leaves, LeavesBy, Runs, RunsSuite, Tries}
+use Rattle.py_tree.specs.Outcome.{Outcome, Normal, Breaks, Continues, Returns, Raises, Cut, Handled, Runner, Handles, By_truth, Requests, Loads, Leaves, LeavesBy, Runs, RunsSuite, Tries}
 
 -- a point of a run: the locals, the outcome, the number of the event heard last, and the events that are left
 pub record Point : Type 0 where

@@ -14,7 +14,7 @@ use Rattle.py_objects.specs.declared.request.Request.{Request}
 use Rattle.py_objects.specs.declared.request.Request.TheVariants as request
 use Rattle.py_objects.specs.Objects.{Obj, HasPayload, as_exception, as_object, class_object}
 use Rattle.py_objects.specs.Own.{Own}
-use Rattle.py_objects.specs.Callees.{call_request}
+use Rattle.py_objects.specs.Callees.{call_request, is_manager}
 use Rattle.py_objects.specs.Telling.{Given, Failed, Stopped, AfterValue, IsLiteral, Asked, Yielded, Rounded}
 use Rattle.py_tree.specs.declared.expr.Atom.{Atom}
 use Rattle.py_tree.specs.declared.expr.Atom.TheVariants as atom
@@ -196,11 +196,6 @@ Handles None suite env h event ts K = suite env h event ts K
 Handles (Some x) suite env h event ts K = Finally suite (Forgets x) env h event ts K
 
 -- ---- managers
-
--- whether a payload is a manager's, which has an exit
-abbrev pub is_manager : Payload → Bool
-is_manager (payload.Manager m) = true
-is_manager _ = false
 
 module _ (scene : Scene) where
   -- a manager is left without a raise: its exit takes None three times

@@ -1,5 +1,5 @@
 use Rattle.std.proofs.Common.{◌∙◌, ap}
-use Rattle.py_rows.specs.RunOfRows.{is_manager}
+use Rattle.py_objects.specs.Callees.{is_manager}
 use Rattle.py_frame.proofs.ObjectsLemmas.{manager_found, no_manager}
 use Rattle.py_frame.proofs.objects.is_manager.Goals as goal
 
