@@ -2,15 +2,12 @@
 use Rattle.std.specs.Prelude.{ℕ, Option, Some, None, List}
 use Rattle.py_objects.specs.declared.payload.CoroKind.{CoroKind}
 use Rattle.py_objects.specs.declared.payload.CoroKind.TheVariants as coro
+pub use Rattle.py_objects.specs.Refs.{Name}
 use Rattle.py_tree.specs.declared.body.BodyKind.{BodyKind}
 use Rattle.py_tree.specs.declared.body.BodyKind.TheVariants.{Function, Generator}
 use Rattle.py_tree.specs.declared.expr.Atom.{Atom}
 use Rattle.py_tree.specs.declared.expr.Expr.{Expr}
 use Rattle.py_tree.specs.declared.expr.Operation.{Operation}
-
--- a name is the list of its characters
-abbrev pub Name : Type 0
-Name = List ℕ
 
 mutual
   -- a statement
