@@ -10,7 +10,7 @@ use Rattle.py_tree.specs.Scene.{Scene}
 use Rattle.py_tree.specs.Outcome.{RunsSuite}
 use Rattle.py_tree.specs.Trace.{EndsBy}
 use Rattle.py_tree.specs.Worked.{e_name}
-use Rattle.py_tree.specs.WorkedHandlers.{none_object, shows_twice, FinallyHandles, NoFinallyForgets, passes_over, RaisedAgain, NoClauseRaises, NameIsForgotten}
+use Rattle.py_tree.specs.WorkedHandlers.{none_object, shows_twice, FinallyHandles, NoFinallyForgets, passes_over, RaisedAgain, NotByTheClause, NameIsForgotten}
 use Rattle.py_tree.proofs.WorkedLemmas.{begun}
 
 pub finally_handles : FinallyHandles
@@ -129,8 +129,8 @@ no_line scene k a1 a2 a3 a4 l1 l2 l3 l4 v w m u e is_at is_false (inr (inr (inr 
 no_line scene k a1 a2 a3 a4 l1 l2 l3 l4 v w m u e is_at is_false (inr (inr (inr (v3, h3, inr (b4, m4, o4, i4, inr (k4, got.Raise w4, r4, j4, inr (b5, m5, o5, i5, inr (k5, got.Value w5, r5, j5, inr (b6, m6, o6, i6, inr (k6, got.Value w6, r6, j6, inr (b7, m7, o7, i7, inr (k7, got.Value w7, r7, j7, (false, has, inl (n9, c9)))))))))))))) = cc (i4, j4, i5, j5, i6, j6, i7, j7, n9)
 no_line scene k a1 a2 a3 a4 l1 l2 l3 l4 v w m u e is_at is_false (inr (inr (inr (v3, h3, inr (b4, m4, o4, i4, inr (k4, got.Raise w4, r4, j4, inr (b5, m5, o5, i5, inr (k5, got.Value w5, r5, j5, inr (b6, m6, o6, i6, inr (k6, got.Value w6, r6, j6, inr (b7, m7, o7, i7, inr (k7, got.Value w7, r7, j7, (false, has, inr (b9, m9, o9, i9, t9)))))))))))))) = cc (i4, j4, i5, j5, i6, j6, i7, j7, i9, o9, is_at)
 
-pub no_clause_raises : NoClauseRaises
-no_clause_raises scene v w m u e is_at is_false trace = no_line scene 2 3 4 4 4 4 6 8 10 v w m u e is_at is_false (begun scene passes_over _ trace)
+pub not_by_the_clause : NotByTheClause
+not_by_the_clause scene v w m u e is_at is_false trace = no_line scene 2 3 4 4 4 4 6 8 10 v w m u e is_at is_false (begun scene passes_over _ trace)
 
 pub name_is_forgotten : NameIsForgotten
 name_is_forgotten globals w m e f = (

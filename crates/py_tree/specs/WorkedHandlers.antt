@@ -57,8 +57,8 @@ RaisedAgain = (globals w m : Obj) (e : PyBaseExceptionRef)
     → IsTrace (by_line globals) passes_over [] (passed_events 2 globals none_object w m (record { number = 2 }) e (Gets 11 (got.Value (as_object e)) ∷ Ends 0 (ending.Raise e) ∷ []))
 
 -- and not by that of the clause
-abbrev pub NoClauseRaises : Type 0
-NoClauseRaises = (scene : Scene) (v w m u : Obj) (e : PyBaseExceptionRef) → scene.is_of 4 2 ≡ false → HasPayload scene.objects u (payload.Bool false)
+abbrev pub NotByTheClause : Type 0
+NotByTheClause = (scene : Scene) (v w m u : Obj) (e : PyBaseExceptionRef) → scene.is_of 4 2 ≡ false → HasPayload scene.objects u (payload.Bool false)
     → IsTrace scene passes_over [] (passed_events 4 scene.globals v w m u e []) → ⊥
 
 -- ---- what a clause forgets

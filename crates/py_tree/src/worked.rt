@@ -2,7 +2,7 @@
 
 ghost use Rattle.py_tree.specs.Worked.{HandledIsTrace, LeftIsTrace, NoExceptionLetOut, NoExceptionStays, NoFinallyBrokenOutOf, NoFinallySkipped, ReturnedIsTrace, ShownIsTrace};
 ghost use Rattle.py_tree.specs.WorkedGenerators.{NoClauseBeforeStart, NoOtherYielded, NoThrowIntoFunction, NoneGoesOnAlone, ThrownInIsTrace, YieldedIsTrace};
-ghost use Rattle.py_tree.specs.WorkedHandlers.{FinallyHandles, NameIsForgotten, NoClauseRaises, NoFinallyForgets, RaisedAgain};
+ghost use Rattle.py_tree.specs.WorkedHandlers.{FinallyHandles, NameIsForgotten, NotByTheClause, NoFinallyForgets, RaisedAgain};
 ghost use Rattle.py_tree.specs.WorkedManagers.{LeftByReturnIsTrace, NoExitSkipped, NoExitSkippedByRaise, NoExitUnhandled, NoRaiseSwallowed, NoReturnSwallowed, SwallowedIsTrace};
 
 /// States what small trees may not tell, and what they may in place of it, and does nothing.
@@ -22,7 +22,7 @@ pub fn worked_handlers()
     ensures handles { FinallyHandles }
     ensures no_finally_forgets { NoFinallyForgets }
     ensures raised_again { RaisedAgain }
-    ensures no_clause_raises { NoClauseRaises }
+    ensures not_by_the_clause { NotByTheClause }
     ensures forgotten { NameIsForgotten }
 {}
 

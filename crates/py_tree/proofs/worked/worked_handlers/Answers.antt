@@ -1,4 +1,4 @@
-use Rattle.py_tree.proofs.WorkedHandlerLemmas.{finally_handles, no_finally_forgets, raised_again, no_clause_raises, name_is_forgotten}
+use Rattle.py_tree.proofs.WorkedHandlerLemmas.{finally_handles, no_finally_forgets, raised_again, not_by_the_clause, name_is_forgotten}
 use Rattle.py_tree.proofs.worked.worked_handlers.Goals as goal
 
 pub returns-clause-handles : goal.returns-clause-handles
@@ -10,8 +10,8 @@ returns-clause-no_finally_forgets c = no_finally_forgets
 pub returns-clause-raised_again : goal.returns-clause-raised_again
 returns-clause-raised_again c = raised_again
 
-pub returns-clause-no_clause_raises : goal.returns-clause-no_clause_raises
-returns-clause-no_clause_raises c = no_clause_raises
+pub returns-clause-not_by_the_clause : goal.returns-clause-not_by_the_clause
+returns-clause-not_by_the_clause c = not_by_the_clause
 
 pub returns-clause-forgotten : goal.returns-clause-forgotten
 returns-clause-forgotten c = name_is_forgotten
