@@ -24,9 +24,9 @@ use Rattle.py_run.specs.Generators.{Generator}
 use Rattle.py_run.specs.Raises.{Raise}
 use Rattle.py_agreement.specs.Agreement.{Relation, SameException, SameMaybe, SameHandled, SameAll, SameRequest, SameAnswer, SameHow, SameEnding}
 use Rattle.py_determined.specs.Alike.{SameAttrs, Alike}
-use Rattle.py_determined.specs.Sameness.{SameTold, SameAsked, SameLeft, SameGenerators, SamePosed}
+use Rattle.py_determined.specs.Sameness.{SameTold, SameAsked, SameLeft, SameGenerators}
 use Rattle.py_determined.specs.Events.{SameResult, SameEvent, SameEvents}
-use Rattle.py_determined.proofs.SameStates.{SamePhase, SameAct, SameActs, SameActivations, SameState, SameRaises}
+use Rattle.py_determined.proofs.SameStates.{SamePosed, SamePhase, SameAct, SameActs, SameActivations, SameState, SameRaises}
 use Rattle.py_determined.proofs.Requests.{BothAsk, BothUnbound, BothGlobal, BothBinary, BothCompare, BothTruth, BothMatch, BothHandled, BothRaisable, BothShow, BothCall, BothSend, BothThrow, BothClose, BothEnter, BothExit, BothNoExit, both_ask}
 
 -- two that may be there, under more

@@ -18,10 +18,10 @@ use Rattle.py_run.proofs.CoursesLemmas.{IsResumed, resumed}
 use Rattle.py_run.proofs.CutLemmas.{AreBelow, IsNumbered, numbered_behind}
 use Rattle.py_agreement.specs.Agreement.{Relation, SameMaybe, SameAll, Agree}
 use Rattle.py_determined.specs.Alike.{AreAlike}
-use Rattle.py_determined.specs.Sameness.{SameAsked, SameSetting, SamePosed, SameGenerators}
+use Rattle.py_determined.specs.Sameness.{SameAsked, SameSetting, SameGenerators}
 use Rattle.py_determined.specs.Events.{SameEvent, SameEvents}
 use Rattle.py_determined.specs.Related.{paired, pairs_of, value_numbers, IsPair, Related, Paired}
-use Rattle.py_determined.proofs.SameStates.{SameState, SameRaises}
+use Rattle.py_determined.proofs.SameStates.{SamePosed, SameState, SameRaises}
 use Rattle.py_determined.proofs.Growing.{maybe_grows, event_grows, events_grow, state_grows, posed_grows, generators_grow, raises_grow}
 use Rattle.py_determined.proofs.StatesAgree.{tops_same, after_same, question_same, setting_same, ArePlain, generators_same, raises_same}
 use Rattle.py_determined.proofs.Pairing.{pairs_on, pairs_end, pairs_related, event_same, no_more_alike, born_alike, new_left, new_right, pair_left, pair_right, related_on, related_either}

@@ -2,10 +2,15 @@
 use Rattle.std.specs.Prelude.{List, [], ◌∷◌, false, ◌≡◌}
 use Rattle.py_objects.specs.declared.payload.Payload.{Payload}
 use Rattle.py_objects.specs.Objects.{HasPayload}
-use Rattle.py_run.specs.Run.{Phase, Idle, Asking, Going, Made, Due, Act, Activation, State}
+use Rattle.py_run.specs.Run.{Posed, Phase, Idle, Asking, Going, Made, Due, Act, Activation, State}
 use Rattle.py_run.specs.Raises.{Raise}
 use Rattle.py_agreement.specs.Agreement.{Relation, SameMaybe, SameHandled, SameAll, has_literal}
 use Rattle.py_determined.specs.Sameness.{SameAsked, SameLeft}
+
+-- two drives: the same question, at the same depth
+pub record SamePosed (S : Relation) (p q : Posed) : Type 0 where
+  pub request : SameAsked S p.request q.request
+  pub entered : p.entered ≡ q.entered
 
 -- two phases
 abbrev pub SamePhase : Relation → Phase → Phase → Type 0

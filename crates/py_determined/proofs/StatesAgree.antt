@@ -29,9 +29,9 @@ use Rattle.py_run.specs.Raises.{Raise, raise_of, with_raise, with_traceback, is_
 use Rattle.py_run.specs.Coming.{Past, setting}
 use Rattle.py_agreement.specs.Agreement.{Relation, SameMaybe, SameHandled, SameAnswer, SameEnding, has_literal}
 use Rattle.py_determined.specs.Alike.{Alike, AreAlike}
-use Rattle.py_determined.specs.Sameness.{SameTold, SameAsked, SameLeft, SameGenerator, SameGenerators, SameSetting, SamePosed}
+use Rattle.py_determined.specs.Sameness.{SameTold, SameAsked, SameLeft, SameGenerator, SameGenerators, SameSetting}
 use Rattle.py_determined.specs.Events.{SameResult, SameEvent}
-use Rattle.py_determined.proofs.SameStates.{SamePhase, SameActs, SameActivation, SameActivations, SameState, SameRaises}
+use Rattle.py_determined.proofs.SameStates.{SamePosed, SamePhase, SameActs, SameActivation, SameActivations, SameState, SameRaises}
 use Rattle.py_determined.proofs.AlikeLemmas.{eqb_turned}
 use Rattle.py_determined.proofs.Requests.{BothAsk, BothUnbound, BothGlobal, BothBinary, BothCompare, BothTruth, BothMatch, BothHandled, BothRaisable, BothShow, BothCall, BothSend, BothThrow, BothClose, BothEnter, BothExit, BothNoExit, both_ask}
 

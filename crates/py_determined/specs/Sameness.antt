@@ -12,7 +12,6 @@ use Rattle.py_coro.specs.declared.coro.CoroEnd.TheVariants as left
 use Rattle.py_coro.specs.declared.coro.CoroAnswer.{CoroAnswer}
 use Rattle.py_coro.specs.declared.coro.CoroAnswer.TheVariants as answer
 use Rattle.py_answers.specs.Answers.{Raised, This, Called, BuiltIn, Reply, Has, Is, Makes, Creates, Fails, FailsFrom, Passes, Yields, Stops, Closes}
-use Rattle.py_run.specs.Run.{Posed}
 use Rattle.py_run.specs.Generators.{Generator}
 use Rattle.py_run.specs.Calls.{Course, Says, Enters, Begins, Sends, Throws, Setting}
 use Rattle.py_agreement.specs.Agreement.{Relation, SameException, SameMaybe, SameHandled, SameAll, SameRequest, has_literal}
@@ -104,8 +103,3 @@ pub record SameSetting (S : Relation) (at at' : Setting) : Type 0 where
   pub depth : at.depth ≡ at'.depth
   pub handled : SameHandled S at.handled at'.handled
   pub generators : SameGenerators S at.generators at'.generators
-
--- two drives: the same question, at the same depth
-pub record SamePosed (S : Relation) (p q : Posed) : Type 0 where
-  pub request : SameAsked S p.request q.request
-  pub entered : p.entered ≡ q.entered

@@ -20,8 +20,9 @@ use Rattle.py_run.specs.Run.{Posed, Plan, State, start, after, state_after}
 use Rattle.py_run.specs.Coming.{Past, nothing, past_after, MayCome, Comes}
 use Rattle.py_run.proofs.RunLemmas.{comes_front}
 use Rattle.py_agreement.specs.Agreement.{Relation, SameMaybe, SameAll, has_literal}
-use Rattle.py_determined.specs.Sameness.{SameAsked, SamePosed}
+use Rattle.py_determined.specs.Sameness.{SameAsked}
 use Rattle.py_determined.specs.Events.{SameResult, SameEvent, SameEvents}
+use Rattle.py_determined.proofs.SameStates.{SamePosed}
 use Rattle.py_meaning.specs.Earlier.{AtomIsEarlier, ValueIsEarlier, LineIsEarlier, NameEarlier}
 use Rattle.py_meaning.specs.Whole.{IsLeft, IsLeftBy, IsOf, AreOf, IsThrown, AsksThis, AreAsked}
 

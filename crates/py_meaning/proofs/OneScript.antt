@@ -14,9 +14,9 @@ use Rattle.py_run.proofs.PastLemmas.{past_state}
 use Rattle.py_run.proofs.RunLemmas.{comes_rest}
 use Rattle.py_agreement.specs.Agreement.{SameMaybe, SameAll, Agree}
 use Rattle.py_determined.specs.Alike.{AreAlike}
-use Rattle.py_determined.specs.Sameness.{SamePosed}
 use Rattle.py_determined.specs.Events.{SameEvents}
 use Rattle.py_determined.specs.Related.{Paired}
+use Rattle.py_determined.proofs.SameStates.{SamePosed}
 use Rattle.py_determined.proofs.Growing.{maybe_grows}
 use Rattle.py_meaning.specs.Earlier.{NameEarlier}
 use Rattle.py_meaning.specs.Whole.{AreAsked, IsRunOf, Traces, plan_of}
