@@ -23,7 +23,7 @@ pub enum DriveAtom {
     Int(i128),
     /// A text.
     Str(PyText),
-    /// The name of a declaration.
+    /// The name of a declaration or of a built-in class.
     Name(PyText),
     /// `$N`: what the drive of this number came to, from 1.
     Drive(u64),
