@@ -7,45 +7,31 @@ use Rattle.py_tree.specs.Tree.{Name, Suite, Clauses, no_more, clause}
 use Rattle.py_tree.specs.declared.stmt.StmtForm.TheViews.{the_lemmas}
 use Rattle.py_tree.specs.Views.{suite_of}
 use Rattle.py_tree.specs.Binding.{bound_by, bound_if, bound_under}
-use Rattle.py_tree.specs.Suites.{add_clause, joined_clauses, list_clauses}
+use Rattle.py_tree.specs.Suites.{list_clauses, with_clause}
+use Rattle.py_tree.proofs.Trees.{list_clauses_append}
 use Rattle.py_body.specs.declared.sizes.Weights.{Weights}
 use Rattle.py_tree.specs.declared.body.BodyKind.{BodyKind}
 use Rattle.py_tree.specs.Compilable.{ClausesFit, SuiteFits, ClausesNest, SuiteNests, statements, statements_under}
 use Rattle.py_body.specs.Sizes.{size_clause, size_clauses, size_suite}
 
-list_clauses_append : (clauses : List Clause) (c : Clause) → list_clauses (clauses ++ c ∷ []) ≡ add_clause (list_clauses clauses) c
-list_clauses_append [] (Clause' line class target suite) = refl
-list_clauses_append (Clause' line class target suite ∷ clauses) c = ap (clause line class target (suite_of suite)) (list_clauses_append clauses c)
-
 -- a clause stands behind those in front of it
-pub clauses_more : (clauses : List Clause) (i : ℕ) (c : Clause) → i < length clauses → c ≡ get_or clauses i c → list_clauses (take (i + 1) clauses) ≡ add_clause (list_clauses (take i clauses)) c
+pub clauses_more : (clauses : List Clause) (i : ℕ) (c : Clause) → i < length clauses → c ≡ get_or clauses i c
+    → list_clauses (take (i + 1) clauses) ≡ with_clause (list_clauses (take i clauses)) (out-Clause c).line (out-Clause c).class (out-Clause c).target (suite_of (out-Clause c).suite)
 clauses_more clauses i c low is = ap list_clauses (take_more clauses i c low ∙ ap (λ (t : Clause). take i clauses ++ t ∷ []) (sym is)) ∙ list_clauses_append (take i clauses) c
 
 -- ---- the parts of a clause
 
-abbrev pub target_of : Clause → Option Name
+abbrev target_of : Clause → Option Name
 target_of (Clause' line class target suite) = target
 
-abbrev pub class_of : Clause → Name
-class_of (Clause' line class target suite) = class
-
-abbrev pub line_of : Clause → ℕ
-line_of (Clause' line class target suite) = line
-
-abbrev pub body_of : Clause → Suite
+abbrev body_of : Clause → Suite
 body_of (Clause' line class target suite) = suite_of suite
 
 -- they are those that the program sees
-pub target_out : (c : Clause) → (out-Clause c).target ≡ target_of c
+target_out : (c : Clause) → (out-Clause c).target ≡ target_of c
 target_out (Clause' line class target suite) = search (rules, the_lemmas)
 
-pub class_out : (c : Clause) → (out-Clause c).class ≡ class_of c
-class_out (Clause' line class target suite) = search (rules, the_lemmas)
-
-pub line_out : (c : Clause) → (out-Clause c).line ≡ line_of c
-line_out (Clause' line class target suite) = search (rules, the_lemmas)
-
-pub body_out : (c : Clause) → suite_of (out-Clause c).suite ≡ body_of c
+body_out : (c : Clause) → suite_of (out-Clause c).suite ≡ body_of c
 body_out (Clause' line class target suite) = search (rules, the_lemmas)
 
 -- ---- sizes
@@ -62,12 +48,10 @@ size_out : (w : Weights) (c : Clause) → size_of w c ≡ size_in w c
 size_out w c = let target = target_out c in let body = body_out c in λ k. size_clause w (target k) (size_suite w (body k))
 
 -- one clause more
-add_in : (w : Weights) (cs : Clauses) (c : Clause) → size_clauses w (add_clause cs c) ≡ size_clauses w cs + size_in w c
-add_in w no_more (Clause' line class target suite) = omega arith
-add_in w (clause n x t s more) c = omega (arith, add_in w more c)
-
-pub size_add_clause : (w : Weights) (cs : Clauses) (c : Clause) → size_clauses w (add_clause cs c) ≡ size_clauses w cs + size_of w c
-size_add_clause w cs c = omega (arith, add_in w cs c, size_out w c)
+pub size_with_clause : (w : Weights) (cs : Clauses) (line : ℕ) (class : Name) (target : Option Name) (suite : Suite)
+    → size_clauses w (with_clause cs line class target suite) ≡ size_clauses w cs + size_clause w target (size_suite w suite)
+size_with_clause w no_more line class target suite = omega arith
+size_with_clause w (clause n x t s more) line class target suite = omega (arith, size_with_clause w more line class target suite)
 
 at_in : (w : Weights) (clauses : List Clause) (i : ℕ) (c : Clause) → i < length clauses → c ≡ get_or clauses i c
     → size_clauses w (list_clauses (take i clauses)) + size_in w c ≤ size_clauses w (list_clauses clauses)
@@ -116,35 +100,16 @@ pub suite_in_clause : (w : Weights) (x : Option Name) (body : ℕ) → body ≤ 
 suite_in_clause w None body = omega arith
 suite_in_clause w (Some x) body = omega arith
 
--- ---- one clause behind others
-
-add_behind : (cs : Clauses) (c : Clause) → add_clause cs c ≡ joined_clauses cs (clause (line_of c) (class_of c) (target_of c) (body_of c) no_more)
-add_behind no_more (Clause' line class target suite) = refl
-add_behind (clause n x t s more) c = ap (clause n x t s) (add_behind more c)
-
--- a clause stands behind those in front of it, by its parts
-pub clauses_behind : (clauses : List Clause) (i : ℕ) (c : Clause) → i < length clauses → c ≡ get_or clauses i c
-    → list_clauses (take (i + 1) clauses) ≡ joined_clauses (list_clauses (take i clauses))
-    (clause (out-Clause c).line (out-Clause c).class (out-Clause c).target (suite_of (out-Clause c).suite) no_more)
-clauses_behind clauses i c low is =
-    let line = line_out c in
-    let class = class_out c in
-    let target = target_out c in
-    let body = body_out c in
-    clauses_more clauses i c low is ∙ add_behind (list_clauses (take i clauses)) c
-    ∙ sym (λ k. joined_clauses (list_clauses (take i clauses)) (clause (line k) (class k) (target k) (body k) no_more))
-
 -- ---- what clauses bind
 
 -- one clause more
-bound_add : (names : List Name) (cs : Clauses) (c : Clause) → bound_under names (add_clause cs c) ≡ bound_by (bound_if (bound_under names cs) (target_of c)) (body_of c)
-bound_add names no_more (Clause' line class target suite) = refl
-bound_add names (clause n x t s more) c = bound_add (bound_by (bound_if names t) s) more c
+bound_with_clause : (names : List Name) (cs : Clauses) (line : ℕ) (class : Name) (target : Option Name) (suite : Suite)
+    → bound_under names (with_clause cs line class target suite) ≡ bound_by (bound_if (bound_under names cs) target) suite
+bound_with_clause names no_more line class target suite = refl
+bound_with_clause names (clause n x t s more) line class target suite = bound_with_clause (bound_by (bound_if names t) s) more line class target suite
 
 pub bound_clause_more : (names : List Name) (clauses : List Clause) (i : ℕ) (c : Clause) → i < length clauses → c ≡ get_or clauses i c
     → bound_under names (list_clauses (take (i + 1) clauses)) ≡ bound_by (bound_if (bound_under names (list_clauses (take i clauses))) (out-Clause c).target) (suite_of (out-Clause c).suite)
 bound_clause_more names clauses i c low is =
-    let target = target_out c in
-    let body = body_out c in
-    ap (bound_under names) (clauses_more clauses i c low is) ∙ bound_add names (list_clauses (take i clauses)) c
-    ∙ sym (λ k. bound_by (bound_if (bound_under names (list_clauses (take i clauses))) (target k)) (body k))
+    let one = out-Clause c in
+    ap (bound_under names) (clauses_more clauses i c low is) ∙ bound_with_clause names (list_clauses (take i clauses)) one.line one.class one.target (suite_of one.suite)

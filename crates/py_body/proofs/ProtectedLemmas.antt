@@ -10,10 +10,11 @@ use Rattle.py_tree.specs.declared.expr.Atom.TheVariants as atom
 use Rattle.py_tree.specs.Tree.{Name, TryExcept, TryFinally, Suite, Clauses, no_more, clause}
 use Rattle.py_tree.specs.Suites.{joined_clauses}
 use Rattle.py_laid.specs.Code.{Scope, on, over, before_finally, in_clauses, in_finally, in_try, LaidClauses}
-use Rattle.py_body.specs.Sizes.{size_clause, size_clauses, size_form, size_opening, size_suite, size_tried}
+use Rattle.py_body.specs.Sizes.{size_clause, size_form, size_opening, size_suite, size_tried}
 use Rattle.py_body.specs.Emitting.{Draft, end_of, weights_of, ClausesPlaced, LaidMatch, LaidOpening, LaidTried, EmitsAtom, EmitsClause, EmitsClauses, EmitsConst}
 use Rattle.py_body.specs.Emitting.{EmitsForget, EmitsForm, EmitsHandler, EmitsJump, EmitsLocal, EmitsMatch, EmitsOpening, EmitsPlain, EmitsSuite, EmitsTarget, EmitsTried}
 use Rattle.py_body.proofs.BlockLemmas.{label_fits}
+use Rattle.py_body.proofs.ClauseTrees.{size_with_clause}
 use Rattle.py_body.proofs.EmittingLemmas.{emits_as, emits_none, emits_then}
 
 -- ---- a try with a finally
@@ -107,11 +108,6 @@ behind_behind : (cs : Clauses) (n : ℕ) (c_name : Name) (x : Option Name) (s : 
 behind_behind no_more n c_name x s more = refl
 behind_behind (clause m d y t others) n c_name x s more = ap (clause m d y t) (behind_behind others n c_name x s more)
 
-size_behind : (w : _) (cs : Clauses) (n : ℕ) (c_name : Name) (x : Option Name) (s : Suite)
-    → size_clauses w cs + size_clause w x (size_suite w s) ≡ size_clauses w (joined_clauses cs (clause n c_name x s no_more))
-size_behind w no_more n c_name x s = omega arith
-size_behind w (clause m d y t others) n c_name x s = omega (arith, size_behind w others n c_name x s)
-
 -- all targets have places if those of the first and of the last have
 placed_behind : (vars : List Name) (cs : Clauses) (n : ℕ) (c_name : Name) (x : Option Name) (s : Suite) → ClausesPlaced vars (joined_clauses cs (clause n c_name x s no_more))
     → ClausesPlaced vars cs × ClausesPlaced vars (clause n c_name x s no_more)
@@ -123,7 +119,7 @@ pub clauses_add : {a b c : Draft} (scope : Scope) (end : ℕ) (cs : Clauses) (n 
     → EmitsClauses a.labels a c scope end (joined_clauses cs (clause n c_name x s no_more))
 clauses_add {a} {b} {c} scope end cs n c_name x s so_far one =
     let one_here : EmitsClause a.labels b c scope end n c_name x s = subst (λ (l : ℕ). EmitsClause l b c scope end n c_name x s) so_far.labels one in
-    emits_as (emits_then so_far one_here) (λ w. size_behind w cs n c_name x s)
+    emits_as (emits_then so_far one_here) (λ w. sym (size_with_clause w cs n c_name x s))
     (λ room whole same (mid, _, _, front, last) end_fits around placed line more rest.
     let both = placed_behind whole.vars cs n c_name x s placed in
     subst (λ (all : Clauses). LaidClauses whole scope line all (end_of a) end) (sym (behind_behind cs n c_name x s more))

@@ -4,7 +4,7 @@ ghost use Rattle.std.specs.Prelude.{◌≡◌, ◌+◌, ◌%◌, ◌≤◌, ◌^
 ghost use Rattle.py_code.specs.Units.{is_prefix};
 ghost use Rattle.py_laid.specs.Code.{in_loop};
 ghost use Rattle.py_tree.specs.Tree.{IfElse, TryExcept, TryFinally, While, With};
-ghost use Rattle.py_tree.specs.Views.{clauses_of, form_of, suite_of};
+ghost use Rattle.py_tree.specs.Views.{form_of, suite_of};
 ghost use Rattle.py_tree.specs.Compilable.{FormNests, SuiteFits, SuiteNests, statements, statements_in};
 ghost use Rattle.py_body.specs.Sizes.{size_form, size_rounds};
 ghost use Rattle.py_body.specs.Emitting.{draft_of, end_of, labels_of, scope_of, weights_of, EmitsBranch, EmitsForm, EmitsSuite, FormIn, SuiteIn};

@@ -1,6 +1,6 @@
 //! The emitter: units with their lines and notes, and the constants and names that they refer to.
 
-ghost use Rattle.std.specs.Prelude.{◌≡◌, ◌+◌, ◌*◌, ◌%◌, ◌<◌, ◌≤◌, ◌^◌, ◌∷◌, ◌++◌, [], false, length, suc, max, replicate, IfOk, OnOk};
+ghost use Rattle.std.specs.Prelude.{◌≡◌, ◌+◌, ◌%◌, ◌<◌, ◌≤◌, ◌^◌, ◌∷◌, ◌++◌, [], false, length, max, replicate, OnOk};
 ghost use Rattle.py_code.specs.declared.instruction.Instruction.TheVariants.{ExtendedArg};
 ghost use Rattle.py_code.specs.Units.{is_prefix};
 ghost use Rattle.py_check.specs.Constants.{has_code};

@@ -1,6 +1,6 @@
 //! The code of expressions.
 
-ghost use Rattle.std.specs.Prelude.{◌≡◌, ◌+◌, ◌≤◌, ◌<◌, length, false, suc, OnOk};
+ghost use Rattle.std.specs.Prelude.{◌≡◌, ◌+◌, ◌≤◌, ◌<◌, length, false, OnOk};
 ghost use Rattle.py_code.specs.Units.{is_prefix};
 ghost use Rattle.py_check.specs.Constants.{has_code};
 ghost use Rattle.py_code.specs.declared.instruction.Instruction.TheVariants.{LoadConst};

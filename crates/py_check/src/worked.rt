@@ -10,7 +10,7 @@ ghost use Rattle.py_check.specs.declared.note.Pending.TheVariants as pending;
 ghost use Rattle.py_check.specs.declared.note.BlockNote.TheVariants as block;
 ghost use Rattle.py_check.specs.declared.note.Note.TheVariants as note;
 ghost use Rattle.py_check.specs.Constants.{is_driving, tuple_kind};
-ghost use Rattle.py_check.specs.Worked.{Typed, Breaks, unit, sheet, holds, nothing, one, two, sum, sum_notes, calling, in_loop, looping, loop_notes, loop_units, prefixed, loaded, loaded_later, returned_later, behind_the_end, guarded, handles};
+ghost use Rattle.py_check.specs.Worked.{Typed, Breaks, unit, sheet, holds, nothing, one, two, sum, sum_notes, calling, in_loop, looping, loop_units, prefixed, loaded, loaded_later, returned_later, behind_the_end, guarded, handles};
 
 /// The code of a small function keeps the rules on units, and others break them, each first at a certain unit.
 pub fn worked_notes()

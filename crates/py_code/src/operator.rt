@@ -1,6 +1,5 @@
 //! Operators, as the argument of an instruction numbers them.
 
-ghost use Rattle.std.specs.Prelude.{◌≡◌, slice_get, Some};
 ghost use Rattle.py_code.specs.Operators.{binary_operators, comparison_operators, raise_kinds, test_operators};
 ghost use Rattle.py_code.specs.Numbers.{binary_number, comparison_number, conversion_flags, conversion_number, raise_number, test_number, unary_number, unary_operators, Numbers, Reads};
 

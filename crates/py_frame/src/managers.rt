@@ -1,7 +1,6 @@
 //! Managers that are entered.
 
-ghost use Rattle.std.specs.Prelude.{◌+◌, ◌^◌, ◌<◌, ◌≡◌};
-ghost use Rattle.py_rows.specs.RunOfRows.{MayLead};
+ghost use Rattle.std.specs.Prelude.{◌+◌, ◌^◌, ◌<◌};
 ghost use Rattle.py_rows.specs.Receiving.{entered, enters};
 ghost use Rattle.py_rows.specs.Rows.{asks_enter};
 ghost use Rattle.py_frame.specs.Frames.{over};

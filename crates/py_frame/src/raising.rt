@@ -1,6 +1,6 @@
 //! Raises.
 
-ghost use Rattle.std.specs.Prelude.{◌<◌, ◌+◌, ◌^◌, slice_get};
+ghost use Rattle.std.specs.Prelude.{◌<◌, slice_get};
 ghost use Rattle.py_code.specs.Operators.{raise_kinds};
 ghost use Rattle.py_rows.specs.Receiving.{causes, raised};
 ghost use Rattle.py_rows.specs.Rows.{raises};

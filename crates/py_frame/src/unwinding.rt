@@ -1,6 +1,6 @@
 //! Leaving blocks.
 
-ghost use Rattle.std.specs.Prelude.{◌≡◌, ◌+◌, ◌<◌, ◌∷◌, length, Some, None};
+ghost use Rattle.std.specs.Prelude.{◌≡◌, ◌<◌, ◌∷◌, Some, None};
 ghost use Rattle.py_rows.specs.States.{Stuck, jumps};
 ghost use Rattle.py_rows.specs.Unwinding.{meets_except, meets_finally, unwind, unwinds};
 ghost use Rattle.py_rows.specs.declared.block.UnwindReason.TheVariants as reason;

@@ -1,7 +1,6 @@
 //! Names and atoms, by what the tokens mean that print them.
 
-ghost use Rattle.std.specs.Prelude.{◌≡◌, ◌≢◌, ◌∷◌, List, [], IfOk, MatchOption, map};
-ghost use Rattle.py_tree.specs.Tree.{Name};
+ghost use Rattle.std.specs.Prelude.{◌≡◌, ◌≢◌, ◌∷◌, [], IfOk, MatchOption, map};
 ghost use Rattle.py_lines.specs.Finding.{Prints};
 ghost use Rattle.py_lines.specs.Meaning.{Key, Word};
 ghost use Rattle.py_lines.specs.Senses.{meaning_of};

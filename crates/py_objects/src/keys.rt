@@ -1,6 +1,6 @@
 //! The keys of dicts.
 
-ghost use Rattle.std.specs.Prelude.{◌≡◌, ◌<◌, length, IfSome, option_map};
+ghost use Rattle.std.specs.Prelude.{◌≡◌, ◌<◌, length, IfSome};
 ghost use Rattle.py_objects.specs.Keys.{place_of_key};
 ghost use Rattle.py_objects.specs.Values.{same_key};
 

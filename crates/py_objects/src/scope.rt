@@ -1,6 +1,6 @@
 //! Where names are looked up.
 
-ghost use Rattle.std.specs.Prelude.{◌≡◌, if◌then◌else◌, Some};
+ghost use Rattle.std.specs.Prelude.{◌≡◌};
 ghost use Rattle.py_objects.specs.Scopes.{scope_of};
 
 use crate::refs::PyObjectRef;

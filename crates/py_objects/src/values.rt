@@ -1,6 +1,6 @@
 //! What can be read off payloads: numbers, texts, and whether two values are one key.
 
-ghost use Rattle.std.specs.Prelude.{◌≡◌, FitsSigned, IfSome, option_map, option_copied};
+ghost use Rattle.std.specs.Prelude.{◌≡◌, FitsSigned, IfSome, option_copied};
 ghost use Rattle.std.specs.Int.{w128};
 ghost use Rattle.py_objects.specs.Values.{is_none, number_of, text_of, same_value};
 

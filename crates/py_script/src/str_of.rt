@@ -1,6 +1,6 @@
 //! Objects as texts, behind a text.
 
-ghost use Rattle.std.specs.Prelude.{◌≡◌, ◌++◌, Some, OnOk, string_bytes, codes};
+ghost use Rattle.std.specs.Prelude.{◌≡◌, ◌++◌, Some, OnOk, string_bytes};
 ghost use Rattle.py_meaning.specs.Repr.{repr_within};
 ghost use Rattle.py_meaning.specs.Said.{line_between, whereabouts};
 ghost use Rattle.py_meaning.specs.Text.{str_by, str_within};

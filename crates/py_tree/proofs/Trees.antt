@@ -1,7 +1,7 @@
 -- The suites of statement lists, and the clauses of clause lists, by their elements.
 use Rattle.std.proofs.Common.{◌≡◌, refl, List, [], ◌∷◌, ◌++◌, ap, rules}
 use Rattle.py_tree.specs.declared.stmt.Stmt.{Stmt}
-use Rattle.py_tree.specs.declared.stmt.Clause.{Clause, Clause'}
+use Rattle.py_tree.specs.declared.stmt.Clause.{Clause, Clause', out-Clause}
 use Rattle.py_tree.specs.declared.stmt.StmtList.{StmtList, StmtList', Row_of-Stmt, end_of-Stmt, more_of-Stmt, items-the_row-Stmt, out-StmtList}
 use Rattle.py_tree.specs.declared.stmt.ClauseList.{ClauseList, ClauseList', Row_of-Clause, end_of-Clause, more_of-Clause, items-the_row-Clause, out-ClauseList}
 use Rattle.py_tree.specs.declared.stmt.StmtForm.{StmtForm}
@@ -9,7 +9,7 @@ use Rattle.py_tree.specs.declared.stmt.StmtForm.TheOpen.{StmtList-F, ClauseList-
 use Rattle.py_tree.specs.declared.stmt.StmtForm.TheViews.{roll-StmtList, roll-ClauseList, the_lemmas}
 use Rattle.py_tree.specs.Tree.{first, clause}
 use Rattle.py_tree.specs.Views.{clauses_of, form_of, row_clauses, row_suite, suite_of}
-use Rattle.py_tree.specs.Suites.{add, add_clause, list_clauses, list_suite}
+use Rattle.py_tree.specs.Suites.{add, list_clauses, list_suite, with_clause}
 
 row_is_list : (n : _) (row : Row_of-Stmt n) → row_suite row ≡ list_suite (items-the_row-Stmt n row)
 row_is_list n end_of-Stmt = refl
@@ -35,6 +35,7 @@ clauses_out (ClauseList' shape row) = search (rules, the_lemmas, clauses_are_lis
 pub clauses_roll : (x : ClauseList-F StmtForm Clause ClauseList Stmt StmtList) → clauses_of (roll-ClauseList x) ≡ list_clauses x.items.items
 clauses_roll x = search (rules, the_lemmas, clauses_out)
 
-pub list_clauses_append : (clauses : List Clause) (c : Clause) → list_clauses (clauses ++ c ∷ []) ≡ add_clause (list_clauses clauses) c
-list_clauses_append [] (Clause' line class target suite) = refl
+pub list_clauses_append : (clauses : List Clause) (c : Clause)
+    → list_clauses (clauses ++ c ∷ []) ≡ with_clause (list_clauses clauses) (out-Clause c).line (out-Clause c).class (out-Clause c).target (suite_of (out-Clause c).suite)
+list_clauses_append [] (Clause' line class target suite) = search (rules, the_lemmas)
 list_clauses_append (Clause' line class target suite ∷ clauses) c = ap (clause line class target (suite_of suite)) (list_clauses_append clauses c)

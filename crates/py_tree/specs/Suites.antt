@@ -32,8 +32,3 @@ joined_clauses (clause n c x s others) more = clause n c x s (joined_clauses oth
 -- a clause behind others
 abbrev pub with_clause : Clauses → ℕ → Name → Option Name → Suite → Clauses
 with_clause cs n c x s = joined_clauses cs (clause n c x s no_more)
-
--- one of the program's
-abbrev pub add_clause : Clauses → Clause → Clauses
-add_clause no_more (Clause' line class target suite) = clause line class target (suite_of suite) no_more
-add_clause (clause n x t s more) c = clause n x t s (add_clause more c)

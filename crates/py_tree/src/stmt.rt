@@ -1,9 +1,10 @@
 //! Statements, each with the line that it stands in.
 
 ghost use Rattle.std.specs.Prelude.{◌≡◌, OnOk, OnErr};
+ghost use Rattle.py_tree.specs.declared.stmt.Clause.{out-Clause};
 ghost use Rattle.py_tree.specs.Tree.{no_more, nothing};
 ghost use Rattle.py_tree.specs.Views.{clauses_of, form_of, suite_of};
-ghost use Rattle.py_tree.specs.Suites.{add, add_clause, list_clauses, list_suite};
+ghost use Rattle.py_tree.specs.Suites.{add, list_clauses, list_suite, with_clause};
 
 use crate::expr::{Atom, Expr, Operation};
 use py_code::{NoMemory, PyText};
@@ -130,7 +131,7 @@ impl ClauseList {
     /// Puts a clause behind the others.
     #[tactic(auto, using(crate::proofs::Trees::clauses_roll, crate::proofs::Trees::clauses_out, crate::proofs::Trees::list_clauses_append))]
     pub fn push(&mut self, clause: Clause) -> Result<(), NoMemory>
-        ensures added { OnOk result (clauses_of self.new ≡ add_clause (clauses_of self.old) clause) }
+        ensures added { OnOk result (clauses_of self.new ≡ with_clause (clauses_of self.old) (out-Clause clause).line (out-Clause clause).class (out-Clause clause).target (suite_of (out-Clause clause).suite)) }
         ensures err { OnErr result (clauses_of self.new ≡ clauses_of self.old) }
     {
         self.items.push(clause)?;

@@ -5,7 +5,7 @@ use Rattle.py_tree.specs.Views.{clauses_of, form_of, suite_of}
 use Rattle.py_tree.specs.Suites.{list_clauses, list_suite}
 use Rattle.py_tree.specs.Compilable.{statements, statements_in, statements_under}
 use Rattle.py_body.specs.Sizes.{most_units, size_clause, size_clauses, size_form, size_suite}
-use Rattle.py_body.proofs.ClauseTrees.{clause_size_at, clause_statements_at, clauses_more, size_add_clause, suite_in_clause}
+use Rattle.py_body.proofs.ClauseTrees.{clause_size_at, clause_statements_at, clauses_more, size_with_clause, suite_in_clause}
 use Rattle.py_body.proofs.Trees.{size_add, size_at, statements_at, suite_more}
 use Rattle.py_body.proofs.sizes.+size.Goals as goal
 
@@ -70,5 +70,6 @@ size_of_clauses-loop-clause-preserved t c =
     let items = c.as_slice-clause-items.result.now in
     let so_far : Clauses = list_clauses (take c.loop-clause.clause-index items) in
     let body = ap (λ (n : ℕ). size_clause c.args.weights (out-Clause c.clause-item.result).target n) c.size_of_suite-body.ensures.size in
-    (λ k. c.loop-clause.invariant k + (c.size_of_clause-size.ensures ∙ body) k) ∙ sym (size_add_clause c.args.weights so_far c.clause-item.result)
+    let one = out-Clause c.clause-item.result in
+    (λ k. c.loop-clause.invariant k + (c.size_of_clause-size.ensures ∙ body) k) ∙ sym (size_with_clause c.args.weights so_far one.line one.class one.target (suite_of one.suite))
     ∙ ap (size_clauses c.args.weights) (sym (clauses_more items c.loop-clause.clause-index c.clause-item.result c.loop-clause-test.true c.clause-item.is))

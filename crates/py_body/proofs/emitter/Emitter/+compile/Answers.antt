@@ -13,7 +13,7 @@ use Rattle.py_body.proofs.Trees.{fits_at, nests_at, statements_at, suite_more}
 use Rattle.py_body.proofs.SizeLemmas.{clauses_most, suite_most}
 use Rattle.py_body.proofs.StatementLemmas.{form_taken}
 use Rattle.py_body.proofs.BlockLemmas.{branch_emits, if_else_emits, pass_emits, suite_add, suite_none, while_emits}
-use Rattle.py_body.proofs.ClauseTrees.{clause_fits_at, clause_nests_at, clause_statements_at, clauses_behind}
+use Rattle.py_body.proofs.ClauseTrees.{clause_fits_at, clause_nests_at, clause_statements_at, clauses_more}
 use Rattle.py_body.proofs.ProtectedLemmas.{clause_emits, clauses_add, clauses_none, forgetting_emits, opening_emits, plain_handler_emits, tried_emits, try_except_emits, try_finally_emits}
 use Rattle.py_body.proofs.ManagerLemmas.{managed_emits, with_emits}
 use Rattle.py_body.proofs.emitter.Emitter.+compile.Goals as goal
@@ -301,7 +301,7 @@ compile_clauses-loop-clause-preserved t c =
     let one = out-Clause c.clause-item.result in
     record {
       code = subst (EmitsClauses c.args.self.now.labels (draft_of c.args.self.now) (draft_of c.put_jump.new.self) scope c.args.end)
-          (sym (clauses_behind items i c.clause-item.result c.loop-clause-test.true c.clause-item.is))
+          (sym (clauses_more items i c.clause-item.result c.loop-clause-test.true c.clause-item.is))
           (clauses_add scope c.args.end (list_clauses (take i items)) one.line one.class one.target (suite_of one.suite) c.loop-clause.invariant.code
           (clause_emits scope (scope_of c.args.within.now) one.line one.class one.target (suite_of one.suite) c.clause_label-other.result c.args.end c.requires.within c.clause_label-other.ensures
           c.in_ok-put_match.ensures.code c.in_ok-compile_handler.ensures.code c.in_ok-put_plain.ensures.code c.in_ok-put_jump.ensures.code));
