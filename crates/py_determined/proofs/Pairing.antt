@@ -84,12 +84,6 @@ module _ (N : Relation) where
   pairs_related [] (j ∷ ns) v w s is = absurd s
   pairs_related (i ∷ ms) [] v w s is = absurd s
 
-  -- the other way round
-  pub numbers_related : (ms ns : List ℕ) → SameNumbers (λ v w. Unit {0}) ms ns → ((v w : Obj) → IsPair (paired ms ns) v w → N v w) → SameNumbers N ms ns
-  numbers_related [] [] s by = tt
-  numbers_related (i ∷ ms) (j ∷ ns) s by = (by (numbered i) (numbered j) (inl (refl, refl)), numbers_related ms ns s.1 (λ v w is. by v w (inr is)))
-  numbers_related _ _ s by = absurd s
-
   both_numbers : (is js ks ls : List ℕ) → SameNumbers N is js → SameNumbers N ks ls → SameNumbers N (is ++ ks) (js ++ ls)
   both_numbers [] [] ks ls s t = t
   both_numbers (i ∷ is) (j ∷ js) ks ls s t = (s.0, both_numbers is js ks ls s.1 t)

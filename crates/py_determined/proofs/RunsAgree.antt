@@ -6,13 +6,14 @@ use Rattle.py_objects.specs.declared.event.Event.{Event}
 use Rattle.py_objects.specs.declared.event.Event.TheVariants as event
 use Rattle.py_objects.specs.Objects.{Obj}
 use Rattle.py_objects.specs.Own.{Own, whose, own_from, own_events}
-use Rattle.py_run.specs.Run.{Plan, Idle, Asking, Going, Made, Act, Activation, State, start, after, state_after, IsTop, question}
+use Rattle.py_run.specs.Run.{Plan, Idle, Act, Activation, State, start, after, state_after, IsTop, question}
 use Rattle.py_run.specs.Generators.{generators_after}
 use Rattle.py_run.specs.Raises.{raises_after, raises_of}
 use Rattle.py_run.specs.Coming.{May, Past, nothing, past_after, setting, IsReply, MayCome, Comes, EachTells}
 use Rattle.py_run.specs.Past.{past_behind}
 use Rattle.py_run.proofs.PastLemmas.{past_state, past_on}
-use Rattle.py_run.proofs.RunLemmas.{comes_front}
+use Rattle.py_run.proofs.RunLemmas.{comes_front, asking_busy, going_busy, made_busy}
+use Rattle.py_run.proofs.OwnLemmas.{state_lists}
 use Rattle.py_run.proofs.RaisesLemmas.{raises_on}
 use Rattle.py_run.proofs.CoursesLemmas.{IsResumed, resumed}
 use Rattle.py_run.proofs.CutLemmas.{AreBelow, IsNumbered, numbered_behind}
@@ -57,17 +58,7 @@ top_below : (made a : ℕ) (stack : List Act) → AreBelow made stack → IsTop 
 top_below made a [] below top = absurd top
 top_below made a (x ∷ stack) below top = let here = below.0 in omega (arith, here, top)
 
--- where a question is open, or an activation goes on, something is
-asking_busy : Asking ≡ Idle → ⊥
-asking_busy same = cc same
-
-going_busy : Going ≡ Idle → ⊥
-going_busy same = cc same
-
-made_busy : (f : Obj) → Made f ≡ Idle → ⊥
-made_busy f same = cc same
-
--- so it is where one is entered
+-- where an activation is entered, something runs
 resumed_busy : (plan : Plan) (p : Past) (a : ℕ) → IsResumed plan p a → p.state.phase ≡ Idle → ⊥
 resumed_busy plan p a (inl (f, made, last)) idle = made_busy f (sym made ∙ idle)
 resumed_busy plan p a (inr (asks, opens)) idle = asking_busy (sym asks ∙ idle)
@@ -162,15 +153,11 @@ module _ (plan plan' : Plan) (objects objects' : List Payload) (may may' : May) 
           script.bodies p.events q.events x.function y.function x.args y.args _ _ same.alike function args
           (subst (λ l. may x.function x.args (own_events (suc i) l)) is (tells i x made)) (subst (λ l. may' y.function y.args (own_events (suc i) l)) is' (tells' i y made'))
         where
-          state_front : (s : State) (xs ys : List Event) → state_after s (xs ++ ys) ≡ state_after (state_after s xs) ys
-          state_front s [] ys = refl
-          state_front s (x ∷ xs) ys = state_front (after s x) xs ys
-
           made_in : (all xs ys : List Event) → all ≡ xs ++ ys → (s : State) → s ≡ state_after start xs → (j : ℕ) (z : Activation) → slice_get s.made j ≡ Some z
               → slice_get (state_after start all).made j ≡ Some z
           made_in all xs ys whole s front j z found =
               subst (λ l. slice_get (state_after start l).made j ≡ Some z) (sym whole)
-              (subst (λ (r : State). slice_get r.made j ≡ Some z) (ap (λ r. state_after r ys) front ∙ sym (state_front start xs ys)) (made_stays s ys j z found))
+              (subst (λ (r : State). slice_get r.made j ≡ Some z) (ap (λ r. state_after r ys) front ∙ sym (state_lists start xs ys)) (made_stays s ys j z found))
 
       -- so what it tells next does
       telling : IsTold plan objects p e → IsTold plan' objects' q f → SameTelling (At p q) e f

@@ -1,4 +1,4 @@
--- Which objects of two runs of one script are related: the relation that their events determine.
+-- Which objects of two runs are related: the relation that their events determine.
 use Rattle.std.specs.Prelude.{ℕ, true, Some, List, [], ◌∷◌, ◌++◌, ◌≡◌, ◌⊎◌}
 use Rattle.py_objects.specs.declared.payload.Payload.{Payload}
 use Rattle.py_objects.specs.declared.request.Request.{Request}

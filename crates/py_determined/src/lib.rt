@@ -1,4 +1,4 @@
-//! What two runs of one script have in common: laws about the definitions of answers, courses and events, with no code.
+//! When questions, objects and events of two runs are the same: definitions, with laws about answers and courses, and no code.
 #![tactic(auto)]
 
 mod laws;

@@ -1,8 +1,6 @@
 -- which objects a script's declarations have
 pub mod Behind
 pub mod Entries
--- what is written where no object changes
-pub mod PlainText
 -- two runs of one script: what is alike before any event, what drives ask, what activations tell
 mod EarlierLemmas
 mod AlikeObjects
@@ -10,10 +8,11 @@ mod AskedAgree
 mod TracesAgree
 mod OneScript
 -- how they end, and what is written of them
-mod DeterminedRuns
+mod Lengths
 mod TextsAgree
 pub mod ScriptsAgree
--- journals worked by hand
+-- what is written where no object changes, and journals worked by hand
+mod PlainText
 mod WorkedObjects
 mod Journals
 mod WorkedLemmas

@@ -1,10 +1,11 @@
 -- What two runs of one script have in common from the beginning.
-use Rattle.std.proofs.Common.{◌≡◌, ◌≤◌, ◌<◌, ℕ, zero, suc, Option, Some, List, [], ◌∷◌, ◌++◌, length, refl, sym, ap, subst, slice_get, inl, inr, arith}
+use Rattle.std.proofs.Common.{◌≡◌, ◌≤◌, ℕ, suc, Option, Some, List, [], ◌∷◌, ◌++◌, refl, sym, ap, subst, slice_get, inl, inr, arith}
 use Rattle.py_objects.specs.declared.payload.Payload.{Payload}
 use Rattle.py_objects.specs.declared.event.Event.{Event}
 use Rattle.py_objects.specs.declared.event.Event.TheVariants as event
 use Rattle.py_objects.specs.Objects.{Obj, Name, declared}
 use Rattle.py_objects.specs.Own.{Own}
+use Rattle.py_objects.proofs.Slots.{there}
 use Rattle.py_lines.specs.declared.drive.DriveLine.{DriveLine}
 use Rattle.py_grammar.specs.Grammar.{Decl, functions_in}
 use Rattle.py_run.specs.Run.{Posed, Plan, start, state_after}
@@ -24,19 +25,13 @@ use Rattle.py_meaning.proofs.AlikeObjects.{declared_are_alike}
 use Rattle.py_meaning.proofs.AskedAgree.{posed_agree}
 use Rattle.py_meaning.proofs.TracesAgree.{told_agree}
 
--- there is an entry at each place of a list
-present : {A : Type 0} (xs : List A) (i : ℕ) → i < length xs → (x : A) × (slice_get xs i ≡ Some x)
-present [] i low = absurd (omega (arith, low))
-present (x ∷ xs) zero low = (x, refl)
-present (x ∷ xs) (suc i) low = present xs i (omega (arith, low))
-
 -- a drive begins behind so many that are done, and asks something
 begins_at : (plan : Plan) (objects : List Payload) (es more : List Event) (d : ℕ) → Comes plan objects nothing (es ++ event.Drive (suc d) ∷ more)
     → (d ≤ (state_after start es).done) × ((q : Posed) × (slice_get plan.asked d ≡ Some q))
 begins_at plan objects es more d comes =
     let (idle, next, some) = (comes_rest plan objects nothing es (event.Drive (suc d) ∷ more) comes).0 in
     let state : (past_behind plan nothing es).state.done ≡ (state_after start es).done = ap (λ s. s.done) (past_state plan es) in
-    (omega (arith, next, state), present plan.asked d (omega (arith, next, some)))
+    (omega (arith, next, state), there plan.asked d (omega (arith, next, some)))
 
 module _ (decls : List Decl) (drives : List DriveLine) (earlier : NameEarlier drives)
     (objects objects' : List Payload) (events events' : List Event) (run : IsRunOf decls drives objects events) (run' : IsRunOf decls drives objects' events') where

@@ -1,4 +1,4 @@
--- Two runs of one script are the same as far as both go, and two whole ones have one text.
+-- Two runs of one script are the same as far as both go; which is longer, and which texts are one.
 use Rattle.std.proofs.Common.{◌≡◌, ◌≤◌, ◌<◌, ◌∙◌, ℕ, List, [], length, ap, sym, arith}
 use Rattle.py_objects.specs.declared.payload.Payload.{Payload}
 use Rattle.py_objects.specs.declared.edit.Change.{Change}
@@ -16,7 +16,7 @@ use Rattle.py_meaning.specs.Whole.{IsRunOf, IsRunFrom, IsWholeFrom, IsUnfinished
 use Rattle.py_meaning.specs.Text.{text_of, events_text}
 use Rattle.py_meaning.proofs.EarlierLemmas.{script_earlier}
 use Rattle.py_meaning.proofs.OneScript.{signatures_agree, first_alike, bodies_agree, drives_agree}
-use Rattle.py_meaning.proofs.DeterminedRuns.{run_of, no_longer, unfinished_shorter}
+use Rattle.py_meaning.proofs.Lengths.{run_of, no_longer, unfinished_shorter}
 use Rattle.py_meaning.proofs.TextsAgree.{texts_agree}
 
 unchanged_text : (j : Journal) → j.changes ≡ [] → text_of j ≡ events_text j.objects [] j.events

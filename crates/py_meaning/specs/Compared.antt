@@ -1,4 +1,4 @@
--- Two runs of one script: what can't differ in them, and what may.
+-- What can't differ in two runs of one script.
 use Rattle.std.specs.Prelude.{ℕ, Some, Option, List, ◌≡◌, pos, slice_get}
 use Rattle.py_objects.specs.declared.refs.PyBaseExceptionRef.{PyBaseExceptionRef}
 use Rattle.py_objects.specs.declared.payload.Payload.{Payload}
@@ -9,13 +9,10 @@ use Rattle.py_objects.specs.declared.event.GotAnswer.TheVariants as got
 use Rattle.py_objects.specs.declared.event.Event.{Event}
 use Rattle.py_objects.specs.declared.event.Event.TheVariants as event
 use Rattle.py_objects.specs.Objects.{Obj, Name, HasPayload}
-use Rattle.py_objects.specs.Singletons.{none_object}
 use Rattle.py_grammar.specs.Grammar.{Decl}
 use Rattle.py_lines.specs.declared.drive.DriveLine.{DriveLine}
 use Rattle.py_meaning.specs.Earlier.{NameEarlier}
 use Rattle.py_meaning.specs.Whole.{IsRunOf}
-use Rattle.py_meaning.specs.Worked.{object}
-use Rattle.py_meaning.specs.WorkedShow.{decls, drives, objects, events_by}
 
 -- prefixes of two runs of the same declarations and drives
 pub record AreRuns (objects objects' : List Payload) (events events' : List Event) : Type 0 where
@@ -39,7 +36,7 @@ NoOtherAnswer =
     (objects objects' : List Payload) (events events' : List Event) (i : ℕ) (v w : Obj) → AreRuns objects objects' events events' → Gets events i v → Gets events' i w
     → HasPayload objects v (payload.Int (pos 1)) → HasPayload objects' w (payload.Int (pos 2)) → ⊥
 
--- where the one run looks up a name, the other doesn't look up another one
+-- where the one run looks up a name, the other doesn't look up another one, as it would if it went in another order
 abbrev pub NoOtherOrder : Type 0
 NoOtherOrder =
     (objects objects' : List Payload) (events events' : List Event) (i : ℕ) (x y : Name) → AreRuns objects objects' events events' → LooksUp events i x → LooksUp events' i y → (x ≡ y → ⊥) → ⊥
@@ -49,7 +46,3 @@ abbrev pub NoOtherIdentity : Type 0
 NoOtherIdentity =
     (objects objects' : List Payload) (events events' : List Event) (i k : ℕ) (v w w2 : Obj) (g : CoroBody) → AreRuns objects objects' events events'
     → Gets events i v → Gets events k v → HasPayload objects v (payload.Generator g) → Gets events' i w → Gets events' k w2 → (w ≡ w2 → ⊥) → ⊥
-
--- but which None is returned is free: two lists of events that differ in it are both runs
-abbrev pub OtherNumbers : Type 0
-OtherNumbers = IsRunOf decls drives objects (events_by (object 6) none_object (object 7)) × IsRunOf decls drives objects (events_by (object 6) none_object none_object)

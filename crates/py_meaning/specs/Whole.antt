@@ -1,5 +1,5 @@
 -- What a script means: which journals are runs of it.
-use Rattle.std.specs.Prelude.{ℕ, ◌≤◌, ◌⊎◌, Option, Some, None, List, [], ◌∷◌, ◌≡◌, slice_get, length, map}
+use Rattle.std.specs.Prelude.{ℕ, ◌⊎◌, Option, Some, None, List, [], ◌∷◌, ◌≡◌, slice_get, length, map}
 use Rattle.std.specs.List.{AllZip}
 use Rattle.std.specs.List.Sorted.{IsPermutation}
 use Rattle.py_objects.specs.declared.refs.PyTypeRef.{PyTypeRef}
@@ -18,10 +18,6 @@ use Rattle.py_objects.specs.declared.event.Event.{Event}
 use Rattle.py_objects.specs.declared.event.Event.TheVariants as event
 use Rattle.py_objects.specs.ErrorKinds.{name_of}
 use Rattle.py_objects.specs.Objects.{Obj, Name, HasPayload, as_object, declared, AllFit}
-use Rattle.py_code.specs.Codes.{Codes}
-use Rattle.py_code.specs.declared.code.PyCode.{PyCode}
-use Rattle.py_check.specs.declared.note.Note.{Note}
-use Rattle.py_laid.specs.Fits.{Fits}
 use Rattle.py_tree.specs.Tree.{Tree, seen_as}
 use Rattle.py_tree.specs.Scene.{anywhere}
 use Rattle.py_tree.specs.Trace.{IsTrace}
@@ -35,8 +31,7 @@ use Rattle.py_grammar.specs.Script.{decls_of, IsScript}
 use Rattle.py_exceptions.specs.BuiltIn.{IsClassOf}
 use Rattle.py_vm.specs.declared.journal.Journal.{Journal}
 use Rattle.py_run.specs.Run.{Signature, Posed, Plan}
-use Rattle.py_run.specs.Coming.{May, EachTells, IsRunBy, IsDone}
-use Rattle.py_vm.specs.RowsOf.{RowsOf}
+use Rattle.py_run.specs.Coming.{May, IsRunBy, IsDone}
 
 -- what the answer of a drive leaves for `$N`: its value or its exception, None where there is none
 abbrev pub IsLeft : List Payload → DriveAnswer → Obj → Type 0
@@ -189,30 +184,6 @@ IsRun s j = IsJournalOf (decls_of s) s.drives j
 abbrev pub IsWhole : Script → Journal → Type 0
 IsWhole s j = IsDone (length s.drives) j.events
 
--- there is a code for each body, and the one at its place fits it, with some notes
-pub record AreCompiled (ts : List Tree) (cs : Codes) : Type 0 where
-  pub count : length cs.codes ≡ length ts
-  pub fit : (i : ℕ) (t : Tree) → slice_get ts i ≡ Some t → (c : PyCode) × (slice_get cs.codes i ≡ Some c) × ((notes : List Note) × Fits cs.names (record { code = c; notes = notes }) t)
-
--- the journal's codes are those of the bodies that are declared, which they fit, and each activation's own events, with their
--- units, are a run of the rows of its code
-pub record RunsCodesOf (decls : List Decl) (j : Journal) : Type 0 where
-  pub compiled : AreCompiled (functions_in decls) j.codes
-  pub globals : Obj
-  pub are_globals : AreGlobals decls j.objects globals
-  pub tells : EachTells (RowsOf j.codes globals j.objects) j.events
-
--- those of a script
-abbrev pub RunsItsCodes : Script → Journal → Type 0
-RunsItsCodes s j = RunsCodesOf (decls_of s) j
-
--- the journal where nothing ran
-pub record IsEmpty (j : Journal) : Type 0 where
-  pub events : j.events ≡ []
-  pub objects : j.objects ≡ []
-  pub changes : j.changes ≡ []
-  pub codes : j.codes.codes ≡ []
-
 -- the journal is a prefix of a run of the script that the bytes are, whatever codes it has
 abbrev pub IsRunFrom : List ℕ → Journal → Type 0
 IsRunFrom bytes j = (s : Script) × IsScript bytes s × IsRun s j
@@ -224,15 +195,3 @@ IsWholeFrom bytes j = (s : Script) × IsScript bytes s × IsRun s j × IsWhole s
 -- one that isn't whole
 abbrev pub IsUnfinishedFrom : List ℕ → Journal → Type 0
 IsUnfinishedFrom bytes j = (s : Script) × IsScript bytes s × IsRun s j × (IsWhole s j → ⊥)
-
--- the journal is a prefix of a run of the script that the bytes are, of at most so many events
-abbrev pub IsPartOfRun : List ℕ → ℕ → Journal → Type 0
-IsPartOfRun bytes turns j = (s : Script) × IsScript bytes s × IsRun s j × (length j.events ≤ turns) × RunsItsCodes s j
-
--- the journal is a whole run of the script that the bytes are, of at most so many events
-abbrev pub IsWholeRun : List ℕ → ℕ → Journal → Type 0
-IsWholeRun bytes turns j = (s : Script) × IsScript bytes s × IsRun s j × IsWhole s j × (length j.events ≤ turns) × RunsItsCodes s j
-
--- the journal is a prefix of a run of the script that the bytes are, of exactly so many events, and no whole one
-abbrev pub IsCutRun : List ℕ → ℕ → Journal → Type 0
-IsCutRun bytes turns j = (s : Script) × IsScript bytes s × IsRun s j × (IsWhole s j → ⊥) × (length j.events ≡ turns) × RunsItsCodes s j

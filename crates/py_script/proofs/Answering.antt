@@ -7,7 +7,7 @@ use Rattle.py_vm.specs.declared.journal.Journal.{Journal}
 use Rattle.std.specs.Result.{IsErrAnd}
 use Rattle.py_script.specs.declared.fault.ScriptFault.{ScriptFault}
 use Rattle.py_script.specs.declared.fault.ScriptFault.TheVariants as fault
-use Rattle.py_meaning.specs.Whole.{IsPartOfRun, IsWholeRun, IsCutRun}
+use Rattle.py_script.specs.Answered.{IsPartOfRun, IsWholeRun, IsCutRun}
 use Rattle.py_script.specs.Steps.{IsReading, HasRun, IsWriting}
 use Rattle.py_script.specs.Causes.{Ends, Read, IsAnswer}
 

@@ -3,7 +3,7 @@ use Rattle.std.proofs.Common.{◌≡◌, ◌<◌, ◌≤◌, ◌+◌, ℕ, zero,
 use Rattle.std.specs.Prelude.{Option, option_map, chars, slice_get, map, All}
 use Rattle.std.proofs.lemmas.List.{map-append, length-map, length-take-le, take_all}
 use Rattle.std.proofs.lemmas.Grind.{take_at_read}
-use Rattle.std.proofs.lemmas.Option.{slice_get-map, slice_get-get_or, slice_get_within, get_or_from_slice_get}
+use Rattle.std.proofs.lemmas.Option.{slice_get-map, slice_get-get_or}
 use Rattle.py_code.specs.declared.names.NameId.{NameId}
 use Rattle.py_check.specs.declared.annotated.Annotated.{Annotated}
 use Rattle.py_objects.specs.declared.payload.CoroKind.{CoroKind}
@@ -23,7 +23,8 @@ use Rattle.py_run.specs.Run.{Signature}
 use Rattle.py_vm.specs.Codes.{Checked, IsDriven, plain_codes, signature_in, signatures_of}
 use Rattle.py_run.proofs.BoundLemmas.{AreSigned}
 use Rattle.py_objects.proofs.NewLemmas.{newest}
-use Rattle.py_meaning.specs.Whole.{AreCompiled, signature_of}
+use Rattle.py_meaning.specs.Whole.{signature_of}
+use Rattle.py_script.specs.Compiled.{AreCompiled}
 use Rattle.py_script.specs.Loaded.{AreChecked}
 use Rattle.py_meaning.proofs.Entries.{one_more}
 
@@ -124,10 +125,6 @@ first_of_all P x xs all = all 0 x (omega arith)
 
 pub others_of_all : {X : Type 0} (P : X → Type 0) (x : X) (xs : List X) → All P (x ∷ xs) → All P xs
 others_of_all P x xs all = λ i y low. all (suc i) y (omega (arith, low))
-
--- and of one that is there
-pub one_of_all : {X : Type 0} (P : X → Type 0) (xs : List X) (k : ℕ) (x : X) → All P xs → slice_get xs k ≡ Some x → P x
-one_of_all P xs k x all is = subst P (get_or_from_slice_get xs k x x is) (all k x (slice_get_within xs k x is))
 
 -- what is at a place of a list is at that of one as long
 at_place : {A B : Type 0} (xs : List A) (ys : List B) (i : ℕ) (x : A) → length xs ≡ length ys → slice_get xs i ≡ Some x → (y : B) × (slice_get ys i ≡ Some y)

@@ -8,7 +8,7 @@ use Rattle.py_objects.specs.declared.payload.Payload.{Payload}
 use Rattle.py_objects.specs.declared.refs.PyBaseExceptionRef.{PyBaseExceptionRef}
 use Rattle.py_objects.specs.declared.event.Event.{Event}
 use Rattle.py_objects.specs.Growth.{GrowsPlainly}
-use Rattle.py_objects.proofs.GrowthLemmas.{grows_plainly_refl, grows_plainly_trans}
+use Rattle.py_objects.proofs.GrowthLemmas.{grows_plainly_trans}
 use Rattle.py_objects.proofs.NewLemmas.{newest}
 use Rattle.py_lines.specs.declared.drive.DriveAtom.{DriveAtom}
 use Rattle.py_lines.specs.declared.drive.DriveAtom.TheVariants as atom
@@ -194,10 +194,6 @@ posed_on old s new line q posed =
       grows = grows_plainly_trans old.vm.objects new.objects s.vm.objects posed.grew.grows adds.grows;
       codes = ap (λ (m : Machine). m.checked) adds.others ∙ same_codes old.vm new posed.grew;
     }
-
--- nothing more
-pub stayed_on : (old s : Held) → s ≡ old → GoesOn old s
-stayed_on old s same = subst (GoesOn old) (sym same) (record { part = []; events = sym (append-nil old.vm.events); grows = grows_plainly_refl old.vm.objects; codes = refl })
 
 -- the same machine in another session
 pub went_on_alike : (old s t : Held) → t.vm ≡ s.vm → GoesOn old s → GoesOn old t

@@ -4,7 +4,7 @@ use Rattle.std.specs.Prelude.{Result, Ok, Err}
 use Rattle.std.specs.Io.KnownBytes.{Appends}
 use Rattle.std.proofs.lemmas.Bool.{cases_lt}
 use Rattle.py_vm.specs.declared.journal.Journal.{Journal}
-use Rattle.py_meaning.specs.Whole.{IsWholeFrom, IsUnfinishedFrom, IsWholeRun, IsCutRun}
+use Rattle.py_meaning.specs.Whole.{IsWholeFrom, IsUnfinishedFrom}
 use Rattle.py_meaning.specs.Text.{text_of}
 use Rattle.py_meaning.proofs.ScriptsAgree.{unfinished_runs, shorter, same_text, one_text}
 use Rattle.py_script.specs.declared.words.Command.TheVariants as command
@@ -12,6 +12,7 @@ use Rattle.py_script.specs.declared.fault.ScriptFault.{ScriptFault}
 use Rattle.py_script.specs.declared.fault.ScriptFault.TheVariants as fault
 use Rattle.py_script.specs.declared.fault.CommandResult.{CommandResult}
 use Rattle.py_script.specs.declared.fault.CommandResult.TheVariants as outcome
+use Rattle.py_script.specs.Answered.{IsWholeRun, IsCutRun}
 use Rattle.py_script.specs.Words.{command_in}
 use Rattle.py_script.specs.Causes.{Ends, IsAnswer, IsEnding, status_in, HasFewer, IsSettled, RunsSettle, AskedRunsSettle}
 use Rattle.py_script.specs.Steps.{result_in}

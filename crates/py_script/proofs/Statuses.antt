@@ -1,4 +1,4 @@
--- Which statuses come where reads and writes don't fail, and which of a script.
+-- Which statuses come of a script that a source holds.
 use Rattle.std.proofs.Common.{◌≡◌, ◌<◌, ◌≤◌, ◌^◌, ℕ, List, length, Some, refl, sym, ◌∙◌, subst, arith, inl, inr}
 use Rattle.std.specs.Prelude.{Option, IfSome, Result, Ok, Err}
 use Rattle.py_grammar.specs.Script.{IsBadLine}

@@ -19,7 +19,8 @@ use Rattle.py_run.specs.Run.{Posed, Activation}
 use Rattle.py_run.specs.Coming.{nothing, Comes, EachTells}
 use Rattle.py_vm.specs.RowsOf.{RowsOf}
 use Rattle.py_run.proofs.BoundLemmas.{IsBound, comes_bound}
-use Rattle.py_meaning.specs.Whole.{AreCompiled, signature_of, plan_of, Traces}
+use Rattle.py_meaning.specs.Whole.{signature_of, plan_of, Traces}
+use Rattle.py_script.specs.Compiled.{AreCompiled}
 use Rattle.py_script.proofs.Declarations.{signed_by_body}
 use Rattle.py_script.proofs.Made.{HasTold, activation_tells}
 

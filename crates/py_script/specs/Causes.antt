@@ -12,7 +12,8 @@ use Rattle.py_script.specs.declared.fault.ScriptFault.TheVariants as fault
 use Rattle.py_script.specs.declared.fault.CommandResult.{CommandResult}
 use Rattle.py_script.specs.declared.fault.CommandResult.TheVariants as outcome
 use Rattle.py_script.specs.Words.{command_in}
-use Rattle.py_meaning.specs.Whole.{IsEmpty, IsRunFrom, IsWholeFrom, IsUnfinishedFrom, IsPartOfRun, IsWholeRun, IsCutRun}
+use Rattle.py_meaning.specs.Whole.{IsRunFrom, IsWholeFrom, IsUnfinishedFrom}
+use Rattle.py_script.specs.Answered.{IsEmpty, IsPartOfRun, IsWholeRun, IsCutRun}
 use Rattle.py_meaning.specs.Text.{text_of}
 
 -- the source and the sink, before a call and after it: the bytes left and taken, where they are told, the faults, and whether the last

@@ -12,7 +12,8 @@ use Rattle.py_vm.specs.declared.fault.VmFault.{VmFault}
 use Rattle.py_vm.specs.declared.fault.VmFault.TheVariants as fault
 use Rattle.py_vm.specs.declared.journal.Journal.{Journal}
 use Rattle.py_vm.specs.Machine.{done_of, EndsBy}
-use Rattle.py_meaning.specs.Whole.{IsJournalOf, RunsCodesOf}
+use Rattle.py_meaning.specs.Whole.{IsJournalOf}
+use Rattle.py_script.specs.Compiled.{RunsCodesOf}
 use Rattle.py_script.specs.Held.{Held, journal_of}
 use Rattle.py_script.specs.Session.{IsSessionOf}
 

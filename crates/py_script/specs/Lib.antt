@@ -4,7 +4,9 @@ pub mod Session
 pub mod Driving
 -- what the words ask for
 pub mod Words
--- when each answer of the top call comes
+-- which journals are handed back, and when each answer of the top call comes
+pub mod Compiled
+pub mod Answered
 pub mod Causes
 -- what functions inside the crate promise each other
 pub mod Steps

@@ -12,7 +12,9 @@ use Rattle.py_script.specs.declared.fault.ScriptFault.{ScriptFault}
 use Rattle.py_script.specs.declared.fault.ScriptFault.TheVariants as fault
 use Rattle.py_script.specs.declared.fault.CommandResult.{CommandResult}
 use Rattle.py_script.specs.declared.fault.CommandResult.TheVariants as outcome
-use Rattle.py_meaning.specs.Whole.{IsRun, IsWhole, RunsItsCodes, IsEmpty}
+use Rattle.py_meaning.specs.Whole.{IsRun, IsWhole}
+use Rattle.py_script.specs.Answered.{IsEmpty}
+use Rattle.py_script.specs.Compiled.{RunsItsCodes}
 use Rattle.py_meaning.specs.Text.{text_of}
 use Rattle.py_script.specs.Causes.{WasRead}
 

@@ -3,7 +3,7 @@
 ghost use Rattle.std.specs.Prelude.{◌≡◌, ◌≤◌, ◌+◌, ◌^◌, IfOk, IfErr, OnOk, OnErr, IsErrOf, IsTrue, length, vec_len};
 ghost use Rattle.py_outside.specs.Reading.{HasRead, LosesUpTo};
 ghost use Rattle.py_grammar.specs.WellFormed.{IsWellFormed};
-ghost use Rattle.py_meaning.specs.Whole.{IsEmpty};
+ghost use Rattle.py_script.specs.Answered.{IsEmpty};
 ghost use Rattle.py_script.specs.Steps.{IsParsed, IsReadFault, IsReading, IsReadSoundly};
 
 use crate::fault::ScriptFault;

@@ -1,40 +1,26 @@
--- Where two runs of one script are the same event by event, a whole one is as long as any other can be.
+-- Where two runs of one script are the same event by event, none is longer than a whole one, and one that isn't whole is shorter.
 use Rattle.std.proofs.Common.{◌≡◌, ◌≤◌, ◌<◌, ℕ, suc, List, [], ◌∷◌, ◌++◌, length, append-nil, refl, sym, ap, subst, ◌∙◌, ◌⊎◌, inl, inr, arith}
 use Rattle.std.proofs.lemmas.Bool.{cases_lt}
 use Rattle.py_objects.specs.declared.payload.Payload.{Payload}
 use Rattle.py_objects.specs.declared.event.Event.{Event}
 use Rattle.py_objects.specs.declared.event.Event.TheVariants as event
 use Rattle.py_objects.specs.declared.event.ResumeHow.TheVariants as how
-use Rattle.py_objects.specs.Objects.{Obj}
-use Rattle.py_coro.specs.declared.coro.CoroEnd.{CoroEnd}
 use Rattle.py_lines.specs.declared.drive.DriveLine.{DriveLine}
 use Rattle.py_grammar.specs.declared.script.Script.{Script}
 use Rattle.py_grammar.specs.Grammar.{Decl, functions_in}
 use Rattle.py_grammar.specs.Script.{decls_of, IsScript}
 use Rattle.py_grammar.proofs.Verdicts.{one_tree}
 use Rattle.py_vm.specs.declared.journal.Journal.{Journal}
-use Rattle.py_run.specs.Run.{Posed, Plan, Phase, Idle, Asking, Going, Made, Due, State, start, after, state_after}
+use Rattle.py_run.specs.Run.{Posed, Plan, Phase, Idle, State, start, after, state_after}
 use Rattle.py_run.specs.Coming.{Past, nothing, MayCome, Comes, IsDone, Starts, IsReply}
 use Rattle.py_run.specs.Past.{past_behind}
 use Rattle.py_run.proofs.PastLemmas.{past_state}
-use Rattle.py_run.proofs.RunLemmas.{comes_rest}
+use Rattle.py_run.proofs.RunLemmas.{comes_rest, asking_busy, going_busy, made_busy, due_busy}
 use Rattle.py_agreement.specs.Agreement.{Relation}
 use Rattle.py_determined.specs.Events.{SameEvent, SameEvents}
 use Rattle.py_meaning.specs.Whole.{AreAsked, IsRunOf, plan_of, IsRun, IsWhole, IsRunFrom, IsWholeFrom, IsUnfinishedFrom}
 
 -- ---- behind a run that is done
-
-asking_busy : Asking ≡ Idle → ⊥
-asking_busy same = cc same
-
-going_busy : Going ≡ Idle → ⊥
-going_busy same = cc same
-
-made_busy : (f : Obj) → Made f ≡ Idle → ⊥
-made_busy f same = cc same
-
-due_busy : (left : CoroEnd) → Due left ≡ Idle → ⊥
-due_busy left same = cc same
 
 module _ (plan : Plan) (objects : List Payload) where
   -- where nothing runs and no drive is left, nothing may come
