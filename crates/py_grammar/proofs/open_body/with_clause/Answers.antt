@@ -1,7 +1,9 @@
-use Rattle.py_tree.specs.declared.stmt.Clause as declared
+use Rattle.std.proofs.Common.{rules}
+use Rattle.py_tree.specs.declared.stmt.StmtForm.TheViews.{the_lemmas}
 use Rattle.py_grammar.proofs.open_body.with_clause.Goals as goal
 
 -- the clause that the program makes is one of plain fields
 pub returns : goal.returns
-unfolding declared.roll-Clause denote.Hole.Carrier.roll
-returns c = c.in_ok-push.ensures.added
+returns c =
+    let added = c.in_ok-push.ensures.added in
+    search (rules, the_lemmas)
