@@ -8,11 +8,15 @@ use Rattle.py_tree.specs.declared.stmt.StmtForm.TheViews.{the_lemmas}
 use Rattle.py_tree.specs.Views.{suite_of}
 use Rattle.py_tree.specs.Binding.{bound_by, bound_if, bound_under}
 use Rattle.py_tree.specs.Suites.{list_clauses, with_clause}
-use Rattle.py_tree.proofs.Trees.{list_clauses_append}
 use Rattle.py_body.specs.declared.sizes.Weights.{Weights}
 use Rattle.py_tree.specs.declared.body.BodyKind.{BodyKind}
 use Rattle.py_tree.specs.Compilable.{ClausesFit, SuiteFits, ClausesNest, SuiteNests, statements, statements_under}
 use Rattle.py_body.specs.Sizes.{size_clause, size_clauses, size_suite}
+
+list_clauses_append : (clauses : List Clause) (c : Clause)
+    → list_clauses (clauses ++ c ∷ []) ≡ with_clause (list_clauses clauses) (out-Clause c).line (out-Clause c).class (out-Clause c).target (suite_of (out-Clause c).suite)
+list_clauses_append [] (Clause' line class target suite) = search (rules, the_lemmas)
+list_clauses_append (Clause' line class target suite ∷ clauses) c = ap (clause line class target (suite_of suite)) (list_clauses_append clauses c)
 
 -- a clause stands behind those in front of it
 pub clauses_more : (clauses : List Clause) (i : ℕ) (c : Clause) → i < length clauses → c ≡ get_or clauses i c
