@@ -1,4 +1,5 @@
-//! Tests of public calls that neither a script nor a table of units shows, apart from the crates, which would be proved once more with them.
+//! Tests of public calls below the machine that neither a script nor a table of units shows, apart from the crates, which would be proved once more
+//! with them.
 #![tactic(auto)]
 
 #[cfg(test)]
@@ -14,12 +15,6 @@ mod generators;
 #[cfg(test)]
 mod grammar;
 #[cfg(test)]
-mod machine;
-#[cfg(test)]
 mod objects;
 #[cfg(test)]
 mod outside;
-#[cfg(test)]
-mod scripts;
-#[cfg(test)]
-mod tracebacks;

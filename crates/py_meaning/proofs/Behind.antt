@@ -9,8 +9,8 @@ use Rattle.py_objects.specs.Objects.{Obj, Name, declares, is_name, declared, dec
 use Rattle.py_objects.specs.Singletons.{singletons}
 use Rattle.py_exceptions.specs.Classes.{class_of, first_classes, HaveClasses}
 use Rattle.py_exceptions.proofs.ClassesLemmas.{classes_grown}
-use Rattle.py_vm.specs.First.{first_objects}
-use Rattle.py_vm.proofs.FirstLemmas.{each_first, first_fit, first_have}
+use Rattle.py_run.specs.First.{first_objects}
+use Rattle.py_run.proofs.FirstLemmas.{each_first, first_fit, first_have}
 use Rattle.py_meaning.specs.Whole.{AreObjects}
 
 -- ---- the first objects

@@ -23,7 +23,7 @@ use Rattle.py_grammar.specs.Grammar.{Decl, ClassDecl, ManagerDecl, FunctionDecl,
 use Rattle.py_grammar.specs.Rules.{is_builtin_class}
 use Rattle.py_grammar.specs.WellFormed.{IsFunction, IsFunctionNamed, IsClass, IsClassNamed, IsFounded, IsKnown}
 use Rattle.py_grammar.proofs.Tables.{functions_in-append}
-use Rattle.py_vm.specs.Declaring.{IsAddable}
+use Rattle.py_run.specs.First.{IsAddable}
 use Rattle.py_meaning.specs.Whole.{HasFunction, HasClass, HasManager, IsBuiltinClass, IsDeclaredFunction, IsDeclaredClass, IsDeclaredManager, AreObjects}
 use Rattle.py_meaning.specs.Entries.{AreWellDeclared, IsNamed, AreDeclared, IsFoundedOn, IsEntryOf}
 use Rattle.py_meaning.proofs.Behind.{declares_it, newest_declared}

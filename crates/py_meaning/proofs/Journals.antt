@@ -45,8 +45,8 @@ use Rattle.py_run.specs.Run.{Signature, Posed, Plan, Activation, Phase, Asking, 
 use Rattle.py_run.specs.Calls.{Course, Says, Enters, Setting, LeavesCalled, IsDue, refusal, made_at, bound_by, CallsFunction, ComesTo}
 use Rattle.py_run.specs.Coming.{Past, setting, IsOfKind, IsReply, MayCome, nothing, Comes, EachTells}
 use Rattle.py_run.specs.Past.{past_behind}
-use Rattle.py_vm.specs.First.{first_objects}
-use Rattle.py_vm.proofs.FirstLemmas.{first_fit}
+use Rattle.py_run.specs.First.{first_objects}
+use Rattle.py_run.proofs.FirstLemmas.{first_fit}
 use Rattle.py_meaning.specs.Whole.{AreOf, AsksThis, AreAsked, AreGlobals, AreObjects, Traces, IsRunOf, plan_of, signature_of}
 use Rattle.py_meaning.specs.Worked.{call_of, object, exception, function_entry, loaded, objects_of, entered, asked, greatest, overflowing_of, out_of_range, error_entry, error_objects, raising_by, raised, raises, overflow_by}
 use Rattle.py_meaning.proofs.Behind.{declares_it, have_classes, none_declared}

@@ -10,7 +10,7 @@ use Rattle.py_grammar.specs.declared.script.Script.{Script}
 use Rattle.py_grammar.specs.Grammar.{Decl, functions_in}
 use Rattle.py_grammar.specs.Script.{decls_of, IsScript}
 use Rattle.py_grammar.proofs.Verdicts.{one_tree}
-use Rattle.py_vm.specs.declared.journal.Journal.{Journal}
+use Rattle.py_run.specs.declared.journal.Journal.{Journal}
 use Rattle.py_run.specs.Run.{Posed, Plan, Phase, Idle, State, start, after, state_after}
 use Rattle.py_run.specs.Coming.{Past, nothing, MayCome, Comes, IsDone, Starts, IsReply}
 use Rattle.py_run.specs.Past.{past_behind}

@@ -6,7 +6,7 @@ use Rattle.py_objects.specs.declared.event.Event.{Event}
 use Rattle.py_lines.specs.declared.drive.DriveLine.{DriveLine}
 use Rattle.py_grammar.specs.Grammar.{Decl, functions_in}
 use Rattle.py_grammar.specs.Script.{decls_of}
-use Rattle.py_vm.specs.declared.journal.Journal.{Journal}
+use Rattle.py_run.specs.declared.journal.Journal.{Journal}
 use Rattle.py_determined.specs.Alike.{AreAlike}
 use Rattle.py_determined.specs.Events.{SameEvents}
 use Rattle.py_determined.specs.Related.{Paired}

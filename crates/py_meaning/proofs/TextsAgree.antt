@@ -17,7 +17,7 @@ use Rattle.py_objects.specs.Objects.{Obj, Name, HasPayload, class_object, as_obj
 use Rattle.py_objects.specs.Attrs.{Attrs, value_of}
 use Rattle.py_objects.specs.Ancestry.{derives_from}
 use Rattle.py_objects.proofs.Slots.{there}
-use Rattle.py_vm.proofs.JournalLemmas.{below_behind}
+use Rattle.py_run.proofs.FirstLemmas.{below_behind}
 use Rattle.py_agreement.specs.Agreement.{Relation, SameMaybe, SameAll}
 use Rattle.py_determined.specs.Alike.{SameAttrs, AlikeExceptions, Alike, AreAlike}
 use Rattle.py_determined.specs.Events.{SameResult, SameEvent, SameEvents}

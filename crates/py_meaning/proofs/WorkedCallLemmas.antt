@@ -37,7 +37,7 @@ use Rattle.py_run.specs.Past.{past_behind}
 use Rattle.std.proofs.lemmas.List.Sorted.{IsPermutation-refl, IsPermutation-reverse, sum_by-IsPermutation}
 use Rattle.py_meaning.specs.Whole.{AreAsked, Binds, AreGlobals, AreObjects, AsksThis, IsLeft, Traces, IsRunOf, plan_of, signature_of}
 use Rattle.py_meaning.specs.Text.{events_text, numbered, result_text}
-use Rattle.py_vm.specs.First.{first_objects}
+use Rattle.py_run.specs.First.{first_objects}
 use Rattle.py_meaning.specs.Worked.{object, exception, function_entry}
 use Rattle.py_meaning.specs.WorkedCall.{values, refusal_text, refusal_objects, objects_by, pair_of_g, pair_of_f, script, callee, caller, decls, drives, objects, asking, left, returned, again, events, made_twice, numbered_on, swapped, refused_made, IsFull}
 use Rattle.py_run.proofs.BoundLemmas.{enters_call, IsMaking}

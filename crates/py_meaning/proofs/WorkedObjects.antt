@@ -7,7 +7,7 @@ use Rattle.py_objects.specs.Objects.{Obj, Name, HasPayload, declares, declared, 
 use Rattle.py_objects.proofs.GrowthLemmas.{declared_grown, slice_get_split}
 use Rattle.py_objects.proofs.NewLemmas.{declared_within}
 use Rattle.py_grammar.specs.Grammar.{Decl}
-use Rattle.py_vm.specs.First.{first_objects}
+use Rattle.py_run.specs.First.{first_objects}
 use Rattle.py_meaning.specs.Whole.{AreObjects}
 use Rattle.py_meaning.specs.Worked.{object}
 use Rattle.py_meaning.proofs.Entries.{objects_more}

@@ -33,7 +33,7 @@ use Rattle.py_grammar.specs.Script.{Spells}
 use Rattle.py_answers.specs.Answers.{Is}
 use Rattle.py_run.specs.Run.{Activation, Plan, Posed, start, state_after}
 use Rattle.py_run.specs.Coming.{nothing as at_first, Comes, EachTells}
-use Rattle.py_vm.specs.First.{first_objects}
+use Rattle.py_run.specs.First.{first_objects}
 use Rattle.py_meaning.specs.Whole.{AreGlobals, AreObjects, Traces, IsRunOf, plan_of}
 use Rattle.py_meaning.specs.Text.{events_text}
 use Rattle.py_meaning.specs.Worked.{object, function_entry}

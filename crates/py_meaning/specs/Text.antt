@@ -12,7 +12,7 @@ use Rattle.py_objects.specs.declared.event.Event.TheVariants as event
 use Rattle.py_objects.specs.declared.edit.Change.{Change}
 use Rattle.py_objects.specs.Objects.{Obj, class_object, as_object}
 use Rattle.py_objects.specs.Changes.{store_at}
-use Rattle.py_vm.specs.declared.journal.Journal.{Journal}
+use Rattle.py_run.specs.declared.journal.Journal.{Journal}
 use Rattle.py_meaning.specs.Repr.{payload_of, class_name, items_of, repr_within}
 use Rattle.py_meaning.specs.Said.{said, said_by}
 

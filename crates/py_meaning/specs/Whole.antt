@@ -29,7 +29,7 @@ use Rattle.py_grammar.specs.declared.script.Script.{Script}
 use Rattle.py_grammar.specs.Grammar.{Decl, ClassDecl, ManagerDecl, decl_name, functions_in}
 use Rattle.py_grammar.specs.Script.{decls_of, IsScript}
 use Rattle.py_exceptions.specs.BuiltIn.{IsClassOf}
-use Rattle.py_vm.specs.declared.journal.Journal.{Journal}
+use Rattle.py_run.specs.declared.journal.Journal.{Journal}
 use Rattle.py_run.specs.Run.{Signature, Posed, Plan}
 use Rattle.py_run.specs.Coming.{May, IsRunBy, IsDone}
 

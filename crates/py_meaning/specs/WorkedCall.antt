@@ -23,7 +23,7 @@ use Rattle.py_lines.specs.declared.drive.DriveAtom.TheVariants as argument
 use Rattle.py_lines.specs.declared.drive.DriveLine.{DriveLine}
 use Rattle.py_lines.specs.declared.drive.DriveLine.TheVariants as drive
 use Rattle.py_run.specs.Run.{Signature, Plan}
-use Rattle.py_vm.specs.First.{first_objects}
+use Rattle.py_run.specs.First.{first_objects}
 use Rattle.py_meaning.specs.Worked.{object, exception, function_entry, exception_entry}
 
 -- the bytes of the script

@@ -19,7 +19,7 @@ use Rattle.py_tree.specs.declared.body.BodyKind.TheVariants.{Function}
 use Rattle.py_tree.specs.declared.expr.Atom.TheVariants as atom
 use Rattle.py_tree.specs.Tree.{Suite, Return, With, nothing, first, Tree}
 use Rattle.py_grammar.specs.Grammar.{Decl, ClassDecl, ManagerDecl, FunctionDecl}
-use Rattle.py_vm.specs.First.{first_objects}
+use Rattle.py_run.specs.First.{first_objects}
 use Rattle.py_meaning.specs.Worked.{object, function_entry}
 
 -- the bytes of the script; it drives what those of the loops do

@@ -5,7 +5,7 @@ ghost use Rattle.py_objects.specs.declared.payload.Payload.{Payload};
 ghost use Rattle.py_objects.specs.declared.event.Event.{Event};
 ghost use Rattle.py_lines.specs.declared.drive.DriveLine.{DriveLine};
 ghost use Rattle.py_grammar.specs.Grammar.{Decl};
-ghost use Rattle.py_vm.specs.declared.journal.Journal.{Journal};
+ghost use Rattle.py_run.specs.declared.journal.Journal.{Journal};
 ghost use Rattle.py_determined.specs.Alike.{AreAlike};
 ghost use Rattle.py_determined.specs.Events.{SameEvents};
 ghost use Rattle.py_determined.specs.Related.{Paired};

@@ -1,3 +1,5 @@
+-- what the objects of a run begin with
+pub mod FirstLemmas
 -- the past behind some events
 pub mod PastLemmas
 -- what was raised, and what exits are told

@@ -1,3 +1,5 @@
+-- what the objects of a run begin with
+pub mod First
 -- what an event makes of a run, of its generators, and of what was raised
 pub mod Run
 pub mod Generators

@@ -2,10 +2,12 @@
 #![tactic(auto)]
 
 mod drive;
+mod journal;
 mod laws;
 mod worked;
 
 pub use drive::Drive;
+pub use journal::Journal;
 pub use laws::{laws_of_generators, laws_of_runs};
 pub use worked::{
     worked_close, worked_exit, worked_handled, worked_ignored, worked_next, worked_self,

@@ -13,7 +13,7 @@ use Rattle.py_grammar.specs.Grammar.{Decl, decl_name, functions_in}
 use Rattle.py_grammar.specs.Script.{decl_of}
 use Rattle.py_grammar.specs.WellFormed.{IsWellDeclared}
 use Rattle.py_grammar.proofs.Tables.{functions_in-append}
-use Rattle.py_vm.specs.First.{first_objects}
+use Rattle.py_run.specs.First.{first_objects}
 use Rattle.py_vm.specs.Machine.{Machine}
 use Rattle.py_meaning.specs.Whole.{AreObjects}
 use Rattle.py_meaning.specs.Entries.{AreWellDeclared, IsFoundedOn, IsEntryOf}

@@ -3,7 +3,7 @@ use Rattle.std.specs.Prelude.{◌≡◌, ◌≤◌, ℕ, ◌⊎◌, List, length
 use Rattle.std.proofs.Common.{inl, inr, sym, subst, arith}
 use Rattle.py_grammar.specs.declared.script.Script.{Script}
 use Rattle.py_vm.specs.declared.fault.VmFault.TheVariants as vm_fault
-use Rattle.py_vm.specs.declared.journal.Journal.{Journal}
+use Rattle.py_run.specs.declared.journal.Journal.{Journal}
 use Rattle.std.specs.Result.{IsErrAnd}
 use Rattle.py_script.specs.declared.fault.ScriptFault.{ScriptFault}
 use Rattle.py_script.specs.declared.fault.ScriptFault.TheVariants as fault

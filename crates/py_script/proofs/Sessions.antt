@@ -22,7 +22,7 @@ use Rattle.py_run.specs.Coming.{IsDone}
 use Rattle.py_run.specs.Drives.{request_of}
 use Rattle.py_vm.specs.declared.fault.VmFault.{VmFault}
 use Rattle.py_vm.specs.declared.fault.VmFault.TheVariants as fault
-use Rattle.py_vm.specs.declared.journal.Journal.{Journal}
+use Rattle.py_run.specs.declared.journal.Journal.{Journal}
 use Rattle.py_vm.specs.Machine.{Machine, done_of, Adds, EndsBy}
 use Rattle.py_meaning.specs.Whole.{AreAsked, AsksThis}
 use Rattle.py_script.specs.Held.{Held, journal_of}

@@ -5,7 +5,7 @@ use Rattle.py_exceptions.specs.Faults.{Rose}
 use Rattle.py_outside.specs.Transfer.{AppendsFront}
 use Rattle.py_grammar.specs.declared.script.Script.{Script}
 use Rattle.py_grammar.specs.Script.{IsScript, IsBadLine}
-use Rattle.py_vm.specs.declared.journal.Journal.{Journal}
+use Rattle.py_run.specs.declared.journal.Journal.{Journal}
 use Rattle.py_script.specs.declared.words.Command.TheVariants as command
 use Rattle.py_script.specs.declared.fault.ScriptFault.{ScriptFault}
 use Rattle.py_script.specs.declared.fault.ScriptFault.TheVariants as fault

@@ -9,7 +9,7 @@ use Rattle.py_tree.specs.Tree.{Tree}
 use Rattle.py_grammar.specs.declared.script.Script.{Script}
 use Rattle.py_grammar.specs.Grammar.{Decl, functions_in}
 use Rattle.py_grammar.specs.Script.{decls_of}
-use Rattle.py_vm.specs.declared.journal.Journal.{Journal}
+use Rattle.py_run.specs.declared.journal.Journal.{Journal}
 use Rattle.py_run.specs.Coming.{EachTells}
 use Rattle.py_vm.specs.RowsOf.{RowsOf}
 use Rattle.py_meaning.specs.Whole.{AreGlobals}

@@ -10,7 +10,7 @@ use Rattle.py_grammar.specs.WellFormed.{IsDrivable, IsKnown, IsThrowable, Number
 use Rattle.py_run.specs.Coming.{IsDone}
 use Rattle.py_vm.specs.declared.fault.VmFault.{VmFault}
 use Rattle.py_vm.specs.declared.fault.VmFault.TheVariants as fault
-use Rattle.py_vm.specs.declared.journal.Journal.{Journal}
+use Rattle.py_run.specs.declared.journal.Journal.{Journal}
 use Rattle.py_vm.specs.Machine.{done_of, EndsBy}
 use Rattle.py_meaning.specs.Whole.{IsJournalOf}
 use Rattle.py_script.specs.Compiled.{RunsCodesOf}

@@ -7,7 +7,7 @@ use Rattle.py_grammar.specs.declared.script.Script.{Script}
 use Rattle.py_grammar.specs.Script.{IsScript, IsBadLine}
 use Rattle.py_vm.specs.declared.fault.VmFault.{VmFault}
 use Rattle.py_vm.specs.declared.fault.VmFault.TheVariants as vm_fault
-use Rattle.py_vm.specs.declared.journal.Journal.{Journal}
+use Rattle.py_run.specs.declared.journal.Journal.{Journal}
 use Rattle.py_script.specs.declared.fault.ScriptFault.{ScriptFault}
 use Rattle.py_script.specs.declared.fault.ScriptFault.TheVariants as fault
 use Rattle.py_script.specs.declared.fault.CommandResult.{CommandResult}

@@ -6,7 +6,7 @@ ghost use Rattle.py_objects.specs.declared.payload.Payload.TheVariants as payloa
 ghost use Rattle.py_objects.specs.Objects.{HasPayload, declared, IsClassObject};
 ghost use Rattle.py_grammar.specs.Grammar.{ClassDecl, ManagerDecl, functions_in};
 ghost use Rattle.py_grammar.specs.Script.{decl_of};
-ghost use Rattle.py_vm.specs.First.{first_objects};
+ghost use Rattle.py_run.specs.First.{first_objects};
 ghost use Rattle.py_meaning.specs.Entries.{AreWellDeclared, IsEntryOf, IsFoundedOn, IsNamed};
 ghost use Rattle.py_script.specs.Loaded.{HasObjects};
 

@@ -3,7 +3,7 @@
 ghost use Rattle.std.specs.Prelude.{◌≡◌, ℕ, [], ◌∷◌, Ok, Err, IsTrue, true};
 ghost use Rattle.py_objects.specs.declared.event.Event.TheVariants as event;
 ghost use Rattle.py_grammar.specs.declared.script.Script.{Script};
-ghost use Rattle.py_vm.specs.declared.journal.Journal.{Journal};
+ghost use Rattle.py_run.specs.declared.journal.Journal.{Journal};
 ghost use Rattle.py_script.specs.declared.fault.ScriptFault.TheVariants.{Malformed, OutOfTurns, TooLong};
 ghost use Rattle.py_meaning.specs.Whole.{IsRun, IsWhole};
 ghost use Rattle.py_script.specs.Causes.{Ends, IsAnswer};

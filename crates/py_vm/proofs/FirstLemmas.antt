@@ -1,13 +1,9 @@
 -- What a machine begins with.
-use Rattle.std.proofs.Common.{◌≡◌, ◌<◌, ◌≤◌, ◌+◌, ◌^◌, ◌++◌, ℕ, zero, suc, List, [], ◌∷◌, true, false, Some, inl, inr, refl, sym, ap, subst, ◌∙◌, length, append_assoc, arith}
-use Rattle.std.specs.Prelude.{Option, None, slice_get, option_map}
-use Rattle.std.proofs.lemmas.Option.{same_Some, slice_get-map}
+use Rattle.std.proofs.Common.{◌≡◌, ◌<◌, ◌+◌, ◌^◌, ◌++◌, ℕ, List, [], ◌∷◌, true, false, Some, refl, sym, ap, subst, ◌∙◌, length, append_assoc, arith}
+use Rattle.std.specs.Prelude.{None, slice_get}
 use Rattle.py_objects.specs.declared.payload.Payload.{Payload}
 use Rattle.py_objects.specs.declared.payload.Payload.TheVariants as payload
-use Rattle.py_objects.specs.declared.error_kind.ErrorKind.{ErrorKind}
-use Rattle.py_objects.specs.ErrorKinds.{error_kinds}
-use Rattle.py_objects.specs.ErrorPlaces.{place_of}
-use Rattle.py_objects.specs.Objects.{Obj, Name, HasPayload, declared, declares, payload_numbers, AllBelow, IsMade, AllFit}
+use Rattle.py_objects.specs.Objects.{Obj, Name, HasPayload, declared, AllFit}
 use Rattle.py_objects.specs.Attrs.{value_of}
 use Rattle.py_objects.specs.Own.{own_events}
 use Rattle.py_objects.specs.Edits.{Kept}
@@ -15,12 +11,11 @@ use Rattle.py_vm.specs.declared.stage.Stage.TheVariants as stage
 use Rattle.py_exceptions.specs.declared.zoo.ExceptionZoo.{ExceptionZoo}
 use Rattle.py_vm.specs.declared.machinery.Core.{Core}
 use Rattle.py_run.specs.Run.{State, start, state_after}
-use Rattle.py_exceptions.specs.Classes.{class_of, class_payload, class_payloads, declarations_of, first_classes, DeclareNothing, HaveClasses}
-use Rattle.py_exceptions.proofs.ClassesLemmas.{classes_there, mro_there, mro_below, value_declared}
-use Rattle.py_objects.proofs.ErrorKindsLemmas.{place_at, place_below}
-use Rattle.py_objects.proofs.GrowthLemmas.{below_more, slice_get_split, one_entry}
+use Rattle.py_exceptions.specs.Classes.{class_payloads, declarations_of, first_classes, DeclareNothing, HaveClasses}
+use Rattle.py_exceptions.proofs.ClassesLemmas.{value_declared}
 use Rattle.py_objects.specs.Singletons.{singletons}
-use Rattle.py_vm.specs.First.{first_objects, first_globals}
+use Rattle.py_run.specs.First.{first_objects, first_globals}
+use Rattle.py_run.proofs.FirstLemmas.{each_single, each_first, singles_plain, first_fit, first_have}
 use Rattle.py_vm.specs.Raises.{AreRaised}
 use Rattle.py_vm.specs.Machine.{new_machine}
 use Rattle.py_vm.specs.Holds.{IsCoded}
@@ -29,55 +24,6 @@ use Rattle.py_run.proofs.OwnLemmas.{own_events-nil}
 use Rattle.py_objects.proofs.GrownLemmas.{added_made}
 use Rattle.py_objects.specs.Growth.{with_object}
 use Rattle.py_objects.proofs.NewLemmas.{added_has}
-
--- what holds of None, False and True, each at its place
-pub each_single : (P : ℕ → Payload → Type 0) → P 0 payload.None → P 1 (payload.Bool false) → P 2 (payload.Bool true) → (i : ℕ) (p : Payload) → slice_get singletons i ≡ Some p → P i p
-each_single P at_none at_false at_true zero p is = subst (P 0) (same_Some payload.None p is) at_none
-each_single P at_none at_false at_true (suc zero) p is = subst (P 1) (same_Some (payload.Bool false) p is) at_false
-each_single P at_none at_false at_true (suc (suc zero)) p is = subst (P 2) (same_Some (payload.Bool true) p is) at_true
-each_single P at_none at_false at_true (suc (suc (suc i))) p is = absurd (cc is)
-
--- what holds of each of the first objects at its place: of what every store begins with, of the class of each kind, and of an empty dict
-pub each_first : (P : ℕ → Payload → Type 0) → ((i : ℕ) (p : Payload) → slice_get singletons i ≡ Some p → P i p)
-    → ((kind : ErrorKind) → P (class_of first_classes kind).number (class_payload first_classes kind)) → ((i : ℕ) → P i (payload.Dict []))
-    → (i : ℕ) (p : Payload) → slice_get first_objects i ≡ Some p → P i p
-each_first P single class dict zero p is = single 0 p is
-each_first P single class dict (suc zero) p is = single 1 p is
-each_first P single class dict (suc (suc zero)) p is = single 2 p is
-each_first P single class dict (suc (suc (suc i))) p is =
-    let place : 3 + i ≡ suc (suc (suc i)) = omega arith in
-    subst (λ n. P n p) place
-    (elim (slice_get_split (class_payloads first_classes) (payload.Dict [] ∷ []) i p is) [
-      | inl front ↦ at_class (slice_get error_kinds i) refl (sym (slice_get-map (class_payload first_classes) error_kinds i) ∙ front)
-      | inr back ↦ subst (P (3 + i)) (one_entry (payload.Dict []) p _ back) (dict (3 + i))
-    ])
-  where
-    at_class : (kind : Option ErrorKind) → slice_get error_kinds i ≡ kind → option_map (class_payload first_classes) kind ≡ Some p → P (3 + i) p
-    at_class None at of = absurd (cc of)
-    at_class (Some kind) at of =
-        let same : class_payload first_classes kind ≡ p = cc in
-        let place : 3 + place_of kind ≡ 3 + i = ap (λ n. 3 + n) (place_at i kind at) in
-        subst (P (3 + i)) same (subst (λ n. P n (class_payload first_classes kind)) place (class kind))
-
--- None, False and True declare nothing
-singles_plain : DeclareNothing singletons
-singles_plain i p is = each_single (λ n q. declares q ≡ None) refl refl refl i p is
-
--- an entry among the first objects fits
-abbrev FitsFirst : ℕ → Payload → Type 0
-FitsFirst i p = AllBelow (length first_objects) (payload_numbers p) × IsMade first_objects p
-
-class_fits : (kind : ErrorKind) → FitsFirst (class_of first_classes kind).number (class_payload first_classes kind)
-class_fits kind =
-    let low : place_of kind < length error_kinds = place_below kind in
-    (below_more _ _ _ (let more : 3 + place_of kind ≤ length first_objects = omega (arith, low) in more) (mro_below first_classes kind), mro_there first_classes singletons (payload.Dict [] ∷ []) refl singles_plain kind)
-
--- the objects that a machine begins with fit
-pub first_fit : AllFit first_objects
-first_fit i p is = each_first FitsFirst (λ j q at. each_single FitsFirst (tt, tt) (tt, tt) (tt, tt) j q at) class_fits (λ n. (tt, tt)) i p is
-
-pub first_have : HaveClasses first_classes first_objects
-first_have = classes_there first_classes singletons (payload.Dict [] ∷ []) refl singles_plain
 
 -- the names that a machine begins with
 first_declared : (x : Name) → value_of x (declarations_of first_classes) ≡ declared first_objects x

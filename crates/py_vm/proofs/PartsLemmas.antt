@@ -41,6 +41,7 @@ use Rattle.py_answers.specs.Readable.{IsReadable}
 use Rattle.py_answers.specs.Replying.{IsGenerator}
 use Rattle.py_run.specs.declared.drive.Drive.{Drive}
 use Rattle.py_run.specs.Calls.{Setting}
+use Rattle.py_run.proofs.FirstLemmas.{below_behind}
 use Rattle.py_vm.specs.declared.calls.Course.{Course as MadeCourse}
 use Rattle.py_vm.specs.declared.calls.Course.TheVariants as course
 use Rattle.py_vm.specs.declared.reply.Reply.{Reply as MadeReply}
@@ -91,7 +92,7 @@ use Rattle.py_vm.specs.Turns.{
   WentOn,
 }
 use Rattle.py_vm.specs.Raises.{raise_at, AreThere}
-use Rattle.py_vm.proofs.JournalLemmas.{below_behind, readable_on}
+use Rattle.py_vm.proofs.JournalLemmas.{readable_on}
 use Rattle.py_vm.proofs.KeptLemmas.{kept_changed}
 use Rattle.py_vm.proofs.RaisedLemmas.{there_grown, traced_grows, traced_same}
 use Rattle.py_vm.proofs.QuestionsLemmas.{opened_call}

@@ -7,7 +7,7 @@ use Rattle.py_objects.specs.Pairs.{Pairs}
 use Rattle.py_objects.specs.Originals.{IsDict}
 use Rattle.py_vm.specs.Machine.{Machine}
 use Rattle.py_objects.proofs.NewLemmas.{newest}
-use Rattle.crate_tests.proofs.machine.use_new_globals.Goals as goal
+use Rattle.machine_tests.proofs.machine.use_new_globals.Goals as goal
 
 -- a dict that was put behind the others
 last_dict : (old new : List Payload) (ps : Pairs) (v : Obj) → new ≡ old ++ payload.Dict ps ∷ [] → v.number ≡ length old → IsDict new v

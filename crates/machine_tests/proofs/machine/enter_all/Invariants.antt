@@ -1,5 +1,5 @@
 use Rattle.std.specs.Prelude.{◌≤◌}
-use Rattle.crate_tests.proofs.machine.enter_all.Given as goal
+use Rattle.machine_tests.proofs.machine.enter_all.Given as goal
 
 abbrev pub invariant-loop : goal.invariant-loop
 invariant-loop l = l.counter ≤ l.vm.entered

@@ -1,0 +1,7 @@
+//! Tests of public calls about scripts that no script shows, apart from the crate, which would be proved once more with them.
+#![tactic(auto)]
+
+#[cfg(test)]
+mod scripts;
+#[cfg(test)]
+mod tracebacks;
