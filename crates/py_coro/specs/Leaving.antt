@@ -1,11 +1,13 @@
--- What a generator answers that was entered and left, and its mode by then (Python Language Reference, 6.2.9.1; PEP 479).
-use Rattle.std.specs.Prelude.{Option, Some, None, List, Bool, true, false, ◌≡◌}
+-- What a generator answers that was entered and left, and its mode by then (Python Language Reference, 6.2.9.1; PEP 479; PEP 525).
+use Rattle.std.specs.Prelude.{Option, Some, None, List, Bool, true, false, ◌||◌, ◌≡◌}
 use Rattle.py_objects.specs.declared.refs.PyBaseExceptionRef.{PyBaseExceptionRef}
 use Rattle.py_objects.specs.declared.payload.Payload.{Payload}
 use Rattle.py_objects.specs.declared.payload.Payload.TheVariants as payload
 use Rattle.py_objects.specs.declared.payload.ExceptionBody.{ExceptionBody}
+use Rattle.py_objects.specs.declared.payload.CoroKind.{CoroKind}
+use Rattle.py_objects.specs.declared.payload.CoroKind.TheVariants as kind
 use Rattle.py_objects.specs.declared.error_kind.ErrorKind.{ErrorKind}
-use Rattle.py_objects.specs.declared.error_kind.ErrorKind.TheVariants.{GeneratorExit, StopIteration}
+use Rattle.py_objects.specs.declared.error_kind.ErrorKind.TheVariants.{GeneratorExit, StopAsyncIteration, StopIteration}
 use Rattle.py_objects.specs.ErrorKinds.{name_of}
 use Rattle.py_objects.specs.Objects.{Obj, HasPayload, as_object, class_object}
 use Rattle.py_objects.specs.Ancestry.{IsDerived}
@@ -28,6 +30,14 @@ abbrev pub IsOfClass : List Payload → PyBaseExceptionRef → ErrorKind → Boo
 IsOfClass objects e kind b =
     (body : ExceptionBody) × HasPayload objects (as_object e) (payload.Exception body) × IsDerived objects (class_object body.class) (name_of kind) b
 
+-- whether an exception that comes out of one of this kind is converted: a StopIteration is (PEP 479), and out of an asynchronous generator
+-- a StopAsyncIteration, too (PEP 525)
+abbrev pub IsConverted : List Payload → CoroKind → PyBaseExceptionRef → Bool → Type 0
+IsConverted objects kind.Generator e b = IsOfClass objects e StopIteration b
+IsConverted objects kind.Coroutine e b = IsOfClass objects e StopIteration b
+IsConverted objects kind.AsyncGenerator e b =
+    (stops : Bool) × (stops_async : Bool) × IsOfClass objects e StopIteration stops × IsOfClass objects e StopAsyncIteration stops_async × (b ≡ (stops || stops_async))
+
 -- what a yield is answered by
 abbrev pub yielded : (closing : Bool) → Obj → CoroAnswer
 yielded true v = answer.Ignored
@@ -43,16 +53,16 @@ abbrev pub returned : (closing : Bool) → Obj → Payload → CoroAnswer
 returned true v p = answer.Closed
 returned false v p = answer.Stop (value_if v (is_none p))
 
--- what a raise is answered by: one that stops is converted, and a close is done where one exits
-abbrev pub raised : (closing : Bool) → PyBaseExceptionRef → (stops exits : Bool) → CoroAnswer
+-- what a raise is answered by, which is converted or isn't: a close is done where one exits
+abbrev pub raised : (closing : Bool) → PyBaseExceptionRef → (converted exits : Bool) → CoroAnswer
 raised closing e true exits = answer.Convert e
 raised true e false true = answer.Closed
 raised true e false false = answer.Raise e
 raised false e false exits = answer.Raise e
 
--- one that was left like this answers so
-abbrev pub Finishes : List Payload → (closing : Bool) → CoroEnd → CoroAnswer → Type 0
-Finishes objects closing (left.Yield v) a = a ≡ yielded closing v
-Finishes objects closing (left.Return v) a = (p : Payload) × HasPayload objects v p × (a ≡ returned closing v p)
-Finishes objects closing (left.Raise e) a =
-    (stops : Bool) × (exits : Bool) × IsOfClass objects e StopIteration stops × IsOfClass objects e GeneratorExit exits × (a ≡ raised closing e stops exits)
+-- one of this kind that was left like this answers so
+abbrev pub Finishes : List Payload → CoroKind → (closing : Bool) → CoroEnd → CoroAnswer → Type 0
+Finishes objects kind closing (left.Yield v) a = a ≡ yielded closing v
+Finishes objects kind closing (left.Return v) a = (p : Payload) × HasPayload objects v p × (a ≡ returned closing v p)
+Finishes objects kind closing (left.Raise e) a =
+    (converted : Bool) × (exits : Bool) × IsConverted objects kind e converted × IsOfClass objects e GeneratorExit exits × (a ≡ raised closing e converted exits)

@@ -66,7 +66,8 @@ pub enum CoroAnswer {
     Closed,
     /// This exception is raised.
     Raise(PyBaseExceptionRef),
-    /// This exception is a StopIteration: RuntimeError is raised, with it as the cause (PEP 479).
+    /// This exception is a StopIteration, or a StopAsyncIteration out of an asynchronous generator: RuntimeError is raised, with it as the
+    /// cause (PEP 479, PEP 525).
     Convert(PyBaseExceptionRef),
     /// It yielded while it was closed, which is a RuntimeError.
     Ignored,
@@ -206,17 +207,18 @@ impl Coro {
         }
     }
 
-    /// Notes how it was left, and says what the call that entered it is answered (Python Language Reference, 6.2.9.1; PEP 479).
+    /// Notes how it was left, and says what the call that entered it is answered (Python Language Reference, 6.2.9.1; PEP 479; PEP
+    /// 525).
     pub fn finish(&mut self, store: &Store, how: CoroEnd) -> CoroAnswer
         requires running { self.old.mode ≡ Running }
         requires fit { AllFit store.now.made }
         requires read { AreRead store.now.made how }
-        ensures answer { Finishes store.now.made self.old.closing how result }
+        ensures answer { Finishes store.now.made self.old.kind self.old.closing how result }
         ensures left { self.new ≡ left_by how self.old }
     {
         let closing = self.is_being_closed();
         self.stage = stage_behind(closing, how);
-        answer_to(store, closing, how)
+        answer_to(store, self.kind, closing, how)
     }
 
     /// What it is shown as, by its name and this number.

@@ -8,13 +8,13 @@ ghost use Rattle.py_objects.specs.declared.payload.ExceptionBody.{ExceptionBody}
 ghost use Rattle.py_objects.specs.declared.payload.Payload.{Payload as PayloadOf};
 ghost use Rattle.py_objects.specs.declared.payload.Payload.TheVariants.{Exception};
 ghost use Rattle.py_coro.specs.declared.coro.CoroEnd.TheVariants as left;
-ghost use Rattle.py_coro.specs.Leaving.{mode_behind, yielded as yield_answer, returned as return_answer, raised as raise_answer, Finishes, IsOfClass};
+ghost use Rattle.py_coro.specs.Leaving.{mode_behind, yielded as yield_answer, returned as return_answer, raised as raise_answer, Finishes, IsConverted, IsOfClass};
 ghost use Rattle.py_coro.specs.Coros.{AreRead};
 ghost use Rattle.py_coro.specs.Stages.{mode_of, closing_of};
 
 use crate::coro::{CoroAnswer, CoroEnd};
 use crate::stage::Stage;
-use py_objects::{ErrorKind, Payload, PyBaseExceptionRef, PyObjectRef, PyTypeRef, Store};
+use py_objects::{CoroKind, ErrorKind, Payload, PyBaseExceptionRef, PyObjectRef, PyTypeRef, Store};
 
 /// How one stands that was left like this: only a yield leaves it to be entered again, and not under a close.
 pub(crate) fn stage_behind(closing: bool, how: CoroEnd) -> Stage
@@ -31,16 +31,16 @@ pub(crate) fn stage_behind(closing: bool, how: CoroEnd) -> Stage
     }
 }
 
-/// What the call that entered one is answered, to be closed or not, where that was left like this.
-pub(crate) fn answer_to(store: &Store, closing: bool, how: CoroEnd) -> CoroAnswer
+/// What the call that entered one of this kind is answered, to be closed or not, where that was left like this.
+pub(crate) fn answer_to(store: &Store, kind: CoroKind, closing: bool, how: CoroEnd) -> CoroAnswer
     requires fit { AllFit store.now.made }
     requires read { AreRead store.now.made how }
-    ensures { Finishes store.now.made closing how result }
+    ensures { Finishes store.now.made kind closing how result }
 {
     match how {
         CoroEnd::Yield(value) => yielded(closing, value),
         CoroEnd::Return(value) => returned(store, closing, value),
-        CoroEnd::Raise(exc) => raised(store, closing, exc),
+        CoroEnd::Raise(exc) => raised(store, kind, closing, exc),
     }
 }
 
@@ -57,7 +57,7 @@ fn yielded(closing: bool, value: PyObjectRef) -> CoroAnswer
 /// What a return is answered by.
 fn returned(store: &Store, closing: bool, value: PyObjectRef) -> CoroAnswer
     requires { value.number < length store.now.made }
-    ensures { Finishes store.now.made closing (left.Return value) result }
+    ensures { (p : PayloadOf) × HasPayload store.now.made value p × (result ≡ return_answer closing value p) }
 {
     let is_none = is_none(store, value);
     answer_of_return(closing, value, is_none)
@@ -84,28 +84,51 @@ fn is_none(store: &Store, object: PyObjectRef) -> bool
     matches!(store.get(object), Payload::None)
 }
 
-/// What a raise is answered by.
-fn raised(store: &Store, closing: bool, exc: PyBaseExceptionRef) -> CoroAnswer
+/// What a raise out of one of this kind is answered by.
+fn raised(store: &Store, kind: CoroKind, closing: bool, exc: PyBaseExceptionRef) -> CoroAnswer
     requires fit { AllFit store.now.made }
     requires exception { IsException store.now.made (as_object exc) }
-    ensures { Finishes store.now.made closing (left.Raise exc) result }
+    ensures { Finishes store.now.made kind closing (left.Raise exc) result }
 {
-    let stops = is_of_class(store, exc, ErrorKind::StopIteration);
+    let converted = is_converted(store, kind, exc);
     let exits = is_of_class(store, exc, ErrorKind::GeneratorExit);
-    answer_of_raise(closing, exc, stops, exits)
+    answer_of_raise(closing, exc, converted, exits)
 }
 
-/// What the raise of an exception is answered by that is a StopIteration, or a GeneratorExit, or neither.
-fn answer_of_raise(closing: bool, exc: PyBaseExceptionRef, stops: bool, exits: bool) -> CoroAnswer
-    ensures { result ≡ raise_answer closing exc stops exits }
+/// What the raise of an exception is answered by that is converted, or a GeneratorExit, or neither.
+fn answer_of_raise(
+    closing: bool,
+    exc: PyBaseExceptionRef,
+    converted: bool,
+    exits: bool,
+) -> CoroAnswer
+    ensures { result ≡ raise_answer closing exc converted exits }
 {
-    if stops {
+    if converted {
         return CoroAnswer::Convert(exc);
     }
     if closing && exits {
         return CoroAnswer::Closed;
     }
     CoroAnswer::Raise(exc)
+}
+
+/// Whether an exception that comes out of one of this kind is converted: a StopIteration is (PEP 479), and out of an asynchronous generator
+/// a StopAsyncIteration, too (PEP 525).
+fn is_converted(store: &Store, kind: CoroKind, exc: PyBaseExceptionRef) -> bool
+    requires fit { AllFit store.now.made }
+    requires exception { IsException store.now.made (as_object exc) }
+    ensures { IsConverted store.now.made kind exc result }
+{
+    let stops = is_of_class(store, exc, ErrorKind::StopIteration);
+    match kind {
+        CoroKind::Generator => stops,
+        CoroKind::Coroutine => stops,
+        CoroKind::AsyncGenerator => {
+            let stops_async = is_of_class(store, exc, ErrorKind::StopAsyncIteration);
+            stops || stops_async
+        }
+    }
 }
 
 /// Whether an exception is of a built-in class.
