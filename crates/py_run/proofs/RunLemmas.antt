@@ -3,9 +3,10 @@ use Rattle.std.proofs.Common.{◌≡◌, ◌<◌, ◌⊎◌, ◌+◌, ℕ, zero,
 use Rattle.std.specs.Prelude.{Option, slice_get}
 use Rattle.py_objects.specs.declared.payload.Payload.{Payload}
 use Rattle.py_objects.specs.declared.payload.CoroKind.{CoroKind}
+use Rattle.py_objects.specs.declared.payload.CoroKind.TheVariants as coro
 use Rattle.py_objects.specs.declared.refs.PyBaseExceptionRef.{PyBaseExceptionRef}
 use Rattle.py_objects.specs.declared.error_kind.ErrorKind.{ErrorKind}
-use Rattle.py_objects.specs.declared.error_kind.ErrorKind.TheVariants.{GeneratorExit, StopIteration}
+use Rattle.py_objects.specs.declared.error_kind.ErrorKind.TheVariants.{GeneratorExit, StopAsyncIteration, StopIteration}
 use Rattle.py_objects.specs.declared.request.Request.{Request}
 use Rattle.py_objects.specs.declared.request.Request.TheVariants as request
 use Rattle.py_objects.specs.declared.event.ResumeHow.{ResumeHow}
@@ -21,7 +22,7 @@ use Rattle.py_coro.specs.declared.coro.CoroAnswer.{CoroAnswer}
 use Rattle.py_coro.specs.declared.coro.CoroEnd.{CoroEnd}
 use Rattle.py_coro.specs.declared.coro.CoroEnd.TheVariants as left
 use Rattle.py_coro.specs.Modes.{Mode, Fresh, Suspended, Running, Closed}
-use Rattle.py_coro.specs.Leaving.{IsOfClass, Finishes}
+use Rattle.py_coro.specs.Leaving.{IsConverted, IsOfClass, Finishes}
 use Rattle.py_answers.specs.Answers.{Reply}
 use Rattle.py_answers.proofs.RepliesLemmas.{gives_body_grow, gives_drive_grow, raise_grows, replies_grow}
 use Rattle.py_answers.proofs.ThrownLemmas.{normalizes_grow}
@@ -95,18 +96,26 @@ of_class_grows : (objects objects' : List Payload) (e : PyBaseExceptionRef) (kin
 of_class_grows objects objects' e kind b grows (body, has, derived) =
     (body, payload_grown objects objects' _ _ (plainly_grows objects objects' grows) has, derived_grows objects objects' (class_object body.class) (name_of kind) b grows derived)
 
+-- and whether one is converted
+converted_grows : (objects objects' : List Payload) (kind : CoroKind) (e : PyBaseExceptionRef) (b : Bool) → GrowsPlainly objects objects' → IsConverted objects kind e b → IsConverted objects' kind e b
+converted_grows objects objects' coro.Generator e b grows is = of_class_grows objects objects' e StopIteration b grows is
+converted_grows objects objects' coro.Coroutine e b grows is = of_class_grows objects objects' e StopIteration b grows is
+converted_grows objects objects' coro.AsyncGenerator e b grows (stops, stops_async, a_stop, an_async, is) =
+    (stops, stops_async, of_class_grows objects objects' e StopIteration stops grows a_stop, of_class_grows objects objects' e StopAsyncIteration stops_async grows an_async, is)
+
 -- so does what a generator answers that was left
-finishes_grow : (objects objects' : List Payload) (closing : Bool) (how : CoroEnd) (a : CoroAnswer) → GrowsPlainly objects objects' → Finishes objects closing how a → Finishes objects' closing how a
-finishes_grow objects objects' closing (left.Yield v) a grows is = is
-finishes_grow objects objects' closing (left.Return v) a grows (p, has, is) = (p, payload_grown objects objects' v p (plainly_grows objects objects' grows) has, is)
-finishes_grow objects objects' closing (left.Raise e) a grows (stops, exits, a_stop, an_exit, is) =
-    (stops, exits, of_class_grows objects objects' e StopIteration stops grows a_stop, of_class_grows objects objects' e GeneratorExit exits grows an_exit, is)
+finishes_grow : (objects objects' : List Payload) (kind : CoroKind) (closing : Bool) (how : CoroEnd) (a : CoroAnswer) → GrowsPlainly objects objects' → Finishes objects kind closing how a
+    → Finishes objects' kind closing how a
+finishes_grow objects objects' kind closing (left.Yield v) a grows is = is
+finishes_grow objects objects' kind closing (left.Return v) a grows (p, has, is) = (p, payload_grown objects objects' v p (plainly_grows objects objects' grows) has, is)
+finishes_grow objects objects' kind closing (left.Raise e) a grows (converted, exits, a_stop, an_exit, is) =
+    (converted, exits, converted_grows objects objects' kind e converted grows a_stop, of_class_grows objects objects' e GeneratorExit exits grows an_exit, is)
 
 -- and what who entered it is answered
 leaves_grow : (objects objects' : List Payload) (g : Obj) (closing : Bool) (how : CoroEnd) (reply : Reply)
     → GrowsPlainly objects objects' → LeavesGenerator objects g closing how reply → LeavesGenerator objects' g closing how reply
 leaves_grow objects objects' g closing how reply grows (body, has, a, finishes, is) =
-    (body, payload_grown objects objects' g _ (plainly_grows objects objects' grows) has, a, finishes_grow objects objects' closing how a grows finishes, is)
+    (body, payload_grown objects objects' g _ (plainly_grows objects objects' grows) has, a, finishes_grow objects objects' body.kind closing how a grows finishes, is)
 
 -- so does what is due to each question
 pub due_grows : (objects objects' : List Payload) (r : Request) (how : CoroEnd) (reply : Reply) → GrowsPlainly objects objects' → IsDue objects r how reply → IsDue objects' r how reply

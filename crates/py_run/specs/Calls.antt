@@ -220,7 +220,7 @@ module _ (objects : List Payload) where
   -- a send, a throw or a close is answered by how the activation of the generator was left
   abbrev pub LeavesGenerator : Obj → (closing : Bool) → CoroEnd → Reply → Type 0
   LeavesGenerator g closing how reply =
-      (body : CoroBody) × HasPayload objects g (payload.Generator body) × (a : CoroAnswer) × Finishes objects closing how a × (reply ≡ reply_by (word_of body.kind) a)
+      (body : CoroBody) × HasPayload objects g (payload.Generator body) × (a : CoroAnswer) × Finishes objects body.kind closing how a × (reply ≡ reply_by (word_of body.kind) a)
 
   -- what a question is answered where the activation that it entered was left
   abbrev pub IsDue : Request → CoroEnd → Reply → Type 0
