@@ -25,6 +25,7 @@ use Rattle.py_coro.specs.declared.coro.CoroAnswer.{CoroAnswer}
 use Rattle.py_coro.specs.declared.coro.CoroAnswer.TheVariants as answer
 use Rattle.py_coro.specs.declared.refusal.CoroRefusal.TheVariants as refused
 use Rattle.py_coro.specs.Modes.{Mode, Fresh, Suspended, Running, Closed, Row, Stops as RowStops, Raises as RowRaises, Done as RowDone, Starts as RowStarts, Sends as RowSends, Throws as RowThrows, Exits as RowExits, Refuses as RowRefuses, most_depth, sent, thrown, closed}
+use Rattle.py_coro.specs.Leaving.{Finishes}
 use Rattle.py_coro.specs.Refusals.{refused as fault_of, too_deep, word_of}
 use Rattle.py_answers.specs.Answers.{This, Called, BuiltIn, Reply, Is, Fails, Passes, CallsAs, Calls, LacksAs, Lacks, RefusesEntry, CallsExit, Replies}
 use Rattle.py_run.specs.Run.{Signature}
@@ -251,9 +252,11 @@ module _ (S : Relation) where
     generator_agree : (g g' : Obj) (closing : Bool) (how how' : CoroEnd) (reply reply' : Reply) → S g g' → SameLeft S how how' → LeavesGenerator objects g closing how reply
         → LeavesGenerator objects' g' closing how' reply' → SameReply S reply reply'
     generator_agree g g' closing how how' reply reply' same_g s (b, has, a, finishes, is) (b', has', a', finishes', is') =
+        let bodies : b ≡ b' = alike.payloads g g' (payload.Generator b) (payload.Generator b') same_g has has' in
         replies_are reply reply' _ _ is is'
-        (subst (λ (d : CoroBody). SameReply S (reply_by (word_of b.kind) a) (reply_by (word_of d.kind) a')) (alike.payloads g g' (payload.Generator b) (payload.Generator b') same_g has has')
-        (left_agree (word_of b.kind) a a' (finishes_agree S objects objects' alike closing how how' a a' s finishes finishes')))
+        (subst (λ (d : CoroBody). SameReply S (reply_by (word_of b.kind) a) (reply_by (word_of d.kind) a')) bodies
+        (left_agree (word_of b.kind) a a'
+        (finishes_agree S objects objects' alike b.kind closing how how' a a' s finishes (subst (λ (d : CoroBody). Finishes objects' d.kind closing how' a') (sym bodies) finishes'))))
 
     -- the same question that was left the same is answered the same
     pub due_agree : (r r' : Request) (how how' : CoroEnd) (reply reply' : Reply) → SameAsked S r r' → SameLeft S how how' → IsDue objects r how reply → IsDue objects' r' how' reply'
