@@ -162,6 +162,7 @@ module _ (m : Core) where
           record {
             body = k.body;
             entry = payload_grown m.store.made objects _ _ grows k.entry;
+            kind_is = k.kind_is;
             activation = keeps_still x.generator.mode x out.0 k.activation;
             low = omega (arith, more, k.low);
           },

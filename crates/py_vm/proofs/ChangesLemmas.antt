@@ -1,10 +1,12 @@
 -- What becomes of generators as they are closed, entered, left and made: those that run stay, and each is as it is kept.
-use Rattle.std.proofs.Common.{◌≡◌, ◌++◌, ℕ, List, [], ◌∷◌, Bool, true, false, eqb, Some, inl, inr, refl, sym, ap, subst, ◌∙◌}
-use Rattle.std.specs.Prelude.{Option, None, if◌then◌else◌}
+use Rattle.std.proofs.Common.{◌≡◌, ◌++◌, ℕ, List, [], ◌∷◌, Bool, true, false, eqb, eqb-true, Some, inl, inr, refl, sym, ap, subst, ◌∙◌}
+use Rattle.std.specs.Prelude.{Option, None, slice_get, if◌then◌else◌}
 use Rattle.std.proofs.lemmas.Bool.Decides.{eqb_tells}
+use Rattle.py_objects.specs.declared.payload.CoroBody.{CoroBody}
 use Rattle.py_objects.specs.declared.payload.Payload.{Payload}
+use Rattle.py_objects.specs.declared.payload.Payload.TheVariants as payload
 use Rattle.py_objects.specs.declared.event.Event.{Event}
-use Rattle.py_objects.specs.Objects.{Obj}
+use Rattle.py_objects.specs.Objects.{HasPayload, Obj}
 use Rattle.py_coro.specs.declared.coro.CoroEnd.{CoroEnd}
 use Rattle.py_coro.specs.declared.coro.CoroEnd.TheVariants.{Yield, Return, Raise}
 use Rattle.py_coro.specs.Modes.{Mode, Fresh, Suspended as Left, Running as Entered, Closed}
@@ -16,7 +18,7 @@ use Rattle.py_vm.specs.Codes.{Checked}
 use Rattle.py_vm.specs.Generators.{changed_at, entered_at, kept_at, kept_in, settled, shut, without_activation}
 use Rattle.py_vm.specs.Stands.{AreEach, AreSingle, IsKept, IsLeft, IsNoOnes, IsNot, IsOutside, KeepsIn}
 use Rattle.py_objects.specs.Edits.{Kept}
-use Rattle.py_vm.proofs.KeptLemmas.{kept_elsewhere, other_way, outside_changed, single_changed}
+use Rattle.py_vm.proofs.KeptLemmas.{kept_elsewhere, kept_object, other_way, outside_changed, single_changed}
 use Rattle.py_vm.proofs.ChainLemmas.{Anyone, IsCarried, carried_same}
 
 -- the one that is found is as each is kept
@@ -28,6 +30,15 @@ each_at codes globals objects events made (y ∷ ys) g x here each = found (eqb 
     found : (b : Bool) → (if b then Some y else kept_at ys g) ≡ Some x → (kept_at ys g ≡ Some x → IsKept codes globals objects events made x) → IsKept codes globals objects events made x
     found true here later = let same : y ≡ x = cc here in subst (IsKept codes globals objects events made) same each.0
     found false here later = later here
+
+-- and is of the kind of its object
+pub kind_at : (codes : Checked) (globals : Obj) (objects : List Payload) (events : List Event) (made : ℕ) (list : List KeptGenerator) (g : Obj) (x : KeptGenerator) (body : CoroBody)
+    → kept_at list g ≡ Some x → AreEach codes globals objects events made list → HasPayload objects g (payload.Generator body) → x.generator.kind ≡ body.kind
+kind_at codes globals objects events made list g x body here each has =
+    let k : IsKept codes globals objects events made x = each_at codes globals objects events made list g x here each in
+    let both : Some (payload.Generator k.body) ≡ Some (payload.Generator body) = sym k.entry ∙ (ap (slice_get objects) (eqb-true x.object.number g.number (kept_object list g x here)) ∙ has) in
+    let bodies : k.body ≡ body = cc both in
+    k.kind_is ∙ ap (λ (b : CoroBody). b.kind) bodies
 
 -- each is where one changes that is kept by then
 pub each_changed : (codes : Checked) (globals : Obj) (objects : List Payload) (events : List Event) (made : ℕ) (g : Obj) (f : KeptGenerator → KeptGenerator) (list : List KeptGenerator)
@@ -91,7 +102,7 @@ shut_change m store e g x here still = record {
     runs = λ h y there runs other. runs_changed g shut (λ z. refl) m.generators h y there (other_one m.generators g x y here still runs);
     outside = λ a other out. outside_changed g shut (λ z. refl) a m.generators (λ z is. tt) out;
   };
-  each = λ each. each_changed m.codes m.globals store.made (m.events ++ e ∷ []) m.made g shut m.generators (λ z is k. record { body = k.body; entry = k.entry; activation = refl; low = k.low }) each;
+  each = λ each. each_changed m.codes m.globals store.made (m.events ++ e ∷ []) m.made g shut m.generators (λ z is k. record { body = k.body; entry = k.entry; kind_is = k.kind_is; activation = refl; low = k.low }) each;
   single = λ single. single_changed g shut (λ z. refl) (λ z. refl) m.generators single;
 }
 
@@ -145,6 +156,7 @@ module _ (m : Core) (store : Kept) (e : Event) (g : Obj) (s : Suspended) (how : 
       kept_so k = record {
         body = k.body;
         entry = k.entry;
+        kind_is = k.kind_is;
         activation = kept_by m.codes m.globals store.made (m.events ++ e ∷ []) (mode_behind x.generator.closing how) (not_entered x.generator.closing how).0 (not_entered x.generator.closing how).1 left;
         low = k.low;
       }
@@ -201,4 +213,4 @@ entered_carried closing list g x here still = record {
 pub entered_each : (closing : Bool) (codes : Checked) (globals : Obj) (objects : List Payload) (events : List Event) (made : ℕ) (g : Obj) (list : List KeptGenerator) → AreEach codes globals objects events made list
     → AreEach codes globals objects events made (changed_at g (λ z. without_activation (entered_at closing z)) list)
 entered_each closing codes globals objects events made g list each =
-    each_changed codes globals objects events made g (λ z. without_activation (entered_at closing z)) list (λ z is k. record { body = k.body; entry = k.entry; activation = refl; low = k.low }) each
+    each_changed codes globals objects events made g (λ z. without_activation (entered_at closing z)) list (λ z is k. record { body = k.body; entry = k.entry; kind_is = k.kind_is; activation = refl; low = k.low }) each

@@ -61,7 +61,7 @@ use Rattle.py_vm.specs.Turns.{past_at, passed, Finished, IsCreated, IsSettled, Q
 use Rattle.py_vm.proofs.CallsLemmas.{signature_at}
 use Rattle.py_vm.proofs.KeptLemmas.{modes_changed_one, other_way}
 use Rattle.py_vm.proofs.ChainLemmas.{Anyone, AreOthers, all_others, fresh_still, left_still}
-use Rattle.py_vm.proofs.ChangesLemmas.{But, IsChange, created_change, no_change, settled_change}
+use Rattle.py_vm.proofs.ChangesLemmas.{But, IsChange, created_change, kind_at, no_change, settled_change}
 use Rattle.py_vm.proofs.NextLemmas.{IsNext}
 use Rattle.py_vm.proofs.QuestionsLemmas.{body_asks, drive_asks, due_answers, made_answers}
 use Rattle.py_vm.proofs.AskedLemmas.{AskedBy, FitsWho, IsFold, MayBe, replies_law, who}
@@ -221,6 +221,7 @@ module _ (m : Core) (d : Drive) (r : Running) (f : Obj) (kind : CoroKind) (x : K
       created_change m store' e x (subst (λ n. IsNoOnes n m.generators) (sym new.act) k.at_stage.4) (record {
         body = body;
         entry = payload_grown store.made store'.made x.object _ (plainly_grows store.made store'.made after) has;
+        kind_is = new.kind_is;
         activation = subst (λ mode. KeepsIn m.codes m.globals store'.made (m.events ++ e ∷ []) mode x) (sym new.fresh) (
           record { running = r; slot = None },
           new.activation,
@@ -327,8 +328,9 @@ module _ (m : Core) (d : Drive) (s : Suspended) (how : CoroEnd) (k : Keeps m d (
       let one : x ≡ enters.kept = cc both in
       let closing : x.generator.closing ≡ is_close asks.q = ap (λ (y : KeptGenerator). y.generator.closing) one ∙ enters.closing in
       let act : x.act ≡ s.running.act = ap (λ (y : KeptGenerator). y.act) one ∙ enters.act in
+      let kinds : x.generator.kind ≡ body.kind = kind_at m.codes m.globals m.store.made m.events m.made m.generators g x body here k.kept.each has in
       let reply : Reply = reply_by (word_of body.kind) answer in
-      let due : IsDue m.store.made asks.q how reply = generator_due m.store.made asks.q g how reply asks.known enters.asks (body, has, answer, subst (λ c. Finishes m.store.made c how answer) closing finishes, refl) in
+      let due : IsDue m.store.made asks.q how reply = generator_due m.store.made asks.q g how reply asks.known enters.asks (body, has, answer, subst (λ c. Finishes m.store.made body.kind c how answer) closing (subst (λ n. Finishes m.store.made n x.generator.closing how answer) kinds finishes), refl) in
       let others : IsApart s.running.act m.callers = k.at_stage.2.apart in
       replies_law m d (stage.Due s how) m.callers store list reply w a m' (But x.act) k grown asks.asked_by
       (any_fits m d store reply m.callers asks.asked_by asks.q asks.theirs (wants_any asks.q g enters.asks))

@@ -61,20 +61,20 @@ ending_read objects (left.Return v) x = x
 ending_read objects (left.Raise e) x = x.1
 
 -- what its generator answers keeps it where that may be entered again
-pub finishes_kept : (objects : List Payload) (closing : Bool) (how : CoroEnd) (a : CoroAnswer) (s : Suspended) → Finishes objects closing how a → kept_by a s ≡ kept_in (mode_behind closing how) s
-finishes_kept objects true (left.Yield v) a s is = ap (λ x. kept_by x s) is
-finishes_kept objects false (left.Yield v) a s is = ap (λ x. kept_by x s) is
-finishes_kept objects true (left.Return v) a s (p, has, is) = ap (λ x. kept_by x s) is
-finishes_kept objects false (left.Return v) a s (p, has, is) = ap (λ x. kept_by x s) is
-finishes_kept objects true (left.Raise e) a s (stops, exits, of_stop, of_exit, is) = ap (λ x. kept_by x s) is ∙ closed stops exits
+pub finishes_kept : (objects : List Payload) (kind : CoroKind) (closing : Bool) (how : CoroEnd) (a : CoroAnswer) (s : Suspended) → Finishes objects kind closing how a → kept_by a s ≡ kept_in (mode_behind closing how) s
+finishes_kept objects kind true (left.Yield v) a s is = ap (λ x. kept_by x s) is
+finishes_kept objects kind false (left.Yield v) a s is = ap (λ x. kept_by x s) is
+finishes_kept objects kind true (left.Return v) a s (p, has, is) = ap (λ x. kept_by x s) is
+finishes_kept objects kind false (left.Return v) a s (p, has, is) = ap (λ x. kept_by x s) is
+finishes_kept objects kind true (left.Raise e) a s (converted, exits, is_converted, of_exit, is) = ap (λ x. kept_by x s) is ∙ closed converted exits
   where
-    closed : (stops exits : Bool) → kept_by (raised true e stops exits) s ≡ None
+    closed : (converted exits : Bool) → kept_by (raised true e converted exits) s ≡ None
     closed true exits = refl
     closed false true = refl
     closed false false = refl
-finishes_kept objects false (left.Raise e) a s (stops, exits, of_stop, of_exit, is) = ap (λ x. kept_by x s) is ∙ raises stops
+finishes_kept objects kind false (left.Raise e) a s (converted, exits, is_converted, of_exit, is) = ap (λ x. kept_by x s) is ∙ raises converted
   where
-    raises : (stops : Bool) → kept_by (raised false e stops exits) s ≡ None
+    raises : (converted : Bool) → kept_by (raised false e converted exits) s ≡ None
     raises true = refl
     raises false = refl
 
@@ -87,18 +87,18 @@ AnswersThere objects (answer.Raise e) = (e.number < length objects) × HasKind o
 AnswersThere objects (answer.Convert e) = IsException objects (as_object e)
 AnswersThere objects answer.Ignored = Unit {0}
 
-pub finishes_there : (objects : List Payload) (closing : Bool) (how : CoroEnd) (a : CoroAnswer) → IsEnding objects how → Finishes objects closing how a → AnswersThere objects a
-finishes_there objects true (left.Yield v) a x is = subst (AnswersThere objects) (sym is) tt
-finishes_there objects false (left.Yield v) a x is = subst (AnswersThere objects) (sym is) x
-finishes_there objects true (left.Return v) a x (p, has, is) = subst (AnswersThere objects) (sym is) tt
-finishes_there objects false (left.Return v) a x (p, has, is) = subst (AnswersThere objects) (sym is) (value (is_none p))
+pub finishes_there : (objects : List Payload) (kind : CoroKind) (closing : Bool) (how : CoroEnd) (a : CoroAnswer) → IsEnding objects how → Finishes objects kind closing how a → AnswersThere objects a
+finishes_there objects kind true (left.Yield v) a x is = subst (AnswersThere objects) (sym is) tt
+finishes_there objects kind false (left.Yield v) a x is = subst (AnswersThere objects) (sym is) x
+finishes_there objects kind true (left.Return v) a x (p, has, is) = subst (AnswersThere objects) (sym is) tt
+finishes_there objects kind false (left.Return v) a x (p, has, is) = subst (AnswersThere objects) (sym is) (value (is_none p))
   where
     value : (b : Bool) → AllBelow (length objects) (numbers_if (value_if v b))
     value true = tt
     value false = (x, tt)
-finishes_there objects closing (left.Raise e) a x (stops, exits, of_stop, of_exit, is) = subst (AnswersThere objects) (sym is) (raises closing stops exits)
+finishes_there objects kind closing (left.Raise e) a x (converted, exits, is_converted, of_exit, is) = subst (AnswersThere objects) (sym is) (raises closing converted exits)
   where
-    raises : (closing stops exits : Bool) → AnswersThere objects (raised closing e stops exits)
+    raises : (closing converted exits : Bool) → AnswersThere objects (raised closing e converted exits)
     raises true true exits = x.1
     raises false true exits = x.1
     raises true false true = tt
@@ -118,7 +118,7 @@ pub passes_given : (objects : List Payload) (e : PyBaseExceptionRef) → (e.numb
 passes_given objects e (low, raises) = record { plain = refl; gives = λ before named. refl; below = low; raises = raises }
 
 -- a generator settles with what it answers
-module _ (m : Core) (g : Obj) (s : Suspended) (how : CoroEnd) (x : KeptGenerator) (here : kept_at m.generators g ≡ Some x) (a : CoroAnswer) (finishes : Finishes m.store.made x.generator.closing how a)
+module _ (m : Core) (g : Obj) (s : Suspended) (how : CoroEnd) (x : KeptGenerator) (here : kept_at m.generators g ≡ Some x) (a : CoroAnswer) (finishes : Finishes m.store.made x.generator.kind x.generator.closing how a)
     (body : CoroBody) (has : HasPayload m.store.made g (payload.Generator body)) where
   pub settled_one : (store : Kept) (list : List KeptGenerator) (w : MadeReply) → IsGrown m.store store → list ≡ changed_at g (settled s how) m.generators
       → IsReplied m.store.made store.made (reply_by (word_of body.kind) a) w → SettledOne m g s how w (record m { store = store; generators = list })
@@ -142,10 +142,10 @@ replied_at_once objects word (answer.Convert e) w there is = absurd is
 replied_at_once objects word answer.Ignored w there is = absurd is
 
 module _ (m : Core) (g : Obj) (s : Suspended) (how : CoroEnd) (runs : IsRunningNow m.generators g) (generator : IsGenerator m.store.made g) (ending : IsEnding m.store.made how) (a : CoroAnswer)
-    (finishes : (x : KeptGenerator) → kept_at m.generators g ≡ Some x → Finishes m.store.made x.generator.closing how a) (list : List KeptGenerator) (changes : list ≡ changed_at g (settled s how) m.generators) where
+    (finishes : (x : KeptGenerator) → kept_at m.generators g ≡ Some x → Finishes m.store.made x.generator.kind x.generator.closing how a) (list : List KeptGenerator) (changes : list ≡ changed_at g (settled s how) m.generators) where
   -- it names objects that are there
   pub answers_there : AnswersThere m.store.made a
-  answers_there = finishes_there m.store.made runs.0.generator.closing how a ending (finishes runs.0 runs.1)
+  answers_there = finishes_there m.store.made runs.0.generator.kind runs.0.generator.closing how a ending (finishes runs.0 runs.1)
 
   pub settled_by : (store : Kept) (w : MadeReply) → IsGrown m.store store → IsReplied m.store.made store.made (reply_by (word_of generator.0.kind) a) w → SettledOne m g s how w (record m { store = store; generators = list })
   settled_by store w grown replied = settled_one m g s how runs.0 runs.1 a (finishes runs.0 runs.1) generator.0 generator.1 store list w grown changes replied
@@ -227,7 +227,7 @@ module _ (m : Core) (s : Stage) where
   started_at r f (Some kind) a m' (x, store, created, replies) = (
     x,
     store,
-    record { body = created.body; function = created.function; added = created.added; object = created.object; act = created.act; fresh = created.fresh; activation = created.activation },
+    record { body = created.body; function = created.function; added = created.added; object = created.object; act = created.act; fresh = created.fresh; kind_is = created.kind_is; activation = created.activation },
     replies_at (record m { store = store; generators = m.generators ++ x ∷ [] }) (made.Value x.object) m.callers a m' replies,
   )
 

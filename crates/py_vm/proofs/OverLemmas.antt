@@ -69,7 +69,7 @@ module _ (codes : Checked) (list : List Annotated) (stay : (i : ℕ) (c : Annota
   each_over made [] each = tt
   each_over made (x ∷ xs) each =
       let k : IsKept codes globals objects events made x = each.0 in
-      (record { body = k.body; entry = payload_grown objects objects' _ _ grows k.entry; activation = keeps_over x.generator.mode x k.activation; low = k.low }, each_over made xs each.1)
+      (record { body = k.body; entry = payload_grown objects objects' _ _ grows k.entry; kind_is = k.kind_is; activation = keeps_over x.generator.mode x k.activation; low = k.low }, each_over made xs each.1)
 
   pub kept_over : (made : ℕ) (kept : List KeptGenerator) → AreKept codes globals objects events made kept → AreKept more globals objects' events made kept
   kept_over made kept k = record { each = each_over made kept k.each; single = k.single }
@@ -90,7 +90,7 @@ module _ (codes : Checked) (globals globals' : Obj) (objects : List Payload) (ev
   each_other made [] each = tt
   each_other made (x ∷ xs) each =
       let k : IsKept codes globals objects events made x = each.0 in
-      (record { body = k.body; entry = k.entry; activation = keeps_other x.generator.mode x k.activation; low = k.low }, each_other made xs each.1)
+      (record { body = k.body; entry = k.entry; kind_is = k.kind_is; activation = keeps_other x.generator.mode x k.activation; low = k.low }, each_other made xs each.1)
 
   pub kept_other : (made : ℕ) (kept : List KeptGenerator) → AreKept codes globals objects events made kept → AreKept codes globals' objects events made kept
   kept_other made kept k = record { each = each_other made kept k.each; single = k.single }

@@ -124,7 +124,7 @@ impl GeneratorList {
         requires runs { IsRunningNow self.old object }
         requires fit { AllFit store.now.made }
         requires read { AreRead store.now.made how }
-        ensures answer { (x : KeptGenerator) → kept_at self.old object ≡ Some x → Finishes store.now.made x.generator.closing how result }
+        ensures answer { (x : KeptGenerator) → kept_at self.old object ≡ Some x → Finishes store.now.made x.generator.kind x.generator.closing how result }
         ensures left { self.new ≡ changed_at object (settled left how) self.old }
     {
         let Some(at) = self.find(object) else {

@@ -23,7 +23,7 @@ invariant_of-self c =
 
 pub returns-clause-answer : goal.returns-clause-answer
 returns-clause-answer c x kept =
-    subst (λ (t : State). Finishes c.args.store.now.made t.closing c.args.how c.finish-answer.result)
+    subst (λ (t : State). Finishes c.args.store.now.made t.kind t.closing c.args.how c.finish-answer.result)
     (c.as_coro_mut.ensures.value
     ∙ ap (λ (k : KeptGenerator). k.generator)
     (read_one c.args.object c.self.inside.items.items c.args.self.now c.in-Some.at c.index_mut-item.result.now x c.self.view_is (sym c.in-Some.ensures.place) c.index_mut-item.ensures.value kept))
@@ -34,4 +34,4 @@ returns-clause-left c =
     settled_there c.args.object c.args.left c.args.how c.self.inside.items.items c.args.self.now c.in-Some.at c.index_mut-item.result.now c.as_coro_mut.result.now
     c.finish-answer.new.self c.kept_by.result
     c.self.view_is (sym c.in-Some.ensures.place) c.index_mut-item.ensures.value c.as_coro_mut.ensures.value c.finish-answer.ensures.left
-    (c.kept_by.ensures ∙ finishes_kept c.args.store.now.made c.as_coro_mut.result.now.closing c.args.how c.finish-answer.result c.args.left c.finish-answer.ensures.answer)
+    (c.kept_by.ensures ∙ finishes_kept c.args.store.now.made c.as_coro_mut.result.now.kind c.as_coro_mut.result.now.closing c.args.how c.finish-answer.result c.args.left c.finish-answer.ensures.answer)
