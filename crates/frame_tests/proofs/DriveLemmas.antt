@@ -1,6 +1,6 @@
 -- Frames that are driven.
 use Rattle.std.proofs.Common.{◌≡◌, ◌∙◌, ◌<◌, ◌≤◌, ◌++◌, ℕ, zero, suc, List, [], ◌∷◌, None, Some, true, false, refl, sym, ap, subst, inl, inr, length, append_assoc, arith}
-use Rattle.std.specs.Prelude.{Option, replicate}
+use Rattle.std.specs.Prelude.{Option, replicate, slice_get}
 use Rattle.py_code.specs.declared.names.NameId.{NameId}
 use Rattle.py_objects.specs.declared.refs.FrameRef.{FrameRef}
 use Rattle.py_objects.specs.declared.refs.PyBaseExceptionRef.{PyBaseExceptionRef}
@@ -8,7 +8,7 @@ use Rattle.py_objects.specs.declared.scope.Scope.{Scope}
 use Rattle.py_objects.specs.declared.payload.Payload.{Payload}
 use Rattle.py_objects.specs.declared.payload.Payload.TheVariants as payload
 use Rattle.py_objects.specs.Scopes.{scope_of}
-use Rattle.py_objects.specs.Objects.{Obj, payload_numbers, number_if, AllBelow, IsMade, AllFit}
+use Rattle.py_objects.specs.Objects.{Obj, number_if, AllBelow}
 use Rattle.py_objects.specs.Growth.{Grows, GrowsPlainly}
 use Rattle.py_exceptions.specs.Slots.{Slots, top_of}
 use Rattle.py_check.specs.declared.annotated.Annotated.{Annotated}
@@ -21,6 +21,7 @@ use Rattle.py_rows.specs.Sound.{ArePlaces, IsSound}
 use Rattle.py_rows.specs.RunOfRows.{filled, is_thrown_into}
 use Rattle.py_rows.specs.States.{Setting}
 use Rattle.py_frame.specs.declared.input.Input.{Input}
+use Rattle.py_frame.specs.Added.{ClassesAreThere}
 use Rattle.py_frame.specs.Frames.{Framed, unfilled}
 use Rattle.py_frame.specs.Steps.{Expects, events, heard}
 use Rattle.py_frame.specs.Running.{IsRunning}
@@ -32,27 +33,27 @@ use Rattle.frame_tests.specs.Drives.{IsDriven}
 use Rattle.frame_tests.specs.FirstObjects.{first_objects, exception_body, object_at, payload_of}
 use Rattle.frame_tests.specs.Inputs.{IsExpected}
 
--- an entry among the first objects fits
-abbrev FitsFirst : Payload → Type 0
-FitsFirst p = AllBelow (length first_objects) (payload_numbers p) × IsMade first_objects p
+-- an entry's class is there, where it is an exception
+abbrev HasClass : Payload → Type 0
+HasClass (payload.Exception e) = e.class.number < length first_objects
+HasClass _ = Unit {0}
 
-exception_fits : FitsFirst (payload.Exception exception_body)
-exception_fits = ((omega arith, (omega arith, tt)), record { class = _; is_class = refl; arguments = []; are_arguments = refl; cause = tt; context = tt; traceback = tt })
+first_has : (i : ℕ) (p : Payload) → slice_get first_objects i ≡ Some p → HasClass p
+first_has zero p is = subst HasClass (let same : payload.None ≡ p = cc in same) tt
+first_has (suc zero) p is = subst HasClass (let same : payload.Bool false ≡ p = cc in same) tt
+first_has (suc (suc zero)) p is = subst HasClass (let same : payload.Bool true ≡ p = cc in same) tt
+first_has (suc (suc (suc zero))) p is = subst HasClass (let same : payload_of first.Class ≡ p = cc in same) tt
+first_has (suc (suc (suc (suc zero)))) p is = subst HasClass (let same : payload.Tuple [] ≡ p = cc in same) tt
+first_has (suc (suc (suc (suc (suc zero))))) p is = subst HasClass (let same : payload.Exception exception_body ≡ p = cc in same) (omega arith)
+first_has (suc (suc (suc (suc (suc (suc zero)))))) p is = subst HasClass (let same : payload.Exception exception_body ≡ p = cc in same) (omega arith)
+first_has (suc (suc (suc (suc (suc (suc (suc zero))))))) p is = subst HasClass (let same : payload_of first.Function ≡ p = cc in same) tt
+first_has (suc (suc (suc (suc (suc (suc (suc (suc zero)))))))) p is = subst HasClass (let same : payload_of first.Manager ≡ p = cc in same) tt
+first_has (suc (suc (suc (suc (suc (suc (suc (suc (suc zero))))))))) p is = subst HasClass (let same : payload.Frame 0 ≡ p = cc in same) tt
+first_has (suc (suc (suc (suc (suc (suc (suc (suc (suc (suc i)))))))))) p is = absurd (cc is)
 
--- so does each
-pub first_fit : AllFit first_objects
-first_fit zero p is = subst FitsFirst (let same : payload.None ≡ p = cc in same) (tt, tt)
-first_fit (suc zero) p is = subst FitsFirst (let same : payload.Bool false ≡ p = cc in same) (tt, tt)
-first_fit (suc (suc zero)) p is = subst FitsFirst (let same : payload.Bool true ≡ p = cc in same) (tt, tt)
-first_fit (suc (suc (suc zero))) p is = subst FitsFirst (let same : payload_of first.Class ≡ p = cc in same) (tt, tt)
-first_fit (suc (suc (suc (suc zero)))) p is = subst FitsFirst (let same : payload.Tuple [] ≡ p = cc in same) (tt, tt)
-first_fit (suc (suc (suc (suc (suc zero))))) p is = subst FitsFirst (let same : payload.Exception exception_body ≡ p = cc in same) exception_fits
-first_fit (suc (suc (suc (suc (suc (suc zero)))))) p is = subst FitsFirst (let same : payload.Exception exception_body ≡ p = cc in same) exception_fits
-first_fit (suc (suc (suc (suc (suc (suc (suc zero))))))) p is = subst FitsFirst (let same : payload_of first.Function ≡ p = cc in same) (tt, tt)
-first_fit (suc (suc (suc (suc (suc (suc (suc (suc zero)))))))) p is =
-    subst FitsFirst (let same : payload_of first.Manager ≡ p = cc in same) ((omega arith, (omega arith, tt)), ((_, refl), (_, refl)))
-first_fit (suc (suc (suc (suc (suc (suc (suc (suc (suc zero))))))))) p is = subst FitsFirst (let same : payload.Frame 0 ≡ p = cc in same) (tt, tt)
-first_fit (suc (suc (suc (suc (suc (suc (suc (suc (suc (suc i)))))))))) p is = absurd (cc is)
+-- so each exception's is
+pub first_classes : ClassesAreThere first_objects
+first_classes v e has = first_has v.number (payload.Exception e) has
 
 -- a frame that was filled with a value and a manager runs
 pub frame_runs : (names : List (List ℕ)) (code : Annotated) (made now : Framed) (entry : FrameRef) (scope : Scope) (closure args : List Obj) (room : ℕ) (locals : List (Option Obj))
@@ -76,10 +77,10 @@ expected objects setting x y i fits same (more, is) flags =
 
 -- a frame that made a step is still driven
 pub driven_on : (old new : List Payload) (names : List (List ℕ)) (code : Annotated) (before slots : Slots) (f g : Framed) → IsDriven old names code before f → GrowsPlainly old new
-    → IsRunning new names code g → top_of slots ≡ g.state.slot → IsDriven new names code slots g
-driven_on old new names code before slots f g driven grows running left = record {
+    → ClassesAreThere new → IsRunning new names code g → top_of slots ≡ g.state.slot → IsDriven new names code slots g
+driven_on old new names code before slots f g driven grows classes running left = record {
   running = running;
-  fit = grows.fit driven.fit;
+  fit = classes;
   grown = (driven.grown.0 ++ grows.more, grows.is ∙ ap (λ os. os ++ grows.more) driven.grown.1 ∙ append_assoc first_objects driven.grown.0 grows.more);
   slot_fits = record { below = subst (λ (s : Option PyBaseExceptionRef). AllBelow (length new) (number_if s)) (sym left) running.below.in_slot; left = inr left };
 }
@@ -101,7 +102,7 @@ sound rows names code of typed some = record { typed = typed; named = record { l
 pub driven_first : (objects : List Payload) (names : List (List ℕ)) (code : Annotated) (f : Framed) → objects ≡ first_objects → IsRunning objects names code f → f.state.wants ≡ expect.Start → IsDriven objects names code (Some (record { number = 6 }) ∷ []) f
 driven_first objects names code f is running fresh = record {
   running = running;
-  fit = subst AllFit (sym is) first_fit;
+  fit = subst ClassesAreThere (sym is) first_classes;
   grown = ([], is);
   slot_fits = record { below = rw is (omega arith, tt); left = inl fresh };
 }

@@ -2,6 +2,8 @@
 mod Filling
 -- what objects are now, and as they were made
 mod ObjectsLemmas
+-- objects of constants that come
+pub mod AddedLemmas
 -- constants that are loaded
 mod LoadingLemmas
 -- steps that can be made

@@ -4,6 +4,8 @@ pub mod Frames
 pub mod Steps
 -- what holds of a frame between steps
 pub mod Running
+-- what a frame needs of the objects, and what it adds
+pub mod Added
 -- what a unit did, as its row says it
 pub mod UnitSteps
 -- which traceback an exit is told

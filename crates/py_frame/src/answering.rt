@@ -1,10 +1,9 @@
 //! What a frame does by itself: it runs its next unit, or goes by what it heard.
 
 ghost use Rattle.std.specs.Prelude.{◌≡◌, ◌+◌, ◌^◌, ◌<◌, [], length, IfOk, OnErr};
-ghost use Rattle.py_objects.specs.Objects.{AllFit};
-ghost use Rattle.py_objects.specs.Growth.{GrowsPlainly};
 ghost use Rattle.py_rows.specs.States.{Goes, begun, next, pushed};
 ghost use Rattle.py_rows.specs.Receiving.{answered, moves, receive};
+ghost use Rattle.py_frame.specs.Added.{AddsConstants, ClassesAreThere};
 ghost use Rattle.py_frame.specs.Frames.{over, setting_in, setting_of};
 ghost use Rattle.py_frame.specs.UnitSteps.{CanDo, CanMove, Does, MayDo};
 
@@ -30,11 +29,11 @@ impl FrameCore {
     ) -> Result<UnitStep, NoMemory>
         requires there { self.old.state.at < length code.now.code.code.instructions.items }
         requires few { length code.now.code.code.instructions.items < 2 ^ 32 }
-        requires fit { AllFit store.old.made }
+        requires fit { ClassesAreThere store.old.made }
         requires safe { let f = over self.old (S.list stack.old) (S.room stack.old) in CanMove store.old.made f (moves (setting_of names.now code.now f) f.state.wants f.state) }
         ensures row { IfOk result (λ step. MayDo store.new.made (λ s. moves (setting_of names.now code.now self.old) s.wants s) (over self.old (S.list stack.old) (S.room stack.old)) step (over self.new (S.list stack.new) (S.room stack.new))) }
         ensures err { OnErr result ((over self.new (S.list stack.new) (S.room stack.new)) ≡ record (over self.old (S.list stack.old) (S.room stack.old)) { state = begun ((over self.old (S.list stack.old) (S.room stack.old))).state }) }
-        ensures objects { GrowsPlainly store.old.made store.new.made }
+        ensures objects { AddsConstants store.old.made store.new.made }
         ensures unchanged { store.new ≡ record store.old { made = store.new.made } }
     {
         match self.expects() {

@@ -2,11 +2,11 @@
 
 ghost use Rattle.std.specs.Prelude.{◌≡◌, ◌+◌, ◌^◌, ◌<◌, slice_get, Some, is_some, true, IfOk, OnErr};
 ghost use Rattle.py_code.specs.Literals.{literals_of};
-ghost use Rattle.py_objects.specs.Growth.{GrowsPlainly};
 ghost use Rattle.py_rows.specs.States.{Goes, next, pushed};
 ghost use Rattle.py_rows.specs.Unwinding.{unwinds};
 ghost use Rattle.py_rows.specs.Rows.{loads, payload_of};
 ghost use Rattle.py_rows.specs.declared.block.UnwindReason.TheVariants as reason;
+ghost use Rattle.py_frame.specs.Added.{AddsConstants};
 ghost use Rattle.py_frame.specs.Frames.{over};
 ghost use Rattle.py_frame.specs.UnitSteps.{CanMove, IsConstant, IsLoaded, MayDo};
 
@@ -33,7 +33,7 @@ impl FrameCore {
         requires safe { let f = over self.old (S.list stack.old) (S.room stack.old) in CanMove store.old.made f (loads (slice_get (literals_of code.now.code.constants) place) (λ v. Goes (pushed v (next f.state)))) }
         ensures row { IfOk result (λ step. MayDo store.new.made (λ s. loads (slice_get (literals_of code.now.code.constants) place) (λ v. Goes (pushed v (next s)))) (over self.old (S.list stack.old) (S.room stack.old)) step (over self.new (S.list stack.new) (S.room stack.new))) }
         ensures err { OnErr result (over self.new (S.list stack.new) (S.room stack.new) ≡ over self.old (S.list stack.old) (S.room stack.old)) }
-        ensures objects { GrowsPlainly store.old.made store.new.made }
+        ensures objects { AddsConstants store.old.made store.new.made }
         ensures unchanged { store.new ≡ record store.old { made = store.new.made } }
     {
         let value = load(alloc, code, store, place)?;
@@ -54,7 +54,7 @@ impl FrameCore {
         requires safe { let f = over self.old (S.list stack.old) (S.room stack.old) in CanMove store.old.made f (loads (slice_get (literals_of code.now.code.constants) place) (λ v. unwinds (reason.Returning v) f.state)) }
         ensures row { IfOk result (λ step. MayDo store.new.made (λ s. loads (slice_get (literals_of code.now.code.constants) place) (λ v. unwinds (reason.Returning v) s)) (over self.old (S.list stack.old) (S.room stack.old)) step (over self.new (S.list stack.new) (S.room stack.new))) }
         ensures err { OnErr result (over self.new (S.list stack.new) (S.room stack.new) ≡ over self.old (S.list stack.old) (S.room stack.old)) }
-        ensures objects { GrowsPlainly store.old.made store.new.made }
+        ensures objects { AddsConstants store.old.made store.new.made }
         ensures unchanged { store.new ≡ record store.old { made = store.new.made } }
     {
         let value = load(alloc, code, store, place)?;
@@ -71,7 +71,7 @@ fn load(
 ) -> Result<PyObjectRef, NoMemory>
     requires { IsLoaded (slice_get (literals_of code.now.code.constants) place) }
     ensures constant { IfOk result (λ object. IsConstant store.new.made (slice_get (literals_of code.now.code.constants) place) object) }
-    ensures objects { GrowsPlainly store.old.made store.new.made }
+    ensures objects { AddsConstants store.old.made store.new.made }
     ensures unchanged { store.new ≡ record store.old { made = store.new.made } }
 {
     match code.code.constants.get(place) {
@@ -84,7 +84,7 @@ fn load(
 fn add(alloc: Global, store: &mut Store, literal: &Literal) -> Result<PyObjectRef, NoMemory>
     requires { is_some (payload_of literal.now) ≡ true }
     ensures constant { IfOk result (λ object. IsConstant store.new.made (Some literal.now) object) }
-    ensures objects { GrowsPlainly store.old.made store.new.made }
+    ensures objects { AddsConstants store.old.made store.new.made }
     ensures unchanged { store.new ≡ record store.old { made = store.new.made } }
 {
     let payload = payload_of(alloc, literal)?;

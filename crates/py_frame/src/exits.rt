@@ -3,10 +3,10 @@
 ghost use Rattle.std.specs.Prelude.{◌≡◌, ◌<◌, length, Some, IfOk};
 ghost use Rattle.py_objects.specs.declared.payload.ExceptionBody.{ExceptionBody};
 ghost use Rattle.py_objects.specs.declared.payload.Payload.TheVariants as payload;
-ghost use Rattle.py_objects.specs.Objects.{AllFit, HasPayload, class_object};
-ghost use Rattle.py_objects.specs.Growth.{GrowsPlainly};
+ghost use Rattle.py_objects.specs.Objects.{HasPayload, class_object};
 ghost use Rattle.py_rows.specs.Laws.{RaisedThere};
 ghost use Rattle.py_rows.specs.RunOfRows.{IsExit};
+ghost use Rattle.py_frame.specs.Added.{AddsConstants, ClassesAreThere};
 ghost use Rattle.py_frame.specs.Exits.{HasTraceback, IsTold, TellsIf, TellsTraceback};
 
 use crate::objects::{add_constant, as_object, is_traceback};
@@ -18,11 +18,11 @@ pub(crate) fn exit_arguments(
     store: &mut Store,
     raised: Option<PyBaseExceptionRef>,
 ) -> Result<(PyObjectRef, PyObjectRef, PyObjectRef), NoMemory>
-    requires fit { AllFit store.old.made }
+    requires fit { ClassesAreThere store.old.made }
     requires there { RaisedThere store.old.made raised }
     ensures told { IfOk result (λ told. IsExit store.new.made raised told.0 told.1 told.2) }
     ensures traceback { IfOk result (λ told. TellsIf store.old store.new raised told.2) }
-    ensures objects { GrowsPlainly store.old.made store.new.made }
+    ensures objects { AddsConstants store.old.made store.new.made }
     ensures unchanged { store.new ≡ record store.old { made = store.new.made } }
 {
     match raised {
@@ -43,7 +43,7 @@ pub(crate) fn exit_arguments(
 
 /// The class of an exception.
 fn class(store: &Store, exception: PyObjectRef) -> PyObjectRef
-    requires fit { AllFit store.now.made }
+    requires fit { ClassesAreThere store.now.made }
     requires there { (e : ExceptionBody) × HasPayload store.now.made exception (payload.Exception e) }
     ensures { (e : ExceptionBody) × HasPayload store.now.made exception (payload.Exception e) × (result ≡ class_object e.class) × (result.number < length store.now.made) }
 {
@@ -59,7 +59,7 @@ fn class(store: &Store, exception: PyObjectRef) -> PyObjectRef
 fn traceback(store: &mut Store, exception: PyObjectRef) -> Result<PyObjectRef, NoMemory>
     requires { (e : ExceptionBody) × HasPayload store.old.made exception (payload.Exception e) }
     ensures told { IfOk result (λ told. TellsTraceback store.old store.new exception told) }
-    ensures objects { GrowsPlainly store.old.made store.new.made }
+    ensures objects { AddsConstants store.old.made store.new.made }
     ensures unchanged { store.new ≡ record store.old { made = store.new.made } }
 {
     match traceback_of(store, exception) {
@@ -71,7 +71,7 @@ fn traceback(store: &mut Store, exception: PyObjectRef) -> Result<PyObjectRef, N
 /// An object that is a traceback, of any other a new None.
 fn own_traceback(store: &mut Store, traceback: PyObjectRef) -> Result<PyObjectRef, NoMemory>
     ensures told { IfOk result (λ told. IsTold store.old store.new (Some traceback) told) }
-    ensures objects { GrowsPlainly store.old.made store.new.made }
+    ensures objects { AddsConstants store.old.made store.new.made }
     ensures unchanged { store.new ≡ record store.old { made = store.new.made } }
 {
     if is_traceback(store, traceback) {
@@ -95,7 +95,7 @@ fn traceback_of(store: &Store, exception: PyObjectRef) -> Option<PyObjectRef>
 /// A new None.
 fn add_none(store: &mut Store) -> Result<PyObjectRef, NoMemory>
     ensures none { IfOk result (λ object. HasPayload store.new.made object payload.None) }
-    ensures objects { GrowsPlainly store.old.made store.new.made }
+    ensures objects { AddsConstants store.old.made store.new.made }
     ensures unchanged { store.new ≡ record store.old { made = store.new.made } }
 {
     add_constant(store, Payload::None)

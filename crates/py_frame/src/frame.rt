@@ -2,12 +2,13 @@
 
 ghost use Rattle.std.specs.Prelude.{ℕ, ◌≡◌, ◌-◌, ◌≤◌, ◌++◌, [], length, slice_get, slice_set, Some, IfOk};
 ghost use Rattle.py_objects.specs.declared.payload.Payload.TheVariants as payload;
-ghost use Rattle.py_objects.specs.Objects.{AllFit, HasPayload};
+ghost use Rattle.py_objects.specs.Objects.{HasPayload};
 ghost use Rattle.py_objects.specs.Growth.{GrowsPlainly};
 ghost use Rattle.py_exceptions.specs.Slots.{top_of};
 ghost use Rattle.py_check.specs.Depths.{deepest};
 ghost use Rattle.py_rows.specs.Below.{HearsBelow, TellsBelow};
 ghost use Rattle.py_rows.specs.declared.expect.Expect.TheVariants as expect;
+ghost use Rattle.py_frame.specs.Added.{AddsConstants, ClassesAreThere};
 ghost use Rattle.py_frame.specs.Frames.{frame_object, handed, setting_of, unfilled};
 ghost use Rattle.py_frame.specs.Steps.{Expects, Extends, IfTold, KeepsFirst, NamesHandled, events, expected, heard, hearing, told};
 ghost use Rattle.py_rows.specs.Laws.{AllMayTell};
@@ -115,7 +116,8 @@ impl<S: ValueStack + Drop> Frame<S> {
         input: Input,
     ) -> FrameStep
         requires running { IsRunning store.old.made names.now code.now self.old }
-        requires fit { AllFit store.old.made }
+        // No exception is of a class that isn't there, of which an exit is told.
+        requires fit { ClassesAreThere store.old.made }
         // The top slot is as the frame's last step left it, before the first step any.
         requires slots { SlotFits store.old.made self.old.state (top_of slots.old) }
         // The input is one that the frame expects: an answer is as it was wanted. It names objects. Here and below, k is
@@ -137,8 +139,11 @@ impl<S: ValueStack + Drop> Frame<S> {
         // The frame runs as before, or has ended.
         ensures running { IsRunning store.new.made names.now code.now self.new }
         ensures same { IsSame self.old self.new }
-        // Also where memory ran out, nothing was declared, and nothing changed.
+        // Also where memory ran out, nothing was declared, and nothing changed. What came are objects of constants, so the
+        // classes of exceptions are still there.
         ensures objects { GrowsPlainly store.old.made store.new.made }
+        ensures constants { AddsConstants store.old.made store.new.made }
+        ensures classes { ClassesAreThere store.new.made }
         ensures unchanged { store.new ≡ record store.old { made = store.new.made } }
     {
         let slot = slots.current_exception();

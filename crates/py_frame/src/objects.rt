@@ -6,8 +6,8 @@ ghost use Rattle.py_objects.specs.declared.payload.Payload.{Payload as PayloadOf
 ghost use Rattle.py_objects.specs.declared.payload.Payload.TheVariants as payload;
 ghost use Rattle.py_objects.specs.Objects.{HasPayload, IsTraceback, as_exception, as_object};
 ghost use Rattle.py_objects.specs.Callees.{builtin_of, is_manager};
-ghost use Rattle.py_objects.specs.Growth.{GrowsPlainly};
 ghost use Rattle.py_rows.specs.Rows.{payload_of};
+ghost use Rattle.py_frame.specs.Added.{AddsConstants};
 
 use py_code::{BuiltinFn, NoMemory};
 use py_objects::{Payload, PyBaseExceptionRef, PyObjectRef, Store};
@@ -72,7 +72,7 @@ pub(crate) fn is_traceback(store: &Store, value: PyObjectRef) -> bool
 pub(crate) fn add_constant(store: &mut Store, payload: Payload) -> Result<PyObjectRef, NoMemory>
     requires { (literal : LiteralOf) × (payload_of literal ≡ Some payload) }
     ensures has { IfOk result (λ object. HasPayload store.new.made object payload) }
-    ensures objects { GrowsPlainly store.old.made store.new.made }
+    ensures objects { AddsConstants store.old.made store.new.made }
     ensures unchanged { store.new ≡ record store.old { made = store.new.made } }
 {
     store.add(payload)

@@ -9,4 +9,4 @@ pub step-requires-clause-named : goal.step-requires-clause-named
 step-requires-clause-named c = (expected _ (setting_of c.args.names.now c.args.code.now c.args.frame.now) _ _ _ c.in_ok-input.ensures c.expects.ensures c.requires.driven.grown c.requires.generator).1
 
 pub returns : goal.returns
-returns c = driven_on _ _ _ _ _ _ _ _ c.requires.driven c.step.ensures.objects c.step.ensures.running c.step.ensures.slot
+returns c = driven_on _ _ _ _ _ _ _ _ c.requires.driven c.step.ensures.objects c.step.ensures.classes c.step.ensures.running c.step.ensures.slot

@@ -1,11 +1,12 @@
-use Rattle.py_frame.proofs.LoadingLemmas.{bare, bare_below, add_has, add_grows}
+use Rattle.py_frame.proofs.AddedLemmas.{constant_below}
+use Rattle.py_frame.proofs.LoadingLemmas.{add_has, add_adds}
 use Rattle.py_frame.proofs.objects.add_constant.Goals as goal
 
 pub add-requires : goal.add-requires
-add-requires c = bare_below _ c.args.store.now.made c.args.payload (bare c.args.store.now.made c.requires.0 c.args.payload c.requires.1)
+add-requires c = constant_below _ c.requires.0 c.args.payload c.requires.1
 
 pub returns-clause-has : goal.returns-clause-has
 returns-clause-has c = add_has _ c.args.store.now c.add.new.self c.args.payload c.add.ensures.number c.add.ensures.added
 
 pub returns-clause-objects : goal.returns-clause-objects
-returns-clause-objects c = add_grows _ c.args.store.now c.add.new.self c.args.payload (bare c.args.store.now.made c.requires.0 c.args.payload c.requires.1) c.add.ensures.added c.add.ensures.err
+returns-clause-objects c = add_adds _ c.args.store.now c.add.new.self c.requires.0 c.args.payload c.requires.1 c.add.ensures.added c.add.ensures.err

@@ -1,18 +1,18 @@
 use Rattle.std.proofs.Common.{◌<◌, refl, arith}
 use Rattle.py_frame.specs.Frames.{over}
-use Rattle.py_objects.proofs.GrowthLemmas.{plainly_grows, grows_plainly_refl, grows_plainly_trans}
+use Rattle.py_frame.proofs.AddedLemmas.{adds_none, adds_on, adds_grow, classes_stay}
 use Rattle.py_frame.proofs.RunningLemmas.{silent_first, unit_there, can_move, row_goes, row_tells, silent_falls, silent_on, told_there, tells_on, cut_short, store_on, erred}
 use Rattle.py_frame.proofs.frame_core.FrameCore.run.Goals as goal
 
 pub silent-init : goal.silent-init
-silent-init g c = record { run = silent_first _ _ _ _ c.requires.running c.requires.moving; grows = grows_plainly_refl _; unchanged = refl }
+silent-init g c = record { run = silent_first _ _ _ _ c.requires.running c.requires.moving; grows = adds_none _; unchanged = refl }
 
 pub moves-requires-clause-there : goal.moves-requires-clause-there
 moves-requires-clause-there g c =
     unit_there c.silent.store.made c.args.names.now c.args.code.now c.silent.self.state.wants (over c.silent.self (g.S.ValueStack.list c.silent.stack) (g.S.ValueStack.room c.silent.stack)).state c.requires.running.sound c.silent.invariant.run.fits c.silent.invariant.run.moving
 
 pub moves-requires-clause-fit : goal.moves-requires-clause-fit
-moves-requires-clause-fit g c = c.silent.invariant.grows.fit c.requires.fit
+moves-requires-clause-fit g c = classes_stay _ _ c.silent.invariant.grows c.requires.fit
 
 pub moves-requires-clause-safe : goal.moves-requires-clause-safe
 moves-requires-clause-safe g c =
@@ -22,33 +22,33 @@ moves-requires-clause-safe g c =
 pub returns-in_err-moves-clause-cut : goal.returns-in_err-moves-clause-cut
 returns-in_err-moves-clause-cut g c =
     erred c.from_residual.result _
-    (cut_short c.args.names.now c.args.code.now c.requires.running.sound c.silent.store.made c.moves.new.store.made (over c.args.self.now (g.S.ValueStack.list c.args.stack.now) (g.S.ValueStack.room c.args.stack.now)) (over c.silent.self (g.S.ValueStack.list c.silent.stack) (g.S.ValueStack.room c.silent.stack)) (over c.moves.new.self (g.S.ValueStack.list c.moves.new.stack) (g.S.ValueStack.room c.moves.new.stack)) c.silent.invariant.run (plainly_grows _ _ c.in_err-moves.ensures.objects) c.in_err-moves.ensures.err)
+    (cut_short c.args.names.now c.args.code.now c.requires.running.sound c.silent.store.made c.moves.new.store.made (over c.args.self.now (g.S.ValueStack.list c.args.stack.now) (g.S.ValueStack.room c.args.stack.now)) (over c.silent.self (g.S.ValueStack.list c.silent.stack) (g.S.ValueStack.room c.silent.stack)) (over c.moves.new.self (g.S.ValueStack.list c.moves.new.stack) (g.S.ValueStack.room c.moves.new.stack)) c.silent.invariant.run (adds_grow _ _ c.in_err-moves.ensures.objects) c.in_err-moves.ensures.err)
 
 pub returns-in_err-moves-clause-objects : goal.returns-in_err-moves-clause-objects
-returns-in_err-moves-clause-objects g c = grows_plainly_trans _ _ _ c.silent.invariant.grows c.in_err-moves.ensures.objects
+returns-in_err-moves-clause-objects g c = adds_on _ _ _ c.silent.invariant.grows c.in_err-moves.ensures.objects
 
 pub silent-smaller : goal.silent-smaller
 silent-smaller g c =
     let there = unit_there c.silent.store.made c.args.names.now c.args.code.now c.silent.self.state.wants (over c.silent.self (g.S.ValueStack.list c.silent.stack) (g.S.ValueStack.room c.silent.stack)).state c.requires.running.sound c.silent.invariant.run.fits c.silent.invariant.run.moving in
     let later : c.silent.self.state.at < c.moves.new.self.state.at =
-    silent_falls c.args.names.now c.args.code.now c.requires.running.sound c.silent.store.made c.moves.new.store.made (over c.args.self.now (g.S.ValueStack.list c.args.stack.now) (g.S.ValueStack.room c.args.stack.now)) (over c.silent.self (g.S.ValueStack.list c.silent.stack) (g.S.ValueStack.room c.silent.stack)) (over c.moves.new.self (g.S.ValueStack.list c.moves.new.stack) (g.S.ValueStack.room c.moves.new.stack)) c.silent.invariant.run (plainly_grows _ _ c.in_ok-moves.ensures.objects) c.in_ok-moves.ensures.row.same
+    silent_falls c.args.names.now c.args.code.now c.requires.running.sound c.silent.store.made c.moves.new.store.made (over c.args.self.now (g.S.ValueStack.list c.args.stack.now) (g.S.ValueStack.room c.args.stack.now)) (over c.silent.self (g.S.ValueStack.list c.silent.stack) (g.S.ValueStack.room c.silent.stack)) (over c.moves.new.self (g.S.ValueStack.list c.moves.new.stack) (g.S.ValueStack.room c.moves.new.stack)) c.silent.invariant.run (adds_grow _ _ c.in_ok-moves.ensures.objects) c.in_ok-moves.ensures.row.same
     (row_goes c.moves.new.store.made _ c.silent.self.state.at c.in_ok-moves.field-0 (over c.moves.new.self (g.S.ValueStack.list c.moves.new.stack) (g.S.ValueStack.room c.moves.new.stack)).state c.in-Goes.is c.in_ok-moves.ensures.row.row) in
     omega (arith, there, later)
 
 pub silent-preserved : goal.silent-preserved
 silent-preserved g c = record {
-  run = silent_on c.args.names.now c.args.code.now c.requires.running.sound c.silent.store.made c.moves.new.store.made (over c.args.self.now (g.S.ValueStack.list c.args.stack.now) (g.S.ValueStack.room c.args.stack.now)) (over c.silent.self (g.S.ValueStack.list c.silent.stack) (g.S.ValueStack.room c.silent.stack)) (over c.moves.new.self (g.S.ValueStack.list c.moves.new.stack) (g.S.ValueStack.room c.moves.new.stack)) c.silent.invariant.run (plainly_grows _ _ c.in_ok-moves.ensures.objects) c.in_ok-moves.ensures.row.same
+  run = silent_on c.args.names.now c.args.code.now c.requires.running.sound c.silent.store.made c.moves.new.store.made (over c.args.self.now (g.S.ValueStack.list c.args.stack.now) (g.S.ValueStack.room c.args.stack.now)) (over c.silent.self (g.S.ValueStack.list c.silent.stack) (g.S.ValueStack.room c.silent.stack)) (over c.moves.new.self (g.S.ValueStack.list c.moves.new.stack) (g.S.ValueStack.room c.moves.new.stack)) c.silent.invariant.run (adds_grow _ _ c.in_ok-moves.ensures.objects) c.in_ok-moves.ensures.row.same
       (row_goes c.moves.new.store.made _ c.silent.self.state.at c.in_ok-moves.field-0 (over c.moves.new.self (g.S.ValueStack.list c.moves.new.stack) (g.S.ValueStack.room c.moves.new.stack)).state c.in-Goes.is c.in_ok-moves.ensures.row.row);
-  grows = grows_plainly_trans _ _ _ c.silent.invariant.grows c.in_ok-moves.ensures.objects;
+  grows = adds_on _ _ _ c.silent.invariant.grows c.in_ok-moves.ensures.objects;
   unchanged = store_on c.args.store.now c.silent.store c.moves.new.store c.silent.invariant.unchanged c.in_ok-moves.ensures.unchanged;
 }
 
 pub returns-in-Tells-clause-told : goal.returns-in-Tells-clause-told
 returns-in-Tells-clause-told g c =
-    let grows = plainly_grows _ _ c.in_ok-moves.ensures.objects in
+    let grows = adds_grow _ _ c.in_ok-moves.ensures.objects in
     let (x, is, may) = told_there c.args.names.now c.args.code.now c.requires.running.sound c.silent.store.made c.moves.new.store.made (over c.args.self.now (g.S.ValueStack.list c.args.stack.now) (g.S.ValueStack.room c.args.stack.now)) (over c.silent.self (g.S.ValueStack.list c.silent.stack) (g.S.ValueStack.room c.silent.stack)) (over c.moves.new.self (g.S.ValueStack.list c.moves.new.stack) (g.S.ValueStack.room c.moves.new.stack)) c.silent.invariant.run grows c.in-Tells.step
     (row_tells c.moves.new.store.made _ c.silent.self.state.at c.in_ok-moves.field-0 c.in-Tells.step (over c.moves.new.self (g.S.ValueStack.list c.moves.new.stack) (g.S.ValueStack.room c.moves.new.stack)).state c.in-Tells.is c.in_ok-moves.ensures.row.row) in
     tells_on c.args.names.now c.args.code.now c.requires.running.sound c.silent.store.made c.moves.new.store.made (over c.args.self.now (g.S.ValueStack.list c.args.stack.now) (g.S.ValueStack.room c.args.stack.now)) (over c.silent.self (g.S.ValueStack.list c.silent.stack) (g.S.ValueStack.room c.silent.stack)) (over c.moves.new.self (g.S.ValueStack.list c.moves.new.stack) (g.S.ValueStack.room c.moves.new.stack)) c.silent.invariant.run grows c.in_ok-moves.ensures.row.same c.args.store.now.made c.requires.running c.in-Tells.step x is may
 
 pub returns-in-Tells-clause-objects : goal.returns-in-Tells-clause-objects
-returns-in-Tells-clause-objects g c = grows_plainly_trans _ _ _ c.silent.invariant.grows c.in_ok-moves.ensures.objects
+returns-in-Tells-clause-objects g c = adds_on _ _ _ c.silent.invariant.grows c.in_ok-moves.ensures.objects

@@ -1,5 +1,5 @@
 use Rattle.std.proofs.Common.{◌≡◌, ◌-◌, length}
-use Rattle.py_objects.specs.Growth.{GrowsPlainly}
+use Rattle.py_frame.specs.Added.{AddsConstants}
 use Rattle.py_frame.specs.Frames.{over}
 use Rattle.py_frame.proofs.RunningLemmas.{IsSilent}
 use Rattle.py_frame.proofs.frame_core.FrameCore.run.Given as goal
@@ -7,7 +7,7 @@ use Rattle.py_frame.proofs.frame_core.FrameCore.run.Given as goal
 abbrev pub invariant-silent : goal.invariant-silent
 invariant-silent g l = record {
   run : IsSilent l.store.made l.names l.code (over l.fn.self (g.S.ValueStack.list l.fn.stack) (g.S.ValueStack.room l.fn.stack)) (over l.self (g.S.ValueStack.list l.stack) (g.S.ValueStack.room l.stack));
-  grows : GrowsPlainly l.fn.store.made l.store.made;
+  grows : AddsConstants l.fn.store.made l.store.made;
   unchanged : l.store ≡ record l.fn.store { made = l.store.made };
 }
 

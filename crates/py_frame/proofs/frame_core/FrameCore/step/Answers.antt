@@ -2,7 +2,7 @@ use Rattle.std.proofs.Common.{sym, ap, subst}
 use Rattle.py_rows.specs.Laws.{IsMoving}
 use Rattle.py_frame.specs.Frames.{Framed, over, setting_of}
 use Rattle.py_frame.specs.Running.{IsRunning, IsSame, HasTold, IsCut}
-use Rattle.py_objects.proofs.GrowthLemmas.{plainly_grows}
+use Rattle.py_frame.proofs.AddedLemmas.{adds_grow}
 use Rattle.py_frame.proofs.HearingLemmas.{taken_moves, hearing_runs, stepped_told, stepped_cut}
 use Rattle.py_frame.proofs.frame_core.FrameCore.step.Goals as goal
 
@@ -18,13 +18,13 @@ run-requires-clause-moving g c =
 
 pub returns-in-Ok-clause-stepped : goal.returns-in-Ok-clause-stepped
 returns-in-Ok-clause-stepped g c =
-    stepped_told c.args.store.now.made c.run.new.store.made c.args.names.now c.args.code.now c.args.slot c.args.input (over c.args.self.now (g.S.ValueStack.list c.args.stack.now) (g.S.ValueStack.room c.args.stack.now)) (over c.run.new.self (g.S.ValueStack.list c.run.new.stack) (g.S.ValueStack.room c.run.new.stack)) (record { below = c.requires.slot.below; left = c.requires.slot.left }) (plainly_grows _ _ c.in-Ok.ensures.objects) c.in-Ok.step c.requires.expected
+    stepped_told c.args.store.now.made c.run.new.store.made c.args.names.now c.args.code.now c.args.slot c.args.input (over c.args.self.now (g.S.ValueStack.list c.args.stack.now) (g.S.ValueStack.room c.args.stack.now)) (over c.run.new.self (g.S.ValueStack.list c.run.new.stack) (g.S.ValueStack.room c.run.new.stack)) (record { below = c.requires.slot.below; left = c.requires.slot.left }) (adds_grow _ _ c.in-Ok.ensures.objects) c.in-Ok.step c.requires.expected
     (subst (λ (f : Framed). HasTold c.run.new.store.made c.args.names.now c.args.code.now (over f (g.S.ValueStack.list c.args.stack.now) (g.S.ValueStack.room c.args.stack.now)) c.in-Ok.step (over c.run.new.self (g.S.ValueStack.list c.run.new.stack) (g.S.ValueStack.room c.run.new.stack))) c.hear.ensures c.in-Ok.ensures.told)
     (subst (λ (f : Framed). IsSame (over f (g.S.ValueStack.list c.args.stack.now) (g.S.ValueStack.room c.args.stack.now)) (over c.run.new.self (g.S.ValueStack.list c.run.new.stack) (g.S.ValueStack.room c.run.new.stack))) c.hear.ensures c.in-Ok.ensures.same)
 
 pub returns-in-Err-clause-stepped : goal.returns-in-Err-clause-stepped
 returns-in-Err-clause-stepped g c =
-    stepped_cut c.args.store.now.made c.run.new.store.made c.args.names.now c.args.code.now c.args.slot c.args.input (over c.args.self.now (g.S.ValueStack.list c.args.stack.now) (g.S.ValueStack.room c.args.stack.now)) (over c.gives_up.new.self (g.S.ValueStack.list c.run.new.stack) (g.S.ValueStack.room c.run.new.stack)) (record { below = c.requires.slot.below; left = c.requires.slot.left }) (plainly_grows _ _ c.in-Err.ensures.objects) (over c.run.new.self (g.S.ValueStack.list c.run.new.stack) (g.S.ValueStack.room c.run.new.stack))
+    stepped_cut c.args.store.now.made c.run.new.store.made c.args.names.now c.args.code.now c.args.slot c.args.input (over c.args.self.now (g.S.ValueStack.list c.args.stack.now) (g.S.ValueStack.room c.args.stack.now)) (over c.gives_up.new.self (g.S.ValueStack.list c.run.new.stack) (g.S.ValueStack.room c.run.new.stack)) (record { below = c.requires.slot.below; left = c.requires.slot.left }) (adds_grow _ _ c.in-Err.ensures.objects) (over c.run.new.self (g.S.ValueStack.list c.run.new.stack) (g.S.ValueStack.room c.run.new.stack))
     (hearing_runs c.args.store.now.made c.args.names.now c.args.code.now (over c.args.self.now (g.S.ValueStack.list c.args.stack.now) (g.S.ValueStack.room c.args.stack.now)) c.args.slot c.args.input c.requires.running (record { below = c.requires.slot.below; left = c.requires.slot.left }) c.requires.expected 0 (c.requires.named 0))
     (subst (λ (f : Framed). IsCut c.run.new.store.made c.args.code.now (over f (g.S.ValueStack.list c.args.stack.now) (g.S.ValueStack.room c.args.stack.now)) (over c.run.new.self (g.S.ValueStack.list c.run.new.stack) (g.S.ValueStack.room c.run.new.stack))) c.hear.ensures c.in-Err.ensures.cut)
     (subst (λ (f : Framed). IsSame (over f (g.S.ValueStack.list c.args.stack.now) (g.S.ValueStack.room c.args.stack.now)) (over c.run.new.self (g.S.ValueStack.list c.run.new.stack) (g.S.ValueStack.room c.run.new.stack))) c.hear.ensures c.in-Err.ensures.same)
