@@ -18,5 +18,7 @@ pub mod MoreLemmas
 mod SeenLemmas
 -- frames that run
 pub mod RunningLemmas
+-- what exits are told behind silent steps
+mod ToldLemmas
 -- inputs that are taken
 pub mod HearingLemmas

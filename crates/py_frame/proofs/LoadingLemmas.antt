@@ -1,9 +1,8 @@
 -- What loads a constant.
-use Rattle.std.proofs.Common.{◌≡◌, ◌++◌, ℕ, List, [], ◌∷◌, Some, refl, sym, ap, subst, length}
+use Rattle.std.proofs.Common.{◌≡◌, ◌++◌, List, [], ◌∷◌, Some, refl, sym, ap, subst, length}
 use Rattle.std.specs.Prelude.{Option, slice_get, Result, Ok, Err, IfOk, OnOk, OnErr}
 use Rattle.py_code.specs.declared.literal.Literal.{Literal}
 use Rattle.py_objects.specs.declared.payload.Payload.{Payload}
-use Rattle.py_objects.specs.declared.payload.Payload.TheVariants as payload
 use Rattle.py_objects.specs.Objects.{Obj, HasPayload}
 use Rattle.py_objects.specs.Edits.{Kept}
 use Rattle.py_rows.specs.Rows.{payload_of}

@@ -1,10 +1,19 @@
 -- Which traceback the exit of a manager is told.
 use Rattle.std.specs.Prelude.{◌≡◌, ◌⊎◌, Option, Some, None}
+use Rattle.py_code.specs.declared.instruction.Instruction.{Instruction}
+use Rattle.py_code.specs.declared.instruction.Instruction.TheVariants.{WithCleanupStart}
+use Rattle.py_code.specs.declared.unit.CodeUnit.{CodeUnit}
 use Rattle.py_objects.specs.declared.refs.PyBaseExceptionRef.{PyBaseExceptionRef}
 use Rattle.py_objects.specs.declared.payload.Payload.TheVariants as payload
 use Rattle.py_objects.specs.declared.payload.ExceptionBody.{ExceptionBody}
+use Rattle.py_objects.specs.declared.request.Request.{Request}
+use Rattle.py_objects.specs.declared.request.Request.TheVariants as request
 use Rattle.py_objects.specs.Objects.{Obj, HasPayload, IsTraceback, as_object}
 use Rattle.py_objects.specs.Edits.{Kept, objects_of}
+use Rattle.py_frame.specs.declared.input.FrameStep.{FrameStep}
+use Rattle.py_frame.specs.declared.input.FrameStep.TheVariants as step
+use Rattle.py_frame.specs.declared.unit_step.UnitStep.{UnitStep}
+use Rattle.py_frame.specs.declared.unit_step.UnitStep.TheVariants as unit
 
 -- the traceback that an exception has by now, if any
 abbrev pub HasTraceback : Kept → Obj → Option Obj → Type 0
@@ -23,3 +32,30 @@ TellsTraceback before behind v told = (t : Option Obj) × HasTraceback before v 
 abbrev pub TellsIf : Kept → Kept → Option PyBaseExceptionRef → Obj → Type 0
 TellsIf before behind None told = Unit {0}
 TellsIf before behind (Some e) told = TellsTraceback before behind (as_object e) told
+
+-- where an exit is asked, it is told this traceback of the exception that it is told; other requests tell none
+abbrev pub AsksWith : Kept → Kept → Request → Type 0
+AsksWith before behind (request.Exit exit class v traceback) = (e : ExceptionBody) → HasPayload behind.made v (payload.Exception e) → TellsTraceback before behind v traceback
+AsksWith before behind _ = Unit {0}
+
+-- the same of what a frame tells
+abbrev pub ToldAs : Kept → Kept → FrameStep → Type 0
+ToldAs before behind (step.Ask r own) = AsksWith before behind r
+ToldAs before behind step.Round = Unit {0}
+ToldAs before behind (step.Yield v) = Unit {0}
+ToldAs before behind (step.Return v) = Unit {0}
+ToldAs before behind (step.Raise e) = Unit {0}
+ToldAs before behind step.NoMemory = Unit {0}
+
+-- the same of what a unit did
+abbrev pub DidAs : Kept → Kept → UnitStep → Type 0
+DidAs before behind unit.Goes = Unit {0}
+DidAs before behind (unit.Tells step) = ToldAs before behind step
+
+-- the same of a unit of this instruction, where that is the one that asks exits
+abbrev pub DidBy : Instruction → Kept → Kept → UnitStep → Type 0
+DidBy op before behind step = op ≡ WithCleanupStart → DidAs before behind step
+
+-- the same of a unit, where there is one
+abbrev pub DidAt : Option CodeUnit → Kept → Kept → UnitStep → Type 0
+DidAt there before behind step = (u : CodeUnit) → there ≡ Some u → DidBy u.op before behind step

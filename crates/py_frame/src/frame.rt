@@ -9,6 +9,7 @@ ghost use Rattle.py_check.specs.Depths.{deepest};
 ghost use Rattle.py_rows.specs.Below.{HearsBelow, TellsBelow};
 ghost use Rattle.py_rows.specs.declared.expect.Expect.TheVariants as expect;
 ghost use Rattle.py_frame.specs.Added.{AddsConstants, ClassesAreThere};
+ghost use Rattle.py_frame.specs.Exits.{ToldAs};
 ghost use Rattle.py_frame.specs.Frames.{frame_object, handed, setting_of, unfilled};
 ghost use Rattle.py_frame.specs.Steps.{Expects, Extends, IfTold, KeepsFirst, NamesHandled, events, expected, heard, hearing, told};
 ghost use Rattle.py_rows.specs.Laws.{AllMayTell};
@@ -131,6 +132,9 @@ impl<S: ValueStack + Drop> Frame<S> {
         // What is asked, the instruction of its unit may ask; only YieldValue yields; a raise is one of an exception.
         ensures may { AllMayTell store.new.made code.now.code (events (told (self.new.state.last - 1) result)) }
         ensures told { TellsBelow (length store.new.made) (events (told (self.new.state.last - 1) result)) }
+        // Where an exit is asked that is told an exception, its traceback is what the store says of that exception: the one
+        // that it has, where that is a traceback, and else a None.
+        ensures traceback { ToldAs store.old store.new result }
         // The top slot holds what the frame's has, and those below are as they were.
         ensures slot { top_of slots.new ≡ self.new.state.slot }
         ensures slots { slots.new ≡ slice_set slots.old 0 self.new.state.slot }

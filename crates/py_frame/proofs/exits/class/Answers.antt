@@ -1,7 +1,6 @@
 use Rattle.std.proofs.Common.{◌≡◌, ◌∙◌, ◌<◌, Some, sym, ap, subst, length}
 use Rattle.py_objects.specs.declared.refs.PyTypeRef.{PyTypeRef}
 use Rattle.py_objects.specs.declared.payload.ExceptionBody.{ExceptionBody}
-use Rattle.py_objects.specs.declared.payload.Payload.TheVariants as payload
 use Rattle.py_objects.specs.Objects.{class_object}
 use Rattle.py_frame.proofs.ObjectsLemmas.{class_of, class_found, is_exception}
 use Rattle.py_frame.proofs.exits.class.Goals as goal

@@ -1,7 +1,9 @@
-use Rattle.std.proofs.Common.{◌<◌, refl, arith}
+use Rattle.std.proofs.Common.{◌<◌, refl, ap, arith}
+use Rattle.py_objects.specs.Edits.{Kept}
 use Rattle.py_frame.specs.Frames.{over}
 use Rattle.py_frame.proofs.AddedLemmas.{adds_none, adds_on, adds_grow, classes_stay}
 use Rattle.py_frame.proofs.RunningLemmas.{silent_first, unit_there, can_move, row_goes, row_tells, silent_falls, silent_on, told_there, tells_on, cut_short, store_on, erred}
+use Rattle.py_frame.proofs.ToldLemmas.{step_told}
 use Rattle.py_frame.proofs.frame_core.FrameCore.run.Goals as goal
 
 pub silent-init : goal.silent-init
@@ -49,6 +51,12 @@ returns-in-Tells-clause-told g c =
     let (x, is, may) = told_there c.args.names.now c.args.code.now c.requires.running.sound c.silent.store.made c.moves.new.store.made (over c.args.self.now (g.S.ValueStack.list c.args.stack.now) (g.S.ValueStack.room c.args.stack.now)) (over c.silent.self (g.S.ValueStack.list c.silent.stack) (g.S.ValueStack.room c.silent.stack)) (over c.moves.new.self (g.S.ValueStack.list c.moves.new.stack) (g.S.ValueStack.room c.moves.new.stack)) c.silent.invariant.run grows c.in-Tells.step
     (row_tells c.moves.new.store.made _ c.silent.self.state.at c.in_ok-moves.field-0 c.in-Tells.step (over c.moves.new.self (g.S.ValueStack.list c.moves.new.stack) (g.S.ValueStack.room c.moves.new.stack)).state c.in-Tells.is c.in_ok-moves.ensures.row.row) in
     tells_on c.args.names.now c.args.code.now c.requires.running.sound c.silent.store.made c.moves.new.store.made (over c.args.self.now (g.S.ValueStack.list c.args.stack.now) (g.S.ValueStack.room c.args.stack.now)) (over c.silent.self (g.S.ValueStack.list c.silent.stack) (g.S.ValueStack.room c.silent.stack)) (over c.moves.new.self (g.S.ValueStack.list c.moves.new.stack) (g.S.ValueStack.room c.moves.new.stack)) c.silent.invariant.run grows c.in_ok-moves.ensures.row.same c.args.store.now.made c.requires.running c.in-Tells.step x is may
+
+pub returns-in-Tells-clause-traceback : goal.returns-in-Tells-clause-traceback
+returns-in-Tells-clause-traceback g c =
+    step_told c.args.store.now c.silent.store c.moves.new.store c.silent.invariant.grows (ap (λ (s : Kept). s.changes) c.silent.invariant.unchanged) c.in_ok-moves.ensures.objects c.args.names.now c.args.code.now c.requires.running.sound
+    (over c.args.self.now (g.S.ValueStack.list c.args.stack.now) (g.S.ValueStack.room c.args.stack.now)) (over c.silent.self (g.S.ValueStack.list c.silent.stack) (g.S.ValueStack.room c.silent.stack)) (over c.moves.new.self (g.S.ValueStack.list c.moves.new.stack) (g.S.ValueStack.room c.moves.new.stack)).state
+    c.silent.invariant.run c.in_ok-moves.field-0 c.in-Tells.step c.in-Tells.is c.in_ok-moves.ensures.row.row c.in_ok-moves.ensures.traceback
 
 pub returns-in-Tells-clause-objects : goal.returns-in-Tells-clause-objects
 returns-in-Tells-clause-objects g c = adds_on _ _ _ c.silent.invariant.grows c.in_ok-moves.ensures.objects
