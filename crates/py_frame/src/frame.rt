@@ -117,7 +117,7 @@ impl<S: ValueStack + Drop> Frame<S> {
         input: Input,
     ) -> FrameStep
         requires running { IsRunning store.old.made names.now code.now self.old }
-        // No exception is of a class that isn't there, of which an exit is told.
+        // The class of each exception is an object that is there, since an exit may be told it.
         requires fit { ClassesAreThere store.old.made }
         // The top slot is as the frame's last step left it, before the first step any.
         requires slots { SlotFits store.old.made self.old.state (top_of slots.old) }
