@@ -36,13 +36,6 @@ impl PyGenerator {
         }
     }
 
-    /// The one of this activation, of whatever kind that is.
-    pub fn from_coro(coro: Coro) -> PyGenerator
-        ensures { result ≡ coro }
-    {
-        PyGenerator { inner: coro }
-    }
-
     /// Its activation.
     pub fn as_coro(&self) -> &Coro
         ensures { result.now ≡ self.now }

@@ -13,7 +13,7 @@ use crate::reply::Reply;
 use crate::stage::{Running, Stage, Suspended};
 use py_answers::entry;
 use py_code::{NoMemory, PyCode};
-use py_coro::{Coro, PyGenerator};
+use py_coro::Coro;
 use py_frame::{Frame, Input, OwnStack, positional};
 use py_objects::{
     CoroBody, CoroKind, DriveAnswer, Event, FrameRef, ObjList, Payload, PyObjectRef, ResumeHow,
@@ -107,8 +107,7 @@ impl Core {
             unreachable!();
         };
         let act = running.act;
-        let coro = Coro::new(running.frame.entry(), code.code().co_name(), kind);
-        let generator = PyGenerator::from_coro(coro);
+        let generator = Coro::new(running.frame.entry(), code.code().co_name(), kind);
         let name = body.name.copy(self.alloc)?;
         let object = self.store.add(Payload::Generator(CoroBody {
             activation: act,

@@ -11,7 +11,7 @@ ghost use Rattle.py_vm.specs.Generators.{changed_at, kept_at, kept_by, place_of,
 use crate::stage::Suspended;
 use indexmap::IndexSet;
 use py_code::NoMemory;
-use py_coro::{Begin, CoroAnswer, CoroEnd, CoroRefusal, PyGenerator};
+use py_coro::{Begin, Coro, CoroAnswer, CoroEnd, CoroRefusal};
 use py_objects::{PyBaseExceptionRef, PyObjectRef, Store};
 use std::alloc::Global;
 use std::marker::Model;
@@ -21,7 +21,7 @@ use std::marker::Model;
 pub(crate) struct KeptGenerator {
     pub object: PyObjectRef,
     pub act: u64,
-    pub generator: PyGenerator,
+    pub generator: Coro,
     pub suspended: Option<Suspended>,
 }
 
@@ -75,7 +75,7 @@ impl GeneratorList {
         ensures { IsCalledOn object (λ (s : State). sent s.mode is_none depth) self.old self.new result }
     {
         let at = self.find(object)?;
-        Some(self.items[at].generator.as_coro_mut().send(is_none, depth))
+        Some(self.items[at].generator.send(is_none, depth))
     }
 
     /// Refuses a throw where the generator that an object is runs.
@@ -85,7 +85,7 @@ impl GeneratorList {
         ensures refusal { IfErr result (λ refused. refused ≡ refusal.Running) }
     {
         match self.find(object) {
-            Some(at) => self.items[at].generator.as_coro().throw_check(),
+            Some(at) => self.items[at].generator.throw_check(),
             None => Ok(()),
         }
     }
@@ -100,8 +100,7 @@ impl GeneratorList {
         ensures { IsThrownInto object exception depth self.old self.new result }
     {
         let at = self.find(object)?;
-        let coro = self.items[at].generator.as_coro_mut();
-        Some(coro.throw(exception, depth))
+        Some(self.items[at].generator.throw(exception, depth))
     }
 
     /// Closes the generator that an object is, where so many activations run.
@@ -109,7 +108,7 @@ impl GeneratorList {
         ensures { IsCalledOn object (λ (s : State). closed s.mode depth) self.old self.new result }
     {
         let at = self.find(object)?;
-        Some(self.items[at].generator.as_coro_mut().close(depth))
+        Some(self.items[at].generator.close(depth))
     }
 
     /// What the generator that an object is answers, whose activation was entered and left like this. The activation is kept where it may be
@@ -131,7 +130,7 @@ impl GeneratorList {
             unreachable!();
         };
         let item = &mut self.items[at];
-        let answer = item.generator.as_coro_mut().finish(store, how);
+        let answer = item.generator.finish(store, how);
         item.suspended = kept_by(answer, left);
         answer
     }
