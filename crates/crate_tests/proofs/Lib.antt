@@ -1,2 +1,3 @@
--- what holds of the objects of that store
+-- what holds of the objects of those stores
 pub mod ExitLemmas
+pub mod StopLemmas

@@ -1,2 +1,3 @@
--- the objects of a store that is worked by hand
+-- the objects of stores that are worked by hand
 pub mod Exit
+pub mod Stop

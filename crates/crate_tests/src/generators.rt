@@ -1,13 +1,17 @@
 //! Generators that are entered and left, and what they show.
 
-ghost use Rattle.std.specs.Prelude.{IfOk};
+ghost use Rattle.std.specs.Prelude.{◌≡◌, IfOk};
 ghost use Rattle.py_objects.specs.Objects.{AllFit};
+ghost use Rattle.crate_tests.specs.Stop.{stop_objects};
 
-use py_code::{NameId, Names, NoMemory, utf8_of};
+use py_code::{NameId, Names, NoMemory, text_of, utf8_of};
 use py_coro::{
     Begin, Coro, CoroAnswer, CoroEnd, CoroRefusal, MOST_DEPTH, PyGenerator, converted, ignored,
 };
-use py_objects::{CoroKind, FrameRef, PyBaseExceptionRef, Store};
+use py_objects::{
+    AttrMap, Boxed, ClassBody, CoroKind, ExceptionBody, FrameRef, ObjList, Payload,
+    PyBaseExceptionRef, PyObjectRef, PyTypeRef, Store,
+};
 use std::alloc::Global;
 use std::test::Fail;
 
@@ -52,6 +56,53 @@ fn what_is_thrown_into_stops_without_a_value(rt: HostRuntime) -> Result<(), Fail
     Ok(())
 }
 
+const STOP: PyBaseExceptionRef = PyBaseExceptionRef { number: 3 };
+
+/// A store whose object 3 is a StopAsyncIteration.
+fn store_of_a_stop(alloc: Global) -> Result<Store, NoMemory>
+    ensures { IfOk result (λ store. store.made ≡ stop_objects) }
+{
+    let mut store = Store::new(alloc)?;
+    let name = text_of(alloc, b"StopAsyncIteration")?;
+    let mro = ObjList::new(alloc);
+    store.add(Payload::Class(Boxed::new(alloc, ClassBody { name, mro })?))?;
+    store.add(Payload::Tuple(ObjList::new(alloc)))?;
+    let body = ExceptionBody {
+        class: PyTypeRef { number: 1 },
+        args: PyObjectRef { number: 2 },
+        cause: None,
+        context: None,
+        suppress: false,
+        traceback: None,
+        attrs: AttrMap::new(alloc),
+    };
+    store.add(Payload::Exception(Boxed::new(alloc, body)?))?;
+    Ok(store)
+}
+
+/// What one of this kind answers where that comes out of it.
+fn left_by_a_stop(store: &Store, kind: CoroKind) -> CoroAnswer
+    requires { store.now.made ≡ stop_objects }
+{
+    let mut coro = Coro::new(FRAME, NAME, kind);
+    coro.send(true, 0);
+    coro.finish(store, CoroEnd::Raise(STOP))
+}
+
+#[test]
+fn an_asynchronous_generator_converts_a_stop_of_its_own(rt: HostRuntime) -> Result<(), Fail> {
+    let store = store_of_a_stop(rt.alloc())?;
+    assert_eq!(rt;
+        left_by_a_stop(&store, CoroKind::AsyncGenerator),
+        CoroAnswer::Convert(STOP)
+    );
+    assert_eq!(rt;
+        left_by_a_stop(&store, CoroKind::Generator),
+        CoroAnswer::Raise(STOP)
+    );
+    Ok(())
+}
+
 #[test]
 fn a_fresh_generator_is_closed_at_once(rt: HostRuntime) {
     let mut generator = PyGenerator::new(FRAME, NAME);
@@ -73,6 +124,8 @@ fn a_generator_shows_its_name_and_number(rt: HostRuntime) -> Result<(), Fail> {
     );
     let text = utf8_of(alloc, &coro.repr(alloc, &names, 7)?)?;
     assert_eq!(rt; text.as_str(), "<async generator object ticks at 7>");
+    let generator = PyGenerator::from_coro(coro);
+    assert_eq!(rt; generator.as_coro().kind(), CoroKind::AsyncGenerator);
     Ok(())
 }
 
