@@ -124,8 +124,6 @@ fn a_generator_shows_its_name_and_number(rt: HostRuntime) -> Result<(), Fail> {
     );
     let text = utf8_of(alloc, &coro.repr(alloc, &names, 7)?)?;
     assert_eq!(rt; text.as_str(), "<async generator object ticks at 7>");
-    let generator = PyGenerator::from_coro(coro);
-    assert_eq!(rt; generator.as_coro().kind(), CoroKind::AsyncGenerator);
     Ok(())
 }
 
