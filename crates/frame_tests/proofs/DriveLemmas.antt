@@ -7,8 +7,10 @@ use Rattle.py_objects.specs.declared.refs.PyBaseExceptionRef.{PyBaseExceptionRef
 use Rattle.py_objects.specs.declared.scope.Scope.{Scope}
 use Rattle.py_objects.specs.declared.payload.Payload.{Payload}
 use Rattle.py_objects.specs.declared.payload.Payload.TheVariants as payload
+use Rattle.py_objects.specs.declared.edit.Change.{Change}
+use Rattle.py_objects.specs.Edits.{Kept, changed_by, objects_of}
 use Rattle.py_objects.specs.Scopes.{scope_of}
-use Rattle.py_objects.specs.Objects.{Obj, number_if, AllBelow}
+use Rattle.py_objects.specs.Objects.{Obj, IsException, IsTraceback, number_if, AllBelow}
 use Rattle.py_objects.specs.Growth.{Grows, GrowsPlainly}
 use Rattle.py_exceptions.specs.Slots.{Slots, top_of}
 use Rattle.py_check.specs.declared.annotated.Annotated.{Annotated}
@@ -46,14 +48,24 @@ first_has (suc (suc (suc zero))) p is = subst HasClass (let same : payload_of fi
 first_has (suc (suc (suc (suc zero)))) p is = subst HasClass (let same : payload.Tuple [] ≡ p = cc in same) tt
 first_has (suc (suc (suc (suc (suc zero))))) p is = subst HasClass (let same : payload.Exception exception_body ≡ p = cc in same) (omega arith)
 first_has (suc (suc (suc (suc (suc (suc zero)))))) p is = subst HasClass (let same : payload.Exception exception_body ≡ p = cc in same) (omega arith)
-first_has (suc (suc (suc (suc (suc (suc (suc zero))))))) p is = subst HasClass (let same : payload_of first.Function ≡ p = cc in same) tt
+first_has (suc (suc (suc (suc (suc (suc (suc zero))))))) p is = subst HasClass (let same : payload.Frame 0 ≡ p = cc in same) tt
 first_has (suc (suc (suc (suc (suc (suc (suc (suc zero)))))))) p is = subst HasClass (let same : payload_of first.Manager ≡ p = cc in same) tt
-first_has (suc (suc (suc (suc (suc (suc (suc (suc (suc zero))))))))) p is = subst HasClass (let same : payload.Frame 0 ≡ p = cc in same) tt
+first_has (suc (suc (suc (suc (suc (suc (suc (suc (suc zero))))))))) p is = subst HasClass (let same : payload_of first.Traceback ≡ p = cc in same) tt
 first_has (suc (suc (suc (suc (suc (suc (suc (suc (suc (suc i)))))))))) p is = absurd (cc is)
 
 -- so each exception's is
 pub first_classes : ClassesAreThere first_objects
 first_classes v e has = first_has v.number (payload.Exception e) has
+
+-- exception 6 and traceback 9 are there, where nothing has changed
+pub first_exception : (s : Kept) → s.made ≡ first_objects → s.changes ≡ [] → IsException (objects_of s) (object_at 6)
+first_exception s made changes =
+    let here : slice_get first_objects 6 ≡ Some (payload.Exception exception_body) = refl in
+    let was : slice_get s.made 6 ≡ Some (payload.Exception exception_body) = ap (λ (os : List Payload). slice_get os 6) made ∙ here in
+    (exception_body, subst (λ (cs : List Change). slice_get (changed_by s.made cs) 6 ≡ Some (payload.Exception exception_body)) (sym changes) was)
+
+pub first_traceback : (objects : List Payload) → objects ≡ first_objects → IsTraceback objects (object_at 9)
+first_traceback objects made = subst (λ (os : List Payload). IsTraceback os (object_at 9)) (sym made) (_, refl)
 
 -- a frame that was filled with a value and a manager runs
 pub frame_runs : (names : List (List ℕ)) (code : Annotated) (made now : Framed) (entry : FrameRef) (scope : Scope) (closure args : List Obj) (room : ℕ) (locals : List (Option Obj))

@@ -20,9 +20,9 @@ abbrev pub payload_of : First → Payload
 payload_of first.Class = payload.Class (record { name = codes "x"; mro = [] })
 payload_of first.Arguments = payload.Tuple []
 payload_of first.Exception = payload.Exception exception_body
-payload_of first.Function = payload.Function (record { name = codes "x"; code = 0 })
-payload_of first.Manager = payload.Manager (record { name = codes "x"; enter = object_at 7; exit = object_at 7 })
 payload_of first.Frame = payload.Frame 0
+payload_of first.Manager = payload.Manager (record { name = codes "x"; enter = object_at 7; exit = object_at 7 })
+payload_of first.Traceback = payload.Traceback (record { next = None; frame = record { number = 7 }; lasti = 0; lineno = 0 })
 
 abbrev pub first_objects : List Payload
 first_objects = singletons ++ map payload_of FIRST

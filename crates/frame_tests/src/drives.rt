@@ -125,7 +125,7 @@ fn frame_of(
 {
     let closure = ObjList::new(alloc);
     let scope = Scope::new(None, object(0));
-    let entry = FrameRef { number: 9 };
+    let entry = FrameRef { number: 7 };
     let size = code.code().co_stacksize() as usize;
     let stack = OwnStack::new(alloc, size)?;
     let locals = positional(alloc, code, &arguments(alloc)?)?;

@@ -12,7 +12,7 @@ use py_code::Instruction::{
 use std::test::Fail;
 
 /// A `with` that ends, and that is left by a break, a continue, a return and a raise.
-const MANAGERS: [Case; 8] = [
+const MANAGERS: [Case; 9] = [
     Case {
         name: "a with ends in order",
         rows: &[
@@ -195,6 +195,29 @@ const MANAGERS: [Case; 8] = [
         ],
         said: &[Start, True, Exception, Fails],
         told: "2 Enter 8; 3 Raisable 2; 4 Exit 8 3 5 10 own 5 slot 5; 4 raise 6; ",
+    },
+    Case {
+        name: "an exit is told the traceback that its exception has by then",
+        rows: &[
+            Row(LoadFast, 1, &[], &[]),
+            Row(SetupWith, 3, &[Any], &[]),
+            Row(Raise, 1, &[Any, Any], &[Open::Finally(1, 3)]),
+            Row(
+                WithCleanupStart,
+                0,
+                &[Any],
+                &[Open::FinallyHandler(1, None)],
+            ),
+            Row(
+                WithCleanupFinish,
+                0,
+                &[Any, Any],
+                &[Open::FinallyHandler(1, None)],
+            ),
+            Row(ReturnConst, 0, &[], &[]),
+        ],
+        said: &[Start, True, Fails, Nothing, False],
+        told: "2 Enter 8; 3 Raisable 2; 4 Exit 8 3 6 9 own 6; 5 Truth 0; 5 raise 6; ",
     },
     Case {
         name: "what is no manager has no exit",

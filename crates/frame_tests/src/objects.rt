@@ -3,12 +3,13 @@
 ghost use Rattle.std.specs.Prelude.{◌≡◌, IfOk};
 ghost use Rattle.frame_tests.specs.FirstObjects.{exception_body, first_objects, payload_of};
 
+use crate::inputs::exception as exception_at;
 use crate::tables::{FIRST, First};
 use py_code::{NoMemory, text_of};
-use py_exceptions::ExceptionZoo;
+use py_exceptions::{ExceptionZoo, set_traceback};
 use py_objects::{
-    AttrMap, Boxed, ClassBody, ExceptionBody, FunctionBody, ManagerBody, ObjList, Payload,
-    PyObjectRef, PyTypeRef, Store,
+    AttrMap, Boxed, ClassBody, ExceptionBody, FrameRef, ManagerBody, ObjList, Payload, PyObjectRef,
+    PyTracebackRef, PyTypeRef, Store, TracebackBody,
 };
 use std::alloc::Global;
 
@@ -46,17 +47,22 @@ fn payload(alloc: Global, first: First) -> Result<Payload, NoMemory>
         }
         First::Arguments => Ok(Payload::Tuple(ObjList::new(alloc))),
         First::Exception => Ok(Payload::Exception(Boxed::new(alloc, exception(alloc))?)),
-        First::Function => Ok(Payload::Function(FunctionBody { name, code: 0 })),
+        First::Frame => Ok(Payload::Frame(0)),
         First::Manager => Ok(Payload::Manager(ManagerBody {
             name,
             enter: object(7),
             exit: object(7),
         })),
-        First::Frame => Ok(Payload::Frame(0)),
+        First::Traceback => Ok(Payload::Traceback(TracebackBody {
+            next: None,
+            frame: FrameRef { number: 7 },
+            lasti: 0,
+            lineno: 0,
+        })),
     }
 }
 
-/// A store of these objects.
+/// A store of these objects, where exception 6 has traceback 9 by now.
 pub fn first_store(alloc: Global) -> Result<Store, NoMemory>
     ensures { IfOk result (λ store. store.made ≡ first_objects) }
 {
@@ -66,6 +72,9 @@ pub fn first_store(alloc: Global) -> Result<Store, NoMemory>
     for first in FIRST {
         store.add(payload(alloc, first)?)?;
     }
+    store.reserve_changes(1)?;
+    let traceback = PyTracebackRef { number: 9 };
+    set_traceback(&mut store, exception_at(6), Some(traceback));
     Ok(store)
 }
 

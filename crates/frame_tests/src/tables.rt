@@ -55,9 +55,10 @@ pub enum First {
     Class,
     Arguments,
     Exception,
-    Function,
-    Manager,
     Frame,
+    /// Its functions are objects that are there, and no functions: frames look at none.
+    Manager,
+    Traceback,
 }
 
 /// The objects behind None, False and True, which are objects 0, 1 and 2.
@@ -66,7 +67,7 @@ pub const FIRST: [First; 7] = [
     First::Arguments,
     First::Exception,
     First::Exception,
-    First::Function,
-    First::Manager,
     First::Frame,
+    First::Manager,
+    First::Traceback,
 ];
