@@ -4,7 +4,6 @@ mod Cuts
 pub mod Tables
 -- the program's reader by the definitions'
 mod Stacks
-mod OpenNames
 mod Clauses
 -- the reader against the grammar
 mod LineReads

@@ -12,6 +12,8 @@ use Rattle.py_lines.specs.declared.drive.DriveLine.{DriveLine}
 use Rattle.py_lines.specs.declared.drive.DriveLine.TheVariants as drive
 use Rattle.py_grammar.specs.declared.open_body.OpenBody.{OpenBody}
 use Rattle.py_grammar.specs.declared.table.Table.{Table}
+use Rattle.py_grammar.specs.declared.script.Declaration.{Declaration}
+use Rattle.py_grammar.specs.Script.{decl_of}
 use Rattle.py_grammar.specs.Grammar.{Decl, ClassDecl, ManagerDecl, FunctionDecl, decl_name, functions_in, declared_as}
 use Rattle.py_grammar.specs.Rules.{Declared, is_among, all_differ, declares, declares_callable, is_class, is_base, is_new, is_builtin_class, may_declare, may_derive, may_manage, numbers_drive, is_drivable, is_thrown, may_drive}
 use Rattle.py_grammar.specs.Tables.{names_of, function_names, class_names, table_of, with_function_name, with_class_name, with_manager_name, is_new_by, is_base_by, may_derive_by, may_manage_by, may_head, is_drivable_by, is_thrown_by, may_drive_by}
@@ -109,6 +111,10 @@ new_there : (names : List Name) (x : Name) (rest : Bool) → (is_new_by names x 
 new_there names x rest h =
     let front = (and_parts (is_new_by names x) rest h).0 in
     not-true (is_among x names) (and_parts (not (is_among x names)) (not (is_builtin_class x)) front).0
+
+-- what a program declares with one more behind it
+pub decls_more : (old more : List Declaration) (d : Declaration) → more ≡ old ++ d ∷ [] → map decl_of more ≡ map decl_of old ++ decl_of d ∷ []
+decls_more old more d is = ap (map decl_of) is ∙ map-append decl_of old (d ∷ [])
 
 -- the table behind a class
 pub table_class : (ds : List Decl) (t : Table) (c b : Name) → t ≡ table_of ds None → may_derive_by t c b ≡ true → with_class_name t c ≡ table_of (ds ++ ClassDecl c b ∷ []) None

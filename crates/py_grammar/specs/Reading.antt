@@ -1,20 +1,20 @@
 -- The program's reader and answers as the definitions see them.
-use Rattle.std.specs.Prelude.{ℕ, List, [], ◌∷◌, option_map}
+use Rattle.std.specs.Prelude.{ℕ, List, [], ◌∷◌, Option, Some, None, option_map}
 use Rattle.std.specs.declared.result.Result.{Result}
 use Rattle.std.specs.declared.result.Result.TheVariants.{Ok, Err}
-use Rattle.py_tree.specs.Views.{clauses_of, suite_of, tree_of}
+use Rattle.py_tree.specs.Views.{clauses_of, suite_of}
 use Rattle.py_grammar.specs.declared.fault.ParseFault.{ParseFault}
 use Rattle.py_grammar.specs.declared.fault.ParseFault.TheVariants.{Malformed, NoMemory}
 use Rattle.py_grammar.specs.declared.open_body.BlockHead.{BlockHead}
 use Rattle.py_grammar.specs.declared.open_body.BlockHead.TheVariants as block
 use Rattle.py_grammar.specs.declared.open_body.OpenBlock.{OpenBlock}
 use Rattle.py_grammar.specs.declared.open_body.OpenBody.{OpenBody}
-use Rattle.py_grammar.specs.declared.open_body.Closed.{Closed}
-use Rattle.py_grammar.specs.declared.open_body.Closed.TheVariants as closed
+use Rattle.py_grammar.specs.declared.open_body.Ended.{Ended}
+use Rattle.py_grammar.specs.declared.open_body.Ended.TheVariants as ended
+use Rattle.py_grammar.specs.declared.reader.Reader.{Reader}
 use Rattle.py_grammar.specs.declared.script.Script.{Script}
 use Rattle.py_grammar.specs.Script.{decls_of, Text}
-use Rattle.py_grammar.specs.Reader.{Began, in_if, in_else, in_while, in_try, in_except, in_finally, in_with, Block, Open, Closing, whole_body, one_block, State, state, Good, Bad, WalksTo, start}
-use Rattle.py_grammar.specs.Tables.{SoFar}
+use Rattle.py_grammar.specs.Reader.{Began, in_if, in_else, in_while, in_try, in_except, in_finally, in_with, Block, Open, Closing, whole_body, one_block, function_of, State, state, Good, Bad, WalksTo, start}
 
 abbrev pub began_of : BlockHead → Began
 began_of (block.If a) = in_if a
@@ -40,11 +40,13 @@ stack_of bs = onto [] bs
 abbrev pub open_of : OpenBody → Open
 open_of o = record { line = o.line; kind = o.kind; name = o.name; params = o.params; blocks = stack_of o.blocks.items; done = suite_of o.done }
 
-abbrev pub closing_of : Closed → Closing
-closing_of (closed.Function b) = whole_body (tree_of b)
-closing_of (closed.Block o) = one_block (open_of o)
+-- what an end closed, behind which the body is this
+abbrev pub closing_of : Ended → OpenBody → Option Closing
+closing_of ended.Body o = Some (whole_body (function_of (open_of o)))
+closing_of ended.Block o = Some (one_block (open_of o))
+closing_of ended.Nothing o = None
 
-abbrev pub state_of : SoFar → State
+abbrev pub state_of : Reader → State
 state_of r = state (decls_of r.whole) r.whole.drives (option_map open_of r.inside)
 
 -- from a state on, lines come to this answer, unless memory ran out

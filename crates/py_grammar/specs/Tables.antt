@@ -1,5 +1,5 @@
 -- What a reader keeps, and the names that its table has.
-use Rattle.std.specs.Prelude.{ℕ, Option, Some, None, List, [], ◌∷◌, ◌++◌, ◌&&◌, ◌||◌, not, nat_le, length, Bool, true, map}
+use Rattle.std.specs.Prelude.{◌≡◌, ℕ, Option, Some, None, List, [], ◌∷◌, ◌++◌, ◌&&◌, ◌||◌, not, nat_le, length, Bool, true, map}
 use Rattle.std.specs.List.{list_all}
 use Rattle.py_code.specs.Names.{interned}
 use Rattle.py_tree.specs.Tree.{Name}
@@ -8,15 +8,11 @@ use Rattle.py_lines.specs.declared.drive.DriveAtom.TheVariants as argument
 use Rattle.py_lines.specs.declared.drive.DriveLine.{DriveLine}
 use Rattle.py_lines.specs.declared.drive.DriveLine.TheVariants as drive
 use Rattle.py_grammar.specs.declared.open_body.OpenBody.{OpenBody}
-use Rattle.py_grammar.specs.declared.script.Script.{Script}
+use Rattle.py_grammar.specs.declared.reader.Reader.{Reader}
 use Rattle.py_grammar.specs.declared.table.Table.{Table}
 use Rattle.py_grammar.specs.Grammar.{Decl, ClassDecl, ManagerDecl, FunctionDecl, decl_name, functions_in}
+use Rattle.py_grammar.specs.Script.{decls_of}
 use Rattle.py_grammar.specs.Rules.{is_among, all_differ, is_builtin_class, numbers_drive}
-
--- the lines of a text so far
-pub record SoFar : Type 0 where
-  pub whole : Script
-  pub inside : Option OpenBody
 
 -- the names of declarations
 abbrev pub names_of : List Decl → List Name
@@ -37,6 +33,10 @@ class_names (FunctionDecl t ∷ ds) = class_names ds
 abbrev pub table_of : List Decl → Option OpenBody → Table
 table_of ds None = record { names = names_of ds; functions = function_names ds; classes = class_names ds }
 table_of ds (Some o) = record { names = names_of ds ++ o.name ∷ []; functions = function_names ds ++ o.name ∷ []; classes = class_names ds }
+
+-- the reader's table is that of what it has read
+abbrev pub IsKept : Reader → Type 0
+IsKept r = r.table ≡ table_of (decls_of r.whole) r.inside
 
 -- the table with one more name
 abbrev pub with_function_name : Table → Name → Table

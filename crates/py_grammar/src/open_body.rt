@@ -1,18 +1,19 @@
 //! The body that is open while its lines are read, with the blocks that are open in it.
 //! A block lies on a stack until its `end`, so that no line walks over what was read before it.
+//! What is refused is let go of by a call, whose proof doesn't look into it, as that of a function's end does.
 
 ghost use Rattle.std.specs.Prelude.{◌≡◌, IfOk, option_map};
 ghost use Rattle.std.specs.List.{list_any};
-ghost use Rattle.py_tree.specs.Views.{clauses_of, form_of, suite_of};
-ghost use Rattle.py_lines.specs.declared.line.Line.TheVariants.{Plain as PlainLine, Opens as OpensLine};
+ghost use Rattle.py_tree.specs.Views.{clauses_of, form_of, suite_of, tree_of};
+ghost use Rattle.py_lines.specs.declared.line.Line.TheVariants.{Plain as PlainLine, Opens as OpensLine, Turns as TurnsLine};
 ghost use Rattle.py_grammar.specs.Rules.{is_loop as is_loop_head};
-ghost use Rattle.py_grammar.specs.Reader.{began, closed, else_behind, ended, except_behind, finally_behind, goes_on, inside as is_inside, opened, opener, plain_form, turned, turned_by};
+ghost use Rattle.py_grammar.specs.Reader.{began, closed, else_behind, ended, except_behind, finally_behind, function_of, goes_on, inside as is_inside, only_if, opened, opener, plain_form, turned_by};
 ghost use Rattle.py_tree.specs.Suites.{with_clause as is_with_clause};
 ghost use Rattle.py_grammar.specs.Reading.{began_of, closing_of, open_of};
 
 use crate::rules::{Inside, may_hold, may_open};
 use py_code::{NoMemory, PyText};
-use py_lines::{Head, Line, Plain, Turn};
+use py_lines::{Head, Plain, Turn};
 use py_tree::{Atom, Body, BodyKind, Clause, ClauseList, ParamList, Stmt, StmtForm, StmtList};
 use std::alloc::Global;
 use std::mem;
@@ -64,13 +65,15 @@ pub struct OpenBody {
     done: StmtList,
 }
 
-/// What an `end` closes.
-#[derive(Drop)]
-pub enum Closed {
-    /// The body, which is this function.
-    Function(Body),
-    /// The innermost block, which this body has now as a statement.
-    Block(OpenBody),
+/// What comes of an `end`.
+#[derive(Clone, Copy)]
+pub enum Ended {
+    /// No block is open: the body is whole.
+    Body,
+    /// The innermost block is a statement of the body now.
+    Block,
+    /// The innermost block may not end there.
+    Nothing,
 }
 
 /// The statement that a plain line is.
@@ -147,12 +150,10 @@ impl BlockHead {
     {
         match self {
             BlockHead::If(atom) => Some(BlockHead::Else(atom, suite)),
-            BlockHead::Else(_, _) => None,
-            BlockHead::While(_) => None,
-            BlockHead::Try => None,
-            BlockHead::Except(_, _, _) => None,
-            BlockHead::Finally(_) => None,
-            BlockHead::With(_, _) => None,
+            _ => {
+                mem::drop(self);
+                None
+            }
         }
     }
 
@@ -166,16 +167,15 @@ impl BlockHead {
         ensures { IfOk result (λ turned. option_map began_of turned ≡ except_behind next.line next.class next.target (began_of self) (suite_of suite)) }
     {
         match self {
-            BlockHead::If(_) => Ok(None),
-            BlockHead::Else(_, _) => Ok(None),
-            BlockHead::While(_) => Ok(None),
             BlockHead::Try => Ok(Some(BlockHead::Except(suite, ClauseList::new(alloc), next))),
             BlockHead::Except(first, clauses, last) => {
                 let clauses = with_clause(clauses, last, suite)?;
                 Ok(Some(BlockHead::Except(first, clauses, next)))
             }
-            BlockHead::Finally(_) => Ok(None),
-            BlockHead::With(_, _) => Ok(None),
+            _ => {
+                mem::drop(self);
+                Ok(None)
+            }
         }
     }
 
@@ -184,13 +184,11 @@ impl BlockHead {
         ensures { option_map began_of result ≡ finally_behind (began_of self) (suite_of suite) }
     {
         match self {
-            BlockHead::If(_) => None,
-            BlockHead::Else(_, _) => None,
-            BlockHead::While(_) => None,
             BlockHead::Try => Some(BlockHead::Finally(suite)),
-            BlockHead::Except(_, _, _) => None,
-            BlockHead::Finally(_) => None,
-            BlockHead::With(_, _) => None,
+            _ => {
+                mem::drop(self);
+                None
+            }
         }
     }
 
@@ -281,109 +279,94 @@ impl OpenBody {
         }
     }
 
-    /// One more plain statement, where it is allowed.
-    fn hold(self, number: u32, plain: Plain) -> Result<Option<OpenBody>, NoMemory>
-        ensures { IfOk result (λ next. option_map open_of next ≡ goes_on (open_of self) number (PlainLine plain)) }
+    /// Takes one more plain statement, where it is allowed.
+    pub fn hold(&mut self, number: u32, plain: Plain) -> Result<bool, NoMemory>
+        ensures taken { IfOk result (λ taken. only_if taken (open_of self.new) ≡ goes_on (open_of self.old) number (PlainLine plain)) }
+        ensures name { self.new.name ≡ self.old.name }
     {
         if !may_hold(self.inside(), &plain) {
-            return Ok(None);
+            mem::drop(plain);
+            return Ok(false);
         }
-        let mut body = self;
         let form = statement_of(plain);
-        body.done.push(Stmt { line: number, form })?;
-        Ok(Some(body))
+        self.done.push(Stmt { line: number, form })?;
+        Ok(true)
     }
 
-    /// One more open block, where it is allowed.
+    /// Opens one more block, where it is allowed.
     #[tactic(auto, using(crate::proofs::Stacks::stack_push))]
-    fn open(self, alloc: Global, number: u32, head: Head) -> Result<Option<OpenBody>, NoMemory>
-        ensures { IfOk result (λ next. option_map open_of next ≡ goes_on (open_of self) number (OpensLine head)) }
+    pub fn open(&mut self, alloc: Global, number: u32, head: Head) -> Result<bool, NoMemory>
+        ensures taken { IfOk result (λ taken. only_if taken (open_of self.new) ≡ goes_on (open_of self.old) number (OpensLine head)) }
+        ensures name { self.new.name ≡ self.old.name }
     {
         if !may_open(self.inside()) {
-            return Ok(None);
+            mem::drop(head);
+            return Ok(false);
         }
-        let mut body = self;
-        let before = mem::replace(&mut body.done, StmtList::new(alloc));
-        body.blocks.push(OpenBlock {
+        let before = mem::replace(&mut self.done, StmtList::new(alloc));
+        self.blocks.push(OpenBlock {
             before,
             line: number,
             head: BlockHead::of(head),
         })?;
-        Ok(Some(body))
+        Ok(true)
     }
 
-    /// The innermost block turned to its next suite, where it may turn so.
+    /// Turns the innermost block to its next suite, where it may turn so.
     #[tactic(auto, using(crate::proofs::Stacks::stack_push))]
-    fn turn(self, alloc: Global, number: u32, turn: Turn) -> Result<Option<OpenBody>, NoMemory>
-        ensures { IfOk result (λ next. option_map open_of next ≡ turned (open_of self) number turn (open_of self).blocks) }
+    pub fn turn(&mut self, alloc: Global, number: u32, turn: Turn) -> Result<bool, NoMemory>
+        ensures taken { IfOk result (λ taken. only_if taken (open_of self.new) ≡ goes_on (open_of self.old) number (TurnsLine turn)) }
+        ensures name { self.new.name ≡ self.old.name }
     {
-        let mut body = self;
-        let Some(block) = body.blocks.pop() else {
-            return Ok(None);
+        let Some(block) = self.blocks.pop() else {
+            mem::drop(turn);
+            return Ok(false);
         };
         let OpenBlock { before, line, head } = block;
-        let suite = mem::replace(&mut body.done, StmtList::new(alloc));
+        let suite = mem::replace(&mut self.done, StmtList::new(alloc));
         let Some(head) = head.turned(alloc, number, turn, suite)? else {
-            return Ok(None);
+            return Ok(false);
         };
-        body.blocks.push(OpenBlock { before, line, head })?;
-        Ok(Some(body))
+        self.blocks.push(OpenBlock { before, line, head })?;
+        Ok(true)
     }
 
-    /// The body with one more line, other than an `end`, where that may stand here.
-    pub fn push_line(
-        self,
-        alloc: Global,
-        number: u32,
-        line: Line,
-    ) -> Result<Option<OpenBody>, NoMemory>
-        ensures { IfOk result (λ next. option_map open_of next ≡ goes_on (open_of self) number line) }
-    {
-        match line {
-            Line::Plain(plain) => self.hold(number, plain),
-            Line::Opens(head) => self.open(alloc, number, head),
-            Line::Turns(turn) => self.turn(alloc, number, turn),
-            Line::End | Line::Header(_) | Line::Drive(_) => Ok(None),
-        }
-    }
-
-    /// The body behind an `end`, where that may stand here.
+    /// Ends the innermost block, where it may end.
     #[tactic(auto, using(crate::proofs::Stacks::stack_push))]
-    pub fn close(self) -> Result<Option<Closed>, NoMemory>
-        ensures { IfOk result (λ left. option_map closing_of left ≡ closed (open_of self) (open_of self).blocks) }
+    pub fn end(&mut self) -> Result<Ended, NoMemory>
+        ensures ended { IfOk result (λ end. closing_of end self.new ≡ closed (open_of self.old) (open_of self.old).blocks) }
+        ensures name { self.new.name ≡ self.old.name }
+    {
+        let Some(block) = self.blocks.pop() else {
+            return Ok(Ended::Body);
+        };
+        let OpenBlock { before, line, head } = block;
+        let suite = mem::replace(&mut self.done, before);
+        let Some(form) = head.ended(suite)? else {
+            return Ok(Ended::Nothing);
+        };
+        self.done.push(Stmt { line, form })?;
+        Ok(Ended::Block)
+    }
+
+    /// The function that the body is, where no block is open in it.
+    pub fn function(self) -> Body
+        ensures { tree_of result ≡ function_of (open_of self) }
     {
         let OpenBody {
             line,
             kind,
             name,
             params,
-            mut blocks,
+            blocks: _,
             done,
         } = self;
-        let Some(block) = blocks.pop() else {
-            return Ok(Some(Closed::Function(Body {
-                kind,
-                name,
-                params,
-                suite: done,
-                line,
-            })));
-        };
-        let Some(form) = block.head.ended(done)? else {
-            return Ok(None);
-        };
-        let mut done = block.before;
-        done.push(Stmt {
-            line: block.line,
-            form,
-        })?;
-        Ok(Some(Closed::Block(OpenBody {
-            line,
+        Body {
             kind,
             name,
             params,
-            blocks,
-            done,
-        })))
+            suite: done,
+            line,
+        }
     }
 }

@@ -1,6 +1,6 @@
 //! Bytes to scripts.
 
-ghost use Rattle.std.specs.Prelude.{◌≡◌, ◌≤◌, ◌⊎◌, IfOk, IsOk, Err, length, ℕ, List, option_map, encode_utf8_all};
+ghost use Rattle.std.specs.Prelude.{◌≡◌, ◌≤◌, ◌⊎◌, IfOk, IsOk, OnOk, Err, length, ℕ, List, encode_utf8_all};
 ghost use Rattle.std.specs.Str.{IsUtf8};
 ghost use Rattle.py_lines.specs.declared.drive.DriveLine.{DriveLine};
 ghost use Rattle.py_lines.specs.declared.line.LineRead.{LineRead as Read};
@@ -9,8 +9,9 @@ ghost use Rattle.py_grammar.specs.Grammar.{Decl};
 ghost use Rattle.py_grammar.specs.Script.{IsScript, IsBadLine, Spells, decls_of};
 ghost use Rattle.py_grammar.specs.WellFormed.{IsWellFormed};
 ghost use Rattle.py_grammar.specs.Lines.{lines};
-ghost use Rattle.py_grammar.specs.Reader.{takes_line};
+ghost use Rattle.py_grammar.specs.Reader.{only_if, start, takes_line};
 ghost use Rattle.py_grammar.specs.Reading.{state_of, IsAnswerTo};
+ghost use Rattle.py_grammar.specs.Tables.{IsKept};
 ghost use Rattle.py_grammar.specs.declared.fault.ParseFault.TheVariants.{Malformed, NoMemory as OutOfMemory};
 ghost use Rattle.py_grammar.specs.declared.script.Script.{Script as ScriptOf};
 
@@ -21,40 +22,54 @@ use crate::script::Script;
 use py_code::{NoMemory, PyText, text_of_str};
 use py_lines::{LineRead, laws_of_lines, read_line};
 use std::alloc::Global;
+use std::mem;
 
-/// The reader behind one more line of the text, where that may stand here.
+/// Hands one more line of the text to the reader, which takes it where it may stand here.
 fn push_bytes(
-    reader: Reader,
+    reader: &mut Reader,
     alloc: Global,
     number: u32,
     line: &[u8],
-) -> Result<Option<Reader>, NoMemory>
-    ensures { IfOk result (λ next. (read : Read) × IsReadAs line.now read × (option_map state_of next ≡ takes_line (state_of reader) number read)) }
+) -> Result<bool, NoMemory>
+    requires { IsKept reader.old }
+    ensures taken { IfOk result (λ taken. (read : Read) × IsReadAs line.now read × (only_if taken (state_of reader.new) ≡ takes_line (state_of reader.old) number read)) }
+    ensures kept { OnOk result (IsKept reader.new) }
 {
     match read_line(alloc, line)? {
-        LineRead::Blank => Ok(Some(reader)),
+        LineRead::Blank => Ok(true),
         LineRead::Said(line) => reader.push_line(alloc, number, line),
-        LineRead::Malformed => Ok(None),
+        LineRead::Malformed => Ok(false),
     }
 }
 
-/// What the lines of bytes say to the reader, one after another.
+/// What the lines of bytes say to a reader that has read nothing, one after another.
+fn push_lines(reader: &mut Reader, alloc: Global, bytes: &[u8]) -> Result<Script, ParseFault>
+    requires few { length bytes.now ≤ 1048576 }
+    requires kept { IsKept reader.old }
+    requires start { state_of reader.old ≡ start }
+    ensures { IsAnswerTo (lines bytes.now) result }
+{
+    let mut rest = bytes;
+    let mut number: u32 = 1;
+    while let Some((line, more)) = first_line(rest) {
+        if !push_bytes(reader, alloc, number, line)? {
+            return Err(ParseFault::Malformed(u64::from(number)));
+        }
+        rest = more;
+        number += 1;
+    }
+    reader.finish(alloc, number)
+}
+
+/// What the lines of bytes come to.
 fn read_lines(alloc: Global, bytes: &[u8]) -> Result<Script, ParseFault>
     requires { length bytes.now ≤ 1048576 }
     ensures { IsAnswerTo (lines bytes.now) result }
 {
     let mut reader = Reader::new(alloc);
-    let mut rest = bytes;
-    let mut number: u32 = 1;
-    while let Some((line, more)) = first_line(rest) {
-        match push_bytes(reader, alloc, number, line)? {
-            Some(next) => reader = next,
-            None => return Err(ParseFault::Malformed(u64::from(number))),
-        }
-        rest = more;
-        number += 1;
-    }
-    reader.finish(number)
+    let answer = push_lines(&mut reader, alloc, bytes);
+    mem::drop(reader);
+    answer
 }
 
 /// The script that bytes are, without its text, or the line that makes them none.

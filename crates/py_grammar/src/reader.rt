@@ -1,25 +1,23 @@
 //! A reader of lines: what was read so far, and whether one more line may stand behind it.
 
-ghost use Rattle.std.specs.Prelude.{◌≡◌, ◌++◌, ◌∷◌, IfOk, Some, None, [], option_map, true};
-ghost use Rattle.py_tree.specs.Views.{tree_of};
+ghost use Rattle.std.specs.Prelude.{◌≡◌, [], IfOk, OnOk, None, option_map};
 ghost use Rattle.py_lines.specs.declared.header.Header.TheVariants.{Class as ClassHeader, Def as DefHeader, Manager as ManagerHeader};
-ghost use Rattle.py_lines.specs.declared.line.Line.TheVariants.{Drive as DrivenLine};
+ghost use Rattle.py_lines.specs.declared.line.Line.TheVariants.{Drive as DrivenLine, End as EndLine, Header as HeaderLine, Opens as OpensLine, Plain as PlainLine, Turns as TurnsLine};
 ghost use Rattle.py_grammar.specs.Script.{decls_of};
-ghost use Rattle.py_grammar.specs.Grammar.{ClassDecl, FunctionDecl, ManagerDecl};
-ghost use Rattle.py_grammar.specs.Reader.{accept, closed, closes, headed, in_body, opened, outside, start, state};
-ghost use Rattle.py_grammar.specs.Reading.{ComesTo, open_of, state_of};
-ghost use Rattle.py_grammar.specs.Tables.{may_head, may_derive_by, may_manage_by, table_of};
+ghost use Rattle.py_grammar.specs.Reader.{accept, closes, function_of, headed, only_if, start, whole_body};
+ghost use Rattle.py_grammar.specs.Reading.{ComesTo, state_of};
+ghost use Rattle.py_grammar.specs.Tables.{IsKept};
 
 use crate::fault::ParseFault;
-use crate::open_body::{Closed, OpenBody};
+use crate::open_body::{Ended, OpenBody};
 use crate::rules::{may_declare, may_derive, may_drive, may_manage};
 use crate::script::{DeclList, Declaration, DriveList, Script};
 use crate::table::Table;
 use py_code::{NoMemory, PyText};
-use py_lines::{DriveLine, Header, Line};
-use py_tree::{Body, BodyKind, ParamList};
+use py_lines::{DriveLine, Head, Header, Line, Plain, Turn};
+use py_tree::{BodyKind, ParamList};
 use std::alloc::Global;
-use std::marker::Model;
+use std::mem;
 
 /// What was read so far.
 #[derive(Drop)]
@@ -30,298 +28,219 @@ pub struct Reader {
     table: Table,
 }
 
-impl Model for Reader {
-    ghost use Rattle.std.specs.Prelude.{◌≡◌};
-    ghost use Rattle.std.specs.Coded.{codes};
-    ghost use Rattle.py_tree.specs.contracts.stmt.ClauseList as clauses;
-    ghost use Rattle.py_tree.specs.contracts.stmt.StmtList as suite;
-    ghost use Rattle.py_grammar.specs.Script.{decls_of};
-    ghost use Rattle.py_grammar.specs.Tables.{SoFar, table_of};
-
-    ghost Value = { SoFar };
-
-    ghost coded = { Prim.hlevel (codes, suite.the_row.coded, clauses.the_row.coded) };
-
-    ghost view = { λ r. record { whole = r.whole; inside = r.inside } };
-
-    ghost invariant = { λ r. r.table ≡ table_of (decls_of r.whole) r.inside };
+/// A script that says nothing.
+fn no_script(alloc: Global) -> Script
+    ensures declarations { result.declarations ≡ [] }
+    ensures drives { result.drives ≡ [] }
+{
+    Script {
+        text: PyText::new(alloc),
+        declarations: DeclList::new(alloc),
+        drives: DriveList::new(alloc),
+    }
 }
 
 impl Reader {
     /// A reader that has read nothing.
     pub fn new(alloc: Global) -> Reader
-        ensures { state_of result ≡ start }
+        ensures state { state_of result ≡ start }
+        ensures kept { IsKept result }
     {
         Reader {
-            whole: Script {
-                text: PyText::new(alloc),
-                declarations: DeclList::new(alloc),
-                drives: DriveList::new(alloc),
-            },
+            whole: no_script(alloc),
             inside: None,
             table: Table::new(alloc),
         }
     }
 
-    /// The reader behind a function whose lines ended.
-    fn declare(whole: Script, table: Table, body: Body) -> Result<Reader, NoMemory>
-        requires { table ≡ table_of (decls_of whole ++ FunctionDecl (tree_of body) ∷ []) None }
-        ensures { IfOk result (λ next. state_of next ≡ state (decls_of whole ++ FunctionDecl (tree_of body) ∷ []) whole.drives None) }
+    /// Declares the function whose body is open, and has ended.
+    fn declare(&mut self) -> Result<bool, NoMemory>
+        requires { IsKept self.old }
+        ensures taken { IfOk result (λ taken. only_if taken (state_of self.new) ≡ option_map (λ body. closes (decls_of self.old.whole) self.old.whole.drives (whole_body (function_of body))) (state_of self.old).inside) }
+        ensures kept { OnOk result (IsKept self.new) }
     {
-        let mut whole = whole;
-        whole.declarations.push(Declaration::Function(body))?;
-        Ok(Reader {
-            whole,
-            inside: None,
-            table,
-        })
+        let Some(body) = self.inside.take() else {
+            return Ok(false);
+        };
+        self.whole
+            .declarations
+            .push(Declaration::Function(body.function()))?;
+        Ok(true)
     }
 
-    /// An `end` where this body is open.
-    fn end(whole: Script, table: Table, body: OpenBody) -> Result<Option<Reader>, NoMemory>
-        requires { table ≡ table_of (decls_of whole) (Some body) }
-        ensures { IfOk result (λ next. option_map state_of next ≡ option_map (closes (decls_of whole) whole.drives) (closed (open_of body) (open_of body).blocks)) }
+    /// Takes an `end`, where a body is open and it may stand there.
+    fn end(&mut self) -> Result<bool, NoMemory>
+        requires { IsKept self.old }
+        ensures taken { IfOk result (λ taken. only_if taken (state_of self.new) ≡ accept (state_of self.old) 0 EndLine) }
+        ensures kept { OnOk result (IsKept self.new) }
     {
-        match body.close()? {
-            Some(Closed::Block(body)) => Ok(Some(Reader {
-                whole,
-                inside: Some(body),
-                table,
-            })),
-            Some(Closed::Function(body)) => Reader::declare(whole, table, body).map(Some),
-            None => Ok(None),
+        let Some(body) = &mut self.inside else {
+            return Ok(false);
+        };
+        match body.end()? {
+            Ended::Body => self.declare(),
+            Ended::Block => Ok(true),
+            Ended::Nothing => Ok(false),
         }
     }
 
-    /// A line where this body is open.
-    fn push_inside(
-        alloc: Global,
-        whole: Script,
-        table: Table,
-        body: OpenBody,
-        number: u32,
-        line: Line,
-    ) -> Result<Option<Reader>, NoMemory>
-        requires { table ≡ table_of (decls_of whole) (Some body) }
-        ensures { IfOk result (λ next. option_map state_of next ≡ in_body (decls_of whole) whole.drives (open_of body) number line) }
+    /// Takes a plain line, where a body is open and it may stand there.
+    fn hold(&mut self, number: u32, plain: Plain) -> Result<bool, NoMemory>
+        requires { IsKept self.old }
+        ensures taken { IfOk result (λ taken. only_if taken (state_of self.new) ≡ accept (state_of self.old) number (PlainLine plain)) }
+        ensures kept { OnOk result (IsKept self.new) }
     {
-        if matches!(line, Line::End) {
-            return Reader::end(whole, table, body);
-        }
-        match body.push_line(alloc, number, line)? {
-            Some(body) => Ok(Some(Reader {
-                whole,
-                inside: Some(body),
-                table,
-            })),
-            None => Ok(None),
+        match &mut self.inside {
+            Some(body) => body.hold(number, plain),
+            None => {
+                mem::drop(plain);
+                Ok(false)
+            }
         }
     }
 
-    /// The reader with the body of a function that may be declared open.
-    #[tactic(auto, using(crate::proofs::Tables::table_open))]
+    /// Takes a line that opens a block, likewise.
+    fn open(&mut self, alloc: Global, number: u32, head: Head) -> Result<bool, NoMemory>
+        requires { IsKept self.old }
+        ensures taken { IfOk result (λ taken. only_if taken (state_of self.new) ≡ accept (state_of self.old) number (OpensLine head)) }
+        ensures kept { OnOk result (IsKept self.new) }
+    {
+        match &mut self.inside {
+            Some(body) => body.open(alloc, number, head),
+            None => {
+                mem::drop(head);
+                Ok(false)
+            }
+        }
+    }
+
+    /// Takes a line that turns a block to its next suite, likewise.
+    fn turn(&mut self, alloc: Global, number: u32, turn: Turn) -> Result<bool, NoMemory>
+        requires { IsKept self.old }
+        ensures taken { IfOk result (λ taken. only_if taken (state_of self.new) ≡ accept (state_of self.old) number (TurnsLine turn)) }
+        ensures kept { OnOk result (IsKept self.new) }
+    {
+        match &mut self.inside {
+            Some(body) => body.turn(alloc, number, turn),
+            None => {
+                mem::drop(turn);
+                Ok(false)
+            }
+        }
+    }
+
+    /// Opens the body of a function, where no body is open and it may be declared.
+    #[tactic(auto, using(crate::proofs::Tables::may_head_names, crate::proofs::Tables::table_open))]
     fn begin(
+        &mut self,
         alloc: Global,
-        whole: Script,
-        table: Table,
         number: u32,
         kind: BodyKind,
         name: PyText,
         params: ParamList,
-    ) -> Result<Reader, NoMemory>
-        requires table { table ≡ table_of (decls_of whole) None }
-        requires allowed { may_head table.names name params ≡ true }
-        ensures { IfOk result (λ next. state_of next ≡ state (decls_of whole) whole.drives (Some (opened number kind name params))) }
+    ) -> Result<bool, NoMemory>
+        requires kept { IsKept self.old }
+        requires outside { self.old.inside ≡ None }
+        ensures taken { IfOk result (λ taken. only_if taken (state_of self.new) ≡ headed (decls_of self.old.whole) self.old.whole.drives number (DefHeader kind name params)) }
+        ensures kept { OnOk result (IsKept self.new) }
     {
-        let table = table.with_function(&name)?;
-        Ok(Reader {
-            whole,
-            inside: Some(OpenBody::new(alloc, number, kind, name, params)),
-            table,
-        })
-    }
-
-    /// The header of a function where no body is open.
-    fn open(
-        alloc: Global,
-        whole: Script,
-        table: Table,
-        number: u32,
-        kind: BodyKind,
-        name: PyText,
-        params: ParamList,
-    ) -> Result<Option<Reader>, NoMemory>
-        requires { table ≡ table_of (decls_of whole) None }
-        ensures { IfOk result (λ next. option_map state_of next ≡ headed (decls_of whole) whole.drives number (DefHeader kind name params)) }
-    {
-        if may_declare(&table.names, &name, &params) {
-            Reader::begin(alloc, whole, table, number, kind, name, params).map(Some)
-        } else {
-            Ok(None)
+        if !may_declare(&self.table.names, &name, &params) {
+            return Ok(false);
         }
+        self.table.add_function(&name)?;
+        self.inside = Some(OpenBody::new(alloc, number, kind, name, params));
+        Ok(true)
     }
 
-    /// The reader behind a class that may be declared.
-    fn add_class(
-        whole: Script,
-        table: Table,
-        name: PyText,
-        base: PyText,
-    ) -> Result<Reader, NoMemory>
-        requires table { table ≡ table_of (decls_of whole) None }
-        requires allowed { may_derive_by table name base ≡ true }
-        ensures { IfOk result (λ next. state_of next ≡ state (decls_of whole ++ ClassDecl name base ∷ []) whole.drives None) }
+    /// Declares a class, where no body is open and it may be declared; the number of its line is kept nowhere.
+    #[tactic(auto, using(crate::proofs::Tables::may_derive_names))]
+    fn class(&mut self, name: PyText, base: PyText) -> Result<bool, NoMemory>
+        requires kept { IsKept self.old }
+        requires outside { self.old.inside ≡ None }
+        ensures taken { IfOk result (λ taken. only_if taken (state_of self.new) ≡ headed (decls_of self.old.whole) self.old.whole.drives 0 (ClassHeader name base)) }
+        ensures kept { OnOk result (IsKept self.new) }
     {
-        let table = table.with_class(&name)?;
-        let mut whole = whole;
-        whole.declarations.push(Declaration::Class(name, base))?;
-        Ok(Reader {
-            whole,
-            inside: None,
-            table,
-        })
-    }
-
-    /// A class where no body is open; the number of its line is kept nowhere.
-    fn class(
-        whole: Script,
-        table: Table,
-        name: PyText,
-        base: PyText,
-    ) -> Result<Option<Reader>, NoMemory>
-        requires { table ≡ table_of (decls_of whole) None }
-        ensures { IfOk result (λ next. option_map state_of next ≡ headed (decls_of whole) whole.drives 0 (ClassHeader name base)) }
-    {
-        if may_derive(&table, &name, &base) {
-            Reader::add_class(whole, table, name, base).map(Some)
-        } else {
-            Ok(None)
+        if !may_derive(&self.table, &name, &base) {
+            return Ok(false);
         }
+        self.table.add_class(&name)?;
+        self.whole
+            .declarations
+            .push(Declaration::Class(name, base))?;
+        Ok(true)
     }
 
-    /// The reader behind a manager that may be declared.
-    fn add_manager(
-        whole: Script,
-        table: Table,
-        name: PyText,
-        enter: PyText,
-        exit: PyText,
-    ) -> Result<Reader, NoMemory>
-        requires table { table ≡ table_of (decls_of whole) None }
-        requires allowed { may_manage_by table name enter exit ≡ true }
-        ensures { IfOk result (λ next. state_of next ≡ state (decls_of whole ++ ManagerDecl name enter exit ∷ []) whole.drives None) }
+    /// Declares a manager, likewise.
+    #[tactic(auto, using(crate::proofs::Tables::may_manage_names))]
+    fn manager(&mut self, name: PyText, enter: PyText, exit: PyText) -> Result<bool, NoMemory>
+        requires kept { IsKept self.old }
+        requires outside { self.old.inside ≡ None }
+        ensures taken { IfOk result (λ taken. only_if taken (state_of self.new) ≡ headed (decls_of self.old.whole) self.old.whole.drives 0 (ManagerHeader name enter exit)) }
+        ensures kept { OnOk result (IsKept self.new) }
     {
-        let table = table.with_manager(&name)?;
-        let mut whole = whole;
-        whole
+        if !may_manage(&self.table, &name, &enter, &exit) {
+            return Ok(false);
+        }
+        self.table.add_manager(&name)?;
+        self.whole
             .declarations
             .push(Declaration::Manager(name, enter, exit))?;
-        Ok(Reader {
-            whole,
-            inside: None,
-            table,
-        })
+        Ok(true)
     }
 
-    /// A manager where no body is open; the number of its line is kept nowhere.
-    fn manager(
-        whole: Script,
-        table: Table,
-        name: PyText,
-        enter: PyText,
-        exit: PyText,
-    ) -> Result<Option<Reader>, NoMemory>
-        requires { table ≡ table_of (decls_of whole) None }
-        ensures { IfOk result (λ next. option_map state_of next ≡ headed (decls_of whole) whole.drives 0 (ManagerHeader name enter exit)) }
+    /// Takes a header, where no body is open and it may stand there.
+    fn head(&mut self, alloc: Global, number: u32, header: Header) -> Result<bool, NoMemory>
+        requires { IsKept self.old }
+        ensures taken { IfOk result (λ taken. only_if taken (state_of self.new) ≡ accept (state_of self.old) number (HeaderLine header)) }
+        ensures kept { OnOk result (IsKept self.new) }
     {
-        if may_manage(&table, &name, &enter, &exit) {
-            Reader::add_manager(whole, table, name, enter, exit).map(Some)
-        } else {
-            Ok(None)
+        if self.inside.is_some() {
+            mem::drop(header);
+            return Ok(false);
+        }
+        match header {
+            Header::Def(kind, name, params) => self.begin(alloc, number, kind, name, params),
+            Header::Class(name, base) => self.class(name, base),
+            Header::Manager(name, enter, exit) => self.manager(name, enter, exit),
         }
     }
 
-    /// The reader behind one more drive.
-    fn add_drive(whole: Script, table: Table, drive: DriveLine) -> Result<Reader, NoMemory>
-        requires { table ≡ table_of (decls_of whole) None }
-        ensures { IfOk result (λ next. state_of next ≡ state (decls_of whole) (whole.drives ++ drive ∷ []) None) }
+    /// Takes a drive, where no body is open and it may stand there; the number of its line is kept nowhere.
+    fn drive(&mut self, drive: DriveLine) -> Result<bool, NoMemory>
+        requires { IsKept self.old }
+        ensures taken { IfOk result (λ taken. only_if taken (state_of self.new) ≡ accept (state_of self.old) 0 (DrivenLine drive)) }
+        ensures kept { OnOk result (IsKept self.new) }
     {
-        let mut whole = whole;
-        whole.drives.push(drive)?;
-        Ok(Reader {
-            whole,
-            inside: None,
-            table,
-        })
-    }
-
-    /// A drive where no body is open; the number of its line is kept nowhere.
-    fn drive(whole: Script, table: Table, drive: DriveLine) -> Result<Option<Reader>, NoMemory>
-        requires { table ≡ table_of (decls_of whole) None }
-        ensures { IfOk result (λ next. option_map state_of next ≡ outside (decls_of whole) whole.drives 0 (DrivenLine drive)) }
-    {
-        if may_drive(&table, &whole, &drive) {
-            Reader::add_drive(whole, table, drive).map(Some)
-        } else {
-            Ok(None)
+        if self.inside.is_some() || !may_drive(&self.table, &self.whole, &drive) {
+            mem::drop(drive);
+            return Ok(false);
         }
+        self.whole.drives.push(drive)?;
+        Ok(true)
     }
 
-    /// A line where no body is open.
-    fn push_outside(
-        alloc: Global,
-        whole: Script,
-        table: Table,
-        number: u32,
-        line: Line,
-    ) -> Result<Option<Reader>, NoMemory>
-        requires { table ≡ table_of (decls_of whole) None }
-        ensures { IfOk result (λ next. option_map state_of next ≡ outside (decls_of whole) whole.drives number line) }
+    /// Takes one more line that says something, where that may stand here.
+    pub fn push_line(&mut self, alloc: Global, number: u32, line: Line) -> Result<bool, NoMemory>
+        requires { IsKept self.old }
+        ensures taken { IfOk result (λ taken. only_if taken (state_of self.new) ≡ accept (state_of self.old) number line) }
+        ensures kept { OnOk result (IsKept self.new) }
     {
         match line {
-            Line::Header(Header::Def(kind, name, params)) => {
-                Reader::open(alloc, whole, table, number, kind, name, params)
-            }
-            Line::Drive(drive) => Reader::drive(whole, table, drive),
-            Line::Header(Header::Class(name, base)) => Reader::class(whole, table, name, base),
-            Line::Header(Header::Manager(name, enter, exit)) => {
-                Reader::manager(whole, table, name, enter, exit)
-            }
-            Line::End | Line::Plain(_) | Line::Opens(_) | Line::Turns(_) => Ok(None),
+            Line::End => self.end(),
+            Line::Plain(plain) => self.hold(number, plain),
+            Line::Opens(head) => self.open(alloc, number, head),
+            Line::Turns(turn) => self.turn(alloc, number, turn),
+            Line::Header(header) => self.head(alloc, number, header),
+            Line::Drive(drive) => self.drive(drive),
         }
     }
 
-    /// The reader behind one more line that says something, where that may stand here.
-    pub fn push_line(
-        self,
-        alloc: Global,
-        number: u32,
-        line: Line,
-    ) -> Result<Option<Reader>, NoMemory>
-        ensures { IfOk result (λ next. option_map state_of next ≡ accept (state_of self) number line) }
+    /// Hands out the script at the end of the lines, of which this would be the number of the next.
+    pub fn finish(&mut self, alloc: Global, number: u32) -> Result<Script, ParseFault>
+        ensures { ComesTo (state_of self.old) number [] result }
     {
-        let Reader {
-            whole,
-            inside,
-            table,
-        } = self;
-        match inside {
-            Some(body) => Reader::push_inside(alloc, whole, table, body, number, line),
-            None => Reader::push_outside(alloc, whole, table, number, line),
-        }
-    }
-
-    /// The script at the end of the lines, of which this would be the number of the next.
-    pub fn finish(self, number: u32) -> Result<Script, ParseFault>
-        ensures { ComesTo (state_of self) number [] result }
-    {
-        let Reader {
-            whole,
-            inside,
-            table: _,
-        } = self;
-        match inside {
-            None => Ok(whole),
+        match &self.inside {
+            None => Ok(mem::replace(&mut self.whole, no_script(alloc))),
             Some(_) => Err(ParseFault::Malformed(u64::from(number))),
         }
     }

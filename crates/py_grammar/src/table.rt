@@ -1,6 +1,6 @@
 //! The names of what was declared.
 
-ghost use Rattle.std.specs.Prelude.{◌≡◌, [], IfOk, None};
+ghost use Rattle.std.specs.Prelude.{◌≡◌, [], None, OnOk};
 ghost use Rattle.py_grammar.specs.Tables.{table_of, with_class_name, with_function_name, with_manager_name};
 
 use py_code::{NameSet, NoMemory, PyText};
@@ -26,56 +26,29 @@ impl Table {
         }
     }
 
-    /// The table with the name of a function too.
-    pub fn with_function(self, name: &PyText) -> Result<Table, NoMemory>
-        ensures { IfOk result (λ table. table ≡ with_function_name self name.now) }
+    /// Takes the name of a function too.
+    pub fn add_function(&mut self, name: &PyText) -> Result<(), NoMemory>
+        ensures { OnOk result (self.new ≡ with_function_name self.old name.now) }
     {
-        let Table {
-            mut names,
-            mut functions,
-            classes,
-        } = self;
-        names.insert(name)?;
-        functions.insert(name)?;
-        Ok(Table {
-            names,
-            functions,
-            classes,
-        })
+        self.names.insert(name)?;
+        self.functions.insert(name)?;
+        Ok(())
     }
 
-    /// The table with the name of a class too.
-    pub fn with_class(self, name: &PyText) -> Result<Table, NoMemory>
-        ensures { IfOk result (λ table. table ≡ with_class_name self name.now) }
+    /// Takes the name of a class too.
+    pub fn add_class(&mut self, name: &PyText) -> Result<(), NoMemory>
+        ensures { OnOk result (self.new ≡ with_class_name self.old name.now) }
     {
-        let Table {
-            mut names,
-            functions,
-            mut classes,
-        } = self;
-        names.insert(name)?;
-        classes.insert(name)?;
-        Ok(Table {
-            names,
-            functions,
-            classes,
-        })
+        self.names.insert(name)?;
+        self.classes.insert(name)?;
+        Ok(())
     }
 
-    /// The table with the name of a manager too.
-    pub fn with_manager(self, name: &PyText) -> Result<Table, NoMemory>
-        ensures { IfOk result (λ table. table ≡ with_manager_name self name.now) }
+    /// Takes the name of a manager too.
+    pub fn add_manager(&mut self, name: &PyText) -> Result<(), NoMemory>
+        ensures { OnOk result (self.new ≡ with_manager_name self.old name.now) }
     {
-        let Table {
-            mut names,
-            functions,
-            classes,
-        } = self;
-        names.insert(name)?;
-        Ok(Table {
-            names,
-            functions,
-            classes,
-        })
+        self.names.insert(name)?;
+        Ok(())
     }
 }
