@@ -9,7 +9,7 @@ use py_coro::{
     Begin, Coro, CoroAnswer, CoroEnd, CoroRefusal, MOST_DEPTH, PyGenerator, converted, ignored,
 };
 use py_objects::{
-    AttrMap, Boxed, ClassBody, CoroKind, ExceptionBody, FrameRef, ObjList, Payload,
+    AttrMap, Boxed, ClassBody, CoroKind, ErrorKind, ExceptionBody, FrameRef, ObjList, Payload,
     PyBaseExceptionRef, PyObjectRef, PyTypeRef, Store,
 };
 use std::alloc::Global;
@@ -94,7 +94,7 @@ fn an_asynchronous_generator_converts_a_stop_of_its_own(rt: HostRuntime) -> Resu
     let store = store_of_a_stop(rt.alloc())?;
     assert_eq!(rt;
         left_by_a_stop(&store, CoroKind::AsyncGenerator),
-        CoroAnswer::Convert(STOP)
+        CoroAnswer::Convert(STOP, ErrorKind::StopAsyncIteration)
     );
     assert_eq!(rt;
         left_by_a_stop(&store, CoroKind::Generator),
@@ -137,7 +137,10 @@ fn refusals_say_what_was_called(rt: HostRuntime) -> Result<(), Fail> {
         text.as_str(),
         "can't send non-None value to a just-started generator"
     );
-    let text = utf8_of(alloc, &converted(alloc, kind)?.text)?;
+    let text = utf8_of(
+        alloc,
+        &converted(alloc, kind, ErrorKind::StopIteration)?.text,
+    )?;
     assert_eq!(rt; text.as_str(), "generator raised StopIteration");
     let text = utf8_of(alloc, &ignored(alloc, kind)?.text)?;
     assert_eq!(rt; text.as_str(), "generator ignored GeneratorExit");

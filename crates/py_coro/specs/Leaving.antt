@@ -1,5 +1,5 @@
 -- What a generator answers that was entered and left, and its mode by then (Python Language Reference, 6.2.9.1; PEP 479; PEP 525).
-use Rattle.std.specs.Prelude.{Option, Some, None, List, Bool, true, false, ◌||◌, ◌≡◌}
+use Rattle.std.specs.Prelude.{Option, Some, None, List, Bool, true, false, ◌≡◌}
 use Rattle.py_objects.specs.declared.refs.PyBaseExceptionRef.{PyBaseExceptionRef}
 use Rattle.py_objects.specs.declared.payload.Payload.{Payload}
 use Rattle.py_objects.specs.declared.payload.Payload.TheVariants as payload
@@ -30,13 +30,19 @@ abbrev pub IsOfClass : List Payload → PyBaseExceptionRef → ErrorKind → Boo
 IsOfClass objects e kind b =
     (body : ExceptionBody) × HasPayload objects (as_object e) (payload.Exception body) × IsDerived objects (class_object body.class) (name_of kind) b
 
--- whether an exception that comes out of one of this kind is converted: a StopIteration is (PEP 479), and out of an asynchronous generator
--- a StopAsyncIteration, too (PEP 525)
-abbrev pub IsConverted : List Payload → CoroKind → PyBaseExceptionRef → Bool → Type 0
-IsConverted objects kind.Generator e b = IsOfClass objects e StopIteration b
-IsConverted objects kind.Coroutine e b = IsOfClass objects e StopIteration b
-IsConverted objects kind.AsyncGenerator e b =
-    (stops : Bool) × (stops_async : Bool) × IsOfClass objects e StopIteration stops × IsOfClass objects e StopAsyncIteration stops_async × (b ≡ (stops || stops_async))
+-- which of the classes of stops an exception is of, which says so of each, the first before the second
+abbrev pub stop_of : (stops stops_async : Bool) → Option ErrorKind
+stop_of true stops_async = Some StopIteration
+stop_of false true = Some StopAsyncIteration
+stop_of false false = None
+
+-- as an instance of which class an exception is converted that comes out of one of this kind, if it is: a StopIteration is (PEP 479), and out
+-- of an asynchronous generator a StopAsyncIteration, too (PEP 525)
+abbrev pub IsConverted : List Payload → CoroKind → PyBaseExceptionRef → Option ErrorKind → Type 0
+IsConverted objects kind.Generator e stop = (stops : Bool) × IsOfClass objects e StopIteration stops × (stop ≡ stop_of stops false)
+IsConverted objects kind.Coroutine e stop = (stops : Bool) × IsOfClass objects e StopIteration stops × (stop ≡ stop_of stops false)
+IsConverted objects kind.AsyncGenerator e stop =
+    (stops : Bool) × (stops_async : Bool) × IsOfClass objects e StopIteration stops × IsOfClass objects e StopAsyncIteration stops_async × (stop ≡ stop_of stops stops_async)
 
 -- what a yield is answered by
 abbrev pub yielded : (closing : Bool) → Obj → CoroAnswer
@@ -54,15 +60,15 @@ returned true v p = answer.Closed
 returned false v p = answer.Stop (value_if v (is_none p))
 
 -- what a raise is answered by, which is converted or isn't: a close is done where one exits
-abbrev pub raised : (closing : Bool) → PyBaseExceptionRef → (converted exits : Bool) → CoroAnswer
-raised closing e true exits = answer.Convert e
-raised true e false true = answer.Closed
-raised true e false false = answer.Raise e
-raised false e false exits = answer.Raise e
+abbrev pub raised : (closing : Bool) → PyBaseExceptionRef → Option ErrorKind → (exits : Bool) → CoroAnswer
+raised closing e (Some stop) exits = answer.Convert e stop
+raised true e None true = answer.Closed
+raised true e None false = answer.Raise e
+raised false e None exits = answer.Raise e
 
 -- one of this kind that was left like this answers so
 abbrev pub Finishes : List Payload → CoroKind → (closing : Bool) → CoroEnd → CoroAnswer → Type 0
 Finishes objects kind closing (left.Yield v) a = a ≡ yielded closing v
 Finishes objects kind closing (left.Return v) a = (p : Payload) × HasPayload objects v p × (a ≡ returned closing v p)
 Finishes objects kind closing (left.Raise e) a =
-    (converted : Bool) × (exits : Bool) × IsConverted objects kind e converted × IsOfClass objects e GeneratorExit exits × (a ≡ raised closing e converted exits)
+    (stop : Option ErrorKind) × (exits : Bool) × IsConverted objects kind e stop × IsOfClass objects e GeneratorExit exits × (a ≡ raised closing e stop exits)

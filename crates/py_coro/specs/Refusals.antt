@@ -3,7 +3,9 @@ use Rattle.std.specs.Prelude.{◌++◌, codes}
 use Rattle.py_objects.specs.declared.payload.CoroKind.{CoroKind}
 use Rattle.py_objects.specs.declared.payload.CoroKind.TheVariants as kind
 use Rattle.py_objects.specs.declared.payload.Fault.{Fault}
+use Rattle.py_objects.specs.declared.error_kind.ErrorKind.{ErrorKind}
 use Rattle.py_objects.specs.declared.error_kind.ErrorKind.TheVariants.{RecursionError, RuntimeError, TypeError, ValueError}
+use Rattle.py_objects.specs.ErrorKinds.{name_of}
 use Rattle.py_objects.specs.Objects.{Name}
 use Rattle.py_coro.specs.declared.refusal.CoroRefusal.{CoroRefusal}
 use Rattle.py_coro.specs.declared.refusal.CoroRefusal.TheVariants as refusal
@@ -24,9 +26,9 @@ refused word refusal.Running = record { kind = ValueError; text = word ++ codes 
 refused word refusal.FirstValue = record { kind = TypeError; text = codes "can't send non-None value to a just-started " ++ word }
 refused word refusal.TooDeep = record { kind = RecursionError; text = too_deep }
 
--- what a StopIteration that comes out becomes (PEP 479)
-abbrev pub stopping : Name → Fault
-stopping word = record { kind = RuntimeError; text = word ++ codes " raised StopIteration" }
+-- what a stop of this class that comes out becomes (PEP 479, PEP 525)
+abbrev pub stopping : Name → ErrorKind → Fault
+stopping word stop = record { kind = RuntimeError; text = word ++ codes " raised " ++ name_of stop }
 
 -- what is raised where a close is met by a yield
 abbrev pub ignoring : Name → Fault

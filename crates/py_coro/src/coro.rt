@@ -16,7 +16,7 @@ use crate::stage::Stage;
 use py_code::{
     NameId, Names, NoMemory, PyText, push_bytes, push_decimal, push_text, text_of, text_of_str,
 };
-use py_objects::{CoroKind, FrameRef, PyBaseExceptionRef, PyObjectRef, Store};
+use py_objects::{CoroKind, ErrorKind, FrameRef, PyBaseExceptionRef, PyObjectRef, Store};
 use std::alloc::Global;
 use std::marker::Model;
 
@@ -66,9 +66,9 @@ pub enum CoroAnswer {
     Closed,
     /// This exception is raised.
     Raise(PyBaseExceptionRef),
-    /// This exception is a StopIteration, or a StopAsyncIteration out of an asynchronous generator: RuntimeError is raised, with it as the
-    /// cause (PEP 479, PEP 525).
-    Convert(PyBaseExceptionRef),
+    /// This exception is of this class, StopIteration, or StopAsyncIteration out of an asynchronous generator: RuntimeError is raised, with
+    /// it as the cause (PEP 479, PEP 525).
+    Convert(PyBaseExceptionRef, ErrorKind),
     /// It yielded while it was closed, which is a RuntimeError.
     Ignored,
 }

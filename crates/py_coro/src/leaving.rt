@@ -8,7 +8,7 @@ ghost use Rattle.py_objects.specs.declared.payload.ExceptionBody.{ExceptionBody}
 ghost use Rattle.py_objects.specs.declared.payload.Payload.{Payload as PayloadOf};
 ghost use Rattle.py_objects.specs.declared.payload.Payload.TheVariants.{Exception};
 ghost use Rattle.py_coro.specs.declared.coro.CoroEnd.TheVariants as left;
-ghost use Rattle.py_coro.specs.Leaving.{mode_behind, yielded as yield_answer, returned as return_answer, raised as raise_answer, Finishes, IsConverted, IsOfClass};
+ghost use Rattle.py_coro.specs.Leaving.{mode_behind, yielded as yield_answer, returned as return_answer, raised as raise_answer, stop_of, Finishes, IsConverted, IsOfClass};
 ghost use Rattle.py_coro.specs.Coros.{AreRead};
 ghost use Rattle.py_coro.specs.Stages.{mode_of, closing_of};
 
@@ -90,22 +90,22 @@ fn raised(store: &Store, kind: CoroKind, closing: bool, exc: PyBaseExceptionRef)
     requires exception { IsException store.now.made (as_object exc) }
     ensures { Finishes store.now.made kind closing (left.Raise exc) result }
 {
-    let converted = is_converted(store, kind, exc);
+    let stop = converted_as(store, kind, exc);
     let exits = is_of_class(store, exc, ErrorKind::GeneratorExit);
-    answer_of_raise(closing, exc, converted, exits)
+    answer_of_raise(closing, exc, stop, exits)
 }
 
 /// What the raise of an exception is answered by that is converted, or a GeneratorExit, or neither.
 fn answer_of_raise(
     closing: bool,
     exc: PyBaseExceptionRef,
-    converted: bool,
+    stop: Option<ErrorKind>,
     exits: bool,
 ) -> CoroAnswer
-    ensures { result ≡ raise_answer closing exc converted exits }
+    ensures { result ≡ raise_answer closing exc stop exits }
 {
-    if converted {
-        return CoroAnswer::Convert(exc);
+    if let Some(stop) = stop {
+        return CoroAnswer::Convert(exc, stop);
     }
     if closing && exits {
         return CoroAnswer::Closed;
@@ -113,22 +113,35 @@ fn answer_of_raise(
     CoroAnswer::Raise(exc)
 }
 
-/// Whether an exception that comes out of one of this kind is converted: a StopIteration is (PEP 479), and out of an asynchronous generator
-/// a StopAsyncIteration, too (PEP 525).
-fn is_converted(store: &Store, kind: CoroKind, exc: PyBaseExceptionRef) -> bool
+/// As an instance of which class an exception is converted that comes out of one of this kind, if it is: a StopIteration is (PEP 479), and
+/// out of an asynchronous generator a StopAsyncIteration, too (PEP 525).
+fn converted_as(store: &Store, kind: CoroKind, exc: PyBaseExceptionRef) -> Option<ErrorKind>
     requires fit { AllFit store.now.made }
     requires exception { IsException store.now.made (as_object exc) }
     ensures { IsConverted store.now.made kind exc result }
 {
     let stops = is_of_class(store, exc, ErrorKind::StopIteration);
     match kind {
-        CoroKind::Generator => stops,
-        CoroKind::Coroutine => stops,
+        CoroKind::Generator => stop_of(stops, false),
+        CoroKind::Coroutine => stop_of(stops, false),
         CoroKind::AsyncGenerator => {
             let stops_async = is_of_class(store, exc, ErrorKind::StopAsyncIteration);
-            stops || stops_async
+            stop_of(stops, stops_async)
         }
     }
+}
+
+/// Which of the classes of stops an exception is of, which says so of each.
+fn stop_of(stops: bool, stops_async: bool) -> Option<ErrorKind>
+    ensures { result ≡ stop_of stops stops_async }
+{
+    if stops {
+        return Some(ErrorKind::StopIteration);
+    }
+    if stops_async {
+        return Some(ErrorKind::StopAsyncIteration);
+    }
+    None
 }
 
 /// Whether an exception is of a built-in class.

@@ -46,16 +46,13 @@ impl CoroRefusal {
     }
 }
 
-/// What a StopIteration becomes that comes out of one of this kind (PEP 479).
-pub fn converted(alloc: Global, kind: CoroKind) -> Result<Fault, NoMemory>
-    ensures { IfOk result (λ fault. fault ≡ stopping (word_of kind)) }
+/// What a stop of this class becomes that comes out of one of this kind (PEP 479, PEP 525).
+pub fn converted(alloc: Global, kind: CoroKind, stop: ErrorKind) -> Result<Fault, NoMemory>
+    ensures { IfOk result (λ fault. fault ≡ stopping (word_of kind) stop) }
 {
-    word_and(
-        alloc,
-        kind,
-        ErrorKind::RuntimeError,
-        b" raised StopIteration",
-    )
+    let mut fault = word_and(alloc, kind, ErrorKind::RuntimeError, b" raised ")?;
+    push_bytes(&mut fault.text, stop.name())?;
+    Ok(fault)
 }
 
 /// What is raised where one of this kind yields while it is closed.

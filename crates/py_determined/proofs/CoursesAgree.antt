@@ -26,7 +26,7 @@ use Rattle.py_coro.specs.declared.coro.CoroAnswer.TheVariants as answer
 use Rattle.py_coro.specs.declared.refusal.CoroRefusal.TheVariants as refused
 use Rattle.py_coro.specs.Modes.{Mode, Fresh, Suspended, Running, Closed, Row, Stops as RowStops, Raises as RowRaises, Done as RowDone, Starts as RowStarts, Sends as RowSends, Throws as RowThrows, Exits as RowExits, Refuses as RowRefuses, most_depth, sent, thrown, closed}
 use Rattle.py_coro.specs.Leaving.{Finishes}
-use Rattle.py_coro.specs.Refusals.{refused as fault_of, too_deep, word_of}
+use Rattle.py_coro.specs.Refusals.{refused as fault_of, stopping, too_deep, word_of}
 use Rattle.py_answers.specs.Answers.{This, Called, BuiltIn, Reply, Is, Fails, Passes, CallsAs, Calls, LacksAs, Lacks, RefusesEntry, CallsExit, Replies}
 use Rattle.py_run.specs.Run.{Signature}
 use Rattle.py_run.specs.Generators.{Generator, generator_at}
@@ -203,7 +203,7 @@ module _ (S : Relation) where
   left_agree word (answer.Stop v) (answer.Stop w) s = s
   left_agree word answer.Closed answer.Closed s = tt
   left_agree word (answer.Raise e) (answer.Raise f) s = s
-  left_agree word (answer.Convert e) (answer.Convert f) s = (refl, refl, s)
+  left_agree word (answer.Convert e stop) (answer.Convert f stop') (s, same) = (refl, ap (λ x. (stopping word x).text) same, s)
   left_agree word answer.Ignored answer.Ignored s = (refl, refl)
   left_agree word _ _ s = absurd s
 

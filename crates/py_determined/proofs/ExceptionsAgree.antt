@@ -1,5 +1,5 @@
 -- The same comes of what is raised and of what is thrown, and generators that were left alike answer the same, where objects are alike.
-use Rattle.std.proofs.Common.{◌≡◌, Bool, true, false, ◌||◌, Option, Some, None, Ok, Err, List, Result, refl, sym, ap, ◌∙◌, inl, inr, IsErrAnd}
+use Rattle.std.proofs.Common.{◌≡◌, Bool, true, false, Option, Some, None, Ok, Err, List, Result, refl, sym, ap, ◌∙◌, inl, inr, IsErrAnd}
 use Rattle.py_objects.specs.declared.refs.PyBaseExceptionRef.{PyBaseExceptionRef}
 use Rattle.py_objects.specs.declared.refs.PyTypeRef.{PyTypeRef}
 use Rattle.py_objects.specs.declared.payload.Payload.{Payload}
@@ -23,7 +23,7 @@ use Rattle.py_exceptions.specs.Normalizing.{NormalizesWith, Normalizes}
 use Rattle.py_coro.specs.declared.coro.CoroEnd.{CoroEnd}
 use Rattle.py_coro.specs.declared.coro.CoroEnd.TheVariants as left
 use Rattle.py_coro.specs.declared.coro.CoroAnswer.{CoroAnswer}
-use Rattle.py_coro.specs.Leaving.{IsConverted, IsOfClass, yielded, value_if, returned, raised, Finishes}
+use Rattle.py_coro.specs.Leaving.{stop_of, IsConverted, IsOfClass, yielded, value_if, returned, raised, Finishes}
 use Rattle.py_agreement.specs.Agreement.{Relation, SameException, SameMaybe, SameAll}
 use Rattle.py_determined.specs.Alike.{Alike, AreAlike}
 use Rattle.py_determined.specs.Sameness.{SameCtor, SameInstance, SameLeft, SameCoroAnswer}
@@ -139,14 +139,16 @@ module _ (S : Relation) (objects objects' : List Payload) (alike : AreAlike S ob
       derived_agree S objects objects' alike (class_object x.class) (class_object y.class) (name_of kind) b b'
       (alike.payloads (as_object e) (as_object f) (payload.Exception x) (payload.Exception y) same has has').class is is'
 
-  -- they are converted on both sides out of one kind, or on none
-  converted_agree : (kind : CoroKind) (e f : PyBaseExceptionRef) (b b' : Bool) → SameException S e f → IsConverted objects kind e b → IsConverted objects' kind f b' → b ≡ b'
-  converted_agree coro.Generator e f b b' same is is' = of_class_agree e f StopIteration b b' same is is'
-  converted_agree coro.Coroutine e f b b' same is is' = of_class_agree e f StopIteration b b' same is is'
-  converted_agree coro.AsyncGenerator e f b b' same (stops, stops_async, is_stop, is_async, is) (stops', stops_async', is_stop', is_async', is') =
+  -- they are converted as one class on both sides out of one kind, or on none
+  converted_agree : (kind : CoroKind) (e f : PyBaseExceptionRef) (stop stop' : Option ErrorKind) → SameException S e f → IsConverted objects kind e stop → IsConverted objects' kind f stop' → stop ≡ stop'
+  converted_agree coro.Generator e f stop stop' same (stops, is_stop, is) (stops', is_stop', is') =
+      is ∙ (ap (λ (x : Bool). stop_of x false) (of_class_agree e f StopIteration stops stops' same is_stop is_stop') ∙ sym is')
+  converted_agree coro.Coroutine e f stop stop' same (stops, is_stop, is) (stops', is_stop', is') =
+      is ∙ (ap (λ (x : Bool). stop_of x false) (of_class_agree e f StopIteration stops stops' same is_stop is_stop') ∙ sym is')
+  converted_agree coro.AsyncGenerator e f stop stop' same (stops, stops_async, is_stop, is_async, is) (stops', stops_async', is_stop', is_async', is') =
       is
-      ∙ (ap (λ (x : Bool). x || stops_async) (of_class_agree e f StopIteration stops stops' same is_stop is_stop')
-      ∙ (ap (λ (x : Bool). stops' || x) (of_class_agree e f StopAsyncIteration stops_async stops_async' same is_async is_async') ∙ sym is'))
+      ∙ (ap (λ (x : Bool). stop_of x stops_async) (of_class_agree e f StopIteration stops stops' same is_stop is_stop')
+      ∙ (ap (λ (x : Bool). stop_of stops' x) (of_class_agree e f StopAsyncIteration stops_async stops_async' same is_async is_async') ∙ sym is'))
 
   yielded_agree : (closing : Bool) (v w : Obj) → S v w → SameCoroAnswer S (yielded closing v) (yielded closing w)
   yielded_agree true v w same = tt
@@ -160,12 +162,12 @@ module _ (S : Relation) (objects objects' : List Payload) (alike : AreAlike S ob
   returned_agree true v w p q e same = tt
   returned_agree false v w p q e same = rw e (value_agree (is_none q) v w same)
 
-  raised_agree : (closing converted exits : Bool) (e f : PyBaseExceptionRef) → SameException S e f → SameCoroAnswer S (raised closing e converted exits) (raised closing f converted exits)
-  raised_agree true true exits e f same = same
-  raised_agree true false true e f same = tt
-  raised_agree true false false e f same = same
-  raised_agree false true exits e f same = same
-  raised_agree false false exits e f same = same
+  raised_agree : (closing : Bool) (stop : Option ErrorKind) (exits : Bool) (e f : PyBaseExceptionRef) → SameException S e f → SameCoroAnswer S (raised closing e stop exits) (raised closing f stop exits)
+  raised_agree true (Some stop) exits e f same = (same, refl)
+  raised_agree true None true e f same = tt
+  raised_agree true None false e f same = same
+  raised_agree false (Some stop) exits e f same = (same, refl)
+  raised_agree false None exits e f same = same
 
   -- generators of one kind that were left alike answer the same
   pub finishes_agree : (kind : CoroKind) (closing : Bool) (how how' : CoroEnd) (a a' : CoroAnswer) → SameLeft S how how' → Finishes objects kind closing how a → Finishes objects' kind closing how' a'
@@ -173,7 +175,7 @@ module _ (S : Relation) (objects objects' : List Payload) (alike : AreAlike S ob
   finishes_agree kind closing (left.Yield v) (left.Yield w) a a' same is is' = rw (is, is') (yielded_agree closing v w same)
   finishes_agree kind closing (left.Return v) (left.Return w) a a' same (p, has, is) (q, has', is') =
       rw (is, is') (returned_agree closing v w p q (ap (λ x. x.none) (seen_same S objects objects' alike p q (alike.payloads v w p q same has has'))) same)
-  finishes_agree kind closing (left.Raise e) (left.Raise f) a a' same (converted, exits, is_stop, is_exit, is) (converted', exits', is_stop', is_exit', is') =
-      rw (is, is', converted_agree kind e f converted converted' same is_stop is_stop', of_class_agree e f GeneratorExit exits exits' same is_exit is_exit')
-      (raised_agree closing converted' exits' e f same)
+  finishes_agree kind closing (left.Raise e) (left.Raise f) a a' same (stop, exits, is_stop, is_exit, is) (stop', exits', is_stop', is_exit', is') =
+      rw (is, is', converted_agree kind e f stop stop' same is_stop is_stop', of_class_agree e f GeneratorExit exits exits' same is_exit is_exit')
+      (raised_agree closing stop' exits' e f same)
   finishes_agree kind closing _ _ a a' same is is' = absurd same

@@ -72,7 +72,7 @@ SameCoroAnswer S (answer.Value v) (answer.Value w) = S v w
 SameCoroAnswer S (answer.Stop v) (answer.Stop w) = SameMaybe S v w
 SameCoroAnswer S answer.Closed answer.Closed = Unit {0}
 SameCoroAnswer S (answer.Raise e) (answer.Raise f) = SameException S e f
-SameCoroAnswer S (answer.Convert e) (answer.Convert f) = SameException S e f
+SameCoroAnswer S (answer.Convert e stop) (answer.Convert f stop') = SameException S e f × (stop ≡ stop')
 SameCoroAnswer S answer.Ignored answer.Ignored = Unit {0}
 SameCoroAnswer S _ _ = ⊥
 

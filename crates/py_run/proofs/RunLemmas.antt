@@ -96,11 +96,11 @@ of_class_grows : (objects objects' : List Payload) (e : PyBaseExceptionRef) (kin
 of_class_grows objects objects' e kind b grows (body, has, derived) =
     (body, payload_grown objects objects' _ _ (plainly_grows objects objects' grows) has, derived_grows objects objects' (class_object body.class) (name_of kind) b grows derived)
 
--- and whether one is converted
-converted_grows : (objects objects' : List Payload) (kind : CoroKind) (e : PyBaseExceptionRef) (b : Bool) → GrowsPlainly objects objects' → IsConverted objects kind e b → IsConverted objects' kind e b
-converted_grows objects objects' coro.Generator e b grows is = of_class_grows objects objects' e StopIteration b grows is
-converted_grows objects objects' coro.Coroutine e b grows is = of_class_grows objects objects' e StopIteration b grows is
-converted_grows objects objects' coro.AsyncGenerator e b grows (stops, stops_async, a_stop, an_async, is) =
+-- and as which one it is converted
+converted_grows : (objects objects' : List Payload) (kind : CoroKind) (e : PyBaseExceptionRef) (stop : Option ErrorKind) → GrowsPlainly objects objects' → IsConverted objects kind e stop → IsConverted objects' kind e stop
+converted_grows objects objects' coro.Generator e stop grows (stops, a_stop, is) = (stops, of_class_grows objects objects' e StopIteration stops grows a_stop, is)
+converted_grows objects objects' coro.Coroutine e stop grows (stops, a_stop, is) = (stops, of_class_grows objects objects' e StopIteration stops grows a_stop, is)
+converted_grows objects objects' coro.AsyncGenerator e stop grows (stops, stops_async, a_stop, an_async, is) =
     (stops, stops_async, of_class_grows objects objects' e StopIteration stops grows a_stop, of_class_grows objects objects' e StopAsyncIteration stops_async grows an_async, is)
 
 -- so does what a generator answers that was left
@@ -108,8 +108,8 @@ finishes_grow : (objects objects' : List Payload) (kind : CoroKind) (closing : B
     → Finishes objects' kind closing how a
 finishes_grow objects objects' kind closing (left.Yield v) a grows is = is
 finishes_grow objects objects' kind closing (left.Return v) a grows (p, has, is) = (p, payload_grown objects objects' v p (plainly_grows objects objects' grows) has, is)
-finishes_grow objects objects' kind closing (left.Raise e) a grows (converted, exits, a_stop, an_exit, is) =
-    (converted, exits, converted_grows objects objects' kind e converted grows a_stop, of_class_grows objects objects' e GeneratorExit exits grows an_exit, is)
+finishes_grow objects objects' kind closing (left.Raise e) a grows (stop, exits, a_stop, an_exit, is) =
+    (stop, exits, converted_grows objects objects' kind e stop grows a_stop, of_class_grows objects objects' e GeneratorExit exits grows an_exit, is)
 
 -- and what who entered it is answered
 leaves_grow : (objects objects' : List Payload) (g : Obj) (closing : Bool) (how : CoroEnd) (reply : Reply)

@@ -213,7 +213,7 @@ reply_by word (answer.Value v) = Yields v
 reply_by word (answer.Stop v) = Stops v
 reply_by word answer.Closed = Closes
 reply_by word (answer.Raise e) = Passes (This e)
-reply_by word (answer.Convert e) = FailsFrom RuntimeError (stopping word).text e
+reply_by word (answer.Convert e stop) = FailsFrom RuntimeError (stopping word stop).text e
 reply_by word answer.Ignored = Fails RuntimeError (ignoring word).text
 
 module _ (objects : List Payload) where

@@ -1,6 +1,6 @@
 -- What comes of an activation that was left, or that was made.
 use Rattle.std.proofs.Common.{◌≡◌, ◌<◌, ◌++◌, ℕ, List, [], ◌∷◌, Bool, true, false, Some, inl, inr, refl, sym, ap, subst, ◌∙◌, length, arith}
-use Rattle.std.specs.Prelude.{Option, None}
+use Rattle.std.specs.Prelude.{Option, Some, None}
 use Rattle.std.proofs.lemmas.Bool.Decides.{eqb_tells}
 use Rattle.py_objects.specs.declared.refs.PyBaseExceptionRef.{PyBaseExceptionRef}
 use Rattle.py_objects.specs.declared.payload.Payload.{Payload}
@@ -72,11 +72,11 @@ finishes_kept objects kind true (left.Raise e) a s (converted, exits, is_convert
     closed true exits = refl
     closed false true = refl
     closed false false = refl
-finishes_kept objects kind false (left.Raise e) a s (converted, exits, is_converted, of_exit, is) = ap (λ x. kept_by x s) is ∙ raises converted
+finishes_kept objects kind false (left.Raise e) a s (stop, exits, is_converted, of_exit, is) = ap (λ x. kept_by x s) is ∙ raises stop
   where
-    raises : (converted : Bool) → kept_by (raised false e converted exits) s ≡ None
-    raises true = refl
-    raises false = refl
+    raises : (stop : Option ErrorKind) → kept_by (raised false e stop exits) s ≡ None
+    raises (Some x) = refl
+    raises None = refl
 
 -- what an answer names is there, and what it raises is an exception
 abbrev pub AnswersThere : List Payload → CoroAnswer → Type 0
@@ -84,7 +84,7 @@ AnswersThere objects (answer.Value v) = v.number < length objects
 AnswersThere objects (answer.Stop v) = AllBelow (length objects) (numbers_if v)
 AnswersThere objects answer.Closed = Unit {0}
 AnswersThere objects (answer.Raise e) = (e.number < length objects) × HasKind objects (as_object e) kind.Exc
-AnswersThere objects (answer.Convert e) = IsException objects (as_object e)
+AnswersThere objects (answer.Convert e stop) = IsException objects (as_object e)
 AnswersThere objects answer.Ignored = Unit {0}
 
 pub finishes_there : (objects : List Payload) (kind : CoroKind) (closing : Bool) (how : CoroEnd) (a : CoroAnswer) → IsEnding objects how → Finishes objects kind closing how a → AnswersThere objects a
@@ -96,14 +96,14 @@ finishes_there objects kind false (left.Return v) a x (p, has, is) = subst (Answ
     value : (b : Bool) → AllBelow (length objects) (numbers_if (value_if v b))
     value true = tt
     value false = (x, tt)
-finishes_there objects kind closing (left.Raise e) a x (converted, exits, is_converted, of_exit, is) = subst (AnswersThere objects) (sym is) (raises closing converted exits)
+finishes_there objects kind closing (left.Raise e) a x (stop, exits, is_converted, of_exit, is) = subst (AnswersThere objects) (sym is) (raises closing stop exits)
   where
-    raises : (closing converted exits : Bool) → AnswersThere objects (raised closing e converted exits)
-    raises true true exits = x.1
-    raises false true exits = x.1
-    raises true false true = tt
-    raises true false false = x
-    raises false false exits = x
+    raises : (closing : Bool) (stop : Option ErrorKind) (exits : Bool) → AnswersThere objects (raised closing e stop exits)
+    raises true (Some y) exits = x.1
+    raises false (Some y) exits = x.1
+    raises true None true = tt
+    raises true None false = x
+    raises false None exits = x
 
 -- ---- what a generator answers
 
@@ -130,7 +130,7 @@ IsAtOnce (answer.Value v) w = w ≡ made.Yields v
 IsAtOnce (answer.Stop v) w = w ≡ made.Stops v
 IsAtOnce answer.Closed w = w ≡ made.Closes
 IsAtOnce (answer.Raise e) w = w ≡ made.Passed e
-IsAtOnce (answer.Convert e) w = ⊥
+IsAtOnce (answer.Convert e stop) w = ⊥
 IsAtOnce answer.Ignored w = ⊥
 
 replied_at_once : (objects : List Payload) (word : List ℕ) (a : CoroAnswer) (w : MadeReply) → AnswersThere objects a → IsAtOnce a w → IsReplied objects objects (reply_by word a) w
@@ -138,7 +138,7 @@ replied_at_once objects word (answer.Value v) w there is = subst (IsReplied obje
 replied_at_once objects word (answer.Stop v) w there is = subst (IsReplied objects objects (reply_by word (answer.Stop v))) (sym is) (refl, there)
 replied_at_once objects word answer.Closed w there is = subst (IsReplied objects objects (reply_by word answer.Closed)) (sym is) refl
 replied_at_once objects word (answer.Raise e) w there is = subst (IsReplied objects objects (reply_by word (answer.Raise e))) (sym is) (passes_given objects e there)
-replied_at_once objects word (answer.Convert e) w there is = absurd is
+replied_at_once objects word (answer.Convert e stop) w there is = absurd is
 replied_at_once objects word answer.Ignored w there is = absurd is
 
 module _ (m : Core) (g : Obj) (s : Suspended) (how : CoroEnd) (runs : IsRunningNow m.generators g) (generator : IsGenerator m.store.made g) (ending : IsEnding m.store.made how) (a : CoroAnswer)
@@ -156,12 +156,12 @@ module _ (m : Core) (g : Obj) (s : Suspended) (how : CoroEnd) (runs : IsRunningN
   -- a new exception, of its kind
   module _ (kind : CoroKind) (kinds : (body : CoroBody) → HasPayload m.store.made g (payload.Generator body) → kind ≡ body.kind) (store : Kept) (grown : IsGrown m.store store)
       (classes : HaveClasses m.zoo m.store.made) (e : PyBaseExceptionRef) (fault : Fault) where
-    pub settled_converted : (cause : PyBaseExceptionRef) → a ≡ answer.Convert cause → fault ≡ stopping (word_of kind) → IsNewExceptionFrom m.store.made store.made (class_of m.zoo fault.kind) fault.text cause e
+    pub settled_converted : (cause : PyBaseExceptionRef) (stop : ErrorKind) → a ≡ answer.Convert cause stop → fault ≡ stopping (word_of kind) stop → IsNewExceptionFrom m.store.made store.made (class_of m.zoo fault.kind) fault.text cause e
         → SettledOne m g s how (made.Fresh e) (record m { store = store; generators = list })
-    settled_converted cause is text one =
-        let made_so : IsNewExceptionFrom m.store.made store.made (class_of m.zoo RuntimeError) (stopping (word_of kind)).text cause e =
+    settled_converted cause stop is text one =
+        let made_so : IsNewExceptionFrom m.store.made store.made (class_of m.zoo RuntimeError) (stopping (word_of kind) stop).text cause e =
         subst (λ (f : Fault). IsNewExceptionFrom m.store.made store.made (class_of m.zoo f.kind) f.text cause e) text one in
-        let replied : RepliesRaise m.store.made store.made (reply_by (word_of kind) (answer.Convert cause)) e = raise_from_given m.store.made store.made m.zoo RuntimeError _ cause e classes grown.objects made_so in
+        let replied : RepliesRaise m.store.made store.made (reply_by (word_of kind) (answer.Convert cause stop)) e = raise_from_given m.store.made store.made m.zoo RuntimeError _ cause e classes grown.objects made_so in
         settled_by store (made.Fresh e) grown
         (subst (λ (k : CoroKind). RepliesRaise m.store.made store.made (reply_by (word_of k) a) e) (kinds generator.0 generator.1)
         (subst (λ (x : CoroAnswer). RepliesRaise m.store.made store.made (reply_by (word_of kind) x) e) (sym is) replied))

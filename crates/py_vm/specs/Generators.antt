@@ -66,7 +66,7 @@ kept_by (coro_answer.Value v) s = Some s
 kept_by (coro_answer.Stop v) s = None
 kept_by coro_answer.Closed s = None
 kept_by (coro_answer.Raise e) s = None
-kept_by (coro_answer.Convert e) s = None
+kept_by (coro_answer.Convert e stop) s = None
 kept_by coro_answer.Ignored s = None
 
 -- one that was entered, and left like this, by this activation

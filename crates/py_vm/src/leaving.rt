@@ -101,8 +101,8 @@ impl Core {
             CoroAnswer::Stop(value) => Ok(Reply::Stops(value)),
             CoroAnswer::Closed => Ok(Reply::Closes),
             CoroAnswer::Raise(exception) => Ok(Reply::Passed(exception)),
-            CoroAnswer::Convert(cause) => {
-                let fault = converted(self.alloc, kind)?;
+            CoroAnswer::Convert(cause, stop) => {
+                let fault = converted(self.alloc, kind, stop)?;
                 let exception = new_exception_from(
                     self.alloc,
                     &mut self.store,

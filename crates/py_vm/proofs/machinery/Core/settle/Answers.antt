@@ -25,7 +25,7 @@ pub returns-in_ok-exception-in-Convert-clause-ok : goal.returns-in_ok-exception-
 returns-in_ok-exception-in-Convert-clause-ok c =
     settled_converted c.args.self.now c.args.object c.args.left c.args.how c.requires.runs c.requires.generator c.requires.ending c.finish.result c.finish.ensures.answer c.finish.new.self c.finish.ensures.left
     c.generator_kind-kind.result c.generator_kind-kind.ensures c.new_exception_from.new.store c.in_ok-exception-in-Convert.ensures.grows c.requires.stored.classes c.in_ok-exception-in-Convert.exception c.in_ok-fault-in-Convert.fault
-    c.in-Convert.cause c.in-Convert.is c.in_ok-fault-in-Convert.ensures c.in_ok-exception-in-Convert.ensures.made
+    c.in-Convert.cause c.in-Convert.stop c.in-Convert.is c.in_ok-fault-in-Convert.ensures c.in_ok-exception-in-Convert.ensures.made
 
 pub returns-in_ok-exception-in-Ignored-clause-ok : goal.returns-in_ok-exception-in-Ignored-clause-ok
 returns-in_ok-exception-in-Ignored-clause-ok c =
