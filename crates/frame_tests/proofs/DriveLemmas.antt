@@ -92,7 +92,7 @@ pub driven_on : (old new : List Payload) (names : List (List ℕ)) (code : Annot
     → ClassesAreThere new → IsRunning new names code g → top_of slots ≡ g.state.slot → IsDriven new names code slots g
 driven_on old new names code before slots f g driven grows classes running left = record {
   running = running;
-  fit = classes;
+  classes = classes;
   grown = (driven.grown.0 ++ grows.more, grows.is ∙ ap (λ os. os ++ grows.more) driven.grown.1 ∙ append_assoc first_objects driven.grown.0 grows.more);
   slot_fits = record { below = subst (λ (s : Option PyBaseExceptionRef). AllBelow (length new) (number_if s)) (sym left) running.below.in_slot; left = inr left };
 }
@@ -114,7 +114,7 @@ sound rows names code of typed some = record { typed = typed; named = record { l
 pub driven_first : (objects : List Payload) (names : List (List ℕ)) (code : Annotated) (f : Framed) → objects ≡ first_objects → IsRunning objects names code f → f.state.wants ≡ expect.Start → IsDriven objects names code (Some (record { number = 6 }) ∷ []) f
 driven_first objects names code f is running fresh = record {
   running = running;
-  fit = subst ClassesAreThere (sym is) first_classes;
+  classes = subst ClassesAreThere (sym is) first_classes;
   grown = ([], is);
   slot_fits = record { below = rw is (omega arith, tt); left = inl fresh };
 }

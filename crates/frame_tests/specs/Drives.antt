@@ -15,7 +15,7 @@ use Rattle.frame_tests.specs.declared.tables.Case.{Case}
 -- a generator's frame that runs or waits among the first objects and more, while these slots are as its last step left them
 pub record IsDriven (objects : List Payload) (names : List (List ℕ)) (code : Annotated) (slots : Slots) (f : Framed) : Type 0 where
   pub running : IsRunning objects names code f
-  pub fit : ClassesAreThere objects
+  pub classes : ClassesAreThere objects
   pub grown : Grows first_objects objects
   pub slot_fits : SlotFits objects f.state (top_of slots)
 

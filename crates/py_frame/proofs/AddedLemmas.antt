@@ -13,7 +13,7 @@ use Rattle.py_objects.proofs.GrowthLemmas.{below_more, length_grown, made_grown,
 use Rattle.py_frame.specs.Added.{AddsConstants, ClassesAreThere}
 
 -- what is no exception and no traceback, declares nothing, and names nothing
-pub record IsPlain (p : Payload) : Type 1 where
+pub record IsBare (p : Payload) : Type 1 where
   pub declares_none : declares p ≡ None
   pub names_none : payload_numbers p ≡ []
   pub made : (objects : List Payload) → IsMade objects p
@@ -21,22 +21,22 @@ pub record IsPlain (p : Payload) : Type 1 where
   pub no_traceback : (t : TracebackBody) → p ≡ payload.Traceback t → ⊥
 
 -- what a constant is
-pub constant_plain : (l : Literal) (p : Payload) → payload_of l ≡ Some p → IsPlain p
-constant_plain NoneLiteral p is =
-    subst IsPlain (let same : payload.None ≡ p = cc in same) (record { declares_none = refl; names_none = refl; made = λ objects. tt; no_exception = λ e same. cc; no_traceback = λ t same. cc })
-constant_plain (BoolLiteral b) p is =
-    subst IsPlain (let same : payload.Bool b ≡ p = cc in same) (record { declares_none = refl; names_none = refl; made = λ objects. tt; no_exception = λ e same. cc; no_traceback = λ t same. cc })
-constant_plain (IntLiteral n) p is =
-    subst IsPlain (let same : payload.Int n ≡ p = cc in same) (record { declares_none = refl; names_none = refl; made = λ objects. tt; no_exception = λ e same. cc; no_traceback = λ t same. cc })
-constant_plain (StrLiteral s) p is =
-    subst IsPlain (let same : payload.Str s ≡ p = cc in same) (record { declares_none = refl; names_none = refl; made = λ objects. tt; no_exception = λ e same. cc; no_traceback = λ t same. cc })
-constant_plain (TupleLiteral shape items) p is = cc
-constant_plain (CodeLiteral c) p is = cc
-constant_plain (BuiltinLiteral f) p is =
-    subst IsPlain (let same : payload.Builtin f ≡ p = cc in same) (record { declares_none = refl; names_none = refl; made = λ objects. tt; no_exception = λ e same. cc; no_traceback = λ t same. cc })
+pub constant_bare : (l : Literal) (p : Payload) → payload_of l ≡ Some p → IsBare p
+constant_bare NoneLiteral p is =
+    subst IsBare (let same : payload.None ≡ p = cc in same) (record { declares_none = refl; names_none = refl; made = λ objects. tt; no_exception = λ e same. cc; no_traceback = λ t same. cc })
+constant_bare (BoolLiteral b) p is =
+    subst IsBare (let same : payload.Bool b ≡ p = cc in same) (record { declares_none = refl; names_none = refl; made = λ objects. tt; no_exception = λ e same. cc; no_traceback = λ t same. cc })
+constant_bare (IntLiteral n) p is =
+    subst IsBare (let same : payload.Int n ≡ p = cc in same) (record { declares_none = refl; names_none = refl; made = λ objects. tt; no_exception = λ e same. cc; no_traceback = λ t same. cc })
+constant_bare (StrLiteral s) p is =
+    subst IsBare (let same : payload.Str s ≡ p = cc in same) (record { declares_none = refl; names_none = refl; made = λ objects. tt; no_exception = λ e same. cc; no_traceback = λ t same. cc })
+constant_bare (TupleLiteral shape items) p is = cc
+constant_bare (CodeLiteral c) p is = cc
+constant_bare (BuiltinLiteral f) p is =
+    subst IsBare (let same : payload.Builtin f ≡ p = cc in same) (record { declares_none = refl; names_none = refl; made = λ objects. tt; no_exception = λ e same. cc; no_traceback = λ t same. cc })
 
 pub constant_below : (n : ℕ) (l : Literal) (p : Payload) → payload_of l ≡ Some p → AllBelow n (payload_numbers p)
-constant_below n l p is = subst (AllBelow n) (sym (constant_plain l p is).names_none) tt
+constant_below n l p is = subst (AllBelow n) (sym (constant_bare l p is).names_none) tt
 
 pub adds_none : (objects : List Payload) → AddsConstants objects objects
 adds_none objects = record { more = []; is = sym (append-nil objects); constants = λ i p here. cc }
@@ -56,43 +56,43 @@ adds_grow old new adds = (adds.more, adds.is)
 
 module _ (old new : List Payload) (adds : AddsConstants old new) where
   -- an entry was there, or is what a constant is
-  old_or_plain : (i : ℕ) (p : Payload) → slice_get new i ≡ Some p → (slice_get old i ≡ Some p) ⊎ IsPlain p
-  old_or_plain i p here = elim (slice_get_split old adds.more i p (subst (λ (os : List Payload). slice_get os i ≡ Some p) adds.is here)) [
+  old_or_bare : (i : ℕ) (p : Payload) → slice_get new i ≡ Some p → (slice_get old i ≡ Some p) ⊎ IsBare p
+  old_or_bare i p here = elim (slice_get_split old adds.more i p (subst (λ (os : List Payload). slice_get os i ≡ Some p) adds.is here)) [
     | inl front ↦ inl front
-    | inr back ↦ let (l, is) = adds.constants _ p back in inr (constant_plain l p is)
+    | inr back ↦ let (l, is) = adds.constants _ p back in inr (constant_bare l p is)
   ]
 
   pub adds_plainly : GrowsPlainly old new
   adds_plainly = record {
     more = adds.more;
     is = adds.is;
-    plain = λ i p here. let (l, is) = adds.constants i p here in (constant_plain l p is).declares_none;
-    fit = λ fit i p here. fits fit i p (old_or_plain i p here);
+    plain = λ i p here. let (l, is) = adds.constants i p here in (constant_bare l p is).declares_none;
+    fit = λ fit i p here. fits fit i p (old_or_bare i p here);
   }
     where
-      fits : AllFit old → (i : ℕ) (p : Payload) → (slice_get old i ≡ Some p) ⊎ IsPlain p → AllBelow (length new) (payload_numbers p) × IsMade new p
+      fits : AllFit old → (i : ℕ) (p : Payload) → (slice_get old i ≡ Some p) ⊎ IsBare p → AllBelow (length new) (payload_numbers p) × IsMade new p
       fits fit i p (inl front) = let (below, made) = fit i p front in (below_more _ _ _ (length_grown old new (adds_grow old new adds)) below, made_grown old new p (adds_grow old new adds) made)
-      fits fit i p (inr plain) = (subst (AllBelow (length new)) (sym plain.names_none) tt, plain.made new)
+      fits fit i p (inr bare) = (subst (AllBelow (length new)) (sym bare.names_none) tt, bare.made new)
 
   -- exceptions and tracebacks were there
   pub exception_before : (v : Obj) (e : ExceptionBody) → HasPayload new v (payload.Exception e) → HasPayload old v (payload.Exception e)
-  exception_before v e has = by (old_or_plain v.number (payload.Exception e) has)
+  exception_before v e has = by (old_or_bare v.number (payload.Exception e) has)
     where
-      by : (slice_get old v.number ≡ Some (payload.Exception e)) ⊎ IsPlain (payload.Exception e) → HasPayload old v (payload.Exception e)
+      by : (slice_get old v.number ≡ Some (payload.Exception e)) ⊎ IsBare (payload.Exception e) → HasPayload old v (payload.Exception e)
       by (inl front) = front
-      by (inr plain) = absurd (plain.no_exception e refl)
+      by (inr bare) = absurd (bare.no_exception e refl)
 
   pub traceback_before : (v : Obj) → IsTraceback new v → IsTraceback old v
-  traceback_before v (t, has) = by (old_or_plain v.number (payload.Traceback t) has)
+  traceback_before v (t, has) = by (old_or_bare v.number (payload.Traceback t) has)
     where
-      by : (slice_get old v.number ≡ Some (payload.Traceback t)) ⊎ IsPlain (payload.Traceback t) → IsTraceback old v
+      by : (slice_get old v.number ≡ Some (payload.Traceback t)) ⊎ IsBare (payload.Traceback t) → IsTraceback old v
       by (inl front) = (t, front)
-      by (inr plain) = absurd (plain.no_traceback t refl)
+      by (inr bare) = absurd (bare.no_traceback t refl)
 
   -- so classes of exceptions stay there
   pub classes_stay : ClassesAreThere old → ClassesAreThere new
   classes_stay there v e has = let below : e.class.number < length old = there v e (exception_before v e has) in omega (arith, below, length_grown old new (adds_grow old new adds))
 
 -- where each entry fits, they are there
-pub classes_fit : (objects : List Payload) → AllFit objects → ClassesAreThere objects
-classes_fit objects fit v e has = (fit v.number (payload.Exception e) has).0.0
+pub fit_classes : (objects : List Payload) → AllFit objects → ClassesAreThere objects
+fit_classes objects fit v e has = (fit v.number (payload.Exception e) has).0.0

@@ -46,7 +46,7 @@ use Rattle.py_frame.specs.declared.input.FrameStep.TheVariants as frame_step
 use Rattle.py_frame.specs.declared.unit_step.UnitStep.{UnitStep}
 use Rattle.py_frame.specs.declared.unit_step.UnitStep.TheVariants as unit
 use Rattle.py_frame.specs.Added.{AddsConstants}
-use Rattle.py_frame.specs.Exits.{HasTraceback, IsTold, TellsTraceback, TellsIf, AsksWith, ToldAs, DidAs, DidAt}
+use Rattle.py_frame.specs.Exits.{HasTraceback, IsTold, TellsTraceback, TellsIf, AskTellsExit, TellsExit, UnitTellsExit, UnitAtTellsExit}
 use Rattle.py_frame.specs.Frames.{Framed, setting_of}
 use Rattle.py_frame.specs.Steps.{told}
 use Rattle.py_frame.specs.UnitSteps.{done, tells}
@@ -58,18 +58,18 @@ use Rattle.py_frame.proofs.RunningLemmas.{IsSilent}
 -- a step of the rows that asks an exit asks it so
 abbrev StepAsks : Kept → Kept → Step → Type 0
 StepAsks before behind (Goes t) = Unit {0}
-StepAsks before behind (Tells (Asks at r own) t) = AsksWith before behind r
+StepAsks before behind (Tells (Asks at r own) t) = AskTellsExit before behind r
 StepAsks before behind (Tells x t) = Unit {0}
 StepAsks before behind Stuck = Unit {0}
 
 module _ (before behind : Kept) where
   -- what is told of no exception, and of one
   asked_with : (raised : Option PyBaseExceptionRef) (exit class v traceback : Obj) → IsExit behind.made raised class v traceback → TellsIf before behind raised traceback
-      → AsksWith before behind (request.Exit exit class v traceback)
+      → AskTellsExit before behind (request.Exit exit class v traceback)
   asked_with None exit class v traceback (first, is_none, last) tells e has = let same : Some payload.None ≡ Some (payload.Exception e) = sym is_none ∙ has in cc
   asked_with (Some r) exit class v traceback (same, is, below, kind) tells e has = subst (λ (w : Obj). TellsTraceback before behind w traceback) (sym same) tells
 
-  module _ (s : State) (class v traceback : Obj) (with : (exit : Obj) → AsksWith before behind (request.Exit exit class v traceback)) where
+  module _ (s : State) (class v traceback : Obj) (with : (exit : Obj) → AskTellsExit before behind (request.Exit exit class v traceback)) where
     top_asks : (stack : List Obj) → StepAsks before behind (takes_off stack (λ x rest. asks (request.Exit x class v traceback) s))
     top_asks [] = tt
     top_asks (x ∷ rest) = with x
@@ -89,7 +89,7 @@ module _ (before behind : Kept) where
     blocks_ask [] = tt
     blocks_ask (b ∷ outer) = type_asks b.typ b.level
 
-  did_as : (at : ℕ) (u : UnitStep) (t : State) → StepAsks before behind (done at u t) → DidAs before behind u
+  did_as : (at : ℕ) (u : UnitStep) (t : State) → StepAsks before behind (done at u t) → UnitTellsExit before behind u
   did_as at unit.Goes t all = tt
   did_as at (unit.Tells (frame_step.Ask r own)) t all = all
   did_as at (unit.Tells frame_step.Round) t all = tt
@@ -100,7 +100,7 @@ module _ (before behind : Kept) where
 
   -- what was done by the row of the question
   pub exit_asked : (raised : Option PyBaseExceptionRef) (class v traceback : Obj) (s t : State) (at : ℕ) (u : UnitStep) → IsExit behind.made raised class v traceback → TellsIf before behind raised traceback
-      → asks_exit s class v traceback ≡ done at u t → DidAs before behind u
+      → asks_exit s class v traceback ≡ done at u t → UnitTellsExit before behind u
   exit_asked raised class v traceback s t at u is tells row =
       did_as at u t (subst (StepAsks before behind) row (blocks_ask s class v traceback (λ exit. asked_with raised exit class v traceback is tells) s.blocks))
 
@@ -215,7 +215,7 @@ module _ (first before behind : Kept) (adds : AddsConstants first.made before.ma
   told_then (Some t) v (inl (is, same)) = inl (traceback_before first.made before.made adds t is, same)
   told_then (Some t) v (inr (not, none)) = inr (λ (body, has). not (body, payload_grown first.made before.made t _ (adds_grow first.made before.made adds) has), none)
 
-  asked_then : (r : Request) → AsksWith before behind r → AsksWith first behind r
+  asked_then : (r : Request) → AskTellsExit before behind r → AskTellsExit first behind r
   asked_then (request.Exit exit class v traceback) asks = λ e has.
       let (t, tells, is_told) = asks e has in
       let there = exception_before first.made before.made adds v e (exception_before before.made behind.made more v e has) in
@@ -225,7 +225,7 @@ module _ (first before behind : Kept) (adds : AddsConstants first.made before.ma
   -- what a step tells that was silent so far
   module _ (names : List (List ℕ)) (code : Annotated) (sound : IsSound names code) (f g : Framed) (t : State) (silently : IsSilent before.made names code f g) where
     request_told : (r : Request) (own : Option PyBaseExceptionRef) → MayLead behind.made (moves (setting_of names code g) g.state.wants g.state) (Tells (Asks g.state.at r own) t)
-        → (g.state.wants ≡ expect.Go → DidAt (slice_get code.code.code.instructions.items g.state.at) before behind (unit.Tells (frame_step.Ask r own))) → AsksWith first behind r
+        → (g.state.wants ≡ expect.Go → UnitAtTellsExit (slice_get code.code.code.instructions.items g.state.at) before behind (unit.Tells (frame_step.Ask r own))) → AskTellsExit first behind r
     request_told (request.Exit exit class v traceback) own may did =
         let told_step : Steps behind.made (setting_of names code g) g.state (Asks g.state.at (request.Exit exit class v traceback) own ∷ []) t = telling (Asks g.state.at (request.Exit exit class v traceback) own) t may in
         let all : AllMayTell behind.made code.code (Asks g.state.at (request.Exit exit class v traceback) own ∷ []) =
@@ -236,13 +236,13 @@ module _ (first before behind : Kept) (adds : AddsConstants first.made before.ma
     request_told _ own may did = tt
 
     pub step_told : (x : UnitStep) (step : FrameStep) → x ≡ unit.Tells step → MayLead behind.made (moves (setting_of names code g) g.state.wants g.state) (done g.state.at x t)
-        → (g.state.wants ≡ expect.Go → DidAt (slice_get code.code.code.instructions.items g.state.at) before behind x) → ToldAs first behind step
+        → (g.state.wants ≡ expect.Go → UnitAtTellsExit (slice_get code.code.code.instructions.items g.state.at) before behind x) → TellsExit first behind step
     step_told x step is may did =
         by step (subst (λ (y : UnitStep). MayLead behind.made (moves (setting_of names code g) g.state.wants g.state) (done g.state.at y t)) is may)
-        (subst (λ (y : UnitStep). g.state.wants ≡ expect.Go → DidAt (slice_get code.code.code.instructions.items g.state.at) before behind y) is did)
+        (subst (λ (y : UnitStep). g.state.wants ≡ expect.Go → UnitAtTellsExit (slice_get code.code.code.instructions.items g.state.at) before behind y) is did)
       where
         by : (y : FrameStep) → MayLead behind.made (moves (setting_of names code g) g.state.wants g.state) (tells (told g.state.at y) t)
-            → (g.state.wants ≡ expect.Go → DidAt (slice_get code.code.code.instructions.items g.state.at) before behind (unit.Tells y)) → ToldAs first behind y
+            → (g.state.wants ≡ expect.Go → UnitAtTellsExit (slice_get code.code.code.instructions.items g.state.at) before behind (unit.Tells y)) → TellsExit first behind y
         by (frame_step.Ask r own) lead told_so = request_told r own lead told_so
         by frame_step.Round lead told_so = tt
         by (frame_step.Yield v) lead told_so = tt

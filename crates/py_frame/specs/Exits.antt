@@ -1,6 +1,5 @@
 -- Which traceback the exit of a manager is told.
 use Rattle.std.specs.Prelude.{◌≡◌, ◌⊎◌, Option, Some, None}
-use Rattle.py_code.specs.declared.instruction.Instruction.{Instruction}
 use Rattle.py_code.specs.declared.instruction.Instruction.TheVariants.{WithCleanupStart}
 use Rattle.py_code.specs.declared.unit.CodeUnit.{CodeUnit}
 use Rattle.py_objects.specs.declared.refs.PyBaseExceptionRef.{PyBaseExceptionRef}
@@ -34,28 +33,24 @@ TellsIf before behind None told = Unit {0}
 TellsIf before behind (Some e) told = TellsTraceback before behind (as_object e) told
 
 -- where an exit is asked, it is told this traceback of the exception that it is told; other requests tell none
-abbrev pub AsksWith : Kept → Kept → Request → Type 0
-AsksWith before behind (request.Exit exit class v traceback) = (e : ExceptionBody) → HasPayload behind.made v (payload.Exception e) → TellsTraceback before behind v traceback
-AsksWith before behind _ = Unit {0}
+abbrev pub AskTellsExit : Kept → Kept → Request → Type 0
+AskTellsExit before behind (request.Exit exit class v traceback) = (e : ExceptionBody) → HasPayload behind.made v (payload.Exception e) → TellsTraceback before behind v traceback
+AskTellsExit before behind _ = Unit {0}
 
 -- the same of what a frame tells
-abbrev pub ToldAs : Kept → Kept → FrameStep → Type 0
-ToldAs before behind (step.Ask r own) = AsksWith before behind r
-ToldAs before behind step.Round = Unit {0}
-ToldAs before behind (step.Yield v) = Unit {0}
-ToldAs before behind (step.Return v) = Unit {0}
-ToldAs before behind (step.Raise e) = Unit {0}
-ToldAs before behind step.NoMemory = Unit {0}
+abbrev pub TellsExit : Kept → Kept → FrameStep → Type 0
+TellsExit before behind (step.Ask r own) = AskTellsExit before behind r
+TellsExit before behind step.Round = Unit {0}
+TellsExit before behind (step.Yield v) = Unit {0}
+TellsExit before behind (step.Return v) = Unit {0}
+TellsExit before behind (step.Raise e) = Unit {0}
+TellsExit before behind step.NoMemory = Unit {0}
 
 -- the same of what a unit did
-abbrev pub DidAs : Kept → Kept → UnitStep → Type 0
-DidAs before behind unit.Goes = Unit {0}
-DidAs before behind (unit.Tells step) = ToldAs before behind step
+abbrev pub UnitTellsExit : Kept → Kept → UnitStep → Type 0
+UnitTellsExit before behind unit.Goes = Unit {0}
+UnitTellsExit before behind (unit.Tells step) = TellsExit before behind step
 
--- the same of a unit of this instruction, where that is the one that asks exits
-abbrev pub DidBy : Instruction → Kept → Kept → UnitStep → Type 0
-DidBy op before behind step = op ≡ WithCleanupStart → DidAs before behind step
-
--- the same of a unit, where there is one
-abbrev pub DidAt : Option CodeUnit → Kept → Kept → UnitStep → Type 0
-DidAt there before behind step = (u : CodeUnit) → there ≡ Some u → DidBy u.op before behind step
+-- the same of a unit, where there is one, of the instruction that asks exits
+abbrev pub UnitAtTellsExit : Option CodeUnit → Kept → Kept → UnitStep → Type 0
+UnitAtTellsExit there before behind step = (u : CodeUnit) → there ≡ Some u → u.op ≡ WithCleanupStart → UnitTellsExit before behind step

@@ -5,7 +5,7 @@ ghost use Rattle.py_rows.specs.declared.expect.Expect.TheVariants as expect;
 ghost use Rattle.py_rows.specs.States.{Goes, begun, next, pushed};
 ghost use Rattle.py_rows.specs.Receiving.{answered, moves, receive};
 ghost use Rattle.py_frame.specs.Added.{AddsConstants, ClassesAreThere};
-ghost use Rattle.py_frame.specs.Exits.{DidAt};
+ghost use Rattle.py_frame.specs.Exits.{UnitAtTellsExit};
 ghost use Rattle.py_frame.specs.Frames.{over, setting_in, setting_of};
 ghost use Rattle.py_frame.specs.UnitSteps.{CanDo, CanMove, Does, MayDo};
 
@@ -31,10 +31,10 @@ impl FrameCore {
     ) -> Result<UnitStep, NoMemory>
         requires there { self.old.state.at < length code.now.code.code.instructions.items }
         requires few { length code.now.code.code.instructions.items < 2 ^ 32 }
-        requires fit { ClassesAreThere store.old.made }
+        requires classes { ClassesAreThere store.old.made }
         requires safe { let f = over self.old (S.list stack.old) (S.room stack.old) in CanMove store.old.made f (moves (setting_of names.now code.now f) f.state.wants f.state) }
         ensures row { IfOk result (λ step. MayDo store.new.made (λ s. moves (setting_of names.now code.now self.old) s.wants s) (over self.old (S.list stack.old) (S.room stack.old)) step (over self.new (S.list stack.new) (S.room stack.new))) }
-        ensures traceback { self.old.state.wants ≡ expect.Go → IfOk result (λ step. DidAt (slice_get code.now.code.code.instructions.items self.old.state.at) store.old store.new step) }
+        ensures traceback { self.old.state.wants ≡ expect.Go → IfOk result (λ step. UnitAtTellsExit (slice_get code.now.code.code.instructions.items self.old.state.at) store.old store.new step) }
         ensures err { OnErr result ((over self.new (S.list stack.new) (S.room stack.new)) ≡ record (over self.old (S.list stack.old) (S.room stack.old)) { state = begun ((over self.old (S.list stack.old) (S.room stack.old))).state }) }
         ensures objects { AddsConstants store.old.made store.new.made }
         ensures unchanged { store.new ≡ record store.old { made = store.new.made } }

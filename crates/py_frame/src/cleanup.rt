@@ -6,7 +6,7 @@ ghost use Rattle.py_rows.specs.Receiving.{passes_if};
 ghost use Rattle.py_rows.specs.Rows.{asks_exit, finish_cleanup, finishes, raised_in, takes_off};
 ghost use Rattle.py_rows.specs.States.{with_stack};
 ghost use Rattle.py_frame.specs.Added.{AddsConstants, ClassesAreThere};
-ghost use Rattle.py_frame.specs.Exits.{DidAs};
+ghost use Rattle.py_frame.specs.Exits.{UnitTellsExit};
 ghost use Rattle.py_frame.specs.Frames.{over};
 ghost use Rattle.py_frame.specs.UnitSteps.{CanDo, CanMove, Does, MayDo};
 
@@ -26,10 +26,10 @@ impl FrameCore {
         stack: &mut S,
         store: &mut Store,
     ) -> Result<UnitStep, NoMemory>
-        requires fit { ClassesAreThere store.old.made }
+        requires classes { ClassesAreThere store.old.made }
         requires safe { let f = over self.old (S.list stack.old) (S.room stack.old) in CanMove store.old.made f (Exits (raised_in f.state.blocks) (λ t v b. asks_exit f.state t v b)) }
         ensures row { IfOk result (λ step. MayDo store.new.made (λ s. Exits (raised_in s.blocks) (λ t v b. asks_exit s t v b)) (over self.old (S.list stack.old) (S.room stack.old)) step (over self.new (S.list stack.new) (S.room stack.new))) }
-        ensures traceback { IfOk result (λ step. DidAs store.old store.new step) }
+        ensures traceback { IfOk result (λ step. UnitTellsExit store.old store.new step) }
         ensures err { OnErr result (over self.new (S.list stack.new) (S.room stack.new) ≡ over self.old (S.list stack.old) (S.room stack.old)) }
         ensures objects { AddsConstants store.old.made store.new.made }
         ensures unchanged { store.new ≡ record store.old { made = store.new.made } }

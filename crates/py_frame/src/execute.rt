@@ -1,10 +1,11 @@
 //! Running one unit: an arm an instruction.
 
 ghost use Rattle.std.specs.Prelude.{◌≡◌, ◌+◌, ◌^◌, ◌<◌, length, slice_get, IfOk, OnErr};
+ghost use Rattle.py_code.specs.declared.instruction.Instruction.TheVariants.{WithCleanupStart};
 ghost use Rattle.py_rows.specs.States.{Goes, begun, next};
 ghost use Rattle.py_rows.specs.Rows.{act, advance};
 ghost use Rattle.py_frame.specs.Added.{AddsConstants, ClassesAreThere};
-ghost use Rattle.py_frame.specs.Exits.{DidAt, DidBy};
+ghost use Rattle.py_frame.specs.Exits.{UnitAtTellsExit, UnitTellsExit};
 ghost use Rattle.py_frame.specs.Frames.{over, setting_in};
 ghost use Rattle.py_frame.specs.UnitSteps.{CanMove, Does, MayDo};
 
@@ -28,10 +29,10 @@ impl FrameCore {
     ) -> Result<UnitStep, NoMemory>
         requires there { self.old.state.at < length code.now.code.instructions.items }
         requires few { length code.now.code.instructions.items < 2 ^ 32 }
-        requires fit { ClassesAreThere store.old.made }
+        requires classes { ClassesAreThere store.old.made }
         requires safe { let f = over self.old (S.list stack.old) (S.room stack.old) in CanMove store.old.made f (advance (setting_in code.now names.now f) f.state) }
         ensures row { IfOk result (λ step. MayDo store.new.made (advance (setting_in code.now names.now self.old)) (over self.old (S.list stack.old) (S.room stack.old)) step (over self.new (S.list stack.new) (S.room stack.new))) }
-        ensures traceback { IfOk result (λ step. DidAt (slice_get code.now.code.instructions.items self.old.state.at) store.old store.new step) }
+        ensures traceback { IfOk result (λ step. UnitAtTellsExit (slice_get code.now.code.instructions.items self.old.state.at) store.old store.new step) }
         ensures err { OnErr result ((over self.new (S.list stack.new) (S.room stack.new)) ≡ record (over self.old (S.list stack.old) (S.room stack.old)) { state = begun ((over self.old (S.list stack.old) (S.room stack.old))).state }) }
         ensures objects { AddsConstants store.old.made store.new.made }
         ensures unchanged { store.new ≡ record store.old { made = store.new.made } }
@@ -55,10 +56,10 @@ impl FrameCore {
         arg: u32,
     ) -> Result<UnitStep, NoMemory>
         requires next { self.old.state.at + 1 < 2 ^ 32 }
-        requires fit { ClassesAreThere store.old.made }
+        requires classes { ClassesAreThere store.old.made }
         requires safe { let f = over self.old (S.list stack.old) (S.room stack.old) in CanMove store.old.made f (act (setting_in code.now names.now f) op arg f.state) }
         ensures row { IfOk result (λ step. MayDo store.new.made (act (setting_in code.now names.now self.old) op arg) (over self.old (S.list stack.old) (S.room stack.old)) step (over self.new (S.list stack.new) (S.room stack.new))) }
-        ensures traceback { IfOk result (λ step. DidBy op store.old store.new step) }
+        ensures traceback { IfOk result (λ step. op ≡ WithCleanupStart → UnitTellsExit store.old store.new step) }
         ensures err { OnErr result ((over self.new (S.list stack.new) (S.room stack.new)) ≡ (over self.old (S.list stack.old) (S.room stack.old))) }
         ensures objects { AddsConstants store.old.made store.new.made }
         ensures unchanged { store.new ≡ record store.old { made = store.new.made } }

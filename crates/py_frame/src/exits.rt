@@ -18,7 +18,7 @@ pub(crate) fn exit_arguments(
     store: &mut Store,
     raised: Option<PyBaseExceptionRef>,
 ) -> Result<(PyObjectRef, PyObjectRef, PyObjectRef), NoMemory>
-    requires fit { ClassesAreThere store.old.made }
+    requires classes { ClassesAreThere store.old.made }
     requires there { RaisedThere store.old.made raised }
     ensures told { IfOk result (λ told. IsExit store.new.made raised told.0 told.1 told.2) }
     ensures traceback { IfOk result (λ told. TellsIf store.old store.new raised told.2) }
@@ -43,7 +43,7 @@ pub(crate) fn exit_arguments(
 
 /// The class of an exception.
 fn class(store: &Store, exception: PyObjectRef) -> PyObjectRef
-    requires fit { ClassesAreThere store.now.made }
+    requires classes { ClassesAreThere store.now.made }
     requires there { (e : ExceptionBody) × HasPayload store.now.made exception (payload.Exception e) }
     ensures { (e : ExceptionBody) × HasPayload store.now.made exception (payload.Exception e) × (result ≡ class_object e.class) × (result.number < length store.now.made) }
 {

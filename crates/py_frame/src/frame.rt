@@ -9,7 +9,7 @@ ghost use Rattle.py_check.specs.Depths.{deepest};
 ghost use Rattle.py_rows.specs.Below.{HearsBelow, TellsBelow};
 ghost use Rattle.py_rows.specs.declared.expect.Expect.TheVariants as expect;
 ghost use Rattle.py_frame.specs.Added.{AddsConstants, ClassesAreThere};
-ghost use Rattle.py_frame.specs.Exits.{ToldAs};
+ghost use Rattle.py_frame.specs.Exits.{TellsExit};
 ghost use Rattle.py_frame.specs.Frames.{frame_object, handed, setting_of, unfilled};
 ghost use Rattle.py_frame.specs.Steps.{Expects, Extends, IfTold, KeepsFirst, NamesHandled, events, expected, heard, hearing, told};
 ghost use Rattle.py_rows.specs.Laws.{AllMayTell};
@@ -118,7 +118,7 @@ impl<S: ValueStack + Drop> Frame<S> {
     ) -> FrameStep
         requires running { IsRunning store.old.made names.now code.now self.old }
         // The class of each exception is an object that is there, since an exit may be told it.
-        requires fit { ClassesAreThere store.old.made }
+        requires classes { ClassesAreThere store.old.made }
         // The top slot is as the frame's last step left it, before the first step any.
         requires slots { SlotFits store.old.made self.old.state (top_of slots.old) }
         // The input is one that the frame expects: an answer is as it was wanted. It names objects. Here and below, k is
@@ -134,7 +134,7 @@ impl<S: ValueStack + Drop> Frame<S> {
         ensures told { TellsBelow (length store.new.made) (events (told (self.new.state.last - 1) result)) }
         // Where an exit is asked that is told an exception, its traceback is what the store says of that exception: the one
         // that it has, where that is a traceback, and else a None.
-        ensures traceback { ToldAs store.old store.new result }
+        ensures traceback { TellsExit store.old store.new result }
         // The top slot holds what the frame's has, and those below are as they were.
         ensures slot { top_of slots.new ≡ self.new.state.slot }
         ensures slots { slots.new ≡ slice_set slots.old 0 self.new.state.slot }

@@ -4,7 +4,7 @@ ghost use Rattle.std.specs.Prelude.{ℕ, ◌≡◌, length, IfOk, OnErr};
 ghost use Rattle.py_rows.specs.Below.{HearsBelow};
 ghost use Rattle.py_rows.specs.Laws.{IsMoving};
 ghost use Rattle.py_frame.specs.Added.{AddsConstants, ClassesAreThere};
-ghost use Rattle.py_frame.specs.Exits.{ToldAs};
+ghost use Rattle.py_frame.specs.Exits.{TellsExit};
 ghost use Rattle.py_frame.specs.Frames.{over, setting_of};
 ghost use Rattle.py_frame.specs.Steps.{Expects, events, heard, hearing};
 ghost use Rattle.py_frame.specs.Running.{HasTold, IsCut, IsRunning, IsSame, IsStepped, SlotFits};
@@ -32,12 +32,12 @@ impl FrameCore {
         input: Input,
     ) -> FrameStep
         requires running { IsRunning store.old.made names.now code.now (over self.old (S.list stack.old) (S.room stack.old)) }
-        requires fit { ClassesAreThere store.old.made }
+        requires classes { ClassesAreThere store.old.made }
         requires slot { SlotFits store.old.made self.old.state slot }
         requires expected { Expects store.old.made (setting_of names.now code.now self.old) self.old.state.wants input }
         requires named { (k : ℕ) → HearsBelow (length store.old.made) (events (heard k input)) }
         ensures stepped { IsStepped store.new.made names.now code.now slot input (over self.old (S.list stack.old) (S.room stack.old)) result (over self.new (S.list stack.new) (S.room stack.new)) }
-        ensures traceback { ToldAs store.old store.new result }
+        ensures traceback { TellsExit store.old store.new result }
         ensures objects { AddsConstants store.old.made store.new.made }
         ensures unchanged { store.new ≡ record store.old { made = store.new.made } }
     {
@@ -80,11 +80,11 @@ impl FrameCore {
     ) -> Result<FrameStep, NoMemory>
         requires running { IsRunning store.old.made names.now code.now (over self.old (S.list stack.old) (S.room stack.old)) }
         requires moving { IsMoving self.old.state.wants }
-        requires fit { ClassesAreThere store.old.made }
+        requires classes { ClassesAreThere store.old.made }
         ensures told { IfOk result (λ step. HasTold store.new.made names.now code.now (over self.old (S.list stack.old) (S.room stack.old)) step (over self.new (S.list stack.new) (S.room stack.new))) }
         ensures cut { OnErr result (IsCut store.new.made code.now (over self.old (S.list stack.old) (S.room stack.old)) (over self.new (S.list stack.new) (S.room stack.new))) }
         ensures same { IsSame (over self.old (S.list stack.old) (S.room stack.old)) (over self.new (S.list stack.new) (S.room stack.new)) }
-        ensures traceback { IfOk result (λ step. ToldAs store.old store.new step) }
+        ensures traceback { IfOk result (λ step. TellsExit store.old store.new step) }
         ensures objects { AddsConstants store.old.made store.new.made }
         ensures unchanged { store.new ≡ record store.old { made = store.new.made } }
     {

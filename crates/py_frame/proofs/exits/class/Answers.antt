@@ -18,5 +18,5 @@ returns c =
     sym (ap class_of c.in-Exception.is) ∙ class_found c.args.store.now.made c.args.store.now.changes c.args.exception e _ has c.get.ensures.now in
     let inside : c.in-Exception.body.class ≡ e.class = cc in
     let same : c.value.result.now.class ≡ e.class = ap (λ (b : ExceptionBody). b.class) c.value.ensures ∙ inside in
-    let below : e.class.number < length c.args.store.now.made = c.requires.fit c.args.exception e has in
+    let below : e.class.number < length c.args.store.now.made = c.requires.classes c.args.exception e has in
     (e, has, ap class_object same, subst (λ (x : PyTypeRef). x.number < length c.args.store.now.made) (sym same) below)

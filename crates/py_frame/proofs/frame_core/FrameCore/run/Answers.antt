@@ -13,8 +13,8 @@ pub moves-requires-clause-there : goal.moves-requires-clause-there
 moves-requires-clause-there g c =
     unit_there c.silent.store.made c.args.names.now c.args.code.now c.silent.self.state.wants (over c.silent.self (g.S.ValueStack.list c.silent.stack) (g.S.ValueStack.room c.silent.stack)).state c.requires.running.sound c.silent.invariant.run.fits c.silent.invariant.run.moving
 
-pub moves-requires-clause-fit : goal.moves-requires-clause-fit
-moves-requires-clause-fit g c = classes_stay _ _ c.silent.invariant.grows c.requires.fit
+pub moves-requires-clause-classes : goal.moves-requires-clause-classes
+moves-requires-clause-classes g c = classes_stay _ _ c.silent.invariant.grows c.requires.classes
 
 pub moves-requires-clause-safe : goal.moves-requires-clause-safe
 moves-requires-clause-safe g c =
