@@ -1,7 +1,7 @@
 //! A function and a generator as trees, made by hand.
 
 ghost use Rattle.std.specs.Prelude.{◌≡◌, IfOk, false};
-ghost use Rattle.py_tree.specs.declared.body.BodyKind.TheVariants.{Function};
+ghost use Rattle.py_tree.specs.declared.body.BodyKind.TheVariants.{Function, Generator};
 ghost use Rattle.py_tree.specs.Compilable.{IsCompilable, OperationFits, SuiteFits, SuiteNests, statements};
 ghost use Rattle.py_tree.specs.Views.{suite_of, tree_of};
 
@@ -86,14 +86,12 @@ pub(crate) fn echo(alloc: Global) -> Result<Body, NoMemory>
 {
     let mut params = ParamList::new(alloc);
     params.push(text(alloc, b"n")?)?;
-    let first = Operation::Yield(name(alloc, b"n")?);
-    let second = Operation::Yield(name(alloc, b"x")?);
     let mut suite = StmtList::new(alloc);
     suite.push(line(
         2,
-        StmtForm::Assign(text(alloc, b"x")?, Expr::Operation(first)),
+        StmtForm::Assign(text(alloc, b"x")?, Expr::Operation(yield_of(alloc, b"n")?)),
     ))?;
-    suite.push(line(3, StmtForm::Do(second)))?;
+    suite.push(line(3, StmtForm::Do(yield_of(alloc, b"x")?)))?;
     Ok(Body {
         kind: BodyKind::Generator,
         name: text(alloc, b"echo")?,
@@ -101,6 +99,13 @@ pub(crate) fn echo(alloc: Global) -> Result<Body, NoMemory>
         suite,
         line: 1,
     })
+}
+
+/// `(yield NAME)`.
+fn yield_of(alloc: Global, bytes: &[u8]) -> Result<Operation, NoMemory>
+    ensures { IfOk result (λ operation. OperationFits Generator operation) }
+{
+    Ok(Operation::Yield(name(alloc, bytes)?))
 }
 
 fn line(line: u32, form: StmtForm) -> Stmt

@@ -49,20 +49,32 @@ fn print_request(
     act: u64,
     request: &Request,
 ) -> Result<(), HostFault> {
-    let what = match request {
-        Request::Show(value) => match objects.get(value.number as usize) {
-            Some(Payload::Int(number)) => {
-                println!(rt; "activation {act} shows {number}")?;
-                return Ok(());
-            }
-            _ => "to show a value",
-        },
+    match shown_number(objects, request) {
+        Some(number) => println!(rt; "activation {act} shows {number}")?,
+        None => println!(rt; "activation {act} asks {}", what_is_asked(request))?,
+    }
+    Ok(())
+}
+
+/// The number that a request shows, if it shows one.
+fn shown_number(objects: &PayloadList, request: &Request) -> Option<i128> {
+    let Request::Show(value) = request else {
+        return None;
+    };
+    match objects.get(value.number as usize) {
+        Some(Payload::Int(number)) => Some(*number),
+        _ => None,
+    }
+}
+
+/// What is asked, in words behind `asks`.
+fn what_is_asked(request: &Request) -> &'static str {
+    match request {
+        Request::Show(_) => "to show a value",
         Request::Global(_, _) => "for a global",
         Request::Truth(_) => "whether a value is true",
         Request::Binary(_, _, _) => "for an operator's value",
         Request::Call(_, _, _) => "for a call",
         _ => "for something else",
-    };
-    println!(rt; "activation {act} asks {what}")?;
-    Ok(())
+    }
 }
