@@ -158,14 +158,14 @@ changed_nowhere g f (x ∷ xs) none = by (eqb x.object.number g.number) refl non
     by false is none later = ap (λ l. x ∷ l) (later none)
 
 -- a call of one that is there
-pub called_there : (g : Obj) (row : State → Row) (items list : List KeptGenerator) (at : ℕ) (x : KeptGenerator) (s new : State) (b : Begin) → items ≡ list → place_of list g ≡ Some at
-    → x ≡ slice_index_or items at x → s ≡ x.generator → ((e : PyBaseExceptionRef) → b ≡ begun e (row s)) → new ≡ behind (row s) s
+pub called_there : (g : Obj) (row : State → Row) (items list : List KeptGenerator) (at : ℕ) (x : KeptGenerator) (new : State) (b : Begin) → items ≡ list → place_of list g ≡ Some at
+    → x ≡ slice_index_or items at x → ((e : PyBaseExceptionRef) → b ≡ begun e (row x.generator)) → new ≡ behind (row x.generator) x.generator
     → IsCalledOn g row list (slice_set items at (record x { generator = new })) (Some b)
-called_there g row items list at x s new b same is read state answers left = (
+called_there g row items list at x new b same is read answers left = (
   x,
   (read_in g items list at x same is read).kept,
-  λ e. answers e ∙ ap (λ t. begun e (row t)) state,
-  ap (λ t. slice_set items at (record x { generator = t })) (left ∙ ap (λ t. behind (row t) t) state) ∙ set_there g items list at x (with_state (λ t. behind (row t) t)) same is read,
+  answers,
+  ap (λ t. slice_set items at (record x { generator = t })) left ∙ set_there g items list at x (with_state (λ t. behind (row t) t)) same is read,
 )
 
 -- a call of one that isn't there
@@ -173,16 +173,15 @@ pub called_nowhere : (g : Obj) (row : State → Row) (list : List KeptGenerator)
 called_nowhere g row list r is none = subst (IsCalledOn g row list list) (sym none) (stands_nowhere g list (sym is), refl)
 
 -- a throw into one that is there
-pub thrown_there : (g : Obj) (e : PyBaseExceptionRef) (depth : ℕ) (items list : List KeptGenerator) (at : ℕ) (x : KeptGenerator) (s new : State) (b : Begin) → items ≡ list
+pub thrown_there : (g : Obj) (e : PyBaseExceptionRef) (depth : ℕ) (items list : List KeptGenerator) (at : ℕ) (x : KeptGenerator) (new : State) (b : Begin) → items ≡ list
     → place_of list g ≡ Some at
-    → x ≡ slice_index_or items at x → s ≡ x.generator → b ≡ begun e (thrown s.mode depth) → new ≡ behind (thrown s.mode depth) s
+    → x ≡ slice_index_or items at x → b ≡ begun e (thrown x.generator.mode depth) → new ≡ behind (thrown x.generator.mode depth) x.generator
     → IsThrownInto g e depth list (slice_set items at (record x { generator = new })) (Some b)
-thrown_there g e depth items list at x s new b same is read state answers left = (
+thrown_there g e depth items list at x new b same is read answers left = (
   x,
   (read_in g items list at x same is read).kept,
-  answers ∙ ap (λ (t : State). begun e (thrown t.mode depth)) state,
-  ap (λ t. slice_set items at (record x { generator = t })) (left ∙ ap (λ (t : State). behind (thrown t.mode depth) t) state)
-      ∙ set_there g items list at x (with_state (λ t. behind (thrown t.mode depth) t)) same is read,
+  answers,
+  ap (λ t. slice_set items at (record x { generator = t })) left ∙ set_there g items list at x (with_state (λ t. behind (thrown t.mode depth) t)) same is read,
 )
 
 -- a throw into one that isn't there
@@ -193,36 +192,34 @@ thrown_nowhere g e depth list r is none = subst (IsThrownInto g e depth list lis
 pub read_one : (g : Obj) (items list : List KeptGenerator) (at : ℕ) (x y : KeptGenerator) → items ≡ list → place_of list g ≡ Some at → x ≡ slice_index_or items at x → kept_at list g ≡ Some y → x ≡ y
 read_one g items list at x y same is read kept = same_Some _ _ (sym (read_in g items list at x same is read).kept ∙ kept)
 
--- it runs where the state that is read is its own
-pub runs_there : (g : Obj) (items list : List KeptGenerator) (at : ℕ) (x : KeptGenerator) (s : State) → items ≡ list → place_of list g ≡ Some at → x ≡ slice_index_or items at x → s ≡ x.generator
-    → IsRunningNow list g → s.mode ≡ Running
-runs_there g items list at x s same is read state (y, kept, runs) =
-    ap (λ (t : State). t.mode) state ∙ ap (λ (k : KeptGenerator). k.generator.mode) (read_one g items list at x y same is read kept) ∙ runs
+-- so where it runs, the one that is read does
+pub runs_there : (g : Obj) (items list : List KeptGenerator) (at : ℕ) (x : KeptGenerator) → items ≡ list → place_of list g ≡ Some at → x ≡ slice_index_or items at x
+    → IsRunningNow list g → x.generator.mode ≡ Running
+runs_there g items list at x same is read (y, kept, runs) = ap (λ (k : KeptGenerator). k.generator.mode) (read_one g items list at x y same is read kept) ∙ runs
 
 -- what isn't there doesn't run
 pub nowhere_runs : (g : Obj) (list : List KeptGenerator) → None ≡ place_of list g → IsRunningNow list g → ⊥
 nowhere_runs g list is (x, kept, runs) = none-some _ (sym (stands_nowhere g list (sym is)) ∙ kept)
 
 -- one that may be thrown into doesn't run, and one that refuses that does
-pub thrown_free : {A : Type 0} (g : Obj) (items list : List KeptGenerator) (at : ℕ) (x : KeptGenerator) (s : State) (r : Result A CoroRefusal) → items ≡ list → place_of list g ≡ Some at
-    → x ≡ slice_index_or items at x → s ≡ x.generator → OnOk r (is_running s.mode ≡ false) → OnOk r (IsRunningNow list g → ⊥)
-thrown_free g items list at x s (Ok a) same is read state free =
-    λ runs. absurd (cc (sym (ap is_running (runs_there g items list at x s same is read state runs)) ∙ free))
-thrown_free g items list at x s (Err e) same is read state free = free
+pub thrown_free : {A : Type 0} (g : Obj) (items list : List KeptGenerator) (at : ℕ) (x : KeptGenerator) (r : Result A CoroRefusal) → items ≡ list → place_of list g ≡ Some at
+    → x ≡ slice_index_or items at x → OnOk r (is_running x.generator.mode ≡ false) → OnOk r (IsRunningNow list g → ⊥)
+thrown_free g items list at x (Ok a) same is read free = λ runs. absurd (cc (sym (ap is_running (runs_there g items list at x same is read runs)) ∙ free))
+thrown_free g items list at x (Err e) same is read free = free
 
-pub thrown_running : {A : Type 0} (g : Obj) (items list : List KeptGenerator) (at : ℕ) (x : KeptGenerator) (s : State) (r : Result A CoroRefusal) → items ≡ list → place_of list g ≡ Some at
-    → x ≡ slice_index_or items at x → s ≡ x.generator → OnErr r (s.mode ≡ Running) → OnErr r (IsRunningNow list g)
-thrown_running g items list at x s (Ok a) same is read state runs = runs
-thrown_running g items list at x s (Err e) same is read state runs = (x, (read_in g items list at x same is read).kept, ap (λ (t : State). t.mode) (sym state) ∙ runs)
+pub thrown_running : {A : Type 0} (g : Obj) (items list : List KeptGenerator) (at : ℕ) (x : KeptGenerator) (r : Result A CoroRefusal) → items ≡ list → place_of list g ≡ Some at
+    → x ≡ slice_index_or items at x → OnErr r (x.generator.mode ≡ Running) → OnErr r (IsRunningNow list g)
+thrown_running g items list at x (Ok a) same is read runs = runs
+thrown_running g items list at x (Err e) same is read runs = (x, (read_in g items list at x same is read).kept, runs)
 
 -- one that was entered and left
-pub settled_there : (g : Obj) (left : Suspended) (how : CoroEnd) (items list : List KeptGenerator) (at : ℕ) (x : KeptGenerator) (s new : State) (kept : Option Suspended) → items ≡ list
+pub settled_there : (g : Obj) (left : Suspended) (how : CoroEnd) (items list : List KeptGenerator) (at : ℕ) (x : KeptGenerator) (new : State) (kept : Option Suspended) → items ≡ list
     → place_of list g ≡ Some at
-    → x ≡ slice_index_or items at x → s ≡ x.generator → new ≡ left_by how s → kept ≡ kept_in (mode_behind s.closing how) left
+    → x ≡ slice_index_or items at x → new ≡ left_by how x.generator → kept ≡ kept_in (mode_behind x.generator.closing how) left
     → slice_set items at (record x { generator = new; suspended = kept }) ≡ changed_at g (settled left how) list
-settled_there g left how items list at x s new kept same is read state leaves keeps =
-    ap (λ t. slice_set items at (record x { generator = t; suspended = kept })) (leaves ∙ ap (left_by how) state)
-    ∙ ap (λ k. slice_set items at (record x { generator = left_by how x.generator; suspended = k })) (keeps ∙ ap (λ (t : State). kept_in (mode_behind t.closing how) left) state)
+settled_there g left how items list at x new kept same is read leaves keeps =
+    ap (λ t. slice_set items at (record x { generator = t; suspended = kept })) leaves
+    ∙ ap (λ k. slice_set items at (record x { generator = left_by how x.generator; suspended = k })) keeps
     ∙ set_there g items list at x (settled left how) same is read
 
 -- one whose activation was taken

@@ -15,5 +15,5 @@ invariant_of-self c =
 
 pub returns : goal.returns
 returns c =
-    called_there c.args.object (λ (s : State). closed s.mode c.args.depth) c.self.inside.items.items c.args.self.now c.in_ok-at.at c.index_mut.result.now c.index_mut.result.now.generator c.close.new.self
-    c.close.result c.self.view_is (sym c.in_ok-at.ensures.place) c.index_mut.ensures.value refl c.close.ensures.row c.close.ensures.behind
+    called_there c.args.object (λ (s : State). closed s.mode c.args.depth) c.self.inside.items.items c.args.self.now c.in_ok-at.at c.index_mut.result.now c.close.new.self
+    c.close.result c.self.view_is (sym c.in_ok-at.ensures.place) c.index_mut.ensures.value c.close.ensures.row c.close.ensures.behind

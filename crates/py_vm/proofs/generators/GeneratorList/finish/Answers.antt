@@ -11,9 +11,8 @@ unreachable-requires c = nowhere_runs c.args.object c.args.self.now c.in_default
 
 pub finish-answer-requires-clause-running : goal.finish-answer-requires-clause-running
 finish-answer-requires-clause-running c =
-    runs_there c.args.object c.self.inside.items.items c.args.self.now c.in-Some.at c.index_mut-item.result.now c.index_mut-item.result.now.generator c.self.view_is (sym c.in-Some.ensures.place)
-    c.index_mut-item.ensures.value
-    refl c.requires.runs
+    runs_there c.args.object c.self.inside.items.items c.args.self.now c.in-Some.at c.index_mut-item.result.now c.self.view_is (sym c.in-Some.ensures.place)
+    c.index_mut-item.ensures.value c.requires.runs
 
 pub invariant_of-self : goal.invariant_of-self
 invariant_of-self c =
@@ -30,7 +29,6 @@ returns-clause-answer c x kept =
 
 pub returns-clause-left : goal.returns-clause-left
 returns-clause-left c =
-    settled_there c.args.object c.args.left c.args.how c.self.inside.items.items c.args.self.now c.in-Some.at c.index_mut-item.result.now c.index_mut-item.result.now.generator
-    c.finish-answer.new.self c.kept_by.result
-    c.self.view_is (sym c.in-Some.ensures.place) c.index_mut-item.ensures.value refl c.finish-answer.ensures.left
+    settled_there c.args.object c.args.left c.args.how c.self.inside.items.items c.args.self.now c.in-Some.at c.index_mut-item.result.now c.finish-answer.new.self c.kept_by.result
+    c.self.view_is (sym c.in-Some.ensures.place) c.index_mut-item.ensures.value c.finish-answer.ensures.left
     (c.kept_by.ensures ∙ finishes_kept c.args.store.now.made c.index_mut-item.result.now.generator.kind c.index_mut-item.result.now.generator.closing c.args.how c.finish-answer.result c.args.left c.finish-answer.ensures.answer)

@@ -15,6 +15,5 @@ invariant_of-self c =
 
 pub returns : goal.returns
 returns c =
-    called_there c.args.object (λ (s : State). sent s.mode c.args.is_none c.args.depth) c.self.inside.items.items c.args.self.now c.in_ok-at.at c.index_mut.result.now
-    c.index_mut.result.now.generator c.send.new.self
-    c.send.result c.self.view_is (sym c.in_ok-at.ensures.place) c.index_mut.ensures.value refl c.send.ensures.row c.send.ensures.behind
+    called_there c.args.object (λ (s : State). sent s.mode c.args.is_none c.args.depth) c.self.inside.items.items c.args.self.now c.in_ok-at.at c.index_mut.result.now c.send.new.self
+    c.send.result c.self.view_is (sym c.in_ok-at.ensures.place) c.index_mut.ensures.value c.send.ensures.row c.send.ensures.behind

@@ -13,5 +13,5 @@ invariant_of-self c =
 
 pub returns : goal.returns
 returns c =
-    thrown_there c.args.object c.args.exception c.args.depth c.self.inside.items.items c.args.self.now c.in_ok-at.at c.index_mut.result.now c.index_mut.result.now.generator c.throw.new.self
-    c.throw.result c.self.view_is (sym c.in_ok-at.ensures.place) c.index_mut.ensures.value refl c.throw.ensures.row c.throw.ensures.behind
+    thrown_there c.args.object c.args.exception c.args.depth c.self.inside.items.items c.args.self.now c.in_ok-at.at c.index_mut.result.now c.throw.new.self
+    c.throw.result c.self.view_is (sym c.in_ok-at.ensures.place) c.index_mut.ensures.value c.throw.ensures.row c.throw.ensures.behind
