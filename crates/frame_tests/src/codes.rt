@@ -11,8 +11,8 @@ use py_check::{
     PendingSet,
 };
 use py_code::{
-    BuiltinFn, CodeFlags, CodeObject, CodeUnit, Instruction, ItemList, Literal, LiteralList,
-    NameId, NoMemory, PyCode,
+    BuiltinFn, CodeFlags, CodeObject, CodeUnit, Instruction, Literal, LiteralList, NameId,
+    NoMemory, PyCode,
 };
 use std::alloc::Global;
 use std::test::Fail;

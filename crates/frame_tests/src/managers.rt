@@ -3,7 +3,7 @@
 use crate::drives::compare;
 use crate::tables::Said::{Exception, Fails, False, Go, Nothing, Start, True};
 use crate::tables::{Case, Open, Row};
-use py_check::Kind::{Any, Exc};
+use py_check::Kind::Any;
 use py_check::Pending;
 use py_code::Instruction::{
     Break, Continue, EnterFinally, LoadFast, PopBlock, PrintExpr, Raise, ReturnConst, ReturnValue,

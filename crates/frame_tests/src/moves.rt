@@ -2,7 +2,7 @@
 
 use crate::drives::compare;
 use crate::tables::Said::{Fails, False, Start, True};
-use crate::tables::{Case, Open, Row};
+use crate::tables::{Case, Row};
 use py_check::Kind::Any;
 use py_code::Instruction::{
     CompareOperation, DeleteFast, Duplicate, LoadConst, LoadFast, Pop, ReturnConst, ReturnValue,

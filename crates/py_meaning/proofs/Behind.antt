@@ -1,4 +1,4 @@
--- What each machine begins with: what the first objects are, and what is declared among them and behind them.
+-- What each run begins with: what the first objects are, and what is declared among them and behind them.
 use Rattle.std.proofs.Common.{◌≡◌, ◌+◌, ℕ, zero, suc, List, [], ◌∷◌, ◌++◌, length, Bool, true, false, cond, Some, None, refl, sym, ap, ◌∙◌, subst, arith, inl}
 use Rattle.std.specs.Prelude.{slice_get}
 use Rattle.std.proofs.lemmas.Slice.Eq.{bytes_eq-Decides}

@@ -57,7 +57,7 @@ call_of f m n = drive.Call f (argument.Int m ∷ argument.Int n ∷ [])
 abbrev pub drives : List DriveLine
 drives = call_of (codes "f") (pos 33) (pos 12) ∷ []
 
--- an object of the run by its number behind what each machine begins with
+-- an object of the run by its number behind what each run begins with
 abbrev pub object : ℕ → Obj
 object n = record { number = length first_objects + n }
 
@@ -69,7 +69,7 @@ exception n = record { number = length first_objects + n }
 abbrev pub function_entry : Name → ℕ → Payload
 function_entry name code = payload.Function (record { name = name; code = code })
 
--- what a machine begins with, and then a function, 0, its name, 1, the dict of the globals that binds it, 2, and more
+-- what each run begins with, and then a function, 0, its name, 1, the dict of the globals that binds it, 2, and more
 abbrev pub loaded : Name → Payload → List Payload → List Payload
 loaded name f more = first_objects ++ f ∷ payload.Str name ∷ payload.Dict ((object 1, object 0) ∷ []) ∷ more
 

@@ -1,4 +1,4 @@
-//! What a run is: which event may come next. Definitions and laws alone, which know of no machine.
+//! What a run is: which event may come next, and the journal that holds its events and objects. Definitions and laws, which know of no machine.
 #![tactic(auto)]
 
 mod drive;
