@@ -142,6 +142,13 @@ fn refusals_say_what_was_called(rt: HostRuntime) -> Result<(), Fail> {
         &converted(alloc, kind, ErrorKind::StopIteration)?.text,
     )?;
     assert_eq!(rt; text.as_str(), "generator raised StopIteration");
+    let stop = converted(
+        alloc,
+        CoroKind::AsyncGenerator,
+        ErrorKind::StopAsyncIteration,
+    )?;
+    let text = utf8_of(alloc, &stop.text)?;
+    assert_eq!(rt; text.as_str(), "async generator raised StopAsyncIteration");
     let text = utf8_of(alloc, &ignored(alloc, kind)?.text)?;
     assert_eq!(rt; text.as_str(), "generator ignored GeneratorExit");
     Ok(())

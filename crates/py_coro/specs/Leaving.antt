@@ -30,18 +30,18 @@ abbrev pub IsOfClass : List Payload → PyBaseExceptionRef → ErrorKind → Boo
 IsOfClass objects e kind b =
     (body : ExceptionBody) × HasPayload objects (as_object e) (payload.Exception body) × IsDerived objects (class_object body.class) (name_of kind) b
 
--- which of the classes of stops an exception is of, which says so of each, the first before the second
+-- which stop an exception is, by whether it is a StopIteration and whether it is a StopAsyncIteration; the first goes before
 abbrev pub stop_of : (stops stops_async : Bool) → Option ErrorKind
 stop_of true stops_async = Some StopIteration
 stop_of false true = Some StopAsyncIteration
 stop_of false false = None
 
--- as an instance of which class an exception is converted that comes out of one of this kind, if it is: a StopIteration is (PEP 479), and out
--- of an asynchronous generator a StopAsyncIteration, too (PEP 525)
-abbrev pub IsConverted : List Payload → CoroKind → PyBaseExceptionRef → Option ErrorKind → Type 0
-IsConverted objects kind.Generator e stop = (stops : Bool) × IsOfClass objects e StopIteration stops × (stop ≡ stop_of stops false)
-IsConverted objects kind.Coroutine e stop = (stops : Bool) × IsOfClass objects e StopIteration stops × (stop ≡ stop_of stops false)
-IsConverted objects kind.AsyncGenerator e stop =
+-- as which stop an exception is converted that comes out of one of this kind, if it is: a StopIteration is (PEP 479), and out of an
+-- asynchronous generator a StopAsyncIteration, too (PEP 525)
+abbrev pub ConvertsAs : List Payload → CoroKind → PyBaseExceptionRef → Option ErrorKind → Type 0
+ConvertsAs objects kind.Generator e stop = (stops : Bool) × IsOfClass objects e StopIteration stops × (stop ≡ stop_of stops false)
+ConvertsAs objects kind.Coroutine e stop = (stops : Bool) × IsOfClass objects e StopIteration stops × (stop ≡ stop_of stops false)
+ConvertsAs objects kind.AsyncGenerator e stop =
     (stops : Bool) × (stops_async : Bool) × IsOfClass objects e StopIteration stops × IsOfClass objects e StopAsyncIteration stops_async × (stop ≡ stop_of stops stops_async)
 
 -- what a yield is answered by
@@ -59,7 +59,7 @@ abbrev pub returned : (closing : Bool) → Obj → Payload → CoroAnswer
 returned true v p = answer.Closed
 returned false v p = answer.Stop (value_if v (is_none p))
 
--- what a raise is answered by, which is converted or isn't: a close is done where one exits
+-- what a raise is answered by, which is converted as this stop or isn't: a close is done where one exits
 abbrev pub raised : (closing : Bool) → PyBaseExceptionRef → Option ErrorKind → (exits : Bool) → CoroAnswer
 raised closing e (Some stop) exits = answer.Convert e stop
 raised true e None true = answer.Closed
@@ -71,4 +71,4 @@ abbrev pub Finishes : List Payload → CoroKind → (closing : Bool) → CoroEnd
 Finishes objects kind closing (left.Yield v) a = a ≡ yielded closing v
 Finishes objects kind closing (left.Return v) a = (p : Payload) × HasPayload objects v p × (a ≡ returned closing v p)
 Finishes objects kind closing (left.Raise e) a =
-    (stop : Option ErrorKind) × (exits : Bool) × IsConverted objects kind e stop × IsOfClass objects e GeneratorExit exits × (a ≡ raised closing e stop exits)
+    (stop : Option ErrorKind) × (exits : Bool) × ConvertsAs objects kind e stop × IsOfClass objects e GeneratorExit exits × (a ≡ raised closing e stop exits)

@@ -1,4 +1,4 @@
--- The texts of a generator's refusals (Python Language Reference, 6.2.9.1).
+-- What is raised of a generator itself: refusals, a stop that comes out, an ignored close (Python Language Reference, 6.2.9.1; PEP 479; PEP 525).
 use Rattle.std.specs.Prelude.{◌++◌, codes}
 use Rattle.py_objects.specs.declared.payload.CoroKind.{CoroKind}
 use Rattle.py_objects.specs.declared.payload.CoroKind.TheVariants as kind
@@ -26,7 +26,7 @@ refused word refusal.Running = record { kind = ValueError; text = word ++ codes 
 refused word refusal.FirstValue = record { kind = TypeError; text = codes "can't send non-None value to a just-started " ++ word }
 refused word refusal.TooDeep = record { kind = RecursionError; text = too_deep }
 
--- what a stop of this class that comes out becomes (PEP 479, PEP 525)
+-- what a stop of this class becomes that comes out
 abbrev pub stopping : Name → ErrorKind → Fault
 stopping word stop = record { kind = RuntimeError; text = word ++ codes " raised " ++ name_of stop }
 

@@ -66,8 +66,8 @@ pub enum CoroAnswer {
     Closed,
     /// This exception is raised.
     Raise(PyBaseExceptionRef),
-    /// This exception is of this class, StopIteration, or StopAsyncIteration out of an asynchronous generator: RuntimeError is raised, with
-    /// it as the cause (PEP 479, PEP 525).
+    /// This exception is a stop of this class, StopIteration, or out of an asynchronous generator StopAsyncIteration: RuntimeError is raised,
+    /// with the exception as its cause (PEP 479, PEP 525).
     Convert(PyBaseExceptionRef, ErrorKind),
     /// It yielded while it was closed, which is a RuntimeError.
     Ignored,

@@ -8,7 +8,7 @@ ghost use Rattle.py_objects.specs.declared.payload.ExceptionBody.{ExceptionBody}
 ghost use Rattle.py_objects.specs.declared.payload.Payload.{Payload as PayloadOf};
 ghost use Rattle.py_objects.specs.declared.payload.Payload.TheVariants.{Exception};
 ghost use Rattle.py_coro.specs.declared.coro.CoroEnd.TheVariants as left;
-ghost use Rattle.py_coro.specs.Leaving.{mode_behind, yielded as yield_answer, returned as return_answer, raised as raise_answer, stop_of, Finishes, IsConverted, IsOfClass};
+ghost use Rattle.py_coro.specs.Leaving.{mode_behind, yielded as yield_answer, returned as return_answer, raised as raise_answer, stop_of as stop_by, Finishes, ConvertsAs, IsOfClass};
 ghost use Rattle.py_coro.specs.Coros.{AreRead};
 ghost use Rattle.py_coro.specs.Stages.{mode_of, closing_of};
 
@@ -113,12 +113,12 @@ fn answer_of_raise(
     CoroAnswer::Raise(exc)
 }
 
-/// As an instance of which class an exception is converted that comes out of one of this kind, if it is: a StopIteration is (PEP 479), and
-/// out of an asynchronous generator a StopAsyncIteration, too (PEP 525).
+/// As which stop an exception is converted that comes out of one of this kind, if it is: a StopIteration is (PEP 479), and out of an
+/// asynchronous generator a StopAsyncIteration, too (PEP 525).
 fn converted_as(store: &Store, kind: CoroKind, exc: PyBaseExceptionRef) -> Option<ErrorKind>
     requires fit { AllFit store.now.made }
     requires exception { IsException store.now.made (as_object exc) }
-    ensures { IsConverted store.now.made kind exc result }
+    ensures { ConvertsAs store.now.made kind exc result }
 {
     let stops = is_of_class(store, exc, ErrorKind::StopIteration);
     match kind {
@@ -131,9 +131,9 @@ fn converted_as(store: &Store, kind: CoroKind, exc: PyBaseExceptionRef) -> Optio
     }
 }
 
-/// Which of the classes of stops an exception is of, which says so of each.
+/// Which stop an exception is, by whether it is a StopIteration and whether it is a StopAsyncIteration; the first goes before.
 fn stop_of(stops: bool, stops_async: bool) -> Option<ErrorKind>
-    ensures { result ≡ stop_of stops stops_async }
+    ensures { result ≡ stop_by stops stops_async }
 {
     if stops {
         return Some(ErrorKind::StopIteration);

@@ -1,4 +1,4 @@
-//! Why a call of a generator is refused, and the texts of what is raised then.
+//! Why a call of a generator is refused, and what is raised then, at a stop that comes out, and at a yield under a close.
 
 ghost use Rattle.std.specs.Prelude.{◌≡◌, ◌++◌, IfOk};
 ghost use Rattle.py_coro.specs.Refusals.{ignoring, refused, stopping, word_of};

@@ -23,7 +23,7 @@ use Rattle.py_exceptions.specs.Normalizing.{NormalizesWith, Normalizes}
 use Rattle.py_coro.specs.declared.coro.CoroEnd.{CoroEnd}
 use Rattle.py_coro.specs.declared.coro.CoroEnd.TheVariants as left
 use Rattle.py_coro.specs.declared.coro.CoroAnswer.{CoroAnswer}
-use Rattle.py_coro.specs.Leaving.{stop_of, IsConverted, IsOfClass, yielded, value_if, returned, raised, Finishes}
+use Rattle.py_coro.specs.Leaving.{stop_of, ConvertsAs, IsOfClass, yielded, value_if, returned, raised, Finishes}
 use Rattle.py_agreement.specs.Agreement.{Relation, SameException, SameMaybe, SameAll}
 use Rattle.py_determined.specs.Alike.{Alike, AreAlike}
 use Rattle.py_determined.specs.Sameness.{SameCtor, SameInstance, SameLeft, SameCoroAnswer}
@@ -139,8 +139,8 @@ module _ (S : Relation) (objects objects' : List Payload) (alike : AreAlike S ob
       derived_agree S objects objects' alike (class_object x.class) (class_object y.class) (name_of kind) b b'
       (alike.payloads (as_object e) (as_object f) (payload.Exception x) (payload.Exception y) same has has').class is is'
 
-  -- they are converted as one class on both sides out of one kind, or on none
-  converted_agree : (kind : CoroKind) (e f : PyBaseExceptionRef) (stop stop' : Option ErrorKind) → SameException S e f → IsConverted objects kind e stop → IsConverted objects' kind f stop' → stop ≡ stop'
+  -- they are converted as one stop on both sides out of one kind, or on none
+  converted_agree : (kind : CoroKind) (e f : PyBaseExceptionRef) (stop stop' : Option ErrorKind) → SameException S e f → ConvertsAs objects kind e stop → ConvertsAs objects' kind f stop' → stop ≡ stop'
   converted_agree coro.Generator e f stop stop' same (stops, is_stop, is) (stops', is_stop', is') =
       is ∙ (ap (λ (x : Bool). stop_of x false) (of_class_agree e f StopIteration stops stops' same is_stop is_stop') ∙ sym is')
   converted_agree coro.Coroutine e f stop stop' same (stops, is_stop, is) (stops', is_stop', is') =

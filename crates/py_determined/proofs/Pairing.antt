@@ -246,17 +246,6 @@ is_born (payload.Exception e) = true
 is_born (payload.Traceback t) = true
 is_born _ = false
 
--- no literal stands for one
-born_plain : (p : Payload) → is_born p ≡ true → has_literal p ≡ false
-born_plain (payload.Generator g) is = refl
-born_plain (payload.Exception e) is = refl
-born_plain (payload.Traceback t) is = refl
-born_plain payload.None is = absurd (cc is)
-born_plain (payload.Bool b) is = absurd (cc is)
-born_plain (payload.Int n) is = absurd (cc is)
-born_plain (payload.Str s) is = absurd (cc is)
-born_plain _ is = refl
-
 -- two objects that are new in their runs, with payloads that are alike
 pub record AreBorn (S : Relation) (objects objects' : List Payload) (es fs : List Event) (v w : Obj) : Type 0 where
   pub first : Payload
@@ -268,10 +257,6 @@ pub record AreBorn (S : Relation) (objects objects' : List Payload) (es fs : Lis
   pub alike : Alike S objects objects' first second
   pub new_first : IsNew objects es v.number
   pub new_second : IsNew objects' fs w.number
-
--- objects of one number are one
-of_number : (v w : Obj) → v.number ≡ w.number → v ≡ w
-of_number v w same = ap (λ n. numbered n) same
 
 -- objects of payloads of which only one may be are two
 apart : (objects : List Payload) (test : Payload → Bool) (v w : Obj) (p q : Payload) → HasPayload objects v p → HasPayload objects w q → test p ≡ true → test q ≡ false → eqb v.number w.number ≡ false

@@ -46,7 +46,7 @@ use Rattle.py_frame.specs.declared.input.FrameStep.TheVariants as frame_step
 use Rattle.py_frame.specs.declared.unit_step.UnitStep.{UnitStep}
 use Rattle.py_frame.specs.declared.unit_step.UnitStep.TheVariants as unit
 use Rattle.py_frame.specs.Added.{AddsConstants}
-use Rattle.py_frame.specs.Exits.{HasTraceback, IsTold, TellsTraceback, TellsIf, AskTellsExit, TellsExit, UnitTellsExit, UnitAtTellsExit}
+use Rattle.py_frame.specs.Exits.{HasTraceback, IsTold, TellsTraceback, TellsIf, RequestTellsExit, TellsExit, UnitTellsExit, UnitAtTellsExit}
 use Rattle.py_frame.specs.Frames.{Framed, setting_of}
 use Rattle.py_frame.specs.Steps.{told}
 use Rattle.py_frame.specs.UnitSteps.{done, tells}
@@ -58,18 +58,18 @@ use Rattle.py_frame.proofs.RunningLemmas.{IsSilent}
 -- a step of the rows that asks an exit asks it so
 abbrev StepAsks : Kept → Kept → Step → Type 0
 StepAsks before behind (Goes t) = Unit {0}
-StepAsks before behind (Tells (Asks at r own) t) = AskTellsExit before behind r
+StepAsks before behind (Tells (Asks at r own) t) = RequestTellsExit before behind r
 StepAsks before behind (Tells x t) = Unit {0}
 StepAsks before behind Stuck = Unit {0}
 
 module _ (before behind : Kept) where
   -- what is told of no exception, and of one
-  asked_with : (raised : Option PyBaseExceptionRef) (exit class v traceback : Obj) → IsExit behind.made raised class v traceback → TellsIf before behind raised traceback
-      → AskTellsExit before behind (request.Exit exit class v traceback)
-  asked_with None exit class v traceback (first, is_none, last) tells e has = let same : Some payload.None ≡ Some (payload.Exception e) = sym is_none ∙ has in cc
-  asked_with (Some r) exit class v traceback (same, is, below, kind) tells e has = subst (λ (w : Obj). TellsTraceback before behind w traceback) (sym same) tells
+  request_tells : (raised : Option PyBaseExceptionRef) (exit class v traceback : Obj) → IsExit behind.made raised class v traceback → TellsIf before behind raised traceback
+      → RequestTellsExit before behind (request.Exit exit class v traceback)
+  request_tells None exit class v traceback (first, is_none, last) tells e has = let same : Some payload.None ≡ Some (payload.Exception e) = sym is_none ∙ has in cc
+  request_tells (Some r) exit class v traceback (same, is, below, kind) tells e has = subst (λ (w : Obj). TellsTraceback before behind w traceback) (sym same) tells
 
-  module _ (s : State) (class v traceback : Obj) (with : (exit : Obj) → AskTellsExit before behind (request.Exit exit class v traceback)) where
+  module _ (s : State) (class v traceback : Obj) (with : (exit : Obj) → RequestTellsExit before behind (request.Exit exit class v traceback)) where
     top_asks : (stack : List Obj) → StepAsks before behind (takes_off stack (λ x rest. asks (request.Exit x class v traceback) s))
     top_asks [] = tt
     top_asks (x ∷ rest) = with x
@@ -89,20 +89,20 @@ module _ (before behind : Kept) where
     blocks_ask [] = tt
     blocks_ask (b ∷ outer) = type_asks b.typ b.level
 
-  did_as : (at : ℕ) (u : UnitStep) (t : State) → StepAsks before behind (done at u t) → UnitTellsExit before behind u
-  did_as at unit.Goes t all = tt
-  did_as at (unit.Tells (frame_step.Ask r own)) t all = all
-  did_as at (unit.Tells frame_step.Round) t all = tt
-  did_as at (unit.Tells (frame_step.Yield v)) t all = tt
-  did_as at (unit.Tells (frame_step.Return v)) t all = tt
-  did_as at (unit.Tells (frame_step.Raise e)) t all = tt
-  did_as at (unit.Tells frame_step.NoMemory) t all = tt
+  unit_tells : (at : ℕ) (u : UnitStep) (t : State) → StepAsks before behind (done at u t) → UnitTellsExit before behind u
+  unit_tells at unit.Goes t all = tt
+  unit_tells at (unit.Tells (frame_step.Ask r own)) t all = all
+  unit_tells at (unit.Tells frame_step.Round) t all = tt
+  unit_tells at (unit.Tells (frame_step.Yield v)) t all = tt
+  unit_tells at (unit.Tells (frame_step.Return v)) t all = tt
+  unit_tells at (unit.Tells (frame_step.Raise e)) t all = tt
+  unit_tells at (unit.Tells frame_step.NoMemory) t all = tt
 
   -- what was done by the row of the question
   pub exit_asked : (raised : Option PyBaseExceptionRef) (class v traceback : Obj) (s t : State) (at : ℕ) (u : UnitStep) → IsExit behind.made raised class v traceback → TellsIf before behind raised traceback
       → asks_exit s class v traceback ≡ done at u t → UnitTellsExit before behind u
   exit_asked raised class v traceback s t at u is tells row =
-      did_as at u t (subst (StepAsks before behind) row (blocks_ask s class v traceback (λ exit. asked_with raised exit class v traceback is tells) s.blocks))
+      unit_tells at u t (subst (StepAsks before behind) row (blocks_ask s class v traceback (λ exit. request_tells raised exit class v traceback is tells) s.blocks))
 
 -- ---- only that unit asks exits
 
@@ -215,7 +215,7 @@ module _ (first before behind : Kept) (adds : AddsConstants first.made before.ma
   told_then (Some t) v (inl (is, same)) = inl (traceback_before first.made before.made adds t is, same)
   told_then (Some t) v (inr (not, none)) = inr (λ (body, has). not (body, payload_grown first.made before.made t _ (adds_grow first.made before.made adds) has), none)
 
-  asked_then : (r : Request) → AskTellsExit before behind r → AskTellsExit first behind r
+  asked_then : (r : Request) → RequestTellsExit before behind r → RequestTellsExit first behind r
   asked_then (request.Exit exit class v traceback) asks = λ e has.
       let (t, tells, is_told) = asks e has in
       let there = exception_before first.made before.made adds v e (exception_before before.made behind.made more v e has) in
@@ -225,7 +225,7 @@ module _ (first before behind : Kept) (adds : AddsConstants first.made before.ma
   -- what a step tells that was silent so far
   module _ (names : List (List ℕ)) (code : Annotated) (sound : IsSound names code) (f g : Framed) (t : State) (silently : IsSilent before.made names code f g) where
     request_told : (r : Request) (own : Option PyBaseExceptionRef) → MayLead behind.made (moves (setting_of names code g) g.state.wants g.state) (Tells (Asks g.state.at r own) t)
-        → (g.state.wants ≡ expect.Go → UnitAtTellsExit (slice_get code.code.code.instructions.items g.state.at) before behind (unit.Tells (frame_step.Ask r own))) → AskTellsExit first behind r
+        → (g.state.wants ≡ expect.Go → UnitAtTellsExit (slice_get code.code.code.instructions.items g.state.at) before behind (unit.Tells (frame_step.Ask r own))) → RequestTellsExit first behind r
     request_told (request.Exit exit class v traceback) own may did =
         let told_step : Steps behind.made (setting_of names code g) g.state (Asks g.state.at (request.Exit exit class v traceback) own ∷ []) t = telling (Asks g.state.at (request.Exit exit class v traceback) own) t may in
         let all : AllMayTell behind.made code.code (Asks g.state.at (request.Exit exit class v traceback) own ∷ []) =

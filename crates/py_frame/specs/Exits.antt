@@ -32,14 +32,14 @@ abbrev pub TellsIf : Kept → Kept → Option PyBaseExceptionRef → Obj → Typ
 TellsIf before behind None told = Unit {0}
 TellsIf before behind (Some e) told = TellsTraceback before behind (as_object e) told
 
--- where an exit is asked, it is told this traceback of the exception that it is told; other requests tell none
-abbrev pub AskTellsExit : Kept → Kept → Request → Type 0
-AskTellsExit before behind (request.Exit exit class v traceback) = (e : ExceptionBody) → HasPayload behind.made v (payload.Exception e) → TellsTraceback before behind v traceback
-AskTellsExit before behind _ = Unit {0}
+-- a request to an exit tells it the traceback of the exception that it tells; other requests tell none
+abbrev pub RequestTellsExit : Kept → Kept → Request → Type 0
+RequestTellsExit before behind (request.Exit exit class v traceback) = (e : ExceptionBody) → HasPayload behind.made v (payload.Exception e) → TellsTraceback before behind v traceback
+RequestTellsExit before behind _ = Unit {0}
 
 -- the same of what a frame tells
 abbrev pub TellsExit : Kept → Kept → FrameStep → Type 0
-TellsExit before behind (step.Ask r own) = AskTellsExit before behind r
+TellsExit before behind (step.Ask r own) = RequestTellsExit before behind r
 TellsExit before behind step.Round = Unit {0}
 TellsExit before behind (step.Yield v) = Unit {0}
 TellsExit before behind (step.Return v) = Unit {0}

@@ -59,6 +59,7 @@ impl FrameCore {
         requires classes { ClassesAreThere store.old.made }
         requires safe { let f = over self.old (S.list stack.old) (S.room stack.old) in CanMove store.old.made f (act (setting_in code.now names.now f) op arg f.state) }
         ensures row { IfOk result (λ step. MayDo store.new.made (act (setting_in code.now names.now self.old) op arg) (over self.old (S.list stack.old) (S.room stack.old)) step (over self.new (S.list stack.new) (S.room stack.new))) }
+        // No other instruction asks an exit.
         ensures traceback { IfOk result (λ step. op ≡ WithCleanupStart → UnitTellsExit store.old store.new step) }
         ensures err { OnErr result ((over self.new (S.list stack.new) (S.room stack.new)) ≡ (over self.old (S.list stack.old) (S.room stack.old))) }
         ensures objects { AddsConstants store.old.made store.new.made }

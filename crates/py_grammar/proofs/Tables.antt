@@ -11,12 +11,13 @@ use Rattle.py_lines.specs.declared.drive.DriveAtom.TheVariants as argument
 use Rattle.py_lines.specs.declared.drive.DriveLine.{DriveLine}
 use Rattle.py_lines.specs.declared.drive.DriveLine.TheVariants as drive
 use Rattle.py_grammar.specs.declared.open_body.OpenBody.{OpenBody}
+use Rattle.py_grammar.specs.declared.reader.Reader.{Reader}
 use Rattle.py_grammar.specs.declared.table.Table.{Table}
 use Rattle.py_grammar.specs.declared.script.Declaration.{Declaration}
-use Rattle.py_grammar.specs.Script.{decl_of}
+use Rattle.py_grammar.specs.Script.{decl_of, decls_of}
 use Rattle.py_grammar.specs.Grammar.{Decl, ClassDecl, ManagerDecl, FunctionDecl, decl_name, functions_in, declared_as}
 use Rattle.py_grammar.specs.Rules.{Declared, is_among, all_differ, declares, declares_callable, is_class, is_base, is_new, is_builtin_class, may_declare, may_derive, may_manage, numbers_drive, is_drivable, is_thrown, may_drive}
-use Rattle.py_grammar.specs.Tables.{names_of, function_names, class_names, table_of, with_function_name, with_class_name, with_manager_name, is_new_by, is_base_by, may_derive_by, may_manage_by, may_head, is_drivable_by, is_thrown_by, may_drive_by}
+use Rattle.py_grammar.specs.Tables.{names_of, function_names, class_names, table_of, with_function_name, with_class_name, with_manager_name, is_new_by, is_base_by, may_derive_by, may_manage_by, may_head, is_drivable_by, is_thrown_by, may_drive_by, TableIsKept}
 
 -- the declarations' names, as the rules ask for them
 pub declares-names : (x : Name) (ts : List Decl) → declares x (map declared_as ts) ≡ is_among x (names_of ts)
@@ -32,7 +33,7 @@ and_false true = refl
 and_false false = refl
 
 -- only functions can be called
-pub callable-names : (x : Name) (ds : List Decl) → declares_callable x (map declared_as ds) ≡ is_among x (function_names ds)
+callable-names : (x : Name) (ds : List Decl) → declares_callable x (map declared_as ds) ≡ is_among x (function_names ds)
 callable-names x [] = refl
 callable-names x (ClassDecl c b ∷ ds) = ap (λ q. q || declares_callable x (map declared_as ds)) (and_false (bytes_eq x c)) ∙ callable-names x ds
 callable-names x (ManagerDecl m e y ∷ ds) = ap (λ q. q || declares_callable x (map declared_as ds)) (and_false (bytes_eq x m)) ∙ callable-names x ds
@@ -45,8 +46,12 @@ class-names x (ClassDecl c b ∷ ds) = ap (λ q. q || list_any (λ d. bytes_eq x
 class-names x (ManagerDecl m e y ∷ ds) = ap (λ q. q || list_any (λ d. bytes_eq x d.name && is_class d.kind) (map declared_as ds)) (and_false (bytes_eq x m)) ∙ class-names x ds
 class-names x (FunctionDecl t ∷ ds) = ap (λ q. q || list_any (λ d. bytes_eq x d.name && is_class d.kind) (map declared_as ds)) (and_false (bytes_eq x t.name)) ∙ class-names x ds
 
-pub base-names : (x : Name) (ds : List Decl) → is_base (map declared_as ds) x ≡ is_base_by (class_names ds) x
+base-names : (x : Name) (ds : List Decl) → is_base (map declared_as ds) x ≡ is_base_by (class_names ds) x
 base-names x ds = ap (λ b. b || is_builtin_class x) (class-names x ds)
+
+-- the table of a reader where no body is open
+pub table_outside : (r : Reader) → TableIsKept r → r.inside ≡ None → r.table ≡ table_of (decls_of r.whole) None
+table_outside r kept outside = kept ∙ ap (table_of (decls_of r.whole)) outside
 
 -- the rules on classes and managers, by the table
 pub may_derive_names : (ds : List Decl) (t : Table) (c b : Name) → t ≡ table_of ds None → may_derive_by t c b ≡ may_derive (map declared_as ds) c b
@@ -96,7 +101,7 @@ class_names-append (ClassDecl c b ∷ ds) es = ap (λ r. c ∷ r) (class_names-a
 class_names-append (ManagerDecl m e x ∷ ds) es = class_names-append ds es
 class_names-append (FunctionDecl t ∷ ds) es = class_names-append ds es
 
-abbrev pub table : List Name → List Name → List Name → Table
+abbrev table : List Name → List Name → List Name → Table
 table a b c = record { names = a; functions = b; classes = c }
 
 three : (a a2 b b2 c c2 : List Name) → a ≡ a2 → b ≡ b2 → c ≡ c2 → table a b c ≡ table a2 b2 c2
@@ -112,7 +117,7 @@ new_there names x rest h =
     let front = (and_parts (is_new_by names x) rest h).0 in
     not-true (is_among x names) (and_parts (not (is_among x names)) (not (is_builtin_class x)) front).0
 
--- what a program declares with one more behind it
+-- declarations with one more behind them, as the definitions see them
 pub decls_more : (old more : List Declaration) (d : Declaration) → more ≡ old ++ d ∷ [] → map decl_of more ≡ map decl_of old ++ decl_of d ∷ []
 decls_more old more d is = ap (map decl_of) is ∙ map-append decl_of old (d ∷ [])
 

@@ -1,8 +1,9 @@
 -- The program's reader and answers as the definitions see them.
-use Rattle.std.specs.Prelude.{ℕ, List, [], ◌∷◌, Option, Some, None, option_map}
+use Rattle.std.specs.Prelude.{◌≡◌, ℕ, Bool, List, [], ◌∷◌, Option, Some, None, option_map}
 use Rattle.std.specs.declared.result.Result.{Result}
 use Rattle.std.specs.declared.result.Result.TheVariants.{Ok, Err}
 use Rattle.py_tree.specs.Views.{clauses_of, suite_of}
+use Rattle.py_lines.specs.declared.line.Line.{Line}
 use Rattle.py_grammar.specs.declared.fault.ParseFault.{ParseFault}
 use Rattle.py_grammar.specs.declared.fault.ParseFault.TheVariants.{Malformed, NoMemory}
 use Rattle.py_grammar.specs.declared.open_body.BlockHead.{BlockHead}
@@ -14,8 +15,9 @@ use Rattle.py_grammar.specs.declared.open_body.Ended.TheVariants as ended
 use Rattle.py_grammar.specs.declared.reader.Reader.{Reader}
 use Rattle.py_grammar.specs.declared.script.Script.{Script}
 use Rattle.py_grammar.specs.Script.{decls_of, Text}
-use Rattle.py_grammar.specs.Reader.{Began, in_if, in_else, in_while, in_try, in_except, in_finally, in_with, Block, Open, Closing, whole_body, one_block, function_of, State, state, Good, Bad, WalksTo, start}
+use Rattle.py_grammar.specs.Reader.{Began, in_if, in_else, in_while, in_try, in_except, in_finally, in_with, Block, Open, Closing, whole_body, one_block, function_of, State, state, accept, only_if, Good, Bad, WalksTo, start}
 
+-- how an open block began
 abbrev pub began_of : BlockHead → Began
 began_of (block.If a) = in_if a
 began_of (block.Else a s) = in_else a (suite_of s)
@@ -25,6 +27,7 @@ began_of (block.Except s cs h) = in_except (suite_of s) (clauses_of cs) h.line h
 began_of (block.Finally s) = in_finally (suite_of s)
 began_of (block.With a x) = in_with a x
 
+-- an open block, and the body that is open
 abbrev pub block_of : OpenBlock → Block
 block_of b = record { before = suite_of b.before; line = b.line; began = began_of b.head }
 
@@ -46,8 +49,13 @@ closing_of ended.Body o = Some (whole_body (function_of (open_of o)))
 closing_of ended.Block o = Some (one_block (open_of o))
 closing_of ended.Nothing o = None
 
+-- what was read so far
 abbrev pub state_of : Reader → State
 state_of r = state (decls_of r.whole) r.whole.drives (option_map open_of r.inside)
+
+-- a reader took this line, or refused it
+abbrev pub IsTaken : (old new : Reader) → (taken : Bool) → ℕ → Line → Type 0
+IsTaken old new taken n l = only_if taken (state_of new) ≡ accept (state_of old) n l
 
 -- from a state on, lines come to this answer, unless memory ran out
 abbrev pub ComesToFault : State → ℕ → Text → ParseFault → Type 0

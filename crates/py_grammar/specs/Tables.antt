@@ -34,11 +34,11 @@ abbrev pub table_of : List Decl → Option OpenBody → Table
 table_of ds None = record { names = names_of ds; functions = function_names ds; classes = class_names ds }
 table_of ds (Some o) = record { names = names_of ds ++ o.name ∷ []; functions = function_names ds ++ o.name ∷ []; classes = class_names ds }
 
--- the reader's table is that of what it has read
-abbrev pub IsKept : Reader → Type 0
-IsKept r = r.table ≡ table_of (decls_of r.whole) r.inside
+-- the table of a reader is that of what it has read
+abbrev pub TableIsKept : Reader → Type 0
+TableIsKept r = r.table ≡ table_of (decls_of r.whole) r.inside
 
--- the table with one more name
+-- the table with the name of a function
 abbrev pub with_function_name : Table → Name → Table
 with_function_name t f = record { names = interned t.names f; functions = interned t.functions f; classes = t.classes }
 

@@ -1,6 +1,5 @@
 //! The body that is open while its lines are read, with the blocks that are open in it.
 //! A block lies on a stack until its `end`, so that no line walks over what was read before it.
-//! What is refused is let go of by a call, whose proof doesn't look into it, as that of a function's end does.
 
 ghost use Rattle.std.specs.Prelude.{◌≡◌, IfOk, option_map};
 ghost use Rattle.std.specs.List.{list_any};
@@ -312,7 +311,7 @@ impl OpenBody {
         Ok(true)
     }
 
-    /// Turns the innermost block to its next suite, where it may turn so.
+    /// Turns the innermost block to its next suite, where it may turn so; else the block is lost.
     #[tactic(auto, using(crate::proofs::Stacks::stack_push))]
     pub fn turn(&mut self, alloc: Global, number: u32, turn: Turn) -> Result<bool, NoMemory>
         ensures taken { IfOk result (λ taken. only_if taken (open_of self.new) ≡ goes_on (open_of self.old) number (TurnsLine turn)) }
@@ -331,7 +330,7 @@ impl OpenBody {
         Ok(true)
     }
 
-    /// Ends the innermost block, where it may end.
+    /// Ends the innermost block, where it may end; else the block is lost.
     #[tactic(auto, using(crate::proofs::Stacks::stack_push))]
     pub fn end(&mut self) -> Result<Ended, NoMemory>
         ensures ended { IfOk result (λ end. closing_of end self.new ≡ closed (open_of self.old) (open_of self.old).blocks) }
@@ -349,7 +348,7 @@ impl OpenBody {
         Ok(Ended::Block)
     }
 
-    /// The function that the body is, where no block is open in it.
+    /// The function that the body is at its end; a block that is still open is let go.
     pub fn function(self) -> Body
         ensures { tree_of result ≡ function_of (open_of self) }
     {

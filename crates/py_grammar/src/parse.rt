@@ -11,7 +11,7 @@ ghost use Rattle.py_grammar.specs.WellFormed.{IsWellFormed};
 ghost use Rattle.py_grammar.specs.Lines.{lines};
 ghost use Rattle.py_grammar.specs.Reader.{only_if, start, takes_line};
 ghost use Rattle.py_grammar.specs.Reading.{state_of, IsAnswerTo};
-ghost use Rattle.py_grammar.specs.Tables.{IsKept};
+ghost use Rattle.py_grammar.specs.Tables.{TableIsKept};
 ghost use Rattle.py_grammar.specs.declared.fault.ParseFault.TheVariants.{Malformed, NoMemory as OutOfMemory};
 ghost use Rattle.py_grammar.specs.declared.script.Script.{Script as ScriptOf};
 
@@ -31,9 +31,9 @@ fn push_bytes(
     number: u32,
     line: &[u8],
 ) -> Result<bool, NoMemory>
-    requires { IsKept reader.old }
+    requires { TableIsKept reader.old }
     ensures taken { IfOk result (λ taken. (read : Read) × IsReadAs line.now read × (only_if taken (state_of reader.new) ≡ takes_line (state_of reader.old) number read)) }
-    ensures kept { OnOk result (IsKept reader.new) }
+    ensures kept { OnOk result (TableIsKept reader.new) }
 {
     match read_line(alloc, line)? {
         LineRead::Blank => Ok(true),
@@ -42,10 +42,10 @@ fn push_bytes(
     }
 }
 
-/// What the lines of bytes say to a reader that has read nothing, one after another.
+/// Hands the lines of bytes to a reader that has read nothing, one after another, and says what they come to.
 fn push_lines(reader: &mut Reader, alloc: Global, bytes: &[u8]) -> Result<Script, ParseFault>
     requires few { length bytes.now ≤ 1048576 }
-    requires kept { IsKept reader.old }
+    requires kept { TableIsKept reader.old }
     requires start { state_of reader.old ≡ start }
     ensures { IsAnswerTo (lines bytes.now) result }
 {
@@ -61,7 +61,7 @@ fn push_lines(reader: &mut Reader, alloc: Global, bytes: &[u8]) -> Result<Script
     reader.finish(alloc, number)
 }
 
-/// What the lines of bytes come to.
+/// What the lines of bytes come to. The reader is lent, so that none of the ways out of the loop has to let it go.
 fn read_lines(alloc: Global, bytes: &[u8]) -> Result<Script, ParseFault>
     requires { length bytes.now ≤ 1048576 }
     ensures { IsAnswerTo (lines bytes.now) result }

@@ -4,9 +4,9 @@ ghost use Rattle.std.specs.Prelude.{◌≡◌, [], IfOk, OnOk, None, option_map}
 ghost use Rattle.py_lines.specs.declared.header.Header.TheVariants.{Class as ClassHeader, Def as DefHeader, Manager as ManagerHeader};
 ghost use Rattle.py_lines.specs.declared.line.Line.TheVariants.{Drive as DrivenLine, End as EndLine, Header as HeaderLine, Opens as OpensLine, Plain as PlainLine, Turns as TurnsLine};
 ghost use Rattle.py_grammar.specs.Script.{decls_of};
-ghost use Rattle.py_grammar.specs.Reader.{accept, closes, function_of, headed, only_if, start, whole_body};
-ghost use Rattle.py_grammar.specs.Reading.{ComesTo, state_of};
-ghost use Rattle.py_grammar.specs.Tables.{IsKept};
+ghost use Rattle.py_grammar.specs.Reader.{closes, function_of, headed, only_if, start, whole_body};
+ghost use Rattle.py_grammar.specs.Reading.{state_of, ComesTo, IsTaken};
+ghost use Rattle.py_grammar.specs.Tables.{TableIsKept};
 
 use crate::fault::ParseFault;
 use crate::open_body::{Ended, OpenBody};
@@ -44,7 +44,7 @@ impl Reader {
     /// A reader that has read nothing.
     pub fn new(alloc: Global) -> Reader
         ensures state { state_of result ≡ start }
-        ensures kept { IsKept result }
+        ensures kept { TableIsKept result }
     {
         Reader {
             whole: no_script(alloc),
@@ -53,11 +53,11 @@ impl Reader {
         }
     }
 
-    /// Declares the function whose body is open, and has ended.
-    fn declare(&mut self) -> Result<bool, NoMemory>
-        requires { IsKept self.old }
+    /// Declares the function that the open body is at its end, where one is open.
+    fn declare_function(&mut self) -> Result<bool, NoMemory>
+        requires { TableIsKept self.old }
         ensures taken { IfOk result (λ taken. only_if taken (state_of self.new) ≡ option_map (λ body. closes (decls_of self.old.whole) self.old.whole.drives (whole_body (function_of body))) (state_of self.old).inside) }
-        ensures kept { OnOk result (IsKept self.new) }
+        ensures kept { OnOk result (TableIsKept self.new) }
     {
         let Some(body) = self.inside.take() else {
             return Ok(false);
@@ -68,17 +68,17 @@ impl Reader {
         Ok(true)
     }
 
-    /// Takes an `end`, where a body is open and it may stand there.
+    /// Takes an `end`, where a body is open and it may stand there; the number of its line is kept nowhere.
     fn end(&mut self) -> Result<bool, NoMemory>
-        requires { IsKept self.old }
-        ensures taken { IfOk result (λ taken. only_if taken (state_of self.new) ≡ accept (state_of self.old) 0 EndLine) }
-        ensures kept { OnOk result (IsKept self.new) }
+        requires { TableIsKept self.old }
+        ensures taken { IfOk result (λ taken. IsTaken self.old self.new taken 0 EndLine) }
+        ensures kept { OnOk result (TableIsKept self.new) }
     {
         let Some(body) = &mut self.inside else {
             return Ok(false);
         };
         match body.end()? {
-            Ended::Body => self.declare(),
+            Ended::Body => self.declare_function(),
             Ended::Block => Ok(true),
             Ended::Nothing => Ok(false),
         }
@@ -86,9 +86,9 @@ impl Reader {
 
     /// Takes a plain line, where a body is open and it may stand there.
     fn hold(&mut self, number: u32, plain: Plain) -> Result<bool, NoMemory>
-        requires { IsKept self.old }
-        ensures taken { IfOk result (λ taken. only_if taken (state_of self.new) ≡ accept (state_of self.old) number (PlainLine plain)) }
-        ensures kept { OnOk result (IsKept self.new) }
+        requires { TableIsKept self.old }
+        ensures taken { IfOk result (λ taken. IsTaken self.old self.new taken number (PlainLine plain)) }
+        ensures kept { OnOk result (TableIsKept self.new) }
     {
         match &mut self.inside {
             Some(body) => body.hold(number, plain),
@@ -100,10 +100,10 @@ impl Reader {
     }
 
     /// Takes a line that opens a block, likewise.
-    fn open(&mut self, alloc: Global, number: u32, head: Head) -> Result<bool, NoMemory>
-        requires { IsKept self.old }
-        ensures taken { IfOk result (λ taken. only_if taken (state_of self.new) ≡ accept (state_of self.old) number (OpensLine head)) }
-        ensures kept { OnOk result (IsKept self.new) }
+    fn open_block(&mut self, alloc: Global, number: u32, head: Head) -> Result<bool, NoMemory>
+        requires { TableIsKept self.old }
+        ensures taken { IfOk result (λ taken. IsTaken self.old self.new taken number (OpensLine head)) }
+        ensures kept { OnOk result (TableIsKept self.new) }
     {
         match &mut self.inside {
             Some(body) => body.open(alloc, number, head),
@@ -115,10 +115,10 @@ impl Reader {
     }
 
     /// Takes a line that turns a block to its next suite, likewise.
-    fn turn(&mut self, alloc: Global, number: u32, turn: Turn) -> Result<bool, NoMemory>
-        requires { IsKept self.old }
-        ensures taken { IfOk result (λ taken. only_if taken (state_of self.new) ≡ accept (state_of self.old) number (TurnsLine turn)) }
-        ensures kept { OnOk result (IsKept self.new) }
+    fn turn_block(&mut self, alloc: Global, number: u32, turn: Turn) -> Result<bool, NoMemory>
+        requires { TableIsKept self.old }
+        ensures taken { IfOk result (λ taken. IsTaken self.old self.new taken number (TurnsLine turn)) }
+        ensures kept { OnOk result (TableIsKept self.new) }
     {
         match &mut self.inside {
             Some(body) => body.turn(alloc, number, turn),
@@ -129,9 +129,9 @@ impl Reader {
         }
     }
 
-    /// Opens the body of a function, where no body is open and it may be declared.
+    /// Opens the body of a function, where that may be declared.
     #[tactic(auto, using(crate::proofs::Tables::may_head_names, crate::proofs::Tables::table_open))]
-    fn begin(
+    fn open_function(
         &mut self,
         alloc: Global,
         number: u32,
@@ -139,10 +139,10 @@ impl Reader {
         name: PyText,
         params: ParamList,
     ) -> Result<bool, NoMemory>
-        requires kept { IsKept self.old }
+        requires kept { TableIsKept self.old }
         requires outside { self.old.inside ≡ None }
         ensures taken { IfOk result (λ taken. only_if taken (state_of self.new) ≡ headed (decls_of self.old.whole) self.old.whole.drives number (DefHeader kind name params)) }
-        ensures kept { OnOk result (IsKept self.new) }
+        ensures kept { OnOk result (TableIsKept self.new) }
     {
         if !may_declare(&self.table.names, &name, &params) {
             return Ok(false);
@@ -152,13 +152,13 @@ impl Reader {
         Ok(true)
     }
 
-    /// Declares a class, where no body is open and it may be declared; the number of its line is kept nowhere.
+    /// Declares a class, where it may be declared; the number of its line is kept nowhere.
     #[tactic(auto, using(crate::proofs::Tables::may_derive_names))]
-    fn class(&mut self, name: PyText, base: PyText) -> Result<bool, NoMemory>
-        requires kept { IsKept self.old }
+    fn declare_class(&mut self, name: PyText, base: PyText) -> Result<bool, NoMemory>
+        requires kept { TableIsKept self.old }
         requires outside { self.old.inside ≡ None }
         ensures taken { IfOk result (λ taken. only_if taken (state_of self.new) ≡ headed (decls_of self.old.whole) self.old.whole.drives 0 (ClassHeader name base)) }
-        ensures kept { OnOk result (IsKept self.new) }
+        ensures kept { OnOk result (TableIsKept self.new) }
     {
         if !may_derive(&self.table, &name, &base) {
             return Ok(false);
@@ -172,11 +172,16 @@ impl Reader {
 
     /// Declares a manager, likewise.
     #[tactic(auto, using(crate::proofs::Tables::may_manage_names))]
-    fn manager(&mut self, name: PyText, enter: PyText, exit: PyText) -> Result<bool, NoMemory>
-        requires kept { IsKept self.old }
+    fn declare_manager(
+        &mut self,
+        name: PyText,
+        enter: PyText,
+        exit: PyText,
+    ) -> Result<bool, NoMemory>
+        requires kept { TableIsKept self.old }
         requires outside { self.old.inside ≡ None }
         ensures taken { IfOk result (λ taken. only_if taken (state_of self.new) ≡ headed (decls_of self.old.whole) self.old.whole.drives 0 (ManagerHeader name enter exit)) }
-        ensures kept { OnOk result (IsKept self.new) }
+        ensures kept { OnOk result (TableIsKept self.new) }
     {
         if !may_manage(&self.table, &name, &enter, &exit) {
             return Ok(false);
@@ -189,27 +194,29 @@ impl Reader {
     }
 
     /// Takes a header, where no body is open and it may stand there.
-    fn head(&mut self, alloc: Global, number: u32, header: Header) -> Result<bool, NoMemory>
-        requires { IsKept self.old }
-        ensures taken { IfOk result (λ taken. only_if taken (state_of self.new) ≡ accept (state_of self.old) number (HeaderLine header)) }
-        ensures kept { OnOk result (IsKept self.new) }
+    fn take_header(&mut self, alloc: Global, number: u32, header: Header) -> Result<bool, NoMemory>
+        requires { TableIsKept self.old }
+        ensures taken { IfOk result (λ taken. IsTaken self.old self.new taken number (HeaderLine header)) }
+        ensures kept { OnOk result (TableIsKept self.new) }
     {
         if self.inside.is_some() {
             mem::drop(header);
             return Ok(false);
         }
         match header {
-            Header::Def(kind, name, params) => self.begin(alloc, number, kind, name, params),
-            Header::Class(name, base) => self.class(name, base),
-            Header::Manager(name, enter, exit) => self.manager(name, enter, exit),
+            Header::Def(kind, name, params) => self.open_function(
+                alloc, number, kind, name, params,
+            ),
+            Header::Class(name, base) => self.declare_class(name, base),
+            Header::Manager(name, enter, exit) => self.declare_manager(name, enter, exit),
         }
     }
 
     /// Takes a drive, where no body is open and it may stand there; the number of its line is kept nowhere.
-    fn drive(&mut self, drive: DriveLine) -> Result<bool, NoMemory>
-        requires { IsKept self.old }
-        ensures taken { IfOk result (λ taken. only_if taken (state_of self.new) ≡ accept (state_of self.old) 0 (DrivenLine drive)) }
-        ensures kept { OnOk result (IsKept self.new) }
+    fn take_drive(&mut self, drive: DriveLine) -> Result<bool, NoMemory>
+        requires { TableIsKept self.old }
+        ensures taken { IfOk result (λ taken. IsTaken self.old self.new taken 0 (DrivenLine drive)) }
+        ensures kept { OnOk result (TableIsKept self.new) }
     {
         if self.inside.is_some() || !may_drive(&self.table, &self.whole, &drive) {
             mem::drop(drive);
@@ -219,23 +226,25 @@ impl Reader {
         Ok(true)
     }
 
-    /// Takes one more line that says something, where that may stand here.
+    /// Takes one more line that says something, where that may stand here. Behind a line that it refuses, and where memory ran out, what was
+    /// read stands for nothing.
     pub fn push_line(&mut self, alloc: Global, number: u32, line: Line) -> Result<bool, NoMemory>
-        requires { IsKept self.old }
-        ensures taken { IfOk result (λ taken. only_if taken (state_of self.new) ≡ accept (state_of self.old) number line) }
-        ensures kept { OnOk result (IsKept self.new) }
+        requires { TableIsKept self.old }
+        ensures taken { IfOk result (λ taken. IsTaken self.old self.new taken number line) }
+        ensures kept { OnOk result (TableIsKept self.new) }
     {
         match line {
             Line::End => self.end(),
             Line::Plain(plain) => self.hold(number, plain),
-            Line::Opens(head) => self.open(alloc, number, head),
-            Line::Turns(turn) => self.turn(alloc, number, turn),
-            Line::Header(header) => self.head(alloc, number, header),
-            Line::Drive(drive) => self.drive(drive),
+            Line::Opens(head) => self.open_block(alloc, number, head),
+            Line::Turns(turn) => self.turn_block(alloc, number, turn),
+            Line::Header(header) => self.take_header(alloc, number, header),
+            Line::Drive(drive) => self.take_drive(drive),
         }
     }
 
-    /// Hands out the script at the end of the lines, of which this would be the number of the next.
+    /// Hands out the script where no body is open, and leaves an empty one in its place, for which it takes the allocator; else the line
+    /// behind the last one is the bad one, which has this number.
     pub fn finish(&mut self, alloc: Global, number: u32) -> Result<Script, ParseFault>
         ensures { ComesTo (state_of self.old) number [] result }
     {

@@ -290,7 +290,7 @@ fit_more objects q fit below made i p here =
       | inr back ↦ subst Fits (one_entry q p _ back) (below_more _ _ _ longer below, made_grown _ _ q grows made)
     ]
 
--- an entry that a machine with so many codes may add
+-- an entry that a host may add beside so many codes
 pub record MayBeAdded (objects : List Payload) (codes : ℕ) (p : Payload) : Type 0 where
   pub below : AllBelow (length objects) (payload_numbers p)
   pub made : IsMade objects p

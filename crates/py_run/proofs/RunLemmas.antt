@@ -22,7 +22,7 @@ use Rattle.py_coro.specs.declared.coro.CoroAnswer.{CoroAnswer}
 use Rattle.py_coro.specs.declared.coro.CoroEnd.{CoroEnd}
 use Rattle.py_coro.specs.declared.coro.CoroEnd.TheVariants as left
 use Rattle.py_coro.specs.Modes.{Mode, Fresh, Suspended, Running, Closed}
-use Rattle.py_coro.specs.Leaving.{IsConverted, IsOfClass, Finishes}
+use Rattle.py_coro.specs.Leaving.{ConvertsAs, IsOfClass, Finishes}
 use Rattle.py_answers.specs.Answers.{Reply}
 use Rattle.py_answers.proofs.RepliesLemmas.{gives_body_grow, gives_drive_grow, raise_grows, replies_grow}
 use Rattle.py_answers.proofs.ThrownLemmas.{normalizes_grow}
@@ -96,8 +96,8 @@ of_class_grows : (objects objects' : List Payload) (e : PyBaseExceptionRef) (kin
 of_class_grows objects objects' e kind b grows (body, has, derived) =
     (body, payload_grown objects objects' _ _ (plainly_grows objects objects' grows) has, derived_grows objects objects' (class_object body.class) (name_of kind) b grows derived)
 
--- and as which one it is converted
-converted_grows : (objects objects' : List Payload) (kind : CoroKind) (e : PyBaseExceptionRef) (stop : Option ErrorKind) → GrowsPlainly objects objects' → IsConverted objects kind e stop → IsConverted objects' kind e stop
+-- and as which stop it is converted
+converted_grows : (objects objects' : List Payload) (kind : CoroKind) (e : PyBaseExceptionRef) (stop : Option ErrorKind) → GrowsPlainly objects objects' → ConvertsAs objects kind e stop → ConvertsAs objects' kind e stop
 converted_grows objects objects' coro.Generator e stop grows (stops, a_stop, is) = (stops, of_class_grows objects objects' e StopIteration stops grows a_stop, is)
 converted_grows objects objects' coro.Coroutine e stop grows (stops, a_stop, is) = (stops, of_class_grows objects objects' e StopIteration stops grows a_stop, is)
 converted_grows objects objects' coro.AsyncGenerator e stop grows (stops, stops_async, a_stop, an_async, is) =

@@ -1,6 +1,6 @@
 -- What comes of an activation that was left, or that was made.
 use Rattle.std.proofs.Common.{◌≡◌, ◌<◌, ◌++◌, ℕ, List, [], ◌∷◌, Bool, true, false, Some, inl, inr, refl, sym, ap, subst, ◌∙◌, length, arith}
-use Rattle.std.specs.Prelude.{Option, Some, None}
+use Rattle.std.specs.Prelude.{Option, None}
 use Rattle.std.proofs.lemmas.Bool.Decides.{eqb_tells}
 use Rattle.py_objects.specs.declared.refs.PyBaseExceptionRef.{PyBaseExceptionRef}
 use Rattle.py_objects.specs.declared.payload.Payload.{Payload}
@@ -66,12 +66,12 @@ finishes_kept objects kind true (left.Yield v) a s is = ap (λ x. kept_by x s) i
 finishes_kept objects kind false (left.Yield v) a s is = ap (λ x. kept_by x s) is
 finishes_kept objects kind true (left.Return v) a s (p, has, is) = ap (λ x. kept_by x s) is
 finishes_kept objects kind false (left.Return v) a s (p, has, is) = ap (λ x. kept_by x s) is
-finishes_kept objects kind true (left.Raise e) a s (converted, exits, is_converted, of_exit, is) = ap (λ x. kept_by x s) is ∙ closed converted exits
+finishes_kept objects kind true (left.Raise e) a s (stop, exits, is_converted, of_exit, is) = ap (λ x. kept_by x s) is ∙ closed stop exits
   where
-    closed : (converted exits : Bool) → kept_by (raised true e converted exits) s ≡ None
-    closed true exits = refl
-    closed false true = refl
-    closed false false = refl
+    closed : (stop : Option ErrorKind) (exits : Bool) → kept_by (raised true e stop exits) s ≡ None
+    closed (Some x) exits = refl
+    closed None true = refl
+    closed None false = refl
 finishes_kept objects kind false (left.Raise e) a s (stop, exits, is_converted, of_exit, is) = ap (λ x. kept_by x s) is ∙ raises stop
   where
     raises : (stop : Option ErrorKind) → kept_by (raised false e stop exits) s ≡ None

@@ -3,7 +3,7 @@ use Rattle.py_tree.specs.Views.{tree_of}
 use Rattle.py_grammar.specs.Script.{decls_of}
 use Rattle.py_grammar.specs.Tables.{table_of}
 use Rattle.py_grammar.proofs.Tables.{decls_more, table_closed}
-use Rattle.py_grammar.proofs.reader.Reader.declare.Goals as goal
+use Rattle.py_grammar.proofs.reader.Reader.declare_function.Goals as goal
 
 pub returns-clause-kept : goal.returns-clause-kept
 returns-clause-kept c =
