@@ -1,7 +1,7 @@
 -- The journals of generators worked by hand are runs.
 use Rattle.std.proofs.Common.{◌≡◌, List, [], ◌∷◌, true, false, Some, None, inl, inr, refl, subst, lit<, arith}
 use Rattle.std.specs.Prelude.{codes, drop}
-use Rattle.py_objects.specs.declared.error_kind.ErrorKind.TheVariants.{RuntimeError, TypeError, ValueError}
+use Rattle.py_objects.specs.declared.error_kind.ErrorKind.TheVariants.{RuntimeError, StopIteration, TypeError, ValueError}
 use Rattle.py_objects.specs.declared.payload.Payload.{Payload}
 use Rattle.py_objects.specs.declared.payload.CoroKind.TheVariants as coro
 use Rattle.py_objects.specs.declared.event.DriveAnswer.TheVariants as answer
@@ -113,7 +113,7 @@ stop_comes =
               refl,
               (
                 FailsFrom RuntimeError (codes "generator raised StopIteration") (exception 7),
-                (_, refl, (generator_body, refl, _, (true, false, (_, refl, (_, refl, refl)), (_, refl, (_, refl, refl)), refl), refl)),
+                (_, refl, (generator_body, refl, _, (Some StopIteration, false, (true, (_, refl, (_, refl, refl)), refl), (_, refl, (_, refl, refl)), refl), refl)),
                 stop_new,
               ),
             ),
@@ -150,7 +150,7 @@ self_comes =
             (refl, (Fails ValueError (codes "generator already executing"), (_, refl, send_is _ _ _ _ generator_body _ _ _ refl refl refl refl), self_new)),
             (
               (refl, refl),
-              ((refl, refl, (Passes (This (exception 7)), (_, refl, (generator_body, refl, _, (false, false, (_, refl, (_, refl, refl)), (_, refl, (_, refl, refl)), refl), refl)), refl)), tt),
+              ((refl, refl, (Passes (This (exception 7)), (_, refl, (generator_body, refl, _, (None, false, (false, (_, refl, (_, refl, refl)), refl), (_, refl, (_, refl, refl)), refl), refl)), refl)), tt),
             ),
           ),
         ),
@@ -259,7 +259,7 @@ throw_comes =
         (Called (record { number = 4 }) [], (refl, (_, refl, throw_is _ _ _ _ _ generator_body fresh _ refl refl (_, class_thrown, refl))), thrown_new),
         (
           (refl, refl),
-          ((refl, refl, (Passes (This (exception 11)), (_, refl, (refl, (generator_body, refl, _, (false, false, (_, refl, (_, refl, refl)), (_, refl, (_, refl, refl)), refl), refl))), refl)), tt),
+          ((refl, refl, (Passes (This (exception 11)), (_, refl, (refl, (generator_body, refl, _, (None, false, (false, (_, refl, (_, refl, refl)), refl), (_, refl, (_, refl, refl)), refl), refl))), refl)), tt),
         ),
       ),
     )
@@ -292,7 +292,7 @@ handled_comes =
                   (
                     (refl, refl),
                     (
-                      (refl, (Passes (This (exception 7)), (_, refl, (generator_body, refl, _, (false, false, (_, refl, (_, refl, refl)), (_, refl, (_, refl, refl)), refl), refl)), refl)),
+                      (refl, (Passes (This (exception 7)), (_, refl, (generator_body, refl, _, (None, false, (false, (_, refl, (_, refl, refl)), refl), (_, refl, (_, refl, refl)), refl), refl)), refl)),
                       (
                         (refl, refl),
                         ((refl, refl, (Passes (This (exception 7)), (_, refl, (refl, refl)), refl)), tt),
