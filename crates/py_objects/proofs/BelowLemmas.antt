@@ -11,21 +11,18 @@ use Rattle.py_objects.specs.Pairs.{Pairs, with_value}
 use Rattle.py_objects.specs.Keys.{place_of_key, put_at, dropped_at}
 use Rattle.py_objects.specs.Edits.{edited, edited_entry, edit_numbers, with_edit}
 use Rattle.py_objects.specs.Originals.{dict_numbers, DictsBelow, ChangesBelow}
+use Rattle.py_objects.proofs.GrowthLemmas.{below_more}
 
 -- ---- a higher bound
 
-pub AllBelow-more : (n m : ℕ) (ns : List ℕ) → n ≤ m → AllBelow n ns → AllBelow m ns
-AllBelow-more n m [] le below = tt
-AllBelow-more n m (k ∷ ns) le below = (omega (arith, below.0), AllBelow-more n m ns le below.1)
-
 pub DictsBelow-more : (n m : ℕ) (ps : List Payload) → n ≤ m → DictsBelow n ps → DictsBelow m ps
 DictsBelow-more n m [] le below = tt
-DictsBelow-more n m (p ∷ ps) le below = (AllBelow-more n m (dict_numbers p) le below.0, DictsBelow-more n m ps le below.1)
+DictsBelow-more n m (p ∷ ps) le below = (below_more n m (dict_numbers p) le below.0, DictsBelow-more n m ps le below.1)
 
 pub ChangesBelow-more : (n m : ℕ) (cs : List Change) → n ≤ m → ChangesBelow n cs → ChangesBelow m cs
 ChangesBelow-more n m [] le below = tt
 ChangesBelow-more n m (c ∷ cs) le below =
-    (omega (arith, below.0), AllBelow-more n m (edit_numbers c.edit) le below.1, ChangesBelow-more n m cs le below.2)
+    (omega (arith, below.0), below_more n m (edit_numbers c.edit) le below.1, ChangesBelow-more n m cs le below.2)
 
 -- ---- one more
 
