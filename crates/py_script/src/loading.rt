@@ -1,6 +1,7 @@
 //! The declarations of a script in a machine: their codes, their objects, and the dict of their names.
 
 ghost use Rattle.std.specs.Prelude.{false, ◌≡◌, ◌<◌, [], IfOk, OnOk, map, length, All};
+ghost use Rattle.py_objects.specs.declared.payload.Payload.TheVariants as payload;
 ghost use Rattle.py_objects.specs.Objects.{HasPayload, pair_numbers, AllBelow};
 ghost use Rattle.py_laid.specs.Fits.{Fits, Continues};
 ghost use Rattle.py_tree.specs.Compilable.{IsCompilable};
@@ -22,7 +23,7 @@ use crate::fault::LoadFault;
 use crate::session::Session;
 use py_body::compile_body;
 use py_check::CheckedCode;
-use py_code::{Names, NoMemory};
+use py_code::{Names, NoMemory, PyText};
 use py_grammar::{Declaration, Script};
 use py_objects::{ObjList, PairList, Payload, PyObjectRef};
 use py_tree::Body;
@@ -97,6 +98,21 @@ pub(crate) fn add_value(vm: &mut VirtualMachine, value: Payload) -> Result<PyObj
     }
 }
 
+/// A new object of a text.
+pub(crate) fn add_text(
+    alloc: Global,
+    vm: &mut VirtualMachine,
+    text: &PyText,
+) -> Result<PyObjectRef, NoMemory>
+    ensures works { OnOk result (vm.new.failed ≡ false) }
+    ensures is { IfOk result (λ object. HasPayload vm.new.objects object (payload.Str text.now)) }
+    ensures below { IfOk result (λ object. object.number < length vm.new.objects) }
+    ensures grew { OnlyGrew vm.old vm.new }
+{
+    let text = text.copy(alloc)?;
+    add_value(vm, Payload::Str(text))
+}
+
 /// Makes a text of each declaration's name, and pairs it with what is declared under it.
 fn bind_names(
     alloc: Global,
@@ -113,7 +129,7 @@ fn bind_names(
     for declaration in declarations {
         let name = declaration.name();
         let value = object_named(vm, name);
-        let key = add_value(vm, Payload::Str(name.copy(alloc)?))?;
+        let key = add_text(alloc, vm, name)?;
         pairs.push((key, value))?;
     }
     Ok(pairs)

@@ -1,6 +1,7 @@
 //! The representation of objects, behind a text.
 
 ghost use Rattle.std.specs.Prelude.{◌≡◌, ◌++◌, Some, OnOk, string_bytes, encode_utf8_all, codes, if◌then◌else◌};
+ghost use Rattle.std.specs.Fmt.{signed_decimal};
 ghost use Rattle.py_code.specs.BuiltinNames.{builtin_name};
 ghost use Rattle.py_objects.specs.Objects.{class_object};
 ghost use Rattle.py_meaning.specs.Repr.{class_name, coro_front, coro_of, dict_of, in_parentheses, items_of, joined, pair_by, payload_of, repr_within, shown, tuple_of};
@@ -37,27 +38,26 @@ fn push_payload(
     ensures { OnOk result (string_bytes out.new ≡ string_bytes out.old ++ shown (inner_at depth objects.now) objects.now (Some payload.now)) }
 {
     match payload {
-        Payload::None => out.push_str("None")?,
-        Payload::Bool(value) => push_bool(out, *value)?,
-        Payload::Int(number) => write!(out, "{number}")?,
-        Payload::Str(text) => push_quoted(out, text)?,
-        Payload::Tuple(items) => push_tuple(out, objects, items.as_slice(), depth)?,
-        Payload::Dict(pairs) => push_dict(out, objects, pairs.as_slice(), depth)?,
-        Payload::Class(class) => push_named(out, "<class '", &class.value().name, "'>")?,
-        Payload::Function(function) => push_named(out, "<function ", &function.name, ">")?,
-        Payload::Builtin(function) => push_builtin(out, *function)?,
-        Payload::Manager(manager) => push_named(out, "<manager ", &manager.name, ">")?,
-        Payload::Frame(_) => out.push_str("<frame>")?,
-        Payload::Generator(coro) => push_coro(out, coro)?,
+        Payload::None => push_words(out, "None"),
+        Payload::Bool(value) => push_bool(out, *value),
+        Payload::Int(number) => push_number(out, *number),
+        Payload::Str(text) => push_quoted(out, text),
+        Payload::Tuple(items) => push_tuple(out, objects, items.as_slice(), depth),
+        Payload::Dict(pairs) => push_dict(out, objects, pairs.as_slice(), depth),
+        Payload::Class(class) => push_named(out, "<class '", &class.value().name, "'>"),
+        Payload::Function(function) => push_named(out, "<function ", &function.name, ">"),
+        Payload::Builtin(function) => push_builtin(out, *function),
+        Payload::Manager(manager) => push_named(out, "<manager ", &manager.name, ">"),
+        Payload::Frame(_) => push_words(out, "<frame>"),
+        Payload::Generator(coro) => push_coro(out, coro),
         Payload::Exception(exception) => {
             let exception = exception.value();
             push_class_name(out, objects, exception.class)?;
             let items = tuple_items(objects, exception.args);
-            push_in_parentheses(out, objects, items, depth)?;
+            push_in_parentheses(out, objects, items, depth)
         }
-        Payload::Traceback(_) => out.push_str("<traceback>")?,
+        Payload::Traceback(_) => push_words(out, "<traceback>"),
     }
-    Ok(())
 }
 
 #[cycle(repr)]
@@ -70,16 +70,14 @@ fn push_tuple(
     ensures { OnOk result (string_bytes out.new ≡ string_bytes out.old ++ tuple_of (inner_at depth objects.now) items.now) }
 {
     if depth == 0 {
-        out.push_str("(...)")?;
-        return Ok(());
+        return push_words(out, "(...)");
     }
     out.push_str("(")?;
     push_joined(out, objects, items, depth - 1)?;
     if items.len() == 1 {
         out.push_str(",")?;
     }
-    out.push_str(")")?;
-    Ok(())
+    push_words(out, ")")
 }
 
 #[cycle(repr)]
@@ -92,8 +90,7 @@ fn push_in_parentheses(
     ensures { OnOk result (string_bytes out.new ≡ string_bytes out.old ++ in_parentheses (inner_at depth objects.now) items.now) }
 {
     if depth == 0 {
-        out.push_str("(...)")?;
-        return Ok(());
+        return push_words(out, "(...)");
     }
     push_enclosed(out, objects, items, depth - 1)
 }
@@ -110,8 +107,7 @@ pub(crate) fn push_enclosed(
 {
     out.push_str("(")?;
     push_joined(out, objects, items, depth)?;
-    out.push_str(")")?;
-    Ok(())
+    push_words(out, ")")
 }
 
 #[cycle(repr)]
@@ -144,13 +140,11 @@ fn push_dict(
     ensures { OnOk result (string_bytes out.new ≡ string_bytes out.old ++ dict_of (inner_at depth objects.now) pairs.now) }
 {
     if depth == 0 {
-        out.push_str("{...}")?;
-        return Ok(());
+        return push_words(out, "{...}");
     }
     out.push_str("{")?;
     push_pairs(out, objects, pairs, depth - 1)?;
-    out.push_str("}")?;
-    Ok(())
+    push_words(out, "}")
 }
 
 #[cycle(repr)]
@@ -185,8 +179,7 @@ fn push_pair(
     let (key, value) = pair;
     push_repr(out, objects, key, depth)?;
     out.push_str(": ")?;
-    push_repr(out, objects, value, depth)?;
-    Ok(())
+    push_repr(out, objects, value, depth)
 }
 
 /// What stands in front of the name of a suspended activation.
@@ -208,11 +201,26 @@ fn push_coro(out: &mut String, coro: &CoroBody) -> Result<(), NoMemory>
     Ok(())
 }
 
+/// Puts words behind the text.
+pub(crate) fn push_words(out: &mut String, words: &str) -> Result<(), NoMemory>
+    ensures { OnOk result (string_bytes out.new ≡ string_bytes out.old ++ words.now) }
+{
+    out.push_str(words)?;
+    Ok(())
+}
+
+/// Puts a number behind the text.
+fn push_number(out: &mut String, number: i128) -> Result<(), NoMemory>
+    ensures { OnOk result (string_bytes out.new ≡ string_bytes out.old ++ signed_decimal number) }
+{
+    write!(out, "{number}")?;
+    Ok(())
+}
+
 fn push_bool(out: &mut String, value: bool) -> Result<(), NoMemory>
     ensures { OnOk result (string_bytes out.new ≡ string_bytes out.old ++ (if value then codes "True" else codes "False")) }
 {
-    out.push_str(if value { "True" } else { "False" })?;
-    Ok(())
+    push_words(out, if value { "True" } else { "False" })
 }
 
 fn push_named(out: &mut String, front: &str, name: &PyText, back: &str) -> Result<(), NoMemory>
@@ -220,8 +228,7 @@ fn push_named(out: &mut String, front: &str, name: &PyText, back: &str) -> Resul
 {
     out.push_str(front)?;
     push_utf8(out, name)?;
-    out.push_str(back)?;
-    Ok(())
+    push_words(out, back)
 }
 
 /// Puts a function of the machine's own behind the text.

@@ -7,7 +7,7 @@ ghost use Rattle.py_meaning.specs.Text.{str_by, str_within};
 ghost use Rattle.py_script.specs.Writing.{args_text, exception_text, key_text, os_text, says_at, syntax_text};
 
 use crate::attributes::{attribute, push_base_name, push_files, text_at};
-use crate::repr::{push_enclosed, push_repr, tuple_items};
+use crate::repr::{push_enclosed, push_repr, push_words, tuple_items};
 use py_code::{NoMemory, push_utf8};
 use py_objects::{ErrorKind, ExceptionBody, Payload, PayloadList, PyObjectRef, derives_from};
 
@@ -157,8 +157,7 @@ fn push_found(
     out.push_str(" (")?;
     push_base_name(out, path)?;
     push_line(out, objects, ", line ", line, "", depth)?;
-    out.push_str(")")?;
-    Ok(())
+    push_words(out, ")")
 }
 
 /// Puts the number of a line behind the text, where it is known, between these words.
@@ -178,6 +177,5 @@ fn push_line(
     };
     out.push_str(front)?;
     push_str(out, objects, line, depth)?;
-    out.push_str(back)?;
-    Ok(())
+    push_words(out, back)
 }

@@ -6,7 +6,7 @@ ghost use Rattle.py_objects.specs.declared.request.Request.TheVariants.{Show};
 ghost use Rattle.py_meaning.specs.Repr.{payload_of};
 ghost use Rattle.py_meaning.specs.Text.{repr, details, raised, numbered, request_text, result_text, event_text};
 
-use crate::repr::{push_class_name, push_repr, tuple_items};
+use crate::repr::{push_class_name, push_repr, push_words, tuple_items};
 use crate::str_of::push_said;
 use py_code::{NoMemory, push_utf8};
 use py_objects::{
@@ -65,8 +65,7 @@ fn push_shown(out: &mut String, objects: &PayloadList, value: PyObjectRef) -> Re
         return Ok(());
     }
     push_whole_repr(out, objects, value)?;
-    out.push_str("\n")?;
-    Ok(())
+    push_words(out, "\n")
 }
 
 fn push_result(
@@ -106,8 +105,7 @@ fn push_value(
 {
     write!(out, "{drive}{word}")?;
     push_whole_repr(out, objects, value)?;
-    out.push_str("\n")?;
-    Ok(())
+    push_words(out, "\n")
 }
 
 fn push_raise(
@@ -120,8 +118,7 @@ fn push_raise(
 {
     write!(out, "{drive} raises ")?;
     push_exception(out, objects, exception)?;
-    out.push_str("\n")?;
-    Ok(())
+    push_words(out, "\n")
 }
 
 fn push_exception(

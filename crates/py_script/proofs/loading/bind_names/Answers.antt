@@ -25,11 +25,11 @@ loop-declaration-preserved c =
     let ds = c.args.declarations.now in
     let decl = decl_of c.declaration-item.result in
     let old = c.loop-declaration.vm.objects in
-    let new = c.add_value.new.vm.objects in
+    let new = c.add_text.new.vm.objects in
     let front : List Decl = map decl_of (take i ds) in
     let pairs = c.loop-declaration.pairs in
-    let grew = c.add_value.ensures.grew in
-    let key : HasPayload new c.in_ok-key.key (payload.Str (decl_name decl)) = c.in_ok-key.ensures.is ∙ ap (λ n. Some (payload.Str n)) (c.in_ok-copy.ensures ∙ c.name-name.ensures) in
+    let grew = c.add_text.ensures.grew in
+    let key : HasPayload new c.in_ok-key.key (payload.Str (decl_name decl)) = c.in_ok-key.ensures.is ∙ ap (λ n. Some (payload.Str n)) c.name-name.ensures in
     let value : declared new (decl_name decl) ≡ Some c.object_named-value.result = declared_stays old new (decl_name decl) grew.grows ∙ (ap (declared old) (sym c.name-name.ensures) ∙ c.object_named-value.ensures) in
     let more = bindings_more new front pairs decl (c.in_ok-key.key, c.object_named-value.result) (bindings_grow old new [] [] grew.grows ([], refl) front pairs c.loop-declaration.invariant.bindings) key value in
     record {
