@@ -1,6 +1,6 @@
 //! A function and a generator as trees, made by hand.
 
-ghost use Rattle.std.specs.Prelude.{◌≡◌, IfOk, false};
+ghost use Rattle.std.specs.Prelude.{◌≡◌, ◌≤◌, IfOk, false};
 ghost use Rattle.py_tree.specs.declared.body.BodyKind.TheVariants.{Function, Generator};
 ghost use Rattle.py_tree.specs.Compilable.{IsCompilable, OperationFits, SuiteFits, SuiteNests, statements};
 ghost use Rattle.py_tree.specs.Views.{suite_of, tree_of};
@@ -26,20 +26,12 @@ use std::alloc::Global;
 pub(crate) fn count_down(alloc: Global) -> Result<Body, NoMemory>
     ensures { IfOk result (λ body. IsCompilable (tree_of body)) }
 {
-    let mut params = ParamList::new(alloc);
-    params.push(text(alloc, b"n")?)?;
     let inner = call_of_less(alloc)?;
     let mut suite = StmtList::new(alloc);
     suite.push(line(2, StmtForm::Show(name(alloc, b"n")?)))?;
     suite.push(line(3, StmtForm::If(name(alloc, b"n")?, inner)))?;
     suite.push(line(7, StmtForm::Return(Atom::Str(text(alloc, b"done")?))))?;
-    Ok(Body {
-        kind: BodyKind::Function,
-        name: text(alloc, b"down")?,
-        params,
-        suite,
-        line: 1,
-    })
+    body_of(alloc, BodyKind::Function, b"down", suite)
 }
 
 /// The two lines in the `if`.
@@ -84,21 +76,13 @@ fn call_of_down(alloc: Global) -> Result<Operation, NoMemory>
 pub(crate) fn echo(alloc: Global) -> Result<Body, NoMemory>
     ensures { IfOk result (λ body. IsCompilable (tree_of body)) }
 {
-    let mut params = ParamList::new(alloc);
-    params.push(text(alloc, b"n")?)?;
     let mut suite = StmtList::new(alloc);
     suite.push(line(
         2,
         StmtForm::Assign(text(alloc, b"x")?, Expr::Operation(yield_of(alloc, b"n")?)),
     ))?;
     suite.push(line(3, StmtForm::Do(yield_of(alloc, b"x")?)))?;
-    Ok(Body {
-        kind: BodyKind::Generator,
-        name: text(alloc, b"echo")?,
-        params,
-        suite,
-        line: 1,
-    })
+    body_of(alloc, BodyKind::Generator, b"echo", suite)
 }
 
 /// `(yield NAME)`.
@@ -106,6 +90,25 @@ fn yield_of(alloc: Global, bytes: &[u8]) -> Result<Operation, NoMemory>
     ensures { IfOk result (λ operation. OperationFits Generator operation) }
 {
     Ok(Operation::Yield(name(alloc, bytes)?))
+}
+
+/// A body of this kind and name, whose one parameter is `n` and whose statements are given.
+fn body_of(alloc: Global, kind: BodyKind, name: &[u8], suite: StmtList) -> Result<Body, NoMemory>
+    requires fits { SuiteFits kind false (suite_of suite) }
+    requires nests { SuiteNests 0 (suite_of suite) }
+    requires short { statements (suite_of suite) ≤ 1048576 }
+    ensures { IfOk result (λ body. IsCompilable (tree_of body)) }
+{
+    let name = text(alloc, name)?;
+    let mut params = ParamList::new(alloc);
+    params.push(text(alloc, b"n")?)?;
+    Ok(Body {
+        kind,
+        name,
+        params,
+        suite,
+        line: 1,
+    })
 }
 
 fn line(line: u32, form: StmtForm) -> Stmt

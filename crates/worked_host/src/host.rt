@@ -1,9 +1,11 @@
 //! A machine that a host holds, with one function.
 
 ghost use Rattle.std.specs.Prelude.{◌≡◌, ◌≤◌, ◌<◌, false, length, IfOk, OnOk};
-ghost use Rattle.py_objects.specs.Objects.{result_numbers, AllBelow};
+ghost use Rattle.py_objects.specs.Objects.{payload_numbers, result_numbers, AllBelow, IsMade};
 ghost use Rattle.py_rows.specs.Sound.{AreNames};
+ghost use Rattle.py_run.specs.First.{IsAddable};
 ghost use Rattle.py_vm.specs.Codes.{CodeIsAnswered};
+ghost use Rattle.py_vm.specs.Machine.{IsCallable};
 ghost use Rattle.py_tree.specs.Compilable.{IsCompilable};
 ghost use Rattle.py_tree.specs.Views.{tree_of};
 ghost use Rattle.worked_host.specs.Host.{IsReady};
@@ -51,11 +53,30 @@ fn add_function(
     ensures there { IfOk result (λ function. function.number < length vm.new.objects) }
 {
     let code = vm.add_code(code)?;
-    let bound = utf8_of(alloc, name)?;
-    let name = name.copy(alloc)?;
-    let function = vm.add_object(Payload::Function(FunctionBody { name, code }))?;
-    vm.set_global(vm.globals(), bound.as_str(), function)?;
+    let body = FunctionBody {
+        name: name.copy(alloc)?,
+        code,
+    };
+    let function = vm.add_object(Payload::Function(body))?;
+    bind(alloc, vm, name, function)?;
     Ok(function)
+}
+
+/// Binds a name to an object in the globals of a machine.
+fn bind(
+    alloc: Global,
+    vm: &mut VirtualMachine,
+    name: &PyText,
+    object: PyObjectRef,
+) -> Result<(), HostFault>
+    requires works { vm.old.failed ≡ false }
+    requires there { object.number < length vm.old.objects }
+    ensures works { OnOk result (vm.new.failed ≡ false) }
+    ensures grows { OnOk result (length vm.old.objects ≤ length vm.new.objects) }
+{
+    let name = utf8_of(alloc, name)?;
+    vm.set_global(vm.globals(), name.as_str(), object)?;
+    Ok(())
 }
 
 impl Host {
@@ -91,6 +112,19 @@ impl Host {
         })
     }
 
+    /// A new object, which names objects and a code that are there.
+    fn add(&mut self, payload: Payload) -> Result<PyObjectRef, HostFault>
+        requires ready { IsReady self.old }
+        requires below { AllBelow (length self.old.vm.objects) (payload_numbers payload) }
+        requires made { IsMade self.old.vm.objects payload }
+        requires addable { IsAddable (length self.old.vm.checked.codes) payload }
+        ensures ready { OnOk result (IsReady self.new) }
+        ensures there { IfOk result (λ object. object.number < length self.new.vm.objects) }
+        ensures grows { OnOk result (length self.old.vm.objects ≤ length self.new.vm.objects) }
+    {
+        Ok(self.vm.add_object(payload)?)
+    }
+
     /// A new None.
     pub(crate) fn none(&mut self) -> Result<PyObjectRef, HostFault>
         requires { IsReady self.old }
@@ -98,7 +132,7 @@ impl Host {
         ensures there { IfOk result (λ object. object.number < length self.new.vm.objects) }
         ensures grows { OnOk result (length self.old.vm.objects ≤ length self.new.vm.objects) }
     {
-        Ok(self.vm.add_object(Payload::None)?)
+        self.add(Payload::None)
     }
 
     /// A new number.
@@ -108,7 +142,7 @@ impl Host {
         ensures there { IfOk result (λ object. object.number < length self.new.vm.objects) }
         ensures grows { OnOk result (length self.old.vm.objects ≤ length self.new.vm.objects) }
     {
-        Ok(self.vm.add_object(Payload::Int(number))?)
+        self.add(Payload::Int(number))
     }
 
     /// A new text.
@@ -118,7 +152,19 @@ impl Host {
         ensures there { IfOk result (λ object. object.number < length self.new.vm.objects) }
     {
         let text = text_of_str(self.alloc, text)?;
-        Ok(self.vm.add_object(Payload::Str(text))?)
+        self.add(Payload::Str(text))
+    }
+
+    /// Makes a drive, in at most so many turns.
+    fn drive(&mut self, drive: &Drive, turns: u64) -> Result<DriveAnswer, HostFault>
+        requires ready { IsReady self.old }
+        requires callable { IsCallable self.old.vm.objects drive.now }
+        ensures ready { OnOk result (IsReady self.new) }
+        ensures there { IfOk result (λ answer. AllBelow (length self.new.vm.objects) (result_numbers answer)) }
+        ensures grows { OnOk result (length self.old.vm.objects ≤ length self.new.vm.objects) }
+    {
+        let answer = self.vm.drive(drive, turns)?;
+        Ok(answer)
     }
 
     /// Calls the function with an object, in at most so many turns.
@@ -134,8 +180,7 @@ impl Host {
     {
         let mut args = ObjList::new(self.alloc);
         args.push(argument)?;
-        let answer = self.vm.drive(&Drive::Call(self.function, args), turns)?;
-        Ok(answer)
+        self.drive(&Drive::Call(self.function, args), turns)
     }
 
     /// Sends a value to a generator, in at most so many turns. It begins with None, for which nothing waits.
@@ -150,7 +195,7 @@ impl Host {
         ensures ready { OnOk result (IsReady self.new) }
         ensures grows { OnOk result (length self.old.vm.objects ≤ length self.new.vm.objects) }
     {
-        Ok(self.vm.drive(&Drive::Send(generator, value), turns)?)
+        self.drive(&Drive::Send(generator, value), turns)
     }
 
     /// Closes a generator, in at most so many turns: its finallies run, if it has some that wait.
@@ -163,7 +208,7 @@ impl Host {
         requires there { generator.number < length self.old.vm.objects }
         ensures { OnOk result (IsReady self.new) }
     {
-        Ok(self.vm.drive(&Drive::Close(generator), turns)?)
+        self.drive(&Drive::Close(generator), turns)
     }
 
     /// All that happened.

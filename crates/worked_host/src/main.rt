@@ -24,8 +24,8 @@ fn call_number(rt: &HostRuntime, host: &mut Host, number: i128) -> Result<(), Ho
     ensures { OnOk result (IsReady host.new) }
 {
     let argument = host.number(number)?;
-    let answer = host.call(argument, TURNS)?;
-    println!(rt; "down({number}) {}", said_of(&answer))?;
+    let came = said_of(&host.call(argument, TURNS)?);
+    println!(rt; "down({number}) {came}")?;
     Ok(())
 }
 
@@ -36,8 +36,8 @@ fn call_text(rt: &HostRuntime, host: &mut Host, text: &str) -> Result<(), HostFa
     ensures { OnOk result (IsReady host.new) }
 {
     let argument = host.text(text)?;
-    let answer = host.call(argument, TURNS)?;
-    println!(rt; "down('{text}') {}", said_of(&answer))?;
+    let came = said_of(&host.call(argument, TURNS)?);
+    println!(rt; "down('{text}') {came}")?;
     Ok(())
 }
 
@@ -56,16 +56,13 @@ fn send_twice(rt: &HostRuntime, host: &mut Host, generator: PyObjectRef) -> Resu
     ensures { OnOk result (IsReady host.new) }
 {
     let none = host.none()?;
-    println!(rt;
-        "send(None) {}",
-        said_of(&host.send(generator, none, TURNS)?)
-    )?;
+    let came = said_of(&host.send(generator, none, TURNS)?);
+    println!(rt; "send(None) {came}")?;
     let number = host.number(5)?;
-    println!(rt;
-        "send(5) {}",
-        said_of(&host.send(generator, number, TURNS)?)
-    )?;
-    println!(rt; "close() {}", said_of(&host.close(generator, TURNS)?))?;
+    let came = said_of(&host.send(generator, number, TURNS)?);
+    println!(rt; "send(5) {came}")?;
+    let came = said_of(&host.close(generator, TURNS)?);
+    println!(rt; "close() {came}")?;
     Ok(())
 }
 

@@ -1,7 +1,7 @@
 //! What happened, as lines.
 
 use crate::fault::HostFault;
-use py_objects::{DriveAnswer, Event, Payload, PayloadList, Request};
+use py_objects::{DriveAnswer, Event, Payload, PayloadList, PyObjectRef, Request};
 use py_vm::Journal;
 
 /// What a drive came to, in a word.
@@ -58,11 +58,22 @@ fn print_request(
 
 /// The number that a request shows, if it shows one.
 fn shown_number(objects: &PayloadList, request: &Request) -> Option<i128> {
-    let Request::Show(value) = request else {
-        return None;
-    };
-    match objects.get(value.number as usize) {
-        Some(Payload::Int(number)) => Some(*number),
+    let value = shown_value(request)?;
+    number_of(objects.get(value.number as usize)?)
+}
+
+/// The value that a request shows, if it shows one.
+fn shown_value(request: &Request) -> Option<PyObjectRef> {
+    match request {
+        Request::Show(value) => Some(*value),
+        _ => None,
+    }
+}
+
+/// The number that an object is, if it is one.
+fn number_of(payload: &Payload) -> Option<i128> {
+    match payload {
+        Payload::Int(number) => Some(*number),
         _ => None,
     }
 }

@@ -7,7 +7,7 @@ use Rattle.py_objects.specs.declared.event.Event.TheVariants as event
 use Rattle.py_objects.specs.Objects.{result_numbers, AllBelow, AreNamed}
 use Rattle.py_objects.proofs.NewLemmas.{newest}
 use Rattle.py_vm.specs.Machine.{EndsBy}
-use Rattle.worked_host.proofs.host.Host.call.Goals as goal
+use Rattle.worked_host.proofs.host.Host.drive.Goals as goal
 
 -- what the last result names is there
 result_there : (objects : List Payload) (events : List Event) (d : ℕ) (w : DriveAnswer) → AreNamed objects events → EndsBy events d w → AllBelow (length objects) (result_numbers w)
