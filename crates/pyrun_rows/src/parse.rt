@@ -12,22 +12,33 @@ pub(crate) fn parse_rows(alloc: Global, text: &str) -> Result<Vec<Row>, RowsFaul
     let mut rows = Vec::new(alloc);
     for (at, line) in text.lines().enumerate() {
         let number = at.saturating_add(1);
-        if let Some(heading) = line.strip_prefix("=== ") {
-            group = String::from_str(alloc, heading)?;
-        } else if let Some(name) = line.strip_prefix("== ") {
-            rows.push(Row::new(alloc, group.as_str(), name)?)?;
-        } else if !line.is_empty() && !line.starts_with("// ") {
-            match rows.last_mut() {
-                Some(row) => take_line(alloc, row, line).map_err(|fault| fault.at(number))?,
-                None => return Err(RowsFault::Unknown(number)),
-            }
-        }
+        take_line(alloc, &mut group, &mut rows, line).map_err(|fault| fault.at(number))?;
     }
     Ok(rows)
 }
 
+/// Takes a line of the file: a heading, a row's name, or a line of the last row.
+fn take_line(
+    alloc: Global,
+    group: &mut String,
+    rows: &mut Vec<Row>,
+    line: &str,
+) -> Result<(), LineFault> {
+    if let Some(heading) = line.strip_prefix("=== ") {
+        *group = String::from_str(alloc, heading)?;
+    } else if let Some(name) = line.strip_prefix("== ") {
+        rows.push(Row::new(alloc, group.as_str(), name)?)?;
+    } else if !line.is_empty() && !line.starts_with("// ") {
+        return match rows.last_mut() {
+            Some(row) => take_row_line(alloc, row, line),
+            None => Err(LineFault::Unknown),
+        };
+    }
+    Ok(())
+}
+
 /// Takes a line of a row: what it says, or a line of its text where it has one, else of its script.
-fn take_line(alloc: Global, row: &mut Row, line: &str) -> Result<(), LineFault> {
+fn take_row_line(alloc: Global, row: &mut Row, line: &str) -> Result<(), LineFault> {
     if let Some(said) = line.strip_prefix("-- ") {
         return take_option(alloc, row, said);
     }
@@ -89,21 +100,31 @@ fn number_of(text: &str) -> Result<u64, LineFault> {
 /// The most bytes that a read asks for.
 const LONGEST_PIECE: u64 = 4096;
 
-/// Takes a number that is said of a row. Calls are numbered from 1, and a piece has a byte at least. A row that is run with each
-/// number of turns has no words of its own, and one whose calls fail in turn neither turns nor a piece.
-fn take_number(row: &mut Row, word: &str, number: u64) -> Result<(), LineFault> {
+/// Whether a number may be said of a row behind a word. Calls are numbered from 1, and a piece has a byte at least. A row that is
+/// run with each number of turns has no words of its own, and one whose calls fail in turn neither turns nor a piece.
+fn may_say(row: &Row, word: &str, number: u64) -> bool {
     match word {
-        "read" if number > 0 => row.failing_reads.push(number)?,
-        "write" if number > 0 => row.failing_writes.push(number)?,
-        "pieces" if number > 0 && row.faults.is_empty() => row.piece = Some(number as usize),
-        "faults"
-            if number > 0
-                && number <= LONGEST_PIECE
-                && row.turns.is_none()
-                && row.piece.is_none() => row.faults.push(number as usize)?,
-        "turns" if row.words.is_none() && row.turns.is_none() && row.faults.is_empty() =>
-            row.turns = Some(number),
-        _ => return Err(LineFault::Unknown),
+        "read" | "write" => number > 0,
+        "pieces" => number > 0 && row.faults.is_empty(),
+        "faults" => {
+            number > 0 && number <= LONGEST_PIECE && row.turns.is_none() && row.piece.is_none()
+        }
+        "turns" => row.words.is_none() && row.turns.is_none() && row.faults.is_empty(),
+        _ => false,
+    }
+}
+
+/// Takes a number that is said of a row.
+fn take_number(row: &mut Row, word: &str, number: u64) -> Result<(), LineFault> {
+    if !may_say(row, word, number) {
+        return Err(LineFault::Unknown);
+    }
+    match word {
+        "read" => row.failing_reads.push(number)?,
+        "write" => row.failing_writes.push(number)?,
+        "pieces" => row.piece = Some(number as usize),
+        "faults" => row.faults.push(number as usize)?,
+        _ => row.turns = Some(number),
     }
     Ok(())
 }

@@ -42,8 +42,10 @@ pub(crate) struct Row {
 impl Row {
     /// A row of an empty script, whose run must be whole.
     pub(crate) fn new(alloc: Global, group: &str, name: &str) -> Result<Row, NoMemory> {
+        let name = format!(in alloc; "{group}: {name}")?;
+        let status = String::from_str(alloc, "0")?;
         Ok(Row {
-            name: format!(in alloc; "{group}: {name}")?,
+            name,
             words: None,
             piece: None,
             faults: Vec::new(alloc),
@@ -51,7 +53,7 @@ impl Row {
             failing_writes: Vec::new(alloc),
             turns: None,
             script: Vec::new(alloc),
-            status: String::from_str(alloc, "0")?,
+            status,
             wanted_events: Vec::new(alloc),
             parts: Vec::new(alloc),
         })
