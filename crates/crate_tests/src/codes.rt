@@ -2,16 +2,20 @@
 
 use py_code::{
     BinaryOperator, CodeFlags, CodeObject, CodeUnit, ComparisonOperator, ConversionFlag,
-    Instruction, Literal, LiteralList, MakeFunctionFlags, NameId, NoOperator, OpArg, OpArgState,
-    PyCode, RaiseKind, TestOperator, UnaryOperator,
+    Instruction, Literal, LiteralList, MakeFunctionFlags, NameId, NoMemory, NoOperator, OpArg,
+    OpArgState, PyCode, RaiseKind, TestOperator, UnaryOperator,
 };
 use std::alloc::Global;
-use std::test::Fail;
 
-/// A code that does nothing, whose numbers all differ.
-fn some_code(alloc: Global) -> CodeObject {
-    CodeObject {
-        instructions: Vec::new(alloc),
+/// A code of these units, constants and names of locals, whose numbers all differ.
+fn code_of(
+    alloc: Global,
+    instructions: Vec<CodeUnit>,
+    constants: LiteralList,
+    varnames: Vec<NameId>,
+) -> PyCode {
+    PyCode::new(CodeObject {
+        instructions,
         locations: Vec::new(alloc),
         flags: CodeFlags::new(CodeFlags::NEW_LOCALS | CodeFlags::IS_OPTIMIZED),
         posonlyarg_count: 1,
@@ -22,16 +26,34 @@ fn some_code(alloc: Global) -> CodeObject {
         max_stackdepth: 5,
         obj_name: NameId { index: 6 },
         cell2arg: Vec::new(alloc),
-        constants: LiteralList::new(alloc),
+        constants,
         names: Vec::new(alloc),
-        varnames: Vec::new(alloc),
+        varnames,
         cellvars: Vec::new(alloc),
         freevars: Vec::new(alloc),
+    })
+}
+
+/// A code of these units.
+fn code_of_units(alloc: Global, units: &[(Instruction, u8)]) -> Result<PyCode, NoMemory> {
+    let mut made = Vec::new(alloc);
+    for (op, arg) in units {
+        made.push(CodeUnit { op: *op, arg: *arg })?;
     }
+    let constants = LiteralList::new(alloc);
+    Ok(code_of(alloc, made, constants, Vec::new(alloc)))
+}
+
+/// A code of a constant and two locals.
+fn code_of_locals(alloc: Global) -> Result<PyCode, NoMemory> {
+    let mut constants = LiteralList::new(alloc);
+    constants.push(Literal::Bool(true))?;
+    let varnames = vec![in alloc; NameId { index: 7 }, NameId { index: 8 }]?;
+    Ok(code_of(alloc, Vec::new(alloc), constants, varnames))
 }
 
 #[test]
-fn a_unit_stands_behind_its_prefixes(rt: HostRuntime) -> Result<(), Fail> {
+fn a_unit_stands_behind_its_prefixes(rt: HostRuntime) -> Result<(), NoMemory> {
     let units = [
         (Instruction::ExtendedArg, 1),
         (Instruction::ExtendedArg, 2),
@@ -39,11 +61,7 @@ fn a_unit_stands_behind_its_prefixes(rt: HostRuntime) -> Result<(), Fail> {
         (Instruction::Pop, 0),
         (Instruction::ExtendedArg, 9),
     ];
-    let mut code = some_code(rt.alloc());
-    for (op, arg) in units {
-        code.instructions.push(CodeUnit { op, arg })?;
-    }
-    let code = PyCode::new(code);
+    let code = code_of_units(rt.alloc(), &units)?;
     let load = Instruction::LoadConst;
     let cases = [
         (0, Some((load, 66051, 3))),
@@ -98,14 +116,8 @@ fn an_operator_has_its_number(rt: HostRuntime) {
 }
 
 #[test]
-fn a_getter_gives_its_own_field(rt: HostRuntime) -> Result<(), Fail> {
-    let alloc = rt.alloc();
-    let mut code = some_code(alloc);
-    code.constants.push(Literal::Bool(true))?;
-    for index in [7, 8] {
-        code.varnames.push(NameId { index })?;
-    }
-    let code = PyCode::new(code);
+fn a_getter_gives_its_own_field(rt: HostRuntime) -> Result<(), NoMemory> {
+    let code = code_of_locals(rt.alloc())?;
     assert_eq!(rt;
         (
             code.co_posonlyargcount(),

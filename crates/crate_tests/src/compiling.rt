@@ -7,7 +7,7 @@ ghost use Rattle.py_tree.specs.Views.{tree_of};
 use py_body::{Atom, Body, BodyKind, Operation, ParamList, Stmt, StmtForm, StmtList, compile_body};
 use py_code::{CodeFlags, Instruction, Names, NoMemory, text_of};
 use std::alloc::Global;
-use std::test::Fail;
+use std::process::Abort;
 
 fn line(line: u32, form: StmtForm) -> Stmt
     ensures { result ≡ record { line = line; form = form } }
@@ -43,7 +43,7 @@ fn driving(alloc: Global) -> Result<Body, NoMemory>
 }
 
 #[test]
-fn a_generator_yields_by_a_unit_and_drives_by_calls(rt: HostRuntime) -> Result<(), Fail> {
+fn a_generator_yields_by_a_unit_and_drives_by_calls(rt: HostRuntime) -> Result<(), NoMemory> {
     let load = Instruction::LoadConst;
     let call = Instruction::CallFunctionPositional;
     let units = [
@@ -68,14 +68,27 @@ fn a_generator_yields_by_a_unit_and_drives_by_calls(rt: HostRuntime) -> Result<(
     ];
     let body = driving(rt.alloc())?;
     let mut names = Names::new(rt.alloc());
-    let codes = compile_body(rt.alloc(), &mut names, &body, 0)?;
+    compare_compiled(&rt, rt.alloc(), &mut names, &body, &units)
+}
+
+/// Compares the code that a body is compiled to with these units.
+fn compare_compiled(
+    rt: &impl Abort,
+    alloc: Global,
+    names: &mut Names,
+    body: &Body,
+    units: &[(Instruction, u32)],
+) -> Result<(), NoMemory>
+    requires { IsCompilable (tree_of body.now) }
+{
+    let codes = compile_body(alloc, names, body, 0)?;
     let code = codes.as_slice().first().map(|annotated| &annotated.code);
     let flags = code.map(|code| code.co_flags());
     let wanted = CodeFlags::NEW_LOCALS | CodeFlags::IS_OPTIMIZED | CodeFlags::IS_GENERATOR;
     assert_eq!(rt; flags, Some(wanted));
-    for (at, want) in units.into_iter().enumerate() {
+    for (at, want) in units.iter().enumerate() {
         let unit = code.and_then(|code| code.decoded(at));
-        assert_eq!(rt; unit.map(|unit| (unit.op, unit.arg.0)), Some(want));
+        assert_eq!(rt; unit.map(|unit| (unit.op, unit.arg.0)), Some(*want));
     }
     Ok(())
 }

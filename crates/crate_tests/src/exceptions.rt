@@ -1,23 +1,28 @@
 //! The slots of handled exceptions, and calls on an exception that is made by hand.
 
-ghost use Rattle.std.specs.Prelude.{◌≡◌, ◌<◌, [], ◌∷◌, IfOk};
-ghost use Rattle.py_objects.specs.declared.payload.Payload.TheVariants.{Class};
+ghost use Rattle.std.specs.Prelude.{◌≡◌, ◌<◌, [], ◌∷◌, IfOk, OnOk};
+ghost use Rattle.py_objects.specs.declared.payload.Payload.TheVariants.{None as NonePayload};
 ghost use Rattle.crate_tests.specs.Exit.{object, IsExit};
 
+use crate::made::{class, exception};
 use py_code::{NoMemory, PyText, push_text, same_text, text_of};
 use py_exceptions::{
     CtorFault, ExceptionCtor, ExceptionStack, Instantiate, args, get_arg, is_gen_exit, is_kind,
 };
-use py_objects::{
-    AttrMap, Boxed, ClassBody, ErrorKind, ExceptionBody, ObjList, Payload, PyBaseExceptionRef,
-    PyObjectRef, PyTypeRef, Store,
-};
+use py_objects::{ErrorKind, ObjList, Payload, PyBaseExceptionRef, PyObjectRef, PyTypeRef, Store};
 use std::alloc::Global;
-use std::test::Fail;
+use std::process::Abort;
 
 #[test]
-fn the_topmost_exception_is_in_the_first_slot_that_has_one(rt: HostRuntime) -> Result<(), Fail> {
+fn the_topmost_exception_is_in_the_first_slot_that_has_one(
+    rt: HostRuntime,
+) -> Result<(), NoMemory> {
     let mut stack = ExceptionStack::new(rt.alloc());
+    fill_and_empty(&rt, &mut stack)
+}
+
+/// Puts an exception into a slot below another, and takes both slots off, while it compares what is seen.
+fn fill_and_empty(rt: &impl Abort, stack: &mut ExceptionStack) -> Result<(), NoMemory> {
     assert_eq!(rt;
         (stack.current_exception(), stack.topmost_exception()),
         (None, None)
@@ -59,36 +64,30 @@ fn only(alloc: Global, number: u64) -> Result<ObjList, NoMemory>
     Ok(list)
 }
 
-fn class(alloc: Global, name: &[u8], mro: ObjList) -> Result<Payload, NoMemory>
-    ensures { IfOk result (λ class. class ≡ Class (record { name = name.now; mro = mro })) }
-{
-    let name = text_of(alloc, name)?;
-    Ok(Payload::Class(Boxed::new(alloc, ClassBody { name, mro })?))
-}
-
 /// A store whose object 7 is a GeneratorExit with object 5 for its argument. Object 8 is a class that derives from nothing.
 fn store_of_exit(alloc: Global) -> Result<Store, NoMemory>
     ensures { IfOk result IsExit }
 {
     let mut store = Store::new(alloc)?;
+    add_exit(alloc, &mut store)?;
+    Ok(store)
+}
+
+/// Puts these into a store of one object.
+fn add_exit(alloc: Global, store: &mut Store) -> Result<(), NoMemory>
+    requires made { store.old.made ≡ NonePayload ∷ [] }
+    requires changes { store.old.changes ≡ [] }
+    ensures { OnOk result (IsExit store.new) }
+{
     store.add(Payload::Bool(false))?;
     store.add(Payload::Bool(true))?;
     store.add(class(alloc, b"BaseException", ObjList::new(alloc))?)?;
     store.add(class(alloc, b"GeneratorExit", only(alloc, 3)?)?)?;
     store.add(Payload::Int(3))?;
     store.add(Payload::Tuple(only(alloc, 5)?))?;
-    let body = ExceptionBody {
-        class: EXIT_CLASS,
-        args: object(6),
-        cause: None,
-        context: None,
-        suppress: false,
-        traceback: None,
-        attrs: AttrMap::new(alloc),
-    };
-    store.add(Payload::Exception(Boxed::new(alloc, body)?))?;
+    store.add(exception(alloc, EXIT_CLASS, object(6))?)?;
     store.add(class(alloc, b"spam", ObjList::new(alloc))?)?;
-    Ok(store)
+    Ok(())
 }
 
 /// Whether the exception is a GeneratorExit, and whether its class and the class below are of this kind.
@@ -114,7 +113,9 @@ fn arguments(store: &Store) -> (PyObjectRef, Option<PyObjectRef>, Option<PyObjec
 }
 
 #[test]
-fn an_exit_is_of_its_kind_and_of_that_which_it_derives_from(rt: HostRuntime) -> Result<(), Fail> {
+fn an_exit_is_of_its_kind_and_of_that_which_it_derives_from(
+    rt: HostRuntime,
+) -> Result<(), NoMemory> {
     let store = store_of_exit(rt.alloc())?;
     assert_eq!(rt;
         kinds(&store, ErrorKind::GeneratorExit),
@@ -144,19 +145,50 @@ fn refusal(alloc: Global, type_name: &[u8]) -> Result<PyText, NoMemory> {
     Ok(text)
 }
 
-fn is_refused(taken: &Result<ExceptionCtor, CtorFault>, text: &PyText) -> bool {
+/// Whether this is a refusal with a text.
+fn is_refusal(taken: &Result<ExceptionCtor, CtorFault>, text: &PyText) -> bool {
     match taken {
         Err(CtorFault::NotException(fault)) => same_text(&fault.text, text),
         _ => false,
     }
 }
 
-/// What comes of it with an object of the store.
-fn with(alloc: Global, store: &Store, ctor: ExceptionCtor, number: u64) -> Instantiate
+/// Whether an object of the store is refused as one whose type has this name.
+fn is_refused(alloc: Global, store: &Store, number: u64, type_name: &[u8]) -> Result<bool, NoMemory>
     requires store { IsExit store.now }
     requires number { number < 9 }
 {
-    ctor.instantiate_value(alloc, store, object(number))
+    let text = refusal(alloc, type_name)?;
+    Ok(is_refusal(&taken(alloc, store, number), &text))
+}
+
+/// What an object of the store is taken for, where it isn't refused.
+fn accepted(alloc: Global, store: &Store, number: u64) -> Option<ExceptionCtor>
+    requires store { IsExit store.now }
+    requires number { number < 9 }
+{
+    taken(alloc, store, number).ok()
+}
+
+/// Compares what objects of the store are taken for.
+fn compare_taken(rt: &impl Abort, alloc: Global, store: &Store) -> Result<(), NoMemory>
+    requires { IsExit store.now }
+{
+    let class = ExceptionCtor::Class(EXIT_CLASS);
+    assert_eq!(rt; accepted(alloc, store, 4), Some(class));
+    let instance = ExceptionCtor::Instance(EXIT);
+    assert_eq!(rt; accepted(alloc, store, 7), Some(instance));
+    assert!(rt; is_refused(alloc, store, 5, b"int")?);
+    assert!(rt; is_refused(alloc, store, 8, b"type")?);
+    Ok(())
+}
+
+/// What is seen of it with an object of the store.
+fn with(alloc: Global, store: &Store, ctor: ExceptionCtor, number: u64) -> Seen
+    requires store { IsExit store.now }
+    requires number { number < 9 }
+{
+    seen_of(&ctor.instantiate_value(alloc, store, object(number)))
 }
 
 /// What is seen of an outcome: of a call the class, how many arguments it has, and the first.
@@ -178,26 +210,13 @@ fn seen_of(outcome: &Instantiate) -> Seen {
 }
 
 #[test]
-fn a_class_of_exceptions_or_an_exception_may_be_raised(rt: HostRuntime) -> Result<(), Fail> {
-    let alloc = rt.alloc();
-    let store = store_of_exit(alloc)?;
-    assert_eq!(rt;
-        taken(alloc, &store, 4).ok(),
-        Some(ExceptionCtor::Class(EXIT_CLASS))
-    );
-    assert_eq!(rt;
-        taken(alloc, &store, 7).ok(),
-        Some(ExceptionCtor::Instance(EXIT))
-    );
-    for (number, type_name) in [(5, b"int".as_slice()), (8, b"type".as_slice())] {
-        let refused = taken(alloc, &store, number);
-        assert!(rt; is_refused(&refused, &refusal(alloc, type_name)?));
-    }
-    Ok(())
+fn a_class_of_exceptions_or_an_exception_may_be_raised(rt: HostRuntime) -> Result<(), NoMemory> {
+    let store = store_of_exit(rt.alloc())?;
+    compare_taken(&rt, rt.alloc(), &store)
 }
 
 #[test]
-fn a_class_takes_a_value_for_its_arguments(rt: HostRuntime) -> Result<(), Fail> {
+fn a_class_takes_a_value_for_its_arguments(rt: HostRuntime) -> Result<(), NoMemory> {
     let alloc = rt.alloc();
     let store = store_of_exit(alloc)?;
     let class = ExceptionCtor::Class(EXIT_CLASS);
@@ -205,13 +224,10 @@ fn a_class_takes_a_value_for_its_arguments(rt: HostRuntime) -> Result<(), Fail> 
     let number = Seen::Make(EXIT_CLASS, 1, Some(object(5)));
     assert_eq!(rt; seen_of(&class.instantiate(alloc)), none);
     for (value, want) in [(0, none), (5, number), (6, number), (7, Seen::Done(EXIT))] {
-        assert_eq!(rt; seen_of(&with(alloc, &store, class, value)), want);
+        assert_eq!(rt; with(alloc, &store, class, value), want);
     }
     let instance = ExceptionCtor::Instance(EXIT);
-    assert_eq!(rt;
-        seen_of(&with(alloc, &store, instance, 0)),
-        Seen::Done(EXIT)
-    );
-    assert_eq!(rt; seen_of(&with(alloc, &store, instance, 7)), Seen::Fault);
+    assert_eq!(rt; with(alloc, &store, instance, 0), Seen::Done(EXIT));
+    assert_eq!(rt; with(alloc, &store, instance, 7), Seen::Fault);
     Ok(())
 }

@@ -1,19 +1,21 @@
 //! Generators that are entered and left, and what they show.
 
-ghost use Rattle.std.specs.Prelude.{◌≡◌, IfOk};
+ghost use Rattle.std.specs.Prelude.{◌≡◌, [], ◌∷◌, IfOk, OnOk};
+ghost use Rattle.py_objects.specs.declared.payload.Payload.TheVariants.{None as NonePayload};
 ghost use Rattle.py_objects.specs.Objects.{AllFit};
 ghost use Rattle.crate_tests.specs.Stop.{stop_objects};
 
-use py_code::{NameId, Names, NoMemory, text_of, utf8_of};
+use crate::made::{class, exception};
+use py_code::{NameId, Names, NoMemory, utf8_of};
 use py_coro::{
     Begin, Coro, CoroAnswer, CoroEnd, CoroRefusal, MOST_DEPTH, PyGenerator, converted, ignored,
 };
 use py_objects::{
-    AttrMap, Boxed, ClassBody, CoroKind, ErrorKind, ExceptionBody, FrameRef, ObjList, Payload,
-    PyBaseExceptionRef, PyObjectRef, PyTypeRef, Store,
+    CoroKind, ErrorKind, Fault, FrameRef, ObjList, Payload, PyBaseExceptionRef, PyObjectRef,
+    PyTypeRef, Store,
 };
 use std::alloc::Global;
-use std::test::Fail;
+use std::process::Abort;
 
 const FRAME: FrameRef = FrameRef { number: 3 };
 
@@ -27,7 +29,7 @@ fn only_none(alloc: Global) -> Result<Store, NoMemory>
 }
 
 #[test]
-fn what_is_started_yields_a_value(rt: HostRuntime) -> Result<(), Fail> {
+fn what_is_started_yields_a_value(rt: HostRuntime) -> Result<(), NoMemory> {
     let store = only_none(rt.alloc())?;
     let none = store.none();
     let mut coro = Coro::new(FRAME, NAME, CoroKind::Coroutine);
@@ -43,7 +45,7 @@ fn what_is_started_yields_a_value(rt: HostRuntime) -> Result<(), Fail> {
 }
 
 #[test]
-fn what_is_thrown_into_stops_without_a_value(rt: HostRuntime) -> Result<(), Fail> {
+fn what_is_thrown_into_stops_without_a_value(rt: HostRuntime) -> Result<(), NoMemory> {
     let store = only_none(rt.alloc())?;
     let none = store.none();
     let thrown = PyBaseExceptionRef { number: 7 };
@@ -63,21 +65,21 @@ fn store_of_a_stop(alloc: Global) -> Result<Store, NoMemory>
     ensures { IfOk result (λ store. store.made ≡ stop_objects) }
 {
     let mut store = Store::new(alloc)?;
-    let name = text_of(alloc, b"StopAsyncIteration")?;
-    let mro = ObjList::new(alloc);
-    store.add(Payload::Class(Boxed::new(alloc, ClassBody { name, mro })?))?;
-    store.add(Payload::Tuple(ObjList::new(alloc)))?;
-    let body = ExceptionBody {
-        class: PyTypeRef { number: 1 },
-        args: PyObjectRef { number: 2 },
-        cause: None,
-        context: None,
-        suppress: false,
-        traceback: None,
-        attrs: AttrMap::new(alloc),
-    };
-    store.add(Payload::Exception(Boxed::new(alloc, body)?))?;
+    add_stop(alloc, &mut store)?;
     Ok(store)
+}
+
+/// Puts it into a store of one object.
+fn add_stop(alloc: Global, store: &mut Store) -> Result<(), NoMemory>
+    requires { store.old.made ≡ NonePayload ∷ [] }
+    ensures { OnOk result (store.new.made ≡ stop_objects) }
+{
+    let name = b"StopAsyncIteration";
+    store.add(class(alloc, name, ObjList::new(alloc))?)?;
+    store.add(Payload::Tuple(ObjList::new(alloc)))?;
+    let args = PyObjectRef { number: 2 };
+    store.add(exception(alloc, PyTypeRef { number: 1 }, args)?)?;
+    Ok(())
 }
 
 /// What one of this kind answers where that comes out of it.
@@ -90,7 +92,7 @@ fn left_by_a_stop(store: &Store, kind: CoroKind) -> CoroAnswer
 }
 
 #[test]
-fn an_asynchronous_generator_converts_a_stop_of_its_own(rt: HostRuntime) -> Result<(), Fail> {
+fn an_asynchronous_generator_converts_a_stop_of_its_own(rt: HostRuntime) -> Result<(), NoMemory> {
     let store = store_of_a_stop(rt.alloc())?;
     assert_eq!(rt;
         left_by_a_stop(&store, CoroKind::AsyncGenerator),
@@ -111,10 +113,8 @@ fn a_fresh_generator_is_closed_at_once(rt: HostRuntime) {
     assert!(rt; generator.as_coro().closed());
 }
 
-#[test]
-fn a_generator_shows_its_name_and_number(rt: HostRuntime) -> Result<(), Fail> {
-    let alloc = rt.alloc();
-    let mut names = Names::new(alloc);
+/// Gives an asynchronous generator a name, and compares what it shows as object 7.
+fn compare_shown(rt: &impl Abort, alloc: Global, names: &mut Names) -> Result<(), NoMemory> {
     let name = names.intern("ticks")?;
     let mut coro = Coro::new(FRAME, NAME, CoroKind::AsyncGenerator);
     coro.set_name(name);
@@ -122,34 +122,36 @@ fn a_generator_shows_its_name_and_number(rt: HostRuntime) -> Result<(), Fail> {
         (coro.name(), coro.kind()),
         (name, CoroKind::AsyncGenerator)
     );
-    let text = utf8_of(alloc, &coro.repr(alloc, &names, 7)?)?;
+    let text = utf8_of(alloc, &coro.repr(alloc, names, 7)?)?;
     assert_eq!(rt; text.as_str(), "<async generator object ticks at 7>");
     Ok(())
 }
 
 #[test]
-fn refusals_say_what_was_called(rt: HostRuntime) -> Result<(), Fail> {
+fn a_generator_shows_its_name_and_number(rt: HostRuntime) -> Result<(), NoMemory> {
+    compare_shown(&rt, rt.alloc(), &mut Names::new(rt.alloc()))
+}
+
+/// Compares what a fault says with what it is to say.
+fn compare_said(rt: &impl Abort, alloc: Global, fault: Fault, said: &str) -> Result<(), NoMemory> {
+    let text = utf8_of(alloc, &fault.text)?;
+    assert_eq!(rt; text.as_str(), said);
+    Ok(())
+}
+
+#[test]
+fn refusals_say_what_was_called(rt: HostRuntime) -> Result<(), NoMemory> {
     let alloc = rt.alloc();
     let kind = CoroKind::Generator;
     let first = CoroRefusal::FirstValue.fault(alloc, kind)?;
-    let text = utf8_of(alloc, &first.text)?;
-    assert_eq!(rt;
-        text.as_str(),
-        "can't send non-None value to a just-started generator"
-    );
-    let text = utf8_of(
-        alloc,
-        &converted(alloc, kind, ErrorKind::StopIteration)?.text,
-    )?;
-    assert_eq!(rt; text.as_str(), "generator raised StopIteration");
-    let stop = converted(
-        alloc,
-        CoroKind::AsyncGenerator,
-        ErrorKind::StopAsyncIteration,
-    )?;
-    let text = utf8_of(alloc, &stop.text)?;
-    assert_eq!(rt; text.as_str(), "async generator raised StopAsyncIteration");
-    let text = utf8_of(alloc, &ignored(alloc, kind)?.text)?;
-    assert_eq!(rt; text.as_str(), "generator ignored GeneratorExit");
-    Ok(())
+    let said = "can't send non-None value to a just-started generator";
+    compare_said(&rt, alloc, first, said)?;
+    let stop = converted(alloc, kind, ErrorKind::StopIteration)?;
+    compare_said(&rt, alloc, stop, "generator raised StopIteration")?;
+    let asynchronous = CoroKind::AsyncGenerator;
+    let stop = converted(alloc, asynchronous, ErrorKind::StopAsyncIteration)?;
+    let said = "async generator raised StopAsyncIteration";
+    compare_said(&rt, alloc, stop, said)?;
+    let exit = ignored(alloc, kind)?;
+    compare_said(&rt, alloc, exit, "generator ignored GeneratorExit")
 }

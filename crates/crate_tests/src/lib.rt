@@ -15,6 +15,8 @@ mod generators;
 #[cfg(test)]
 mod grammar;
 #[cfg(test)]
+mod made;
+#[cfg(test)]
 mod objects;
 #[cfg(test)]
 mod outside;

@@ -1,17 +1,17 @@
 //! Small stores worked by hand, and what changes make of their objects, which no script makes so far.
 
-ghost use Rattle.std.specs.Prelude.{◌≡◌, IfOk};
+ghost use Rattle.std.specs.Prelude.{◌≡◌, OnOk};
 ghost use Rattle.py_objects.specs.Objects.{AllBelow};
 ghost use Rattle.py_objects.specs.Edits.{edit_numbers, FitsException, IsInPlace};
 
+use crate::made::{class, exception};
 use py_code::{NoMemory, PyText, text_of};
 use py_objects::{
-    AttrMap, Boxed, Change, ClassBody, Edit, ExceptionBody, History, LinkField, ObjList, PairList,
-    Payload, PyObjectRef, PyTypeRef, Scope, Store,
+    AttrMap, Edit, History, LinkField, ObjList, PairList, Payload, PyObjectRef, PyTypeRef, Scope,
+    Store,
 };
 use std::alloc::Global;
 use std::process::Abort;
-use std::test::Fail;
 
 fn object(number: u64) -> PyObjectRef
     ensures { result.number ≡ number }
@@ -19,18 +19,27 @@ fn object(number: u64) -> PyObjectRef
     PyObjectRef { number }
 }
 
-#[test]
-fn a_name_has_the_value_that_it_was_given_last(rt: HostRuntime) -> Result<(), Fail> {
-    let alloc = rt.alloc();
-    let mut attrs = AttrMap::new(alloc);
+/// Gives two names values, one of them twice, and takes off the other.
+fn give_and_remove(rt: &impl Abort, alloc: Global, attrs: &mut AttrMap) -> Result<(), NoMemory> {
     for (name, value) in [(b"value", 7), (b"errno", 2), (b"value", 9)] {
         attrs.insert(text_of(alloc, name)?, object(value))?;
     }
     assert_eq!(rt; (attrs.len(), attrs.is_empty()), (2, false));
     attrs.remove(&text_of(alloc, b"errno")?);
-    assert_eq!(rt; attrs.get(&text_of(alloc, b"value")?), Some(object(9)));
-    assert_eq!(rt; attrs.get(&text_of(alloc, b"errno")?), None);
+    assert_eq!(rt; value_of(alloc, attrs, b"value")?, Some(object(9)));
+    assert_eq!(rt; value_of(alloc, attrs, b"errno")?, None);
     Ok(())
+}
+
+/// The value of a name.
+fn value_of(alloc: Global, attrs: &AttrMap, name: &[u8]) -> Result<Option<PyObjectRef>, NoMemory> {
+    Ok(attrs.get(&text_of(alloc, name)?))
+}
+
+#[test]
+fn a_name_has_the_value_that_it_was_given_last(rt: HostRuntime) -> Result<(), NoMemory> {
+    let mut attrs = AttrMap::new(rt.alloc());
+    give_and_remove(&rt, rt.alloc(), &mut attrs)
 }
 
 #[test]
@@ -62,10 +71,16 @@ fn edit_key(
     }
 }
 
-#[test]
-fn keys_of_one_value_are_one_key(rt: HostRuntime) -> Result<(), Fail> {
-    let alloc = rt.alloc();
-    let mut store = Store::new(alloc)?;
+/// Whether a payload is a dict of these pairs.
+fn is_dict_of(payload: &Payload, pairs: &[(PyObjectRef, PyObjectRef)]) -> bool {
+    match payload {
+        Payload::Dict(entries) => entries.as_slice() == pairs,
+        _ => false,
+    }
+}
+
+/// Makes object 6 a dict, and edits its keys, some of which are of one value.
+fn edit_keys(rt: &impl Abort, alloc: Global, store: &mut Store) -> Result<(), NoMemory> {
     let yes = store.add(Payload::Bool(true))?;
     let one = store.add(Payload::Int(1))?;
     let two = store.add(Payload::Int(2))?;
@@ -82,14 +97,21 @@ fn keys_of_one_value_are_one_key(rt: HostRuntime) -> Result<(), Fail> {
         (same, None),
     ];
     for (key, value) in edits {
-        edit_key(&rt, &mut store, dict, key, value)?;
+        edit_key(rt, store, dict, key, value)?;
     }
-    let want = [(yes, spam), (two, two)];
     assert!(rt; dict.number < store.len());
-    assert!(rt; matches!(store.get(dict), Payload::Dict(ps) if ps.as_slice() == want.as_slice()));
-    let History { objects, changes } = store.into_history();
-    assert!(rt; matches!(objects.get(6), Some(Payload::Dict(ps)) if ps.len() == 0));
-    assert_eq!(rt; changes.len(), 6);
+    assert!(rt; is_dict_of(store.get(dict), &[(yes, spam), (two, two)]));
+    Ok(())
+}
+
+#[test]
+fn keys_of_one_value_are_one_key(rt: HostRuntime) -> Result<(), NoMemory> {
+    let mut store = Store::new(rt.alloc())?;
+    edit_keys(&rt, rt.alloc(), &mut store)?;
+    let history = store.into_history();
+    let made = history.objects.get(6);
+    assert!(rt; made.is_some_and(|payload| is_dict_of(payload, &[])));
+    assert_eq!(rt; history.changes.len(), 6);
     Ok(())
 }
 
@@ -117,36 +139,27 @@ fn change_exception(rt: &impl Abort, store: &mut Store, edit: Edit)
     store.change(object(3), edit);
 }
 
-/// A store whose object 3 is an exception.
-fn store_of_exception(rt: &impl Abort, alloc: Global) -> Result<Store, NoMemory>
-    ensures { IfOk result (λ store. store.mark ≡ 0) }
+/// Makes object 3 an exception, in a store of one object.
+fn add_exception(rt: &impl Abort, alloc: Global, store: &mut Store) -> Result<(), NoMemory>
+    requires { store.old.mark ≡ 0 }
+    ensures { OnOk result (store.new.mark ≡ 0) }
 {
-    let mut store = Store::new(alloc)?;
-    let body = ClassBody {
-        name: text_of(alloc, b"ValueError")?,
-        mro: ObjList::new(alloc),
-    };
-    let class = store.add(Payload::Class(Boxed::new(alloc, body)?))?;
+    let kind = store.add(class(alloc, b"ValueError", ObjList::new(alloc))?)?;
     let args = store.add(Payload::Tuple(ObjList::new(alloc)))?;
-    assert_eq!(rt; (class, args), (object(1), object(2)));
+    assert_eq!(rt; (kind, args), (object(1), object(2)));
     assert!(rt; 3 <= store.len());
-    let attrs = AttrMap::new(alloc);
-    let body = ExceptionBody {
-        class: PyTypeRef { number: 1 },
-        args: object(2),
-        cause: None,
-        context: None,
-        suppress: false,
-        traceback: None,
-        attrs,
-    };
-    let exception = store.add(Payload::Exception(Boxed::new(alloc, body)?))?;
-    assert_eq!(rt; exception, object(3));
-    Ok(store)
+    let made = store.add(exception(alloc, PyTypeRef { number: 1 }, object(2))?)?;
+    assert_eq!(rt; made, object(3));
+    Ok(())
 }
 
-/// Makes five edits of the exception 3, marked with two events.
-fn edit_five_times(rt: &impl Abort, store: &mut Store, name: PyText) -> Result<(), NoMemory>
+/// Makes five edits of the exception 3, also of its attribute of this name, marked with two events.
+fn edit_five_times(
+    rt: &impl Abort,
+    alloc: Global,
+    store: &mut Store,
+    name: &PyText,
+) -> Result<(), NoMemory>
     requires { store.old.mark ≡ 0 }
 {
     store.reserve_changes(5)?;
@@ -156,17 +169,30 @@ fn edit_five_times(rt: &impl Abort, store: &mut Store, name: PyText) -> Result<(
     change_exception(rt, store, cause);
     change_exception(rt, store, Edit::Args(object(1)));
     store.mark(5);
-    edit_exception(rt, store, Edit::Attr(name, Some(object(2))))?;
+    let attr = Edit::Attr(name.copy(alloc)?, Some(object(2)));
+    edit_exception(rt, store, attr)?;
     let context = Edit::Link(LinkField::Context, Some(object(3)));
     change_exception(rt, store, context);
     Ok(())
 }
 
+/// Makes an exception in a store of one object, and edits it.
+fn add_and_edit(
+    rt: &impl Abort,
+    alloc: Global,
+    store: &mut Store,
+    name: &PyText,
+) -> Result<(), NoMemory>
+    requires { store.old.mark ≡ 0 }
+{
+    add_exception(rt, alloc, store)?;
+    edit_five_times(rt, alloc, store, name)
+}
+
 /// A store whose exception was edited, also its attribute of this name.
 fn edited_store(rt: &impl Abort, alloc: Global, name: &PyText) -> Result<Store, NoMemory> {
-    let name = name.copy(alloc)?;
-    let mut store = store_of_exception(rt, alloc)?;
-    edit_five_times(rt, &mut store, name)?;
+    let mut store = Store::new(alloc)?;
+    add_and_edit(rt, alloc, &mut store, name)?;
     Ok(store)
 }
 
@@ -214,21 +240,32 @@ struct Kept {
 fn kept_of(rt: &impl Abort, store: Store, name: &PyText) -> Kept {
     assert!(rt; 3 < store.len());
     let now = seen_of(store.get(object(3)), name);
-    let History { objects, changes } = store.into_history();
+    kept_in(&store.into_history(), now, name)
+}
+
+/// What is kept in a history of the exception that is this now.
+fn kept_in(history: &History, now: Option<Seen>, name: &PyText) -> Kept {
+    let changes = &history.changes;
+    let made = history.objects.get(3);
     let change_at = |at: usize| changes.get(at).map(|change| (change.object, change.after));
     Kept {
         now,
-        made: objects.get(3).and_then(|payload| seen_of(payload, name)),
+        made: made.and_then(|payload| seen_of(payload, name)),
         changes: [0, 1, 2, 3, 4, 5].map(change_at),
-        third_sets_args: matches!(
-            changes.get(2),
-            Some(Change { edit: Edit::Args(args), .. }) if *args == object(1)
-        ),
+        third_sets_args: changes.get(2).is_some_and(|change| sets_args(&change.edit)),
+    }
+}
+
+/// Whether an edit sets the arguments to object 1.
+fn sets_args(edit: &Edit) -> bool {
+    match edit {
+        Edit::Args(args) => *args == object(1),
+        _ => false,
     }
 }
 
 #[test]
-fn an_exception_is_kept_as_it_was_made(rt: HostRuntime) -> Result<(), Fail> {
+fn an_exception_is_kept_as_it_was_made(rt: HostRuntime) -> Result<(), NoMemory> {
     let name = text_of(rt.alloc(), b"value")?;
     let store = edited_store(&rt, rt.alloc(), &name)?;
     let kept = kept_of(&rt, store, &name);
