@@ -86,8 +86,9 @@ fn read_assignment(
     if !matches!(equals, Sense::Equals) {
         return Ok(None);
     }
+    let target = text_of(alloc, name)?;
     let Some(value) = expr_of(alloc, value)? else {
         return Ok(None);
     };
-    Ok(Some(Plain::Assign(text_of(alloc, name)?, value)))
+    Ok(Some(Plain::Assign(target, value)))
 }
