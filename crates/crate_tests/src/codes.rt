@@ -96,23 +96,27 @@ fn an_argument_keeps_its_low_32_bits(rt: HostRuntime) {
 }
 
 #[test]
+fn an_operator_is_read_by_its_number(rt: HostRuntime) {
+    assert!(rt; BinaryOperator::try_from(6) == Ok(BinaryOperator::Add));
+    assert!(rt; BinaryOperator::try_from(13) == Err(NoOperator(13)));
+    assert!(rt; ComparisonOperator::try_from(2) == Ok(ComparisonOperator::Equal));
+    assert!(rt; UnaryOperator::try_from(2) == Ok(UnaryOperator::Minus));
+    assert!(rt; TestOperator::try_from(4) == Ok(TestOperator::ExceptionMatch));
+    assert!(rt; ConversionFlag::try_from(3) == Ok(ConversionFlag::Repr));
+    assert!(rt; RaiseKind::try_from(1) == Ok(RaiseKind::Raise));
+}
+
+#[test]
 fn an_operator_has_its_number(rt: HostRuntime) {
-    assert_eq!(rt; BinaryOperator::try_from(6), Ok(BinaryOperator::Add));
-    assert_eq!(rt; BinaryOperator::try_from(13), Err(NoOperator(13)));
-    assert_eq!(rt;
-        ComparisonOperator::try_from(2),
-        Ok(ComparisonOperator::Equal)
-    );
-    assert_eq!(rt; UnaryOperator::try_from(2), Ok(UnaryOperator::Minus));
-    assert_eq!(rt; TestOperator::try_from(4), Ok(TestOperator::ExceptionMatch));
-    assert_eq!(rt; ConversionFlag::try_from(3), Ok(ConversionFlag::Repr));
-    assert_eq!(rt; RaiseKind::try_from(1), Ok(RaiseKind::Raise));
-    assert_eq!(rt; u32::from(BinaryOperator::Or), 12);
-    assert_eq!(rt; u32::from(ComparisonOperator::NotEqual), 5);
-    assert_eq!(rt; u32::from(UnaryOperator::Plus), 3);
-    assert_eq!(rt; u32::from(TestOperator::Is), 2);
-    assert_eq!(rt; u32::from(ConversionFlag::Ascii), 2);
-    assert_eq!(rt; u32::from(RaiseKind::RaiseCause), 2);
+    let numbers = [
+        u32::from(BinaryOperator::Or),
+        u32::from(ComparisonOperator::NotEqual),
+        u32::from(UnaryOperator::Plus),
+        u32::from(TestOperator::Is),
+        u32::from(ConversionFlag::Ascii),
+        u32::from(RaiseKind::RaiseCause),
+    ];
+    assert_eq!(rt; numbers, [12, 5, 3, 2, 2, 2]);
 }
 
 #[test]

@@ -1,7 +1,7 @@
 -- Codes as tables.
 use Rattle.std.specs.Prelude.{◌≡◌, Option, Some, None, List, [], ◌∷◌, Bool, ◌&&◌, map, length, replicate}
 use Rattle.py_code.specs.declared.unit.CodeUnit.{CodeUnit}
-use Rattle.py_code.specs.declared.literal.Literal.{None as NoneLiteral, Builtin}
+use Rattle.py_code.specs.declared.literal.Literal.{Literal, None as NoneLiteral, Builtin}
 use Rattle.py_code.specs.declared.literal.BuiltinFn.TheVariants.{Send, Throw, Close}
 use Rattle.py_check.specs.declared.note.BlockNote.{BlockNote}
 use Rattle.py_check.specs.declared.note.BlockNote.TheVariants as block
@@ -35,6 +35,10 @@ unit_of row = record { op = row.0; arg = row.1 }
 abbrev pub note_of : Row → Note
 note_of row = Live row.2.now (map block_of row.3.now)
 
+-- None and the functions that drive generators
+abbrev pub table_constants : List Literal
+table_constants = NoneLiteral ∷ Builtin Send ∷ Builtin Throw ∷ Builtin Close ∷ []
+
 -- what the rules read of a table's code: a generator's, of two parameters and one more local, with None and the functions that drive
 -- generators as constants, and with the name of a global
 abbrev pub sheet : List Row → Sheet
@@ -49,7 +53,7 @@ sheet rows =
       kwonlyarg_count = 0;
       max_stackdepth = 5;
       cell2arg = [];
-      constants = NoneLiteral ∷ Builtin Send ∷ Builtin Throw ∷ Builtin Close ∷ [];
+      constants = table_constants;
       names = 1;
       varnames = 3;
       cellvars = 0;

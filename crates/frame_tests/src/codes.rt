@@ -1,9 +1,11 @@
 //! Codes as tables: what each unit does, and what its note says.
 
-ghost use Rattle.std.specs.Prelude.{◌≡◌, IfOk, map, true};
+ghost use Rattle.std.specs.Prelude.{◌≡◌, List, IfOk, map, true};
+ghost use Rattle.py_code.specs.Literals.{literals_of};
+ghost use Rattle.py_check.specs.declared.note.Note.{Note as NoteOf};
 ghost use Rattle.py_check.specs.declared.note.Note.TheVariants as note;
 ghost use Rattle.py_check.specs.Typing.{IsTyped};
-ghost use Rattle.frame_tests.specs.Codes.{IsCodeOf, block_of, keeps_rules, note_of, unit_of, waiting_of};
+ghost use Rattle.frame_tests.specs.Codes.{IsCodeOf, block_of, keeps_rules, note_of, table_constants, unit_of, waiting_of};
 
 use crate::tables::{Open, Row};
 use py_check::{
@@ -103,19 +105,31 @@ fn units(alloc: Global, rows: &[Row]) -> Result<Vec<CodeUnit>, NoMemory>
     Ok(made)
 }
 
+/// None and the functions that drive generators.
+fn constants(alloc: Global) -> Result<LiteralList, NoMemory>
+    ensures { IfOk result (λ made. literals_of made ≡ table_constants) }
+{
+    let mut made = LiteralList::new(alloc);
+    made.push(Literal::None)?;
+    made.push(Literal::Builtin(BuiltinFn::Send))?;
+    made.push(Literal::Builtin(BuiltinFn::Throw))?;
+    made.push(Literal::Builtin(BuiltinFn::Close))?;
+    Ok(made)
+}
+
 /// A generator's code of two parameters and one more local, with None and the functions that drive generators as constants.
-fn annotated(alloc: Global, rows: &[Row]) -> Result<Annotated, NoMemory>
-    ensures { IfOk result (λ code. IsCodeOf rows.now code) }
+fn code(alloc: Global, rows: &[Row]) -> Result<PyCode, NoMemory>
+    ensures { IfOk result (λ code. (notes : List NoteOf) → notes ≡ map note_of rows.now → IsCodeOf rows.now (record { code = code; notes = notes })) }
 {
     let name = NameId { index: 0 };
-    let mut constants = LiteralList::new(alloc);
-    constants.push(Literal::None)?;
-    constants.push(Literal::Builtin(BuiltinFn::Send))?;
-    constants.push(Literal::Builtin(BuiltinFn::Throw))?;
-    constants.push(Literal::Builtin(BuiltinFn::Close))?;
-    let code = PyCode::new(CodeObject {
-        instructions: units(alloc, rows)?,
-        locations: vec![in alloc; 1; rows.len()]?,
+    let instructions = units(alloc, rows)?;
+    let locations = vec![in alloc; 1; rows.len()]?;
+    let constants = constants(alloc)?;
+    let names = vec![in alloc; name]?;
+    let varnames = vec![in alloc; name, name, name]?;
+    Ok(PyCode::new(CodeObject {
+        instructions,
+        locations,
         flags: CodeFlags::new(
             CodeFlags::NEW_LOCALS | CodeFlags::IS_OPTIMIZED | CodeFlags::IS_GENERATOR,
         ),
@@ -128,15 +142,20 @@ fn annotated(alloc: Global, rows: &[Row]) -> Result<Annotated, NoMemory>
         obj_name: name,
         cell2arg: Vec::new(alloc),
         constants,
-        names: vec![in alloc; name]?,
-        varnames: vec![in alloc; name, name, name]?,
+        names,
+        varnames,
         cellvars: Vec::new(alloc),
         freevars: Vec::new(alloc),
-    });
-    Ok(Annotated {
-        code,
-        notes: notes(alloc, rows)?,
-    })
+    }))
+}
+
+/// The same with its notes.
+fn annotated(alloc: Global, rows: &[Row]) -> Result<Annotated, NoMemory>
+    ensures { IfOk result (λ code. IsCodeOf rows.now code) }
+{
+    let notes = notes(alloc, rows)?;
+    let code = code(alloc, rows)?;
+    Ok(Annotated { code, notes })
 }
 
 /// The code of a table whose notes keep the rules.

@@ -14,7 +14,7 @@ use crate::inputs::{exception, input};
 use crate::objects::{classes, first_store, object};
 use crate::tables::{Case, Row, Said};
 use py_check::CheckedCode;
-use py_code::{Names, NoMemory, utf8_of};
+use py_code::{Names, NoMemory, PyText, utf8_of};
 use py_exceptions::{ExceptionStack, ExceptionZoo};
 use py_frame::{Frame, FrameStep, OwnStack, positional};
 use py_objects::{FrameRef, ObjList, PyBaseExceptionRef, PyObjectRef, Request, Scope, Store};
@@ -22,86 +22,143 @@ use std::alloc::Global;
 use std::process::Abort;
 use std::test::Fail;
 
-/// An object that may be there as a word.
-fn word_of(alloc: Global, object: Option<PyObjectRef>) -> Result<String, NoMemory> {
-    match object {
-        Some(object) => Ok(format!(in alloc; " {}", object.number)?),
-        None => Ok(String::new(alloc)),
+/// Puts an object that may be there behind words.
+fn push_object(
+    alloc: Global,
+    words: &mut String,
+    object: Option<PyObjectRef>,
+) -> Result<(), NoMemory> {
+    if let Some(object) = object {
+        words.push_str(&format!(in alloc; " {}", object.number)?)?;
     }
+    Ok(())
+}
+
+/// A word, and the objects behind it.
+fn words_of(
+    alloc: Global,
+    word: &str,
+    objects: &[Option<PyObjectRef>],
+) -> Result<String, NoMemory> {
+    let mut words = format!(in alloc; "{word}")?;
+    for object in objects {
+        push_object(alloc, &mut words, *object)?;
+    }
+    Ok(words)
 }
 
 /// A call as words.
 fn call(alloc: Global, callee: PyObjectRef, args: &[PyObjectRef]) -> Result<String, NoMemory> {
-    let mut words = format!(in alloc; "Call {}", callee.number)?;
+    let mut words = words_of(alloc, "Call", &[Some(callee)])?;
     for arg in args {
-        words.push_str(&word_of(alloc, Some(*arg))?)?;
+        push_object(alloc, &mut words, Some(*arg))?;
     }
     Ok(words)
 }
 
+/// A local that is unset, as words.
+fn unbound(alloc: Global, name: &PyText) -> Result<String, NoMemory> {
+    let name = utf8_of(alloc, name)?;
+    Ok(format!(in alloc; "Unbound {name}")?)
+}
+
+/// A question as a word and the objects that it names, where it is no more than that and is asked here.
+fn asked(request: &Request) -> Option<(&'static str, [Option<PyObjectRef>; 4])> {
+    match request {
+        Request::Global(_, _) => Some(("Global", [None, None, None, None])),
+        Request::Truth(v) => Some(("Truth", [Some(*v), None, None, None])),
+        Request::Show(v) => Some(("Show", [Some(*v), None, None, None])),
+        Request::Compare(_, a, b) => Some(("Compare", [Some(*a), Some(*b), None, None])),
+        Request::Match(e, c) => Some(("Match", [Some(*e), Some(*c), None, None])),
+        Request::Handled => Some(("Handled", [None, None, None, None])),
+        Request::Raisable(v) => Some(("Raisable", [Some(*v), None, None, None])),
+        Request::Cause(v) => Some(("Cause", [Some(*v), None, None, None])),
+        Request::Enter(m) => Some(("Enter", [Some(*m), None, None, None])),
+        Request::NoExit(m) => Some(("NoExit", [Some(*m), None, None, None])),
+        Request::Exit(m, t, v, b) => Some(("Exit", [Some(*m), Some(*t), Some(*v), Some(*b)])),
+        Request::Send(g, v) => Some(("Send", [Some(*g), Some(*v), None, None])),
+        Request::Throw(g, c, v, t) => Some(("Throw", [Some(*g), Some(*c), *v, *t])),
+        Request::Close(g) => Some(("Close", [Some(*g), None, None, None])),
+        _ => None,
+    }
+}
+
+/// A question that names objects alone as words, and any other as it stands.
+fn plain(alloc: Global, request: &Request) -> Result<String, NoMemory> {
+    match asked(request) {
+        Some(asked) => {
+            let objects = asked.1;
+            words_of(alloc, asked.0, &objects)
+        }
+        None => Ok(format!(in alloc; "{request:?}")?),
+    }
+}
+
 /// A question as words.
 fn question(alloc: Global, request: &Request) -> Result<String, NoMemory> {
-    let words = match request {
-        Request::Unbound(name) => format!(in alloc; "Unbound {}", utf8_of(alloc, name)?)?,
-        Request::Global(_, _) => format!(in alloc; "Global")?,
-        Request::Truth(v) => format!(in alloc; "Truth {}", v.number)?,
-        Request::Show(v) => format!(in alloc; "Show {}", v.number)?,
-        Request::Compare(_, a, b) => format!(in alloc; "Compare {} {}", a.number, b.number)?,
-        Request::Match(e, c) => format!(in alloc; "Match {} {}", e.number, c.number)?,
-        Request::Handled => format!(in alloc; "Handled")?,
-        Request::Raisable(v) => format!(in alloc; "Raisable {}", v.number)?,
-        Request::Cause(v) => format!(in alloc; "Cause {}", v.number)?,
-        Request::Enter(m) => format!(in alloc; "Enter {}", m.number)?,
-        Request::NoExit(m) => format!(in alloc; "NoExit {}", m.number)?,
-        Request::Exit(m, t, v, b) => {
-            format!(in alloc; "Exit {} {} {} {}", m.number, t.number, v.number, b.number)?
-        }
-        Request::Call(callee, args, _) => call(alloc, *callee, args.as_slice())?,
-        Request::Send(g, v) => format!(in alloc; "Send {} {}", g.number, v.number)?,
-        Request::Throw(g, c, v, t) => {
-            let value = word_of(alloc, *v)?;
-            let traceback = word_of(alloc, *t)?;
-            format!(in alloc; "Throw {} {}{value}{traceback}", g.number, c.number)?
-        }
-        Request::Close(g) => format!(in alloc; "Close {}", g.number)?,
-        other => format!(in alloc; "{other:?}")?,
-    };
-    Ok(words)
+    match request {
+        Request::Unbound(name) => unbound(alloc, name),
+        Request::Call(callee, args, _) => call(alloc, *callee, args.as_slice()),
+        _ => plain(alloc, request),
+    }
+}
+
+/// A question that is asked while an exception is handled, as words.
+fn question_while(
+    alloc: Global,
+    request: &Request,
+    own: PyBaseExceptionRef,
+) -> Result<String, NoMemory> {
+    let asked = question(alloc, request)?;
+    Ok(format!(in alloc; "{asked} own {}", own.number)?)
 }
 
 /// An event as words.
 fn event(alloc: Global, step: &FrameStep) -> Result<String, NoMemory> {
-    let words = match step {
-        FrameStep::Ask(request, None) => question(alloc, request)?,
-        FrameStep::Ask(request, Some(own)) => {
-            let asked = question(alloc, request)?;
-            format!(in alloc; "{asked} own {}", own.number)?
-        }
-        FrameStep::Round => format!(in alloc; "round")?,
-        FrameStep::Yield(v) => format!(in alloc; "yield {}", v.number)?,
-        FrameStep::Return(v) => format!(in alloc; "return {}", v.number)?,
-        FrameStep::Raise(e) => format!(in alloc; "raise {}", e.number)?,
-        FrameStep::NoMemory => format!(in alloc; "no memory")?,
-    };
-    Ok(words)
+    match step {
+        FrameStep::Ask(request, None) => question(alloc, request),
+        FrameStep::Ask(request, Some(own)) => question_while(alloc, request, *own),
+        FrameStep::Round => words_of(alloc, "round", &[]),
+        FrameStep::Yield(v) => words_of(alloc, "yield", &[Some(*v)]),
+        FrameStep::Return(v) => words_of(alloc, "return", &[Some(*v)]),
+        FrameStep::Raise(e) => words_of(alloc, "raise", &[Some(object(e.number))]),
+        FrameStep::NoMemory => words_of(alloc, "no memory", &[]),
+    }
 }
 
-/// An event as words, behind the place behind its unit, and in front of what is in the top slot, where that isn't exception 6.
+/// What comes of a word, as words.
+fn outcome(alloc: Global, step: Option<FrameStep>) -> Result<String, NoMemory> {
+    match &step {
+        Some(step) => event(alloc, step),
+        None => words_of(alloc, "refused", &[]),
+    }
+}
+
+/// Words behind the place behind their unit, and in front of what is in the top slot, where that isn't exception 6.
 fn line(
     alloc: Global,
     lasti: u32,
-    step: Option<FrameStep>,
+    words: &str,
     slot: Option<PyBaseExceptionRef>,
 ) -> Result<String, NoMemory> {
-    let words = match step {
-        Some(step) => event(alloc, &step)?,
-        None => format!(in alloc; "refused")?,
-    };
     match slot {
         Some(PyBaseExceptionRef { number: 6 }) => Ok(format!(in alloc; "{lasti} {words}; ")?),
         Some(e) => Ok(format!(in alloc; "{lasti} {words} slot {}; ", e.number)?),
         None => Ok(format!(in alloc; "{lasti} {words} no slot; ")?),
     }
+}
+
+/// Puts a line of what comes of a word behind what was told.
+fn tell(
+    alloc: Global,
+    told: &mut String,
+    lasti: u32,
+    step: Option<FrameStep>,
+    slot: Option<PyBaseExceptionRef>,
+) -> Result<(), NoMemory> {
+    let words = outcome(alloc, step)?;
+    told.push_str(&line(alloc, lasti, &words, slot)?)?;
+    Ok(())
 }
 
 /// True and a manager.
@@ -123,12 +180,12 @@ fn frame_of(
     ensures fresh { IfOk result (λ frame. frame.state.wants ≡ expect.Start) }
     ensures store { store.new ≡ store.old }
 {
+    let locals = positional(alloc, code, &arguments(alloc)?)?;
+    let size = code.code().co_stacksize() as usize;
+    let stack = OwnStack::new(alloc, size)?;
     let closure = ObjList::new(alloc);
     let scope = Scope::new(None, object(0));
     let entry = FrameRef { number: 7 };
-    let size = code.code().co_stacksize() as usize;
-    let stack = OwnStack::new(alloc, size)?;
-    let locals = positional(alloc, code, &arguments(alloc)?)?;
     let mut frame = Frame::new(alloc, store, code, 0, entry, scope, closure, stack)?;
     frame.fill(store, code, locals);
     Ok(frame)
@@ -172,7 +229,7 @@ fn drive(
     for said in words {
         let step = turn(alloc, code, names, store, zoo, &mut slots, frame, *said);
         let slot = slots.current_exception();
-        told.push_str(&line(alloc, frame.lasti(), step, slot)?)?;
+        tell(alloc, &mut told, frame.lasti(), step, slot)?;
     }
     Ok(told)
 }
@@ -181,12 +238,28 @@ fn drive(
 fn events_of(alloc: Global, rows: &[Row], words: &[Said]) -> Result<String, NoMemory>
     requires { keeps_rules rows.now ≡ true }
 {
+    let mut store = first_store(alloc)?;
     let code = checked(alloc, rows)?;
     let names = one_name(alloc)?;
-    let mut store = first_store(alloc)?;
-    let mut frame = frame_of(alloc, &mut store, &code)?;
+    events_among(alloc, &code, &names, &mut store, words)
+}
+
+/// The same of a code and a table of names that are there, among the first objects.
+fn events_among(
+    alloc: Global,
+    code: &CheckedCode,
+    names: &Names,
+    store: &mut Store,
+    words: &[Said],
+) -> Result<String, NoMemory>
+    requires closed { code.now.code.code.freevars.items ≡ [] }
+    requires generator { is_thrown_into code.now.code.code.flags ≡ true }
+    requires sound { IsSound names.now code.now }
+    requires objects { store.old.made ≡ first_objects }
+{
     let zoo = classes(alloc)?;
-    drive(alloc, &code, &names, &mut store, &zoo, &mut frame, words)
+    let mut frame = frame_of(alloc, store, code)?;
+    drive(alloc, code, names, store, &zoo, &mut frame, words)
 }
 
 /// A table of one name.

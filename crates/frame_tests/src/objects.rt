@@ -1,6 +1,8 @@
 //! The objects that are there at first.
 
-ghost use Rattle.std.specs.Prelude.{◌≡◌, IfOk};
+ghost use Rattle.std.specs.Prelude.{◌≡◌, [], ◌∷◌, IfOk, OnOk};
+ghost use Rattle.py_objects.specs.declared.payload.Payload.TheVariants as payload;
+ghost use Rattle.frame_tests.specs.declared.tables.First.TheVariants as first;
 ghost use Rattle.frame_tests.specs.FirstObjects.{exception_body, first_objects, payload_of};
 
 use crate::inputs::exception as exception_at;
@@ -35,24 +37,36 @@ fn exception(alloc: Global) -> ExceptionBody
     }
 }
 
+/// A class.
+fn class(alloc: Global) -> Result<Payload, NoMemory>
+    ensures { IfOk result (λ made. made ≡ payload_of first.Class) }
+{
+    let name = text_of(alloc, b"x")?;
+    let mro = ObjList::new(alloc);
+    Ok(Payload::Class(Boxed::new(alloc, ClassBody { name, mro })?))
+}
+
+/// A manager.
+fn manager(alloc: Global) -> Result<Payload, NoMemory>
+    ensures { IfOk result (λ made. made ≡ payload_of first.Manager) }
+{
+    Ok(Payload::Manager(ManagerBody {
+        name: text_of(alloc, b"x")?,
+        enter: object(7),
+        exit: object(7),
+    }))
+}
+
 /// The payload of an object.
 fn payload(alloc: Global, first: First) -> Result<Payload, NoMemory>
     ensures { IfOk result (λ made. made ≡ payload_of first) }
 {
-    let name = text_of(alloc, b"x")?;
     match first {
-        First::Class => {
-            let mro = ObjList::new(alloc);
-            Ok(Payload::Class(Boxed::new(alloc, ClassBody { name, mro })?))
-        }
+        First::Class => class(alloc),
         First::Arguments => Ok(Payload::Tuple(ObjList::new(alloc))),
         First::Exception => Ok(Payload::Exception(Boxed::new(alloc, exception(alloc))?)),
         First::Frame => Ok(Payload::Frame(0)),
-        First::Manager => Ok(Payload::Manager(ManagerBody {
-            name,
-            enter: object(7),
-            exit: object(7),
-        })),
+        First::Manager => manager(alloc),
         First::Traceback => Ok(Payload::Traceback(TracebackBody {
             next: None,
             frame: FrameRef { number: 7 },
@@ -67,6 +81,16 @@ pub fn first_store(alloc: Global) -> Result<Store, NoMemory>
     ensures { IfOk result (λ store. store.made ≡ first_objects) }
 {
     let mut store = Store::new(alloc)?;
+    add_first(alloc, &mut store)?;
+    Ok(store)
+}
+
+/// Puts them into a store of one object.
+fn add_first(alloc: Global, store: &mut Store) -> Result<(), NoMemory>
+    requires made { store.old.made ≡ payload.None ∷ [] }
+    requires changes { store.old.changes ≡ [] }
+    ensures { OnOk result (store.new.made ≡ first_objects) }
+{
     store.add(Payload::Bool(false))?;
     store.add(Payload::Bool(true))?;
     for first in FIRST {
@@ -74,8 +98,8 @@ pub fn first_store(alloc: Global) -> Result<Store, NoMemory>
     }
     store.reserve_changes(1)?;
     let traceback = PyTracebackRef { number: 9 };
-    set_traceback(&mut store, exception_at(6), Some(traceback));
-    Ok(store)
+    set_traceback(store, exception_at(6), Some(traceback));
+    Ok(())
 }
 
 /// The built-in classes, in a store of their own: no frame reads them yet.

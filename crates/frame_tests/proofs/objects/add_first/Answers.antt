@@ -4,7 +4,7 @@ use Rattle.py_objects.specs.Edits.{IsAsBefore, objects_of}
 use Rattle.py_objects.specs.Objects.{IsException, as_object}
 use Rattle.frame_tests.specs.FirstObjects.{first_objects}
 use Rattle.frame_tests.proofs.DriveLemmas.{first_exception, first_traceback}
-use Rattle.frame_tests.proofs.objects.first_store.Goals as goal
+use Rattle.frame_tests.proofs.objects.add_first.Goals as goal
 
 pub set_traceback-requires-clause-exception : goal.set_traceback-requires-clause-exception
 set_traceback-requires-clause-exception c =

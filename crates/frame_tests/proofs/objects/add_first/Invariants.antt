@@ -2,7 +2,7 @@ use Rattle.std.proofs.Common.{◌≡◌, ◌++◌, [], map, take}
 use Rattle.py_objects.specs.Singletons.{singletons}
 use Rattle.frame_tests.specs.FirstObjects.{payload_of}
 use Rattle.frame_tests.specs.declared.tables.TheConstants.{FIRST}
-use Rattle.frame_tests.proofs.objects.first_store.Given as goal
+use Rattle.frame_tests.proofs.objects.add_first.Given as goal
 
 abbrev pub invariant-loop-first : goal.invariant-loop-first
 invariant-loop-first l = record {
