@@ -1,8 +1,8 @@
 //! How a plug-in does, drive by drive.
 
-use crate::payloads::payload_at;
+use crate::payloads::text_at;
 use py_code::{NoMemory, PyText};
-use py_objects::{DriveAnswer, Payload, Store};
+use py_objects::{DriveAnswer, Store};
 use py_vm::VmFault;
 use std::alloc::Global;
 
@@ -15,6 +15,17 @@ pub(crate) enum Standing {
     Raised,
     /// The last one had no answer.
     GivenUp,
+}
+
+impl Standing {
+    /// Why a plug-in that stands so is left out; one that answered each drive without a raise is kept.
+    pub(crate) fn why_left_out(self) -> Option<&'static str> {
+        match self {
+            Standing::Sound => None,
+            Standing::Raised => Some("it raised"),
+            Standing::GivenUp => Some("it was given up"),
+        }
+    }
 }
 
 /// How a plug-in stands, and the text that it registers under, where its first drive returned one.
@@ -49,17 +60,29 @@ impl Course {
         came: &Result<DriveAnswer, VmFault>,
         store: &Store,
     ) -> Result<(), NoMemory> {
+        if self.made == 0 {
+            self.register(came, store)?;
+        }
         match came {
-            Ok(DriveAnswer::Returns(value)) if self.made == 0 => {
-                if let Some(Payload::Str(text)) = payload_at(store, *value) {
-                    self.registered = Some(text.copy(self.alloc)?);
-                }
-            }
             Ok(DriveAnswer::Raises(_)) => self.standing = Standing::Raised,
             Ok(_) => {}
             Err(_) => self.standing = Standing::GivenUp,
         }
         self.made = self.next();
+        Ok(())
+    }
+
+    /// Takes the text that the first drive returned, where it returned one.
+    fn register(
+        &mut self,
+        came: &Result<DriveAnswer, VmFault>,
+        store: &Store,
+    ) -> Result<(), NoMemory> {
+        if let Ok(DriveAnswer::Returns(value)) = came {
+            if let Some(text) = text_at(store, *value) {
+                self.registered = Some(text.copy(self.alloc)?);
+            }
+        }
         Ok(())
     }
 }

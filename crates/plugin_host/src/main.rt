@@ -2,6 +2,8 @@
 //! line by line, each with a budget of turns.
 #![tactic(auto)]
 
+ghost use Rattle.py_grammar.specs.WellFormed.{IsWellFormed};
+
 mod course;
 mod driving;
 mod fault;
@@ -10,49 +12,57 @@ mod plugins;
 mod reading;
 mod report;
 
-use crate::course::{Course, Standing};
 use crate::driving::drive_lines;
 use crate::fault::Refusal;
 use crate::plugins::{PLUGINS, Plugin};
 use crate::reading::read_plugin;
 use crate::report::Report;
-use py_code::NoMemory;
-use py_script::{LoadFault, Session, StdSink, journal_text, load_script, write_bytes};
+use py_code::{NoMemory, PyText};
+use py_script::{LoadFault, Script, Session, StdSink, journal_text, load_script, write_bytes};
 use std::alloc::Global;
 use std::io;
 use std::process::ExitCode;
 
 /// Reads a plug-in, drives it, and tells what came.
 fn host_plugin(alloc: Global, report: &mut Report, plugin: &Plugin) -> Result<(), NoMemory> {
-    let script = match read_plugin(alloc, plugin.text) {
-        Ok(script) => script,
-        Err(Refusal::NoMemory) => return Err(NoMemory),
-        Err(refusal) => return report.put_refused(plugin.name, &refusal),
-    };
-    let mut session = match load_script(alloc, &script) {
-        Ok(session) => session,
-        Err(LoadFault::NoMemory) => return Err(NoMemory),
-    };
-    let course = drive_lines(alloc, report, plugin.name, &script, &mut session)?;
-    end_plugin(alloc, report, plugin.name, course, session)
+    match read_plugin(alloc, plugin.text) {
+        Ok(script) => run_plugin(alloc, report, plugin.name, &script),
+        Err(Refusal::NoMemory) => Err(NoMemory),
+        Err(refusal) => report.put_refused(plugin.name, &refusal),
+    }
 }
 
-/// Keeps a plug-in that answered each drive without a raise, with all that happened, and leaves any other out.
-fn end_plugin(
+/// Drives a plug-in that is read, and tells what came.
+fn run_plugin(
     alloc: Global,
     report: &mut Report,
     name: &str,
-    course: Course,
+    script: &Script,
+) -> Result<(), NoMemory>
+    requires { IsWellFormed script.now }
+{
+    let mut session = match load_script(alloc, script) {
+        Ok(session) => session,
+        Err(LoadFault::NoMemory) => return Err(NoMemory),
+    };
+    let course = drive_lines(alloc, report, name, script, &mut session)?;
+    match course.standing.why_left_out() {
+        Some(why) => report.put_left_out(name, why),
+        None => keep_plugin(alloc, report, name, course.registered, session),
+    }
+}
+
+/// Keeps a plug-in, with all that happened.
+fn keep_plugin(
+    alloc: Global,
+    report: &mut Report,
+    name: &str,
+    registered: Option<PyText>,
     session: Session,
 ) -> Result<(), NoMemory> {
-    match course.standing {
-        Standing::Sound => {}
-        Standing::Raised => return report.put_left_out(name, "it raised"),
-        Standing::GivenUp => return report.put_left_out(name, "it was given up"),
-    }
     let events = session.events();
     let text = journal_text(alloc, &session.into_journal())?;
-    report.put_kept(name, course.registered, events, text.as_slice())
+    report.put_kept(name, registered, events, text.as_slice())
 }
 
 /// What comes of all plug-ins, as lines.

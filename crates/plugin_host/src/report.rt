@@ -1,12 +1,15 @@
 //! What the host tells, as lines.
 
 use crate::fault::Refusal;
-use crate::payloads::payload_at;
+use crate::payloads::{class_name, class_of, payload_at};
 use py_code::{ItemList, NoMemory, PyText, push_utf8};
-use py_objects::{DriveAnswer, Payload, PyBaseExceptionRef, PyObjectRef, PyTypeRef, Store};
+use py_objects::{DriveAnswer, Payload, PyBaseExceptionRef, PyObjectRef, Store};
 use py_vm::VmFault;
 use std::alloc::Global;
 use std::str;
+
+/// What is told of an object of which there is no more to tell.
+const OBJECT: &str = "an object";
 
 /// Lines, and the texts that plug-ins are registered under.
 #[derive(Drop)]
@@ -81,11 +84,7 @@ impl Report {
         write!(self.lines, "{name}: drive {number} ")?;
         match came {
             Ok(answer) => self.put_answer(answer, store)?,
-            Err(VmFault::OutOfTurns) => self.lines.push_str("is out of turns")?,
-            Err(VmFault::NoMemory) => self.lines.push_str("is out of memory")?,
-            Err(VmFault::Failed) => self.lines.push_str("comes behind one that failed")?,
-            // The raise of a drive is its answer.
-            Err(VmFault::Exception(_)) => self.lines.push_str("is too deep")?,
+            Err(fault) => self.lines.push_str(said_of(*fault))?,
         }
         self.lines.push_str("\n")?;
         Ok(())
@@ -111,18 +110,22 @@ impl Report {
         store: &Store,
     ) -> Result<(), NoMemory> {
         self.lines.push_str(word)?;
-        let Some(value) = value else {
-            return Ok(());
-        };
-        match payload_at(store, value) {
-            Some(Payload::None) => self.lines.push_str(" None")?,
-            Some(Payload::Int(number)) => write!(self.lines, " {number}")?,
-            Some(Payload::Str(text)) => {
-                self.lines.push_str(" ")?;
-                push_utf8(&mut self.lines, text)?;
+        if let Some(value) = value {
+            self.lines.push_str(" ")?;
+            match payload_at(store, value) {
+                Some(payload) => self.put_told(told_of(payload))?,
+                None => self.lines.push_str(OBJECT)?,
             }
-            Some(Payload::Generator(_)) => self.lines.push_str(" a generator")?,
-            _ => self.lines.push_str(" an object")?,
+        }
+        Ok(())
+    }
+
+    /// Tells an object.
+    fn put_told(&mut self, told: Told<'_>) -> Result<(), NoMemory> {
+        match told {
+            Told::Number(number) => write!(self.lines, "{number}")?,
+            Told::Text(text) => push_utf8(&mut self.lines, text)?,
+            Told::Kind(kind) => self.lines.push_str(kind)?,
         }
         Ok(())
     }
@@ -130,23 +133,51 @@ impl Report {
     /// Tells the class of an exception.
     fn put_raised(&mut self, exception: PyBaseExceptionRef, store: &Store) -> Result<(), NoMemory> {
         self.lines.push_str("raises ")?;
-        let object = PyObjectRef {
-            number: exception.number,
-        };
-        match payload_at(store, object) {
-            Some(Payload::Exception(body)) => self.put_class(body.value().class, store),
-            _ => Ok(self.lines.push_str("something")?),
+        match raised_name(store, exception) {
+            Some(name) => push_utf8(&mut self.lines, name),
+            None => Ok(self.lines.push_str("something")?),
         }
     }
+}
 
-    /// Tells the name of a class.
-    fn put_class(&mut self, class: PyTypeRef, store: &Store) -> Result<(), NoMemory> {
-        let object = PyObjectRef {
-            number: class.number,
-        };
-        match payload_at(store, object) {
-            Some(Payload::Class(body)) => push_utf8(&mut self.lines, &body.value().name),
-            _ => Ok(self.lines.push_str("something")?),
-        }
+/// The name of an exception's class, where the store has that.
+fn raised_name(store: &Store, exception: PyBaseExceptionRef) -> Option<&PyText> {
+    class_name(store, class_of(store, exception)?)
+}
+
+/// What is told of an object.
+enum Told<'a> {
+    Number(i128),
+    Text(&'a PyText),
+    /// What kind of object it is, in words.
+    Kind(&'static str),
+}
+
+/// What is told of an object.
+fn told_of(payload: &Payload) -> Told<'_> {
+    match payload {
+        Payload::Int(number) => Told::Number(*number),
+        Payload::Str(text) => Told::Text(text),
+        _ => Told::Kind(kind_of(payload)),
+    }
+}
+
+/// What kind of object this is, in words.
+fn kind_of(payload: &Payload) -> &'static str {
+    match payload {
+        Payload::None => "None",
+        Payload::Generator(_) => "a generator",
+        _ => OBJECT,
+    }
+}
+
+/// What is told of a drive without an answer.
+fn said_of(fault: VmFault) -> &'static str {
+    match fault {
+        VmFault::OutOfTurns => "is out of turns",
+        VmFault::NoMemory => "is out of memory",
+        VmFault::Failed => "comes behind one that failed",
+        // The raise of a drive is its answer.
+        VmFault::Exception(_) => "is too deep",
     }
 }

@@ -19,6 +19,24 @@ pub(crate) enum Failing {
     Write(u64),
 }
 
+impl Failing {
+    /// The number of the read that fails, if one does.
+    fn read(self) -> Option<u64> {
+        match self {
+            Failing::Read(number) => Some(number),
+            Failing::None | Failing::Write(_) => None,
+        }
+    }
+
+    /// The number of the write that fails, if one does.
+    fn write(self) -> Option<u64> {
+        match self {
+            Failing::Write(number) => Some(number),
+            Failing::None | Failing::Read(_) => None,
+        }
+    }
+}
+
 /// How streams move bytes: at most so many a call, and which call fails beside those that the row names.
 #[derive(Clone, Copy)]
 pub(crate) struct Way {
@@ -69,19 +87,10 @@ impl Streams {
     fn of(alloc: Global, row: &Row, way: Way) -> Result<Streams, NoMemory>
         requires { 1 ≤ way.piece }
     {
-        let script = row.script.clone()?;
-        let mut reads = row.failing_reads.clone()?;
-        let mut writes = row.failing_writes.clone()?;
-        match way.failing {
-            Failing::None => {}
-            Failing::Read(number) => reads.push(number)?,
-            Failing::Write(number) => writes.push(number)?,
-        }
-        Ok(Streams {
-            source: SourceMemory::new(script, reads, way.piece),
-            text: SinkMemory::new(alloc, writes, way.piece, ROOM)?,
-            note: SinkMemory::new(alloc, Vec::new(alloc), way.piece, 100)?,
-        })
+        let source = source_of(row, way)?;
+        let text = text_sink_of(alloc, row, way)?;
+        let note = SinkMemory::new(alloc, Vec::new(alloc), way.piece, 100)?;
+        Ok(Streams { source, text, note })
     }
 
     /// Does what the words ask for.
@@ -94,6 +103,32 @@ impl Streams {
             &mut self.note,
         )
     }
+}
+
+/// The source of a row's script, which moves bytes so.
+fn source_of(row: &Row, way: Way) -> Result<SourceMemory, NoMemory>
+    requires { 1 ≤ way.piece }
+{
+    let script = row.script.clone()?;
+    let fails = with_one(&row.failing_reads, way.failing.read())?;
+    Ok(SourceMemory::new(script, fails, way.piece))
+}
+
+/// The sink of a row's text, which moves bytes so.
+fn text_sink_of(alloc: Global, row: &Row, way: Way) -> Result<SinkMemory, NoMemory>
+    requires { 1 ≤ way.piece }
+{
+    let fails = with_one(&row.failing_writes, way.failing.write())?;
+    SinkMemory::new(alloc, fails, way.piece, ROOM)
+}
+
+/// The numbers of calls that fail, with one more if there is one.
+fn with_one(named: &Vec<u64>, more: Option<u64>) -> Result<Vec<u64>, NoMemory> {
+    let mut fails = named.clone()?;
+    if let Some(number) = more {
+        fails.push(number)?;
+    }
+    Ok(fails)
 }
 
 /// The words that a text has, with blanks between them; `''` stands for an empty word.

@@ -40,6 +40,16 @@ fn checked_code(alloc: Global, names: &mut Names, body: &Body) -> Result<Checked
     Ok(CheckedCode::of(code))
 }
 
+/// Adds a code to a machine, and gives its place.
+fn add_code(vm: &mut VirtualMachine, code: CheckedCode) -> Result<usize, HostFault>
+    requires named { AreNames vm.old.checked.names code.code }
+    requires answered { CodeIsAnswered code.code }
+    ensures works { OnOk result (vm.new.failed ≡ false) }
+    ensures there { IfOk result (λ place. place < length vm.new.checked.codes) }
+{
+    Ok(vm.add_code(code)?)
+}
+
 /// Adds a function of a code to a machine, and binds it to its name.
 fn add_function(
     alloc: Global,
@@ -52,7 +62,7 @@ fn add_function(
     ensures works { OnOk result (vm.new.failed ≡ false) }
     ensures there { IfOk result (λ function. function.number < length vm.new.objects) }
 {
-    let code = vm.add_code(code)?;
+    let code = add_code(vm, code)?;
     let body = FunctionBody {
         name: name.copy(alloc)?,
         code,
