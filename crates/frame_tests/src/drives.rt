@@ -83,14 +83,14 @@ fn asked(request: &Request) -> Option<(&'static str, [Option<PyObjectRef>; 4])> 
     }
 }
 
-/// A question that names objects alone as words, and any other as it stands.
+/// A question that names objects alone as words.
 fn plain(alloc: Global, request: &Request) -> Result<String, NoMemory> {
     match asked(request) {
         Some(asked) => {
             let objects = asked.1;
             words_of(alloc, asked.0, &objects)
         }
-        None => Ok(format!(in alloc; "{request:?}")?),
+        None => words_of(alloc, "another question", &[]),
     }
 }
 

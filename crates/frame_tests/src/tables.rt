@@ -4,7 +4,7 @@ use py_check::{Kind, Pending};
 use py_code::Instruction;
 
 /// An open block of a note, with its level, and its handler or the jump that may wait in it.
-#[derive(Clone, Copy, Debug)]
+#[derive(Clone, Copy)]
 pub enum Open {
     Loop(usize),
     TryExcept(usize, u32),
@@ -14,7 +14,7 @@ pub enum Open {
 }
 
 /// A unit: its instruction and operand, and what its note says of the stack, the top first, and of the blocks, the innermost first.
-#[derive(Clone, Copy, Debug)]
+#[derive(Clone, Copy)]
 pub struct Row(
     pub Instruction,
     pub u8,
@@ -23,7 +23,7 @@ pub struct Row(
 );
 
 /// What a frame is told.
-#[derive(Clone, Copy, Debug)]
+#[derive(Clone, Copy)]
 pub enum Said {
     Start,
     Go,
@@ -41,7 +41,7 @@ pub enum Said {
 }
 
 /// A code that is driven, with what it is told, and the events that come.
-#[derive(Clone, Copy, Debug)]
+#[derive(Clone, Copy)]
 pub struct Case {
     pub name: &'static str,
     pub rows: &'static [Row],
@@ -50,7 +50,7 @@ pub struct Case {
 }
 
 /// What an object is.
-#[derive(Clone, Copy, Debug)]
+#[derive(Clone, Copy)]
 pub enum First {
     Class,
     Arguments,

@@ -17,7 +17,7 @@ use py_objects::{
 use std::alloc::Global;
 
 /// What a request is answered.
-#[derive(Debug, Drop)]
+#[derive(Drop)]
 pub enum Answered {
     /// This object.
     Done(PyObjectRef),

@@ -17,7 +17,7 @@ pub struct Labels {
 }
 
 /// The kind of the body, the innermost loop around a statement, how many values lie on the stack under it, and which blocks are open.
-#[derive(Debug, Drop)]
+#[derive(Drop)]
 pub struct Scope {
     pub kind: BodyKind,
     pub around: Option<Labels>,

@@ -9,7 +9,6 @@ use std::marker::Model;
 use std::rc::Rc;
 
 /// Open blocks, the innermost first, seen as their list. A block takes memory once, however many lists have it with those around it.
-#[derive(Debug)]
 #[cycle(blocks)]
 pub struct BlockList {
     top: Option<Rc<OpenBlock>>,
@@ -17,7 +16,7 @@ pub struct BlockList {
 }
 
 /// An open block, and those around it.
-#[derive(Debug, Drop)]
+#[derive(Drop)]
 #[cycle(blocks)]
 struct OpenBlock {
     block: BlockNote,

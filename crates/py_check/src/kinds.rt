@@ -9,14 +9,14 @@ use std::alloc::Global;
 use std::marker::Model;
 
 /// As many entries of one kind, one behind another.
-#[derive(Clone, Copy, Debug)]
+#[derive(Clone, Copy)]
 struct KindRun {
     kind: Kind,
     count: usize,
 }
 
 /// Kinds of the entries of a stack, the top first, seen as their list.
-#[derive(Debug, Drop)]
+#[derive(Drop)]
 pub struct KindList {
     runs: Vec<KindRun>,
     len: usize,

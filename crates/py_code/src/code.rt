@@ -10,7 +10,7 @@ use crate::names::NameId;
 use crate::unit::{CodeUnit, OpArg, OpArgState};
 
 /// What a code is made of. Names are places in a table that stands beside the codes.
-#[derive(Debug, Drop)]
+#[derive(Drop)]
 pub struct CodeObject {
     pub instructions: Vec<CodeUnit>,
     /// The source line of each unit.
@@ -48,7 +48,7 @@ pub struct Decoded {
 }
 
 /// A code that can be run.
-#[derive(Debug, Drop)]
+#[derive(Drop)]
 pub struct PyCode {
     pub code: CodeObject,
 }

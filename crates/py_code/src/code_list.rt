@@ -13,7 +13,7 @@ use std::slice;
 
 /// Codes in order, and the table that their names are places in. A constant refers to a code by
 /// its place, from 0.
-#[derive(Debug, Drop)]
+#[derive(Drop)]
 pub struct CodeList {
     names: Names,
     items: Vec<PyCode>,

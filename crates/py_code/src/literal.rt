@@ -61,7 +61,7 @@ impl BuiltinFn {
 }
 
 /// A constant.
-#[derive(Debug, Drop)]
+#[derive(Drop)]
 #[cycle(literal)]
 pub enum Literal {
     None,
@@ -75,7 +75,7 @@ pub enum Literal {
 }
 
 /// Constants in order.
-#[derive(Debug, Drop)]
+#[derive(Drop)]
 #[cycle(literal)]
 pub struct LiteralList {
     items: Vec<Literal>,

@@ -12,7 +12,7 @@ use std::alloc::Global;
 use std::marker::Model;
 
 /// Distinct names, each known by its place. Seen as the list of their characters.
-#[derive(Debug, Drop)]
+#[derive(Drop)]
 pub struct NameSet {
     alloc: Global,
     names: IndexSet<Vec<char>>,

@@ -15,7 +15,7 @@ pub struct NameId {
 }
 
 /// Distinct texts, each known by its place. Seen as the list of their bytes.
-#[derive(Debug, Drop)]
+#[derive(Drop)]
 pub struct Names {
     alloc: Global,
     texts: IndexSet<String>,

@@ -75,7 +75,7 @@ pub enum CoroAnswer {
 
 /// A suspendable activation (Python Language Reference, 6.2.9), seen as its state. It holds no frame, only that frame's number, and asks
 /// whoever drives it to enter that.
-#[derive(Debug, Drop)]
+#[derive(Drop)]
 pub struct Coro {
     frame: FrameRef,
     name: NameId,

@@ -13,7 +13,7 @@ use py_objects::{CoroKind, FrameRef};
 use std::marker::Model;
 
 /// A generator (Python Language Reference, 6.2.9), seen as the state of its activation.
-#[derive(Debug, Drop)]
+#[derive(Drop)]
 pub struct PyGenerator {
     inner: Coro,
 }

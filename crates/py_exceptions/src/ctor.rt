@@ -42,7 +42,7 @@ pub enum CtorFault {
 }
 
 /// What comes of a class or an exception.
-#[derive(Debug, Drop)]
+#[derive(Drop)]
 pub enum Instantiate {
     /// This exception.
     Done(PyBaseExceptionRef),

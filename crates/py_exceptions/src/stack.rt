@@ -11,7 +11,7 @@ use std::mem;
 
 /// The exceptions that are being handled (Python Language Reference, 8.4), seen as slots, the top first. What is pushed hides the slots
 /// below until it is popped; an empty slot handles nothing. There is always a slot.
-#[derive(Debug, Drop)]
+#[derive(Drop)]
 pub struct ExceptionStack {
     /// The slots below the top one, the lowest first.
     below: Vec<Option<PyBaseExceptionRef>>,

@@ -47,7 +47,7 @@ impl Answer {
 }
 
 /// What a frame tells: the next event of its activation, or that memory ran out.
-#[derive(Debug, Drop)]
+#[derive(Drop)]
 pub enum FrameStep {
     /// It asks, while it handles this exception.
     Ask(Request, Option<PyBaseExceptionRef>),

@@ -3,7 +3,7 @@
 use crate::input::FrameStep;
 
 /// What a unit did, or an answer.
-#[derive(Debug, Drop)]
+#[derive(Drop)]
 pub enum UnitStep {
     /// It leads to a next unit.
     Goes,

@@ -9,7 +9,7 @@ use py_lines::DriveLine;
 use py_tree::Body;
 
 /// What a script declares.
-#[derive(Debug, Drop)]
+#[derive(Drop)]
 pub enum Declaration {
     /// `class C B`: an exception class, by its name and its base (Python Language Reference, 8.8).
     Class(PyText, PyText),
@@ -39,7 +39,7 @@ pub type DeclList = ItemList<Declaration>;
 pub type DriveList = ItemList<DriveLine>;
 
 /// A script, with the characters that it was read of.
-#[derive(Debug, Drop)]
+#[derive(Drop)]
 pub struct Script {
     pub text: PyText,
     pub declarations: DeclList,

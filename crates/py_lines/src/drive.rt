@@ -13,7 +13,7 @@ use py_tree::Atom;
 use std::alloc::Global;
 
 /// An argument of a drive.
-#[derive(Debug, Drop)]
+#[derive(Drop)]
 pub enum DriveAtom {
     /// `None`.
     None,
@@ -33,7 +33,7 @@ pub enum DriveAtom {
 pub type DriveAtomList = ItemList<DriveAtom>;
 
 /// A drive.
-#[derive(Debug, Drop)]
+#[derive(Drop)]
 pub enum DriveLine {
     /// `call f a ..`.
     Call(PyText, DriveAtomList),

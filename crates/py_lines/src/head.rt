@@ -15,7 +15,7 @@ use py_tree::Atom;
 use std::alloc::Global;
 
 /// A line that opens a block.
-#[derive(Debug, Drop)]
+#[derive(Drop)]
 pub enum Head {
     /// `if a`.
     If(Atom),
@@ -28,7 +28,7 @@ pub enum Head {
 }
 
 /// A line that ends one suite of an open block, and begins the next.
-#[derive(Debug, Drop)]
+#[derive(Drop)]
 pub enum Turn {
     /// `else`.
     Else,

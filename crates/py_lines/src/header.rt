@@ -15,7 +15,7 @@ use py_tree::{BodyKind, ParamList};
 use std::alloc::Global;
 
 /// The header of a declaration, which is all of it for a class and for a manager.
-#[derive(Debug, Drop)]
+#[derive(Drop)]
 pub enum Header {
     /// `def f p ..`, or `gen f p ..`: the kind of the body, its name and its parameters.
     Def(BodyKind, PyText, ParamList),

@@ -21,7 +21,7 @@ use py_code::NoMemory;
 use std::alloc::Global;
 
 /// A line that says something, by its class.
-#[derive(Debug, Drop)]
+#[derive(Drop)]
 pub enum Line {
     /// `end`.
     End,
@@ -38,7 +38,7 @@ pub enum Line {
 }
 
 /// How a line reads by itself.
-#[derive(Debug, Drop)]
+#[derive(Drop)]
 pub enum LineRead {
     /// Nothing stands in the line, or a comment.
     Blank,

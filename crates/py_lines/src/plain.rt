@@ -15,7 +15,7 @@ use py_tree::{Atom, Expr, Operation};
 use std::alloc::Global;
 
 /// A plain statement.
-#[derive(Debug, Drop)]
+#[derive(Drop)]
 pub enum Plain {
     /// `x = e`.
     Assign(PyText, Expr),

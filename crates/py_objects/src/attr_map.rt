@@ -10,7 +10,7 @@ use std::alloc::Global;
 use std::marker::Model;
 
 /// Values by their names, in the order in which the names came. Seen as the list of both.
-#[derive(Debug, Drop)]
+#[derive(Drop)]
 pub struct AttrMap {
     /// The names by their characters.
     entries: IndexMap<Vec<char>, PyObjectRef>,

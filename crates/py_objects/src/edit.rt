@@ -5,7 +5,7 @@ use crate::refs::PyObjectRef;
 use py_code::{ItemList, PyText};
 
 /// A change of an object, made when the journal had `after` events.
-#[derive(Debug, Drop)]
+#[derive(Drop)]
 pub struct Change {
     pub after: u64,
     pub object: PyObjectRef,
@@ -16,14 +16,14 @@ pub struct Change {
 pub type ChangeList = ItemList<Change>;
 
 /// A store's end: each object's payload as it was made, and the changes in order.
-#[derive(Debug, Drop)]
+#[derive(Drop)]
 pub struct History {
     pub objects: PayloadList,
     pub changes: ChangeList,
 }
 
 /// What a change does to its object.
-#[derive(Debug, Drop)]
+#[derive(Drop)]
 pub enum Edit {
     /// Sets or clears a link of an exception or a traceback.
     Link(LinkField, Option<PyObjectRef>),

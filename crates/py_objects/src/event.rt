@@ -6,7 +6,7 @@ use py_code::{ItemList, PyText};
 
 /// One event. Drives and activations are numbered from 1; `at` is the unit of the activation's code, 0 where it has
 /// begun none; `own` is the exception that the asking body handles.
-#[derive(Debug, Drop)]
+#[derive(Drop)]
 pub enum Event {
     /// A drive of the script begins.
     Drive {
@@ -63,7 +63,7 @@ pub enum Event {
 pub type EventList = ItemList<Event>;
 
 /// What a drive comes to.
-#[derive(Debug, Drop)]
+#[derive(Drop)]
 pub enum DriveAnswer {
     Returns(PyObjectRef),
     Yields(PyObjectRef),

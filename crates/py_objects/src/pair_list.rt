@@ -11,7 +11,7 @@ use std::marker::Model;
 use std::slice;
 
 /// Keys with their values, in order.
-#[derive(Debug, Drop)]
+#[derive(Drop)]
 pub struct PairList {
     items: Vec<(PyObjectRef, PyObjectRef)>,
 }

@@ -8,7 +8,7 @@ use crate::refs::{FrameRef, ObjList, PyObjectRef, PyTypeRef};
 use py_code::{BuiltinFn, ItemList, PyText};
 
 /// What an object is. Names are texts; other objects are named by their numbers. A store has one of these for each object, so they are small.
-#[derive(Debug, Drop)]
+#[derive(Drop)]
 pub enum Payload {
     None,
     Bool(bool),
@@ -33,21 +33,21 @@ pub enum Payload {
 pub type PayloadList = ItemList<Payload>;
 
 /// A class, with those that it derives from, the nearest first, itself left out (Python Language Reference, 3.3.3.1).
-#[derive(Debug, Drop)]
+#[derive(Drop)]
 pub struct ClassBody {
     pub name: PyText,
     pub mro: ObjList,
 }
 
 /// A function, with the number of its code among the codes of the run.
-#[derive(Debug, Drop)]
+#[derive(Drop)]
 pub struct FunctionBody {
     pub name: PyText,
     pub code: usize,
 }
 
 /// A context manager: the functions that a `with` enters and leaves it by.
-#[derive(Debug, Drop)]
+#[derive(Drop)]
 pub struct ManagerBody {
     pub name: PyText,
     pub enter: PyObjectRef,
@@ -63,7 +63,7 @@ pub enum CoroKind {
 }
 
 /// A generator, with the number of its activation.
-#[derive(Debug, Drop)]
+#[derive(Drop)]
 pub struct CoroBody {
     pub activation: u64,
     pub name: PyText,
@@ -72,7 +72,7 @@ pub struct CoroBody {
 
 /// An exception: its class, its arguments as one tuple, its links, and its attributes (Python Language Reference, 4.2 and
 /// 7.8).
-#[derive(Debug, Drop)]
+#[derive(Drop)]
 pub struct ExceptionBody {
     pub class: PyTypeRef,
     pub args: PyObjectRef,

@@ -29,7 +29,7 @@ pub enum BuildKind {
 }
 
 /// What a body asks. Operands stand in the order in which they were loaded; dicts of the asking frame stand first.
-#[derive(Debug, Drop)]
+#[derive(Drop)]
 pub enum Request {
     /// A name in the globals, or among the built-in classes: globals, name.
     Global(PyObjectRef, PyText),

@@ -22,14 +22,14 @@ use std::alloc::Global;
 use std::marker::Model;
 
 /// How an object was made that may change, with its number.
-#[derive(Debug, Drop)]
+#[derive(Drop)]
 pub(crate) struct Original {
     pub(crate) number: usize,
     pub(crate) payload: Payload,
 }
 
 /// Objects by number, which are never taken off, seen as how they were made and what was changed since.
-#[derive(Debug, Drop)]
+#[derive(Drop)]
 pub struct Store {
     alloc: Global,
     /// The objects as they are.

@@ -10,7 +10,7 @@ use std::alloc::Global;
 use std::marker::Model;
 
 /// Words in order, seen as the list of their texts.
-#[derive(Debug, Drop)]
+#[derive(Drop)]
 pub struct Words {
     alloc: Global,
     words: Vec<String>,

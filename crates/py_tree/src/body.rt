@@ -16,7 +16,7 @@ pub enum BodyKind {
 }
 
 /// A function: its kind, its name, its parameters, its statements and the line of its header, from 1.
-#[derive(Debug, Drop)]
+#[derive(Drop)]
 pub struct Body {
     pub kind: BodyKind,
     pub name: PyText,

@@ -3,7 +3,7 @@
 use py_code::{ItemList, PyText};
 
 /// A value that a line names without computing it.
-#[derive(Debug, Drop)]
+#[derive(Drop)]
 pub enum Atom {
     /// `None`.
     None,
@@ -21,7 +21,7 @@ pub enum Atom {
 pub type AtomList = ItemList<Atom>;
 
 /// An operator with its operands, which are evaluated from the left.
-#[derive(Debug, Drop)]
+#[derive(Drop)]
 pub enum Operation {
     /// `add a b`: the sum of two numbers, or two texts as one.
     Add(Atom, Atom),
@@ -44,7 +44,7 @@ pub enum Operation {
 }
 
 /// What stands behind `x =`.
-#[derive(Debug, Drop)]
+#[derive(Drop)]
 pub enum Expr {
     /// An atom.
     Atom(Atom),

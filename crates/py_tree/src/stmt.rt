@@ -11,7 +11,7 @@ use py_code::{NoMemory, PyText};
 use std::alloc::Global;
 
 /// A statement with its line, from 1.
-#[derive(Debug, Drop)]
+#[derive(Drop)]
 #[cycle(tree)]
 pub struct Stmt {
     pub line: u32,
@@ -19,7 +19,7 @@ pub struct Stmt {
 }
 
 /// What a statement says, a variant a line of the grammar.
-#[derive(Debug, Drop)]
+#[derive(Drop)]
 #[cycle(tree)]
 pub enum StmtForm {
     /// `x = e`: a value is bound to a name.
@@ -55,7 +55,7 @@ pub enum StmtForm {
 }
 
 /// `except C` or `except C as x`, and its suite: what a `try` does with an exception of the class.
-#[derive(Debug, Drop)]
+#[derive(Drop)]
 #[cycle(tree)]
 pub struct Clause {
     pub line: u32,
@@ -66,14 +66,14 @@ pub struct Clause {
 }
 
 /// Statements in order.
-#[derive(Debug, Drop)]
+#[derive(Drop)]
 #[cycle(tree)]
 pub struct StmtList {
     items: Vec<Stmt>,
 }
 
 /// Clauses in order.
-#[derive(Debug, Drop)]
+#[derive(Drop)]
 #[cycle(tree)]
 pub struct ClauseList {
     items: Vec<Clause>,
