@@ -83,7 +83,7 @@ fn asked(request: &Request) -> Option<(&'static str, [Option<PyObjectRef>; 4])> 
     }
 }
 
-/// A question that names objects alone as words.
+/// A question that names objects alone as words; of any other, only that it is one.
 fn plain(alloc: Global, request: &Request) -> Result<String, NoMemory> {
     match asked(request) {
         Some(asked) => {
