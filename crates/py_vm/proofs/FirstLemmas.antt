@@ -3,7 +3,7 @@ use Rattle.std.proofs.Common.{◌≡◌, ◌<◌, ◌+◌, ◌^◌, ◌++◌, �
 use Rattle.std.specs.Prelude.{None, slice_get}
 use Rattle.py_objects.specs.declared.payload.Payload.{Payload}
 use Rattle.py_objects.specs.declared.payload.Payload.TheVariants as payload
-use Rattle.py_objects.specs.Objects.{Obj, Name, HasPayload, declared, AllFit}
+use Rattle.py_objects.specs.Objects.{Obj, Name, declared, AllFit}
 use Rattle.py_objects.specs.Attrs.{value_of}
 use Rattle.py_objects.specs.Own.{own_events}
 use Rattle.py_objects.specs.Edits.{Kept}
@@ -18,6 +18,7 @@ use Rattle.py_run.specs.First.{first_objects, first_globals}
 use Rattle.py_run.proofs.FirstLemmas.{each_single, each_first, singles_plain, first_fit, first_have}
 use Rattle.py_vm.specs.Raises.{AreRaised}
 use Rattle.py_vm.specs.Machine.{new_machine}
+use Rattle.py_vm.specs.Beginning.{Begins}
 use Rattle.py_vm.specs.Holds.{IsCoded}
 use Rattle.py_vm.specs.Stands.{AreApart, AreKept, AtStage, phase_of, acts_of, frames_at, slots_at, IsIdle, seen}
 use Rattle.py_run.proofs.OwnLemmas.{own_events-nil}
@@ -71,17 +72,9 @@ classes_begin old new zoo made unchanged mark first added =
       mark = ap (λ (s : Kept). s.mark) added ∙ mark;
     }
 
--- the store that a machine begins with, and the dict of its globals
-pub record Begins (store : Kept) (globals : Obj) : Type 0 where
-  pub objects : store.made ≡ first_objects
-  pub unchanged : store.changes ≡ []
-  pub mark : store.mark ≡ 0
-  pub globals_are : HasPayload store.made globals (payload.Dict [])
-  pub place : globals ≡ first_globals
-
 -- an empty dict is put behind the classes
 pub dict_begins : (old new : Kept) (zoo : ExceptionZoo) (pairs : List (Obj × Obj)) (globals : Obj) → ClassesBegin old zoo
-    → pairs ≡ [] → new ≡ with_object old (payload.Dict pairs) → globals.number ≡ length old.made → Begins new globals
+    → pairs ≡ [] → new ≡ with_object old (payload.Dict pairs) → globals.number ≡ length old.made → Begins new zoo globals
 dict_begins old new zoo pairs globals begun none added last =
     let all : new ≡ with_object old (payload.Dict []) = added ∙ ap (λ ps. with_object old (payload.Dict ps)) none in
     let long : length (singletons ++ class_payloads first_classes) ≡ 70 = refl in
@@ -89,6 +82,7 @@ dict_begins old new zoo pairs globals begun none added last =
       objects = added_made old new (payload.Dict []) all ∙ ap (λ os. os ++ payload.Dict [] ∷ []) begun.made ∙ append_assoc singletons (class_payloads first_classes) (payload.Dict [] ∷ []);
       unchanged = ap (λ (s : Kept). s.changes) all ∙ begun.unchanged;
       mark = ap (λ (s : Kept). s.mark) all ∙ begun.mark;
+      classes = begun.classes;
       globals_are = added_has old new (payload.Dict []) globals all last;
       place = ap (λ n. let v : Obj = record { number = n } in v) (last ∙ ap length begun.made ∙ long);
     }
@@ -99,9 +93,9 @@ pub seen_first : (m : Core) (names : List Name) → m.store.made ≡ first_objec
 seen_first m names objects unchanged codes globals no_events no_generators no_frames = rw (objects, unchanged, codes, globals, no_events, no_generators, no_frames)
 
 -- a machine that has done nothing is between drives
-pub start_idle : (m : Core) → m.events ≡ [] → Begins m.store m.globals → m.codes.codes ≡ [] → m.zoo ≡ first_classes → m.declarations ≡ declarations_of first_classes → m.done ≡ 0 → m.made ≡ 0
+pub start_idle : (m : Core) → m.events ≡ [] → Begins m.store m.zoo m.globals → m.codes.codes ≡ [] → m.declarations ≡ declarations_of first_classes → m.done ≡ 0 → m.made ≡ 0
     → m.callers ≡ [] → m.generators ≡ [] → m.frames ≡ [] → m.slots ≡ None ∷ [] → m.raises ≡ [] → m.stage ≡ stage.Idle → IsIdle m
-start_idle m no_events begins no_codes classes names none_done none_made no_callers no_generators no_frames empty no_raises idle =
+start_idle m no_events begins no_codes names none_done none_made no_callers no_generators no_frames empty no_raises idle =
     let fit : AllFit m.store.made = subst AllFit (sym begins.objects) first_fit in
     let nothing : state_after start m.events ≡ start = ap (state_after start) no_events in
     record {
@@ -117,7 +111,7 @@ start_idle m no_events begins no_codes classes names none_done none_made no_call
             unread = λ i c here. absurd (let none : None ≡ Some c = sym (ap (λ l. slice_get l i) begins.unchanged) ∙ here in cc none);
             fit = fit;
           };
-          classes = subst (λ zoo. HaveClasses zoo m.store.made) (sym classes) (subst (HaveClasses first_classes) (sym begins.objects) first_have);
+          classes = subst (λ zoo. HaveClasses zoo m.store.made) (sym begins.classes) (subst (HaveClasses first_classes) (sym begins.objects) first_have);
           dict = ([], begins.globals_are);
           names_are = λ x. ap (value_of x) names ∙ first_declared x ∙ ap (λ os. declared os x) (sym begins.objects);
         };
