@@ -5,7 +5,7 @@ ghost use Rattle.py_tree.specs.Compilable.{IsCompilable};
 ghost use Rattle.py_tree.specs.Views.{tree_of};
 
 use py_body::{Atom, Body, BodyKind, Operation, ParamList, Stmt, StmtForm, StmtList, compile_body};
-use py_code::{CodeFlags, Instruction, Names, NoMemory, text_of};
+use py_code::{CodeFlags, Instruction, Names, NoMemory, PyCode, text_of};
 use std::alloc::Global;
 use std::process::Abort;
 
@@ -82,13 +82,26 @@ fn compare_compiled(
     requires { IsCompilable (tree_of body.now) }
 {
     let codes = compile_body(alloc, names, body, 0)?;
-    let code = codes.as_slice().first().map(|annotated| &annotated.code);
-    let flags = code.map(|code| code.co_flags());
-    let wanted = CodeFlags::NEW_LOCALS | CodeFlags::IS_OPTIMIZED | CodeFlags::IS_GENERATOR;
-    assert_eq!(rt; flags, Some(wanted));
-    for (at, want) in units.iter().enumerate() {
-        let unit = code.and_then(|code| code.decoded(at));
-        assert_eq!(rt; unit.map(|unit| (unit.op, unit.arg.0)), Some(*want));
-    }
+    let [annotated] = codes.as_slice() else {
+        panic!(rt; "one body has one code");
+    };
+    compare_units(rt, &annotated.code, units);
     Ok(())
+}
+
+/// Compares a generator's code with these units.
+fn compare_units(rt: &impl Abort, code: &PyCode, units: &[(Instruction, u32)]) {
+    let wanted = CodeFlags::NEW_LOCALS | CodeFlags::IS_OPTIMIZED | CodeFlags::IS_GENERATOR;
+    assert_eq!(rt; code.co_flags(), wanted);
+    for (at, want) in units.iter().enumerate() {
+        assert!(rt; is_unit(code, at, *want), "at {at}");
+    }
+}
+
+/// Whether a code has this unit at a place.
+fn is_unit(code: &PyCode, at: usize, want: (Instruction, u32)) -> bool {
+    match code.decoded(at) {
+        Some(unit) => unit.op == want.0 && unit.arg.0 == want.1,
+        None => false,
+    }
 }

@@ -133,8 +133,13 @@ fn a_generator_shows_its_name_and_number(rt: HostRuntime) -> Result<(), NoMemory
 }
 
 /// Compares what a fault says with what it is to say.
-fn compare_said(rt: &impl Abort, alloc: Global, fault: Fault, said: &str) -> Result<(), NoMemory> {
-    let text = utf8_of(alloc, &fault.text)?;
+fn compare_said(
+    rt: &impl Abort,
+    alloc: Global,
+    fault: Result<Fault, NoMemory>,
+    said: &str,
+) -> Result<(), NoMemory> {
+    let text = utf8_of(alloc, &fault?.text)?;
     assert_eq!(rt; text.as_str(), said);
     Ok(())
 }
@@ -143,15 +148,15 @@ fn compare_said(rt: &impl Abort, alloc: Global, fault: Fault, said: &str) -> Res
 fn refusals_say_what_was_called(rt: HostRuntime) -> Result<(), NoMemory> {
     let alloc = rt.alloc();
     let kind = CoroKind::Generator;
-    let first = CoroRefusal::FirstValue.fault(alloc, kind)?;
+    let first = CoroRefusal::FirstValue.fault(alloc, kind);
     let said = "can't send non-None value to a just-started generator";
     compare_said(&rt, alloc, first, said)?;
-    let stop = converted(alloc, kind, ErrorKind::StopIteration)?;
+    let stop = converted(alloc, kind, ErrorKind::StopIteration);
     compare_said(&rt, alloc, stop, "generator raised StopIteration")?;
     let asynchronous = CoroKind::AsyncGenerator;
-    let stop = converted(alloc, asynchronous, ErrorKind::StopAsyncIteration)?;
+    let stop = converted(alloc, asynchronous, ErrorKind::StopAsyncIteration);
     let said = "async generator raised StopAsyncIteration";
     compare_said(&rt, alloc, stop, said)?;
-    let exit = ignored(alloc, kind)?;
+    let exit = ignored(alloc, kind);
     compare_said(&rt, alloc, exit, "generator ignored GeneratorExit")
 }

@@ -11,8 +11,8 @@ use py_code::Instruction::{
 };
 use std::test::Fail;
 
-/// Loop, TryExcept, Finally, FinallyHandler and ExceptHandler, each left by a break, a continue, a return and a raise.
-const BLOCKS: [Case; 20] = [
+/// A loop is left by a break, a continue, a return and a raise.
+const LOOP: [Case; 4] = [
     Case {
         name: "a break leaves its loop with what lies above its level",
         rows: &[
@@ -60,6 +60,10 @@ const BLOCKS: [Case; 20] = [
         said: &[Start, Go, Exception],
         told: "2 round; 4 Raisable 2; 5 return 5; ",
     },
+];
+
+/// A try is left by a break, a continue, a return and a raise.
+const TRY_EXCEPT: [Case; 4] = [
     Case {
         name: "a break leaves a try, which takes no raise behind it",
         rows: &[
@@ -122,6 +126,10 @@ const BLOCKS: [Case; 20] = [
         said: &[Start, Exception, Nothing],
         told: "4 Raisable 8; 5 Show 5 own 5 slot 5; 7 return 2; ",
     },
+];
+
+/// A body that a finally waits for is left by a break, a continue, a return and a raise.
+const FINALLY: [Case; 4] = [
     Case {
         name: "a break waits for a finally",
         rows: &[
@@ -230,6 +238,10 @@ const BLOCKS: [Case; 20] = [
         said: &[Start, Exception, Nothing],
         told: "3 Raisable 2; 5 Show 8 own 5 slot 5; 6 raise 5; ",
     },
+];
+
+/// A finally that runs is left by a break, a continue, a return and a raise.
+const FINALLY_HANDLER: [Case; 4] = [
     Case {
         name: "a break in a finally ends the raise that waits there",
         rows: &[
@@ -293,6 +305,10 @@ const BLOCKS: [Case; 20] = [
         said: &[Start, Exception],
         told: "5 Raisable 8; 5 raise 5; ",
     },
+];
+
+/// A handler that runs is left by a break, a continue, a return and a raise.
+const EXCEPT_HANDLER: [Case; 4] = [
     Case {
         name: "a break leaves a handler",
         rows: &[
@@ -354,6 +370,26 @@ const BLOCKS: [Case; 20] = [
 ];
 
 #[test]
-fn each_reason_leaves_each_kind_of_block(rt: HostRuntime) -> Result<(), Fail> {
-    compare(&rt, rt.alloc(), &BLOCKS)
+fn each_reason_leaves_a_loop(rt: HostRuntime) -> Result<(), Fail> {
+    compare(&rt, rt.alloc(), &LOOP)
+}
+
+#[test]
+fn each_reason_leaves_a_try(rt: HostRuntime) -> Result<(), Fail> {
+    compare(&rt, rt.alloc(), &TRY_EXCEPT)
+}
+
+#[test]
+fn each_reason_leaves_a_body_of_a_finally(rt: HostRuntime) -> Result<(), Fail> {
+    compare(&rt, rt.alloc(), &FINALLY)
+}
+
+#[test]
+fn each_reason_leaves_a_finally(rt: HostRuntime) -> Result<(), Fail> {
+    compare(&rt, rt.alloc(), &FINALLY_HANDLER)
+}
+
+#[test]
+fn each_reason_leaves_a_handler(rt: HostRuntime) -> Result<(), Fail> {
+    compare(&rt, rt.alloc(), &EXCEPT_HANDLER)
 }

@@ -17,6 +17,7 @@ use py_code::{
     NoMemory, PyCode,
 };
 use std::alloc::Global;
+use std::process::Abort;
 use std::test::Fail;
 
 /// The jumps that may wait where at most one may.
@@ -180,23 +181,28 @@ const SUM: [Row; 4] = [
     Row(Instruction::ReturnValue, 0, &[Kind::Any], &[]),
 ];
 
-/// How many entries and blocks a note has.
-fn sizes(note: &Note) -> Option<(usize, usize)> {
+/// Whether a unit has a note of so many entries, and of no block.
+fn has_entries(note: Option<&Note>, entries: usize) -> bool {
     match note {
-        Note::Dead => None,
-        Note::Live { kinds, blocks } => Some((kinds.len(), blocks.len())),
+        Some(Note::Live { kinds, blocks }) => kinds.len() == entries && blocks.len() == 0,
+        Some(Note::Dead) | None => false,
     }
+}
+
+/// Compares the notes of the sum's code with its rows.
+fn compare_notes(rt: &impl Abort, code: &CheckedCode) {
+    for (at, row) in SUM.iter().enumerate() {
+        assert!(rt; has_entries(code.note(at), row.2.len()), "at {at}");
+    }
+    assert!(rt; code.note(SUM.len()).is_none());
 }
 
 #[test]
 fn a_checked_code_is_what_was_handed_in(rt: HostRuntime) -> Result<(), Fail> {
     let code = checked(rt.alloc(), &SUM)?;
     assert_eq!(rt; (code.code().co_argcount(), code.block_depth()), (2, 0));
-    for (at, row) in SUM.iter().enumerate() {
-        let note = code.note(at).and_then(|note| sizes(note));
-        assert_eq!(rt; note, Some((row.2.len(), 0)), "at {at}");
-    }
-    assert!(rt; code.note(4).is_none());
-    assert_eq!(rt; code.into_code().co_argcount(), 2);
+    compare_notes(&rt, &code);
+    let code = code.into_code();
+    assert_eq!(rt; code.co_argcount(), 2);
     Ok(())
 }

@@ -19,6 +19,7 @@ use py_exceptions::{ExceptionStack, ExceptionZoo};
 use py_frame::{Frame, FrameStep, OwnStack, positional};
 use py_objects::{FrameRef, ObjList, PyBaseExceptionRef, PyObjectRef, Request, Scope, Store};
 use std::alloc::Global;
+use std::mem;
 use std::process::Abort;
 use std::test::Fail;
 
@@ -128,10 +129,12 @@ fn event(alloc: Global, step: &FrameStep) -> Result<String, NoMemory> {
 
 /// What comes of a word, as words.
 fn outcome(alloc: Global, step: Option<FrameStep>) -> Result<String, NoMemory> {
-    match &step {
+    let words = match &step {
         Some(step) => event(alloc, step),
         None => words_of(alloc, "refused", &[]),
-    }
+    };
+    mem::drop(step);
+    words
 }
 
 /// Words behind the place behind their unit, and in front of what is in the top slot, where that isn't exception 6.
@@ -238,9 +241,9 @@ fn drive(
 fn events_of(alloc: Global, rows: &[Row], words: &[Said]) -> Result<String, NoMemory>
     requires { keeps_rules rows.now ≡ true }
 {
+    let names = one_name(alloc)?;
     let mut store = first_store(alloc)?;
     let code = checked(alloc, rows)?;
-    let names = one_name(alloc)?;
     events_among(alloc, &code, &names, &mut store, words)
 }
 

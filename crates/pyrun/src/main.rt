@@ -4,7 +4,7 @@
 use py_code::NoMemory;
 use py_script::{StdSink, StdSource, Words, run_command};
 use std::process::ExitCode;
-use std::{env, io};
+use std::{env, io, mem};
 
 /// The status of a command whose words find no memory.
 const NO_MEMORY: u8 = 8;
@@ -31,5 +31,7 @@ fn main(rt: HostRuntime) -> ExitCode {
     let mut sink = StdSink::new(io::writer(&rt));
     let mut notes = StdSink::new(rt.stderr());
     let ended = run_command(rt.alloc(), &words, &mut source, &mut sink, &mut notes);
-    ExitCode::from(ended.status)
+    let status = ended.status;
+    mem::drop(ended);
+    ExitCode::from(status)
 }

@@ -8,6 +8,7 @@ use py_code::NoMemory;
 use py_objects::Event;
 use py_script::{CommandResult, ScriptFault, Words};
 use std::alloc::Global;
+use std::mem;
 
 /// The lines that say what must come of a row that ends like this, where the text is that of so many events.
 pub(crate) fn wanted(
@@ -55,7 +56,9 @@ pub(crate) fn found(alloc: Global, row: &Row, words: &Words, way: Way) -> Result
     requires { 1 ≤ way.piece }
 {
     let came = run_row(alloc, row, words, way)?;
-    lines_of(alloc, row, &came)
+    let lines = lines_of(alloc, row, &came);
+    mem::drop(came);
+    lines
 }
 
 /// The lines that say what came of a row.
