@@ -8,6 +8,8 @@ pub mod AddedLemmas
 mod LoadingLemmas
 -- steps that can be made
 mod SafeLemmas
+-- units that are begun or answered
+mod UnitLemmas
 -- what exits are told
 mod ExitLemmas
 -- lines of units

@@ -1,0 +1,56 @@
+use Rattle.std.proofs.Common.{◌≡◌, ◌∙◌, ◌+◌, ◌<◌, ℕ, sym, ap, subst}
+use Rattle.std.specs.Prelude.{OnErr, ◌^◌}
+use Rattle.std.proofs.lemmas.Result.{IfOk-weaker}
+use Rattle.py_code.specs.Units.{with_byte}
+use Rattle.py_frame.specs.Frames.{Framed, over}
+use Rattle.py_frame.proofs.UnitLemmas.{unit_here, unit_fits, exits_of, begun_can, begun_does}
+use Rattle.py_frame.proofs.frame_core.FrameCore.execute.Goals as goal
+
+pub execute_instruction-requires-clause-safe : goal.execute_instruction-requires-clause-safe
+execute_instruction-requires-clause-safe g c =
+    let unit = c.index-unit.result.now in
+    begun_can c.args.code.now c.args.names.now (over c.args.self.now (g.S.ValueStack.list c.args.stack.now) (g.S.ValueStack.room c.args.stack.now)) (over c.begin.new.self (g.S.ValueStack.list c.args.stack.now) (g.S.ValueStack.room c.args.stack.now))
+    unit c.extend-arg.result.0
+    (unit_here c.args.code.now.code.instructions.items c.args.self.now.state.at c.unit.result unit c.unit.ensures c.requires.there c.index-unit.ensures)
+    (c.extend-arg.ensures.value ∙ ap (λ (p : ℕ). with_byte p unit.arg) c.prefix-prefix.ensures)
+    (ap (λ (f : Framed). over f (g.S.ValueStack.list c.args.stack.now) (g.S.ValueStack.room c.args.stack.now)) c.begin.ensures)
+    c.args.store.now.made c.requires.safe
+
+pub returns-clause-row : goal.returns-clause-row
+returns-clause-row g c =
+    let unit = c.index-unit.result.now in
+    IfOk-weaker c.execute_instruction.result _ _
+    (λ step. begun_does c.args.code.now c.args.names.now (over c.args.self.now (g.S.ValueStack.list c.args.stack.now) (g.S.ValueStack.room c.args.stack.now)) (over c.begin.new.self (g.S.ValueStack.list c.args.stack.now) (g.S.ValueStack.room c.args.stack.now))
+    unit c.extend-arg.result.0
+    (unit_here c.args.code.now.code.instructions.items c.args.self.now.state.at c.unit.result unit c.unit.ensures c.requires.there c.index-unit.ensures)
+    (c.extend-arg.ensures.value ∙ ap (λ (p : ℕ). with_byte p unit.arg) c.prefix-prefix.ensures)
+    (ap (λ (f : Framed). over f (g.S.ValueStack.list c.args.stack.now) (g.S.ValueStack.room c.args.stack.now)) c.begin.ensures)
+    c.execute_instruction.new.store.made step (over c.execute_instruction.new.self (g.S.ValueStack.list c.execute_instruction.new.stack) (g.S.ValueStack.room c.execute_instruction.new.stack)))
+    c.execute_instruction.ensures.row
+
+pub returns-clause-err : goal.returns-clause-err
+returns-clause-err g c =
+    subst (λ (f : Framed). OnErr c.execute_instruction.result (over c.execute_instruction.new.self (g.S.ValueStack.list c.execute_instruction.new.stack) (g.S.ValueStack.room c.execute_instruction.new.stack) ≡ over f (g.S.ValueStack.list c.args.stack.now) (g.S.ValueStack.room c.args.stack.now)))
+    c.begin.ensures c.execute_instruction.ensures.err
+
+pub returns-clause-objects : goal.returns-clause-objects
+returns-clause-objects g c = c.execute_instruction.ensures.objects
+
+pub returns-clause-unchanged : goal.returns-clause-unchanged
+returns-clause-unchanged g c = c.execute_instruction.ensures.unchanged
+
+pub execute_instruction-requires-clause-classes : goal.execute_instruction-requires-clause-classes
+execute_instruction-requires-clause-classes g c = c.requires.classes
+
+pub begin-requires : goal.begin-requires
+begin-requires g c = unit_fits _ _ _ c.requires.there c.requires.few
+
+pub execute_instruction-requires-clause-next : goal.execute_instruction-requires-clause-next
+execute_instruction-requires-clause-next g c = subst (λ (f : Framed). f.state.at + 1 < 2 ^ 32) (sym c.begin.ensures) (unit_fits _ _ _ c.requires.there c.requires.few)
+
+pub returns-clause-traceback : goal.returns-clause-traceback
+returns-clause-traceback g c =
+    let unit = c.index-unit.result.now in
+    let here = unit_here c.args.code.now.code.instructions.items c.args.self.now.state.at c.unit.result unit c.unit.ensures c.requires.there c.index-unit.ensures in
+    IfOk-weaker c.execute_instruction.result _ _
+    (λ step tells u there exits. tells (exits_of _ unit u here there exits)) c.execute_instruction.ensures.traceback
