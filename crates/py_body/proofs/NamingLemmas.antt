@@ -13,7 +13,7 @@ use Rattle.py_tree.specs.Binding.{locals_of}
 use Rattle.py_laid.specs.Fits.{Continues}
 use Rattle.py_laid.specs.Naming.{IsNameOf, IsNameFor, NamesAll, IsNamed}
 use Rattle.py_laid.proofs.BindingLemmas.{Continues-trans}
-use Rattle.py_laid.proofs.NamingLemmas.{IsNameOf-grown, NamesAll-grown}
+use Rattle.py_laid.proofs.NamingLemmas.{NamesAll-grown}
 
 pub Continues-interned : (table : List (List ℕ)) (text : List ℕ) → Continues table (interned table text)
 Continues-interned table text = by (list_any (bytes_eq text) table)
@@ -50,19 +50,13 @@ length-NamesAll table [] (x ∷ xs) named = absurd named
 length-NamesAll table (id ∷ ids) [] named = absurd named
 length-NamesAll table (id ∷ ids) (x ∷ xs) (one, rest) = ap suc (length-NamesAll table ids xs rest)
 
--- the names that a code was given while the table grew
-pub named_code : (path_known name_known vars_known all_known : List (List ℕ)) (globals : List Name) (code : PyCode) (object : CodeObject) (t : Tree) → code.code ≡ object
-    → slice_get path_known object.source_path.index ≡ Some (codes "<script>") → Continues path_known name_known
-    → IsNameOf name_known object.obj_name (encode_utf8_all t.name) → Continues name_known vars_known
-    → NamesAll vars_known object.varnames.items (locals_of t) → Continues vars_known all_known
-    → NamesAll all_known object.names.items globals → IsNamed all_known globals code t
-named_code path_known name_known vars_known all_known globals code object t same path grown name grown_more vars grown_last names = record {
-  source_path = subst (λ (o : CodeObject). IsNameOf all_known o.source_path (codes "<script>")) (sym same)
-      (later object.source_path _ (IsNameOf-grown path_known name_known object.source_path _ grown (is_name_of path_known object.source_path _ path)));
-  obj_name = subst (λ (o : CodeObject). IsNameOf all_known o.obj_name (encode_utf8_all t.name)) (sym same) (later object.obj_name _ name);
-  names = subst (λ (o : CodeObject). NamesAll all_known o.names.items globals) (sym same) names;
-  varnames = subst (λ (o : CodeObject). NamesAll all_known o.varnames.items (locals_of t)) (sym same) (NamesAll-grown vars_known all_known object.varnames.items (locals_of t) grown_last vars);
+-- the names that a code was given
+pub named_code : (table : List (List ℕ)) (globals : List Name) (code : PyCode) (object : CodeObject) (t : Tree) → code.code ≡ object
+    → IsNameOf table object.source_path (codes "<script>") → IsNameOf table object.obj_name (encode_utf8_all t.name)
+    → NamesAll table object.names.items globals → NamesAll table object.varnames.items (locals_of t) → IsNamed table globals code t
+named_code table globals code object t same path name names vars = record {
+  source_path = subst (λ (o : CodeObject). IsNameOf table o.source_path (codes "<script>")) (sym same) path;
+  obj_name = subst (λ (o : CodeObject). IsNameOf table o.obj_name (encode_utf8_all t.name)) (sym same) name;
+  names = subst (λ (o : CodeObject). NamesAll table o.names.items globals) (sym same) names;
+  varnames = subst (λ (o : CodeObject). NamesAll table o.varnames.items (locals_of t)) (sym same) vars;
 }
-  where
-    later : (id : NameId) (text : List ℕ) → IsNameOf name_known id text → IsNameOf all_known id text
-    later id text known = IsNameOf-grown vars_known all_known id text grown_last (IsNameOf-grown name_known vars_known id text grown_more known)

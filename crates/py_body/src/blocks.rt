@@ -109,8 +109,7 @@ impl Emitter {
         let behind = self.label(weights.index + weights.jump + size);
         self.compile_atom(atom, scope, 0, line)?;
         self.put_jump(op, behind, scope, 1, line)?;
-        self.compile_suite(suite, scope)?;
-        Ok(())
+        self.compile_suite(suite, scope)
     }
 
     /// Adds `if a` and two suites: the second is jumped to where the atom is false, and jumped over behind the first.
@@ -143,8 +142,7 @@ impl Emitter {
         self.put_jump(Instruction::JumpIfFalse, second, scope, 1, line)?;
         self.compile_suite(suite, scope)?;
         self.put_jump(Instruction::Jump, behind, scope, 0, line)?;
-        self.compile_suite(other, scope)?;
-        Ok(())
+        self.compile_suite(other, scope)
     }
 
     /// Adds `while a` and its suite.
@@ -206,7 +204,6 @@ impl Emitter {
         self.put_jump(Instruction::JumpIfFalse, end, inner, 1, line)?;
         self.compile_suite(suite, inner)?;
         self.put_jump(Instruction::Jump, labels.again, inner, 0, line)?;
-        self.put_plain(Instruction::PopBlock, 0, inner, 0, line)?;
-        Ok(())
+        self.put_plain(Instruction::PopBlock, 0, inner, 0, line)
     }
 }

@@ -1,6 +1,6 @@
 //! The compiler: the code of a body.
 
-ghost use Rattle.std.specs.Prelude.{◌≡◌, ◌+◌, ◌<◌, ◌≤◌, ◌^◌, suc, false, length, List, IfOk, OnOk};
+ghost use Rattle.std.specs.Prelude.{◌≡◌, ◌+◌, ◌<◌, ◌≤◌, ◌^◌, suc, false, length, List, IfOk, OnOk, codes, encode_utf8_all};
 ghost use Rattle.py_tree.specs.declared.body.BodyKind.{BodyKind};
 ghost use Rattle.py_tree.specs.Tree.{Name};
 ghost use Rattle.py_tree.specs.Compilable.{IsCompilable, SuiteFits, statements};
@@ -8,7 +8,7 @@ ghost use Rattle.py_tree.specs.Views.{suite_of, tree_of};
 ghost use Rattle.py_laid.specs.Code.{flags_of, IsLaid, IsPlain};
 ghost use Rattle.py_laid.specs.Fits.{Fits, Continues};
 ghost use Rattle.py_laid.specs.Instructions.{UsesCompiled};
-ghost use Rattle.py_laid.specs.Naming.{IsNamed};
+ghost use Rattle.py_laid.specs.Naming.{IsNamed, IsNameOf, NamesAll};
 ghost use Rattle.py_body.specs.Sizes.{counted, size_body, weights};
 ghost use Rattle.py_body.specs.Codes.{Each};
 ghost use Rattle.py_body.specs.Emitting.{draft_of, EmitsBody, IsEmitted};
@@ -20,7 +20,7 @@ use crate::scope::entry;
 use crate::sizes::{Weights, size_of_suite};
 use py_check::Annotated;
 use py_code::{
-    CodeFlags, CodeObject, Instruction, ItemList, Literal, NameSet, Names, NoMemory, PyCode,
+    CodeFlags, CodeObject, Instruction, ItemList, Literal, NameId, NameSet, Names, NoMemory, PyCode,
 };
 use py_tree::{Body, BodyKind, StmtList};
 use std::alloc::Global;
@@ -60,12 +60,13 @@ fn compile_code(alloc: Global, names: &mut Names, body: &Body) -> Result<Annotat
     ensures grows { Continues names.old names.new }
 {
     let emitter = emit_body(alloc, body)?;
-    let locals = emitter.locals.into_texts()?;
-    let globals = emitter.globals.into_texts()?;
-    let source_path = names.intern("<script>")?;
-    let obj_name = intern_text(alloc, names, &body.name)?;
-    let varnames = intern_all(alloc, names, locals.as_slice())?;
-    let global_names = intern_all(alloc, names, globals.as_slice())?;
+    let ids = names_for(alloc, names, body, emitter.locals, emitter.globals)?;
+    let CodeNames {
+        source_path,
+        obj_name,
+        globals,
+        locals,
+    } = ids;
     let code = PyCode::new(CodeObject {
         instructions: emitter.units,
         locations: emitter.locations,
@@ -79,14 +80,50 @@ fn compile_code(alloc: Global, names: &mut Names, body: &Body) -> Result<Annotat
         obj_name,
         cell2arg: Vec::new(alloc),
         constants: emitter.constants,
-        names: global_names,
-        varnames,
+        names: globals,
+        varnames: locals,
         cellvars: Vec::new(alloc),
         freevars: Vec::new(alloc),
     });
     Ok(Annotated {
         code,
         notes: emitter.notes,
+    })
+}
+
+/// The names of a code in the table.
+struct CodeNames {
+    source_path: NameId,
+    obj_name: NameId,
+    globals: Vec<NameId>,
+    locals: Vec<NameId>,
+}
+
+/// The names of the code of a body whose locals and globals are these.
+fn names_for(
+    alloc: Global,
+    names: &mut Names,
+    body: &Body,
+    locals: NameSet,
+    globals: NameSet,
+) -> Result<CodeNames, NoMemory>
+    ensures source_path { IfOk result (λ ids. IsNameOf names.new ids.source_path (codes "<script>")) }
+    ensures obj_name { IfOk result (λ ids. IsNameOf names.new ids.obj_name (encode_utf8_all (tree_of body.now).name)) }
+    ensures global_names { IfOk result (λ ids. NamesAll names.new ids.globals.items globals) }
+    ensures varnames { IfOk result (λ ids. NamesAll names.new ids.locals.items locals) }
+    ensures grows { Continues names.old names.new }
+{
+    let locals = locals.into_texts()?;
+    let globals = globals.into_texts()?;
+    let source_path = names.intern("<script>")?;
+    let obj_name = intern_text(alloc, names, &body.name)?;
+    let varnames = intern_all(alloc, names, locals.as_slice())?;
+    let global_names = intern_all(alloc, names, globals.as_slice())?;
+    Ok(CodeNames {
+        source_path,
+        obj_name,
+        globals: global_names,
+        locals: varnames,
     })
 }
 

@@ -39,8 +39,7 @@ impl Emitter {
         self.compile_managed(atom, target, suite, scope, &inner, handler, line)?;
         let within = in_finally(self.alloc, &inner)?;
         self.put_plain(Instruction::WithCleanupStart, 0, &within, 0, line)?;
-        self.put_plain(Instruction::WithCleanupFinish, 0, &within, 1, line)?;
-        Ok(())
+        self.put_plain(Instruction::WithCleanupFinish, 0, &within, 1, line)
     }
 
     /// The label of the exit of a with of this suite, which begins here.
@@ -83,7 +82,6 @@ impl Emitter {
         self.put_target(target, &before, line)?;
         self.compile_suite(suite, &before)?;
         self.put_plain(Instruction::PopBlock, 0, &before, 0, line)?;
-        self.put_plain(Instruction::EnterFinally, 0, scope, 1, line)?;
-        Ok(())
+        self.put_plain(Instruction::EnterFinally, 0, scope, 1, line)
     }
 }

@@ -39,8 +39,7 @@ impl Emitter {
         self.compile_opening(suite, scope, handler, line)?;
         let within = in_finally(self.alloc, scope)?;
         self.compile_suite(last, &within)?;
-        self.put_plain(Instruction::EndFinally, 0, &within, 0, line)?;
-        Ok(())
+        self.put_plain(Instruction::EndFinally, 0, &within, 0, line)
     }
 
     /// The label of the finally of a try with this suite, which begins here.
@@ -76,8 +75,7 @@ impl Emitter {
         let before = before_finally(self.alloc, scope, handler)?;
         self.compile_suite(suite, &before)?;
         self.put_plain(Instruction::PopBlock, 0, &before, 0, line)?;
-        self.put_plain(Instruction::EnterFinally, 0, scope, 0, line)?;
-        Ok(())
+        self.put_plain(Instruction::EnterFinally, 0, scope, 0, line)
     }
 
     /// Adds what unsets a local, whether it was set or not.
@@ -121,8 +119,7 @@ impl Emitter {
         self.compile_tried(suite, scope, handler, end, line)?;
         let within = in_clauses(self.alloc, scope)?;
         self.compile_clauses(clauses, scope, &within, end)?;
-        self.put_raise(RaiseKind::Reraise, &within, 1, line)?;
-        Ok(())
+        self.put_raise(RaiseKind::Reraise, &within, 1, line)
     }
 
     /// Adds the body of a try with clauses, which are jumped over from its end.
@@ -147,8 +144,7 @@ impl Emitter {
         let inner = in_try(self.alloc, scope, handler)?;
         self.compile_suite(suite, &inner)?;
         self.put_plain(Instruction::PopBlock, 0, &inner, 0, line)?;
-        self.put_jump(Instruction::Jump, end, scope, 0, line)?;
-        Ok(())
+        self.put_jump(Instruction::Jump, end, scope, 0, line)
     }
 
     /// Adds clauses, whose suites are left for a label.
@@ -277,7 +273,6 @@ impl Emitter {
         self.compile_opening(suite, scope, handler, line)?;
         let within = in_finally(self.alloc, scope)?;
         self.put_forget(name, &within, line)?;
-        self.put_plain(Instruction::EndFinally, 0, &within, 0, line)?;
-        Ok(())
+        self.put_plain(Instruction::EndFinally, 0, &within, 0, line)
     }
 }

@@ -1,9 +1,10 @@
 use Rattle.std.proofs.Common.{◌≡◌, ◌+◌, ◌*◌, ◌<◌, List, ap, sym, ◌∙◌, take, arith, rules}
+use Rattle.std.proofs.lemmas.List.{take_all}
 use Rattle.py_tree.specs.declared.stmt.Clause.{out-Clause}
 use Rattle.py_tree.specs.Tree.{Name, Suite}
 use Rattle.py_tree.specs.Views.{clauses_of, form_of, suite_of}
 use Rattle.py_tree.specs.Suites.{list_clauses, list_suite}
-use Rattle.py_tree.specs.Binding.{bound_by, bound_if, bound_in}
+use Rattle.py_tree.specs.Binding.{bound_by, bound_if, bound_in, bound_under}
 use Rattle.py_tree.specs.Compilable.{statements, statements_in, statements_under}
 use Rattle.py_body.proofs.Binding.{bound_by-add}
 use Rattle.py_body.proofs.ClauseTrees.{bound_clause_more, clause_statements_at}
@@ -24,6 +25,11 @@ bind_suite-loop-stmt-preserved t c =
     ∙ sym (bound_by-add so_far c.args.names.now c.stmt-item.result.line (form_of c.stmt-item.result.form))
     ∙ ap (bound_by c.args.names.now) (sym (suite_more c.as_slice-stmt-items.result.now c.loop-stmt.stmt-index c.stmt-item.result c.loop-stmt-test.true c.stmt-item.is))
 
+pub bind_suite-returns : goal.bind_suite-returns
+bind_suite-returns t c =
+    let items = c.as_slice-stmt-items.result.now in
+    c.loop-stmt.invariant ∙ ap (bound_by c.args.names.now) (ap list_suite (take_all c.loop-stmt.stmt-index items c.loop-stmt-test.false) ∙ sym c.as_slice-stmt-items.ensures)
+
 pub bind_tried-bind_suite-requires-in-loop-clause : goal.bind_tried-bind_suite-requires-in-loop-clause
 bind_tried-bind_suite-requires-in-loop-clause t c =
     let items = c.as_slice-clause-items.result.now in
@@ -40,3 +46,9 @@ bind_tried-loop-clause-preserved t c =
     c.in_ok-bind_suite-2.ensures ∙ ap (λ (names : List Name). bound_by names (suite_of one.suite))
     (c.in_ok-bind_target.ensures ∙ ap (λ (names : List Name). bound_if names one.target) c.loop-clause.invariant)
     ∙ sym (bound_clause_more (bound_by c.args.names.now (suite_of c.args.suite.now)) items c.loop-clause.clause-index c.clause-item.result c.loop-clause-test.true c.clause-item.is)
+
+pub bind_tried-returns : goal.bind_tried-returns
+bind_tried-returns t c =
+    let items = c.as_slice-clause-items.result.now in
+    let before = bound_by c.args.names.now (suite_of c.args.suite.now) in
+    c.loop-clause.invariant ∙ ap (bound_under before) (ap list_clauses (take_all c.loop-clause.clause-index items c.loop-clause-test.false) ∙ sym c.as_slice-clause-items.ensures)

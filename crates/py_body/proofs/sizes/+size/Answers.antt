@@ -1,4 +1,5 @@
 use Rattle.std.proofs.Common.{◌≡◌, ◌+◌, ◌*◌, ◌<◌, ◌≤◌, ℕ, ap, sym, ◌∙◌, take, arith, rules}
+use Rattle.std.proofs.lemmas.List.{take_all}
 use Rattle.py_tree.specs.declared.stmt.Clause.{out-Clause}
 use Rattle.py_tree.specs.Tree.{Clauses, Suite}
 use Rattle.py_tree.specs.Views.{clauses_of, form_of, suite_of}
@@ -33,6 +34,11 @@ size_of_suite-loop-stmt-preserved t c =
     let so_far : Suite = list_suite (take c.loop-stmt.stmt-index items) in
     (λ k. c.loop-stmt.invariant k + c.size_of_form-size.ensures.size k) ∙ sym (size_add c.args.weights so_far c.stmt-item.result.line (form_of c.stmt-item.result.form))
     ∙ ap (size_suite c.args.weights) (sym (suite_more items c.loop-stmt.stmt-index c.stmt-item.result c.loop-stmt-test.true c.stmt-item.is))
+
+pub size_of_suite-returns-clause-size : goal.size_of_suite-returns-clause-size
+size_of_suite-returns-clause-size t c =
+    let items = c.as_slice-stmt-items.result.now in
+    c.loop-stmt.invariant ∙ ap (size_suite c.args.weights) (ap list_suite (take_all c.loop-stmt.stmt-index items c.loop-stmt-test.false) ∙ sym c.as_slice-stmt-items.ensures)
 
 -- ---- clauses
 
@@ -73,3 +79,8 @@ size_of_clauses-loop-clause-preserved t c =
     let one = out-Clause c.clause-item.result in
     (λ k. c.loop-clause.invariant k + (c.size_of_clause-size.ensures ∙ body) k) ∙ sym (size_with_clause c.args.weights so_far one.line one.class one.target (suite_of one.suite))
     ∙ ap (size_clauses c.args.weights) (sym (clauses_more items c.loop-clause.clause-index c.clause-item.result c.loop-clause-test.true c.clause-item.is))
+
+pub size_of_clauses-returns-clause-size : goal.size_of_clauses-returns-clause-size
+size_of_clauses-returns-clause-size t c =
+    let items = c.as_slice-clause-items.result.now in
+    c.loop-clause.invariant ∙ ap (size_clauses c.args.weights) (ap list_clauses (take_all c.loop-clause.clause-index items c.loop-clause-test.false) ∙ sym c.as_slice-clause-items.ensures)

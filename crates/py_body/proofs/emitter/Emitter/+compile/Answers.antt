@@ -1,7 +1,9 @@
 use Rattle.std.proofs.Common.{◌≡◌, ◌+◌, ◌*◌, ◌<◌, ◌≤◌, ◌%◌, ◌^◌, ℕ, refl, sym, ap, ◌∙◌, subst, take, arith, rules}
+use Rattle.std.proofs.lemmas.List.{take_all}
 use Rattle.std.proofs.lemmas.Result.{on_ok_weaker}
 use Rattle.py_code.specs.declared.instruction.Instruction.TheVariants as op
 use Rattle.py_tree.specs.declared.stmt.Clause.{out-Clause}
+use Rattle.py_tree.specs.declared.stmt.StmtForm.{StmtForm}
 use Rattle.py_tree.specs.Tree.{Raise, Return, Show, If, IfElse, Suite, Clauses, TryExcept}
 use Rattle.py_tree.specs.Views.{clauses_of, form_of, suite_of}
 use Rattle.py_tree.specs.Suites.{list_clauses, list_suite}
@@ -53,6 +55,12 @@ compile_suite-loop-stmt-preserved t c =
       others = c.in_ok-compile_form.ensures.widths.1 ∙ c.loop-stmt.invariant.others;
     }
 
+pub compile_suite-returns-clause-code : goal.compile_suite-returns-clause-code
+compile_suite-returns-clause-code t c =
+    let items = c.as_slice-stmt-items.result.now in
+    let all : list_suite (take c.loop-stmt.stmt-index items) ≡ suite_of c.args.suite.now = ap list_suite (take_all c.loop-stmt.stmt-index items c.loop-stmt-test.false) ∙ sym c.as_slice-stmt-items.ensures in
+    subst (EmitsSuite c.args.self.now.labels (draft_of c.args.self.now) (draft_of c.loop-stmt.self) (scope_of c.args.scope.now)) all c.loop-stmt.invariant.code
+
 pub compile_form-returns-in-Show-clause-code : goal.compile_form-returns-in-Show-clause-code
 compile_form-returns-in-Show-clause-code t c = rw c.in-Show.is (form_taken _ _ _ _ _ _ (Show c.in-Show.atom) _ _ _ (λ w. refl) (λ whole at next laid. laid) c.compile_taken.ensures.code)
 
@@ -65,6 +73,68 @@ compile_form-returns-in-Raise-clause-code t c = rw c.in-Raise.is (form_taken _ _
 
 pub compile_form-returns-in-Pass-clause-code : goal.compile_form-returns-in-Pass-clause-code
 compile_form-returns-in-Pass-clause-code t c = rw c.in-Pass.is (pass_emits c.args.self.now.labels (draft_of c.args.self.now) (scope_of c.args.scope.now) c.args.line)
+
+-- ---- the statements inside of a statement
+
+pub compile_form-compile_branch-requires : goal.compile_form-compile_branch-requires
+compile_form-compile_branch-requires t c =
+    let is = c.in-If.is in
+    let all = ap (λ (f : StmtForm). statements_in (form_of f)) is in
+    let smaller : 5 * statements (suite_of c.in-If.suite) + 2 < 5 * statements_in (form_of c.args.form.now) = omega (arith, all) in
+    let few : statements (suite_of c.in-If.suite) ≤ 1048575 = omega (arith, all, c.requires.few) in
+    let fits = rw is at c.requires.fits in
+    let nests = rw is at c.requires.nests in
+    search rules
+
+pub compile_form-compile_if_else-requires : goal.compile_form-compile_if_else-requires
+compile_form-compile_if_else-requires t c =
+    let is = c.in-IfElse.is in
+    let all = ap (λ (f : StmtForm). statements_in (form_of f)) is in
+    let smaller : 5 * (statements (suite_of c.in-IfElse.suite) + statements (suite_of c.in-IfElse.other)) + 2 < 5 * statements_in (form_of c.args.form.now) = omega (arith, all) in
+    let few : statements (suite_of c.in-IfElse.suite) + statements (suite_of c.in-IfElse.other) ≤ 1048575 = omega (arith, all, c.requires.few) in
+    let fits = rw is at c.requires.fits in
+    let nests = rw is at c.requires.nests in
+    search rules
+
+pub compile_form-compile_while-requires : goal.compile_form-compile_while-requires
+compile_form-compile_while-requires t c =
+    let is = c.in-While.is in
+    let all = ap (λ (f : StmtForm). statements_in (form_of f)) is in
+    let smaller : 5 * statements (suite_of c.in-While.suite) + 3 < 5 * statements_in (form_of c.args.form.now) = omega (arith, all) in
+    let few : statements (suite_of c.in-While.suite) ≤ 1048575 = omega (arith, all, c.requires.few) in
+    let fits = rw is at c.requires.fits in
+    let nests = rw is at c.requires.nests in
+    search rules
+
+pub compile_form-compile_try_except-requires : goal.compile_form-compile_try_except-requires
+compile_form-compile_try_except-requires t c =
+    let is = c.in-TryExcept.is in
+    let all = ap (λ (f : StmtForm). statements_in (form_of f)) is in
+    let smaller : 5 * (statements (suite_of c.in-TryExcept.suite) + statements_under (clauses_of c.in-TryExcept.clauses)) + 3 < 5 * statements_in (form_of c.args.form.now) = omega (arith, all) in
+    let few : statements (suite_of c.in-TryExcept.suite) + statements_under (clauses_of c.in-TryExcept.clauses) ≤ 1048575 = omega (arith, all, c.requires.few) in
+    let fits = rw is at c.requires.fits in
+    let nests = rw is at c.requires.nests in
+    search rules
+
+pub compile_form-compile_try_finally-requires : goal.compile_form-compile_try_finally-requires
+compile_form-compile_try_finally-requires t c =
+    let is = c.in-TryFinally.is in
+    let all = ap (λ (f : StmtForm). statements_in (form_of f)) is in
+    let smaller : 5 * (statements (suite_of c.in-TryFinally.suite) + statements (suite_of c.in-TryFinally.last)) + 3 < 5 * statements_in (form_of c.args.form.now) = omega (arith, all) in
+    let few : statements (suite_of c.in-TryFinally.suite) + statements (suite_of c.in-TryFinally.last) ≤ 1048575 = omega (arith, all, c.requires.few) in
+    let fits = rw is at c.requires.fits in
+    let nests = rw is at c.requires.nests in
+    search rules
+
+pub compile_form-compile_with-requires : goal.compile_form-compile_with-requires
+compile_form-compile_with-requires t c =
+    let is = c.in-With.is in
+    let all = ap (λ (f : StmtForm). statements_in (form_of f)) is in
+    let smaller : 5 * statements (suite_of c.in-With.suite) + 3 < 5 * statements_in (form_of c.args.form.now) = omega (arith, all) in
+    let few : statements (suite_of c.in-With.suite) ≤ 1048575 = omega (arith, all, c.requires.few) in
+    let fits = rw is at c.requires.fits in
+    let nests = rw is at c.requires.nests in
+    search rules
 
 -- ---- branches
 
@@ -82,10 +152,10 @@ compile_branch-returns-clause-code t c =
     let old = draft_of c.args.self.now in
     let suite : Suite = suite_of c.args.suite.now in
     let sizes : c.size_of_suite-size.result ≡ size_suite c.weights-weights.result suite = c.size_of_suite-size.ensures.size in
-    branch_emits (scope_of c.args.scope.now) c.args.line c.args.atom.now suite c.label-behind.result
+    on_ok_weaker c.compile_suite.result (branch_emits (scope_of c.args.scope.now) c.args.line c.args.atom.now suite c.label-behind.result
     (c.label-behind.ensures ∙ (λ k. (end_of old + (c.weights-weights.result.index + c.weights-weights.result.jump + sizes k)) % 2 ^ 32)
     ∙ (λ k. (end_of old + size_form (c.weights-weights.ensures k) (If c.args.atom.now suite)) % 2 ^ 32))
-    c.in_ok-compile_atom.ensures.code c.in_ok-put_jump.ensures.code c.in_ok-compile_suite.ensures.code
+    c.in_ok-compile_atom.ensures.code c.in_ok-put_jump.ensures.code) c.compile_suite.ensures.code
 
 pub compile_if_else-size_of_suite-size-requires : goal.compile_if_else-size_of_suite-size-requires
 compile_if_else-size_of_suite-size-requires t c =
@@ -99,6 +169,26 @@ compile_if_else-size_of_suite-size_other-requires t c =
     c.requires.low.0 c.requires.low.1
     c.requires.fits_other (omega (arith, c.requires.few))
 
+pub compile_if_else-compile_suite-requires : goal.compile_if_else-compile_suite-requires
+compile_if_else-compile_suite-requires t c =
+    let suite : Suite = suite_of c.args.suite.now in
+    let few : statements suite ≤ 1048576 = omega (arith, c.requires.few) in
+    let smaller : 5 * statements suite + 1 < 5 * (statements suite + statements (suite_of c.args.other.now)) + 2 = omega arith in
+    let labels : c.put_jump.new.self.labels ≤ 3 = subst (λ (w : ℕ). w ≤ 3) (sym (c.in_ok-put_jump.ensures.widths.0 ∙ c.in_ok-compile_atom.ensures.widths.0)) c.requires.low.0 in
+    let others : c.put_jump.new.self.others ≤ 3 = subst (λ (w : ℕ). w ≤ 3) (sym (c.in_ok-put_jump.ensures.widths.1 ∙ c.in_ok-compile_atom.ensures.widths.1)) c.requires.low.1 in
+    search rules
+
+pub compile_if_else-compile_suite-requires-2 : goal.compile_if_else-compile_suite-requires-2
+compile_if_else-compile_suite-requires-2 t c =
+    let other : Suite = suite_of c.args.other.now in
+    let few : statements other ≤ 1048576 = omega (arith, c.requires.few) in
+    let smaller : 5 * statements other + 1 < 5 * (statements (suite_of c.args.suite.now) + statements other) + 2 = omega arith in
+    let labels : c.put_jump-2.new.self.labels ≤ 3 =
+    subst (λ (w : ℕ). w ≤ 3) (sym (c.in_ok-put_jump-2.ensures.widths.0 ∙ c.in_ok-compile_suite.ensures.widths.0 ∙ c.in_ok-put_jump.ensures.widths.0 ∙ c.in_ok-compile_atom.ensures.widths.0)) c.requires.low.0 in
+    let others : c.put_jump-2.new.self.others ≤ 3 =
+    subst (λ (w : ℕ). w ≤ 3) (sym (c.in_ok-put_jump-2.ensures.widths.1 ∙ c.in_ok-compile_suite.ensures.widths.1 ∙ c.in_ok-put_jump.ensures.widths.1 ∙ c.in_ok-compile_atom.ensures.widths.1)) c.requires.low.1 in
+    search rules
+
 pub compile_if_else-returns-clause-code : goal.compile_if_else-returns-clause-code
 compile_if_else-returns-clause-code t c =
     let old = draft_of c.args.self.now in
@@ -107,12 +197,12 @@ compile_if_else-returns-clause-code t c =
     let w = c.weights-weights.result in
     let sizes : c.size_of_suite-size.result ≡ size_suite w suite = c.size_of_suite-size.ensures.size in
     let others : c.size_of_suite-size_other.result ≡ size_suite w other = c.size_of_suite-size_other.ensures.size in
-    if_else_emits (scope_of c.args.scope.now) c.args.line c.args.atom.now suite other c.label-second.result c.label-behind.result
+    on_ok_weaker c.compile_suite-2.result (if_else_emits (scope_of c.args.scope.now) c.args.line c.args.atom.now suite other c.label-second.result c.label-behind.result
     (c.label-second.ensures ∙ (λ k. (end_of old + (w.index + w.jump + sizes k + w.jump)) % 2 ^ 32)
     ∙ (λ k. (end_of old + ((c.weights-weights.ensures k).index + (c.weights-weights.ensures k).jump + size_suite (c.weights-weights.ensures k) suite + (c.weights-weights.ensures k).jump)) % 2 ^ 32))
     (c.label-behind.ensures ∙ (λ k. (end_of old + (w.index + w.jump + sizes k + w.jump + others k)) % 2 ^ 32)
     ∙ (λ k. (end_of old + size_form (c.weights-weights.ensures k) (IfElse c.args.atom.now suite other)) % 2 ^ 32))
-    c.in_ok-compile_atom.ensures.code c.in_ok-put_jump.ensures.code c.in_ok-compile_suite.ensures.code c.in_ok-put_jump-2.ensures.code c.in_ok-compile_suite-2.ensures.code
+    c.in_ok-compile_atom.ensures.code c.in_ok-put_jump.ensures.code c.in_ok-compile_suite.ensures.code c.in_ok-put_jump-2.ensures.code) c.compile_suite-2.ensures.code
 
 -- ---- loops
 
@@ -135,10 +225,9 @@ compile_rounds-compile_suite-requires t c =
 
 pub compile_rounds-returns-clause-code : goal.compile_rounds-returns-clause-code
 compile_rounds-returns-clause-code t c =
-    while_emits (scope_of c.args.scope.now) (scope_of c.args.inner.now) c.args.line c.args.atom.now (suite_of c.args.suite.now) (labels_of c.args.labels) c.args.end c.requires.inner
+    on_ok_weaker c.put_plain-2.result (while_emits (scope_of c.args.scope.now) (scope_of c.args.inner.now) c.args.line c.args.atom.now (suite_of c.args.suite.now) (labels_of c.args.labels) c.args.end c.requires.inner
     c.requires.again c.requires.stop
-    c.requires.end c.in_ok-put_plain.ensures.code c.in_ok-compile_atom.ensures.code c.in_ok-put_jump.ensures.code c.in_ok-compile_suite.ensures.code c.in_ok-put_jump-2.ensures.code
-    c.in_ok-put_plain-2.ensures.code
+    c.requires.end c.in_ok-put_plain.ensures.code c.in_ok-compile_atom.ensures.code c.in_ok-put_jump.ensures.code c.in_ok-compile_suite.ensures.code c.in_ok-put_jump-2.ensures.code) c.put_plain-2.ensures.code
 
 -- ---- tries with a finally
 
@@ -154,9 +243,9 @@ compile_opening-compile_suite-requires t c =
 
 pub compile_opening-returns-clause-code : goal.compile_opening-returns-clause-code
 compile_opening-returns-clause-code t c =
-    opening_emits (scope_of c.args.scope.now) (scope_of c.in_ok-before.before) c.args.line (suite_of c.args.suite.now) c.args.handler c.in_ok-before.ensures c.in_ok-put_jump.ensures.code
+    on_ok_weaker c.put_plain-2.result (opening_emits (scope_of c.args.scope.now) (scope_of c.in_ok-before.before) c.args.line (suite_of c.args.suite.now) c.args.handler c.in_ok-before.ensures c.in_ok-put_jump.ensures.code
     c.in_ok-compile_suite.ensures.code
-    c.in_ok-put_plain.ensures.code c.in_ok-put_plain-2.ensures.code
+    c.in_ok-put_plain.ensures.code) c.put_plain-2.ensures.code
 
 pub compile_try_finally-compile_suite-requires : goal.compile_try_finally-compile_suite-requires
 compile_try_finally-compile_suite-requires t c =
@@ -172,9 +261,9 @@ compile_try_finally-compile_suite-requires t c =
 
 pub compile_try_finally-returns-clause-code : goal.compile_try_finally-returns-clause-code
 compile_try_finally-returns-clause-code t c =
-    try_finally_emits (scope_of c.args.scope.now) (scope_of c.in_ok-within.within) c.args.line (suite_of c.args.suite.now) (suite_of c.args.last.now) c.handler_label-handler.result
+    on_ok_weaker c.put_plain.result (try_finally_emits (scope_of c.args.scope.now) (scope_of c.in_ok-within.within) c.args.line (suite_of c.args.suite.now) (suite_of c.args.last.now) c.handler_label-handler.result
     c.in_ok-within.ensures
-    c.handler_label-handler.ensures c.in_ok-compile_opening.ensures.code c.in_ok-compile_suite.ensures.code c.in_ok-put_plain.ensures.code
+    c.handler_label-handler.ensures c.in_ok-compile_opening.ensures.code c.in_ok-compile_suite.ensures.code) c.put_plain.ensures.code
 
 pub compile_handler-returns-in-None-clause-code : goal.compile_handler-returns-in-None-clause-code
 compile_handler-returns-in-None-clause-code t c = rw c.in-None.is (on_ok_weaker c.compile_suite.result
@@ -182,8 +271,8 @@ compile_handler-returns-in-None-clause-code t c = rw c.in-None.is (on_ok_weaker 
 
 pub compile_forgetting-returns-clause-code : goal.compile_forgetting-returns-clause-code
 compile_forgetting-returns-clause-code t c =
-    forgetting_emits (scope_of c.args.scope.now) (scope_of c.in_ok-within.within) c.args.line c.args.name.now (suite_of c.args.suite.now) c.handler_label-handler.result c.in_ok-within.ensures
-    c.handler_label-handler.ensures c.in_ok-compile_opening.ensures.code c.in_ok-put_forget.ensures.code c.in_ok-put_plain.ensures.code
+    on_ok_weaker c.put_plain.result (forgetting_emits (scope_of c.args.scope.now) (scope_of c.in_ok-within.within) c.args.line c.args.name.now (suite_of c.args.suite.now) c.handler_label-handler.result c.in_ok-within.ensures
+    c.handler_label-handler.ensures c.in_ok-compile_opening.ensures.code c.in_ok-put_forget.ensures.code) c.put_plain.ensures.code
 
 -- ---- managers
 
@@ -201,14 +290,14 @@ compile_managed-compile_suite-requires t c =
 
 pub compile_managed-returns-clause-code : goal.compile_managed-returns-clause-code
 compile_managed-returns-clause-code t c =
-    managed_emits (scope_of c.args.scope.now) (scope_of c.in_ok-before.before) c.args.line c.args.atom.now c.args.target.now (suite_of c.args.suite.now) c.args.handler
+    on_ok_weaker c.put_plain-2.result (managed_emits (scope_of c.args.scope.now) (scope_of c.in_ok-before.before) c.args.line c.args.atom.now c.args.target.now (suite_of c.args.suite.now) c.args.handler
     (c.in_ok-before.ensures ∙ ap (λ (i : Scope). before_finally c.args.handler i) c.requires.inner) c.in_ok-compile_atom.ensures.code c.in_ok-put_jump.ensures.code c.in_ok-put_target.ensures.code
-    c.in_ok-compile_suite.ensures.code c.in_ok-put_plain.ensures.code c.in_ok-put_plain-2.ensures.code
+    c.in_ok-compile_suite.ensures.code c.in_ok-put_plain.ensures.code) c.put_plain-2.ensures.code
 
 pub compile_with-returns-clause-code : goal.compile_with-returns-clause-code
 compile_with-returns-clause-code t c =
-    with_emits (scope_of c.args.scope.now) (scope_of c.in_ok-within.within) c.args.line c.args.atom.now c.args.target.now (suite_of c.args.suite.now) c.exit_label-handler.result
-    (c.in_ok-within.ensures ∙ ap (λ (i : Scope). in_finally i) c.in_ok-inner.ensures) c.exit_label-handler.ensures c.in_ok-compile_managed.ensures.code c.in_ok-put_plain.ensures.code c.in_ok-put_plain-2.ensures.code
+    on_ok_weaker c.put_plain-2.result (with_emits (scope_of c.args.scope.now) (scope_of c.in_ok-within.within) c.args.line c.args.atom.now c.args.target.now (suite_of c.args.suite.now) c.exit_label-handler.result
+    (c.in_ok-within.ensures ∙ ap (λ (i : Scope). in_finally i) c.in_ok-inner.ensures) c.exit_label-handler.ensures c.in_ok-compile_managed.ensures.code c.in_ok-put_plain.ensures.code) c.put_plain-2.ensures.code
 
 -- ---- tries with clauses
 
@@ -224,8 +313,8 @@ compile_tried-compile_suite-requires t c =
 
 pub compile_tried-returns-clause-code : goal.compile_tried-returns-clause-code
 compile_tried-returns-clause-code t c =
-    tried_emits (scope_of c.args.scope.now) (scope_of c.in_ok-inner.inner) c.args.line (suite_of c.args.suite.now) c.args.handler c.args.end c.in_ok-inner.ensures c.in_ok-put_jump.ensures.code
-    c.in_ok-compile_suite.ensures.code c.in_ok-put_plain.ensures.code c.in_ok-put_jump-2.ensures.code
+    on_ok_weaker c.put_jump-2.result (tried_emits (scope_of c.args.scope.now) (scope_of c.in_ok-inner.inner) c.args.line (suite_of c.args.suite.now) c.args.handler c.args.end c.in_ok-inner.ensures c.in_ok-put_jump.ensures.code
+    c.in_ok-compile_suite.ensures.code c.in_ok-put_plain.ensures.code) c.put_jump-2.ensures.code
 
 pub compile_try_except-size_of_suite-size-requires : goal.compile_try_except-size_of_suite-size-requires
 compile_try_except-size_of_suite-size-requires t c =
@@ -247,11 +336,11 @@ compile_try_except-returns-clause-code t c =
     let w = c.weights-weights.result in
     let sizes : c.size_of_suite-size.result ≡ size_suite w suite = c.size_of_suite-size.ensures.size in
     let others : c.size_of_clauses-size_clauses.result ≡ size_clauses w clauses = c.size_of_clauses-size_clauses.ensures.size in
-    try_except_emits (scope_of c.args.scope.now) (scope_of c.in_ok-within.within) c.args.line suite clauses c.label-handler.result c.label-end.result c.in_ok-within.ensures
+    on_ok_weaker c.put_raise.result (try_except_emits (scope_of c.args.scope.now) (scope_of c.in_ok-within.within) c.args.line suite clauses c.label-handler.result c.label-end.result c.in_ok-within.ensures
     (c.label-handler.ensures ∙ (λ k. (end_of old + (w.jump + sizes k + w.plain + w.jump)) % 2 ^ 32) ∙ (λ k. (end_of old + size_tried (c.weights-weights.ensures k) suite) % 2 ^ 32))
     (c.label-end.ensures ∙ (λ k. (end_of old + (w.jump + sizes k + w.plain + w.jump + others k + w.plain)) % 2 ^ 32)
     ∙ (λ k. (end_of old + size_form (c.weights-weights.ensures k) (TryExcept suite clauses)) % 2 ^ 32))
-    c.in_ok-compile_tried.ensures.code c.in_ok-compile_clauses.ensures.code c.in_ok-put_raise.ensures.code
+    c.in_ok-compile_tried.ensures.code c.in_ok-compile_clauses.ensures.code) c.put_raise.ensures.code
 
 pub compile_clauses-loop-clause-init : goal.compile_clauses-loop-clause-init
 compile_clauses-loop-clause-init t c = record { code = clauses_none c.args.self.now.labels (draft_of c.args.self.now) (scope_of c.args.scope.now) c.args.end; labels = refl; others = refl }
@@ -308,3 +397,9 @@ compile_clauses-loop-clause-preserved t c =
       labels = c.in_ok-put_jump.ensures.widths.0 ∙ c.in_ok-put_plain.ensures.widths.0 ∙ c.in_ok-compile_handler.ensures.widths.0 ∙ c.in_ok-put_match.ensures.widths.0 ∙ c.loop-clause.invariant.labels;
       others = c.in_ok-put_jump.ensures.widths.1 ∙ c.in_ok-put_plain.ensures.widths.1 ∙ c.in_ok-compile_handler.ensures.widths.1 ∙ c.in_ok-put_match.ensures.widths.1 ∙ c.loop-clause.invariant.others;
     }
+
+pub compile_clauses-returns-clause-code : goal.compile_clauses-returns-clause-code
+compile_clauses-returns-clause-code t c =
+    let items = c.as_slice-clause-items.result.now in
+    let all : list_clauses (take c.loop-clause.clause-index items) ≡ clauses_of c.args.clauses.now = ap list_clauses (take_all c.loop-clause.clause-index items c.loop-clause-test.false) ∙ sym c.as_slice-clause-items.ensures in
+    subst (EmitsClauses c.args.self.now.labels (draft_of c.args.self.now) (draft_of c.loop-clause.self) (scope_of c.args.scope.now) c.args.end) all c.loop-clause.invariant.code
