@@ -89,7 +89,7 @@ fn compare_compiled(
     Ok(())
 }
 
-/// Compares a generator's code with these units.
+/// Compares a code with these units, and its flags with a generator's.
 fn compare_units(rt: &impl Abort, code: &PyCode, units: &[(Instruction, u32)]) {
     let wanted = CodeFlags::NEW_LOCALS | CodeFlags::IS_OPTIMIZED | CodeFlags::IS_GENERATOR;
     assert_eq!(rt; code.co_flags(), wanted);

@@ -132,7 +132,7 @@ fn a_generator_shows_its_name_and_number(rt: HostRuntime) -> Result<(), NoMemory
     compare_shown(&rt, rt.alloc(), &mut Names::new(rt.alloc()))
 }
 
-/// Compares what a fault says with what it is to say.
+/// Compares what a fault says, where there was memory to make it, with what it is to say.
 fn compare_said(
     rt: &impl Abort,
     alloc: Global,

@@ -181,7 +181,7 @@ const SUM: [Row; 4] = [
     Row(Instruction::ReturnValue, 0, &[Kind::Any], &[]),
 ];
 
-/// Whether a unit has a note of so many entries, and of no block.
+/// Whether a unit's note has so many entries, and no block.
 fn has_entries(note: Option<&Note>, entries: usize) -> bool {
     match note {
         Some(Note::Live { kinds, blocks }) => kinds.len() == entries && blocks.len() == 0,

@@ -133,6 +133,7 @@ fn outcome(alloc: Global, step: Option<FrameStep>) -> Result<String, NoMemory> {
         Some(step) => event(alloc, step),
         None => words_of(alloc, "refused", &[]),
     };
+    // Let go of in one step, and not variant by variant at the end.
     mem::drop(step);
     words
 }

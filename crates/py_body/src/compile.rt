@@ -64,8 +64,8 @@ fn compile_code(alloc: Global, names: &mut Names, body: &Body) -> Result<Annotat
     let CodeNames {
         source_path,
         obj_name,
-        globals,
-        locals,
+        global_names,
+        varnames,
     } = ids;
     let code = PyCode::new(CodeObject {
         instructions: emitter.units,
@@ -80,8 +80,8 @@ fn compile_code(alloc: Global, names: &mut Names, body: &Body) -> Result<Annotat
         obj_name,
         cell2arg: Vec::new(alloc),
         constants: emitter.constants,
-        names: globals,
-        varnames: locals,
+        names: global_names,
+        varnames,
         cellvars: Vec::new(alloc),
         freevars: Vec::new(alloc),
     });
@@ -91,12 +91,12 @@ fn compile_code(alloc: Global, names: &mut Names, body: &Body) -> Result<Annotat
     })
 }
 
-/// The names of a code in the table.
+/// The names that a code has, by their places in the table.
 struct CodeNames {
     source_path: NameId,
     obj_name: NameId,
-    globals: Vec<NameId>,
-    locals: Vec<NameId>,
+    global_names: Vec<NameId>,
+    varnames: Vec<NameId>,
 }
 
 /// The names of the code of a body whose locals and globals are these.
@@ -109,8 +109,8 @@ fn names_for(
 ) -> Result<CodeNames, NoMemory>
     ensures source_path { IfOk result (λ ids. IsNameOf names.new ids.source_path (codes "<script>")) }
     ensures obj_name { IfOk result (λ ids. IsNameOf names.new ids.obj_name (encode_utf8_all (tree_of body.now).name)) }
-    ensures global_names { IfOk result (λ ids. NamesAll names.new ids.globals.items globals) }
-    ensures varnames { IfOk result (λ ids. NamesAll names.new ids.locals.items locals) }
+    ensures global_names { IfOk result (λ ids. NamesAll names.new ids.global_names.items globals) }
+    ensures varnames { IfOk result (λ ids. NamesAll names.new ids.varnames.items locals) }
     ensures grows { Continues names.old names.new }
 {
     let locals = locals.into_texts()?;
@@ -122,8 +122,8 @@ fn names_for(
     Ok(CodeNames {
         source_path,
         obj_name,
-        globals: global_names,
-        locals: varnames,
+        global_names,
+        varnames,
     })
 }
 

@@ -1,4 +1,4 @@
--- Locals that are filled one by one.
+-- Locals that are filled one by one, and a frame that is made with all of them unset.
 use Rattle.std.proofs.Common.{◌≡◌, ◌∙◌, ◌+◌, ◌≤◌, ◌++◌, ℕ, zero, suc, List, [], ◌∷◌, Some, refl, ap, length, add-one}
 use Rattle.std.specs.Prelude.{Option, None, slice_get, vec_len}
 use Rattle.std.proofs.Math.Nat.{le_antisymm}
@@ -23,7 +23,7 @@ filled_suc (suc n) (v ∷ vs) = ap (λ (xs : List (Option Obj)). Some v ∷ xs) 
 pub filled_next : (n : ℕ) (vs : List Obj) → filled (n + 1) vs ≡ filled n vs ++ slice_get vs n ∷ []
 filled_next n vs = rw add-one (filled_suc n vs)
 
--- so as many are filled as the code has, where the count came to its end
+-- where the count came to its end, as many locals are filled as the code has
 pub all_filled : (code : Annotated) (of : PyCode) (n end : ℕ) (vs : List Obj) (locals : List (Option Obj)) → of ≡ code.code → end ≡ vec_len of.code.varnames → n ≤ end → end ≤ n → locals ≡ filled n vs → locals ≡ filled (length code.code.code.varnames.items) vs
 all_filled code of n end vs locals same all below above is = is ∙ ap (λ (k : ℕ). filled k vs) (le_antisymm below above ∙ all ∙ ap (λ (c : PyCode). vec_len c.code.varnames) same ∙ code.code.code.varnames.ok.0)
 

@@ -20,6 +20,7 @@ use Rattle.py_rows.specs.Rows.{act, advance, unit_move}
 use Rattle.py_rows.specs.Receiving.{answered, receive, unit_answered}
 use Rattle.py_rows.specs.RunOfRows.{MayLead}
 use Rattle.py_frame.specs.Frames.{Framed, setting_in}
+use Rattle.py_frame.specs.Running.{IsSame}
 use Rattle.py_frame.specs.UnitSteps.{CanDo, CanMove, Does, MayDo, done}
 use Rattle.py_frame.specs.declared.unit_step.UnitStep.{UnitStep}
 
@@ -27,10 +28,11 @@ use Rattle.py_frame.specs.declared.unit_step.UnitStep.{UnitStep}
 pub unit_here : (units : List CodeUnit) (at n : ℕ) (u : CodeUnit) → n ≡ at → at < length units → u ≡ get_or units n u → slice_get units at ≡ Some u
 unit_here units at n u is there read = slice_get_read units (length units) at u refl there (subst (λ (m : ℕ). u ≡ get_or units m u) is read)
 
+-- the place behind a unit is below the most that a code may have
 pub unit_fits : (at n most : ℕ) → at < n → n < most → at + 1 < most
 unit_fits at n most there few = omega arith
 
--- where two units are one, and one asks an exit, the other does
+-- what is read twice at one place is one unit: where one asks an exit, so does the other
 pub exits_of : (o : Option CodeUnit) (u v : CodeUnit) → o ≡ Some u → o ≡ Some v → v.op ≡ WithCleanupStart → u.op ≡ WithCleanupStart
 exits_of o u v first second exits = let same : u ≡ v = cc in ap (λ (w : CodeUnit). w.op) same ∙ exits
 
@@ -43,6 +45,10 @@ room_stays objects f last phase wants (Manages m k) can = can
 room_stays objects f last phase wants (Resolves v k) can = can
 room_stays objects f last phase wants (Exits e k) can = can
 
+-- a frame is the same, whatever it began last and waits for
+same_stays : (f h : Framed) (last phase : ℕ) (wants : Expect) → IsSame (record f { state = record f.state { last = last; phase = phase; wants = wants } }) h → IsSame f h
+same_stays f h last phase wants same = record { code = same.code; entry = same.entry; scope = same.scope; closure = same.closure; room = same.room; block_room = same.block_room }
+
 -- the unit that comes next
 module _ (code : PyCode) (names : List (List ℕ)) (f g : Framed) (u : CodeUnit) (arg : ℕ) (here : slice_get code.code.instructions.items f.state.at ≡ Some u) (is : arg ≡ with_byte f.state.prefix u.arg) (begins : g ≡ record f { state = begun f.state }) where
   pub begun_can : (objects : List Payload) → CanMove objects f (advance (setting_in code names f) f.state) → CanMove objects g (act (setting_in code names g) u.op arg g.state)
@@ -54,13 +60,12 @@ module _ (code : PyCode) (names : List (List ℕ)) (f g : Framed) (u : CodeUnit)
 
   pub begun_does : (objects : List Payload) (step : UnitStep) (h : Framed) → MayDo objects (act (setting_in code names g) u.op arg) g step h → MayDo objects (advance (setting_in code names f)) f step h
   begun_does objects step h does =
-      let begun_does : MayDo objects (act (setting_in code names f) u.op (with_byte f.state.prefix u.arg)) (record f { state = begun f.state }) step h =
+      let acted : MayDo objects (act (setting_in code names f) u.op (with_byte f.state.prefix u.arg)) (record f { state = begun f.state }) step h =
       subst (λ (n : ℕ). MayDo objects (act (setting_in code names f) u.op n) (record f { state = begun f.state }) step h) is
       (subst (λ (k : Framed). MayDo objects (act (setting_in code names k) u.op arg) k step h) begins does) in
-      let same = begun_does.same in
       record {
-        row = subst (λ (o : Option CodeUnit). MayLead objects (unit_move (setting_in code names f) o f.state) (done f.state.at step h.state)) (sym here) begun_does.row;
-        same = record { code = same.code; entry = same.entry; scope = same.scope; closure = same.closure; room = same.room; block_room = same.block_room };
+        row = subst (λ (o : Option CodeUnit). MayLead objects (unit_move (setting_in code names f) o f.state) (done f.state.at step h.state)) (sym here) acted.row;
+        same = same_stays f h (suc f.state.at) 0 expect.Go acted.same;
       }
 
 -- the unit that waited for what the frame heard
@@ -74,10 +79,9 @@ module _ (code : PyCode) (f g : Framed) (heard : GotAnswer) (waits : g ≡ recor
     pub raise_does : (objects : List Payload) (step : UnitStep) (h : Framed) → Does (unwinds (reason.Raising e)) g step h → MayDo objects (receive (setting_in code [] f) heard) f step h
     raise_does objects step h does =
         let waited = subst (λ (k : Framed). Does (unwinds (reason.Raising e)) k step h) waits does in
-        let same = waited.same in
         subst (λ (w : GotAnswer). MayDo objects (receive (setting_in code [] f) w) f step h) (sym is) (record {
           row = waited.row;
-          same = record { code = same.code; entry = same.entry; scope = same.scope; closure = same.closure; room = same.room; block_room = same.block_room };
+          same = same_stays f h f.state.last f.state.phase expect.Go waited.same;
         })
 
   module _ (v : Obj) (is : heard ≡ got.Value v) (u : CodeUnit) (arg : ℕ) (here : slice_get code.code.instructions.items f.state.at ≡ Some u) (takes : arg ≡ with_byte f.state.prefix u.arg) where
@@ -94,8 +98,7 @@ module _ (code : PyCode) (f g : Framed) (heard : GotAnswer) (waits : g ≡ recor
         let waited : MayDo objects (answered u.op (with_byte f.state.prefix u.arg) v) (record f { state = waiting expect.Go f.state }) step h =
         subst (λ (n : ℕ). MayDo objects (answered u.op n v) (record f { state = waiting expect.Go f.state }) step h) takes
         (subst (λ (k : Framed). MayDo objects (answered u.op arg v) k step h) waits does) in
-        let same = waited.same in
         subst (λ (w : GotAnswer). MayDo objects (receive (setting_in code [] f) w) f step h) (sym is) (record {
           row = subst (λ (o : Option CodeUnit). MayLead objects (unit_answered o v (waiting expect.Go f.state)) (done f.state.at step h.state)) (sym here) waited.row;
-          same = record { code = same.code; entry = same.entry; scope = same.scope; closure = same.closure; room = same.room; block_room = same.block_room };
+          same = same_stays f h f.state.last f.state.phase expect.Go waited.same;
         })

@@ -1,4 +1,4 @@
--- What a machine begins with.
+-- A machine that was just made holds what it has to, and is between drives.
 use Rattle.std.proofs.Common.{◌≡◌, ◌<◌, ◌+◌, ◌^◌, ◌++◌, ℕ, List, [], ◌∷◌, true, false, Some, refl, sym, ap, subst, ◌∙◌, length, append_assoc, arith}
 use Rattle.std.specs.Prelude.{None, slice_get}
 use Rattle.py_objects.specs.declared.payload.Payload.{Payload}
@@ -18,7 +18,7 @@ use Rattle.py_run.specs.First.{first_objects, first_globals}
 use Rattle.py_run.proofs.FirstLemmas.{each_single, each_first, singles_plain, first_fit, first_have}
 use Rattle.py_vm.specs.Raises.{AreRaised}
 use Rattle.py_vm.specs.Machine.{new_machine}
-use Rattle.py_vm.specs.Beginning.{Begins}
+use Rattle.py_vm.specs.Beginning.{Begins, IsFresh}
 use Rattle.py_vm.specs.Holds.{IsCoded}
 use Rattle.py_vm.specs.Stands.{AreApart, AreKept, AtStage, phase_of, acts_of, frames_at, slots_at, IsIdle, seen}
 use Rattle.py_run.proofs.OwnLemmas.{own_events-nil}
@@ -52,24 +52,24 @@ pub record SinglesBegin (s : Kept) : Type 0 where
   pub mark : s.mark ≡ 0
 
 -- a new store that got False and True
-pub singles_begin : (first second third : Kept) → first.made ≡ payload.None ∷ [] → first.changes ≡ [] → first.mark ≡ 0 → second ≡ record first { made = first.made ++ payload.Bool false ∷ [] }
+pub singles_begin : (first second third : Kept) → IsFresh first → second ≡ record first { made = first.made ++ payload.Bool false ∷ [] }
     → third ≡ record second { made = second.made ++ payload.Bool true ∷ [] } → SinglesBegin third
-singles_begin first second third made unchanged mark one two = record {
-  made = ap (λ (s : Kept). s.made) two ∙ ap (λ (s : Kept). s.made ++ payload.Bool true ∷ []) one ∙ ap (λ os. (os ++ payload.Bool false ∷ []) ++ payload.Bool true ∷ []) made;
-  unchanged = ap (λ (s : Kept). s.changes) two ∙ ap (λ (s : Kept). s.changes) one ∙ unchanged;
-  mark = ap (λ (s : Kept). s.mark) two ∙ ap (λ (s : Kept). s.mark) one ∙ mark;
+singles_begin first second third fresh one two = record {
+  made = ap (λ (s : Kept). s.made) two ∙ ap (λ (s : Kept). s.made ++ payload.Bool true ∷ []) one ∙ ap (λ os. (os ++ payload.Bool false ∷ []) ++ payload.Bool true ∷ []) fresh.made;
+  unchanged = ap (λ (s : Kept). s.changes) two ∙ ap (λ (s : Kept). s.changes) one ∙ fresh.unchanged;
+  mark = ap (λ (s : Kept). s.mark) two ∙ ap (λ (s : Kept). s.mark) one ∙ fresh.mark;
 }
 
 -- the classes come behind them
-pub classes_begin : (old new : Kept) (zoo : ExceptionZoo) → old.made ≡ singletons → old.changes ≡ [] → old.mark ≡ 0 → zoo.first ≡ length old.made
+pub classes_begin : (old new : Kept) (zoo : ExceptionZoo) → SinglesBegin old → zoo.first ≡ length old.made
     → new ≡ record old { made = old.made ++ class_payloads zoo } → ClassesBegin new zoo
-classes_begin old new zoo made unchanged mark first added =
-    let same : zoo ≡ first_classes = ap (λ n. let z : ExceptionZoo = record { first = n } in z) (first ∙ ap length made) in
+classes_begin old new zoo singles first added =
+    let same : zoo ≡ first_classes = ap (λ n. let z : ExceptionZoo = record { first = n } in z) (first ∙ ap length singles.made) in
     record {
       classes = same;
-      made = ap (λ (s : Kept). s.made) added ∙ ap (λ os. os ++ class_payloads zoo) made ∙ ap (λ z. singletons ++ class_payloads z) same;
-      unchanged = ap (λ (s : Kept). s.changes) added ∙ unchanged;
-      mark = ap (λ (s : Kept). s.mark) added ∙ mark;
+      made = ap (λ (s : Kept). s.made) added ∙ ap (λ os. os ++ class_payloads zoo) singles.made ∙ ap (λ z. singletons ++ class_payloads z) same;
+      unchanged = ap (λ (s : Kept). s.changes) added ∙ singles.unchanged;
+      mark = ap (λ (s : Kept). s.mark) added ∙ singles.mark;
     }
 
 -- an empty dict is put behind the classes

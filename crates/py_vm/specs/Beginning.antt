@@ -8,7 +8,7 @@ use Rattle.py_exceptions.specs.Classes.{first_classes}
 use Rattle.py_run.specs.First.{first_objects, first_globals}
 
 -- a store of None alone, of which nothing changed
-pub record IsNew (store : Kept) : Type 0 where
+pub record IsFresh (store : Kept) : Type 0 where
   pub made : store.made ≡ payload.None ∷ []
   pub unchanged : store.changes ≡ []
   pub mark : store.mark ≡ 0

@@ -32,6 +32,7 @@ fn main(rt: HostRuntime) -> ExitCode {
     let mut notes = StdSink::new(rt.stderr());
     let ended = run_command(rt.alloc(), &words, &mut source, &mut sink, &mut notes);
     let status = ended.status;
+    // Let go of in one step, and not variant by variant at the end.
     mem::drop(ended);
     ExitCode::from(status)
 }

@@ -57,6 +57,7 @@ pub(crate) fn found(alloc: Global, row: &Row, words: &Words, way: Way) -> Result
 {
     let came = run_row(alloc, row, words, way)?;
     let lines = lines_of(alloc, row, &came);
+    // Let go of in one step, and not variant by variant at the end.
     mem::drop(came);
     lines
 }

@@ -25,7 +25,7 @@ returns-clause-laid c =
           (ap (λ (o : CodeObject). length o.varnames.items) object ∙ length-NamesAll _ _ _ ids.varnames ∙ ap (λ (names : List Name). length names) vars)
           (ap (λ (o : CodeObject). length o.names.items) object ∙ length-NamesAll _ _ _ ids.global_names),
       named_code c.names_for.new.names c.in_ok-emitter.emitter.globals c.new-code.result _ t object ids.source_path ids.obj_name ids.global_names
-          (subst (λ (names : List Name). NamesAll c.names_for.new.names c.in_ok-ids.ids.locals.items names) vars ids.varnames),
+          (subst (λ (names : List Name). NamesAll c.names_for.new.names c.in_ok-ids.ids.varnames.items names) vars ids.varnames),
     )
 
 pub returns-clause-plain : goal.returns-clause-plain

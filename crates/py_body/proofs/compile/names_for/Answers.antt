@@ -31,7 +31,7 @@ returns-clause-varnames c =
     NamesAll-grown c.intern_all.new.names c.intern_all-2.new.names c.in_ok-varnames.varnames.items _ c.in_ok-global_names.ensures.grows
     (subst (λ (names : List Name). NamesAll c.intern_all.new.names c.in_ok-varnames.varnames.items names) (c.as_slice.ensures ∙ c.in_ok-locals.ensures) c.in_ok-varnames.ensures.named)
 
--- ---- the table of names
+-- ---- the table only grows, wherever memory runs out
 
 pub returns-in_err-source_path-clause-grows : goal.returns-in_err-source_path-clause-grows
 returns-in_err-source_path-clause-grows c = subst (Continues c.args.names.now) (sym c.in_err-source_path.ensures.err) (Continues-refl c.args.names.now)

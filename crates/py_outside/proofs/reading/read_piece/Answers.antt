@@ -1,7 +1,7 @@
 use Rattle.std.proofs.Common.{◌<◌, ℕ, take, length, arith, refl, sym, length-take}
 use Rattle.std.proofs.lemmas.List.{length-replicate, length-take-le}
 use Rattle.std.proofs.lemmas.Result.{err_from_is_err_and}
-use Rattle.py_outside.proofs.Moves.{fault_not_long, first_fits, front_fits, limit_fits, memory_not_fault, memory_not_long, no_error, none_lost, piece_size, takes_piece, untouched_else}
+use Rattle.py_outside.proofs.Moves.{fault_not_long, first_fits, front_fits, memory_not_fault, memory_not_long, no_error, none_lost, piece_size, takes_piece, untouched_else}
 use Rattle.py_outside.proofs.reading.read_piece.Goals as goal
 
 pub slice_bounds-room-end : goal.slice_bounds-room-end
@@ -56,7 +56,7 @@ returns-in-Err g c =
     let now = c.in-Err.ensures in
     record {
       takes = tt;
-      bound = limit_fits _ c.requires;
+      bound = omega (arith, c.requires);
       end = tt;
       later = now.cause.later;
       fault = λ _. now.cause.failed;

@@ -74,7 +74,7 @@ compile_form-returns-in-Raise-clause-code t c = rw c.in-Raise.is (form_taken _ _
 pub compile_form-returns-in-Pass-clause-code : goal.compile_form-returns-in-Pass-clause-code
 compile_form-returns-in-Pass-clause-code t c = rw c.in-Pass.is (pass_emits c.args.self.now.labels (draft_of c.args.self.now) (scope_of c.args.scope.now) c.args.line)
 
--- ---- the statements inside of a statement
+-- ---- the statements inside of a statement: the search finds the rest of each answer, but not these sums
 
 pub compile_form-compile_branch-requires : goal.compile_form-compile_branch-requires
 compile_form-compile_branch-requires t c =

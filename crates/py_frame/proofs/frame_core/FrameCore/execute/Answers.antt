@@ -8,29 +8,32 @@ use Rattle.py_frame.proofs.frame_core.FrameCore.execute.Goals as goal
 
 pub execute_instruction-requires-clause-safe : goal.execute_instruction-requires-clause-safe
 execute_instruction-requires-clause-safe g c =
+    let seen : Framed → Framed = λ (f : Framed). over f (g.S.ValueStack.list c.args.stack.now) (g.S.ValueStack.room c.args.stack.now) in
     let unit = c.index-unit.result.now in
-    begun_can c.args.code.now c.args.names.now (over c.args.self.now (g.S.ValueStack.list c.args.stack.now) (g.S.ValueStack.room c.args.stack.now)) (over c.begin.new.self (g.S.ValueStack.list c.args.stack.now) (g.S.ValueStack.room c.args.stack.now))
+    begun_can c.args.code.now c.args.names.now (seen c.args.self.now) (seen c.begin.new.self)
     unit c.extend-arg.result.0
     (unit_here c.args.code.now.code.instructions.items c.args.self.now.state.at c.unit.result unit c.unit.ensures c.requires.there c.index-unit.ensures)
     (c.extend-arg.ensures.value ∙ ap (λ (p : ℕ). with_byte p unit.arg) c.prefix-prefix.ensures)
-    (ap (λ (f : Framed). over f (g.S.ValueStack.list c.args.stack.now) (g.S.ValueStack.room c.args.stack.now)) c.begin.ensures)
+    (ap seen c.begin.ensures)
     c.args.store.now.made c.requires.safe
 
 pub returns-clause-row : goal.returns-clause-row
 returns-clause-row g c =
+    let seen : Framed → Framed = λ (f : Framed). over f (g.S.ValueStack.list c.args.stack.now) (g.S.ValueStack.room c.args.stack.now) in
     let unit = c.index-unit.result.now in
     IfOk-weaker c.execute_instruction.result _ _
-    (λ step. begun_does c.args.code.now c.args.names.now (over c.args.self.now (g.S.ValueStack.list c.args.stack.now) (g.S.ValueStack.room c.args.stack.now)) (over c.begin.new.self (g.S.ValueStack.list c.args.stack.now) (g.S.ValueStack.room c.args.stack.now))
+    (λ step. begun_does c.args.code.now c.args.names.now (seen c.args.self.now) (seen c.begin.new.self)
     unit c.extend-arg.result.0
     (unit_here c.args.code.now.code.instructions.items c.args.self.now.state.at c.unit.result unit c.unit.ensures c.requires.there c.index-unit.ensures)
     (c.extend-arg.ensures.value ∙ ap (λ (p : ℕ). with_byte p unit.arg) c.prefix-prefix.ensures)
-    (ap (λ (f : Framed). over f (g.S.ValueStack.list c.args.stack.now) (g.S.ValueStack.room c.args.stack.now)) c.begin.ensures)
+    (ap seen c.begin.ensures)
     c.execute_instruction.new.store.made step (over c.execute_instruction.new.self (g.S.ValueStack.list c.execute_instruction.new.stack) (g.S.ValueStack.room c.execute_instruction.new.stack)))
     c.execute_instruction.ensures.row
 
 pub returns-clause-err : goal.returns-clause-err
 returns-clause-err g c =
-    subst (λ (f : Framed). OnErr c.execute_instruction.result (over c.execute_instruction.new.self (g.S.ValueStack.list c.execute_instruction.new.stack) (g.S.ValueStack.room c.execute_instruction.new.stack) ≡ over f (g.S.ValueStack.list c.args.stack.now) (g.S.ValueStack.room c.args.stack.now)))
+    let seen : Framed → Framed = λ (f : Framed). over f (g.S.ValueStack.list c.args.stack.now) (g.S.ValueStack.room c.args.stack.now) in
+    subst (λ (f : Framed). OnErr c.execute_instruction.result (over c.execute_instruction.new.self (g.S.ValueStack.list c.execute_instruction.new.stack) (g.S.ValueStack.room c.execute_instruction.new.stack) ≡ seen f))
     c.begin.ensures c.execute_instruction.ensures.err
 
 pub returns-clause-objects : goal.returns-clause-objects
