@@ -1,7 +1,7 @@
 -- What the functions of this crate promise: replies as the code makes them, and objects as it reads them.
 use Rattle.std.specs.Int.{w128}
 use Rattle.std.specs.Prelude.{FitsSigned, Bool, ℕ, ◌<◌, Option, Some, None, List, ◌++◌, ◌≡◌, ◌⊎◌, length, true, false}
-use Rattle.py_check.specs.Effects.{is_asked, is_compared}
+use Rattle.py_code.specs.Operators.{is_asked, is_compared}
 use Rattle.py_objects.specs.declared.request.Request.{Request}
 use Rattle.py_objects.specs.declared.request.Request.TheVariants as request
 use Rattle.py_objects.specs.declared.payload.Payload.{Payload}

@@ -2,7 +2,7 @@
 
 ghost use Rattle.std.specs.Prelude.{◌≡◌, ◌<◌, true, ℤ, length, FitsSigned, IfOk, IfSome, SomeIff};
 ghost use Rattle.std.specs.Int.{w128};
-ghost use Rattle.py_check.specs.Effects.{is_asked};
+ghost use Rattle.py_code.specs.Operators.{is_asked};
 ghost use Rattle.py_objects.specs.Objects.{IsMade};
 ghost use Rattle.py_objects.specs.Values.{text_of};
 ghost use Rattle.py_objects.specs.declared.request.Request.TheVariants.{Binary};

@@ -1,7 +1,7 @@
 //! The replies of comparisons and of truth, by the payloads of objects.
 
 ghost use Rattle.std.specs.Prelude.{◌≡◌, ◌<◌, ◌||◌, true, eqb, length, IfOk};
-ghost use Rattle.py_check.specs.Effects.{is_compared};
+ghost use Rattle.py_code.specs.Operators.{is_compared};
 ghost use Rattle.py_objects.specs.Objects.{IsMade};
 ghost use Rattle.py_objects.specs.Values.{same_value};
 ghost use Rattle.py_answers.specs.Answers.{Compares, is_true, text_less};

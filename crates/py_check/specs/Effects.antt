@@ -4,12 +4,10 @@ use Rattle.std.specs.Prelude.{ℕ, List, [], ◌∷◌, Bool, true, false, Optio
 use Rattle.py_code.specs.declared.instruction.Instruction.{Instruction}
 use Rattle.py_code.specs.declared.instruction.Instruction.TheVariants.{LoadGlobal, Pop, Duplicate, Rotate2, Rotate3, BinaryOperation, CompareOperation, TestOperation, PrintExpr}
 use Rattle.py_code.specs.declared.operator.BinaryOperator.{BinaryOperator}
-use Rattle.py_code.specs.declared.operator.BinaryOperator.TheVariants as binary
 use Rattle.py_code.specs.declared.operator.ComparisonOperator.{ComparisonOperator}
-use Rattle.py_code.specs.declared.operator.ComparisonOperator.TheVariants as comparison
 use Rattle.py_code.specs.declared.operator.TestOperator.{TestOperator}
 use Rattle.py_code.specs.declared.operator.TestOperator.TheVariants as test
-use Rattle.py_code.specs.Operators.{binary_operators, comparison_operators, test_operators}
+use Rattle.py_code.specs.Operators.{binary_operators, comparison_operators, test_operators, is_asked, is_compared}
 use Rattle.py_check.specs.declared.note.Kind.{Kind}
 use Rattle.py_check.specs.declared.note.Kind.TheVariants.{Any}
 use Rattle.py_check.specs.Sheet.{Sheet}
@@ -44,22 +42,12 @@ effect TestOperation i = gives 2
 effect PrintExpr i = does 1
 effect _ i = Other
 
--- the operators of two operands that run so far
-abbrev pub is_asked : BinaryOperator → Bool
-is_asked binary.Add = true
-is_asked binary.Subtract = true
-is_asked _ = false
-
+-- the operators of two operands that run so far, and no number without one
 abbrev pub asks_operator : Option BinaryOperator → Bool
 asks_operator None = false
 asks_operator (Some op) = is_asked op
 
--- the comparisons that run so far
-abbrev pub is_compared : ComparisonOperator → Bool
-is_compared comparison.Less = true
-is_compared comparison.Equal = true
-is_compared _ = false
-
+-- the comparisons that run so far, and no number without one
 abbrev pub asks_comparison : Option ComparisonOperator → Bool
 asks_comparison None = false
 asks_comparison (Some op) = is_compared op

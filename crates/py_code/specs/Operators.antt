@@ -1,5 +1,5 @@
 -- The operators, tests and kinds of raises that an argument names and units run, in the order of their numbers.
-use Rattle.std.specs.Prelude.{List, [], ◌∷◌}
+use Rattle.std.specs.Prelude.{Bool, true, false, List, [], ◌∷◌}
 use Rattle.py_code.specs.declared.operator.BinaryOperator.{BinaryOperator}
 use Rattle.py_code.specs.declared.operator.ComparisonOperator.{ComparisonOperator}
 use Rattle.py_code.specs.declared.operator.TestOperator.{TestOperator}
@@ -24,3 +24,15 @@ test_operators = Test.In ∷ Test.NotIn ∷ Test.Is ∷ Test.IsNot ∷ Test.Exce
 -- each kind of raise, at its number
 abbrev pub raise_kinds : List RaiseKind
 raise_kinds = Raise.Reraise ∷ Raise.Raise ∷ Raise.RaiseCause ∷ []
+
+-- the operators of two operands that run so far
+abbrev pub is_asked : BinaryOperator → Bool
+is_asked Binary.Add = true
+is_asked Binary.Subtract = true
+is_asked _ = false
+
+-- the comparisons that run so far
+abbrev pub is_compared : ComparisonOperator → Bool
+is_compared Comparison.Less = true
+is_compared Comparison.Equal = true
+is_compared _ = false

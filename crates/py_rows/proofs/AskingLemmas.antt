@@ -13,7 +13,7 @@ use Rattle.py_code.specs.declared.operator.ComparisonOperator.{ComparisonOperato
 use Rattle.py_rows.specs.Asked.{name_of_global, asked_operator, asked_comparison, name_in, on_none, on_one, on_two, tests, asked}
 use Rattle.py_code.specs.declared.names.NameId.{NameId}
 use Rattle.py_code.specs.declared.operator.RaiseKind.{RaiseKind}
-use Rattle.py_code.specs.Operators.{binary_operators, comparison_operators, test_operators, raise_kinds}
+use Rattle.py_code.specs.Operators.{binary_operators, comparison_operators, test_operators, raise_kinds, is_asked, is_compared}
 use Rattle.py_code.specs.Units.{with_byte}
 use Rattle.py_objects.specs.declared.request.Request.{Request}
 use Rattle.py_objects.specs.declared.payload.Payload.{Payload}
@@ -24,7 +24,7 @@ use Rattle.py_code.specs.declared.literal.BuiltinFn.TheVariants as builtin
 use Rattle.py_check.specs.declared.note.Kind.{Kind}
 use Rattle.py_check.specs.declared.note.Kind.TheVariants as kind
 use Rattle.py_check.specs.declared.annotated.Annotated.{Annotated}
-use Rattle.py_check.specs.Effects.{Effect, Moves, AsksOnce, Other, effect, is_tested, has_operand, asks_operator, asks_comparison, is_asked, is_compared}
+use Rattle.py_check.specs.Effects.{Effect, Moves, AsksOnce, Other, effect, is_tested, has_operand, asks_operator, asks_comparison}
 use Rattle.py_check.specs.Sheet.{Sheet, sheet_of}
 use Rattle.py_rows.specs.States.{Setting}
 use Rattle.py_rows.proofs.BelowLemmas.{joined_below}

@@ -5,14 +5,13 @@ use Rattle.py_code.specs.declared.instruction.Instruction.TheVariants.{LoadGloba
 use Rattle.py_code.specs.declared.operator.TestOperator.{TestOperator}
 use Rattle.py_code.specs.declared.operator.TestOperator.TheVariants as test
 use Rattle.py_code.specs.declared.names.NameId.{NameId}
-use Rattle.py_code.specs.Operators.{binary_operators, comparison_operators, test_operators}
+use Rattle.py_code.specs.Operators.{binary_operators, comparison_operators, test_operators, is_asked, is_compared}
 use Rattle.py_objects.specs.declared.request.Request.{Request}
 use Rattle.py_objects.specs.declared.request.Request.TheVariants as request
 use Rattle.py_objects.specs.Objects.{Obj, Name}
 use Rattle.py_rows.specs.States.{Setting}
 use Rattle.py_code.specs.declared.operator.BinaryOperator.{BinaryOperator}
 use Rattle.py_code.specs.declared.operator.ComparisonOperator.{ComparisonOperator}
-use Rattle.py_check.specs.Effects.{is_asked, is_compared}
 
 -- the characters of a name
 abbrev pub name_in : List (List ℕ) → Option NameId → Option Name

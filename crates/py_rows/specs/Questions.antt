@@ -5,11 +5,10 @@ use Rattle.py_code.specs.declared.instruction.Instruction.TheVariants.{LoadFast,
 use Rattle.py_code.specs.declared.operator.RaiseKind.{RaiseKind}
 use Rattle.py_code.specs.declared.operator.RaiseKind.TheVariants as raise
 use Rattle.py_code.specs.declared.unit.CodeUnit.{CodeUnit}
-use Rattle.py_code.specs.Operators.{raise_kinds}
+use Rattle.py_code.specs.Operators.{raise_kinds, is_asked, is_compared}
 use Rattle.py_objects.specs.declared.request.Request.{Request}
 use Rattle.py_objects.specs.declared.request.Request.TheVariants as request
 use Rattle.py_objects.specs.Positional.{is_positional, is_bare}
-use Rattle.py_check.specs.Effects.{is_asked, is_compared}
 
 -- the kind of raise that a unit with this argument is: prefixes in front of it change nothing of its low byte
 abbrev pub raise_of : ℕ → Option RaiseKind
