@@ -6,9 +6,11 @@ ghost use Rattle.std.specs.Slice.Iter.{iter_rest};
 use std::alloc::{AllocError, AllocFailed, Global};
 use std::marker::Model;
 use std::slice;
+use thiserror::Error;
 
 /// Memory ran out.
-#[derive(Clone, Copy, Debug, PartialEq, Eq)]
+#[derive(Clone, Copy, Debug, PartialEq, Eq, Error)]
+#[error("out of memory")]
 pub struct NoMemory;
 
 impl From<AllocError> for NoMemory {

@@ -3,8 +3,11 @@
 ghost use Rattle.py_code.specs.Operators.{binary_operators, comparison_operators, raise_kinds, test_operators};
 ghost use Rattle.py_code.specs.Numbers.{binary_number, comparison_number, conversion_flags, conversion_number, raise_number, test_number, unary_number, unary_operators, Numbers, Reads};
 
+use thiserror::Error;
+
 /// A number that stands for no operator.
-#[derive(Clone, Copy, Debug, PartialEq, Eq)]
+#[derive(Clone, Copy, Debug, PartialEq, Eq, Error)]
+#[error("no operator has the number {0}")]
 pub struct NoOperator(pub u32);
 
 /// An operator of two values, named as the symbol that Python writes.

@@ -1,13 +1,16 @@
 //! Why bytes give no script.
 
 use py_code::NoMemory;
+use thiserror::Error;
 
 /// Why bytes give no script.
-#[derive(Clone, Copy, Debug, PartialEq, Eq)]
+#[derive(Clone, Copy, Debug, PartialEq, Eq, Error)]
 pub enum ParseFault {
     /// The bad line, from 1: the least with which no script begins, or the one behind the last where a body is left open.
+    #[error("malformed: line {0}")]
     Malformed(u64),
     /// Memory ran out.
+    #[error("out of memory")]
     NoMemory,
 }
 
