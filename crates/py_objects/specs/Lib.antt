@@ -18,6 +18,8 @@ pub mod Growth
 -- an activation's own events, and the words in which bodies tell them
 pub mod Own
 pub mod Telling
+-- what holds of their numbers
+pub mod OwnLaws
 -- scopes, attributes and the pairs of dicts
 pub mod Scopes
 pub mod Attrs
