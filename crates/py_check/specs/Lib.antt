@@ -21,6 +21,8 @@ pub mod Leaving
 pub mod WholeCode
 pub mod Typing
 pub mod Breaking
+-- what follows from them
+pub mod Laws
 -- codes worked by hand
 pub mod Worked
 pub mod WorkedHandlers
