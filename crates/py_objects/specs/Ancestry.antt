@@ -6,11 +6,12 @@ use Rattle.py_objects.specs.declared.payload.Payload.{Payload}
 use Rattle.py_objects.specs.declared.payload.Payload.TheVariants as payload
 use Rattle.py_objects.specs.declared.payload.ClassBody.{ClassBody}
 use Rattle.py_objects.specs.Objects.{Obj, Name, HasPayload}
+use Rattle.py_objects.specs.Values.{class_body_of}
 
 -- the class that an entry is, where it is one
 abbrev pub class_in : Option Payload → Option ClassBody
-class_in (Some (payload.Class c)) = Some c
-class_in _ = None
+class_in None = None
+class_in (Some p) = class_body_of p
 
 -- the class that an object is, where it is one
 abbrev pub class_at : List Payload → Obj → Option ClassBody

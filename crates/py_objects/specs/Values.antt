@@ -1,8 +1,12 @@
--- What can be read off a payload: a number's value, a text's characters, and whether two keys are one and the same. What a
--- new exception holds.
+-- What can be read off a payload: a number's value, a text's characters, what a class, a function and the like holds, and whether
+-- two keys are one and the same. What a new exception holds.
 use Rattle.std.specs.Prelude.{Option, Some, None, List, [], Bool, true, false, ◌&&◌, ◌||◌, eqb, bytes_eq, int_le, slice_get, ℤ, pos}
 use Rattle.py_objects.specs.declared.payload.Payload.{Payload}
 use Rattle.py_objects.specs.declared.payload.Payload.TheVariants as payload
+use Rattle.py_objects.specs.declared.payload.ClassBody.{ClassBody}
+use Rattle.py_objects.specs.declared.payload.FunctionBody.{FunctionBody}
+use Rattle.py_objects.specs.declared.payload.ManagerBody.{ManagerBody}
+use Rattle.py_objects.specs.declared.payload.CoroBody.{CoroBody}
 use Rattle.py_objects.specs.declared.payload.ExceptionBody.{ExceptionBody}
 use Rattle.py_objects.specs.declared.refs.PyTypeRef.{PyTypeRef}
 use Rattle.py_objects.specs.Objects.{Obj, Name}
@@ -18,6 +22,36 @@ number_of _ = None
 abbrev pub text_of : Payload → Option Name
 text_of (payload.Str s) = Some s
 text_of _ = None
+
+-- the items of a tuple
+abbrev pub tuple_of : Payload → Option (List Obj)
+tuple_of (payload.Tuple vs) = Some vs
+tuple_of _ = None
+
+-- what a class holds
+abbrev pub class_body_of : Payload → Option ClassBody
+class_body_of (payload.Class c) = Some c
+class_body_of _ = None
+
+-- what a function holds
+abbrev pub function_of : Payload → Option FunctionBody
+function_of (payload.Function f) = Some f
+function_of _ = None
+
+-- what a context manager holds
+abbrev pub manager_of : Payload → Option ManagerBody
+manager_of (payload.Manager m) = Some m
+manager_of _ = None
+
+-- what a generator holds
+abbrev pub generator_of : Payload → Option CoroBody
+generator_of (payload.Generator g) = Some g
+generator_of _ = None
+
+-- what an exception holds
+abbrev pub exception_of : Payload → Option ExceptionBody
+exception_of (payload.Exception e) = Some e
+exception_of _ = None
 
 -- whether it is None
 abbrev pub is_none : Payload → Bool

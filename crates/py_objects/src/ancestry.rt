@@ -11,28 +11,6 @@ use crate::payload::{ClassBody, Payload};
 use crate::refs::{PyObjectRef, PyTypeRef};
 
 impl Payload {
-    /// The class that it is, where it is one.
-    fn class(&self) -> Option<&ClassBody>
-        ensures { option_copied result ≡ class_in (Some self.now) }
-    {
-        match self {
-            Payload::Class(class) => Some(class.value()),
-            Payload::None
-            | Payload::Bool(_)
-            | Payload::Int(_)
-            | Payload::Str(_)
-            | Payload::Tuple(_)
-            | Payload::Dict(_)
-            | Payload::Function(_)
-            | Payload::Builtin(_)
-            | Payload::Manager(_)
-            | Payload::Frame(_)
-            | Payload::Generator(_)
-            | Payload::Exception(_)
-            | Payload::Traceback(_) => None,
-        }
-    }
-
     /// Whether it is a class with the name of a built-in one.
     fn is_class(&self, kind: ErrorKind) -> bool
         ensures { result ≡ has_name (name_of kind) (class_in (Some self.now)) }

@@ -1,10 +1,11 @@
-//! What can be read off payloads: numbers, texts, and whether two values are one key.
+//! What can be read off payloads: numbers, texts, what classes, functions and the like hold, and whether two values are one key.
 
 ghost use Rattle.std.specs.Prelude.{◌≡◌, FitsSigned, IfSome, option_copied};
 ghost use Rattle.std.specs.Int.{w128};
-ghost use Rattle.py_objects.specs.Values.{is_none, number_of, text_of, same_value};
+ghost use Rattle.py_objects.specs.Values.{class_body_of, exception_of, function_of, generator_of, is_none, manager_of, number_of, same_value, text_of, tuple_of};
 
-use crate::payload::Payload;
+use crate::payload::{ClassBody, CoroBody, ExceptionBody, FunctionBody, ManagerBody, Payload};
+use crate::refs::ObjList;
 use py_code::{PyText, same_text};
 
 impl Payload {
@@ -16,18 +17,7 @@ impl Payload {
         match self {
             Payload::Bool(flag) => Some(i128::from(*flag)),
             Payload::Int(number) => Some(*number),
-            Payload::None
-            | Payload::Str(_)
-            | Payload::Tuple(_)
-            | Payload::Dict(_)
-            | Payload::Class(_)
-            | Payload::Function(_)
-            | Payload::Builtin(_)
-            | Payload::Manager(_)
-            | Payload::Frame(_)
-            | Payload::Generator(_)
-            | Payload::Exception(_)
-            | Payload::Traceback(_) => None,
+            _ => None,
         }
     }
 
@@ -37,19 +27,67 @@ impl Payload {
     {
         match self {
             Payload::Str(text) => Some(text),
-            Payload::None
-            | Payload::Bool(_)
-            | Payload::Int(_)
-            | Payload::Tuple(_)
-            | Payload::Dict(_)
-            | Payload::Class(_)
-            | Payload::Function(_)
-            | Payload::Builtin(_)
-            | Payload::Manager(_)
-            | Payload::Frame(_)
-            | Payload::Generator(_)
-            | Payload::Exception(_)
-            | Payload::Traceback(_) => None,
+            _ => None,
+        }
+    }
+
+    /// The items of a tuple.
+    pub fn tuple(&self) -> Option<&ObjList>
+        ensures { option_copied result ≡ tuple_of self.now }
+    {
+        match self {
+            Payload::Tuple(items) => Some(items),
+            _ => None,
+        }
+    }
+
+    /// What a class holds.
+    pub fn class(&self) -> Option<&ClassBody>
+        ensures { option_copied result ≡ class_body_of self.now }
+    {
+        match self {
+            Payload::Class(body) => Some(body.value()),
+            _ => None,
+        }
+    }
+
+    /// What a function holds.
+    pub fn function(&self) -> Option<&FunctionBody>
+        ensures { option_copied result ≡ function_of self.now }
+    {
+        match self {
+            Payload::Function(body) => Some(body),
+            _ => None,
+        }
+    }
+
+    /// What a context manager holds.
+    pub fn manager(&self) -> Option<&ManagerBody>
+        ensures { option_copied result ≡ manager_of self.now }
+    {
+        match self {
+            Payload::Manager(body) => Some(body),
+            _ => None,
+        }
+    }
+
+    /// What a generator holds.
+    pub fn generator(&self) -> Option<&CoroBody>
+        ensures { option_copied result ≡ generator_of self.now }
+    {
+        match self {
+            Payload::Generator(body) => Some(body),
+            _ => None,
+        }
+    }
+
+    /// What an exception holds.
+    pub fn exception(&self) -> Option<&ExceptionBody>
+        ensures { option_copied result ≡ exception_of self.now }
+    {
+        match self {
+            Payload::Exception(body) => Some(body.value()),
+            _ => None,
         }
     }
 
