@@ -19,20 +19,8 @@ use Rattle.py_objects.proofs.GrowthLemmas.{payload_grown, plainly_grows}
 -- ---- changes
 
 edited_class : (objects : List Payload) (x : Edit) (p : Payload) → class_in (Some (edited objects x p)) ≡ class_in (Some p)
-edited_class objects x payload.None = refl
-edited_class objects x (payload.Bool b) = refl
-edited_class objects x (payload.Int n) = refl
-edited_class objects x (payload.Str s) = refl
-edited_class objects x (payload.Tuple vs) = refl
-edited_class objects x (payload.Dict ps) = refl
 edited_class objects x (payload.Class c) = refl
-edited_class objects x (payload.Function f) = refl
-edited_class objects x (payload.Builtin f) = refl
-edited_class objects x (payload.Manager m) = refl
-edited_class objects x (payload.Frame c) = refl
-edited_class objects x (payload.Generator g) = refl
-edited_class objects x (payload.Exception e) = refl
-edited_class objects x (payload.Traceback t) = refl
+edited_class objects x _ = refl
 
 with_edit_class : (objects : List Payload) (o : Obj) (x : Edit) (v : Obj) → class_at (with_edit objects o x) v ≡ class_at objects v
 with_edit_class objects o x v = by (slice_get objects o.number) refl

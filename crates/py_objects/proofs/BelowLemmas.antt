@@ -37,20 +37,8 @@ ChangesBelow-append n (d ∷ cs) c below within named = (below.0, below.1, Chang
 
 -- the numbers that a dict names are among those that its payload names
 pub dict_numbers-payload : (n : ℕ) (p : Payload) → AllBelow n (payload_numbers p) → AllBelow n (dict_numbers p)
-dict_numbers-payload n payload.None below = tt
-dict_numbers-payload n (payload.Bool b) below = tt
-dict_numbers-payload n (payload.Int i) below = tt
-dict_numbers-payload n (payload.Str s) below = tt
-dict_numbers-payload n (payload.Tuple vs) below = tt
 dict_numbers-payload n (payload.Dict ps) below = below
-dict_numbers-payload n (payload.Class c) below = tt
-dict_numbers-payload n (payload.Function f) below = tt
-dict_numbers-payload n (payload.Builtin f) below = tt
-dict_numbers-payload n (payload.Manager m) below = tt
-dict_numbers-payload n (payload.Frame c) below = tt
-dict_numbers-payload n (payload.Generator g) below = tt
-dict_numbers-payload n (payload.Exception e) below = tt
-dict_numbers-payload n (payload.Traceback t) below = tt
+dict_numbers-payload n _ below = tt
 
 -- ---- edits of pairs
 
@@ -97,20 +85,8 @@ edited_dict n objects (edit.State s) ps named below = below
 
 edited_below : (n : ℕ) (objects : List Payload) (x : Edit) (p : Payload) → AllBelow n (edit_numbers x) → AllBelow n (dict_numbers p)
     → AllBelow n (dict_numbers (edited objects x p))
-edited_below n objects x payload.None named below = tt
-edited_below n objects x (payload.Bool b) named below = tt
-edited_below n objects x (payload.Int i) named below = tt
-edited_below n objects x (payload.Str s) named below = tt
-edited_below n objects x (payload.Tuple vs) named below = tt
 edited_below n objects x (payload.Dict ps) named below = edited_dict n objects x ps named below
-edited_below n objects x (payload.Class c) named below = tt
-edited_below n objects x (payload.Function f) named below = tt
-edited_below n objects x (payload.Builtin f) named below = tt
-edited_below n objects x (payload.Manager m) named below = tt
-edited_below n objects x (payload.Frame c) named below = tt
-edited_below n objects x (payload.Generator g) named below = tt
-edited_below n objects x (payload.Exception e) named below = tt
-edited_below n objects x (payload.Traceback t) named below = tt
+edited_below n objects x _ named below = tt
 
 -- ---- edits of objects
 

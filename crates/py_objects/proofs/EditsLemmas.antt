@@ -68,20 +68,8 @@ module _ (objects : List Payload) (p : Payload) where
 
   edited_append : (x : Edit) (q : Payload) → AllBelow (length objects) (edit_numbers x) → AllBelow (length objects) (dict_numbers q)
       → edited (objects ++ p ∷ []) x q ≡ edited objects x q
-  edited_append x payload.None named below = refl
-  edited_append x (payload.Bool b) named below = refl
-  edited_append x (payload.Int i) named below = refl
-  edited_append x (payload.Str s) named below = refl
-  edited_append x (payload.Tuple vs) named below = refl
   edited_append x (payload.Dict ps) named below = ap payload.Dict (pairs_append x ps named below)
-  edited_append x (payload.Class c) named below = refl
-  edited_append x (payload.Function f) named below = refl
-  edited_append x (payload.Builtin f) named below = refl
-  edited_append x (payload.Manager m) named below = refl
-  edited_append x (payload.Frame c) named below = refl
-  edited_append x (payload.Generator g) named below = refl
-  edited_append x (payload.Exception e) named below = refl
-  edited_append x (payload.Traceback t) named below = refl
+  edited_append x _ named below = refl
 
   with_edit-append : (o : Obj) (x : Edit) → o.number < length objects → AllBelow (length objects) (edit_numbers x) → DictsBelow (length objects) objects
       → with_edit (objects ++ p ∷ []) o x ≡ with_edit objects o x ++ p ∷ []

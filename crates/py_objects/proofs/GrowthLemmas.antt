@@ -67,19 +67,9 @@ classes_grown objects objects' (v ∷ vs) grows ((c, is), more) = ((c, payload_g
 
 -- an entry's objects are of their kinds also among more objects
 pub made_grown : (objects objects' : List Payload) (p : Payload) → Grows objects objects' → IsMade objects p → IsMade objects' p
-made_grown objects objects' payload.None grows made = tt
-made_grown objects objects' (payload.Bool b) grows made = tt
-made_grown objects objects' (payload.Int n) grows made = tt
-made_grown objects objects' (payload.Str s) grows made = tt
-made_grown objects objects' (payload.Tuple vs) grows made = tt
-made_grown objects objects' (payload.Dict ps) grows made = tt
 made_grown objects objects' (payload.Class c) grows made = classes_grown objects objects' c.mro grows made
-made_grown objects objects' (payload.Function f) grows made = tt
-made_grown objects objects' (payload.Builtin f) grows made = tt
 made_grown objects objects' (payload.Manager m) grows ((f, is_enter), (g, is_exit)) =
     ((f, payload_grown objects objects' _ _ grows is_enter), (g, payload_grown objects objects' _ _ grows is_exit))
-made_grown objects objects' (payload.Frame c) grows made = tt
-made_grown objects objects' (payload.Generator g) grows made = tt
 made_grown objects objects' (payload.Exception e) grows made = record {
   class = made.class;
   is_class = payload_grown objects objects' _ _ grows made.is_class;
@@ -91,6 +81,7 @@ made_grown objects objects' (payload.Exception e) grows made = record {
 }
 made_grown objects objects' (payload.Traceback t) grows (is_next, (c, is_frame)) =
     (there_grown t.next (λ v (b, is). (b, payload_grown objects objects' _ _ grows is)) is_next, (c, payload_grown objects objects' _ _ grows is_frame))
+made_grown objects objects' _ grows made = tt
 
 -- plain growth is growth
 pub plainly_grows : (old new : List Payload) → GrowsPlainly old new → Grows old new

@@ -103,20 +103,10 @@ older_or_last (z ∷ xs) y (suc i) x at = by (older_or_last xs y i x at)
 
 -- what an edit fits may change
 may_change-fits : (x : Edit) (p : Payload) → EditFits x p → may_change p ≡ true
-may_change-fits x payload.None fits = absurd fits
-may_change-fits x (payload.Bool b) fits = absurd fits
-may_change-fits x (payload.Int i) fits = absurd fits
-may_change-fits x (payload.Str s) fits = absurd fits
-may_change-fits x (payload.Tuple vs) fits = absurd fits
 may_change-fits x (payload.Dict ps) fits = refl
-may_change-fits x (payload.Class c) fits = absurd fits
-may_change-fits x (payload.Function f) fits = absurd fits
-may_change-fits x (payload.Builtin f) fits = absurd fits
-may_change-fits x (payload.Manager m) fits = absurd fits
-may_change-fits x (payload.Frame c) fits = absurd fits
-may_change-fits x (payload.Generator g) fits = absurd fits
 may_change-fits x (payload.Exception e) fits = refl
 may_change-fits x (payload.Traceback t) fits = refl
+may_change-fits x _ fits = absurd fits
 
 -- ---- the invariant
 

@@ -20,20 +20,8 @@ truth_position b objects = position_from-zero (is_truth b) objects
 
 -- an edited entry is this truth value where it was
 edited_truth : (b : Bool) (objects : List Payload) (x : Edit) (p : Payload) → is_truth b (edited objects x p) ≡ is_truth b p
-edited_truth b objects x payload.None = refl
 edited_truth b objects x (payload.Bool c) = refl
-edited_truth b objects x (payload.Int n) = refl
-edited_truth b objects x (payload.Str s) = refl
-edited_truth b objects x (payload.Tuple vs) = refl
-edited_truth b objects x (payload.Dict ps) = refl
-edited_truth b objects x (payload.Class c) = refl
-edited_truth b objects x (payload.Function f) = refl
-edited_truth b objects x (payload.Builtin f) = refl
-edited_truth b objects x (payload.Manager m) = refl
-edited_truth b objects x (payload.Frame c) = refl
-edited_truth b objects x (payload.Generator g) = refl
-edited_truth b objects x (payload.Exception e) = refl
-edited_truth b objects x (payload.Traceback t) = refl
+edited_truth b objects x _ = refl
 
 -- the first one stays where it is, by one change
 with_edit_truth : (b : Bool) (objects : List Payload) (o : Obj) (x : Edit) → position_from (is_truth b) 0 (with_edit objects o x) ≡ position_from (is_truth b) 0 objects

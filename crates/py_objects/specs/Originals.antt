@@ -86,20 +86,9 @@ pub record IsKept (os : List Original) (now : List Payload) (cs : List Change) (
 
 -- an edit fits an exception or a traceback
 abbrev pub FitsBody : Edit → Payload → Type 0
-FitsBody x payload.None = ⊥
-FitsBody x (payload.Bool b) = ⊥
-FitsBody x (payload.Int n) = ⊥
-FitsBody x (payload.Str s) = ⊥
-FitsBody x (payload.Tuple vs) = ⊥
-FitsBody x (payload.Dict ps) = ⊥
-FitsBody x (payload.Class c) = ⊥
-FitsBody x (payload.Function f) = ⊥
-FitsBody x (payload.Builtin f) = ⊥
-FitsBody x (payload.Manager m) = ⊥
-FitsBody x (payload.Frame c) = ⊥
-FitsBody x (payload.Generator g) = ⊥
 FitsBody x (payload.Exception e) = FitsException x
 FitsBody x (payload.Traceback t) = FitsTraceback x
+FitsBody x _ = ⊥
 
 -- an edit fits the payload of an object
 abbrev pub FitsEntry : List Payload → Obj → Edit → Type 0

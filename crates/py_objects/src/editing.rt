@@ -2,7 +2,7 @@
 
 ghost use Rattle.std.specs.Prelude.{◌≡◌, ◌<◌, List, Some, length, slice_get, IfOk, IfSome, OnOk, OnErr};
 ghost use Rattle.py_objects.specs.Edits.{with_edit, edited, edited_exception, edited_traceback, FitsException, FitsTraceback, IsInPlace};
-ghost use Rattle.py_objects.specs.Originals.{original_of, FitsBody, FitsEntry, IsDict};
+ghost use Rattle.py_objects.specs.Originals.{may_change, original_of, FitsBody, FitsEntry, IsDict};
 ghost use Rattle.py_objects.specs.Keys.{place_of_key};
 ghost use Rattle.py_objects.specs.Pairs.{Pairs};
 ghost use Rattle.py_objects.specs.declared.payload.Payload.{Payload as PayloadOf};
@@ -18,21 +18,6 @@ use py_code::{NoMemory, PyText};
 use std::alloc::Global;
 
 impl ExceptionBody {
-    /// The same exception in a body of its own.
-    fn copy(&self) -> Result<ExceptionBody, NoMemory>
-        ensures { IfOk result (λ copy. copy ≡ self.now) }
-    {
-        Ok(ExceptionBody {
-            class: self.class,
-            args: self.args,
-            cause: self.cause,
-            context: self.context,
-            suppress: self.suppress,
-            traceback: self.traceback,
-            attrs: self.attrs.copy()?,
-        })
-    }
-
     /// Makes an edit that takes no memory.
     fn edit_in_place(&mut self, edit: &Edit)
         requires fits { FitsException edit.now }
@@ -61,13 +46,6 @@ impl ExceptionBody {
 }
 
 impl Boxed<ExceptionBody> {
-    /// The same exception in a box of its own.
-    pub(crate) fn copy(&self, alloc: Global) -> Result<Boxed<ExceptionBody>, NoMemory>
-        ensures { IfOk result (λ copy. copy ≡ self.now) }
-    {
-        Boxed::new(alloc, self.value().copy()?)
-    }
-
     /// Sets an attribute.
     fn set_attr(&mut self, name: PyText, value: PyObjectRef) -> Result<(), NoMemory>
         ensures edited { OnOk result (self.new ≡ edited_exception (AttrEdit name (Some value)) self.old) }
@@ -113,26 +91,24 @@ impl TracebackBody {
 }
 
 impl Payload {
+    /// Whether some edit fits it.
+    fn may_change(&self) -> bool
+        ensures { result ≡ may_change self.now }
+    {
+        matches!(
+            self,
+            Payload::Dict(_) | Payload::Exception(_) | Payload::Traceback(_)
+        )
+    }
+
     /// A copy of a payload that may change.
     pub(crate) fn original(&self, alloc: Global) -> Result<Option<Payload>, NoMemory>
         ensures { IfOk result (λ original. original ≡ original_of self.now) }
     {
-        match self {
-            Payload::Dict(pairs) => Ok(Some(Payload::Dict(pairs.copy(alloc)?))),
-            Payload::Exception(body) => Ok(Some(Payload::Exception(body.copy(alloc)?))),
-            Payload::Traceback(body) => Ok(Some(Payload::Traceback(*body))),
-            Payload::None
-            | Payload::Bool(_)
-            | Payload::Int(_)
-            | Payload::Str(_)
-            | Payload::Tuple(_)
-            | Payload::Class(_)
-            | Payload::Function(_)
-            | Payload::Builtin(_)
-            | Payload::Manager(_)
-            | Payload::Frame(_)
-            | Payload::Generator(_) => Ok(None),
+        if !self.may_change() {
+            return Ok(None);
         }
+        Ok(Some(self.copy(alloc)?))
     }
 
     /// Sets an attribute of an exception.
@@ -141,22 +117,10 @@ impl Payload {
         ensures edited { OnOk result ((objects : List PayloadOf) → self.new ≡ edited objects (AttrEdit name (Some value)) self.old) }
         ensures err { OnErr result (self.new ≡ self.old) }
     {
-        match self {
-            Payload::Exception(body) => body.set_attr(name, value),
-            Payload::None
-            | Payload::Bool(_)
-            | Payload::Int(_)
-            | Payload::Str(_)
-            | Payload::Tuple(_)
-            | Payload::Dict(_)
-            | Payload::Class(_)
-            | Payload::Function(_)
-            | Payload::Builtin(_)
-            | Payload::Manager(_)
-            | Payload::Frame(_)
-            | Payload::Generator(_)
-            | Payload::Traceback(_) => unreachable!(),
-        }
+        let Payload::Exception(body) = self else {
+            unreachable!()
+        };
+        body.set_attr(name, value)
     }
 
     /// Makes an edit of an exception or a traceback that takes no memory.
@@ -168,18 +132,7 @@ impl Payload {
         match self {
             Payload::Exception(body) => body.edit_in_place(edit),
             Payload::Traceback(body) => body.edit_in_place(edit),
-            Payload::None
-            | Payload::Bool(_)
-            | Payload::Int(_)
-            | Payload::Str(_)
-            | Payload::Tuple(_)
-            | Payload::Dict(_)
-            | Payload::Class(_)
-            | Payload::Function(_)
-            | Payload::Builtin(_)
-            | Payload::Manager(_)
-            | Payload::Frame(_)
-            | Payload::Generator(_) => unreachable!(),
+            _ => unreachable!(),
         }
     }
 }

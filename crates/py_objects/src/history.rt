@@ -8,84 +8,12 @@ ghost use Rattle.py_objects.specs.declared.payload.ExceptionBody.{ExceptionBody 
 ghost use Rattle.py_objects.specs.declared.payload.Payload.{Payload as PayloadOf};
 ghost use Rattle.py_objects.specs.declared.payload.TracebackBody.{TracebackBody as Traceback};
 
-use crate::boxed::Boxed;
 use crate::edit::{ChangeList, Edit, LinkField};
 use crate::editing::edit_any;
-use crate::payload::{ClassBody, CoroBody, FunctionBody, ManagerBody, Payload, PayloadList};
+use crate::payload::{Payload, PayloadList};
 use crate::refs::PyObjectRef;
 use py_code::NoMemory;
 use std::alloc::Global;
-
-impl ClassBody {
-    fn copy(&self, alloc: Global) -> Result<ClassBody, NoMemory>
-        ensures { IfOk result (λ copy. copy ≡ self.now) }
-    {
-        Ok(ClassBody {
-            name: self.name.copy(alloc)?,
-            mro: self.mro.copy(alloc)?,
-        })
-    }
-}
-
-impl FunctionBody {
-    fn copy(&self, alloc: Global) -> Result<FunctionBody, NoMemory>
-        ensures { IfOk result (λ copy. copy ≡ self.now) }
-    {
-        Ok(FunctionBody {
-            name: self.name.copy(alloc)?,
-            code: self.code,
-        })
-    }
-}
-
-impl ManagerBody {
-    fn copy(&self, alloc: Global) -> Result<ManagerBody, NoMemory>
-        ensures { IfOk result (λ copy. copy ≡ self.now) }
-    {
-        Ok(ManagerBody {
-            name: self.name.copy(alloc)?,
-            enter: self.enter,
-            exit: self.exit,
-        })
-    }
-}
-
-impl CoroBody {
-    fn copy(&self, alloc: Global) -> Result<CoroBody, NoMemory>
-        ensures { IfOk result (λ copy. copy ≡ self.now) }
-    {
-        Ok(CoroBody {
-            activation: self.activation,
-            name: self.name.copy(alloc)?,
-            kind: self.kind,
-        })
-    }
-}
-
-impl Payload {
-    fn copy(&self, alloc: Global) -> Result<Payload, NoMemory>
-        ensures { IfOk result (λ copy. copy ≡ self.now) }
-    {
-        Ok(match self {
-            Payload::None => Payload::None,
-            Payload::Bool(truth) => Payload::Bool(*truth),
-            Payload::Int(number) => Payload::Int(*number),
-            Payload::Str(text) => Payload::Str(text.copy(alloc)?),
-            Payload::Tuple(items) => Payload::Tuple(items.copy(alloc)?),
-            Payload::Dict(pairs) => Payload::Dict(pairs.copy(alloc)?),
-            Payload::Class(class) => {
-                Payload::Class(Boxed::new(alloc, class.value().copy(alloc)?)?)
-            }
-            Payload::Function(function) => Payload::Function(function.copy(alloc)?),
-            Payload::Builtin(function) => Payload::Builtin(*function),
-            Payload::Manager(manager) => Payload::Manager(manager.copy(alloc)?),
-            Payload::Frame(code) => Payload::Frame(*code),
-            Payload::Generator(coro) => Payload::Generator(coro.copy(alloc)?),
-            Payload::Exception(exception) => Payload::Exception(exception.copy(alloc)?),
-            Payload::Traceback(traceback) => Payload::Traceback(*traceback),
-        })
-    }
-}
 
 fn copy_all(alloc: Global, payloads: &[Payload]) -> Result<Vec<Payload>, NoMemory>
     ensures { IfOk result (λ copy. copy.items ≡ payloads.now) }
@@ -166,17 +94,7 @@ fn fits(edit: &Edit, payload: &Payload) -> bool
         Payload::Dict(_) => fits_dict(edit),
         Payload::Exception(_) => fits_exception(edit),
         Payload::Traceback(_) => fits_traceback(edit),
-        Payload::None
-        | Payload::Bool(_)
-        | Payload::Int(_)
-        | Payload::Str(_)
-        | Payload::Tuple(_)
-        | Payload::Class(_)
-        | Payload::Function(_)
-        | Payload::Builtin(_)
-        | Payload::Manager(_)
-        | Payload::Frame(_)
-        | Payload::Generator(_) => false,
+        _ => false,
     }
 }
 

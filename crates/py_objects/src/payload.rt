@@ -1,11 +1,14 @@
-//! What an object is.
+//! What an object is, and copies of it.
+
+ghost use Rattle.std.specs.Prelude.{◌≡◌, IfOk};
 
 use crate::attr_map::AttrMap;
 use crate::boxed::Boxed;
 use crate::error_kind::ErrorKind;
 use crate::pair_list::PairList;
 use crate::refs::{FrameRef, ObjList, PyObjectRef, PyTypeRef};
-use py_code::{BuiltinFn, ItemList, PyText};
+use py_code::{BuiltinFn, ItemList, NoMemory, PyText};
+use std::alloc::Global;
 
 /// What an object is. Names are texts; other objects are named by their numbers. A store has one of these for each object, so they are small.
 #[derive(Drop)]
@@ -29,6 +32,30 @@ pub enum Payload {
     Traceback(TracebackBody),
 }
 
+impl Payload {
+    /// The same payload, with bodies of its own.
+    pub(crate) fn copy(&self, alloc: Global) -> Result<Payload, NoMemory>
+        ensures { IfOk result (λ copy. copy ≡ self.now) }
+    {
+        Ok(match self {
+            Payload::None => Payload::None,
+            Payload::Bool(truth) => Payload::Bool(*truth),
+            Payload::Int(number) => Payload::Int(*number),
+            Payload::Str(text) => Payload::Str(text.copy(alloc)?),
+            Payload::Tuple(items) => Payload::Tuple(items.copy(alloc)?),
+            Payload::Dict(pairs) => Payload::Dict(pairs.copy(alloc)?),
+            Payload::Class(class) => Payload::Class(class.copy(alloc)?),
+            Payload::Function(function) => Payload::Function(function.copy(alloc)?),
+            Payload::Builtin(function) => Payload::Builtin(*function),
+            Payload::Manager(manager) => Payload::Manager(manager.copy(alloc)?),
+            Payload::Frame(code) => Payload::Frame(*code),
+            Payload::Generator(coro) => Payload::Generator(coro.copy(alloc)?),
+            Payload::Exception(exception) => Payload::Exception(exception.copy(alloc)?),
+            Payload::Traceback(traceback) => Payload::Traceback(*traceback),
+        })
+    }
+}
+
 /// Payloads in order: the entries of a store.
 pub type PayloadList = ItemList<Payload>;
 
@@ -39,11 +66,41 @@ pub struct ClassBody {
     pub mro: ObjList,
 }
 
+impl ClassBody {
+    fn copy(&self, alloc: Global) -> Result<ClassBody, NoMemory>
+        ensures { IfOk result (λ copy. copy ≡ self.now) }
+    {
+        Ok(ClassBody {
+            name: self.name.copy(alloc)?,
+            mro: self.mro.copy(alloc)?,
+        })
+    }
+}
+
+impl Boxed<ClassBody> {
+    fn copy(&self, alloc: Global) -> Result<Boxed<ClassBody>, NoMemory>
+        ensures { IfOk result (λ copy. copy ≡ self.now) }
+    {
+        Boxed::new(alloc, self.value().copy(alloc)?)
+    }
+}
+
 /// A function, with the number of its code among the codes of the run.
 #[derive(Drop)]
 pub struct FunctionBody {
     pub name: PyText,
     pub code: usize,
+}
+
+impl FunctionBody {
+    fn copy(&self, alloc: Global) -> Result<FunctionBody, NoMemory>
+        ensures { IfOk result (λ copy. copy ≡ self.now) }
+    {
+        Ok(FunctionBody {
+            name: self.name.copy(alloc)?,
+            code: self.code,
+        })
+    }
 }
 
 /// A context manager: the functions that a `with` enters and leaves it by.
@@ -52,6 +109,18 @@ pub struct ManagerBody {
     pub name: PyText,
     pub enter: PyObjectRef,
     pub exit: PyObjectRef,
+}
+
+impl ManagerBody {
+    fn copy(&self, alloc: Global) -> Result<ManagerBody, NoMemory>
+        ensures { IfOk result (λ copy. copy ≡ self.now) }
+    {
+        Ok(ManagerBody {
+            name: self.name.copy(alloc)?,
+            enter: self.enter,
+            exit: self.exit,
+        })
+    }
 }
 
 /// What a suspended activation is seen as.
@@ -70,6 +139,18 @@ pub struct CoroBody {
     pub kind: CoroKind,
 }
 
+impl CoroBody {
+    fn copy(&self, alloc: Global) -> Result<CoroBody, NoMemory>
+        ensures { IfOk result (λ copy. copy ≡ self.now) }
+    {
+        Ok(CoroBody {
+            activation: self.activation,
+            name: self.name.copy(alloc)?,
+            kind: self.kind,
+        })
+    }
+}
+
 /// An exception: its class, its arguments as one tuple, its links, and its attributes (Python Language Reference, 4.2 and
 /// 7.8).
 #[derive(Drop)]
@@ -82,6 +163,30 @@ pub struct ExceptionBody {
     pub suppress: bool,
     pub traceback: Option<PyObjectRef>,
     pub attrs: AttrMap,
+}
+
+impl ExceptionBody {
+    fn copy(&self) -> Result<ExceptionBody, NoMemory>
+        ensures { IfOk result (λ copy. copy ≡ self.now) }
+    {
+        Ok(ExceptionBody {
+            class: self.class,
+            args: self.args,
+            cause: self.cause,
+            context: self.context,
+            suppress: self.suppress,
+            traceback: self.traceback,
+            attrs: self.attrs.copy()?,
+        })
+    }
+}
+
+impl Boxed<ExceptionBody> {
+    fn copy(&self, alloc: Global) -> Result<Boxed<ExceptionBody>, NoMemory>
+        ensures { IfOk result (λ copy. copy ≡ self.now) }
+    {
+        Boxed::new(alloc, self.value().copy()?)
+    }
 }
 
 /// An entry of a traceback: the frame, the place behind the last unit that it began, and that unit's line.

@@ -12,22 +12,10 @@ impl Payload {
     fn is_truth(&self, value: bool) -> bool
         ensures { result ≡ is_truth value self.now }
     {
-        match self {
-            Payload::Bool(flag) => { if value { *flag } else { !*flag } }
-            Payload::None
-            | Payload::Int(_)
-            | Payload::Str(_)
-            | Payload::Tuple(_)
-            | Payload::Dict(_)
-            | Payload::Class(_)
-            | Payload::Function(_)
-            | Payload::Builtin(_)
-            | Payload::Manager(_)
-            | Payload::Frame(_)
-            | Payload::Generator(_)
-            | Payload::Exception(_)
-            | Payload::Traceback(_) => false,
-        }
+        let Payload::Bool(flag) = self else {
+            return false;
+        };
+        if value { *flag } else { !*flag }
     }
 }
 
