@@ -1,7 +1,8 @@
 //! The longest text that is read, and readers and writers of std, with faults in mid-stream.
 
-use py_exceptions::{StdSink, WriteFailed};
-use py_outside::{LIMIT, ReadError, SourceMemory, StdSource, read_bytes, write_bytes};
+use py_outside::{
+    LIMIT, ReadError, SourceMemory, StdSink, StdSource, WriteFailed, read_bytes, write_bytes,
+};
 use std::alloc::Global;
 use std::io::{self, ErrorKind, Read, Write};
 use std::test::Fail;

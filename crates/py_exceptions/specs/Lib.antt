@@ -25,8 +25,3 @@ pub mod Memory
 pub mod Slots
 -- what the functions of the crate need of an exception
 pub mod Parts
--- how faults of sources and sinks are counted
-pub mod Faults
-pub mod Counting
--- sinks as contracts see them
-pub mod Sinks

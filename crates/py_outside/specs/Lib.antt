@@ -1,7 +1,11 @@
+-- how faults of sources and sinks are counted
+pub mod Faults
+pub mod Counting
 -- what a read tells of its source
 pub mod Ends
--- sources as contracts see them
+-- sources and sinks as contracts see them
 pub mod Sources
+pub mod Sinks
 -- what is read to the end of a source, and what a failed write has written
 pub mod Reading
 pub mod Transfer

@@ -1,7 +1,7 @@
 -- Sources, in memory and over readers of std, as contracts see them.
 use Rattle.std.specs.Prelude.{ℕ, ◌==◌, min, Bool, true, false, List, [], ◌∷◌, length, drop, refl}
 use Rattle.std.specs.Coded.{Coded, code_by, coded×, coded_list, coded_bool, coded_ℕ}
-use Rattle.py_exceptions.specs.Faults.{one_more}
+use Rattle.py_outside.specs.Faults.{one_more}
 use Rattle.py_outside.specs.declared.std_source.StdSource.{StdSource}
 
 -- the bytes that a source has left, the numbers of the calls that fail, the most bytes that a call moves,

@@ -1,7 +1,7 @@
 //! Reading a source to its end.
 
 ghost use Rattle.std.specs.Prelude.{◌≡◌, ◌==◌, ◌+◌, ◌-◌, ◌^◌, ◌<◌, ◌≤◌, length, vec_len, IfOk, OnOk, OnErr, IfSome, IsErrOf, IsTrue, false};
-ghost use Rattle.py_exceptions.specs.Faults.{Rose};
+ghost use Rattle.py_outside.specs.Faults.{Rose};
 ghost use Rattle.py_outside.specs.Reading.{Takes, HasRead, LosesUpTo, IsCounted, IsUntouched};
 ghost use Rattle.py_outside.specs.declared.reading.ReadError.TheVariants.{NoMemory};
 

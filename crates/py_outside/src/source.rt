@@ -3,7 +3,7 @@
 ghost use Rattle.std.specs.Prelude.{◌≡◌, ◌+◌, ◌≤◌, Option, List, ℕ, Bool, false, IsTrue, OnOk};
 ghost use Rattle.std.specs.Io.{ReadsAtMost};
 ghost use Rattle.std.specs.Io.KnownBytes.{ReadConsumes};
-ghost use Rattle.py_exceptions.specs.Counting.{HasCause};
+ghost use Rattle.py_outside.specs.Counting.{HasCause};
 ghost use Rattle.py_outside.specs.Ends.{StaysSound, TellsEnd};
 
 /// A read that failed, and moved nothing.

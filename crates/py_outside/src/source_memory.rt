@@ -3,8 +3,8 @@
 ghost use Rattle.std.specs.Prelude.{◌≡◌, ◌+◌, ◌≤◌, ◌<◌, ◌↔◌, ◌++◌, length, take, drop, Some, false, IsTrue, IsErr, IfOk, OnOk, OnErr, Contains};
 ghost use Rattle.std.specs.Io.{ReadsAtMost};
 ghost use Rattle.std.specs.Io.KnownBytes.{ReadConsumes};
-ghost use Rattle.py_exceptions.specs.Counting.{HasCause};
-ghost use Rattle.py_exceptions.specs.Faults.{one_more};
+ghost use Rattle.py_outside.specs.Counting.{HasCause};
+ghost use Rattle.py_outside.specs.Faults.{one_more};
 ghost use Rattle.py_outside.specs.Ends.{StaysSound, TellsEnd};
 ghost use Rattle.py_outside.specs.Sources.{source_after, failed_source, readable, none_listed};
 

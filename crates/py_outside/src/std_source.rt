@@ -3,7 +3,7 @@
 ghost use Rattle.std.specs.Prelude.{◌≡◌, false, OnOk};
 ghost use Rattle.std.specs.Io.{ReadsAtMost};
 ghost use Rattle.std.specs.Io.KnownBytes.{ReadConsumes};
-ghost use Rattle.py_exceptions.specs.Counting.{HasCause, CountsFailure};
+ghost use Rattle.py_outside.specs.Counting.{HasCause, CountsFailure};
 ghost use Rattle.py_outside.specs.Ends.{TellsEnd};
 
 use crate::source::{ReadFailed, Source};

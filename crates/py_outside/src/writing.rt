@@ -2,10 +2,10 @@
 
 ghost use Rattle.std.specs.Prelude.{◌≤◌, length, OnOk, OnErr};
 ghost use Rattle.std.specs.Io.KnownBytes.{Appends};
-ghost use Rattle.py_exceptions.specs.Counting.{HasCause, MeetsNoFault};
+ghost use Rattle.py_outside.specs.Counting.{HasCause, MeetsNoFault};
 ghost use Rattle.py_outside.specs.Transfer.{AppendsFront};
 
-use py_exceptions::{Sink, WriteFailed};
+use crate::sink::{Sink, WriteFailed};
 
 /// Writes the bytes, in as many pieces as the sink takes them.
 pub fn write_bytes<K: Sink>(sink: &mut K, bytes: &[u8]) -> Result<(), WriteFailed>

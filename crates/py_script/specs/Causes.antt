@@ -1,7 +1,7 @@
 -- When each answer of the top call comes, and what it hands back, writes and notes.
 use Rattle.std.specs.Prelude.{ℕ, ◌<◌, ◌≤◌, ◌^◌, ◌⊎◌, List, [], ◌++◌, Bool, false, IsTrue, Option, Some, IfSome, ◌≡◌, length, codes, decimal, Result, Ok, Err}
 use Rattle.std.specs.Io.KnownBytes.{Appends, Keeps, IsAtEnd}
-use Rattle.py_exceptions.specs.Faults.{Rose}
+use Rattle.py_outside.specs.Faults.{Rose}
 use Rattle.py_outside.specs.Transfer.{AppendsFront}
 use Rattle.py_grammar.specs.declared.script.Script.{Script}
 use Rattle.py_grammar.specs.Script.{IsScript, IsBadLine}

@@ -1,7 +1,7 @@
 -- What the steps of a run answer: reading the script, making its drives, and writing the text; and what the run does.
 use Rattle.std.specs.Prelude.{ℕ, ◌<◌, ◌≤◌, ◌^◌, ◌⊎◌, List, Bool, false, IsTrue, Option, IfSome, ◌≡◌, length, Result, Ok, Err, IsErrOf}
 use Rattle.std.specs.Io.KnownBytes.{Appends, Keeps}
-use Rattle.py_exceptions.specs.Faults.{Rose}
+use Rattle.py_outside.specs.Faults.{Rose}
 use Rattle.py_outside.specs.Transfer.{AppendsFront}
 use Rattle.py_grammar.specs.declared.script.Script.{Script}
 use Rattle.py_grammar.specs.Script.{IsScript, IsBadLine}

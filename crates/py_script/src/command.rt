@@ -2,7 +2,7 @@
 
 ghost use Rattle.std.specs.Prelude.{◌≡◌, ◌+◌, ◌≤◌, ◌^◌, ◌⊎◌, IsTrue};
 ghost use Rattle.std.specs.Io.KnownBytes.{Appends};
-ghost use Rattle.py_exceptions.specs.Faults.{Rose};
+ghost use Rattle.py_outside.specs.Faults.{Rose};
 ghost use Rattle.py_script.specs.Causes.{IsAnswer, IsEnding, ReadsSoundly, WritesSurely, RunsScripts, RunsAskedScripts, RunsSettle, AskedRunsSettle, status_in, note_in};
 ghost use Rattle.py_script.specs.Steps.{result_in};
 
@@ -12,8 +12,7 @@ use crate::read::read_script;
 use crate::session::run_drives;
 use crate::words::{Command, Words, command_of};
 use crate::write::write_text;
-use py_exceptions::Sink;
-use py_outside::Source;
+use py_outside::{Sink, Source};
 use py_vm::{Journal, VmFault};
 use std::alloc::Global;
 

@@ -22,12 +22,14 @@ pub use command::{run_command, run_script};
 pub use fault::{CommandResult, Ended, LoadFault, ScriptFault, Summary};
 pub use journal::journal_text;
 pub use loading::load_script;
-pub use py_exceptions::{Sink, SinkMemory, StdSink, WriteFailed};
 pub use py_grammar::{
     DeclList, Declaration, DriveAtom, DriveAtomList, DriveLine, DriveList, ParseFault, Script,
     parse_script,
 };
-pub use py_outside::{LIMIT, ReadFailed, Source, SourceMemory, StdSource, write_bytes};
+pub use py_outside::{
+    LIMIT, ReadFailed, Sink, SinkMemory, Source, SourceMemory, StdSink, StdSource, WriteFailed,
+    write_bytes,
+};
 pub use py_vm::Journal;
 pub use read::read_bytes;
 pub use session::Session;

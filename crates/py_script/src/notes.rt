@@ -2,13 +2,12 @@
 
 ghost use Rattle.std.specs.Prelude.{◌≤◌, ◌++◌, ◌⊎◌, OnOk, decimal};
 ghost use Rattle.std.specs.Io.KnownBytes.{Appends};
-ghost use Rattle.py_exceptions.specs.Counting.{HasCause};
-ghost use Rattle.py_exceptions.specs.Faults.{Rose};
+ghost use Rattle.py_outside.specs.Counting.{HasCause};
+ghost use Rattle.py_outside.specs.Faults.{Rose};
 ghost use Rattle.py_script.specs.Causes.{note_in};
 
 use crate::fault::{CommandResult, ScriptFault};
-use py_exceptions::{Sink, WriteFailed};
-use py_outside::write_bytes;
+use py_outside::{Sink, WriteFailed, write_bytes};
 
 /// Writes the note of an outcome. Where a write fails, the rest of the note isn't written.
 pub(crate) fn write_note<N: Sink>(notes: &mut N, outcome: &CommandResult)

@@ -5,8 +5,7 @@ ghost use Rattle.py_script.specs.Steps.{IsWriting, result_in};
 
 use crate::fault::ScriptFault;
 use crate::journal::journal_text;
-use py_exceptions::Sink;
-use py_outside::write_bytes;
+use py_outside::{Sink, write_bytes};
 use py_vm::Journal;
 use std::alloc::Global;
 

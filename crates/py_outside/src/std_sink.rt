@@ -3,7 +3,7 @@
 ghost use Rattle.std.specs.Prelude.{◌≡◌, ◌<◌, length, IfOk};
 ghost use Rattle.std.specs.Io.{WritesAtMost};
 ghost use Rattle.std.specs.Io.KnownBytes.{WriteAppends};
-ghost use Rattle.py_exceptions.specs.Counting.{HasCause, CountsFailure};
+ghost use Rattle.py_outside.specs.Counting.{HasCause, CountsFailure};
 
 use crate::sink::{Sink, WriteFailed};
 use std::io::Write;
@@ -16,7 +16,7 @@ pub struct StdSink<W: Write + Drop> {
 }
 
 impl<W: Write + Drop> StdSink<W> {
-    ghost use Rattle.py_exceptions.specs.Sinks.{writer_of, write_faults};
+    ghost use Rattle.py_outside.specs.Sinks.{writer_of, write_faults};
 
     /// The writer as a sink that has met no fault.
     pub fn new(inner: W) -> StdSink<W>
@@ -28,7 +28,7 @@ impl<W: Write + Drop> StdSink<W> {
 }
 
 impl<W: Write + Drop> Sink for StdSink<W> {
-    ghost use Rattle.py_exceptions.specs.Sinks.{writer_of, write_faults};
+    ghost use Rattle.py_outside.specs.Sinks.{writer_of, write_faults};
 
     ghost taken = { λ s. W.contents (writer_of s) };
 

@@ -1,6 +1,6 @@
 -- How sources and sinks count their faults, call by call.
 use Rattle.std.specs.Prelude.{◌≡◌, ℕ, ◌≤◌, Result, IsOk, OnErr, MatchResult}
-use Rattle.py_exceptions.specs.Faults.{one_more, Rose}
+use Rattle.py_outside.specs.Faults.{one_more, Rose}
 
 -- the count never falls, and a failure comes only where it rose
 pub record HasCause {T E : Type 0} (before now : ℕ) (result : Result T E) : Type 0 where

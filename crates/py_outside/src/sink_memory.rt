@@ -3,9 +3,9 @@
 ghost use Rattle.std.specs.Prelude.{◌≡◌, ◌+◌, ◌≤◌, ◌<◌, ◌⊎◌, length, take, [], Some, IsErr, IfOk, OnErr, Contains};
 ghost use Rattle.std.specs.Io.{WritesAtMost};
 ghost use Rattle.std.specs.Io.KnownBytes.{WriteAppends};
-ghost use Rattle.py_exceptions.specs.Counting.{HasCause, MeetsNoFault};
-ghost use Rattle.py_exceptions.specs.Faults.{one_more};
-ghost use Rattle.py_exceptions.specs.Sinks.{sink_after, failed_sink, writable, sure_of};
+ghost use Rattle.py_outside.specs.Counting.{HasCause, MeetsNoFault};
+ghost use Rattle.py_outside.specs.Faults.{one_more};
+ghost use Rattle.py_outside.specs.Sinks.{sink_after, failed_sink, writable, sure_of};
 
 use crate::sink::{Sink, WriteFailed};
 use py_code::NoMemory;
@@ -26,7 +26,7 @@ pub struct SinkMemory {
 
 impl Model for SinkMemory {
     ghost use Rattle.std.specs.Prelude.{◌≤◌, vec_len, vec_capacity};
-    ghost use Rattle.py_exceptions.specs.Sinks.{SinkState, sink_code};
+    ghost use Rattle.py_outside.specs.Sinks.{SinkState, sink_code};
 
     ghost Value = { SinkState };
 

@@ -1,8 +1,8 @@
 -- Sinks, in memory and over writers of std, as contracts see them.
 use Rattle.std.specs.Prelude.{ℕ, ◌-◌, min, List, [], ◌∷◌, ◌++◌, length, refl}
 use Rattle.std.specs.Coded.{Coded, code_by, coded×, coded_list, coded_ℕ}
-use Rattle.py_exceptions.specs.Faults.{one_more}
-use Rattle.py_exceptions.specs.declared.std_sink.StdSink.{StdSink}
+use Rattle.py_outside.specs.Faults.{one_more}
+use Rattle.py_outside.specs.declared.std_sink.StdSink.{StdSink}
 
 -- the bytes that a sink has taken, the numbers of the calls that fail, the most bytes that a call moves,
 -- the most bytes that it takes in all, the calls that were made, and those that failed

@@ -3,7 +3,7 @@
 ghost use Rattle.std.specs.Prelude.{◌+◌, ◌<◌, ◌≤◌, Option, List, ℕ, length, IfOk};
 ghost use Rattle.std.specs.Io.{WritesAtMost};
 ghost use Rattle.std.specs.Io.KnownBytes.{WriteAppends};
-ghost use Rattle.py_exceptions.specs.Counting.{HasCause, MeetsNoFault};
+ghost use Rattle.py_outside.specs.Counting.{HasCause, MeetsNoFault};
 
 /// A write that failed, and took nothing.
 #[derive(Clone, Copy, Debug, PartialEq, Eq)]
