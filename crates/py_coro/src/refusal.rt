@@ -6,15 +6,19 @@ ghost use Rattle.py_coro.specs.Refusals.{ignoring, refused, stopping, word_of};
 use py_code::{NoMemory, push_bytes, text_of};
 use py_objects::{CoroKind, ErrorKind, Fault};
 use std::alloc::Global;
+use thiserror::Error;
 
 /// Why a send, a throw or a close is refused (Python Language Reference, 6.2.9.1).
-#[derive(Clone, Copy, Debug, PartialEq, Eq)]
+#[derive(Clone, Copy, Debug, PartialEq, Eq, Error)]
 pub enum CoroRefusal {
     /// It runs.
+    #[error("already executing")]
     Running,
     /// It hasn't started, and is sent a value that isn't None.
+    #[error("sent a value before it started")]
     FirstValue,
     /// There is no depth left to enter it.
+    #[error("too deep")]
     TooDeep,
 }
 
