@@ -1,10 +1,9 @@
 //! Statements, each with the line that it stands in.
 
-ghost use Rattle.std.specs.Prelude.{◌≡◌, OnOk, OnErr};
-ghost use Rattle.py_tree.specs.declared.stmt.Clause.{out-Clause};
+ghost use Rattle.std.specs.Prelude.{◌≡◌, OnOk, OnErr, option_copied, option_map};
 ghost use Rattle.py_tree.specs.Tree.{no_more, nothing};
-ghost use Rattle.py_tree.specs.Views.{clauses_of, form_of, suite_of};
-ghost use Rattle.py_tree.specs.Suites.{add, list_clauses, list_suite, with_clause};
+ghost use Rattle.py_tree.specs.Views.{clauses_of, suite_of};
+ghost use Rattle.py_tree.specs.Suites.{clauses_item, clauses_length, handler_of, line_of, list_clauses, list_suite, suite_item, suite_length, clauses_with, suite_with};
 
 use crate::expr::{Atom, Expr, Operation};
 use py_code::{NoMemory, PyText};
@@ -98,10 +97,26 @@ impl StmtList {
         self.items.as_slice()
     }
 
+    /// How many statements there are, apart from those inside of others.
+    #[tactic(auto, using(crate::proofs::Trees::suite_out, crate::proofs::Trees::length_of_suite))]
+    pub fn len(&self) -> usize
+        ensures { result ≡ suite_length (suite_of self.now) }
+    {
+        self.items.len()
+    }
+
+    /// The statement at a place, from 0.
+    #[tactic(auto, using(crate::proofs::Trees::suite_out, crate::proofs::Trees::item_of_suite))]
+    pub fn get(&self, at: usize) -> Option<&Stmt>
+        ensures { option_map line_of (option_copied result) ≡ suite_item (suite_of self.now) at }
+    {
+        self.items.get(at)
+    }
+
     /// Puts a statement behind the others.
     #[tactic(auto, using(crate::proofs::Trees::suite_roll, crate::proofs::Trees::suite_out, crate::proofs::Trees::list_suite_append))]
     pub fn push(&mut self, stmt: Stmt) -> Result<(), NoMemory>
-        ensures added { OnOk result (suite_of self.new ≡ add (suite_of self.old) stmt.line (form_of stmt.form)) }
+        ensures added { OnOk result (suite_of self.new ≡ suite_with (suite_of self.old) stmt) }
         ensures err { OnErr result (suite_of self.new ≡ suite_of self.old) }
     {
         self.items.push(stmt)?;
@@ -128,10 +143,26 @@ impl ClauseList {
         self.items.as_slice()
     }
 
+    /// How many clauses there are.
+    #[tactic(auto, using(crate::proofs::Trees::clauses_out, crate::proofs::Trees::length_of_clauses))]
+    pub fn len(&self) -> usize
+        ensures { result ≡ clauses_length (clauses_of self.now) }
+    {
+        self.items.len()
+    }
+
+    /// The clause at a place, from 0.
+    #[tactic(auto, using(crate::proofs::Trees::clauses_out, crate::proofs::Trees::item_of_clauses))]
+    pub fn get(&self, at: usize) -> Option<&Clause>
+        ensures { option_map handler_of (option_copied result) ≡ clauses_item (clauses_of self.now) at }
+    {
+        self.items.get(at)
+    }
+
     /// Puts a clause behind the others.
     #[tactic(auto, using(crate::proofs::Trees::clauses_roll, crate::proofs::Trees::clauses_out, crate::proofs::Trees::list_clauses_append))]
     pub fn push(&mut self, clause: Clause) -> Result<(), NoMemory>
-        ensures added { OnOk result (clauses_of self.new ≡ with_clause (clauses_of self.old) (out-Clause clause).line (out-Clause clause).class (out-Clause clause).target (suite_of (out-Clause clause).suite)) }
+        ensures added { OnOk result (clauses_of self.new ≡ clauses_with (clauses_of self.old) clause) }
         ensures err { OnErr result (clauses_of self.new ≡ clauses_of self.old) }
     {
         self.items.push(clause)?;
