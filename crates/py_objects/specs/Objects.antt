@@ -1,6 +1,6 @@
 -- What the objects of a run are: by number, by the names that they are declared under, and which are new.
 use Rattle.std.specs.Prelude.{ℕ, suc, ◌<◌, Option, Some, None, List, [], ◌∷◌, ◌++◌, Bool, false, ◌≡◌, ◌||◌, slice_get, length, eqb, bytes_eq, if◌then◌else◌}
-pub use Rattle.py_objects.specs.Refs.{Obj, Name}
+pub use Rattle.py_objects.specs.Refs.{Obj, Name, as_object, class_object}
 use Rattle.py_objects.specs.declared.refs.PyTypeRef.{PyTypeRef}
 use Rattle.py_objects.specs.declared.refs.PyBaseExceptionRef.{PyBaseExceptionRef}
 use Rattle.py_objects.specs.declared.payload.Payload.{Payload}
@@ -28,17 +28,9 @@ use Rattle.py_objects.specs.declared.event.Event.TheVariants as event
 abbrev pub HasPayload : List Payload → Obj → Payload → Type 0
 HasPayload objects v p = slice_get objects v.number ≡ Some p
 
--- an exception as an object
-abbrev pub as_object : PyBaseExceptionRef → Obj
-as_object e = record { number = e.number }
-
 -- an object as an exception
 abbrev pub as_exception : Obj → PyBaseExceptionRef
 as_exception v = record { number = v.number }
-
--- a class as an object
-abbrev pub class_object : PyTypeRef → Obj
-class_object c = record { number = c.number }
 
 -- the name that a payload declares, where it is a declaration
 abbrev pub declares : Payload → Option Name

@@ -9,7 +9,7 @@ use Rattle.py_objects.specs.Objects.{Obj}
 abbrev pub singletons : List Payload
 singletons = payload.None ∷ payload.Bool false ∷ payload.Bool true ∷ []
 
--- where None stands
+-- the store's own None, which was there first
 abbrev pub none_object : Obj
 none_object = record { number = 0 }
 

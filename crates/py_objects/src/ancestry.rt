@@ -44,10 +44,7 @@ fn first_class(payloads: &[Payload], kind: ErrorKind) -> Option<usize>
 pub fn derives_from(payloads: &[Payload], class: PyTypeRef, kind: ErrorKind) -> bool
     ensures { result ≡ derives_by_name payloads.now (class_object class) (name_of kind) }
 {
-    let object = PyObjectRef {
-        number: class.number,
-    };
-    let Some(body) = class_at(payloads, object) else {
+    let Some(body) = class_at(payloads, PyObjectRef::from(class)) else {
         return false;
     };
     let Some(first) = first_class(payloads, kind) else {

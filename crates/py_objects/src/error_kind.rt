@@ -6,6 +6,7 @@ ghost use Rattle.py_objects.specs.ErrorKinds.{bases_of, error_kinds, name_of};
 ghost use Rattle.py_objects.specs.ErrorPlaces.{place_of};
 
 use py_code::PyText;
+use std::fmt;
 
 /// A built-in exception class.
 #[derive(Clone, Copy, Debug, PartialEq, Eq)]
@@ -320,6 +321,15 @@ impl ErrorKind {
             | ResourceWarning
             | EncodingWarning => &[Warning, Exception, BaseException],
         }
+    }
+}
+
+impl fmt::Display for ErrorKind {
+    fn fmt<W: fmt::Write>(&self, f: &mut fmt::Formatter<W>) -> fmt::Result {
+        for byte in self.name() {
+            f.write_char(char::from(*byte))?;
+        }
+        Ok(())
     }
 }
 

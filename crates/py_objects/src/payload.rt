@@ -9,6 +9,8 @@ use crate::pair_list::PairList;
 use crate::refs::{FrameRef, ObjList, PyObjectRef, PyTypeRef};
 use py_code::{BuiltinFn, ItemList, NoMemory, PyText};
 use std::alloc::Global;
+use std::error::Error;
+use std::fmt;
 
 /// What an object is. Names are texts; other objects are named by their numbers. A store has one of these for each object, so they are small.
 #[derive(Drop)]
@@ -204,3 +206,15 @@ pub struct Fault {
     pub kind: ErrorKind,
     pub text: PyText,
 }
+
+impl fmt::Display for Fault {
+    fn fmt<W: fmt::Write>(&self, f: &mut fmt::Formatter<W>) -> fmt::Result {
+        write!(f, "{}: ", self.kind)?;
+        for character in self.text.as_slice() {
+            f.write_char(*character)?;
+        }
+        Ok(())
+    }
+}
+
+impl Error for Fault {}

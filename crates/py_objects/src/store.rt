@@ -3,7 +3,7 @@
 ghost use Rattle.std.specs.Prelude.{◌≡◌, ◌<◌, ◌≤◌, ◌+◌, ℕ, [], ◌∷◌, ◌++◌, length, slice_get, slice_set, Some, IfOk, IfSome, OnOk, OnErr, vec_len, vec_capacity};
 ghost use Rattle.py_objects.specs.ErrorKinds.{name_of};
 ghost use Rattle.py_objects.specs.Objects.{HasPayload, AllBelow, class_object, payload_numbers};
-ghost use Rattle.py_objects.specs.Singletons.{own_truth};
+ghost use Rattle.py_objects.specs.Singletons.{none_object, own_truth};
 ghost use Rattle.py_objects.specs.Ancestry.{derives_from as derives};
 ghost use Rattle.py_objects.specs.Edits.{objects_of, store_at, edit_numbers, EditFits, IsInPlace, IsAsBefore, IsEdited};
 ghost use Rattle.py_objects.specs.Originals.{original_of, with_copy};
@@ -38,7 +38,6 @@ pub struct Store {
     originals: Vec<Original>,
     changes: Vec<Change>,
     mark: u64,
-    none: PyObjectRef,
 }
 
 impl Model for Store {
@@ -46,13 +45,14 @@ impl Model for Store {
     ghost use Rattle.py_objects.specs.Objects.{HasPayload};
     ghost use Rattle.py_objects.specs.Edits.{Kept};
     ghost use Rattle.py_objects.specs.Originals.{restored, IsKept};
+    ghost use Rattle.py_objects.specs.Singletons.{none_object};
     ghost use Rattle.py_objects.specs.declared.payload.Payload.TheVariants.{None as NonePayload};
 
     ghost Value = { Kept };
 
     ghost view = { λ s. record { made = restored s.originals.items s.payloads.items; changes = s.changes.items; mark = s.mark; spare = vec_capacity s.changes - vec_len s.changes } };
 
-    ghost invariant = { λ s. IsKept s.originals.items s.payloads.items s.changes.items s.mark × HasPayload (restored s.originals.items s.payloads.items) s.none NonePayload };
+    ghost invariant = { λ s. IsKept s.originals.items s.payloads.items s.changes.items s.mark × HasPayload (restored s.originals.items s.payloads.items) none_object NonePayload };
 }
 
 impl Store {
@@ -70,15 +70,22 @@ impl Store {
             originals: Vec::new(alloc),
             changes: Vec::new(alloc),
             mark: 0,
-            none: PyObjectRef { number: 0 },
         })
     }
 
-    /// The object that was there first: `None`.
+    /// What gives the store its memory.
+    pub fn allocator(&self) -> Global {
+        self.alloc
+    }
+
+    /// The object that was there first: the store's own `None`.
     pub fn none(&self) -> PyObjectRef
-        ensures { HasPayload self.now.made result NonePayload }
+        ensures first { result ≡ none_object }
+        ensures has { HasPayload self.now.made result NonePayload }
     {
-        self.none
+        // Read for what the store keeps of its objects: the first is `None`.
+        let _payloads = &self.payloads;
+        PyObjectRef { number: 0 }
     }
 
     /// The first object that is `True`, or `False`, where there is one.
@@ -204,7 +211,6 @@ impl Store {
             originals,
             changes,
             mark: _,
-            none: _,
         } = self;
         for original in originals {
             put_back(payloads.as_mut_slice(), original);

@@ -2,6 +2,7 @@ use Rattle.std.proofs.Common.{◌∙◌, List, ap, refl, subst, sym}
 use Rattle.py_objects.specs.Edits.{with_edit}
 use Rattle.py_objects.specs.Originals.{FitsEntry}
 use Rattle.py_objects.specs.declared.payload.Payload.{Payload}
+use Rattle.py_objects.specs.Singletons.{none_object}
 use Rattle.py_objects.proofs.StoreLemmas.{fits_entry, invariant_edited, view_edited}
 use Rattle.py_objects.proofs.store.Store.change.Goals as goal
 
@@ -13,11 +14,11 @@ edit_in_place-requires-clause-fits c =
 pub invariant_of-self : goal.invariant_of-self
 invariant_of-self c =
     invariant_edited _ _ _ _ _ c.self.invariant.0 c.args.self.now c.self.view_is c.args.object c.args.edit c.requires.within c.requires.fits
-    c.self.inside.none c.self.invariant.1 c.requires.named c.self.inside.payloads c.edit_in_place.new.payloads c.push_reserved.new.self.items refl
+    none_object c.self.invariant.1 c.requires.named c.self.inside.payloads c.edit_in_place.new.payloads c.push_reserved.new.self.items refl
     (c.edit_in_place.ensures ∙ ap (λ l. with_edit l c.args.object c.args.edit) c.as_mut_slice.ensures.value) c.push_reserved.ensures.items
 
 pub returns-clause-edited : goal.returns-clause-edited
 returns-clause-edited c =
     view_edited _ _ _ _ _ c.self.invariant.0 c.args.self.now c.self.view_is c.args.object c.args.edit c.requires.within c.requires.fits
-    c.self.inside.none c.self.invariant.1 c.requires.named c.self.inside.payloads c.edit_in_place.new.payloads c.push_reserved.new.self.items refl
+    none_object c.self.invariant.1 c.requires.named c.self.inside.payloads c.edit_in_place.new.payloads c.push_reserved.new.self.items refl
     (c.edit_in_place.ensures ∙ ap (λ l. with_edit l c.args.object c.args.edit) c.as_mut_slice.ensures.value) c.push_reserved.ensures.items _
