@@ -95,7 +95,7 @@ fn left_by_a_stop(store: &Store, kind: CoroKind) -> CoroAnswer
 fn an_asynchronous_generator_converts_a_stop_of_its_own(rt: HostRuntime) -> Result<(), NoMemory> {
     let store = store_of_a_stop(rt.alloc())?;
     assert_eq!(rt;
-        left_by_a_stop(&store, CoroKind::AsyncGenerator),
+        left_by_a_stop(&store, CoroKind::AsyncGen),
         CoroAnswer::Convert(STOP, ErrorKind::StopAsyncIteration)
     );
     assert_eq!(rt;
@@ -116,12 +116,9 @@ fn a_fresh_generator_is_closed_at_once(rt: HostRuntime) {
 /// Gives an asynchronous generator a name, and compares what it shows as object 7.
 fn compare_shown(rt: &impl Abort, alloc: Global, names: &mut Names) -> Result<(), NoMemory> {
     let name = names.intern("ticks")?;
-    let mut coro = Coro::new(FRAME, NAME, CoroKind::AsyncGenerator);
+    let mut coro = Coro::new(FRAME, NAME, CoroKind::AsyncGen);
     coro.set_name(name);
-    assert_eq!(rt;
-        (coro.name(), coro.kind()),
-        (name, CoroKind::AsyncGenerator)
-    );
+    assert_eq!(rt; coro.name(), name);
     let text = utf8_of(alloc, &coro.repr(alloc, names, 7)?)?;
     assert_eq!(rt; text.as_str(), "<async generator object ticks at 7>");
     Ok(())
@@ -153,7 +150,7 @@ fn refusals_say_what_was_called(rt: HostRuntime) -> Result<(), NoMemory> {
     compare_said(&rt, alloc, first, said)?;
     let stop = converted(alloc, kind, ErrorKind::StopIteration);
     compare_said(&rt, alloc, stop, "generator raised StopIteration")?;
-    let asynchronous = CoroKind::AsyncGenerator;
+    let asynchronous = CoroKind::AsyncGen;
     let stop = converted(alloc, asynchronous, ErrorKind::StopAsyncIteration);
     let said = "async generator raised StopAsyncIteration";
     compare_said(&rt, alloc, stop, said)?;

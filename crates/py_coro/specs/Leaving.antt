@@ -41,7 +41,7 @@ stop_of false false = None
 abbrev pub ConvertsAs : List Payload → CoroKind → PyBaseExceptionRef → Option ErrorKind → Type 0
 ConvertsAs objects kind.Generator e stop = (stops : Bool) × IsOfClass objects e StopIteration stops × (stop ≡ stop_of stops false)
 ConvertsAs objects kind.Coroutine e stop = (stops : Bool) × IsOfClass objects e StopIteration stops × (stop ≡ stop_of stops false)
-ConvertsAs objects kind.AsyncGenerator e stop =
+ConvertsAs objects kind.AsyncGen e stop =
     (stops : Bool) × (stops_async : Bool) × IsOfClass objects e StopIteration stops × IsOfClass objects e StopAsyncIteration stops_async × (stop ≡ stop_of stops stops_async)
 
 -- what a yield is answered by

@@ -14,7 +14,7 @@ use Rattle.py_coro.specs.declared.refusal.CoroRefusal.TheVariants as refusal
 abbrev pub word_of : CoroKind → Name
 word_of kind.Generator = codes "generator"
 word_of kind.Coroutine = codes "coroutine"
-word_of kind.AsyncGenerator = codes "async generator"
+word_of kind.AsyncGen = codes "async generator"
 
 -- the text of the refusal of what would be too deep, before where that is
 abbrev pub too_deep : Name

@@ -119,13 +119,6 @@ impl Coro {
         self.name
     }
 
-    /// What it is seen as: a generator, a coroutine or an asynchronous generator.
-    pub fn kind(&self) -> CoroKind
-        ensures { result ≡ self.now.kind }
-    {
-        self.kind
-    }
-
     /// Gives it another name to show.
     pub fn set_name(&mut self, name: NameId)
         ensures { self.new ≡ record self.old { name = name } }

@@ -124,7 +124,7 @@ fn converted_as(store: &Store, kind: CoroKind, exc: PyBaseExceptionRef) -> Optio
     match kind {
         CoroKind::Generator => stop_of(stops, false),
         CoroKind::Coroutine => stop_of(stops, false),
-        CoroKind::AsyncGenerator => {
+        CoroKind::AsyncGen => {
             let stops_async = is_of_class(store, exc, ErrorKind::StopAsyncIteration);
             stop_of(stops, stops_async)
         }

@@ -78,7 +78,7 @@ pub(crate) fn word(kind: CoroKind) -> &'static [u8]
     match kind {
         CoroKind::Generator => b"generator",
         CoroKind::Coroutine => b"coroutine",
-        CoroKind::AsyncGenerator => b"async generator",
+        CoroKind::AsyncGen => b"async generator",
     }
 }
 

@@ -145,7 +145,7 @@ module _ (S : Relation) (objects objects' : List Payload) (alike : AreAlike S ob
       is ∙ (ap (λ (x : Bool). stop_of x false) (of_class_agree e f StopIteration stops stops' same is_stop is_stop') ∙ sym is')
   converted_agree coro.Coroutine e f stop stop' same (stops, is_stop, is) (stops', is_stop', is') =
       is ∙ (ap (λ (x : Bool). stop_of x false) (of_class_agree e f StopIteration stops stops' same is_stop is_stop') ∙ sym is')
-  converted_agree coro.AsyncGenerator e f stop stop' same (stops, stops_async, is_stop, is_async, is) (stops', stops_async', is_stop', is_async', is') =
+  converted_agree coro.AsyncGen e f stop stop' same (stops, stops_async, is_stop, is_async, is) (stops', stops_async', is_stop', is_async', is') =
       is
       ∙ (ap (λ (x : Bool). stop_of x stops_async) (of_class_agree e f StopIteration stops stops' same is_stop is_stop')
       ∙ (ap (λ (x : Bool). stop_of stops' x) (of_class_agree e f StopAsyncIteration stops_async stops_async' same is_async is_async') ∙ sym is'))

@@ -11,7 +11,7 @@ use Rattle.py_objects.specs.Objects.{Name, HasPayload, class_object}
 abbrev pub kind_name : CoroKind → Name
 kind_name coro.Generator = codes "generator"
 kind_name coro.Coroutine = codes "coroutine"
-kind_name coro.AsyncGenerator = codes "async_generator"
+kind_name coro.AsyncGen = codes "async_generator"
 
 -- the name of a payload's type; an exception's is the name of its class
 abbrev pub IsTypeName : List Payload → Payload → Name → Type 0

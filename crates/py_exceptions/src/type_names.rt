@@ -41,7 +41,7 @@ fn kind_name(alloc: Global, kind: CoroKind) -> Result<PyText, NoMemory>
     match kind {
         CoroKind::Generator => text_of(alloc, b"generator"),
         CoroKind::Coroutine => text_of(alloc, b"coroutine"),
-        CoroKind::AsyncGenerator => text_of(alloc, b"async_generator"),
+        CoroKind::AsyncGen => text_of(alloc, b"async_generator"),
     }
 }
 

@@ -78,7 +78,7 @@ dict_of (Some f) ps = codes "{" ++ (joined (pair_by f) ps ++ codes "}")
 abbrev pub coro_front : CoroKind → List ℕ
 coro_front kind.Generator = codes "<generator object "
 coro_front kind.Coroutine = codes "<coroutine object "
-coro_front kind.AsyncGenerator = codes "<async generator object "
+coro_front kind.AsyncGen = codes "<async generator object "
 
 -- a suspended activation: its name, and its number
 abbrev pub coro_of : CoroBody → List ℕ

@@ -130,7 +130,7 @@ impl ManagerBody {
 pub enum CoroKind {
     Generator,
     Coroutine,
-    AsyncGenerator,
+    AsyncGen,
 }
 
 /// A generator, with the number of its activation.

@@ -4,7 +4,7 @@ use Rattle.py_code.specs.declared.code.PyCode.{PyCode}
 use Rattle.py_code.specs.declared.flags.TheConstants.CodeFlags.{IS_GENERATOR, IS_COROUTINE}
 use Rattle.py_check.specs.WholeCode.{counts_if}
 use Rattle.py_objects.specs.declared.payload.CoroKind.{CoroKind}
-use Rattle.py_objects.specs.declared.payload.CoroKind.TheVariants.{Generator, Coroutine, AsyncGenerator}
+use Rattle.py_objects.specs.declared.payload.CoroKind.TheVariants.{Generator, Coroutine, AsyncGen}
 use Rattle.py_objects.specs.Objects.{Name}
 use Rattle.py_rows.specs.Asked.{name_in}
 
@@ -23,7 +23,7 @@ abbrev pub kind_by : (generator coroutine : Bool) → Option CoroKind
 kind_by false false = None
 kind_by true false = Some Generator
 kind_by false true = Some Coroutine
-kind_by true true = Some AsyncGenerator
+kind_by true true = Some AsyncGen
 
 -- those of a code with these flags
 abbrev pub kind_of : (flags : ℕ) → Option CoroKind

@@ -100,7 +100,7 @@ of_class_grows objects objects' e kind b grows (body, has, derived) =
 converted_grows : (objects objects' : List Payload) (kind : CoroKind) (e : PyBaseExceptionRef) (stop : Option ErrorKind) → GrowsPlainly objects objects' → ConvertsAs objects kind e stop → ConvertsAs objects' kind e stop
 converted_grows objects objects' coro.Generator e stop grows (stops, a_stop, is) = (stops, of_class_grows objects objects' e StopIteration stops grows a_stop, is)
 converted_grows objects objects' coro.Coroutine e stop grows (stops, a_stop, is) = (stops, of_class_grows objects objects' e StopIteration stops grows a_stop, is)
-converted_grows objects objects' coro.AsyncGenerator e stop grows (stops, stops_async, a_stop, an_async, is) =
+converted_grows objects objects' coro.AsyncGen e stop grows (stops, stops_async, a_stop, an_async, is) =
     (stops, stops_async, of_class_grows objects objects' e StopIteration stops grows a_stop, of_class_grows objects objects' e StopAsyncIteration stops_async grows an_async, is)
 
 -- so does what a generator answers that was left

@@ -189,7 +189,7 @@ fn coro_front(kind: CoroKind) -> &'static str
     match kind {
         CoroKind::Generator => "<generator object ",
         CoroKind::Coroutine => "<coroutine object ",
-        CoroKind::AsyncGenerator => "<async generator object ",
+        CoroKind::AsyncGen => "<async generator object ",
     }
 }
 
