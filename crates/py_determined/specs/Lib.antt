@@ -6,3 +6,5 @@ pub mod Sameness
 pub mod Events
 -- which objects two runs relate
 pub mod Related
+-- what follows
+pub mod Laws

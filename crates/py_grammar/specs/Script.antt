@@ -66,3 +66,15 @@ IsBadLine bytes k = IsFirstBad (lines bytes) k ⊎ IsLeftOpen (lines bytes) k
 -- the bytes are this script
 abbrev pub IsScript : List ℕ → Script → Type 0
 IsScript bytes s = Spells (lines bytes) (decls_of s) s.drives
+
+-- bytes spell some script
+abbrev pub SpellsSome : List ℕ → Type 0
+SpellsSome bytes = (decls : List Decl) × (drives : List DriveLine) × Spells (lines bytes) decls drives
+
+-- they have a bad line
+abbrev pub HasBadLine : List ℕ → Type 0
+HasBadLine bytes = (k : ℕ) × IsBadLine bytes k
+
+-- two scripts that they are have one tree
+abbrev pub HasOneTree : List ℕ → Type 0
+HasOneTree bytes = (s : Script) → (t : Script) → IsScript bytes s → IsScript bytes t → (decls_of s ≡ decls_of t) × (s.drives ≡ t.drives)

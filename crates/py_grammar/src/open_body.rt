@@ -8,7 +8,7 @@ ghost use Rattle.py_lines.specs.declared.line.Line.TheVariants.{Plain as PlainLi
 ghost use Rattle.py_grammar.specs.Rules.{is_loop as is_loop_head};
 ghost use Rattle.py_grammar.specs.Reader.{began, closed, else_behind, ended, except_behind, finally_behind, function_of, goes_on, inside as is_inside, only_if, opened, opener, plain_form, turned_by};
 ghost use Rattle.py_tree.specs.Suites.{with_clause as is_with_clause};
-ghost use Rattle.py_grammar.specs.Reading.{began_of, closing_of, open_of};
+ghost use Rattle.py_grammar.specs.Reading.{began_of, closing_of, open_of, GoesOn};
 
 use crate::rules::{Inside, may_hold, may_open};
 use py_code::{NoMemory, PyText};
@@ -280,7 +280,7 @@ impl OpenBody {
 
     /// Takes one more plain statement, where it is allowed.
     pub fn hold(&mut self, number: u32, plain: Plain) -> Result<bool, NoMemory>
-        ensures taken { IfOk result (λ taken. only_if taken (open_of self.new) ≡ goes_on (open_of self.old) number (PlainLine plain)) }
+        ensures taken { IfOk result (λ taken. GoesOn self.old self.new taken number (PlainLine plain)) }
         ensures name { self.new.name ≡ self.old.name }
     {
         if !may_hold(self.inside(), &plain) {
@@ -295,7 +295,7 @@ impl OpenBody {
     /// Opens one more block, where it is allowed.
     #[tactic(auto, using(crate::proofs::Stacks::stack_push))]
     pub fn open(&mut self, alloc: Global, number: u32, head: Head) -> Result<bool, NoMemory>
-        ensures taken { IfOk result (λ taken. only_if taken (open_of self.new) ≡ goes_on (open_of self.old) number (OpensLine head)) }
+        ensures taken { IfOk result (λ taken. GoesOn self.old self.new taken number (OpensLine head)) }
         ensures name { self.new.name ≡ self.old.name }
     {
         if !may_open(self.inside()) {
@@ -314,7 +314,7 @@ impl OpenBody {
     /// Turns the innermost block to its next suite, where it may turn so; else the block is lost.
     #[tactic(auto, using(crate::proofs::Stacks::stack_push))]
     pub fn turn(&mut self, alloc: Global, number: u32, turn: Turn) -> Result<bool, NoMemory>
-        ensures taken { IfOk result (λ taken. only_if taken (open_of self.new) ≡ goes_on (open_of self.old) number (TurnsLine turn)) }
+        ensures taken { IfOk result (λ taken. GoesOn self.old self.new taken number (TurnsLine turn)) }
         ensures name { self.new.name ≡ self.old.name }
     {
         let Some(block) = self.blocks.pop() else {

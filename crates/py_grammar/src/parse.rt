@@ -32,7 +32,7 @@ fn push_bytes(
     line: &[u8],
 ) -> Result<bool, NoMemory>
     requires { TableIsKept reader.old }
-    ensures taken { IfOk result (λ taken. (read : Read) × IsReadAs line.now read × (only_if taken (state_of reader.new) ≡ takes_line (state_of reader.old) number read)) }
+    ensures taken { IfOk result (λ taken. TakesBytes reader.old reader.new taken number line.now) }
     ensures kept { OnOk result (TableIsKept reader.new) }
 {
     match read_line(alloc, line)? {
@@ -78,8 +78,8 @@ fn parse_lines(alloc: Global, bytes: &[u8]) -> Result<Script, ParseFault>
     requires { length bytes.now ≤ 1048576 }
     ensures ok { IfOk result (λ script. IsScript bytes.now script) }
     ensures malformed { (k : ℕ) → result ≡ Err (Malformed k) → IsBadLine bytes.now k }
-    ensures only_scripts { (script : ScriptOf) → IsScript bytes.now script → (result ≡ Err OutOfMemory) ⊎ IsOk result }
-    ensures bad { (k : ℕ) → IsBadLine bytes.now k → (result ≡ Err OutOfMemory) ⊎ (result ≡ Err (Malformed k)) }
+    ensures only_scripts { (script : ScriptOf) → IsScript bytes.now script → OnlyMemoryHides result (IsOk result) }
+    ensures bad { (k : ℕ) → IsBadLine bytes.now k → OnlyMemoryHides result (result ≡ Err (Malformed k)) }
 {
     read_lines(alloc, bytes)
 }
@@ -105,8 +105,8 @@ pub fn parse_script(alloc: Global, bytes: &[u8]) -> Result<Script, ParseFault>
     ensures malformed { (k : ℕ) → result ≡ Err (Malformed k) → IsBadLine bytes.now k }
 
     // Memory is the only reason for which it refuses a script, or doesn't name the bad line.
-    ensures only_scripts { (script : ScriptOf) → IsScript bytes.now script → (result ≡ Err OutOfMemory) ⊎ IsOk result }
-    ensures bad { (k : ℕ) → IsBadLine bytes.now k → (result ≡ Err OutOfMemory) ⊎ (result ≡ Err (Malformed k)) }
+    ensures only_scripts { (script : ScriptOf) → IsScript bytes.now script → OnlyMemoryHides result (IsOk result) }
+    ensures bad { (k : ℕ) → IsBadLine bytes.now k → OnlyMemoryHides result (result ≡ Err (Malformed k)) }
 {
     let mut script = parse_lines(alloc, bytes)?;
     laws_of_lines();
@@ -116,8 +116,8 @@ pub fn parse_script(alloc: Global, bytes: &[u8]) -> Result<Script, ParseFault>
 
 /// What the grammar keeps: bytes are one script or have one bad line, never both.
 pub fn one_script(bytes: &[u8])
-    ensures script_or_bad { ((decls : List Decl) × (drives : List DriveLine) × Spells (lines bytes.now) decls drives) ⊎ ((k : ℕ) × IsBadLine bytes.now k) }
-    ensures one_tree { (s : ScriptOf) → (t : ScriptOf) → IsScript bytes.now s → IsScript bytes.now t → (decls_of s ≡ decls_of t) × (s.drives ≡ t.drives) }
+    ensures script_or_bad { SpellsSome bytes.now ⊎ HasBadLine bytes.now }
+    ensures one_tree { HasOneTree bytes.now }
     ensures not_both { (s : ScriptOf) → (k : ℕ) → IsScript bytes.now s → IsBadLine bytes.now k → ⊥ }
     ensures one_bad { (j : ℕ) → (k : ℕ) → IsBadLine bytes.now j → IsBadLine bytes.now k → j ≡ k }
 {

@@ -5,7 +5,7 @@ ghost use Rattle.py_lines.specs.declared.header.Header.TheVariants.{Class as Cla
 ghost use Rattle.py_lines.specs.declared.line.Line.TheVariants.{Drive as DrivenLine, End as EndLine, Header as HeaderLine, Opens as OpensLine, Plain as PlainLine, Turns as TurnsLine};
 ghost use Rattle.py_grammar.specs.Script.{decls_of};
 ghost use Rattle.py_grammar.specs.Reader.{closes, function_of, headed, only_if, start, whole_body};
-ghost use Rattle.py_grammar.specs.Reading.{state_of, ComesTo, IsTaken};
+ghost use Rattle.py_grammar.specs.Reading.{state_of, ComesTo, IsDeclared, IsHeaded, IsTaken};
 ghost use Rattle.py_grammar.specs.Tables.{TableIsKept};
 
 use crate::fault::ParseFault;
@@ -56,7 +56,7 @@ impl Reader {
     /// Declares the function that the open body is at its end, where one is open.
     fn declare_function(&mut self) -> Result<bool, NoMemory>
         requires { TableIsKept self.old }
-        ensures taken { IfOk result (λ taken. only_if taken (state_of self.new) ≡ option_map (λ body. closes (decls_of self.old.whole) self.old.whole.drives (whole_body (function_of body))) (state_of self.old).inside) }
+        ensures taken { IfOk result (λ taken. IsDeclared self.old self.new taken) }
         ensures kept { OnOk result (TableIsKept self.new) }
     {
         let Some(body) = self.inside.take() else {
@@ -141,7 +141,7 @@ impl Reader {
     ) -> Result<bool, NoMemory>
         requires kept { TableIsKept self.old }
         requires outside { self.old.inside ≡ None }
-        ensures taken { IfOk result (λ taken. only_if taken (state_of self.new) ≡ headed (decls_of self.old.whole) self.old.whole.drives number (DefHeader kind name params)) }
+        ensures taken { IfOk result (λ taken. IsHeaded self.old self.new taken number (DefHeader kind name params)) }
         ensures kept { OnOk result (TableIsKept self.new) }
     {
         if !may_declare(&self.table.names, &name, &params) {
@@ -157,7 +157,7 @@ impl Reader {
     fn declare_class(&mut self, name: PyText, base: PyText) -> Result<bool, NoMemory>
         requires kept { TableIsKept self.old }
         requires outside { self.old.inside ≡ None }
-        ensures taken { IfOk result (λ taken. only_if taken (state_of self.new) ≡ headed (decls_of self.old.whole) self.old.whole.drives 0 (ClassHeader name base)) }
+        ensures taken { IfOk result (λ taken. IsHeaded self.old self.new taken 0 (ClassHeader name base)) }
         ensures kept { OnOk result (TableIsKept self.new) }
     {
         if !may_derive(&self.table, &name, &base) {
@@ -180,7 +180,7 @@ impl Reader {
     ) -> Result<bool, NoMemory>
         requires kept { TableIsKept self.old }
         requires outside { self.old.inside ≡ None }
-        ensures taken { IfOk result (λ taken. only_if taken (state_of self.new) ≡ headed (decls_of self.old.whole) self.old.whole.drives 0 (ManagerHeader name enter exit)) }
+        ensures taken { IfOk result (λ taken. IsHeaded self.old self.new taken 0 (ManagerHeader name enter exit)) }
         ensures kept { OnOk result (TableIsKept self.new) }
     {
         if !may_manage(&self.table, &name, &enter, &exit) {

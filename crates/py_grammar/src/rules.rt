@@ -100,10 +100,10 @@ pub fn may_manage(table: &Table, name: &PyText, enter: &PyText, exit: &PyText) -
 }
 
 /// Whether a number is that of one of so many drives.
-fn numbers_drive(made: usize, number: u128) -> bool
+fn numbers_drive(made: usize, number: u64) -> bool
     ensures { result ≡ numbers_a_drive made number }
 {
-    1 <= number && number <= made as u128
+    1 <= number && number <= made as u64
 }
 
 /// Whether a drive may have this argument, behind declarations with the names of the table and so many drives.
@@ -116,7 +116,7 @@ fn is_drivable(names: &NameSet, made: usize, atom: &DriveAtom) -> bool
         DriveAtom::Int(_) => true,
         DriveAtom::Str(_) => true,
         DriveAtom::Name(name) => names.contains(name) || is_builtin_class(name),
-        DriveAtom::Drive(number) => numbers_drive(made, u128::from(*number)),
+        DriveAtom::Drive(number) => numbers_drive(made, *number),
     }
 }
 

@@ -1,5 +1,5 @@
 -- Of which class a line is, by the tokens that it prints.
-use Rattle.std.proofs.Common.{◌≡◌, ◌≢◌, List, ◌∷◌, Some, None, refl, sym, ap, ◌∙◌}
+use Rattle.std.proofs.Common.{◌≡◌, ◌≢◌, ℕ, Bool, true, false, List, [], ◌∷◌, Some, None, refl, sym, ap, ◌∙◌}
 use Rattle.std.specs.Prelude.{Option}
 use Rattle.py_tree.specs.declared.body.BodyKind.TheVariants as body
 use Rattle.py_lines.specs.declared.drive.DriveLine.{DriveLine}
@@ -17,7 +17,9 @@ use Rattle.py_lines.specs.declared.line.Line.TheVariants as line
 use Rattle.py_lines.specs.declared.plain.Plain.{Plain}
 use Rattle.py_lines.specs.declared.plain.Plain.TheVariants as plain
 use Rattle.py_lines.specs.Meaning.{Meaning, Equals, Key, Word}
-use Rattle.py_lines.specs.Printing.{plain_tokens, head_tokens, turn_tokens, header_tokens, drive_tokens, line_tokens}
+use Rattle.py_lines.specs.Printing.{drive_token, number_token, plain_tokens, head_tokens, turn_tokens, header_tokens, thrown_tokens, drive_tokens, line_tokens}
+use Rattle.py_lines.specs.Words.{is_short}
+use Rattle.py_lines.proofs.Counts.{printed}
 
 -- the classes of lines
 pub data Class : Type 0 where
@@ -75,9 +77,20 @@ header_class (header.Def body.Function f ps) = refl
 header_class (header.Def body.Generator f ps) = refl
 header_class h = refl
 
+-- a count is no =
+count_class : (n : ℕ) (ts : List Meaning) → word_class (number_token n ∷ ts) ≡ Drives
+count_class n ts = at (is_short n)
+  where
+    at : (short : Bool) → word_class (printed short n ∷ ts) ≡ Drives
+    at true = refl
+    at false = refl
+
 drive_class : (d : DriveLine) → tokens_class (drive_tokens d) ≡ Some Drives
 drive_class (drive_line.Call f args) = refl
-drive_class d = refl
+drive_class (drive_line.Next n) = ap Some (count_class n [])
+drive_class (drive_line.Send n a) = ap Some (count_class n (drive_token a ∷ []))
+drive_class (drive_line.Throw n c v) = ap Some (count_class n (Word c ∷ thrown_tokens v))
+drive_class (drive_line.Close n) = ap Some (count_class n [])
 
 pub class_shown : (l : Line) → tokens_class (line_tokens l) ≡ Some (line_class l)
 class_shown line.End = refl

@@ -4,6 +4,7 @@ mod Numbers
 mod Texts
 mod Comments
 -- what readers find, and what they don't
+mod Counts
 mod Finds
 mod Finders
 mod Eachs

@@ -29,6 +29,7 @@ use Rattle.py_lines.specs.declared.plain.Plain.TheVariants as plain
 use Rattle.py_lines.specs.Meaning.{Meaning, Close, Key, Word, Number, Text, Drive}
 use Rattle.py_lines.specs.Printing.{atom_token, drive_token, operation_tokens, in_parentheses, expr_tokens, plain_tokens, head_tokens, target_tokens, turn_tokens, header_tokens, thrown_tokens, drive_tokens, line_tokens}
 use Rattle.py_lines.proofs.Classes.{line_class, same_class}
+use Rattle.py_lines.proofs.Counts.{same_count}
 
 -- the atom that prints a token
 abbrev pub token_atom : Meaning → Option Atom
@@ -157,10 +158,10 @@ same_thrown (Some a) (Some b) e = let h : a ≡ b = same_drive_atom a b (cc) in 
 
 same_drive : (d e : DriveLine) → drive_tokens d ≡ drive_tokens e → d ≡ e
 same_drive (drive_line.Call f xs) (drive_line.Call g ys) h = let k : xs ≡ ys = same_all drive_token same_drive_atom xs ys (cc) in cc
-same_drive (drive_line.Next m) (drive_line.Next n) h = cc
-same_drive (drive_line.Send m a) (drive_line.Send n b) h = let k : a ≡ b = same_drive_atom a b (cc) in cc
-same_drive (drive_line.Throw m c v) (drive_line.Throw n d w) h = let k : v ≡ w = same_thrown v w (cc) in cc
-same_drive (drive_line.Close m) (drive_line.Close n) h = cc
+same_drive (drive_line.Next m) (drive_line.Next n) h = let k : m ≡ n = same_count m n (cc) in cc
+same_drive (drive_line.Send m a) (drive_line.Send n b) h = let j : m ≡ n = same_count m n (cc) in let k : a ≡ b = same_drive_atom a b (cc) in cc
+same_drive (drive_line.Throw m c v) (drive_line.Throw n d w) h = let j : m ≡ n = same_count m n (cc) in let k : v ≡ w = same_thrown v w (cc) in cc
+same_drive (drive_line.Close m) (drive_line.Close n) h = let k : m ≡ n = same_count m n (cc) in cc
 same_drive d e h = absurd (other_word _ _ refl _ _ h)
 
 -- no two lines print the same tokens

@@ -1,6 +1,6 @@
 -- What line prints some tokens, or that none does, from the same of its parts.
 use Rattle.std.proofs.Common.{◌≡◌, ◌≢◌, ℕ, List, [], ◌∷◌, ◌++◌, Bool, Some, None, true, false, refl, sym, ap, ◌∙◌, bytes_eq, map}
-use Rattle.std.specs.Prelude.{codes, pos, negsuc}
+use Rattle.std.specs.Prelude.{codes, pos}
 use Rattle.std.proofs.lemmas.List.{append_cancel_right}
 use Rattle.std.proofs.lemmas.Slice.Eq.{bytes_eq-Decides}
 use Rattle.py_tree.specs.declared.body.BodyKind.{BodyKind}
@@ -20,10 +20,12 @@ use Rattle.py_lines.specs.declared.keyword.Keyword.TheVariants as keyword
 use Rattle.py_lines.specs.declared.line.Line.TheVariants as line
 use Rattle.py_lines.specs.declared.plain.Plain.TheVariants as plain
 use Rattle.py_lines.specs.Keywords.{keyword_of, keyword_text}
-use Rattle.py_lines.specs.Meaning.{Meaning, Open, Close, Equals, Key, Word, Number, Text, Drive}
+use Rattle.py_lines.specs.Meaning.{Meaning, Open, Close, Equals, Key, Word, Number, Text, Drive, Beyond}
+use Rattle.py_lines.specs.Words.{is_short}
 use Rattle.py_lines.specs.Printing.{atom_token, drive_token, number_token, operation_tokens, in_parentheses, expr_tokens, plain_tokens, head_tokens, target_tokens, turn_tokens, body_keyword, header_tokens, thrown_tokens, drive_tokens, line_tokens}
 use Rattle.py_lines.proofs.Finders.{Finds, Found, Missing, or_else, find_within, find_behind, find_nothing, find_both, find_lone, find_all}
 use Rattle.py_lines.proofs.Finds.{no_line}
+use Rattle.py_lines.proofs.Counts.{no_count, no_other, printed}
 use Rattle.py_lines.proofs.OneToOne.{no_atom, no_drive_atom}
 
 -- one token: a name, an atom, an argument of a drive, or the number of one
@@ -51,9 +53,17 @@ find_argument (Drive n) = Found (drive.Drive n) refl
 find_argument t = Missing (no_drive_atom t refl)
 
 find_number : (t : Meaning) → Finds number_token t
-find_number (Number (pos n)) = Found n refl
-find_number (Number (negsuc n)) = Missing λ m e. cc
-find_number t = Missing λ m e. cc
+find_number (Number (pos n)) = at (is_short n) refl
+  where
+    at : (short : Bool) → is_short n ≡ short → Finds number_token (Number (pos n))
+    at true is = Found n (sym (ap (λ p. printed p n) is))
+    at false is = Missing (no_other false n is (Number (pos n)) refl (λ e. cc))
+find_number (Beyond n) = at (is_short n) refl
+  where
+    at : (short : Bool) → is_short n ≡ short → Finds number_token (Beyond n)
+    at true is = Missing (no_other true n is (Beyond n) refl (λ e. cc))
+    at false is = Found n (sym (ap (λ p. printed p n) is))
+find_number t = Missing (no_count t refl)
 
 -- the tokens behind a word
 same_word : (v w : List ℕ) → Dec (v ≡ w)

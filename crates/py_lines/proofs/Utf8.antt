@@ -35,10 +35,11 @@ use Rattle.py_code.specs.Range.{in_range}
 use Rattle.py_lines.specs.Comments.{is_comment, is_utf8}
 use Rattle.py_lines.specs.Keywords.{keyword_of, keyword_text, all_keywords}
 use Rattle.py_lines.specs.Meaning.{Meaning, Key, Number, Text, Drive, Unknown, Word as Named, literal_meaning, word_meaning, meaning, meant}
-use Rattle.py_lines.specs.Printing.{atom_token, drive_token, operation_tokens, in_parentheses, expr_tokens, plain_tokens, target_tokens, head_tokens, turn_tokens, header_tokens, thrown_tokens, drive_tokens, line_tokens}
+use Rattle.py_lines.specs.Printing.{atom_token, drive_token, number_token, operation_tokens, in_parentheses, expr_tokens, plain_tokens, target_tokens, head_tokens, turn_tokens, header_tokens, thrown_tokens, drive_tokens, line_tokens}
 use Rattle.py_lines.specs.Reading.{IsReadAs, are_none}
 use Rattle.py_lines.specs.Tokens.{Lexeme, Word, Open, Close, Equals, is_blank, is_mark, is_quote, mark_of, cut_from, Between, Quoted, Inside, tokens_of, word_end, started, longer}
 use Rattle.py_lines.specs.Words.{between, is_digit, is_short, value_of, starts_name, continues_name, is_spelled_as_name, are_digits, digits_number, passing, signed_number, number_of, short_number, drive_number, stands_in_text, closed_text, quoted_text}
+use Rattle.py_lines.proofs.Counts.{printed}
 
 -- ---- bytes of ASCII
 
@@ -337,12 +338,19 @@ thrown_known : (a : Option DriveAtom) → AllKnown (thrown_tokens a)
 thrown_known None = refl
 thrown_known (Some a) = known_and (drive_token a) [] (argument_known a) refl
 
+number_known : (n : ℕ) → is_known (number_token n) ≡ true
+number_known n = at (is_short n)
+  where
+    at : (short : Bool) → is_known (printed short n) ≡ true
+    at true = refl
+    at false = refl
+
 drive_known : (d : DriveLine) → AllKnown (drive_tokens d)
 drive_known (drive.Call f args) = known_map drive_token argument_known args
-drive_known (drive.Next n) = refl
-drive_known (drive.Send n a) = known_and (drive_token a) [] (argument_known a) refl
-drive_known (drive.Throw n c v) = thrown_known v
-drive_known (drive.Close n) = refl
+drive_known (drive.Next n) = known_and (number_token n) [] (number_known n) refl
+drive_known (drive.Send n a) = known_and (number_token n) (drive_token a ∷ []) (number_known n) (known_and (drive_token a) [] (argument_known a) refl)
+drive_known (drive.Throw n c v) = known_and (number_token n) (Named c ∷ thrown_tokens v) (number_known n) (thrown_known v)
+drive_known (drive.Close n) = known_and (number_token n) [] (number_known n) refl
 
 line_known : (l : Line) → AllKnown (line_tokens l)
 line_known line.End = refl

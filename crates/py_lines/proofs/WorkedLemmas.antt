@@ -1,5 +1,5 @@
 -- How small lines read, by computing their tokens.
-use Rattle.std.proofs.Common.{◌≢◌, [], ◌∷◌, Some, None, refl}
+use Rattle.std.proofs.Common.{◌≡◌, ◌≢◌, ◌^◌, [], ◌∷◌, false, Some, None, refl}
 use Rattle.std.specs.Prelude.{codes, pos, neg_ℤ}
 use Rattle.py_tree.specs.declared.body.BodyKind.TheVariants as body
 use Rattle.py_lines.specs.declared.drive.DriveLine.{DriveLine}
@@ -12,9 +12,10 @@ use Rattle.py_lines.specs.declared.keyword.Keyword.TheVariants as keyword
 use Rattle.py_lines.specs.declared.plain.Plain.{Plain}
 use Rattle.py_lines.specs.declared.plain.Plain.TheVariants as plain
 use Rattle.py_lines.specs.Meaning.{Equals, Key, Word, Number, Unknown}
-use Rattle.py_lines.specs.Printing.{plain_tokens, head_tokens, header_tokens, drive_tokens}
-use Rattle.py_lines.specs.Worked.{AddIsAName, AsIsAName, CallIsADrive, CallIsAName, ClassOfItself, ClassOfNothing, CloseIsAName, KeywordIsNoName, ManagerOfTwo, NextNothing, NoLargeNumber, NoNameBehindAs, NoNumberBelow, NothingBehind, NothingIsBlank, ThrowIsADrive, WithAs, WithNone, YieldIsAName}
+use Rattle.py_lines.specs.Printing.{number_token, plain_tokens, head_tokens, header_tokens, drive_tokens}
+use Rattle.py_lines.specs.Worked.{AddIsAName, AsIsAName, CallIsADrive, CallIsAName, ClassOfItself, ClassOfNothing, CloseIsAName, KeywordIsNoName, ManagerOfTwo, NextNothing, NoCountBeyond, NoLargeNumber, NoNameBehindAs, NoNumberBelow, NothingBehind, NothingIsBlank, ThrowIsADrive, WithAs, WithNone, YieldIsAName}
 use Rattle.py_lines.proofs.Classes.{no_plain, no_opening, no_header, no_drive_line}
+use Rattle.py_lines.proofs.Counts.{no_count, no_other}
 use Rattle.py_lines.proofs.OneToOne.{no_atom}
 
 pub call_is_a_name : CallIsAName
@@ -42,7 +43,16 @@ pub no_number_below : NoNumberBelow
 no_number_below = (refl, no_drive_line _ refl drives)
   where
     drives : (d : DriveLine) → Word (codes "close") ∷ Number (neg_ℤ (pos 1)) ∷ [] ≢ drive_tokens d
-    drives (drive_line.Close n) e = cc
+    drives (drive_line.Close n) e = let h : Number (neg_ℤ (pos 1)) ≡ number_token n = cc in no_count _ refl n h
+    drives d e = cc
+
+pub no_count_beyond : NoCountBeyond
+no_count_beyond = (refl, no_drive_line _ refl drives)
+  where
+    drives : (d : DriveLine) → Word (codes "next") ∷ Number (pos (2 ^ 64)) ∷ [] ≢ drive_tokens d
+    drives (drive_line.Next n) e =
+        let h : Number (pos (2 ^ 64)) ≡ number_token n = cc in
+        no_other false (2 ^ 64) refl (Number (pos (2 ^ 64))) refl (λ same. cc) n h
     drives d e = cc
 
 pub as_is_a_name : AsIsAName

@@ -17,6 +17,7 @@ pub data Meaning : Type 0 where
   Number : ℤ → Meaning  -- a whole number
   Text : List ℕ → Meaning  -- the characters between two quotes
   Drive : ℕ → Meaning  -- the drive that $ and a number name
+  Beyond : ℕ → Meaning  -- a count of more than 64 bits, which no token means
   Unknown : Meaning  -- a word that no line has
 
 -- a meaning where there is one, or else another

@@ -1,5 +1,5 @@
 -- The tokens that a line prints.
-use Rattle.std.specs.Prelude.{ℕ, List, [], ◌∷◌, ◌++◌, true, false, Option, Some, None, codes, map, pos}
+use Rattle.std.specs.Prelude.{ℕ, List, [], ◌∷◌, ◌++◌, true, false, Option, Some, None, codes, map, pos, if◌then◌else◌}
 use Rattle.py_tree.specs.declared.body.BodyKind.{BodyKind}
 use Rattle.py_tree.specs.declared.body.BodyKind.TheVariants as body
 use Rattle.py_tree.specs.declared.expr.Atom.{Atom}
@@ -25,7 +25,8 @@ use Rattle.py_lines.specs.declared.line.Line.{Line}
 use Rattle.py_lines.specs.declared.line.Line.TheVariants as line
 use Rattle.py_lines.specs.declared.plain.Plain.{Plain}
 use Rattle.py_lines.specs.declared.plain.Plain.TheVariants as plain
-use Rattle.py_lines.specs.Meaning.{Meaning, Open, Close, Equals, Key, Word, Number, Text, Drive}
+use Rattle.py_lines.specs.Meaning.{Meaning, Open, Close, Equals, Key, Word, Number, Text, Drive, Beyond}
+use Rattle.py_lines.specs.Words.{is_short}
 
 -- an atom is one token
 abbrev pub atom_token : Atom → Meaning
@@ -46,9 +47,9 @@ drive_token (drive.Str s) = Text s
 drive_token (drive.Name x) = Word x
 drive_token (drive.Drive n) = Drive n
 
--- the number of the drive that another one goes on with
+-- the number of the drive that another one goes on with, which has at most 64 bits
 abbrev pub number_token : ℕ → Meaning
-number_token n = Number (pos n)
+number_token n = if is_short n then Number (pos n) else Beyond n
 
 abbrev pub operation_tokens : Operation → List Meaning
 operation_tokens (operation.Add a b) = Word (codes "add") ∷ atom_token a ∷ atom_token b ∷ []

@@ -83,6 +83,10 @@ NothingBehind = IsReadAs (codes "show x y") Malformed
 abbrev pub NoLargeNumber : Type 0
 NoLargeNumber = IsReadAs (codes "return 170141183460469231731687303715884105728") Malformed
 
+-- nor one of more than 64 bits the number of a drive
+abbrev pub NoCountBeyond : Type 0
+NoCountBeyond = IsReadAs (codes "next 18446744073709551616") Malformed
+
 -- blanks alone say nothing
 abbrev pub NothingIsBlank : Type 0
 NothingIsBlank = IsReadAs (codes "  ") Blank

@@ -37,15 +37,15 @@ pub type DriveAtomList = ItemList<DriveAtom>;
 pub enum DriveLine {
     /// `call f a ..`.
     Call(PyText, DriveAtomList),
-    /// `next N`: what the drive of this number returned goes on. Any number up to 2^127 - 1 may be spelled; whether it is a
+    /// `next N`: what the drive of this number returned goes on. Any number of at most 64 bits may be spelled; whether it is a
     /// drive's the grammar says.
-    Next(u128),
+    Next(u64),
     /// `send N a`: it goes on with a value.
-    Send(u128, DriveAtom),
+    Send(u64, DriveAtom),
     /// `throw N C` or `throw N C a`: an exception of a class is thrown into it, with a value or without.
-    Throw(u128, PyText, Option<DriveAtom>),
+    Throw(u64, PyText, Option<DriveAtom>),
     /// `close N`: it is closed.
-    Close(u128),
+    Close(u64),
 }
 
 impl DriveAtom {
@@ -120,17 +120,17 @@ fn call_of(alloc: Global, tokens: &[Sense<'_>]) -> Result<Option<DriveLine>, NoM
 }
 
 /// The number of a drive that a token is.
-fn number_of(token: &Sense<'_>) -> Option<u128>
+fn number_of(token: &Sense<'_>) -> Option<u64>
     ensures { Prints number_token (meaning_of token.now) result }
 {
     let Sense::Number(number) = token else {
         return None;
     };
-    u128::try_from(*number).ok()
+    u64::try_from(*number).ok()
 }
 
 /// The number of a drive that is the only token.
-fn lone_number(tokens: &[Sense<'_>]) -> Option<u128>
+fn lone_number(tokens: &[Sense<'_>]) -> Option<u64>
     ensures { Prints (λ n. number_token n ∷ []) (map meaning_of tokens.now) result }
 {
     match tokens {
@@ -175,7 +175,7 @@ fn close_of(tokens: &[Sense<'_>]) -> Option<DriveLine>
 fn number_and_atom(
     alloc: Global,
     tokens: &[Sense<'_>],
-) -> Result<Option<(u128, DriveAtom)>, NoMemory>
+) -> Result<Option<(u64, DriveAtom)>, NoMemory>
     ensures { IfOk result (Prints (λ p. number_token p.0 ∷ drive_token p.1 ∷ []) (map meaning_of tokens.now)) }
 {
     let Some((first, rest)) = tokens.split_first() else {
@@ -233,11 +233,7 @@ fn class_and_value(
 }
 
 /// The drive that a number and the tokens behind it make, which stand behind a `throw`.
-fn throw_at(
-    alloc: Global,
-    number: u128,
-    tokens: &[Sense<'_>],
-) -> Result<Option<DriveLine>, NoMemory>
+fn throw_at(alloc: Global, number: u64, tokens: &[Sense<'_>]) -> Result<Option<DriveLine>, NoMemory>
     ensures { IfOk result (Prints drive_tokens (Word (codes "throw") ∷ number_token number ∷ map meaning_of tokens.now)) }
 {
     let Some((class, value)) = class_and_value(alloc, tokens)? else {

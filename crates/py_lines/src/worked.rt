@@ -1,6 +1,6 @@
 //! Small lines, worked by hand.
 
-ghost use Rattle.py_lines.specs.Worked.{AddIsAName, AsIsAName, CallIsADrive, CallIsAName, ClassOfItself, ClassOfNothing, CloseIsAName, KeywordIsNoName, ManagerOfTwo, NextNothing, NoLargeNumber, NoNameBehindAs, NoNumberBelow, NothingBehind, NothingIsBlank, ThrowIsADrive, WithAs, WithNone, YieldIsAName};
+ghost use Rattle.py_lines.specs.Worked.{AddIsAName, AsIsAName, CallIsADrive, CallIsAName, ClassOfItself, ClassOfNothing, CloseIsAName, KeywordIsNoName, ManagerOfTwo, NextNothing, NoCountBeyond, NoLargeNumber, NoNameBehindAs, NoNumberBelow, NothingBehind, NothingIsBlank, ThrowIsADrive, WithAs, WithNone, YieldIsAName};
 
 /// States how small lines read, and does nothing.
 pub fn worked_lines()
@@ -12,6 +12,7 @@ pub fn worked_lines()
     ensures throw_is_a_drive { ThrowIsADrive }
     ensures next_nothing { NextNothing }
     ensures no_number_below { NoNumberBelow }
+    ensures no_count_beyond { NoCountBeyond }
     ensures as_is_a_name { AsIsAName }
     ensures with_as { WithAs }
     ensures with_none { WithNone }

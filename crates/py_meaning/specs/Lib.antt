@@ -8,6 +8,8 @@ pub mod Text
 pub mod Entries
 -- which drives the lines of a script name
 pub mod Earlier
+-- what two runs of a script have in common
+pub mod Laws
 -- scripts worked by hand
 pub mod Worked
 pub mod WorkedShow

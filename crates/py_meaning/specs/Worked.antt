@@ -1,5 +1,7 @@
 -- A script worked by hand: its journal, and lists of events that look like one and are none.
-use Rattle.std.specs.Prelude.{ℕ, ◌+◌, ◌-◌, ◌^◌, Some, None, List, [], ◌∷◌, ◌++◌, ℤ, pos, ◌≡◌, codes, length}
+use Rattle.std.specs.Prelude.{ℕ, ◌+◌, ◌-◌, ◌^◌, Some, None, List, [], ◌∷◌, ◌++◌, ℤ, pos, ◌+ℤ◌, ◌≡◌, true, false, codes, length}
+use Rattle.std.specs.Fmt.{signed_decimal}
+use Rattle.py_code.specs.Range.{in_range}
 use Rattle.py_objects.specs.declared.refs.PyBaseExceptionRef.{PyBaseExceptionRef}
 use Rattle.py_objects.specs.declared.payload.Payload.{Payload}
 use Rattle.py_objects.specs.declared.payload.Payload.TheVariants as payload
@@ -193,3 +195,25 @@ overflow_by e = raises 1 e []
 -- each whole run of the call with these numbers writes this
 abbrev pub Writes : ℤ → ℤ → List ℕ → Type 0
 Writes m n line = (store : List Payload) (es : List Event) → IsRunOf decls (call_of (codes "f") m n ∷ []) store es → IsDone 1 es → events_text store [] es ≡ line
+
+-- whatever a whole run of such a call is, it writes the sum of its numbers
+abbrev pub WritesSums : Type 0
+WritesSums = (m n : ℤ) → in_range (m +ℤ n) ≡ true → Writes m n (codes "1 returns " ++ (signed_decimal (m +ℤ n) ++ codes "\n"))
+
+-- the line of a sum that is out of range
+abbrev pub overflow_line : List ℕ
+overflow_line = codes "1 raises OverflowError: integer out of range\n"
+
+-- or that it is out of range
+abbrev pub WritesOverflows : Type 0
+WritesOverflows = (m n : ℤ) → in_range (m +ℤ n) ≡ false → Writes m n overflow_line
+
+-- a run of a drive whose sum is out of range
+abbrev pub IsOverflowRun : List Payload → List Event → Type 0
+IsOverflowRun store es = IsRunOf decls (overflowing ∷ []) store es
+
+-- a run of two such drives, in which the second one raises this exception
+abbrev pub RaisesSecond : PyBaseExceptionRef → Type 0
+RaisesSecond e =
+    IsRunOf decls (overflowing ∷ overflowing ∷ []) (raising_objects OverflowError (error_entry OverflowError ∷ []))
+    (raises 1 (exception 8) (raises 2 e []))

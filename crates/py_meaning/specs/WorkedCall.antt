@@ -2,6 +2,7 @@
 use Rattle.std.specs.Prelude.{ℕ, Some, None, List, [], ◌∷◌, ◌++◌, pos, ◌≡◌, slice_get, length, codes}
 use Rattle.py_objects.specs.declared.payload.Payload.{Payload}
 use Rattle.py_objects.specs.declared.payload.Payload.TheVariants as payload
+use Rattle.py_objects.specs.declared.payload.CoroKind.{CoroKind}
 use Rattle.py_objects.specs.declared.payload.FunctionBody.{FunctionBody}
 use Rattle.py_objects.specs.declared.error_kind.ErrorKind.TheVariants.{TypeError}
 use Rattle.py_objects.specs.declared.request.Keywords.TheVariants as keywords
@@ -22,7 +23,9 @@ use Rattle.py_grammar.specs.Grammar.{Decl, FunctionDecl}
 use Rattle.py_lines.specs.declared.drive.DriveAtom.TheVariants as argument
 use Rattle.py_lines.specs.declared.drive.DriveLine.{DriveLine}
 use Rattle.py_lines.specs.declared.drive.DriveLine.TheVariants as drive
-use Rattle.py_run.specs.Run.{Signature, Plan}
+use Rattle.py_run.specs.Calls.{Enters, CallsFunction, ComesTo}
+use Rattle.py_run.specs.Run.{Signature, Plan, depth}
+use Rattle.py_run.specs.Coming.{Past, setting}
 use Rattle.py_run.specs.First.{first_objects}
 use Rattle.py_meaning.specs.Worked.{object, exception, function_entry, exception_entry}
 
@@ -147,3 +150,29 @@ pub record IsFull (plan : Plan) (objects : List Payload) (f : Obj) (vs : List Ob
   pub signature : Signature
   pub signed : slice_get plan.signatures body.code ≡ Some signature
   pub count : length vs ≡ length signature.params
+
+-- what the drives write
+abbrev pub text : List ℕ
+text = codes "1 returns 7\n2 returns 7\n3 raises TypeError: f() takes 0 positional arguments but 1 were given\n"
+
+-- what is said of each function that gets its own number of arguments, wherever a run has come to
+abbrev pub OfFullCalls : ((plan : Plan) (p : Past) (store : List Payload) (f : Obj) (vs : List Obj) → IsFull plan store f vs → Type 0) → Type 0
+OfFullCalls claim = (plan : Plan) (p : Past) (store : List Payload) (f : Obj) (vs : List Obj) (full : IsFull plan store f vs) → claim plan p store f vs full
+
+-- its call enters it
+abbrev pub IsEntered : (plan : Plan) (p : Past) (store : List Payload) (f : Obj) (vs : List Obj) → Type 0
+IsEntered plan p store f vs = CallsFunction (setting plan p) store f vs (Enters f vs)
+
+-- one whose activations can't be suspended is entered where 999 activations run
+abbrev pub EntersAt999 : Type 0
+EntersAt999 = OfFullCalls (λ plan p store f vs full. full.signature.kind ≡ None → depth plan p.state ≡ 999 → IsEntered plan p store f vs)
+
+-- where 1000 run, its call enters nothing
+abbrev pub EntersNothingAt1000 : Type 0
+EntersNothingAt1000 =
+    OfFullCalls (λ plan p store f vs full. (g : Obj) (ws : List Obj) → full.signature.kind ≡ None → depth plan p.state ≡ 1000
+    → ComesTo (setting plan p) store (Call f vs keywords.None) (Enters g ws) → ⊥)
+
+-- the activation of a generator function is made at any depth
+abbrev pub IsMadeAtAnyDepth : Type 0
+IsMadeAtAnyDepth = OfFullCalls (λ plan p store f vs full. (kind : CoroKind) → full.signature.kind ≡ Some kind → IsEntered plan p store f vs)

@@ -15,6 +15,7 @@ use Rattle.py_tree.specs.Tree.{Tree, Do, nothing, first}
 use Rattle.py_grammar.specs.Grammar.{Decl, FunctionDecl}
 use Rattle.py_lines.specs.declared.drive.DriveLine.{DriveLine}
 use Rattle.py_lines.specs.declared.drive.DriveLine.TheVariants as drive
+use Rattle.py_meaning.specs.Whole.{IsRunOf}
 use Rattle.py_meaning.specs.Worked.{object, function_entry, loaded}
 
 -- the bytes of the script
@@ -67,3 +68,11 @@ entered_by_call = event.Drive 1 ∷ event.Make 1 (object 0) [] ∷ event.Resume 
 -- the call returns an object that is no generator
 abbrev pub returned_other : List Event
 returned_other = called (object 0) []
+
+-- in a run of the script the body yields the one object, and who resumes it gets the other
+abbrev pub YieldsAs : Obj → Obj → Type 0
+YieldsAs v w = IsRunOf decls drives objects (events_by v w)
+
+-- what it writes
+abbrev pub text : List ℕ
+text = codes "1 returns <generator object g at 1>\n2 yields 1\n"

@@ -20,6 +20,7 @@ use Rattle.py_tree.specs.Tree.{Suite, Show, While, nothing, first, Tree}
 use Rattle.py_grammar.specs.Grammar.{Decl, FunctionDecl}
 use Rattle.py_lines.specs.declared.drive.DriveLine.{DriveLine}
 use Rattle.py_lines.specs.declared.drive.DriveLine.TheVariants as drive
+use Rattle.py_meaning.specs.Whole.{IsRunOf}
 use Rattle.py_meaning.specs.Worked.{object, exception, exception_entry, function_entry, loaded}
 
 -- the bytes of the script whose loop doesn't end
@@ -125,3 +126,11 @@ unknown_events = asked (event.Got 1 (got.Raise (exception 6)) ∷ event.End 1 (e
 -- it gives a value
 abbrev pub unknown_given : List Event
 unknown_given = asked (event.Got 1 (got.Value none_object) ∷ [])
+
+-- a run of the script with an unknown name
+abbrev pub IsUnknownRun : List Payload → List Event → Type 0
+IsUnknownRun store es = IsRunOf unknown_decls drives store es
+
+-- what it writes
+abbrev pub unknown_text : List ℕ
+unknown_text = codes "1 raises NameError: name 'z' is not defined\n"

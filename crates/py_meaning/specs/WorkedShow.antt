@@ -9,7 +9,7 @@ use Rattle.py_objects.specs.declared.event.DriveAnswer.TheVariants as answer
 use Rattle.py_objects.specs.declared.event.Event.{Event}
 use Rattle.py_objects.specs.declared.event.Event.TheVariants as event
 use Rattle.py_objects.specs.declared.error_kind.ErrorKind.TheVariants.{OverflowError}
-use Rattle.py_objects.specs.Objects.{Obj}
+use Rattle.py_objects.specs.Objects.{Obj, HasPayload}
 use Rattle.py_objects.specs.Singletons.{none_object}
 use Rattle.py_tree.specs.declared.body.BodyKind.TheVariants.{Function}
 use Rattle.py_tree.specs.declared.expr.Atom.TheVariants as atom
@@ -18,6 +18,7 @@ use Rattle.py_tree.specs.declared.expr.Expr.TheVariants as expr
 use Rattle.py_tree.specs.Tree.{Tree, Assign, Show, nothing, first}
 use Rattle.py_grammar.specs.Grammar.{Decl, FunctionDecl}
 use Rattle.py_lines.specs.declared.drive.DriveLine.{DriveLine}
+use Rattle.py_meaning.specs.Whole.{IsRunOf}
 use Rattle.py_meaning.specs.Worked.{call_of, overflowing_of, object, exception, function_entry, objects_of, entered, asked, raising_by}
 
 -- the bytes of the script
@@ -94,3 +95,15 @@ overflow_objects = raising_by (codes "g") (function_entry (codes "g") 0) Overflo
 -- the body gets an exception, and shows its first argument behind that
 abbrev pub shown_behind_raise : List Event
 shown_behind_raise = entered 1 (asked 1 (object 3) (object 4) (event.Got 1 (got.Raise (exception 8)) ∷ shows (object 3) []))
+
+-- in a run of the script this is shown, answered and returned
+abbrev pub Shows : Obj → Obj → Obj → Type 0
+Shows v a r = IsRunOf decls drives objects (events_by v a r)
+
+-- any None answers the show, and any None is returned
+abbrev pub ReturnsAnyNone : Type 0
+ReturnsAnyNone = (a r : Obj) → HasPayload objects a payload.None → HasPayload objects r payload.None → Shows (object 6) a r
+
+-- a run of the drive whose sum is out of range
+abbrev pub IsOverflowRun : List Event → Type 0
+IsOverflowRun es = IsRunOf decls (overflowing ∷ []) overflow_objects es

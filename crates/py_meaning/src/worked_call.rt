@@ -1,20 +1,13 @@
 //! A journal of functions that call that was worked by hand, and what the definitions say of it.
 
-ghost use Rattle.std.specs.Prelude.{◌≡◌, [], ◌∷◌, List, Some, None, codes};
-ghost use Rattle.py_objects.specs.declared.payload.CoroKind.{CoroKind};
-ghost use Rattle.py_objects.specs.declared.payload.Payload.{Payload};
-ghost use Rattle.py_objects.specs.Objects.{Obj};
+ghost use Rattle.std.specs.Prelude.{◌≡◌, [], ◌∷◌};
 ghost use Rattle.py_grammar.specs.Lines.{lines};
 ghost use Rattle.py_grammar.specs.Script.{Spells};
-ghost use Rattle.py_objects.specs.declared.request.Keywords.TheVariants as keywords;
-ghost use Rattle.py_objects.specs.declared.request.Request.TheVariants as request;
-ghost use Rattle.py_run.specs.Calls.{Enters, CallsFunction, ComesTo};
-ghost use Rattle.py_run.specs.Run.{Plan, depth};
-ghost use Rattle.py_run.specs.Coming.{Past, setting, IsDone};
+ghost use Rattle.py_run.specs.Coming.{IsDone};
 ghost use Rattle.py_meaning.specs.Whole.{AreGlobals, IsRunOf};
 ghost use Rattle.py_meaning.specs.Text.{events_text};
 ghost use Rattle.py_meaning.specs.Worked.{object};
-ghost use Rattle.py_meaning.specs.WorkedCall.{objects_by, pair_of_g, pair_of_f, script, decls, drives, objects, returned, again, events, made_twice, answered_early, numbered_on, never_entered, swapped, refused_made, IsFull};
+ghost use Rattle.py_meaning.specs.WorkedCall.{objects_by, pair_of_g, pair_of_f, script, decls, drives, objects, returned, again, events, made_twice, answered_early, numbered_on, never_entered, swapped, refused_made, text, EntersAt999, EntersNothingAt1000, IsMadeAtAnyDepth};
 
 /// The journal of a function that calls another one, of a drive whose argument an earlier drive left, and of a drive that
 /// is refused, is a whole run of its script. What differs from it in one thing is none. At most a thousand activations run.
@@ -23,7 +16,7 @@ pub fn worked_calls()
     ensures spelled { Spells (lines script) decls drives }
     ensures is_run { IsRunOf decls drives objects events }
     ensures is_whole { IsDone 3 events }
-    ensures text { events_text objects [] events ≡ codes "1 returns 7\n2 returns 7\n3 raises TypeError: f() takes 0 positional arguments but 1 were given\n" }
+    ensures text { events_text objects [] events ≡ text }
     // The dict of the globals has a pair for each function, in any order.
     ensures any_order { AreGlobals decls (objects_by (pair_of_f ∷ pair_of_g ∷ [])) (object 4) }
     ensures no_name_unbound { AreGlobals decls (objects_by (pair_of_g ∷ [])) (object 4) → ⊥ }
@@ -40,7 +33,7 @@ pub fn worked_calls()
     ensures no_activation_of_a_refused_drive { IsRunOf decls drives objects refused_made → ⊥ }
     // A function whose activations can't be suspended, and that gets its own number of arguments, is entered where 999 activations run; where
     // 1000 run, its call enters nothing. The activation of a generator function is made at any depth.
-    ensures entry_at_999 { (plan : Plan) → (p : Past) → (store : List Payload) → (f : Obj) → (vs : List Obj) → (full : IsFull plan store f vs) → full.signature.kind ≡ None → depth plan p.state ≡ 999 → CallsFunction (setting plan p) store f vs (Enters f vs) }
-    ensures no_entry_at_1000 { (plan : Plan) → (p : Past) → (store : List Payload) → (f : Obj) → (vs : List Obj) → (g : Obj) → (ws : List Obj) → (full : IsFull plan store f vs) → full.signature.kind ≡ None → depth plan p.state ≡ 1000 → ComesTo (setting plan p) store (request.Call f vs keywords.None) (Enters g ws) → ⊥ }
-    ensures made_at_any_depth { (plan : Plan) → (p : Past) → (store : List Payload) → (f : Obj) → (vs : List Obj) → (full : IsFull plan store f vs) → (kind : CoroKind) → full.signature.kind ≡ Some kind → CallsFunction (setting plan p) store f vs (Enters f vs) }
+    ensures entry_at_999 { EntersAt999 }
+    ensures no_entry_at_1000 { EntersNothingAt1000 }
+    ensures made_at_any_depth { IsMadeAtAnyDepth }
 {}

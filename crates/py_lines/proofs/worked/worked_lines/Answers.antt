@@ -1,4 +1,4 @@
-use Rattle.py_lines.proofs.WorkedLemmas.{add_is_a_name, as_is_a_name, call_is_a_drive, call_is_a_name, class_of_itself, class_of_nothing, close_is_a_name, keyword_is_no_name, manager_of_two, next_nothing, no_large_number, no_name_behind_as, no_number_below, nothing_behind, nothing_is_blank, throw_is_a_drive, with_as, with_none, yield_is_a_name}
+use Rattle.py_lines.proofs.WorkedLemmas.{add_is_a_name, as_is_a_name, call_is_a_drive, call_is_a_name, class_of_itself, class_of_nothing, close_is_a_name, keyword_is_no_name, manager_of_two, next_nothing, no_count_beyond, no_large_number, no_name_behind_as, no_number_below, nothing_behind, nothing_is_blank, throw_is_a_drive, with_as, with_none, yield_is_a_name}
 use Rattle.py_lines.proofs.worked.worked_lines.Goals as goal
 
 pub returns-clause-call_is_a_name : goal.returns-clause-call_is_a_name
@@ -39,6 +39,9 @@ returns-clause-next_nothing c = next_nothing
 
 pub returns-clause-no_number_below : goal.returns-clause-no_number_below
 returns-clause-no_number_below c = no_number_below
+
+pub returns-clause-no_count_beyond : goal.returns-clause-no_count_beyond
+returns-clause-no_count_beyond c = no_count_beyond
 
 pub returns-clause-with_as : goal.returns-clause-with_as
 returns-clause-with_as c = with_as
