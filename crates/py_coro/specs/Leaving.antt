@@ -1,6 +1,7 @@
 -- What a generator answers that was entered and left, and its mode by then (Python Language Reference, 6.2.9.1; PEP 479; PEP 525).
 use Rattle.std.specs.Prelude.{Option, Some, None, List, Bool, true, false, ◌≡◌}
 use Rattle.py_objects.specs.declared.refs.PyBaseExceptionRef.{PyBaseExceptionRef}
+use Rattle.py_objects.specs.declared.refs.PyTypeRef.{PyTypeRef}
 use Rattle.py_objects.specs.declared.payload.Payload.{Payload}
 use Rattle.py_objects.specs.declared.payload.Payload.TheVariants as payload
 use Rattle.py_objects.specs.declared.payload.ExceptionBody.{ExceptionBody}
@@ -59,6 +60,21 @@ abbrev pub returned : (closing : Bool) → Obj → Payload → CoroAnswer
 returned true v p = answer.Closed
 returned false v p = answer.Stop (value_if v (is_none p))
 
+-- what a return of an object is answered by, and of one that is None or isn't
+abbrev pub Returns : List Payload → (closing : Bool) → Obj → CoroAnswer → Type 0
+Returns objects closing v a = (p : Payload) × HasPayload objects v p × (a ≡ returned closing v p)
+
+abbrev pub ReturnsBy : (closing : Bool) → Obj → (none : Bool) → CoroAnswer → Type 0
+ReturnsBy closing v none a = (p : Payload) → none ≡ is_none p → a ≡ returned closing v p
+
+-- whether an object is None
+abbrev pub TellsNone : List Payload → Obj → Bool → Type 0
+TellsNone objects v none = (p : Payload) × HasPayload objects v p × (none ≡ is_none p)
+
+-- the class of an exception
+abbrev pub IsClassOf : List Payload → PyBaseExceptionRef → PyTypeRef → Type 0
+IsClassOf objects e class = (body : ExceptionBody) × HasPayload objects (as_object e) (payload.Exception body) × (class ≡ body.class)
+
 -- what a raise is answered by, which is converted as this stop or isn't: a close is done where one exits
 abbrev pub raised : (closing : Bool) → PyBaseExceptionRef → Option ErrorKind → (exits : Bool) → CoroAnswer
 raised closing e (Some stop) exits = answer.Convert e stop
@@ -69,6 +85,6 @@ raised false e None exits = answer.Raise e
 -- one of this kind that was left like this answers so
 abbrev pub Finishes : List Payload → CoroKind → (closing : Bool) → CoroEnd → CoroAnswer → Type 0
 Finishes objects kind closing (left.Yield v) a = a ≡ yielded closing v
-Finishes objects kind closing (left.Return v) a = (p : Payload) × HasPayload objects v p × (a ≡ returned closing v p)
+Finishes objects kind closing (left.Return v) a = Returns objects closing v a
 Finishes objects kind closing (left.Raise e) a =
     (stop : Option ErrorKind) × (exits : Bool) × ConvertsAs objects kind e stop × IsOfClass objects e GeneratorExit exits × (a ≡ raised closing e stop exits)

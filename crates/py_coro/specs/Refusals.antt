@@ -16,6 +16,10 @@ word_of kind.Generator = codes "generator"
 word_of kind.Coroutine = codes "coroutine"
 word_of kind.AsyncGen = codes "async generator"
 
+-- a fault whose text is the word for one of this kind, with more after it
+abbrev pub telling : CoroKind → ErrorKind → Name → Fault
+telling kind error more = record { kind = error; text = word_of kind ++ more }
+
 -- the text of the refusal of what would be too deep, before where that is
 abbrev pub too_deep : Name
 too_deep = codes "maximum recursion depth exceeded "

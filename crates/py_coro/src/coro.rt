@@ -1,12 +1,11 @@
 //! A suspendable activation's state: fresh, suspended, running or closed.
 
-ghost use Rattle.std.specs.Prelude.{◌≡◌, ◌<◌, ℕ, List, false, length, slice_get, chars, nat_le, Some, IfErr, IfOk, OnErr, OnOk, if◌then◌else◌};
+ghost use Rattle.std.specs.Prelude.{◌≡◌, ◌<◌, false, length, chars, IfErr, IfOk, OnErr, OnOk};
 ghost use Rattle.py_objects.specs.Objects.{AllFit};
 ghost use Rattle.py_objects.specs.declared.refs.PyBaseExceptionRef.{PyBaseExceptionRef as ExceptionNumber};
-ghost use Rattle.py_coro.specs.declared.coro.Begin.TheVariants as beginning;
 ghost use Rattle.py_coro.specs.declared.refusal.CoroRefusal.TheVariants as refusal;
-ghost use Rattle.py_coro.specs.Modes.{Fresh, Running, most_depth, sent, thrown, closed as closing_row};
-ghost use Rattle.py_coro.specs.Coros.{is_running, is_closed, entered, behind, begun, AreRead, left_by, shown};
+ghost use Rattle.py_coro.specs.Modes.{Running, sent, thrown, closed as closing_row};
+ghost use Rattle.py_coro.specs.Coros.{is_running, is_closed, behind, begun, entered_at, entry_of, fresh, AreRead, IsShown, left_by, shown};
 ghost use Rattle.py_coro.specs.Leaving.{Finishes};
 ghost use Rattle.py_coro.specs.Refusals.{word_of};
 
@@ -95,7 +94,7 @@ impl Model for Coro {
 impl Coro {
     /// One that hasn't been entered.
     pub fn new(frame: FrameRef, name: NameId, kind: CoroKind) -> Coro
-        ensures { result ≡ record { frame = frame; name = name; kind = kind; mode = Fresh; closing = false } }
+        ensures { result ≡ fresh frame name kind }
     {
         Coro {
             frame,
@@ -217,15 +216,15 @@ impl Coro {
     /// What it is shown as, by its name and this number.
     pub fn repr(&self, alloc: Global, names: &Names, id: u64) -> Result<PyText, NoMemory>
         requires { self.now.name.index < length names.now }
-        ensures { (name : List ℕ) → slice_get names.now self.now.name.index ≡ Some name → IfOk result (λ text. text ≡ shown (word_of self.now.kind) (chars name) id) }
+        ensures { IfOk result (IsShown names.now self.now id) }
     {
         shown(alloc, self.kind, names.text(self.name), id)
     }
 
     /// Enters it, to be closed or not, unless that would be too deep.
     fn enter(&mut self, closing: bool, depth: usize, begin: Begin) -> Begin
-        ensures answer { result ≡ (if nat_le most_depth depth then beginning.Refused refusal.TooDeep else begin) }
-        ensures state { self.new ≡ (if nat_le most_depth depth then self.old else entered closing self.old) }
+        ensures answer { result ≡ entry_of depth begin }
+        ensures state { self.new ≡ entered_at depth closing self.old }
     {
         if depth >= MOST_DEPTH {
             return Begin::Refused(CoroRefusal::TooDeep);

@@ -1,9 +1,9 @@
 //! Generators.
 
-ghost use Rattle.std.specs.Prelude.{◌≡◌, false};
+ghost use Rattle.std.specs.Prelude.{◌≡◌};
 ghost use Rattle.std.specs.Borrow.{Lends, sem};
 ghost use Rattle.py_objects.specs.declared.payload.CoroKind.TheVariants.{Generator};
-ghost use Rattle.py_coro.specs.Modes.{Fresh};
+ghost use Rattle.py_coro.specs.Coros.{fresh};
 ghost use Rattle.py_coro.specs.contracts.coro.Coro.{the_row as coro_row};
 ghost use Rattle.py_coro.specs.contracts.generator.PyGenerator.{the_row as generator_row};
 
@@ -29,7 +29,7 @@ impl Model for PyGenerator {
 impl PyGenerator {
     /// One that hasn't been entered.
     pub fn new(frame: FrameRef, name: NameId) -> PyGenerator
-        ensures { result ≡ record { frame = frame; name = name; kind = Generator; mode = Fresh; closing = false } }
+        ensures { result ≡ fresh frame name Generator }
     {
         PyGenerator {
             inner: Coro::new(frame, name, CoroKind::Generator),

@@ -2,13 +2,9 @@
 
 ghost use Rattle.std.specs.Prelude.{◌≡◌, ◌<◌, false, length};
 ghost use Rattle.py_objects.specs.Edits.{objects_of};
-ghost use Rattle.py_objects.specs.Objects.{AllFit, HasPayload, as_object, IsException};
-ghost use Rattle.py_objects.specs.Values.{is_none as is_none_of};
-ghost use Rattle.py_objects.specs.declared.payload.ExceptionBody.{ExceptionBody};
-ghost use Rattle.py_objects.specs.declared.payload.Payload.{Payload as PayloadOf};
-ghost use Rattle.py_objects.specs.declared.payload.Payload.TheVariants.{Exception};
+ghost use Rattle.py_objects.specs.Objects.{AllFit, as_object, IsException};
 ghost use Rattle.py_coro.specs.declared.coro.CoroEnd.TheVariants as left;
-ghost use Rattle.py_coro.specs.Leaving.{mode_behind, yielded as yield_answer, returned as return_answer, raised as raise_answer, stop_of as stop_by, Finishes, ConvertsAs, IsOfClass};
+ghost use Rattle.py_coro.specs.Leaving.{mode_behind, yielded as yield_answer, raised as raise_answer, stop_of as stop_by, ConvertsAs, Finishes, IsClassOf, IsOfClass, Returns, ReturnsBy, TellsNone};
 ghost use Rattle.py_coro.specs.Coros.{AreRead};
 ghost use Rattle.py_coro.specs.Stages.{mode_of, closing_of};
 
@@ -57,7 +53,7 @@ fn yielded(closing: bool, value: PyObjectRef) -> CoroAnswer
 /// What a return is answered by.
 fn returned(store: &Store, closing: bool, value: PyObjectRef) -> CoroAnswer
     requires { value.number < length store.now.made }
-    ensures { (p : PayloadOf) × HasPayload store.now.made value p × (result ≡ return_answer closing value p) }
+    ensures { Returns store.now.made closing value result }
 {
     let is_none = is_none(store, value);
     answer_of_return(closing, value, is_none)
@@ -65,7 +61,7 @@ fn returned(store: &Store, closing: bool, value: PyObjectRef) -> CoroAnswer
 
 /// What a return of a value is answered by that is None or isn't.
 fn answer_of_return(closing: bool, value: PyObjectRef, is_none: bool) -> CoroAnswer
-    ensures { (p : PayloadOf) → is_none ≡ is_none_of p → result ≡ return_answer closing value p }
+    ensures { ReturnsBy closing value is_none result }
 {
     if closing {
         return CoroAnswer::Closed;
@@ -79,7 +75,7 @@ fn answer_of_return(closing: bool, value: PyObjectRef, is_none: bool) -> CoroAns
 /// Whether an object is None.
 fn is_none(store: &Store, object: PyObjectRef) -> bool
     requires { object.number < length store.now.made }
-    ensures { (p : PayloadOf) × HasPayload store.now.made object p × (result ≡ is_none_of p) }
+    ensures { TellsNone store.now.made object result }
 {
     matches!(store.get(object), Payload::None)
 }
@@ -157,7 +153,7 @@ fn is_of_class(store: &Store, exc: PyBaseExceptionRef, kind: ErrorKind) -> bool
 /// The class of an exception.
 fn class_of(store: &Store, exc: PyBaseExceptionRef) -> PyTypeRef
     requires { IsException (objects_of store.now) (as_object exc) }
-    ensures { (body : ExceptionBody) × HasPayload (objects_of store.now) (as_object exc) (Exception body) × (result ≡ body.class) }
+    ensures { IsClassOf (objects_of store.now) exc result }
 {
     let object = PyObjectRef { number: exc.number };
     let Payload::Exception(body) = store.get(object) else {

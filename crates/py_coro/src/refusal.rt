@@ -1,7 +1,7 @@
 //! Why a call of a generator is refused, and what is raised then, at a stop that comes out, and at a yield under a close.
 
-ghost use Rattle.std.specs.Prelude.{◌≡◌, ◌++◌, IfOk};
-ghost use Rattle.py_coro.specs.Refusals.{ignoring, refused, stopping, word_of};
+ghost use Rattle.std.specs.Prelude.{◌≡◌, IfOk};
+ghost use Rattle.py_coro.specs.Refusals.{ignoring, refused, stopping, telling, word_of};
 
 use py_code::{NoMemory, push_bytes, text_of};
 use py_objects::{CoroKind, ErrorKind, Fault};
@@ -84,7 +84,7 @@ pub(crate) fn word(kind: CoroKind) -> &'static [u8]
 
 /// A fault whose text is the word for one of this kind with more behind it.
 fn word_and(alloc: Global, kind: CoroKind, error: ErrorKind, more: &[u8]) -> Result<Fault, NoMemory>
-    ensures { IfOk result (λ fault. fault ≡ record { kind = error; text = word_of kind ++ more.now }) }
+    ensures { IfOk result (λ fault. fault ≡ telling kind error more.now) }
 {
     let mut text = text_of(alloc, word(kind))?;
     push_bytes(&mut text, more)?;
