@@ -1,6 +1,6 @@
 //! Open blocks, in lists that share what they have in common.
 
-ghost use Rattle.std.specs.Prelude.{◌≡◌, [], ◌∷◌, length, IfOk};
+ghost use Rattle.std.specs.Prelude.{◌≡◌, [], ◌∷◌, length, slice_get, option_copied, IfOk, OnErr, OnOk};
 
 use crate::note::BlockNote;
 use py_code::NoMemory;
@@ -71,6 +71,32 @@ impl BlockList {
         ensures { result ≡ length self.now }
     {
         self.len
+    }
+
+    /// The block at a place, the innermost at 0.
+    pub fn get(&self, at: usize) -> Option<&BlockNote>
+        ensures { option_copied result ≡ slice_get self.now at }
+    {
+        let mut list = self;
+        let mut place = at;
+        'blocks_left: while let Some(top) = &list.top {
+            if place == 0 {
+                return Some(&top.block);
+            }
+            place -= 1;
+            list = &top.around;
+        }
+        None
+    }
+
+    /// Puts a block inside of the others.
+    pub fn push(&mut self, alloc: Global, block: BlockNote) -> Result<(), NoMemory>
+        ensures added { OnOk result (self.new ≡ block ∷ self.old) }
+        ensures err { OnErr result (self.new ≡ self.old) }
+    {
+        let pushed = self.with(alloc, block)?;
+        *self = pushed;
+        Ok(())
     }
 
     /// The same blocks once more, which takes no memory. The count of those who have them may be full.

@@ -1,6 +1,6 @@
 //! Kinds of the entries of a stack, as runs of equal ones.
 
-ghost use Rattle.std.specs.Prelude.{◌≡◌, ◌+◌, ◌<◌, ◌^◌, [], ◌∷◌, ◌++◌, length, replicate, IfOk, OnErr, OnOk};
+ghost use Rattle.std.specs.Prelude.{◌≡◌, ◌+◌, ◌<◌, ◌^◌, [], ◌∷◌, ◌++◌, length, replicate, slice_get, IfOk, OnErr, OnOk};
 ghost use Rattle.py_check.specs.Runs.{kinds_of};
 
 use crate::note::Kind;
@@ -66,6 +66,13 @@ impl KindList {
         self.len
     }
 
+    /// The kind at a place, from 0.
+    pub fn get(&self, at: usize) -> Option<Kind>
+        ensures { result ≡ slice_get self.now at }
+    {
+        kind_at(self.runs.as_slice(), at)
+    }
+
     /// Puts a kind behind the others.
     pub fn push(&mut self, kind: Kind) -> Result<(), NoMemory>
         ensures added { OnOk result (self.new ≡ self.old ++ kind ∷ []) }
@@ -78,6 +85,22 @@ impl KindList {
         self.len = len;
         Ok(())
     }
+}
+
+/// The kind at a place of runs.
+fn kind_at(runs: &[KindRun], at: usize) -> Option<Kind>
+    ensures { result ≡ slice_get (kinds_of runs.now) at }
+{
+    let mut left = runs;
+    let mut place = at;
+    'runs_left: while let [run, more @ ..] = left {
+        if place < run.count {
+            return Some(run.kind);
+        }
+        place -= run.count;
+        left = more;
+    }
+    None
 }
 
 /// Puts a kind behind those of runs. The last run goes on where it is of this kind.
