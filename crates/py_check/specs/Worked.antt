@@ -1,13 +1,16 @@
 -- Codes that were worked by hand: small ones that keep the rules, and others that differ from them in one thing.
-use Rattle.std.specs.Prelude.{◌≡◌, ℕ, List, [], ◌∷◌, length}
+use Rattle.std.specs.Prelude.{◌≡◌, ℕ, ℤ, List, [], ◌∷◌, length, replicate}
 use Rattle.py_code.specs.declared.unit.CodeUnit.{CodeUnit}
 use Rattle.py_code.specs.declared.instruction.Instruction.{Instruction}
 use Rattle.py_code.specs.declared.instruction.Instruction.TheVariants.{LoadConst, LoadFast, LoadGlobal, Pop, BinaryOperation, CallFunctionPositional, Jump, JumpIfFalse, SetupLoop, PopBlock, ReturnValue, ReturnConst, ExtendedArg}
-use Rattle.py_code.specs.declared.literal.Literal.{Literal, None as NoneLiteral}
+use Rattle.py_code.specs.declared.literal.Literal.{Literal, None as NoneLiteral, Builtin}
+use Rattle.py_code.specs.declared.literal.BuiltinFn.{BuiltinFn}
 use Rattle.py_check.specs.declared.note.Kind.{Kind}
-use Rattle.py_check.specs.declared.note.Kind.TheVariants.{Any, Exc}
+use Rattle.py_check.specs.declared.note.Kind.TheVariants.{Any, Str, Exc}
+use Rattle.py_check.specs.declared.note.Pending.{Pending}
+use Rattle.py_check.specs.declared.note.Pending.TheVariants as pending
 use Rattle.py_check.specs.declared.note.BlockNote.{BlockNote}
-use Rattle.py_check.specs.declared.note.BlockNote.TheVariants.{Loop, ExceptHandler}
+use Rattle.py_check.specs.declared.note.BlockNote.TheVariants.{Loop, TryExcept, FinallyHandler, ExceptHandler}
 use Rattle.py_check.specs.declared.note.Note.{Note}
 use Rattle.py_check.specs.declared.note.Note.TheVariants.{Live}
 use Rattle.py_check.specs.declared.annotated.Annotated.{Annotated}
@@ -49,24 +52,50 @@ sheet units notes =
 abbrev pub holds : List Kind → Note
 holds kinds = Live kinds []
 
+-- so many entries of which nothing is known
+abbrev pub values : ℕ → List Kind
+values n = replicate n Any
+
+-- a note without blocks, of so many of these or of a text
 abbrev pub nothing : Note
-nothing = holds []
+nothing = holds (values 0)
 
 abbrev pub one : Note
-one = holds (Any ∷ [])
+one = holds (values 1)
 
 abbrev pub two : Note
-two = holds (Any ∷ Any ∷ [])
+two = holds (values 2)
 
--- the sum of the two parameters is returned
-abbrev pub sum_units : List CodeUnit
-sum_units = unit LoadFast 0 ∷ unit LoadFast 1 ∷ unit BinaryOperation 6 ∷ unit ReturnValue 0 ∷ []
+abbrev pub one_text : Note
+one_text = holds (Str ∷ [])
 
-abbrev pub sum_notes : List Note
-sum_notes = nothing ∷ one ∷ two ∷ one ∷ []
+-- a unit takes the two parameters, and what it gives is returned
+abbrev pub on_both : Instruction → ℕ → Sheet
+on_both op arg = sheet (unit LoadFast 0 ∷ unit LoadFast 1 ∷ unit op arg ∷ unit ReturnValue 0 ∷ []) (nothing ∷ one ∷ two ∷ one ∷ [])
 
+-- their sum is returned
 abbrev pub sum : Sheet
-sum = sheet sum_units sum_notes
+sum = on_both BinaryOperation 6
+
+-- the same, with two cells that take over these parameters, or none
+abbrev pub with_cells : List ℤ → Sheet
+with_cells cells = record sum { cellvars = 2; cell2arg = cells }
+
+-- a unit behind the load of the first parameter, and the note behind the unit, whose value is returned
+abbrev pub on_first : CodeUnit → Note → Sheet
+on_first u behind = sheet (unit LoadFast 0 ∷ u ∷ unit ReturnValue 0 ∷ []) (nothing ∷ one ∷ behind ∷ [])
+
+-- a unit ends the code behind the load of the first parameter
+abbrev pub ending : CodeUnit → Sheet
+ending u = sheet (unit LoadFast 0 ∷ u ∷ []) (nothing ∷ one ∷ [])
+
+-- a unit is the first, and what it pushes is returned
+abbrev pub returning : CodeUnit → Sheet
+returning u = sheet (u ∷ unit ReturnValue 0 ∷ []) (nothing ∷ one ∷ [])
+
+-- a unit is the first, and None is returned
+abbrev pub beginning : CodeUnit → Sheet
+beginning u = sheet (u ∷ unit ReturnConst 0 ∷ []) (nothing ∷ nothing ∷ [])
 
 -- a global is called with the two parameters in order, where the operand is 2, and what it answers is returned
 abbrev pub calling : ℕ → Sheet
@@ -81,26 +110,68 @@ prefixed byte s = sheet (unit ExtendedArg byte ∷ s.units) (nothing ∷ s.notes
 abbrev pub loaded : Literal → Kind → Sheet
 loaded literal kind = record (sheet (unit LoadConst 0 ∷ unit ReturnValue 0 ∷ []) (nothing ∷ holds (kind ∷ []) ∷ [])) { constants = literal ∷ [] }
 
--- the same, where None is loaded and dropped in front
+-- the same, where None is loaded and dropped before
 abbrev pub loaded_later : Literal → Kind → Sheet
 loaded_later literal kind =
     record (sheet (unit LoadConst 0 ∷ unit Pop 0 ∷ unit LoadConst 1 ∷ unit ReturnValue 0 ∷ []) (nothing ∷ one ∷ nothing ∷ holds (kind ∷ []) ∷ [])) { constants = NoneLiteral ∷ literal ∷ [] }
 
--- a constant is returned in the place of None, behind a local that is loaded and dropped
-abbrev pub returned_later : Literal → Sheet
-returned_later literal = record (sheet (unit LoadFast 0 ∷ unit Pop 0 ∷ unit ReturnConst 0 ∷ []) (nothing ∷ one ∷ nothing ∷ [])) { constants = literal ∷ [] }
+-- so is a function of the machine's own
+abbrev pub own_loaded : BuiltinFn → Sheet
+own_loaded f = loaded_later (Builtin f) Any
+
+-- a constant is returned in the place of None
+abbrev pub returned : Literal → Sheet
+returned literal = record (sheet (unit ReturnConst 0 ∷ []) (nothing ∷ [])) { constants = literal ∷ [] }
+
+-- so is a function of the machine's own, behind a local that is loaded and dropped
+abbrev pub own_returned : BuiltinFn → Sheet
+own_returned f = record (sheet (unit LoadFast 0 ∷ unit Pop 0 ∷ unit ReturnConst 0 ∷ []) (nothing ∷ one ∷ nothing ∷ [])) { constants = Builtin f ∷ [] }
 
 -- None is returned at once, and other units stand behind that, where control never gets
 abbrev pub behind_the_end : List CodeUnit → List Note → Sheet
 behind_the_end units notes = sheet (unit ReturnConst 0 ∷ units) (nothing ∷ notes)
 
+-- a unit and a return of None there, with these notes
+abbrev pub stranded : CodeUnit → Note → Note → Sheet
+stranded u before behind = behind_the_end (u ∷ unit ReturnConst 0 ∷ []) (before ∷ behind ∷ [])
+
 -- two returns of None there, with a note of these kinds and this block, and with another note
 abbrev pub guarded : List Kind → BlockNote → Note → Sheet
-guarded kinds block handler = behind_the_end (unit ReturnConst 0 ∷ unit ReturnConst 0 ∷ []) (Live kinds (block ∷ []) ∷ handler ∷ [])
+guarded kinds block handler = stranded (unit ReturnConst 0) (Live kinds (block ∷ [])) handler
 
--- where an exception is handled
+-- where an exception is handled, and where it was
 abbrev pub handles : Note
 handles = Live (Exc ∷ []) (ExceptHandler 0 ∷ [])
+
+abbrev pub handled : Note
+handled = Live [] (ExceptHandler 0 ∷ [])
+
+-- the same over a text, and the kinds in front of it
+abbrev pub handles_above : Note
+handles_above = Live (Exc ∷ Str ∷ []) (ExceptHandler 1 ∷ [])
+
+abbrev pub above_text : List Kind
+above_text = Any ∷ Str ∷ []
+
+-- in the handler of a finally, while which these jumps may wait
+abbrev pub finishes : List Kind → List Pending → Note
+finishes kinds waiting = Live kinds (FinallyHandler 0 waiting ∷ [])
+
+-- a try there whose handler is at this unit, 2 or the prefix's at 3
+abbrev pub guarded_prefix : ℕ → Sheet
+guarded_prefix handler = behind_the_end (unit ReturnConst 0 ∷ unit ExtendedArg 0 ∷ unit ReturnConst 0 ∷ []) (Live [] (TryExcept 0 handler ∷ []) ∷ handles ∷ handles ∷ [])
+
+-- so many values, with a loop over the lowest
+abbrev pub loop_above : ℕ → Note
+loop_above n = Live (values n) (Loop 1 ∷ [])
+
+-- a loop within another, whose level is greater
+abbrev pub falling_levels : Sheet
+falling_levels = behind_the_end (unit ReturnConst 0 ∷ []) (Live (values 1) (Loop 0 ∷ Loop 1 ∷ []) ∷ [])
+
+-- a value is loaded in the handler of a finally, while which a break may wait before, and these jumps behind
+abbrev pub waiting_on : List Pending → Sheet
+waiting_on jumps = behind_the_end (unit LoadFast 0 ∷ unit ReturnValue 0 ∷ []) (finishes [] (pending.Break 1 ∷ []) ∷ finishes (values 1) jumps ∷ [])
 
 -- the units of a loop that goes on while the first parameter is true, with the label behind it
 abbrev pub loop_units : ℕ → List CodeUnit
@@ -110,8 +181,22 @@ loop_units behind = unit SetupLoop 0 ∷ unit LoadFast 0 ∷ unit JumpIfFalse be
 abbrev pub in_loop : Note
 in_loop = Live [] (Loop 0 ∷ [])
 
-abbrev pub loop_notes : List Note
-loop_notes = nothing ∷ in_loop ∷ Live (Any ∷ []) (Loop 0 ∷ []) ∷ in_loop ∷ in_loop ∷ nothing ∷ []
+-- its notes, with the one where its test has held
+abbrev pub loop_notes : Note → List Note
+loop_notes holds = nothing ∷ in_loop ∷ Live (values 1) (Loop 0 ∷ []) ∷ holds ∷ in_loop ∷ nothing ∷ []
+
+-- notes of such a code by which no loop is open
+abbrev pub no_loop_notes : List Note
+no_loop_notes = nothing ∷ nothing ∷ one ∷ nothing ∷ nothing ∷ nothing ∷ []
 
 abbrev pub looping : Sheet
-looping = sheet (loop_units 4) loop_notes
+looping = sheet (loop_units 4) (loop_notes in_loop)
+
+-- a loop is opened over a value, at this level
+abbrev pub opening : ℕ → Sheet
+opening level = sheet (unit LoadFast 0 ∷ unit SetupLoop 0 ∷ unit ReturnConst 0 ∷ []) (nothing ∷ one ∷ Live (values 1) (Loop level ∷ []) ∷ [])
+
+-- a value that is loaded in a loop goes with the loop, and the one under the loop is returned
+abbrev pub cutting : Sheet
+cutting =
+    sheet (unit LoadFast 0 ∷ unit SetupLoop 0 ∷ unit LoadFast 1 ∷ unit PopBlock 0 ∷ unit ReturnValue 0 ∷ []) (nothing ∷ one ∷ loop_above 1 ∷ loop_above 2 ∷ one ∷ [])

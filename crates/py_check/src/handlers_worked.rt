@@ -5,19 +5,18 @@ ghost use Rattle.py_code.specs.declared.instruction.Instruction.TheVariants as o
 ghost use Rattle.py_code.specs.declared.flags.TheConstants.CodeFlags.{HAS_VARARGS, IS_COROUTINE, IS_GENERATOR};
 ghost use Rattle.py_check.specs.declared.note.Kind.TheVariants as kind;
 ghost use Rattle.py_check.specs.declared.note.Pending.TheVariants as pending;
-ghost use Rattle.py_check.specs.declared.note.BlockNote.TheVariants as block;
 ghost use Rattle.py_check.specs.declared.note.Note.TheVariants as note;
-ghost use Rattle.py_check.specs.Worked.{Typed, Breaks, unit, sheet, nothing, one, two, handles};
-ghost use Rattle.py_check.specs.WorkedHandlers.{trying, trying_units, trying_notes, jumping_out, breaking, breaking_twice, handling, finishing, copying, yielding, jumping, managing};
+ghost use Rattle.py_check.specs.Worked.{Typed, Breaks, unit, sheet, holds, nothing, two, one_text, on_both, on_first, ending, returning, beginning, stranded, handles, handled, loop_above, values};
+ghost use Rattle.py_check.specs.WorkedHandlers.{trying, trying_by, jumping_out, breaking, breaking_twice, handling, finishing, rotating, raising_with_cause, copying, yielding, jumping, managing};
 
 /// Codes that leave blocks for a reason keep the rules, and others break them, each first at a certain unit.
 pub fn worked_handlers()
     // A try has a handler at a label, with the exception on top, and it alone ends as a handler.
     ensures tries { Typed trying }
-    ensures no_label { Breaks (sheet (trying_units 6 (unit op.PopException 0)) (trying_notes 6 handles)) 0 }
-    ensures no_exception { Breaks (record trying { notes = trying_notes 3 (note.Live [] (block.ExceptHandler 0 ∷ [])) }) 1 }
-    ensures handler_popped { Breaks (record trying { units = trying_units 3 (unit op.PopBlock 0) }) 4 }
-    ensures handler_as_finally { Breaks (record trying { units = trying_units 3 (unit op.EndFinally 0) }) 4 }
+    ensures no_label { Breaks (trying_by 6 (unit op.PopException 0) handles) 0 }
+    ensures no_exception { Breaks (trying_by 3 (unit op.PopException 0) handled) 1 }
+    ensures handler_popped { Breaks (trying_by 3 (unit op.PopBlock 0) handles) 4 }
+    ensures handler_as_finally { Breaks (trying_by 3 (unit op.EndFinally 0) handles) 4 }
     // A break out of a finally waits in its handler, if that lets it.
     ensures break_waits { Typed (breaking (pending.Break 7 ∷ [])) }
     ensures break_may_not_wait { Breaks (breaking []) 2 }
@@ -37,29 +36,29 @@ pub fn worked_handlers()
     // The exit of a manager lies under its block, and goes with it.
     ensures manages { Typed (managing (unit op.WithCleanupFinish 0)) }
     ensures exit_stays { Breaks (managing (unit op.EndFinally 0)) 6 }
-    ensures value_above_exit { Breaks (finishing (unit op.WithCleanupStart 0) 1 (kind.Any ∷ kind.Any ∷ []) (kind.Any ∷ kind.Any ∷ kind.Any ∷ [])) 1 }
-    ensures no_answer_of_exit { Breaks (finishing (unit op.WithCleanupFinish 0) 1 (kind.Any ∷ []) []) 1 }
+    ensures value_above_exit { Breaks (finishing (unit op.WithCleanupStart 0) 1 (values 2) (values 3)) 1 }
+    ensures no_answer_of_exit { Breaks (finishing (unit op.WithCleanupFinish 0) 1 (values 1) []) 1 }
 {}
 
 /// Codes that move values, raise or yield keep the rules, and others break them.
 pub fn worked_values()
-    ensures rotates { Typed (sheet (unit op.LoadFast 0 ∷ unit op.LoadFast 1 ∷ unit op.Rotate2 0 ∷ unit op.Pop 0 ∷ unit op.ReturnValue 0 ∷ []) (nothing ∷ one ∷ two ∷ two ∷ one ∷ [])) }
-    ensures rotates_too_many { Breaks (sheet (unit op.LoadFast 0 ∷ unit op.LoadFast 1 ∷ unit op.Rotate3 0 ∷ unit op.ReturnValue 0 ∷ []) (nothing ∷ one ∷ two ∷ two ∷ [])) 2 }
-    ensures duplicates { Typed (sheet (unit op.LoadFast 0 ∷ unit op.Duplicate 0 ∷ unit op.ReturnValue 0 ∷ []) (nothing ∷ one ∷ two ∷ [])) }
+    ensures rotates { Typed (rotating (unit op.Rotate2 0)) }
+    ensures rotates_too_many { Breaks (rotating (unit op.Rotate3 0)) 2 }
+    ensures duplicates { Typed (on_first (unit op.Duplicate 0) two) }
     // A copy is of any kind.
-    ensures copies { Typed (copying (note.Live (kind.Str ∷ []) []) (note.Live (kind.Any ∷ kind.Str ∷ []) [])) }
-    ensures copy_keeps_kind { Breaks (copying (note.Live (kind.Str ∷ []) []) (note.Live (kind.Str ∷ kind.Str ∷ []) [])) 1 }
-    ensures duplicates_nothing { Breaks (sheet (unit op.Duplicate 0 ∷ unit op.ReturnValue 0 ∷ []) (nothing ∷ one ∷ [])) 0 }
-    ensures moves_below { Breaks (sheet (unit op.ReturnConst 0 ∷ unit op.Rotate2 0 ∷ unit op.ReturnConst 0 ∷ []) (nothing ∷ note.Live (kind.Any ∷ kind.Any ∷ []) (block.Loop 1 ∷ []) ∷ note.Live (kind.Any ∷ kind.Any ∷ []) (block.Loop 1 ∷ []) ∷ [])) 1 }
-    ensures matches { Typed (sheet (unit op.LoadFast 0 ∷ unit op.LoadFast 1 ∷ unit op.TestOperation 4 ∷ unit op.ReturnValue 0 ∷ []) (nothing ∷ one ∷ two ∷ one ∷ [])) }
-    ensures tests_otherwise { Breaks (sheet (unit op.LoadFast 0 ∷ unit op.LoadFast 1 ∷ unit op.TestOperation 0 ∷ unit op.ReturnValue 0 ∷ []) (nothing ∷ one ∷ two ∷ one ∷ [])) 2 }
-    ensures deletes { Typed (sheet (unit op.DeleteFast 1 ∷ unit op.ReturnConst 0 ∷ []) (nothing ∷ nothing ∷ [])) }
-    ensures deletes_no_local { Breaks (sheet (unit op.DeleteFast 2 ∷ unit op.ReturnConst 0 ∷ []) (nothing ∷ nothing ∷ [])) 0 }
-    ensures raises { Typed (sheet (unit op.LoadFast 0 ∷ unit op.Raise 1 ∷ []) (nothing ∷ one ∷ [])) }
+    ensures copies { Typed (copying one_text (holds (kind.Any ∷ kind.Str ∷ []))) }
+    ensures copy_keeps_kind { Breaks (copying one_text (holds (kind.Str ∷ kind.Str ∷ []))) 1 }
+    ensures duplicates_nothing { Breaks (returning (unit op.Duplicate 0)) 0 }
+    ensures moves_below { Breaks (stranded (unit op.Rotate2 0) (loop_above 2) (loop_above 2)) 1 }
+    ensures matches { Typed (on_both op.TestOperation 4) }
+    ensures tests_otherwise { Breaks (on_both op.TestOperation 0) 2 }
+    ensures deletes { Typed (beginning (unit op.DeleteFast 1)) }
+    ensures deletes_no_local { Breaks (beginning (unit op.DeleteFast 2)) 0 }
+    ensures raises { Typed (ending (unit op.Raise 1)) }
     ensures raises_again { Typed (sheet (unit op.Raise 0 ∷ []) (nothing ∷ [])) }
-    ensures raises_with_cause { Typed (sheet (unit op.LoadFast 0 ∷ unit op.LoadFast 1 ∷ unit op.Raise 2 ∷ []) (nothing ∷ one ∷ two ∷ [])) }
-    ensures raises_without_cause { Breaks (sheet (unit op.LoadFast 0 ∷ unit op.Raise 2 ∷ []) (nothing ∷ one ∷ [])) 1 }
-    ensures raises_otherwise { Breaks (sheet (unit op.LoadFast 0 ∷ unit op.Raise 3 ∷ []) (nothing ∷ one ∷ [])) 1 }
+    ensures raises_with_cause { Typed raising_with_cause }
+    ensures raises_without_cause { Breaks (ending (unit op.Raise 2)) 1 }
+    ensures raises_otherwise { Breaks (ending (unit op.Raise 3)) 1 }
     // Only a generator yields, and none that is a coroutine yet.
     ensures yields { Typed (yielding IS_GENERATOR) }
     ensures yields_in_a_function { Breaks (record (yielding HAS_VARARGS) { arg_count = 1 }) 1 }

@@ -10,7 +10,7 @@ ghost use Rattle.py_check.specs.declared.note.Pending.TheVariants as pending;
 ghost use Rattle.py_check.specs.declared.note.BlockNote.TheVariants as block;
 ghost use Rattle.py_check.specs.declared.note.Note.TheVariants as note;
 ghost use Rattle.py_check.specs.Constants.{is_driving, tuple_kind};
-ghost use Rattle.py_check.specs.Worked.{Typed, Breaks, unit, sheet, holds, nothing, one, two, sum, sum_notes, calling, in_loop, looping, loop_units, prefixed, loaded, loaded_later, returned_later, behind_the_end, guarded, handles};
+ghost use Rattle.py_check.specs.Worked.{Typed, Breaks, unit, sheet, nothing, one, two, one_text, on_both, sum, with_cells, on_first, ending, returning, beginning, calling, looping, loop_units, loop_notes, no_loop_notes, opening, cutting, prefixed, loaded, loaded_later, own_loaded, returned, own_returned, stranded, guarded, guarded_prefix, handles, handled, handles_above, above_text, finishes, loop_above, falling_levels, waiting_on};
 
 /// The code of a small function keeps the rules on units, and others break them, each first at a certain unit.
 pub fn worked_notes()
@@ -18,31 +18,31 @@ pub fn worked_notes()
     // The stack is too small, or a note is missing, says too much, or is dead.
     ensures too_deep { Breaks (record sum { max_stackdepth = 1 }) 1 }
     ensures missing_note { Breaks (record sum { notes = nothing ∷ one ∷ two ∷ [] }) 0 }
-    ensures wrong_kind { Breaks (record sum { notes = nothing ∷ holds (kind.Str ∷ []) ∷ two ∷ one ∷ [] }) 0 }
+    ensures wrong_kind { Breaks (record sum { notes = nothing ∷ one_text ∷ two ∷ one ∷ [] }) 0 }
     ensures dead_note { Breaks (record sum { notes = nothing ∷ one ∷ note.Dead ∷ one ∷ [] }) 1 }
     // A local, an operator, a constant or a value on the stack isn't there.
     ensures no_local { Breaks (record sum { varnames = 1; arg_count = 1 }) 1 }
-    ensures no_operator { Breaks (sheet (unit op.LoadFast 0 ∷ unit op.LoadFast 1 ∷ unit op.BinaryOperation 13 ∷ unit op.ReturnValue 0 ∷ []) sum_notes) 2 }
+    ensures no_operator { Breaks (on_both op.BinaryOperation 13) 2 }
     ensures no_constant { Breaks (sheet (unit op.ReturnConst 1 ∷ []) (nothing ∷ [])) 0 }
-    ensures no_value { Breaks (sheet (unit op.LoadFast 0 ∷ unit op.BinaryOperation 6 ∷ unit op.ReturnValue 0 ∷ []) (nothing ∷ one ∷ one ∷ [])) 1 }
+    ensures no_value { Breaks (on_first (unit op.BinaryOperation 6) one) 1 }
     // The units end, and an instruction doesn't run yet.
-    ensures no_end { Breaks (sheet (unit op.LoadFast 0 ∷ unit op.Pop 0 ∷ []) (nothing ∷ one ∷ [])) 1 }
+    ensures no_end { Breaks (ending (unit op.Pop 0)) 1 }
     ensures unknown { Breaks (sheet (unit op.Reverse 0 ∷ []) (nothing ∷ [])) 0 }
     // An operator doesn't run yet, and constants aren't loaded yet.
-    ensures subtracts { Typed (sheet (unit op.LoadFast 0 ∷ unit op.LoadFast 1 ∷ unit op.BinaryOperation 7 ∷ unit op.ReturnValue 0 ∷ []) sum_notes) }
-    ensures multiplies { Breaks (sheet (unit op.LoadFast 0 ∷ unit op.LoadFast 1 ∷ unit op.BinaryOperation 1 ∷ unit op.ReturnValue 0 ∷ []) sum_notes) 2 }
-    ensures compares { Typed (sheet (unit op.LoadFast 0 ∷ unit op.LoadFast 1 ∷ unit op.CompareOperation 2 ∷ unit op.ReturnValue 0 ∷ []) sum_notes) }
-    ensures compares_otherwise { Breaks (sheet (unit op.LoadFast 0 ∷ unit op.LoadFast 1 ∷ unit op.CompareOperation 5 ∷ unit op.ReturnValue 0 ∷ []) sum_notes) 2 }
+    ensures subtracts { Typed (on_both op.BinaryOperation 7) }
+    ensures multiplies { Breaks (on_both op.BinaryOperation 1) 2 }
+    ensures compares { Typed (on_both op.CompareOperation 2) }
+    ensures compares_otherwise { Breaks (on_both op.CompareOperation 5) 2 }
     // A global is known by a name that is there.
-    ensures global { Typed (sheet (unit op.LoadGlobal 0 ∷ unit op.ReturnValue 0 ∷ []) (nothing ∷ one ∷ [])) }
-    ensures no_global { Breaks (sheet (unit op.LoadGlobal 1 ∷ unit op.ReturnValue 0 ∷ []) (nothing ∷ one ∷ [])) 0 }
+    ensures global { Typed (returning (unit op.LoadGlobal 0)) }
+    ensures no_global { Breaks (returning (unit op.LoadGlobal 1)) 0 }
     ensures loads_truth { (truth : Bool) → Typed (loaded_later (BoolOf truth) kind.Any) }
     ensures loads_tuple { (items : LiteralList) → Breaks (loaded (Tuple items) kind.Tuple) 0 }
-    ensures loads_driving { (f : BuiltinFn) → is_driving f ≡ true → Typed (loaded_later (Builtin f) kind.Any) }
-    ensures loads_builtin { (f : BuiltinFn) → is_driving f ≡ false → Breaks (loaded_later (Builtin f) kind.Any) 2 }
+    ensures loads_driving { (f : BuiltinFn) → is_driving f ≡ true → Typed (own_loaded f) }
+    ensures loads_builtin { (f : BuiltinFn) → is_driving f ≡ false → Breaks (own_loaded f) 2 }
     ensures loads_code { (c : ℕ) → Breaks (loaded_later (Code c) (kind.Code c)) 0 }
-    ensures returns_tuple { (items : LiteralList) → Breaks (record (sheet (unit op.ReturnConst 0 ∷ []) (nothing ∷ [])) { constants = Tuple items ∷ [] }) 0 }
-    ensures returns_builtin { (f : BuiltinFn) → is_driving f ≡ false → Breaks (returned_later (Builtin f)) 2 }
+    ensures returns_tuple { (items : LiteralList) → Breaks (returned (Tuple items)) 0 }
+    ensures returns_builtin { (f : BuiltinFn) → is_driving f ≡ false → Breaks (own_returned f) 2 }
     // A prefix counts for the unit behind it, and three may stand in a row.
     ensures three_prefixes { Typed (prefixed 0 (prefixed 0 (prefixed 0 sum))) }
     ensures four_prefixes { Breaks (prefixed 0 (prefixed 0 (prefixed 0 (prefixed 0 sum)))) 3 }
@@ -51,7 +51,7 @@ pub fn worked_notes()
     ensures text { (text : List ℕ) → Typed (loaded (Str text) kind.Str) }
     ensures number { (n : ℤ) → Breaks (loaded (Int n) kind.Str) 0 }
     ensures texts { (text : List ℕ) → tuple_kind (Str text ∷ Str text ∷ []) ≡ kind.Names 2 }
-    ensures other_tuple { (text : List ℕ) → (n : ℤ) → tuple_kind (Str text ∷ Int n ∷ []) ≡ kind.Tuple }
+    ensures other_tuple { (text : List ℕ) (n : ℤ) → tuple_kind (Str text ∷ Int n ∷ []) ≡ kind.Tuple }
 {}
 
 /// Codes that keep the rules on the whole code, and others that break them, which counts as unit 0.
@@ -66,10 +66,10 @@ pub fn worked_codes()
     ensures too_many_parameters { Breaks (record sum { arg_count = 1; flags = 24 }) 0 }
     ensures by_position_alone { Breaks (record sum { posonlyarg_count = 3 }) 0 }
     // A cell takes over a parameter, or none.
-    ensures cells { Typed (record sum { cellvars = 2; cell2arg = negsuc 0 ∷ pos 1 ∷ [] }) }
-    ensures cells_of_no_parameter { Breaks (record sum { cellvars = 2; cell2arg = negsuc 0 ∷ pos 2 ∷ [] }) 0 }
-    ensures cells_below { Breaks (record sum { cellvars = 2; cell2arg = negsuc 1 ∷ pos 1 ∷ [] }) 0 }
-    ensures too_few_cells { Breaks (record sum { cellvars = 2; cell2arg = pos 1 ∷ [] }) 0 }
+    ensures cells { Typed (with_cells (negsuc 0 ∷ pos 1 ∷ [])) }
+    ensures cells_of_no_parameter { Breaks (with_cells (negsuc 0 ∷ pos 2 ∷ [])) 0 }
+    ensures cells_below { Breaks (with_cells (negsuc 1 ∷ pos 1 ∷ [])) 0 }
+    ensures too_few_cells { Breaks (with_cells (pos 1 ∷ [])) 0 }
     // A call takes as many arguments as its operand says, with the callee under them.
     ensures calls { Typed (calling 2) }
     ensures no_callee { Breaks (calling 3) 3 }
@@ -80,23 +80,23 @@ pub fn worked_codes()
 pub fn worked_blocks()
     // The handler of a block is a unit that may be reached from it, with the entries under the block.
     ensures handled { Typed (guarded [] (block.TryExcept 0 2) handles) }
-    ensures handled_above { Typed (guarded (kind.Any ∷ kind.Str ∷ []) (block.TryExcept 1 2) (note.Live (kind.Exc ∷ kind.Str ∷ []) (block.ExceptHandler 1 ∷ []))) }
-    ensures finally_handled { Typed (guarded [] (block.Finally 0 2) (note.Live [] (block.FinallyHandler 0 (pending.Break 0 ∷ []) ∷ []))) }
+    ensures handled_above { Typed (guarded above_text (block.TryExcept 1 2) handles_above) }
+    ensures finally_handled { Typed (guarded [] (block.Finally 0 2) (finishes [] (pending.Break 0 ∷ []))) }
     ensures dead_handler { Breaks (guarded [] (block.TryExcept 0 2) note.Dead) 1 }
-    ensures no_exception { Breaks (guarded [] (block.TryExcept 0 2) (note.Live [] (block.ExceptHandler 0 ∷ []))) 1 }
+    ensures no_exception { Breaks (guarded [] (block.TryExcept 0 2) handled) 1 }
     ensures another_block { Breaks (guarded [] (block.Finally 0 2) handles) 1 }
     // A label is a unit without a prefix in front of it.
     ensures no_label { Breaks (guarded [] (block.TryExcept 0 3) handles) 1 }
-    ensures label_of_prefix { Typed (behind_the_end (unit op.ReturnConst 0 ∷ unit op.ExtendedArg 0 ∷ unit op.ReturnConst 0 ∷ []) (note.Live [] (block.TryExcept 0 2 ∷ []) ∷ handles ∷ handles ∷ [])) }
-    ensures label_behind_prefix { Breaks (behind_the_end (unit op.ReturnConst 0 ∷ unit op.ExtendedArg 0 ∷ unit op.ReturnConst 0 ∷ []) (note.Live [] (block.TryExcept 0 3 ∷ []) ∷ handles ∷ handles ∷ [])) 1 }
+    ensures label_of_prefix { Typed (guarded_prefix 2) }
+    ensures label_behind_prefix { Breaks (guarded_prefix 3) 1 }
     // A level is within the stack and not below that of the block around, and nothing under it is popped.
     ensures level_too_high { Breaks (guarded [] (block.Loop 1) note.Dead) 1 }
-    ensures falling_level { Breaks (behind_the_end (unit op.ReturnConst 0 ∷ []) (note.Live (kind.Any ∷ []) (block.Loop 0 ∷ block.Loop 1 ∷ []) ∷ [])) 1 }
-    ensures popped_below { Breaks (behind_the_end (unit op.Pop 0 ∷ unit op.ReturnConst 0 ∷ []) (note.Live (kind.Any ∷ []) (block.Loop 1 ∷ []) ∷ note.Live [] (block.Loop 1 ∷ []) ∷ [])) 1 }
-    ensures called_below { Breaks (behind_the_end (unit op.CallFunctionPositional 0 ∷ unit op.ReturnConst 0 ∷ []) (note.Live (kind.Any ∷ []) (block.Loop 1 ∷ []) ∷ note.Live (kind.Any ∷ []) (block.Loop 1 ∷ []) ∷ [])) 1 }
+    ensures falling_level { Breaks falling_levels 1 }
+    ensures popped_below { Breaks (stranded (unit op.Pop 0) (loop_above 1) (loop_above 0)) 1 }
+    ensures called_below { Breaks (stranded (unit op.CallFunctionPositional 0) (loop_above 1) (loop_above 1)) 1 }
     // What may wait in a handler goes over to a note in which more may.
-    ensures more_pending { Typed (behind_the_end (unit op.LoadFast 0 ∷ unit op.ReturnValue 0 ∷ []) (note.Live [] (block.FinallyHandler 0 (pending.Break 1 ∷ []) ∷ []) ∷ note.Live (kind.Any ∷ []) (block.FinallyHandler 0 (pending.Continue 1 ∷ pending.Break 1 ∷ []) ∷ []) ∷ [])) }
-    ensures less_pending { Breaks (behind_the_end (unit op.LoadFast 0 ∷ unit op.ReturnValue 0 ∷ []) (note.Live [] (block.FinallyHandler 0 (pending.Break 1 ∷ []) ∷ []) ∷ note.Live (kind.Any ∷ []) (block.FinallyHandler 0 (pending.Continue 1 ∷ []) ∷ []) ∷ [])) 1 }
+    ensures more_pending { Typed (waiting_on (pending.Continue 1 ∷ pending.Break 1 ∷ [])) }
+    ensures less_pending { Breaks (waiting_on (pending.Continue 1 ∷ [])) 1 }
 {}
 
 /// A code that loops keeps the rules, and others break them, each first at a certain unit.
@@ -104,13 +104,13 @@ pub fn worked_loops()
     ensures loops { Typed looping }
     // A jump goes to a unit without a prefix in front of it, whose note is as it should be.
     ensures no_label { Breaks (record looping { units = loop_units 6 }) 2 }
-    ensures label_behind_prefix { Breaks (sheet (unit op.ExtendedArg 0 ∷ unit op.Jump 1 ∷ []) (nothing ∷ nothing ∷ [])) 1 }
+    ensures label_behind_prefix { Breaks (prefixed 0 (sheet (unit op.Jump 1 ∷ []) (nothing ∷ []))) 1 }
     ensures other_block { Breaks (record looping { units = loop_units 5 }) 2 }
-    ensures falls_on { Breaks (record looping { notes = nothing ∷ in_loop ∷ note.Live (kind.Any ∷ []) (block.Loop 0 ∷ []) ∷ nothing ∷ in_loop ∷ nothing ∷ [] }) 2 }
+    ensures falls_on { Breaks (record looping { notes = loop_notes nothing }) 2 }
     // A loop's block lies on the stack as it is, and is the innermost one at its end.
-    ensures no_block { Breaks (record looping { notes = nothing ∷ nothing ∷ one ∷ nothing ∷ nothing ∷ nothing ∷ [] }) 0 }
-    ensures wrong_level { Breaks (sheet (unit op.LoadFast 0 ∷ unit op.SetupLoop 0 ∷ unit op.ReturnConst 0 ∷ []) (nothing ∷ one ∷ note.Live (kind.Any ∷ []) (block.Loop 0 ∷ []) ∷ [])) 1 }
-    ensures no_block_left { Breaks (sheet (unit op.PopBlock 0 ∷ unit op.ReturnConst 0 ∷ []) (nothing ∷ nothing ∷ [])) 0 }
-    ensures cut_to_its_level { Typed (sheet (unit op.LoadFast 0 ∷ unit op.SetupLoop 0 ∷ unit op.LoadFast 1 ∷ unit op.PopBlock 0 ∷ unit op.ReturnValue 0 ∷ []) (nothing ∷ one ∷ note.Live (kind.Any ∷ []) (block.Loop 1 ∷ []) ∷ note.Live (kind.Any ∷ kind.Any ∷ []) (block.Loop 1 ∷ []) ∷ one ∷ [])) }
-    ensures handler_stays { Breaks (behind_the_end (unit op.PopBlock 0 ∷ unit op.ReturnConst 0 ∷ []) (handles ∷ nothing ∷ [])) 1 }
+    ensures no_block { Breaks (record looping { notes = no_loop_notes }) 0 }
+    ensures wrong_level { Breaks (opening 0) 1 }
+    ensures no_block_left { Breaks (beginning (unit op.PopBlock 0)) 0 }
+    ensures cut_to_its_level { Typed cutting }
+    ensures handler_stays { Breaks (stranded (unit op.PopBlock 0) handles nothing) 1 }
 {}

@@ -1,10 +1,8 @@
 use Rattle.std.proofs.Common.{◌≡◌, true, false, refl}
 use Rattle.py_code.specs.declared.literal.BuiltinFn.{BuiltinFn}
 use Rattle.py_code.specs.declared.literal.BuiltinFn.TheVariants.{Send, Throw, Close}
-use Rattle.py_code.specs.declared.literal.Literal.{Builtin}
-use Rattle.py_check.specs.declared.note.Kind.TheVariants as kind
 use Rattle.py_check.specs.Constants.{is_driving}
-use Rattle.py_check.specs.Worked.{Typed, Breaks, loaded_later, returned_later}
+use Rattle.py_check.specs.Worked.{Typed, Breaks, own_loaded, own_returned}
 use Rattle.py_check.proofs.WorkedLemmas.{typed, breaks, breaks_first, breaks_whole}
 use Rattle.py_check.proofs.worked.worked_notes.Goals as goal
 
@@ -65,19 +63,19 @@ returns-clause-loads_truth c truth = typed _ refl refl
 pub returns-clause-loads_tuple : goal.returns-clause-loads_tuple
 returns-clause-loads_tuple c items = breaks_first _ refl
 
-driving_typed : (f : BuiltinFn) → is_driving f ≡ true → Typed (loaded_later (Builtin f) kind.Any)
+driving_typed : (f : BuiltinFn) → is_driving f ≡ true → Typed (own_loaded f)
 driving_typed Send is = typed _ refl refl
 driving_typed Throw is = typed _ refl refl
 driving_typed Close is = typed _ refl refl
 driving_typed _ is = cc
 
-others_break : (f : BuiltinFn) → is_driving f ≡ false → Breaks (loaded_later (Builtin f) kind.Any) 2
+others_break : (f : BuiltinFn) → is_driving f ≡ false → Breaks (own_loaded f) 2
 others_break Send other = cc
 others_break Throw other = cc
 others_break Close other = cc
 others_break _ other = breaks _ _ refl refl refl
 
-others_return : (f : BuiltinFn) → is_driving f ≡ false → Breaks (returned_later (Builtin f)) 2
+others_return : (f : BuiltinFn) → is_driving f ≡ false → Breaks (own_returned f) 2
 others_return Send other = cc
 others_return Throw other = cc
 others_return Close other = cc
