@@ -1,5 +1,7 @@
 -- What a read tells of its source: whether it is at its end, and that it is sound.
-use Rattle.std.specs.Prelude.{◌≡◌, ℕ, ◌<◌, ◌==◌, Bool, false, IsTrue, List, length, Result, Ok, Err, IsOk}
+use Rattle.std.specs.Prelude.{◌≡◌, ℕ, ◌<◌, ◌==◌, Bool, false, IsTrue, List, length, Result, Ok, Err}
+use Rattle.py_outside.specs.Counting.{MeetsNoFault}
+use Rattle.py_outside.specs.Seen.{SourceSeen}
 
 -- a read that moved nothing has come to the end; one that failed has not
 abbrev pub is_end : {E : Type 0} → Result ℕ E → Bool
@@ -11,8 +13,6 @@ pub record TellsEnd {E : Type 0} (room : List ℕ) (before now : Bool) (result :
   pub told : 0 < length room → now ≡ is_end result
   pub kept : length room ≡ 0 → now ≡ before
 
--- a call succeeded, met no fault, and left what it read as sound as it was
-pub record StaysSound {T E : Type 0} (before now : ℕ) (sound : Bool) (result : Result T E) : Type 0 where
-  pub succeeds : IsOk result
-  pub same : now ≡ before
-  pub stays : IsTrue sound
+-- where a source is sound, a call of it meets no fault, and it stays sound
+abbrev pub StaysSound : {T E : Type 0} → SourceSeen → SourceSeen → Result T E → Type 0
+StaysSound before after result = IsTrue before.is_sound → MeetsNoFault before.faults after.faults result × IsTrue after.is_sound

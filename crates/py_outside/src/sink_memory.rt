@@ -1,11 +1,11 @@
 //! A sink over memory, which fails where it is told to.
 
-ghost use Rattle.std.specs.Prelude.{◌≡◌, ◌+◌, ◌≤◌, ◌<◌, ◌⊎◌, length, take, [], Some, IsErr, IfOk, OnErr, Contains};
+ghost use Rattle.std.specs.Prelude.{◌≡◌, ◌≤◌, ◌<◌, ◌⊎◌, length, Some, IsErr, IfOk, OnErr};
 ghost use Rattle.std.specs.Io.{WritesAtMost};
 ghost use Rattle.std.specs.Io.KnownBytes.{WriteAppends};
-ghost use Rattle.py_outside.specs.Counting.{HasCause, MeetsNoFault};
-ghost use Rattle.py_outside.specs.Faults.{one_more};
-ghost use Rattle.py_outside.specs.Sinks.{sink_after, failed_sink, writable, sure_of};
+ghost use Rattle.py_outside.specs.Counting.{HasCause};
+ghost use Rattle.py_outside.specs.Sinks.{new_sink, sink_seen, failed_sink, HasNoRoom, HasTaken, IsFull, WriteIsListed};
+ghost use Rattle.py_outside.specs.Transfer.{LessSureBy, TakesSome, TakesSurely};
 
 use crate::sink::{Sink, WriteFailed};
 use py_code::NoMemory;
@@ -47,7 +47,7 @@ impl SinkMemory {
         room: usize,
     ) -> Result<SinkMemory, NoMemory>
         requires { 1 ≤ most }
-        ensures { IfOk result (λ sink. sink ≡ record { taken = []; fails = fails.items; most = most; room = room; calls = 0; faults = 0 }) }
+        ensures { IfOk result (λ sink. sink ≡ new_sink fails.items most room) }
     {
         Ok(SinkMemory {
             bytes: Vec::with_capacity(alloc, room)?,
@@ -68,29 +68,25 @@ impl SinkMemory {
 }
 
 impl Sink for SinkMemory {
-    ghost taken = { λ s. Some s.taken };
-
-    ghost faults = { λ s. s.faults };
-
-    ghost sure = { λ s. sure_of s };
+    ghost seen = { λ s. sink_seen s };
 
     /// Takes as many bytes as there are, are free and may be taken by one call.
     fn write(&mut self, piece: &[u8]) -> Result<usize, WriteFailed>
         ensures bound { WritesAtMost result piece.now }
-        ensures some { IfOk result (λ count. 0 < length piece.now → 0 < count) }
+        ensures some { IfOk result (TakesSome piece.now) }
         ensures bytes { WriteAppends (Some self.old.taken) (Some self.new.taken) result piece.now }
         ensures cause { HasCause self.old.faults self.new.faults result }
-        ensures sure { 0 < length piece.now → length piece.now ≤ sure_of self.old → MeetsNoFault self.old.faults self.new.faults result }
-        ensures still { IfOk result (λ count. sure_of self.old ≤ sure_of self.new + count) }
+        ensures sure { TakesSurely (sink_seen self.old) (sink_seen self.new) piece.now result }
+        ensures still { IfOk result (LessSureBy (sink_seen self.old) (sink_seen self.new)) }
 
         // An empty piece changes nothing. With another, just the listed calls fail, and those of a full sink.
         ensures no_piece { length piece.now ≡ 0 → (result ≡ Ok 0) × (self.new ≡ self.old) }
-        ensures listed { 0 < length piece.now → Contains self.old.fails (one_more self.old.calls) → IsErr result }
-        ensures full { 0 < length piece.now → self.old.room ≤ length self.old.taken → IsErr result }
-        ensures only { OnErr result (Contains self.old.fails (one_more self.old.calls) ⊎ (length self.old.taken ≡ self.old.room)) }
+        ensures listed { 0 < length piece.now → WriteIsListed self.old → IsErr result }
+        ensures full { 0 < length piece.now → HasNoRoom self.old → IsErr result }
+        ensures only { OnErr result (WriteIsListed self.old ⊎ IsFull self.old) }
 
         // The other calls take all that they may.
-        ensures moved { 0 < length piece.now → IfOk result (λ count. (count ≡ writable self.old piece.now) × (self.new ≡ sink_after self.old (take count piece.now))) }
+        ensures moved { 0 < length piece.now → IfOk result (HasTaken self.old self.new piece.now) }
         ensures err { OnErr result (self.new ≡ failed_sink self.old) }
     {
         if piece.is_empty() {

@@ -1,12 +1,11 @@
 //! A source in memory, which fails where it is told to.
 
-ghost use Rattle.std.specs.Prelude.{◌≡◌, ◌+◌, ◌≤◌, ◌<◌, ◌↔◌, ◌++◌, length, take, drop, Some, false, IsTrue, IsErr, IfOk, OnOk, OnErr, Contains};
+ghost use Rattle.std.specs.Prelude.{◌≡◌, ◌+◌, ◌≤◌, ◌<◌, ◌↔◌, length, Some, IsErr, IfOk, OnOk, OnErr};
 ghost use Rattle.std.specs.Io.{ReadsAtMost};
 ghost use Rattle.std.specs.Io.KnownBytes.{ReadConsumes};
 ghost use Rattle.py_outside.specs.Counting.{HasCause};
-ghost use Rattle.py_outside.specs.Faults.{one_more};
 ghost use Rattle.py_outside.specs.Ends.{StaysSound, TellsEnd};
-ghost use Rattle.py_outside.specs.Sources.{source_after, failed_source, readable, none_listed};
+ghost use Rattle.py_outside.specs.Sources.{new_source, source_seen, HasGiven, HasGivenNone, IsFilledBy, ReadIsListed};
 
 use crate::source::{ReadFailed, Source};
 use std::marker::Model;
@@ -42,7 +41,7 @@ impl SourceMemory {
     /// `most` bytes.
     pub fn new(bytes: Vec<u8>, fails: Vec<u64>, most: usize) -> SourceMemory
         requires { 1 ≤ most }
-        ensures { result ≡ record { left = bytes.items; fails = fails.items; most = most; calls = 0; faults = 0; at_end = false } }
+        ensures { result ≡ new_source bytes.items fails.items most }
     {
         SourceMemory {
             bytes,
@@ -57,15 +56,7 @@ impl SourceMemory {
 }
 
 impl Source for SourceMemory {
-    ghost left = { λ s. Some s.left };
-
-    ghost faults = { λ s. s.faults };
-
-    ghost reads = { λ s. s.calls };
-
-    ghost at_end = { λ s. s.at_end };
-
-    ghost is_sound = { λ s. none_listed s.fails };
+    ghost seen = { λ s. source_seen s };
 
     /// Moves as many bytes as are left, fit and may be moved by one call.
     fn read(&mut self, room: &mut [u8]) -> Result<usize, ReadFailed>
@@ -75,16 +66,16 @@ impl Source for SourceMemory {
         ensures kept { OnOk result (self.new.faults ≡ self.old.faults) }
         ensures end { TellsEnd room.old self.old.at_end self.new.at_end result }
         ensures turns { self.new.calls ≤ self.old.calls + 1 }
-        ensures sound { IsTrue (none_listed self.old.fails) → StaysSound self.old.faults self.new.faults (none_listed self.new.fails) result }
+        ensures sound { StaysSound (source_seen self.old) (source_seen self.new) result }
 
         // An empty room changes nothing. With another, just the listed calls fail.
         ensures no_room { length room.old ≡ 0 → (result ≡ Ok 0) × (self.new ≡ self.old) }
-        ensures listed { 0 < length room.old → (IsErr result ↔ Contains self.old.fails (one_more self.old.calls)) }
+        ensures listed { 0 < length room.old → (IsErr result ↔ ReadIsListed self.old) }
 
         // The other calls move all that they may.
-        ensures moved { 0 < length room.old → IfOk result (λ count. (count ≡ readable self.old room.old) × (self.new ≡ source_after self.old count)) }
-        ensures err { OnErr result ((self.new ≡ failed_source self.old) × (room.new ≡ room.old)) }
-        ensures rest { IfOk result (λ count. room.new ≡ take count self.old.left ++ drop count room.old) }
+        ensures moved { 0 < length room.old → IfOk result (HasGiven self.old self.new room.old) }
+        ensures err { OnErr result (HasGivenNone self.old self.new room.old room.new) }
+        ensures rest { IfOk result (IsFilledBy self.old.left room.old room.new) }
     {
         if room.is_empty() {
             return Ok(0);

@@ -1,9 +1,10 @@
 //! Writers of std as sinks, which count their own faults.
 
-ghost use Rattle.std.specs.Prelude.{◌≡◌, ◌<◌, length, IfOk};
+ghost use Rattle.std.specs.Prelude.{◌≡◌, IfOk};
 ghost use Rattle.std.specs.Io.{WritesAtMost};
 ghost use Rattle.std.specs.Io.KnownBytes.{WriteAppends};
 ghost use Rattle.py_outside.specs.Counting.{HasCause, CountsFailure};
+ghost use Rattle.py_outside.specs.Transfer.{TakesSome};
 
 use crate::sink::{Sink, WriteFailed};
 use std::io::Write;
@@ -30,15 +31,13 @@ impl<W: Write + Drop> StdSink<W> {
 impl<W: Write + Drop> Sink for StdSink<W> {
     ghost use Rattle.py_outside.specs.Sinks.{writer_of, write_faults};
 
-    ghost taken = { λ s. W.contents (writer_of s) };
-
-    ghost faults = { λ s. write_faults s };
+    ghost seen = { λ s. record { taken = W.contents (writer_of s); faults = write_faults s; sure = 0 } };
 
     /// Writes once. Any error of the writer is a fault, and so is that it takes nothing of a piece
     /// that isn't empty.
     fn write(&mut self, piece: &[u8]) -> Result<usize, WriteFailed>
         ensures bound { WritesAtMost result piece.now }
-        ensures some { IfOk result (λ count. 0 < length piece.now → 0 < count) }
+        ensures some { IfOk result (TakesSome piece.now) }
         ensures bytes { WriteAppends (W.contents (writer_of self.old)) (W.contents (writer_of self.new)) result piece.now }
         ensures cause { HasCause (write_faults self.old) (write_faults self.new) result }
         ensures counted { CountsFailure (write_faults self.old) (write_faults self.new) result }

@@ -37,13 +37,7 @@ impl<R: Read + Drop> StdSource<R> {
 impl<R: Read + Drop> Source for StdSource<R> {
     ghost use Rattle.py_outside.specs.Sources.{reader_of, read_faults, read_ended};
 
-    ghost left = { λ s. R.remaining (reader_of s) };
-
-    ghost faults = { λ s. read_faults s };
-
-    ghost reads = { λ _. 0 };
-
-    ghost at_end = { λ s. read_ended s };
+    ghost seen = { λ s. record { left = R.remaining (reader_of s); faults = read_faults s; reads = 0; at_end = read_ended s; is_sound = false } };
 
     /// Reads once. Any error of the reader is a fault.
     fn read(&mut self, room: &mut [u8]) -> Result<usize, ReadFailed>

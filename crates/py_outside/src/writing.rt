@@ -1,18 +1,17 @@
 //! Writing bytes whole.
 
-ghost use Rattle.std.specs.Prelude.{◌≤◌, length, OnOk, OnErr};
-ghost use Rattle.std.specs.Io.KnownBytes.{Appends};
-ghost use Rattle.py_outside.specs.Counting.{HasCause, MeetsNoFault};
-ghost use Rattle.py_outside.specs.Transfer.{AppendsFront};
+ghost use Rattle.std.specs.Prelude.{OnOk, OnErr};
+ghost use Rattle.py_outside.specs.Counting.{HasCause};
+ghost use Rattle.py_outside.specs.Transfer.{AppendsAll, AppendsFront, WritesSurely};
 
 use crate::sink::{Sink, WriteFailed};
 
 /// Writes the bytes, in as many pieces as the sink takes them.
 pub fn write_bytes<K: Sink>(sink: &mut K, bytes: &[u8]) -> Result<(), WriteFailed>
-    ensures whole { OnOk result (Appends (K.taken sink.old) (K.taken sink.new) bytes.now) }
-    ensures front { OnErr result (AppendsFront (K.taken sink.old) (K.taken sink.new) bytes.now) }
-    ensures cause { HasCause (K.faults sink.old) (K.faults sink.new) result }
-    ensures sure { length bytes.now ≤ K.sure sink.old → MeetsNoFault (K.faults sink.old) (K.faults sink.new) result }
+    ensures whole { OnOk result (AppendsAll (K.seen sink.old) (K.seen sink.new) bytes.now) }
+    ensures front { OnErr result (AppendsFront (K.seen sink.old) (K.seen sink.new) bytes.now) }
+    ensures cause { HasCause (K.seen sink.old).faults (K.seen sink.new).faults result }
+    ensures sure { WritesSurely (K.seen sink.old) (K.seen sink.new) bytes.now result }
 {
     let mut done = 0;
     while done < bytes.len() {

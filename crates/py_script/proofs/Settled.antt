@@ -1,11 +1,10 @@
 -- What the runs of a script settle of the answer to it.
 use Rattle.std.proofs.Common.{◌≡◌, ◌<◌, ◌≤◌, ◌⊎◌, ℕ, List, length, sym, ◌∙◌, subst, arith, inl, inr}
 use Rattle.std.specs.Prelude.{Result, Ok, Err}
-use Rattle.std.specs.Io.KnownBytes.{Appends}
 use Rattle.std.proofs.lemmas.Bool.{cases_lt}
 use Rattle.py_run.specs.declared.journal.Journal.{Journal}
 use Rattle.py_meaning.specs.Whole.{IsWholeFrom, IsUnfinishedFrom}
-use Rattle.py_meaning.specs.Text.{text_of}
+use Rattle.py_outside.specs.Seen.{SourceSeen}
 use Rattle.py_meaning.proofs.ScriptsAgree.{unfinished_runs, shorter, same_text, one_text}
 use Rattle.py_script.specs.declared.words.Command.TheVariants as command
 use Rattle.py_script.specs.declared.fault.ScriptFault.{ScriptFault}
@@ -14,13 +13,13 @@ use Rattle.py_script.specs.declared.fault.CommandResult.{CommandResult}
 use Rattle.py_script.specs.declared.fault.CommandResult.TheVariants as outcome
 use Rattle.py_script.specs.Answered.{IsWholeRun, IsCutRun}
 use Rattle.py_script.specs.Words.{command_in}
-use Rattle.py_script.specs.Causes.{Ends, IsAnswer, IsEnding, status_in, HasFewer, IsSettled, RunsSettle, AskedRunsSettle}
+use Rattle.py_script.specs.Causes.{IsAnswer, IsEnding, status_in, HasFewer, IsSettled, RunsSettle, AskedRunsSettle}
 use Rattle.py_script.specs.Steps.{result_in}
 use Rattle.py_script.proofs.Statuses.{what_it_held}
 
-module _ (bytes : List ℕ) (e : Ends) (turns : ℕ) where
+module _ (bytes : List ℕ) (turns : ℕ) where
   -- an answer that is neither a whole run nor a cut one
-  neither : (f : ScriptFault) → (status_in (outcome.Fault f) ≡ 0 → ⊥) → (status_in (outcome.Fault f) ≡ 4 → ⊥) → HasFewer turns (outcome.Fault f) → IsSettled bytes e turns (outcome.Fault f)
+  neither : (f : ScriptFault) → (status_in (outcome.Fault f) ≡ 0 → ⊥) → (status_in (outcome.Fault f) ≡ 4 → ⊥) → HasFewer turns (outcome.Fault f) → IsSettled bytes turns (outcome.Fault f)
   neither f no_run no_cut fewer = record {
     never_cut = λ j whole few is. no_cut is;
     never_whole = λ j unfinished enough is. no_run is;
@@ -30,11 +29,11 @@ module _ (bytes : List ℕ) (e : Ends) (turns : ℕ) where
   }
 
   -- a whole run
-  whole_settles : (j : Journal) → IsWholeFrom bytes j → length j.events ≤ turns → Appends e.taken e.taken' (text_of j) → IsSettled bytes e turns (outcome.Ran j)
-  whole_settles j whole few text = record {
+  whole_settles : (j : Journal) → IsWholeFrom bytes j → length j.events ≤ turns → IsSettled bytes turns (outcome.Ran j)
+  whole_settles j whole few = record {
     never_cut = λ j' other enough is. cc is;
     never_whole = λ j' unfinished enough is. let less = shorter bytes j j' whole unfinished in omega (arith, less, few, enough);
-    whole_text = λ j' other is. subst (λ (t : List ℕ). Appends e.taken e.taken' t) (one_text bytes j j' whole other) text;
+    whole_text = λ j' other is. one_text bytes j j' whole other;
     cut_text = λ j' run count is. absurd (cc is);
     fewer = λ none. by none (cases_lt (length j.events) turns);
   }
@@ -44,44 +43,45 @@ module _ (bytes : List ℕ) (e : Ends) (turns : ℕ) where
       by none (inr enough) = absurd (none j whole (omega (arith, few, enough)))
 
   -- one that is cut
-  cut_settles : (j : Journal) → IsUnfinishedFrom bytes j → length j.events ≡ turns → Appends e.taken e.taken' (text_of j) → IsSettled bytes e turns (outcome.Fault (fault.OutOfTurns j))
-  cut_settles j unfinished count text = record {
+  cut_settles : (j : Journal) → IsUnfinishedFrom bytes j → length j.events ≡ turns → IsSettled bytes turns (outcome.Fault (fault.OutOfTurns j))
+  cut_settles j unfinished count = record {
     never_cut = λ j' whole few is. let less = shorter bytes j' j whole unfinished in omega (arith, less, few, count);
     never_whole = λ j' other enough is. cc is;
     whole_text = λ j' whole is. absurd (cc is);
-    cut_text = λ j' run count' is. subst (λ (t : List ℕ). Appends e.taken e.taken' t) (same_text bytes j j' (unfinished_runs bytes j unfinished) run (count ∙ sym count')) text;
+    cut_text = λ j' run count' is. same_text bytes j j' (unfinished_runs bytes j unfinished) run (count ∙ sym count');
     fewer = λ none. tt;
   }
 
   -- by what was read
-  whole_read : (j : Journal) → IsWholeRun bytes turns j → Appends e.taken e.taken' (text_of j) → IsSettled bytes e turns (outcome.Ran j)
-  whole_read j (s, is, run, whole, few, codes) text = whole_settles j (s, is, run, whole) few text
+  whole_read : (j : Journal) → IsWholeRun bytes turns j → IsSettled bytes turns (outcome.Ran j)
+  whole_read j (s, is, run, whole, few, codes) = whole_settles j (s, is, run, whole) few
 
-  cut_read : (j : Journal) → IsCutRun bytes turns j → Appends e.taken e.taken' (text_of j) → IsSettled bytes e turns (outcome.Fault (fault.OutOfTurns j))
-  cut_read j (s, is, run, not_whole, count, codes) text = cut_settles j (s, is, run, not_whole) count text
+  cut_read : (j : Journal) → IsCutRun bytes turns j → IsSettled bytes turns (outcome.Fault (fault.OutOfTurns j))
+  cut_read j (s, is, run, not_whole, count, codes) = cut_settles j (s, is, run, not_whole) count
 
-pub answer_settles : (e : Ends) (turns : ℕ) (r : Result Journal ScriptFault) → IsAnswer e turns r → RunsSettle e turns (result_in r)
-answer_settles e turns (Ok j) is bytes left = whole_read bytes e turns j (what_it_held e bytes (λ b. IsWholeRun b turns j) left is.0) is.1
-answer_settles e turns (Err (fault.OutOfTurns j)) is bytes left = cut_read bytes e turns j (what_it_held e bytes (λ b. IsCutRun b turns j) left is.0) is.1
-answer_settles e turns (Err (fault.Malformed line)) is bytes left = neither bytes e turns (fault.Malformed line) (λ s. cc s) (λ s. cc s) tt
-answer_settles e turns (Err (fault.Refused code at)) is bytes left = neither bytes e turns (fault.Refused code at) (λ s. cc s) (λ s. cc s) tt
-answer_settles e turns (Err fault.ReadFault) is bytes left = neither bytes e turns fault.ReadFault (λ s. cc s) (λ s. cc s) tt
-answer_settles e turns (Err (fault.WriteFault j)) is bytes left = neither bytes e turns (fault.WriteFault j) (λ s. cc s) (λ s. cc s) tt
-answer_settles e turns (Err fault.TooLong) is bytes left = neither bytes e turns fault.TooLong (λ s. cc s) (λ s. cc s) tt
-answer_settles e turns (Err (fault.NoMemory j)) is bytes left = neither bytes e turns (fault.NoMemory j) (λ s. cc s) (λ s. cc s) tt
+module _ (before after : SourceSeen) where
+  pub answer_settles : (turns : ℕ) (r : Result Journal ScriptFault) → IsAnswer before after turns r → RunsSettle before turns (result_in r)
+  answer_settles turns (Ok j) is bytes left = whole_read bytes turns j (what_it_held before after bytes (λ b. IsWholeRun b turns j) left is)
+  answer_settles turns (Err (fault.OutOfTurns j)) is bytes left = cut_read bytes turns j (what_it_held before after bytes (λ b. IsCutRun b turns j) left is)
+  answer_settles turns (Err (fault.Malformed line)) is bytes left = neither bytes turns (fault.Malformed line) (λ s. cc s) (λ s. cc s) tt
+  answer_settles turns (Err (fault.Refused code at)) is bytes left = neither bytes turns (fault.Refused code at) (λ s. cc s) (λ s. cc s) tt
+  answer_settles turns (Err fault.ReadFault) is bytes left = neither bytes turns fault.ReadFault (λ s. cc s) (λ s. cc s) tt
+  answer_settles turns (Err (fault.WriteFault j)) is bytes left = neither bytes turns (fault.WriteFault j) (λ s. cc s) (λ s. cc s) tt
+  answer_settles turns (Err fault.TooLong) is bytes left = neither bytes turns fault.TooLong (λ s. cc s) (λ s. cc s) tt
+  answer_settles turns (Err (fault.NoMemory j)) is bytes left = neither bytes turns (fault.NoMemory j) (λ s. cc s) (λ s. cc s) tt
 
--- words ask for one run
-asked_so : (e : Ends) (words : List (List ℕ)) (n turns : ℕ) (result : CommandResult) → command_in words ≡ command.Run n → command_in words ≡ command.Run turns → RunsSettle e n result
-    → RunsSettle e turns result
-asked_so e words n turns result is asks settles =
-    let both : command.Run n ≡ command.Run turns = sym is ∙ asks in
-    let same : n ≡ turns = cc both in
-    subst (λ (k : ℕ). RunsSettle e k result) same settles
+  -- words ask for one run
+  asked_so : (words : List (List ℕ)) (n turns : ℕ) (result : CommandResult) → command_in words ≡ command.Run n → command_in words ≡ command.Run turns → RunsSettle before n result
+      → RunsSettle before turns result
+  asked_so words n turns result is asks settles =
+      let both : command.Run n ≡ command.Run turns = sym is ∙ asks in
+      let same : n ≡ turns = cc both in
+      subst (λ (k : ℕ). RunsSettle before k result) same settles
 
--- and so they do of a command
-pub ending_settles : (e : Ends) (words : List (List ℕ)) (result : CommandResult) → IsEnding e words result → AskedRunsSettle e words result
-ending_settles e words (outcome.Ran j) is turns asks = asked_so e words is.0 turns (outcome.Ran j) is.1 asks (answer_settles e is.0 (Ok j) is.2)
-ending_settles e words (outcome.Fault f) is turns asks = asked_so e words is.0 turns (outcome.Fault f) is.1 asks (answer_settles e is.0 (Err f) is.2)
-ending_settles e words (outcome.Made summary) is turns asks = absurd is
-ending_settles e words outcome.Usage is turns asks = let clash : command.Usage ≡ command.Run turns = sym is.0 ∙ asks in absurd (cc clash)
-ending_settles e words outcome.NoMemory is turns asks = absurd is
+  -- and so they do of a command
+  pub ending_settles : (words : List (List ℕ)) (result : CommandResult) → IsEnding before after words result → AskedRunsSettle before words result
+  ending_settles words (outcome.Ran j) is turns asks = asked_so words is.0 turns (outcome.Ran j) is.1 asks (answer_settles is.0 (Ok j) is.2)
+  ending_settles words (outcome.Fault f) is turns asks = asked_so words is.0 turns (outcome.Fault f) is.1 asks (answer_settles is.0 (Err f) is.2)
+  ending_settles words (outcome.Made summary) is turns asks = absurd is
+  ending_settles words outcome.Usage is turns asks = let clash : command.Usage ≡ command.Run turns = sym is.0 ∙ asks in absurd (cc clash)
+  ending_settles words outcome.NoMemory is turns asks = absurd is

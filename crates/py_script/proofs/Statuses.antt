@@ -9,12 +9,13 @@ use Rattle.py_script.specs.declared.fault.ScriptFault.{ScriptFault}
 use Rattle.py_script.specs.declared.fault.ScriptFault.TheVariants as fault
 use Rattle.py_script.specs.declared.fault.CommandResult.{CommandResult}
 use Rattle.py_script.specs.declared.fault.CommandResult.TheVariants as outcome
-use Rattle.py_script.specs.Causes.{Ends, IsAnswer, IsEnding, Read, RunsScripts, RunsAskedScripts}
+use Rattle.py_outside.specs.Seen.{SinkSeen, SourceSeen}
+use Rattle.py_script.specs.Causes.{IsAnswer, IsEnding, IsWritten, WasRead, CountsReadFault, CountsWriteFault, RunsScripts, RunsAskedScripts, status_in}
 use Rattle.py_script.specs.Steps.{result_in}
 
 -- what was read of a source is what it held
-pub what_it_held : (e : Ends) (bytes : List ℕ) (claim : List ℕ → Type 0) → e.left ≡ Some bytes → Read e claim → claim bytes
-what_it_held e bytes claim is read =
+pub what_it_held : (before after : SourceSeen) (bytes : List ℕ) (claim : List ℕ → Type 0) → before.left ≡ Some bytes → WasRead before after claim → claim bytes
+what_it_held before after bytes claim is read =
     let same : read.bytes ≡ bytes = subst (λ (l : Option (List ℕ)). IfSome l (λ all. read.bytes ≡ all)) is read.are in
     subst claim same read.claimed
 
@@ -24,21 +25,60 @@ short_enough left bytes is short long =
     let more : 2 ^ 20 < length bytes = subst (λ (l : Option (List ℕ)). IfSome l (λ all. 2 ^ 20 < length all)) is long in
     omega (arith, short, more)
 
--- so a script is run, or a fault was counted
-pub answer_runs : (e : Ends) (turns : ℕ) (r : Result Journal ScriptFault) → IsAnswer e turns r → RunsScripts e (result_in r)
-answer_runs e turns (Ok j) is bytes s left short script = inl (inl refl)
-answer_runs e turns (Err (fault.Malformed line)) is bytes s left short script = absurd (not_both bytes s line script (what_it_held e bytes (λ b. IsBadLine b line) left is.0))
-answer_runs e turns (Err (fault.Refused code at)) is bytes s left short script = absurd is
-answer_runs e turns (Err (fault.OutOfTurns j)) is bytes s left short script = inl (inr (inl refl))
-answer_runs e turns (Err fault.ReadFault) is bytes s left short script = inr (inl (refl, is.0))
-answer_runs e turns (Err (fault.WriteFault j)) is bytes s left short script = inr (inr (refl, is.0))
-answer_runs e turns (Err fault.TooLong) is bytes s left short script = absurd (short_enough e.left bytes left short is.0)
-answer_runs e turns (Err (fault.NoMemory j)) is bytes s left short script = inl (inr (inr refl))
+module _ (before after : SourceSeen) where
+  -- so a script is run
+  pub answer_runs : (turns : ℕ) (r : Result Journal ScriptFault) → IsAnswer before after turns r → RunsScripts before (result_in r)
+  answer_runs turns (Ok j) is bytes s left short script = inl (inl refl)
+  answer_runs turns (Err (fault.Malformed line)) is bytes s left short script = absurd (not_both bytes s line script (what_it_held before after bytes (λ b. IsBadLine b line) left is))
+  answer_runs turns (Err (fault.Refused code at)) is bytes s left short script = absurd is
+  answer_runs turns (Err (fault.OutOfTurns j)) is bytes s left short script = inl (inr (inl refl))
+  answer_runs turns (Err fault.ReadFault) is bytes s left short script = inr (inl refl)
+  answer_runs turns (Err (fault.WriteFault j)) is bytes s left short script = inr (inr refl)
+  answer_runs turns (Err fault.TooLong) is bytes s left short script = absurd (short_enough before.left bytes left short is.over)
+  answer_runs turns (Err (fault.NoMemory j)) is bytes s left short script = inl (inr (inr refl))
 
--- and so it is by a command
-pub ending_runs : (e : Ends) (words : List (List ℕ)) (result : CommandResult) → IsEnding e words result → RunsAskedScripts e words result
-ending_runs e words (outcome.Ran j) is turns asks = answer_runs e is.0 (Ok j) is.2
-ending_runs e words (outcome.Fault f) is turns asks = answer_runs e is.0 (Err f) is.2
-ending_runs e words (outcome.Made summary) is turns asks = absurd is
-ending_runs e words outcome.Usage is turns asks = let clash : command.Usage ≡ command.Run turns = sym is.0 ∙ asks in absurd (cc clash)
-ending_runs e words outcome.NoMemory is turns asks = absurd is
+  -- and so it is by a command
+  pub ending_runs : (words : List (List ℕ)) (result : CommandResult) → IsEnding before after words result → RunsAskedScripts before words result
+  ending_runs words (outcome.Ran j) is turns asks = answer_runs is.0 (Ok j) is.2
+  ending_runs words (outcome.Fault f) is turns asks = answer_runs is.0 (Err f) is.2
+  ending_runs words (outcome.Made summary) is turns asks = absurd is
+  ending_runs words outcome.Usage is turns asks = let clash : command.Usage ≡ command.Run turns = sym is.0 ∙ asks in absurd (cc clash)
+  ending_runs words outcome.NoMemory is turns asks = absurd is
+
+  -- a status of a read fault comes of one
+  fault_counts : (turns : ℕ) (f : ScriptFault) → IsAnswer before after turns (Err f) → CountsReadFault before after (outcome.Fault f)
+  fault_counts turns fault.ReadFault is status = is
+  fault_counts turns (fault.WriteFault j) is status = absurd (cc status)
+  fault_counts turns fault.TooLong is status = absurd (cc status)
+  fault_counts turns (fault.Malformed line) is status = absurd (cc status)
+  fault_counts turns (fault.Refused code at) is status = absurd (cc status)
+  fault_counts turns (fault.OutOfTurns j) is status = absurd (cc status)
+  fault_counts turns (fault.NoMemory j) is status = absurd (cc status)
+
+  pub answer_counts : (turns : ℕ) (r : Result Journal ScriptFault) → IsAnswer before after turns r → CountsReadFault before after (result_in r)
+  answer_counts turns (Ok j) is status = absurd (cc status)
+  answer_counts turns (Err f) is status = fault_counts turns f is status
+
+  pub ending_counts : (words : List (List ℕ)) (result : CommandResult) → IsEnding before after words result → CountsReadFault before after result
+  ending_counts words (outcome.Ran j) is status = absurd (cc status)
+  ending_counts words (outcome.Fault f) is status = fault_counts is.0 f is.2 status
+  ending_counts words (outcome.Made summary) is status = absurd is
+  ending_counts words outcome.Usage is status = absurd (cc status)
+  ending_counts words outcome.NoMemory is status = absurd is
+
+-- and one of a write fault
+pub written_counts : (before after : SinkSeen) (result : CommandResult) → IsWritten before after result → CountsWriteFault before after result
+written_counts before after (outcome.Ran j) is status = absurd (cc status)
+written_counts before after (outcome.Fault f) is status = by f is status
+  where
+    by : (f : ScriptFault) → IsWritten before after (outcome.Fault f) → CountsWriteFault before after (outcome.Fault f)
+    by (fault.WriteFault j) is status = is.0
+    by fault.ReadFault is status = absurd (cc status)
+    by fault.TooLong is status = absurd (cc status)
+    by (fault.Malformed line) is status = absurd (cc status)
+    by (fault.Refused code at) is status = absurd (cc status)
+    by (fault.OutOfTurns j) is status = absurd (cc status)
+    by (fault.NoMemory j) is status = absurd (cc status)
+written_counts before after (outcome.Made summary) is status = absurd is
+written_counts before after outcome.Usage is status = absurd (cc status)
+written_counts before after outcome.NoMemory is status = absurd is

@@ -1,8 +1,10 @@
 -- When each answer of the top call comes, and what it hands back, writes and notes.
-use Rattle.std.specs.Prelude.{ℕ, ◌<◌, ◌≤◌, ◌^◌, ◌⊎◌, List, [], ◌++◌, Bool, false, IsTrue, Option, Some, IfSome, ◌≡◌, length, codes, decimal, Result, Ok, Err}
-use Rattle.std.specs.Io.KnownBytes.{Appends, Keeps, IsAtEnd}
+use Rattle.std.specs.Prelude.{ℕ, ◌<◌, ◌≤◌, ◌^◌, ◌⊎◌, List, [], ◌++◌, false, IsTrue, Some, IfSome, ◌≡◌, length, codes, decimal, Result, Ok, Err}
+use Rattle.std.specs.Io.KnownBytes.{Keeps, IsAtEnd}
 use Rattle.py_outside.specs.Faults.{Rose}
-use Rattle.py_outside.specs.Transfer.{AppendsFront}
+use Rattle.py_outside.specs.Seen.{SinkSeen, SourceSeen}
+use Rattle.py_outside.specs.Reading.{HasFailed, HasOver}
+use Rattle.py_outside.specs.Transfer.{AppendsAll, AppendsFront}
 use Rattle.py_grammar.specs.declared.script.Script.{Script}
 use Rattle.py_grammar.specs.Script.{IsScript, IsBadLine}
 use Rattle.py_run.specs.declared.journal.Journal.{Journal}
@@ -16,43 +18,51 @@ use Rattle.py_meaning.specs.Whole.{IsRunFrom, IsWholeFrom, IsUnfinishedFrom}
 use Rattle.py_script.specs.Answered.{IsEmpty, IsPartOfRun, IsWholeRun, IsCutRun}
 use Rattle.py_meaning.specs.Text.{text_of}
 
--- the source and the sink, before a call and after it: the bytes left and taken, where they are told, the faults, and whether the last
--- read that had room came to the source's end
-pub record Ends : Type 0 where
-  pub left : Option (List ℕ)
-  pub left' : Option (List ℕ)
-  pub read_faults : ℕ
-  pub read_faults' : ℕ
-  pub at_end' : Bool
-  pub taken : Option (List ℕ)
-  pub taken' : Option (List ℕ)
-  pub write_faults : ℕ
-  pub write_faults' : ℕ
-
--- what was read: at most 2^20 bytes, all that the source had left where it tells them, and then its end
-pub record WasRead (left left' : Option (List ℕ)) (at_end' : Bool) (claim : List ℕ → Type 0) : Type 0 where
+-- what was read of a source: at most 2^20 bytes, all that it had left where it tells them, and then its end; and this holds of them
+pub record WasRead (before after : SourceSeen) (claim : List ℕ → Type 0) : Type 0 where
   pub bytes : List ℕ
-  pub are : IfSome left (λ all. bytes ≡ all)
+  pub are : IfSome before.left (λ all. bytes ≡ all)
   pub short : length bytes ≤ 2 ^ 20
-  pub none_left : IsAtEnd left'
-  pub ended : IsTrue at_end'
+  pub none_left : IsAtEnd after.left
+  pub ended : IsTrue after.at_end
   pub claimed : claim bytes
 
--- the script was read of the source, and this holds of its bytes
-abbrev pub Read : Ends → (List ℕ → Type 0) → Type 0
-Read e claim = WasRead e.left e.left' e.at_end' claim
+-- a source had more than 2^20 bytes: none of its reads failed, and the last one gave more
+pub record IsTooLong (before after : SourceSeen) : Type 0 where
+  pub over : HasOver before (2 ^ 20)
+  pub same : after.faults ≡ before.faults
+  pub more : after.at_end ≡ false
 
--- when a run of at most so many turns answers what it does
-abbrev pub IsAnswer : Ends → ℕ → Result Journal ScriptFault → Type 0
-IsAnswer e turns (Ok j) = Read e (λ bytes. IsWholeRun bytes turns j) × Appends e.taken e.taken' (text_of j)
-IsAnswer e turns (Err fault.ReadFault) = Rose e.read_faults e.read_faults' × Keeps e.taken e.taken'
-IsAnswer e turns (Err (fault.WriteFault j)) =
-    Rose e.write_faults e.write_faults' × Read e (λ bytes. IsWholeRun bytes turns j ⊎ IsCutRun bytes turns j) × AppendsFront e.taken e.taken' (text_of j)
-IsAnswer e turns (Err fault.TooLong) = IfSome e.left (λ bytes. 2 ^ 20 < length bytes) × (e.read_faults' ≡ e.read_faults) × (e.at_end' ≡ false) × Keeps e.taken e.taken'
-IsAnswer e turns (Err (fault.Malformed line)) = Read e (λ bytes. IsBadLine bytes line) × Keeps e.taken e.taken'
-IsAnswer e turns (Err (fault.Refused code at)) = ⊥
-IsAnswer e turns (Err (fault.OutOfTurns j)) = Read e (λ bytes. IsCutRun bytes turns j) × Appends e.taken e.taken' (text_of j)
-IsAnswer e turns (Err (fault.NoMemory j)) = (IsEmpty j ⊎ Read e (λ bytes. IsPartOfRun bytes turns j)) × Keeps e.taken e.taken'
+-- when a run of at most so many turns answers what it does, by what was read of the source
+abbrev pub IsAnswer : SourceSeen → SourceSeen → ℕ → Result Journal ScriptFault → Type 0
+IsAnswer before after turns (Ok j) = WasRead before after (λ bytes. IsWholeRun bytes turns j)
+IsAnswer before after turns (Err fault.ReadFault) = HasFailed before after
+IsAnswer before after turns (Err (fault.WriteFault j)) = WasRead before after (λ bytes. IsWholeRun bytes turns j ⊎ IsCutRun bytes turns j)
+IsAnswer before after turns (Err fault.TooLong) = IsTooLong before after
+IsAnswer before after turns (Err (fault.Malformed line)) = WasRead before after (λ bytes. IsBadLine bytes line)
+IsAnswer before after turns (Err (fault.Refused code at)) = ⊥
+IsAnswer before after turns (Err (fault.OutOfTurns j)) = WasRead before after (λ bytes. IsCutRun bytes turns j)
+IsAnswer before after turns (Err (fault.NoMemory j)) = IsEmpty j ⊎ WasRead before after (λ bytes. IsPartOfRun bytes turns j)
+
+-- what is written of each result: the text of the journal, and nothing where there is none; a failed write has written a front of it
+abbrev pub IsWritten : SinkSeen → SinkSeen → CommandResult → Type 0
+IsWritten before after (outcome.Ran j) = AppendsAll before after (text_of j)
+IsWritten before after (outcome.Fault (fault.Malformed line)) = Keeps before.taken after.taken
+IsWritten before after (outcome.Fault (fault.Refused code at)) = ⊥
+IsWritten before after (outcome.Fault (fault.OutOfTurns j)) = AppendsAll before after (text_of j)
+IsWritten before after (outcome.Fault fault.ReadFault) = Keeps before.taken after.taken
+IsWritten before after (outcome.Fault (fault.WriteFault j)) = Rose before.faults after.faults × AppendsFront before after (text_of j)
+IsWritten before after (outcome.Fault fault.TooLong) = Keeps before.taken after.taken
+IsWritten before after (outcome.Fault (fault.NoMemory j)) = Keeps before.taken after.taken
+IsWritten before after (outcome.Made summary) = ⊥
+IsWritten before after outcome.Usage = Keeps before.taken after.taken
+IsWritten before after outcome.NoMemory = ⊥
+
+-- the text that a result stands for, which is written where its status is 0 or 4
+abbrev pub text_in : CommandResult → List ℕ
+text_in (outcome.Ran j) = text_of j
+text_in (outcome.Fault (fault.OutOfTurns j)) = text_of j
+text_in result = []
 
 -- the status that stands for each result
 abbrev pub status_in : CommandResult → ℕ
@@ -82,50 +92,69 @@ note_in (outcome.Made summary) = []
 note_in outcome.Usage = codes "usage: pyrun run [TURNS] or make SEED COUNT\n"
 note_in outcome.NoMemory = codes "out of memory\n"
 
--- when a command answers what it does
-abbrev pub IsEnding : Ends → List (List ℕ) → CommandResult → Type 0
-IsEnding e words (outcome.Ran j) = (turns : ℕ) × (command_in words ≡ command.Run turns) × IsAnswer e turns (Ok j)
-IsEnding e words (outcome.Fault f) = (turns : ℕ) × (command_in words ≡ command.Run turns) × IsAnswer e turns (Err f)
-IsEnding e words (outcome.Made summary) = ⊥
-IsEnding e words outcome.Usage = (command_in words ≡ command.Usage) × (e.left' ≡ e.left) × Keeps e.taken e.taken'
-IsEnding e words outcome.NoMemory = ⊥
+-- what is noted of a result: its line, where no write of it fails
+abbrev pub HasNote : SinkSeen → SinkSeen → CommandResult → Type 0
+HasNote before after result = AppendsAll before after (note_in result)
 
--- over a sound source: no read fault is counted, the status isn't that of one, and the source stays sound
-pub record ReadsSoundly (faults faults' : ℕ) (sound' : Bool) (result : CommandResult) : Type 0 where
-  pub same : faults' ≡ faults
-  pub stays : IsTrue sound'
+abbrev pub IsNoted : SinkSeen → SinkSeen → CommandResult → Type 0
+IsNoted before after result = HasNote before after result ⊎ Rose before.faults after.faults
+
+-- when a command answers what it does, by what was read of the source; words that ask for nothing read nothing
+abbrev pub IsEnding : SourceSeen → SourceSeen → List (List ℕ) → CommandResult → Type 0
+IsEnding before after words (outcome.Ran j) = (turns : ℕ) × (command_in words ≡ command.Run turns) × IsAnswer before after turns (Ok j)
+IsEnding before after words (outcome.Fault f) = (turns : ℕ) × (command_in words ≡ command.Run turns) × IsAnswer before after turns (Err f)
+IsEnding before after words (outcome.Made summary) = ⊥
+IsEnding before after words outcome.Usage = (command_in words ≡ command.Usage) × (after.left ≡ before.left)
+IsEnding before after words outcome.NoMemory = ⊥
+
+-- no read fault is counted, the status isn't that of one, and the source is sound
+pub record MeetsNoReadFault (before after : SourceSeen) (result : CommandResult) : Type 0 where
+  pub same : after.faults ≡ before.faults
+  pub stays : IsTrue after.is_sound
   pub status : status_in result ≡ 5 → ⊥
+
+-- so it is over each source that was sound before
+abbrev pub ReadsSoundly : SourceSeen → SourceSeen → CommandResult → Type 0
+ReadsSoundly before after result = IsTrue before.is_sound → MeetsNoReadFault before after result
 
 -- over a sink that takes so many bytes for sure: a write fault is answered only where the text is longer, and none is counted where it isn't or where
 -- nothing is written
-abbrev pub WritesSurely : ℕ → ℕ → ℕ → CommandResult → Type 0
-WritesSurely sure faults faults' (outcome.Ran j) = length (text_of j) ≤ sure → faults' ≡ faults
-WritesSurely sure faults faults' (outcome.Fault (fault.Malformed line)) = faults' ≡ faults
-WritesSurely sure faults faults' (outcome.Fault (fault.Refused code at)) = faults' ≡ faults
-WritesSurely sure faults faults' (outcome.Fault (fault.OutOfTurns j)) = length (text_of j) ≤ sure → faults' ≡ faults
-WritesSurely sure faults faults' (outcome.Fault fault.ReadFault) = faults' ≡ faults
-WritesSurely sure faults faults' (outcome.Fault (fault.WriteFault j)) = sure < length (text_of j)
-WritesSurely sure faults faults' (outcome.Fault fault.TooLong) = faults' ≡ faults
-WritesSurely sure faults faults' (outcome.Fault (fault.NoMemory j)) = faults' ≡ faults
-WritesSurely sure faults faults' (outcome.Made summary) = faults' ≡ faults
-WritesSurely sure faults faults' outcome.Usage = faults' ≡ faults
-WritesSurely sure faults faults' outcome.NoMemory = faults' ≡ faults
+abbrev pub WritesSurely : SinkSeen → SinkSeen → CommandResult → Type 0
+WritesSurely before after (outcome.Ran j) = length (text_of j) ≤ before.sure → after.faults ≡ before.faults
+WritesSurely before after (outcome.Fault (fault.Malformed line)) = after.faults ≡ before.faults
+WritesSurely before after (outcome.Fault (fault.Refused code at)) = after.faults ≡ before.faults
+WritesSurely before after (outcome.Fault (fault.OutOfTurns j)) = length (text_of j) ≤ before.sure → after.faults ≡ before.faults
+WritesSurely before after (outcome.Fault fault.ReadFault) = after.faults ≡ before.faults
+WritesSurely before after (outcome.Fault (fault.WriteFault j)) = before.sure < length (text_of j)
+WritesSurely before after (outcome.Fault fault.TooLong) = after.faults ≡ before.faults
+WritesSurely before after (outcome.Fault (fault.NoMemory j)) = after.faults ≡ before.faults
+WritesSurely before after (outcome.Made summary) = after.faults ≡ before.faults
+WritesSurely before after outcome.Usage = after.faults ≡ before.faults
+WritesSurely before after outcome.NoMemory = after.faults ≡ before.faults
+
+-- a status that stands for a fault comes only where one was counted: 5 of the source, 6 of the sink
+abbrev pub CountsReadFault : SourceSeen → SourceSeen → CommandResult → Type 0
+CountsReadFault before after result = status_in result ≡ 5 → HasFailed before after
+
+abbrev pub CountsWriteFault : SinkSeen → SinkSeen → CommandResult → Type 0
+CountsWriteFault before after result = status_in result ≡ 6 → Rose before.faults after.faults
 
 -- the status of a run that was made, whole or as far as turns and memory went
 abbrev pub IsOfRun : ℕ → Type 0
 IsOfRun status = (status ≡ 0) ⊎ (status ≡ 4) ⊎ (status ≡ 8)
 
--- the status of a fault that was counted
-abbrev pub IsOfFault : Ends → ℕ → Type 0
-IsOfFault e status = ((status ≡ 5) × Rose e.read_faults e.read_faults') ⊎ ((status ≡ 6) × Rose e.write_faults e.write_faults')
+-- the status of a fault of the source or the sink
+abbrev pub IsOfFault : ℕ → Type 0
+IsOfFault status = (status ≡ 5) ⊎ (status ≡ 6)
 
--- a script of at most 2^20 bytes is run: its status is 0, 4 or 8, or 5 or 6 by a fault that was counted
-abbrev pub RunsScripts : Ends → CommandResult → Type 0
-RunsScripts e result = (bytes : List ℕ) → (s : Script) → e.left ≡ Some bytes → length bytes ≤ 2 ^ 20 → IsScript bytes s → IsOfRun (status_in result) ⊎ IsOfFault e (status_in result)
+-- a script of at most 2^20 bytes is run: its status is 0, 4 or 8, or 5 or 6 by a fault
+abbrev pub RunsScripts : SourceSeen → CommandResult → Type 0
+RunsScripts before result =
+    (bytes : List ℕ) → (s : Script) → before.left ≡ Some bytes → length bytes ≤ 2 ^ 20 → IsScript bytes s → IsOfRun (status_in result) ⊎ IsOfFault (status_in result)
 
 -- so is one where the words ask for a run
-abbrev pub RunsAskedScripts : Ends → List (List ℕ) → CommandResult → Type 0
-RunsAskedScripts e words result = (turns : ℕ) → command_in words ≡ command.Run turns → RunsScripts e result
+abbrev pub RunsAskedScripts : SourceSeen → List (List ℕ) → CommandResult → Type 0
+RunsAskedScripts before words result = (turns : ℕ) → command_in words ≡ command.Run turns → RunsScripts before result
 
 -- a run that is answered as whole has fewer events than turns
 abbrev pub HasFewer : ℕ → CommandResult → Type 0
@@ -133,18 +162,18 @@ HasFewer turns (outcome.Ran j) = length j.events < turns
 HasFewer turns result = Unit {0}
 
 -- what the runs of the script that bytes are settle: where a whole one has at most so many events, turns never run out; where one that isn't whole has
--- as many, none is answered as whole; what is written is the text of any such run; and where no whole one has just so many, an answered one has fewer
-pub record IsSettled (bytes : List ℕ) (e : Ends) (turns : ℕ) (result : CommandResult) : Type 0 where
+-- as many, none is answered as whole; the text that is written is that of any such run; and where no whole one has just so many, an answered one has fewer
+pub record IsSettled (bytes : List ℕ) (turns : ℕ) (result : CommandResult) : Type 0 where
   pub never_cut : (j : Journal) → IsWholeFrom bytes j → length j.events ≤ turns → status_in result ≡ 4 → ⊥
   pub never_whole : (j : Journal) → IsUnfinishedFrom bytes j → turns ≤ length j.events → status_in result ≡ 0 → ⊥
-  pub whole_text : (j : Journal) → IsWholeFrom bytes j → status_in result ≡ 0 → Appends e.taken e.taken' (text_of j)
-  pub cut_text : (j : Journal) → IsRunFrom bytes j → length j.events ≡ turns → status_in result ≡ 4 → Appends e.taken e.taken' (text_of j)
+  pub whole_text : (j : Journal) → IsWholeFrom bytes j → status_in result ≡ 0 → text_in result ≡ text_of j
+  pub cut_text : (j : Journal) → IsRunFrom bytes j → length j.events ≡ turns → status_in result ≡ 4 → text_in result ≡ text_of j
   pub fewer : ((j : Journal) → IsWholeFrom bytes j → length j.events ≡ turns → ⊥) → HasFewer turns result
 
 -- those of the script that a source holds
-abbrev pub RunsSettle : Ends → ℕ → CommandResult → Type 0
-RunsSettle e turns result = (bytes : List ℕ) → e.left ≡ Some bytes → IsSettled bytes e turns result
+abbrev pub RunsSettle : SourceSeen → ℕ → CommandResult → Type 0
+RunsSettle before turns result = (bytes : List ℕ) → before.left ≡ Some bytes → IsSettled bytes turns result
 
 -- and where the words ask for a run
-abbrev pub AskedRunsSettle : Ends → List (List ℕ) → CommandResult → Type 0
-AskedRunsSettle e words result = (turns : ℕ) → command_in words ≡ command.Run turns → RunsSettle e turns result
+abbrev pub AskedRunsSettle : SourceSeen → List (List ℕ) → CommandResult → Type 0
+AskedRunsSettle before words result = (turns : ℕ) → command_in words ≡ command.Run turns → RunsSettle before turns result

@@ -8,7 +8,10 @@ pub mod Words
 pub mod Compiled
 pub mod Answered
 pub mod Causes
+-- what answers were worked out to say
+pub mod Worked
 -- what functions inside the crate promise each other
 pub mod Steps
 pub mod Loaded
+pub mod Noting
 pub mod Writing

@@ -1,9 +1,7 @@
 //! The top call: reads a script, runs it, and writes the text of its journal.
 
-ghost use Rattle.std.specs.Prelude.{◌≡◌, ◌+◌, ◌≤◌, ◌^◌, ◌⊎◌, IsTrue};
-ghost use Rattle.std.specs.Io.KnownBytes.{Appends};
-ghost use Rattle.py_outside.specs.Faults.{Rose};
-ghost use Rattle.py_script.specs.Causes.{IsAnswer, IsEnding, ReadsSoundly, WritesSurely, RunsScripts, RunsAskedScripts, RunsSettle, AskedRunsSettle, status_in, note_in};
+ghost use Rattle.std.specs.Prelude.{◌≡◌, ◌+◌, ◌≤◌, ◌^◌};
+ghost use Rattle.py_script.specs.Causes.{IsAnswer, IsEnding, IsNoted, IsWritten, CountsReadFault, CountsWriteFault, ReadsSoundly, WritesSurely, RunsScripts, RunsAskedScripts, RunsSettle, AskedRunsSettle, status_in};
 ghost use Rattle.py_script.specs.Steps.{result_in};
 
 use crate::fault::{CommandResult, Ended, ScriptFault};
@@ -24,12 +22,18 @@ pub fn run_script<S: Source, K: Sink>(
     sink: &mut K,
     turns: u64,
 ) -> Result<Journal, ScriptFault>
-    ensures answer { IsAnswer (record { left = S.left source.old; left' = S.left source.new; read_faults = S.faults source.old; read_faults' = S.faults source.new; at_end' = S.at_end source.new; taken = K.taken sink.old; taken' = K.taken sink.new; write_faults = K.faults sink.old; write_faults' = K.faults sink.new }) turns result }
-    ensures sound { IsTrue (S.is_sound source.old) → ReadsSoundly (S.faults source.old) (S.faults source.new) (S.is_sound source.new) (result_in result) }
-    ensures sure { WritesSurely (K.sure sink.old) (K.faults sink.old) (K.faults sink.new) (result_in result) }
-    ensures complete { RunsScripts (record { left = S.left source.old; left' = S.left source.new; read_faults = S.faults source.old; read_faults' = S.faults source.new; at_end' = S.at_end source.new; taken = K.taken sink.old; taken' = K.taken sink.new; write_faults = K.faults sink.old; write_faults' = K.faults sink.new }) (result_in result) }
-    ensures settled { RunsSettle (record { left = S.left source.old; left' = S.left source.new; read_faults = S.faults source.old; read_faults' = S.faults source.new; at_end' = S.at_end source.new; taken = K.taken sink.old; taken' = K.taken sink.new; write_faults = K.faults sink.old; write_faults' = K.faults sink.new }) turns (result_in result) }
-    ensures reads { S.reads source.new ≤ S.reads source.old + (2 ^ 20 + 1) }
+    // What was read for the answer, and what was written of it.
+    ensures answer { IsAnswer (S.seen source.old) (S.seen source.new) turns result }
+    ensures written { IsWritten (K.seen sink.old) (K.seen sink.new) (result_in result) }
+    // No fault without a cause, and none of a source that is sound or of a sink that is sure.
+    ensures read_fault { CountsReadFault (S.seen source.old) (S.seen source.new) (result_in result) }
+    ensures write_fault { CountsWriteFault (K.seen sink.old) (K.seen sink.new) (result_in result) }
+    ensures sound { ReadsSoundly (S.seen source.old) (S.seen source.new) (result_in result) }
+    ensures sure { WritesSurely (K.seen sink.old) (K.seen sink.new) (result_in result) }
+    // A script is run, and what its runs settle is answered.
+    ensures complete { RunsScripts (S.seen source.old) (result_in result) }
+    ensures settled { RunsSettle (S.seen source.old) turns (result_in result) }
+    ensures reads { (S.seen source.new).reads ≤ (S.seen source.old).reads + (2 ^ 20 + 1) }
 {
     answer_of(alloc, source, sink, turns)
 }
@@ -41,10 +45,11 @@ fn answer_of<S: Source, K: Sink>(
     sink: &mut K,
     turns: u64,
 ) -> Result<Journal, ScriptFault>
-    ensures answer { IsAnswer (record { left = S.left source.old; left' = S.left source.new; read_faults = S.faults source.old; read_faults' = S.faults source.new; at_end' = S.at_end source.new; taken = K.taken sink.old; taken' = K.taken sink.new; write_faults = K.faults sink.old; write_faults' = K.faults sink.new }) turns result }
-    ensures sound { IsTrue (S.is_sound source.old) → ReadsSoundly (S.faults source.old) (S.faults source.new) (S.is_sound source.new) (result_in result) }
-    ensures sure { WritesSurely (K.sure sink.old) (K.faults sink.old) (K.faults sink.new) (result_in result) }
-    ensures reads { S.reads source.new ≤ S.reads source.old + (2 ^ 20 + 1) }
+    ensures answer { IsAnswer (S.seen source.old) (S.seen source.new) turns result }
+    ensures written { IsWritten (K.seen sink.old) (K.seen sink.new) (result_in result) }
+    ensures sound { ReadsSoundly (S.seen source.old) (S.seen source.new) (result_in result) }
+    ensures sure { WritesSurely (K.seen sink.old) (K.seen sink.new) (result_in result) }
+    ensures reads { (S.seen source.new).reads ≤ (S.seen source.old).reads + (2 ^ 20 + 1) }
 {
     let script = read_script(alloc, source)?;
     let (journal, ran) = run_drives(alloc, &script, turns);
@@ -92,10 +97,11 @@ fn result_of<S: Source, K: Sink>(
     source: &mut S,
     sink: &mut K,
 ) -> CommandResult
-    ensures ending { IsEnding (record { left = S.left source.old; left' = S.left source.new; read_faults = S.faults source.old; read_faults' = S.faults source.new; at_end' = S.at_end source.new; taken = K.taken sink.old; taken' = K.taken sink.new; write_faults = K.faults sink.old; write_faults' = K.faults sink.new }) words.now result }
-    ensures sound { IsTrue (S.is_sound source.old) → ReadsSoundly (S.faults source.old) (S.faults source.new) (S.is_sound source.new) result }
-    ensures sure { WritesSurely (K.sure sink.old) (K.faults sink.old) (K.faults sink.new) result }
-    ensures reads { S.reads source.new ≤ S.reads source.old + (2 ^ 20 + 1) }
+    ensures ending { IsEnding (S.seen source.old) (S.seen source.new) words.now result }
+    ensures written { IsWritten (K.seen sink.old) (K.seen sink.new) result }
+    ensures sound { ReadsSoundly (S.seen source.old) (S.seen source.new) result }
+    ensures sure { WritesSurely (K.seen sink.old) (K.seen sink.new) result }
+    ensures reads { (S.seen source.new).reads ≤ (S.seen source.old).reads + (2 ^ 20 + 1) }
 {
     match command_of(words) {
         Command::Usage => CommandResult::Usage,
@@ -115,13 +121,19 @@ pub fn run_command<S: Source, K: Sink, N: Sink>(
     notes: &mut N,
 ) -> Ended
     ensures status { result.status ≡ status_in result.result }
-    ensures ending { IsEnding (record { left = S.left source.old; left' = S.left source.new; read_faults = S.faults source.old; read_faults' = S.faults source.new; at_end' = S.at_end source.new; taken = K.taken sink.old; taken' = K.taken sink.new; write_faults = K.faults sink.old; write_faults' = K.faults sink.new }) words.now result.result }
-    ensures note { Appends (N.taken notes.old) (N.taken notes.new) (note_in result.result) ⊎ Rose (N.faults notes.old) (N.faults notes.new) }
-    ensures sound { IsTrue (S.is_sound source.old) → ReadsSoundly (S.faults source.old) (S.faults source.new) (S.is_sound source.new) result.result }
-    ensures sure { WritesSurely (K.sure sink.old) (K.faults sink.old) (K.faults sink.new) result.result }
-    ensures complete { RunsAskedScripts (record { left = S.left source.old; left' = S.left source.new; read_faults = S.faults source.old; read_faults' = S.faults source.new; at_end' = S.at_end source.new; taken = K.taken sink.old; taken' = K.taken sink.new; write_faults = K.faults sink.old; write_faults' = K.faults sink.new }) words.now result.result }
-    ensures settled { AskedRunsSettle (record { left = S.left source.old; left' = S.left source.new; read_faults = S.faults source.old; read_faults' = S.faults source.new; at_end' = S.at_end source.new; taken = K.taken sink.old; taken' = K.taken sink.new; write_faults = K.faults sink.old; write_faults' = K.faults sink.new }) words.now result.result }
-    ensures reads { S.reads source.new ≤ S.reads source.old + (2 ^ 20 + 1) }
+    // What was read for the result, what was written of it, and what was noted.
+    ensures ending { IsEnding (S.seen source.old) (S.seen source.new) words.now result.result }
+    ensures written { IsWritten (K.seen sink.old) (K.seen sink.new) result.result }
+    ensures note { IsNoted (N.seen notes.old) (N.seen notes.new) result.result }
+    // No fault without a cause, and none of a source that is sound or of a sink that is sure.
+    ensures read_fault { CountsReadFault (S.seen source.old) (S.seen source.new) result.result }
+    ensures write_fault { CountsWriteFault (K.seen sink.old) (K.seen sink.new) result.result }
+    ensures sound { ReadsSoundly (S.seen source.old) (S.seen source.new) result.result }
+    ensures sure { WritesSurely (K.seen sink.old) (K.seen sink.new) result.result }
+    // A script is run where the words ask for it, and what its runs settle is answered.
+    ensures complete { RunsAskedScripts (S.seen source.old) words.now result.result }
+    ensures settled { AskedRunsSettle (S.seen source.old) words.now result.result }
+    ensures reads { (S.seen source.new).reads ≤ (S.seen source.old).reads + (2 ^ 20 + 1) }
 {
     let result = result_of(alloc, words, source, sink);
     let status = status_of(&result);

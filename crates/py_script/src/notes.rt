@@ -1,18 +1,19 @@
 //! Notes: the line that is written of each outcome, for which no memory is taken.
 
-ghost use Rattle.std.specs.Prelude.{◌≤◌, ◌++◌, ◌⊎◌, OnOk, decimal};
-ghost use Rattle.std.specs.Io.KnownBytes.{Appends};
+ghost use Rattle.std.specs.Prelude.{◌≤◌, OnOk, decimal};
 ghost use Rattle.py_outside.specs.Counting.{HasCause};
-ghost use Rattle.py_outside.specs.Faults.{Rose};
-ghost use Rattle.py_script.specs.Causes.{note_in};
+ghost use Rattle.py_outside.specs.Transfer.{AppendsAll};
+ghost use Rattle.py_script.specs.declared.fault.ScriptFault.TheVariants.{Malformed, Refused};
+ghost use Rattle.py_script.specs.Causes.{HasNote, IsNoted};
+ghost use Rattle.py_script.specs.Noting.{AppendsNumbered, NotesFault};
 
 use crate::fault::{CommandResult, ScriptFault};
 use py_outside::{Sink, WriteFailed, write_bytes};
 
 /// Writes the note of an outcome. Where a write fails, the rest of the note isn't written.
 pub(crate) fn write_note<N: Sink>(notes: &mut N, outcome: &CommandResult)
-    ensures noted { Appends (N.taken notes.old) (N.taken notes.new) (note_in outcome.now) ⊎ Rose (N.faults notes.old) (N.faults notes.new) }
-    ensures later { N.faults notes.old ≤ N.faults notes.new }
+    ensures noted { IsNoted (N.seen notes.old) (N.seen notes.new) outcome.now }
+    ensures later { (N.seen notes.old).faults ≤ (N.seen notes.new).faults }
 {
     match try_note(notes, outcome) {
         Ok(()) => (),
@@ -21,8 +22,8 @@ pub(crate) fn write_note<N: Sink>(notes: &mut N, outcome: &CommandResult)
 }
 
 fn try_note<N: Sink>(notes: &mut N, outcome: &CommandResult) -> Result<(), WriteFailed>
-    ensures whole { OnOk result (Appends (N.taken notes.old) (N.taken notes.new) (note_in outcome.now)) }
-    ensures cause { HasCause (N.faults notes.old) (N.faults notes.new) result }
+    ensures whole { OnOk result (HasNote (N.seen notes.old) (N.seen notes.new) outcome.now) }
+    ensures cause { HasCause (N.seen notes.old).faults (N.seen notes.new).faults result }
 {
     match outcome {
         CommandResult::Ran(_) => write_bytes(notes, b""),
@@ -36,8 +37,8 @@ fn try_note<N: Sink>(notes: &mut N, outcome: &CommandResult) -> Result<(), Write
 }
 
 fn note_fault<N: Sink>(notes: &mut N, fault: &ScriptFault) -> Result<(), WriteFailed>
-    ensures whole { OnOk result (Appends (N.taken notes.old) (N.taken notes.new) (note_in (CommandResult.Fault fault.now))) }
-    ensures cause { HasCause (N.faults notes.old) (N.faults notes.new) result }
+    ensures whole { OnOk result (NotesFault (N.seen notes.old) (N.seen notes.new) fault.now) }
+    ensures cause { HasCause (N.seen notes.old).faults (N.seen notes.new).faults result }
 {
     match fault {
         ScriptFault::ReadFault => write_bytes(notes, b"read fault\n"),
@@ -51,16 +52,16 @@ fn note_fault<N: Sink>(notes: &mut N, fault: &ScriptFault) -> Result<(), WriteFa
 }
 
 fn note_malformed<N: Sink>(notes: &mut N, line: u64) -> Result<(), WriteFailed>
-    ensures whole { OnOk result (Appends (N.taken notes.old) (N.taken notes.new) (note_in (CommandResult.Fault (ScriptFault.Malformed line)))) }
-    ensures cause { HasCause (N.faults notes.old) (N.faults notes.new) result }
+    ensures whole { OnOk result (NotesFault (N.seen notes.old) (N.seen notes.new) (Malformed line)) }
+    ensures cause { HasCause (N.seen notes.old).faults (N.seen notes.new).faults result }
 {
     write_numbered(notes, b"malformed: line ", line)?;
     write_bytes(notes, b"\n")
 }
 
 fn note_refused<N: Sink>(notes: &mut N, code: u64, at: u64) -> Result<(), WriteFailed>
-    ensures whole { OnOk result (Appends (N.taken notes.old) (N.taken notes.new) (note_in (CommandResult.Fault (ScriptFault.Refused code at)))) }
-    ensures cause { HasCause (N.faults notes.old) (N.faults notes.new) result }
+    ensures whole { OnOk result (NotesFault (N.seen notes.old) (N.seen notes.new) (Refused code at)) }
+    ensures cause { HasCause (N.seen notes.old).faults (N.seen notes.new).faults result }
 {
     write_numbered(notes, b"refused: code ", code)?;
     write_numbered(notes, b" at unit ", at)?;
@@ -68,16 +69,16 @@ fn note_refused<N: Sink>(notes: &mut N, code: u64, at: u64) -> Result<(), WriteF
 }
 
 fn write_numbered<N: Sink>(notes: &mut N, words: &[u8], number: u64) -> Result<(), WriteFailed>
-    ensures whole { OnOk result (Appends (N.taken notes.old) (N.taken notes.new) (words.now ++ decimal number)) }
-    ensures cause { HasCause (N.faults notes.old) (N.faults notes.new) result }
+    ensures whole { OnOk result (AppendsNumbered (N.seen notes.old) (N.seen notes.new) words.now number) }
+    ensures cause { HasCause (N.seen notes.old).faults (N.seen notes.new).faults result }
 {
     write_bytes(notes, words)?;
     write_decimal(notes, number)
 }
 
 fn write_decimal<N: Sink>(notes: &mut N, number: u64) -> Result<(), WriteFailed>
-    ensures whole { OnOk result (Appends (N.taken notes.old) (N.taken notes.new) (decimal number)) }
-    ensures cause { HasCause (N.faults notes.old) (N.faults notes.new) result }
+    ensures whole { OnOk result (AppendsAll (N.seen notes.old) (N.seen notes.new) (decimal number)) }
+    ensures cause { HasCause (N.seen notes.old).faults (N.seen notes.new).faults result }
 {
     if number < 10 {
         return write_bytes(notes, &[b'0' + number as u8]);

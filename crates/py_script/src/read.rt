@@ -1,10 +1,11 @@
 //! Reading a script from a source.
 
-ghost use Rattle.std.specs.Prelude.{◌≡◌, ◌≤◌, ◌+◌, ◌^◌, IfOk, IfErr, OnOk, OnErr, IsErrOf, IsTrue, length, vec_len};
-ghost use Rattle.py_outside.specs.Reading.{HasRead, LosesUpTo};
+ghost use Rattle.std.specs.Prelude.{◌≤◌, ◌+◌, ◌^◌, IfOk, IfErr, OnOk, OnErr, IsTrue, length, vec_len};
+ghost use Rattle.py_outside.specs.Reading.{HasRead, IsCounted, LosesUpTo, StaysUntouched};
 ghost use Rattle.py_grammar.specs.WellFormed.{IsWellFormed};
 ghost use Rattle.py_script.specs.Answered.{IsEmpty};
-ghost use Rattle.py_script.specs.Steps.{IsParsed, IsReadFault, IsReading, IsReadSoundly};
+ghost use Rattle.py_script.specs.declared.fault.ScriptFault.TheVariants.{ReadFault};
+ghost use Rattle.py_script.specs.Steps.{IsParsed, IsReadFault, IsReading};
 
 use crate::fault::ScriptFault;
 use py_code::{CodeList, Names};
@@ -42,15 +43,15 @@ fn parse_bytes(alloc: Global, bytes: &[u8]) -> Result<Script, ScriptFault>
 /// Reads to the end of the source, or to the byte after the 2^20th. What was read before a fault is lost.
 pub fn read_bytes<S: Source>(alloc: Global, source: &mut S) -> Result<Vec<u8>, ScriptFault>
     // Exactly the bytes that it had left, where it tells them, and then its end.
-    ensures read { IfOk result (λ bytes. HasRead (S.left source.old) (S.left source.new) bytes.items) }
+    ensures read { IfOk result (λ bytes. HasRead (S.seen source.old) (S.seen source.new) bytes.items) }
     ensures short { IfOk result (λ bytes. vec_len bytes ≤ 2 ^ 20) }
-    ensures end { OnOk result (IsTrue (S.at_end source.new)) }
+    ensures end { OnOk result (IsTrue (S.seen source.new).at_end) }
     // A fault comes by its cause, and what was taken of the source is gone.
-    ensures fault { IfErr result (IsReadFault (S.left source.old) (S.at_end source.new) (S.faults source.old) (S.faults source.new)) }
-    ensures lost { OnErr result (LosesUpTo (S.left source.old) (S.left source.new) (2 ^ 20 + 1)) }
-    ensures counted { (IsErrOf result ScriptFault.ReadFault → ⊥) → S.faults source.new ≡ S.faults source.old }
-    ensures sound { IsTrue (S.is_sound source.old) → IsReadSoundly (S.faults source.old) (S.faults source.new) (S.is_sound source.new) result }
-    ensures reads { S.reads source.new ≤ S.reads source.old + (2 ^ 20 + 1) }
+    ensures fault { IfErr result (IsReadFault (S.seen source.old) (S.seen source.new)) }
+    ensures lost { OnErr result (LosesUpTo (S.seen source.old) (S.seen source.new) (2 ^ 20 + 1)) }
+    ensures counted { IsCounted ReadFault (S.seen source.old) (S.seen source.new) result }
+    ensures sound { StaysUntouched ReadFault (S.seen source.old) (S.seen source.new) result }
+    ensures reads { (S.seen source.new).reads ≤ (S.seen source.old).reads + (2 ^ 20 + 1) }
 {
     match py_outside::read_bytes(alloc, source) {
         Ok(bytes) => Ok(bytes),
@@ -62,10 +63,10 @@ pub fn read_bytes<S: Source>(alloc: Global, source: &mut S) -> Result<Vec<u8>, S
 
 /// The script that the source holds.
 pub(crate) fn read_script<S: Source>(alloc: Global, source: &mut S) -> Result<Script, ScriptFault>
-    ensures reading { IsReading (S.left source.old) (S.left source.new) (S.at_end source.new) (S.faults source.old) (S.faults source.new) result }
+    ensures reading { IsReading (S.seen source.old) (S.seen source.new) result }
     ensures well { IfOk result IsWellFormed }
-    ensures sound { IsTrue (S.is_sound source.old) → IsReadSoundly (S.faults source.old) (S.faults source.new) (S.is_sound source.new) result }
-    ensures reads { S.reads source.new ≤ S.reads source.old + (2 ^ 20 + 1) }
+    ensures sound { StaysUntouched ReadFault (S.seen source.old) (S.seen source.new) result }
+    ensures reads { (S.seen source.new).reads ≤ (S.seen source.old).reads + (2 ^ 20 + 1) }
 {
     let bytes = read_bytes(alloc, source)?;
     parse_bytes(alloc, bytes.as_slice())

@@ -15,8 +15,8 @@ pub(crate) fn write_text<K: Sink>(
     sink: &mut K,
     journal: Journal,
 ) -> Result<Journal, ScriptFault>
-    ensures writing { IsWriting (K.taken sink.old) (K.taken sink.new) (K.faults sink.old) (K.faults sink.new) journal result }
-    ensures sure { WritesSurely (K.sure sink.old) (K.faults sink.old) (K.faults sink.new) (result_in result) }
+    ensures writing { IsWriting (K.seen sink.old) (K.seen sink.new) journal result }
+    ensures sure { WritesSurely (K.seen sink.old) (K.seen sink.new) (result_in result) }
 {
     let text = match journal_text(alloc, &journal) {
         Ok(text) => text,

@@ -7,8 +7,8 @@ abbrev pub invariant-loop-turn : goal.invariant-loop-turn
 invariant-loop-turn g l = record {
   short : vec_len l.bytes ≤ LIMIT;
   moved : l._turn ≤ vec_len l.bytes;
-  consumed : Consumes (g.S.Source.left l.fn.source) (g.S.Source.left l.source) l.bytes.items;
-  reads : g.S.Source.reads l.source ≤ g.S.Source.reads l.fn.source + l._turn;
-  counted : g.S.Source.faults l.source ≡ g.S.Source.faults l.fn.source;
-  sound : IsTrue (g.S.Source.is_sound l.fn.source) → IsTrue (g.S.Source.is_sound l.source);
+  consumed : Consumes (g.S.Source.seen l.fn.source).left (g.S.Source.seen l.source).left l.bytes.items;
+  reads : (g.S.Source.seen l.source).reads ≤ (g.S.Source.seen l.fn.source).reads + l._turn;
+  counted : (g.S.Source.seen l.source).faults ≡ (g.S.Source.seen l.fn.source).faults;
+  sound : IsTrue (g.S.Source.seen l.fn.source).is_sound → IsTrue (g.S.Source.seen l.source).is_sound;
 }

@@ -30,7 +30,7 @@ returns-in_err-extend_from_slice-in-Ok g c =
       not_long = memory_not_long;
       turns = now.turns;
       err = record { lost = take c.in-Ok.count c.read.new.room; few = omega (arith, now.bound, c.read.auto.room, length-take {A = ℕ}, c.min-most.ensures, c.len.ensures); consumed = now.bytes.0 };
-      sound = λ sure. let h = now.sound sure in record { same = h.same; stays = h.stays; answered = memory_not_fault };
+      sound = λ sure. let h = now.sound sure in record { same = h.0.same; stays = h.1; answered = memory_not_fault };
     }
 
 pub returns-in_ok-extend_from_slice-in-Ok : goal.returns-in_ok-extend_from_slice-in-Ok
@@ -48,7 +48,7 @@ returns-in_ok-extend_from_slice-in-Ok g c =
       not_long = no_error;
       turns = now.turns;
       err = tt;
-      sound = λ sure. let h = now.sound sure in record { same = h.same; stays = h.stays; answered = no_error };
+      sound = λ sure. let h = now.sound sure in record { same = h.0.same; stays = h.1; answered = no_error };
     }
 
 pub returns-in-Err : goal.returns-in-Err
@@ -64,5 +64,5 @@ returns-in-Err g c =
       not_long = fault_not_long;
       turns = now.turns;
       err = none_lost _ _ _ now.bytes;
-      sound = λ sure. untouched_else (now.sound sure);
+      sound = λ sure. untouched_else (now.sound sure).0;
     }

@@ -1,9 +1,15 @@
-use Rattle.py_script.proofs.Statuses.{ending_runs}
+use Rattle.py_script.proofs.Statuses.{ending_counts, ending_runs, written_counts}
 use Rattle.py_script.proofs.Settled.{ending_settles}
 use Rattle.py_script.proofs.command.run_command.Goals as goal
 
 pub returns-clause-complete : goal.returns-clause-complete
-returns-clause-complete g c = ending_runs _ c.args.words.now c.result_of-result.result c.result_of-result.ensures.ending
+returns-clause-complete g c = ending_runs _ _ c.args.words.now c.result_of-result.result c.result_of-result.ensures.ending
 
 pub returns-clause-settled : goal.returns-clause-settled
-returns-clause-settled g c = ending_settles _ c.args.words.now c.result_of-result.result c.result_of-result.ensures.ending
+returns-clause-settled g c = ending_settles _ _ c.args.words.now c.result_of-result.result c.result_of-result.ensures.ending
+
+pub returns-clause-read_fault : goal.returns-clause-read_fault
+returns-clause-read_fault g c = ending_counts _ _ c.args.words.now c.result_of-result.result c.result_of-result.ensures.ending
+
+pub returns-clause-write_fault : goal.returns-clause-write_fault
+returns-clause-write_fault g c = written_counts _ _ c.result_of-result.result c.result_of-result.ensures.written

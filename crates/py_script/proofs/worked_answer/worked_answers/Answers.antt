@@ -8,14 +8,14 @@ use Rattle.py_script.proofs.worked_answer.worked_answers.Goals as goal
 
 pub returns : goal.returns
 returns c = record {
-  some_script = λ e turns j answer. let (s, is, run, whole, short, codes) = answer.0.claimed in (s, run, whole);
-  at_the_end = λ e turns j answer. answer.0.ended;
-  bad_line_at_the_end = λ e turns line answer. answer.0.ended;
-  out_of_turns_at_the_end = λ e turns j answer. answer.0.ended;
-  no_too_long_at_the_end = λ e turns end answer. let clash : true ≡ false = sym end ∙ answer.2 in cc clash;
-  no_too_long_behind_a_fault = λ e turns rose answer. rose answer.1;
-  no_round_before_a_drive = λ e turns j is answer.
-      let (s, of, run, whole, short, codes) = answer.0.claimed in
+  some_script = λ a b turns j answer. let (s, is, run, whole, short, codes) = answer.claimed in (s, run, whole);
+  at_the_end = λ a b turns j answer. answer.ended;
+  bad_line_at_the_end = λ a b turns line answer. answer.ended;
+  out_of_turns_at_the_end = λ a b turns j answer. answer.ended;
+  no_too_long_at_the_end = λ a b turns end answer. let clash : true ≡ false = sym end ∙ answer.more in cc clash;
+  no_too_long_after_a_fault = λ a b turns rose answer. rose answer.same;
+  no_round_before_a_drive = λ a b turns j is answer.
+      let (s, of, run, whole, short, codes) = answer.claimed in
       let r = run.run in
       let comes = subst (λ (es : List Event). Comes (plan_of (functions_in (decls_of s)) r.asked) j.objects nothing es) is r.run.comes in
       absurd (cc comes.0.0);
