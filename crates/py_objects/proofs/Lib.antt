@@ -5,6 +5,8 @@ pub mod PairsLemmas
 pub mod Slots
 pub mod BelowLemmas
 pub mod EditsLemmas
+-- what readers tell of payloads
+pub mod ValuesLemmas
 -- what changes leave as it was made
 pub mod ChangesLemmas
 pub mod OriginalsLemmas

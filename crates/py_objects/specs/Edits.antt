@@ -1,5 +1,5 @@
 -- Which edits fit which payloads, and what a store keeps of them.
-use Rattle.std.specs.Prelude.{ℕ, ◌≤◌, Some, None, List, [], ◌∷◌, ◌++◌, ◌≡◌}
+use Rattle.std.specs.Prelude.{ℕ, ◌≤◌, Some, None, List, [], ◌∷◌, ◌++◌, ◌≡◌, slice_get}
 use Rattle.py_objects.specs.declared.payload.Payload.{Payload}
 use Rattle.py_objects.specs.declared.payload.Payload.TheVariants as payload
 use Rattle.py_objects.specs.declared.edit.Edit.{Edit}
@@ -7,6 +7,7 @@ use Rattle.py_objects.specs.declared.edit.Edit.TheVariants as edit
 use Rattle.py_objects.specs.declared.edit.LinkField.TheVariants as link
 use Rattle.py_objects.specs.declared.edit.Change.{Change}
 use Rattle.py_objects.specs.Objects.{Obj, numbers_if}
+use Rattle.py_objects.specs.Pairs.{Pairs}
 pub use Rattle.py_objects.specs.Changes.{linked, led_on, with_attr, edited_exception, edited_traceback, edited_pairs, edited, edited_entry, with_edit, changed_by, store_at}
 
 -- the edits that fit an exception
@@ -77,6 +78,18 @@ EditFits x (payload.Generator g) = ⊥
 EditFits x (payload.Exception e) = FitsException x
 EditFits x (payload.Traceback t) = FitsTraceback x
 
+-- a payload is another one after an edit, whatever the objects are
+abbrev pub Becomes : Edit → Payload → Payload → Type 0
+Becomes x p q = (objects : List Payload) → q ≡ edited objects x p
+
+-- an edit leaves a payload as it is
+abbrev pub Leaves : Edit → Payload → Type 0
+Leaves x p = (objects : List Payload) → edited objects x p ≡ p
+
+-- an edit leaves the pairs of each dict as they are
+abbrev pub LeavesPairs : Edit → Type 0
+LeavesPairs x = (objects : List Payload) → (ps : Pairs) → edited_pairs objects x ps ≡ ps
+
 -- the numbers that an edit names
 abbrev pub edit_numbers : Edit → List ℕ
 edit_numbers (edit.Link field v) = numbers_if v
@@ -115,6 +128,14 @@ pub record Kept : Type 0 where
 -- its objects as they are
 abbrev pub objects_of : Kept → List Payload
 objects_of s = changed_by s.made s.changes
+
+-- an edit fits what an object is now
+abbrev pub FitsNow : Kept → Obj → Edit → Type 0
+FitsNow s v x = (p : Payload) → slice_get (objects_of s) v.number ≡ Some p → EditFits x p
+
+-- an object is this at each event from the last mark on
+abbrev pub IsFromMark : Kept → Obj → Payload → Type 0
+IsFromMark s v p = (k : ℕ) → s.mark ≤ k → slice_get (store_at s.made s.changes k) v.number ≡ Some p
 
 -- the same objects, made and changed alike, with no fewer places for changes
 pub record IsAsBefore (old new : Kept) : Type 0 where

@@ -1,6 +1,6 @@
 -- How a store keeps what its objects were made as: it has the objects as they are, and those that may change also as they
 -- were made.
-use Rattle.std.specs.Prelude.{ℕ, ◌<◌, ◌≤◌, Option, Some, None, List, [], ◌∷◌, ◌++◌, Bool, true, false, ◌||◌, eqb, ◌≡◌, slice_get, slice_set, length, if◌then◌else◌}
+use Rattle.std.specs.Prelude.{ℕ, ◌<◌, ◌≤◌, Option, Some, None, List, [], ◌∷◌, ◌++◌, Bool, true, false, ◌||◌, eqb, ◌≡◌, slice_get, slice_set, length, IfSome, if◌then◌else◌}
 use Rattle.py_objects.specs.declared.payload.Payload.{Payload}
 use Rattle.py_objects.specs.declared.payload.Payload.TheVariants as payload
 use Rattle.py_objects.specs.declared.edit.Change.{Change}
@@ -8,6 +8,7 @@ use Rattle.py_objects.specs.declared.edit.Edit.{Edit}
 use Rattle.py_objects.specs.declared.store.Original.{Original}
 use Rattle.py_objects.specs.Objects.{Obj, HasPayload, AllBelow, pair_numbers}
 use Rattle.py_objects.specs.Pairs.{Pairs}
+use Rattle.py_objects.specs.Keys.{place_of_key}
 use Rattle.py_objects.specs.Edits.{EditFits, FitsException, FitsTraceback, edit_numbers, changed_by}
 
 -- whether some edit fits a payload of this kind
@@ -97,3 +98,8 @@ FitsEntry objects o x = (p : Payload) × HasPayload objects o p × EditFits x p
 -- an object is a dict
 abbrev pub IsDict : List Payload → Obj → Type 0
 IsDict objects o = (ps : Pairs) × HasPayload objects o (payload.Dict ps)
+
+-- where a key stands in an object that is a dict
+abbrev pub IsPlaceIn : List Payload → Obj → Obj → Option ℕ → Type 0
+IsPlaceIn objects o k place =
+    (ps : Pairs) → HasPayload objects o (payload.Dict ps) → (place ≡ place_of_key objects k ps) × IfSome place (λ at. at < length ps)

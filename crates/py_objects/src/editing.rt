@@ -1,12 +1,8 @@
 //! Edits of payloads.
 
-ghost use Rattle.std.specs.Prelude.{◌≡◌, ◌<◌, List, Some, length, slice_get, IfOk, IfSome, OnOk, OnErr};
-ghost use Rattle.py_objects.specs.Edits.{with_edit, edited, edited_exception, edited_traceback, FitsException, FitsTraceback, IsInPlace};
-ghost use Rattle.py_objects.specs.Originals.{may_change, original_of, FitsBody, FitsEntry, IsDict};
-ghost use Rattle.py_objects.specs.Keys.{place_of_key};
-ghost use Rattle.py_objects.specs.Pairs.{Pairs};
-ghost use Rattle.py_objects.specs.declared.payload.Payload.{Payload as PayloadOf};
-ghost use Rattle.py_objects.specs.declared.payload.Payload.TheVariants.{Dict as DictPayload};
+ghost use Rattle.std.specs.Prelude.{◌≡◌, Some, IfOk, OnOk, OnErr};
+ghost use Rattle.py_objects.specs.Edits.{with_edit, edited_exception, edited_traceback, FitsException, FitsTraceback, Becomes, IsInPlace};
+ghost use Rattle.py_objects.specs.Originals.{may_change, original_of, FitsBody, FitsEntry, IsDict, IsPlaceIn};
 ghost use Rattle.py_objects.specs.declared.edit.Edit.TheVariants.{Attr as AttrEdit, Drop as DropEdit, Put as PutEdit};
 
 use crate::boxed::Boxed;
@@ -114,7 +110,7 @@ impl Payload {
     /// Sets an attribute of an exception.
     fn set_attr(&mut self, name: PyText, value: PyObjectRef) -> Result<(), NoMemory>
         requires { FitsBody (AttrEdit name (Some value)) self.old }
-        ensures edited { OnOk result ((objects : List PayloadOf) → self.new ≡ edited objects (AttrEdit name (Some value)) self.old) }
+        ensures edited { OnOk result (Becomes (AttrEdit name (Some value)) self.old self.new) }
         ensures err { OnErr result (self.new ≡ self.old) }
     {
         let Payload::Exception(body) = self else {
@@ -127,7 +123,7 @@ impl Payload {
     fn edit_in_place(&mut self, edit: &Edit)
         requires fits { FitsBody edit.now self.old }
         requires in_place { IsInPlace edit.now }
-        ensures { (objects : List PayloadOf) → self.new ≡ edited objects edit.now self.old }
+        ensures { Becomes edit.now self.old self.new }
     {
         match self {
             Payload::Exception(body) => body.edit_in_place(edit),
@@ -140,7 +136,7 @@ impl Payload {
 /// The place of a key among the pairs of a dict.
 fn place_in(payloads: &[Payload], dict: PyObjectRef, key: PyObjectRef) -> Option<usize>
     requires { IsDict payloads.now dict }
-    ensures { (pairs : Pairs) → slice_get payloads.now dict.number ≡ Some (DictPayload pairs) → (result ≡ place_of_key payloads.now key pairs) × IfSome result (λ at. at < length pairs) }
+    ensures { IsPlaceIn payloads.now dict key result }
 {
     let Payload::Dict(pairs) = &payloads[dict.number as usize] else {
         unreachable!()

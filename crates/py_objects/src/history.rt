@@ -1,11 +1,9 @@
 //! The objects of a run at one of its events, from how they were made and what changed since.
 
-ghost use Rattle.std.specs.Prelude.{◌≡◌, List, true, false, IfOk, OnOk};
-ghost use Rattle.py_objects.specs.Edits.{EditFits, FitsDict, FitsException, FitsTraceback, edited, edited_exception, edited_pairs, edited_traceback, store_at, with_edit};
+ghost use Rattle.std.specs.Prelude.{◌≡◌, true, false, IfOk, OnOk};
+ghost use Rattle.py_objects.specs.Edits.{EditFits, FitsDict, FitsException, FitsTraceback, Leaves, LeavesPairs, edited_exception, edited_traceback, store_at, with_edit};
 ghost use Rattle.py_objects.specs.Originals.{FitsEntry};
-ghost use Rattle.py_objects.specs.Pairs.{Pairs};
 ghost use Rattle.py_objects.specs.declared.payload.ExceptionBody.{ExceptionBody as Exception};
-ghost use Rattle.py_objects.specs.declared.payload.Payload.{Payload as PayloadOf};
 ghost use Rattle.py_objects.specs.declared.payload.TracebackBody.{TracebackBody as Traceback};
 
 use crate::edit::{ChangeList, Edit, LinkField};
@@ -69,7 +67,7 @@ fn fits_traceback(edit: &Edit) -> bool
 
 fn fits_dict(edit: &Edit) -> bool
     ensures fits { result ≡ true → FitsDict edit.now }
-    ensures stays { result ≡ false → (objects : List PayloadOf) → (pairs : Pairs) → edited_pairs objects edit.now pairs ≡ pairs }
+    ensures stays { result ≡ false → LeavesPairs edit.now }
 {
     match edit {
         Edit::Put(..) | Edit::Drop(_) => true,
@@ -88,7 +86,7 @@ fn fits_dict(edit: &Edit) -> bool
 
 fn fits(edit: &Edit, payload: &Payload) -> bool
     ensures fits { result ≡ true → EditFits edit.now payload.now }
-    ensures stays { result ≡ false → (objects : List PayloadOf) → edited objects edit.now payload.now ≡ payload.now }
+    ensures stays { result ≡ false → Leaves edit.now payload.now }
 {
     match payload {
         Payload::Dict(_) => fits_dict(edit),

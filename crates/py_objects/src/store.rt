@@ -5,9 +5,8 @@ ghost use Rattle.py_objects.specs.ErrorKinds.{name_of};
 ghost use Rattle.py_objects.specs.Objects.{HasPayload, AllBelow, class_object, payload_numbers};
 ghost use Rattle.py_objects.specs.Singletons.{none_object, own_truth};
 ghost use Rattle.py_objects.specs.Ancestry.{derives_from as derives};
-ghost use Rattle.py_objects.specs.Edits.{objects_of, store_at, edit_numbers, EditFits, IsInPlace, IsAsBefore, IsEdited};
+ghost use Rattle.py_objects.specs.Edits.{objects_of, edit_numbers, FitsNow, IsFromMark, IsInPlace, IsAsBefore, IsEdited};
 ghost use Rattle.py_objects.specs.Originals.{original_of, with_copy};
-ghost use Rattle.py_objects.specs.declared.payload.Payload.{Payload as PayloadOf};
 ghost use Rattle.py_objects.specs.declared.payload.Payload.TheVariants.{Bool as BoolPayload, None as NonePayload};
 
 use crate::ancestry::derives_from;
@@ -107,7 +106,7 @@ impl Store {
     pub fn get(&self, object: PyObjectRef) -> &Payload
         requires { object.number < length self.now.made }
         ensures now { slice_get (objects_of self.now) object.number ≡ Some result.now }
-        ensures at { (k : ℕ) → self.now.mark ≤ k → slice_get (store_at self.now.made self.now.changes k) object.number ≡ Some result.now }
+        ensures at { IsFromMark self.now object result.now }
     {
         &self.payloads[object.number as usize]
     }
@@ -161,7 +160,7 @@ impl Store {
         requires spare { 0 < self.old.spare }
         requires within { object.number < length self.old.made }
         requires named { AllBelow (length self.old.made) (edit_numbers edit) }
-        requires fits { (p : PayloadOf) → slice_get (objects_of self.old) object.number ≡ Some p → EditFits edit p }
+        requires fits { FitsNow self.old object edit }
         requires in_place { IsInPlace edit }
         ensures edited { IsEdited self.old self.new object edit }
         ensures spare { self.old.spare ≤ self.new.spare + 1 }
@@ -178,7 +177,7 @@ impl Store {
     pub fn grow(&mut self, object: PyObjectRef, edit: Edit) -> Result<(), NoMemory>
         requires within { object.number < length self.old.made }
         requires named { AllBelow (length self.old.made) (edit_numbers edit) }
-        requires fits { (p : PayloadOf) → slice_get (objects_of self.old) object.number ≡ Some p → EditFits edit p }
+        requires fits { FitsNow self.old object edit }
         ensures edited { OnOk result (IsEdited self.old self.new object edit) }
         ensures err { OnErr result (IsAsBefore self.old self.new) }
     {
