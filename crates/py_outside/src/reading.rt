@@ -6,6 +6,7 @@ ghost use Rattle.py_outside.specs.declared.reading.ReadError.TheVariants.{Fault,
 
 use crate::source::Source;
 use std::alloc::{AllocError, Global};
+use thiserror::Error;
 
 /// The most bytes that are read of a source, 2 ^ 20.
 pub const LIMIT: usize = 1_048_576;
@@ -14,13 +15,16 @@ pub const LIMIT: usize = 1_048_576;
 const PIECE: usize = 4096;
 
 /// Why a source wasn't read to its end.
-#[derive(Clone, Copy, Debug, PartialEq, Eq)]
+#[derive(Clone, Copy, Debug, PartialEq, Eq, Error)]
 pub enum ReadError {
     /// A read failed.
+    #[error("a read failed")]
     Fault,
     /// The source has more than `LIMIT` bytes.
+    #[error("there are more than 2^20 bytes")]
     TooLong,
     /// Memory ran out.
+    #[error("memory ran out")]
     NoMemory,
 }
 

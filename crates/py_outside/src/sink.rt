@@ -7,8 +7,11 @@ ghost use Rattle.py_outside.specs.Counting.{HasCause};
 ghost use Rattle.py_outside.specs.Seen.{SinkSeen};
 ghost use Rattle.py_outside.specs.Transfer.{LessSureBy, TakesSome, TakesSurely};
 
+use thiserror::Error;
+
 /// A write that failed, and took nothing.
-#[derive(Clone, Copy, Debug, PartialEq, Eq)]
+#[derive(Clone, Copy, Debug, PartialEq, Eq, Error)]
+#[error("a write failed")]
 pub struct WriteFailed;
 
 /// A sink of bytes. What contracts see of it is one value: the bytes that it has taken, where it

@@ -7,8 +7,11 @@ ghost use Rattle.py_outside.specs.Counting.{HasCause};
 ghost use Rattle.py_outside.specs.Ends.{StaysSound, TellsEnd};
 ghost use Rattle.py_outside.specs.Seen.{SourceSeen};
 
+use thiserror::Error;
+
 /// A read that failed, and moved nothing.
-#[derive(Clone, Copy, Debug, PartialEq, Eq)]
+#[derive(Clone, Copy, Debug, PartialEq, Eq, Error)]
+#[error("a read failed")]
 pub struct ReadFailed;
 
 /// A source of bytes. What contracts see of it is one value: the bytes that it has left, where it

@@ -1,30 +1,39 @@
 //! What a run of a script, and a whole command, come to.
 
 use py_vm::Journal;
+use thiserror::Error;
 
 /// Why a script wasn't loaded.
-#[derive(Clone, Copy, Debug, PartialEq, Eq)]
+#[derive(Clone, Copy, Debug, PartialEq, Eq, Error)]
 pub enum LoadFault {
     /// Memory ran out.
+    #[error("memory ran out")]
     NoMemory,
 }
 
 /// Why a script wasn't run to its end and written.
-#[derive(Debug, Drop)]
+#[derive(Debug, Drop, Error)]
 pub enum ScriptFault {
     /// A read of the source failed.
+    #[error("a read failed")]
     ReadFault,
     /// A write to the sink failed; the journal is that of the run.
+    #[error("a write failed")]
     WriteFault(Journal),
     /// The source had more than 2^20 bytes.
+    #[error("there are more than 2^20 bytes")]
     TooLong,
     /// The bytes are no script; the line is the first bad one, from 1.
+    #[error("the bytes are no script: the first bad line is {0}")]
     Malformed(u64),
     /// A raw block was refused: the number of its code, from 0, and the unit.
+    #[error("code {0} was refused at unit {1}")]
     Refused(usize, usize),
     /// The turns were spent before the run was whole; the journal is that of the run.
+    #[error("the turns were spent")]
     OutOfTurns(Journal),
     /// Memory ran out; the journal is that of the run so far, or an empty one where nothing ran.
+    #[error("memory ran out")]
     NoMemory(Journal),
 }
 
