@@ -38,6 +38,10 @@ edited_exception (edit.Args v) e = record e { args = v }
 edited_exception (edit.Attr x v) e = record e { attrs = with_attr x v e.attrs }
 edited_exception _ e = e
 
+-- an exception with an attribute set
+abbrev pub attr_set : Name → Obj → ExceptionBody → ExceptionBody
+attr_set x v e = edited_exception (edit.Attr x (Some v)) e
+
 -- a traceback after an edit
 abbrev pub edited_traceback : Edit → TracebackBody → TracebackBody
 edited_traceback (edit.Link field v) t = led_on field v t

@@ -8,7 +8,7 @@ use Rattle.py_objects.specs.declared.edit.LinkField.TheVariants as link
 use Rattle.py_objects.specs.declared.edit.Change.{Change}
 use Rattle.py_objects.specs.Objects.{Obj, numbers_if}
 use Rattle.py_objects.specs.Pairs.{Pairs}
-pub use Rattle.py_objects.specs.Changes.{linked, led_on, with_attr, edited_exception, edited_traceback, edited_pairs, edited, edited_entry, with_edit, changed_by, store_at}
+pub use Rattle.py_objects.specs.Changes.{linked, led_on, with_attr, attr_set, edited_exception, edited_traceback, edited_pairs, edited, edited_entry, with_edit, changed_by, store_at}
 
 -- the edits that fit an exception
 abbrev pub FitsException : Edit → Type 0

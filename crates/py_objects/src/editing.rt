@@ -1,7 +1,7 @@
 //! Edits of payloads.
 
 ghost use Rattle.std.specs.Prelude.{◌≡◌, Some, IfOk, OnOk, OnErr};
-ghost use Rattle.py_objects.specs.Edits.{with_edit, edited_exception, edited_traceback, FitsException, FitsTraceback, Becomes, IsInPlace};
+ghost use Rattle.py_objects.specs.Edits.{attr_set, with_edit, edited_exception, edited_traceback, FitsException, FitsTraceback, Becomes, IsInPlace};
 ghost use Rattle.py_objects.specs.Originals.{may_change, original_of, FitsBody, FitsEntry, IsDict, IsPlaceIn};
 ghost use Rattle.py_objects.specs.declared.edit.Edit.TheVariants.{Attr as AttrEdit, Drop as DropEdit, Put as PutEdit};
 
@@ -44,7 +44,7 @@ impl ExceptionBody {
 impl Boxed<ExceptionBody> {
     /// Sets an attribute.
     fn set_attr(&mut self, name: PyText, value: PyObjectRef) -> Result<(), NoMemory>
-        ensures edited { OnOk result (self.new ≡ edited_exception (AttrEdit name (Some value)) self.old) }
+        ensures edited { OnOk result (self.new ≡ attr_set name value self.old) }
         ensures err { OnErr result (self.new ≡ self.old) }
     {
         let body: &mut ExceptionBody = &mut self.value;

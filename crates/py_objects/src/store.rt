@@ -1,9 +1,10 @@
 //! The store: the objects of a run, as they were made and as they are.
 
-ghost use Rattle.std.specs.Prelude.{◌≡◌, ◌<◌, ◌≤◌, ◌+◌, ℕ, [], ◌∷◌, ◌++◌, length, slice_get, slice_set, Some, IfOk, IfSome, OnOk, OnErr, vec_len, vec_capacity};
+ghost use Rattle.std.specs.Prelude.{◌≡◌, ◌<◌, ◌≤◌, ◌+◌, ℕ, [], ◌∷◌, length, slice_get, slice_set, Some, IfOk, IfSome, OnOk, OnErr, vec_len, vec_capacity};
 ghost use Rattle.py_objects.specs.ErrorKinds.{name_of};
 ghost use Rattle.py_objects.specs.Objects.{HasPayload, AllBelow, class_object, payload_numbers};
 ghost use Rattle.py_objects.specs.Singletons.{none_object, own_truth};
+ghost use Rattle.py_objects.specs.Growth.{with_object};
 ghost use Rattle.py_objects.specs.Ancestry.{derives_from as derives};
 ghost use Rattle.py_objects.specs.Edits.{objects_of, edit_numbers, FitsNow, IsFromMark, IsInPlace, IsAsBefore, IsEdited};
 ghost use Rattle.py_objects.specs.Originals.{original_of, with_copy};
@@ -122,7 +123,7 @@ impl Store {
     pub fn add(&mut self, payload: Payload) -> Result<PyObjectRef, NoMemory>
         requires { AllBelow (length self.old.made + 1) (payload_numbers payload) }
         ensures number { IfOk result (λ object. object.number ≡ length self.old.made) }
-        ensures added { OnOk result (self.new ≡ record self.old { made = self.old.made ++ payload ∷ [] }) }
+        ensures added { OnOk result (self.new ≡ with_object self.old payload) }
         ensures err { OnErr result (self.new ≡ self.old) }
     {
         let number = self.payloads.len();
