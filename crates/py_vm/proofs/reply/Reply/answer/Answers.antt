@@ -19,4 +19,4 @@ returns-in_ok-stopped-in-Stops-clause-given c before reply grows fit replied =
     c.in_ok-stopped-in-Stops.ensures.grows.objects c.in_ok-stopped-in-Stops.ensures.made
 
 pub returns-in-Closes-clause-given : goal.returns-in-Closes-clause-given
-returns-in-Closes-clause-given c before reply grows fit replied = closed_given before c.args.store.now.made reply c.args.self replied c.none.result c.in-Closes.is c.none.ensures
+returns-in-Closes-clause-given c before reply grows fit replied = closed_given before c.args.store.now.made reply c.args.self replied c.none.result c.in-Closes.is c.none.ensures.has
