@@ -10,7 +10,7 @@ use Rattle.py_script.specs.declared.fault.ScriptFault.TheVariants as fault
 use Rattle.py_script.specs.declared.fault.CommandResult.{CommandResult}
 use Rattle.py_script.specs.declared.fault.CommandResult.TheVariants as outcome
 use Rattle.py_outside.specs.Seen.{SinkSeen, SourceSeen}
-use Rattle.py_script.specs.Causes.{IsAnswer, IsEnding, IsWritten, WasRead, CountsReadFault, CountsWriteFault, RunsScripts, RunsAskedScripts, status_in}
+use Rattle.py_script.specs.Causes.{IsAnswer, IsEnding, IsWritten, WasRead, CountsReadFault, CountsWriteFault, RunsScripts, RunsAskedScripts}
 use Rattle.py_script.specs.Steps.{result_in}
 
 -- what was read of a source is what it held

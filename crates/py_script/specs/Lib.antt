@@ -8,8 +8,9 @@ pub mod Words
 pub mod Compiled
 pub mod Answered
 pub mod Causes
--- what answers were worked out to say
+-- what answers were worked out to say, and a journal that codes don't run
 pub mod Worked
+pub mod WorkedUnits
 -- what functions inside the crate promise each other
 pub mod Steps
 pub mod Loaded

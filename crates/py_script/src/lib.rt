@@ -16,6 +16,7 @@ mod str_of;
 mod text;
 mod words;
 mod worked_answer;
+mod worked_unit;
 mod write;
 
 pub use command::{run_command, run_script};
@@ -35,3 +36,4 @@ pub use read::read_bytes;
 pub use session::Session;
 pub use words::{Command, Words, command_of};
 pub use worked_answer::worked_answers;
+pub use worked_unit::worked_units;
