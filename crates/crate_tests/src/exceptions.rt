@@ -7,7 +7,7 @@ ghost use Rattle.crate_tests.specs.Exit.{object, IsExit};
 use crate::made::{class, exception};
 use py_code::{NoMemory, PyText, push_text, same_text, text_of};
 use py_exceptions::{
-    CtorFault, ExceptionCtor, ExceptionStack, Instantiate, args, get_arg, is_gen_exit, is_kind,
+    CtorFault, ExceptionCtor, ExceptionStack, Instantiate, args, get_arg, is_gen_exit,
 };
 use py_objects::{ErrorKind, ObjList, Payload, PyBaseExceptionRef, PyObjectRef, PyTypeRef, Store};
 use std::alloc::Global;
@@ -96,8 +96,8 @@ fn kinds(store: &Store, kind: ErrorKind) -> (bool, bool, bool)
 {
     (
         is_gen_exit(store, EXIT),
-        is_kind(store, EXIT_CLASS, kind),
-        is_kind(store, BASE_CLASS, kind),
+        store.derives_from(EXIT_CLASS, kind),
+        store.derives_from(BASE_CLASS, kind),
     )
 }
 

@@ -106,5 +106,5 @@ fn add_first(alloc: Global, store: &mut Store) -> Result<(), NoMemory>
 pub fn classes(alloc: Global) -> Result<ExceptionZoo, NoMemory> {
     let mut store = Store::new(alloc)?;
     let mut declarations = AttrMap::new(alloc);
-    ExceptionZoo::extend(alloc, &mut store, &mut declarations)
+    ExceptionZoo::extend(&mut store, &mut declarations)
 }

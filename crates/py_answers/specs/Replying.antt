@@ -1,6 +1,6 @@
 -- What the functions of this crate promise: replies as the code makes them, and objects as it reads them.
 use Rattle.std.specs.Int.{w128}
-use Rattle.std.specs.Prelude.{FitsSigned, Bool, ℕ, ◌<◌, Option, Some, None, List, ◌++◌, ◌≡◌, ◌⊎◌, length, true, false}
+use Rattle.std.specs.Prelude.{FitsSigned, SomeIff, Bool, ℕ, ℤ, ◌<◌, Option, Some, None, List, ◌++◌, ◌≡◌, ◌⊎◌, length, true, false}
 use Rattle.py_code.specs.Operators.{is_asked, is_compared}
 use Rattle.py_objects.specs.declared.request.Request.{Request}
 use Rattle.py_objects.specs.declared.request.Request.TheVariants as request
@@ -8,6 +8,7 @@ use Rattle.py_objects.specs.declared.payload.Payload.{Payload}
 use Rattle.py_objects.specs.declared.payload.Payload.TheVariants as payload
 use Rattle.py_code.specs.declared.operator.BinaryOperator.{BinaryOperator}
 use Rattle.py_objects.specs.declared.request.Keywords.TheVariants as keywords
+use Rattle.py_objects.specs.declared.payload.ClassBody.{ClassBody}
 use Rattle.py_objects.specs.declared.payload.CoroBody.{CoroBody}
 use Rattle.py_objects.specs.declared.payload.ExceptionBody.{ExceptionBody}
 use Rattle.py_objects.specs.declared.payload.FunctionBody.{FunctionBody}
@@ -20,7 +21,7 @@ use Rattle.py_answers.specs.declared.reply.Reply.{Reply as MadeReply}
 use Rattle.py_answers.specs.declared.reply.Reply.TheVariants as made
 use Rattle.py_answers.specs.declared.answering.Answered.{Answered}
 use Rattle.py_answers.specs.declared.answering.Answered.TheVariants as answered
-use Rattle.py_answers.specs.Answers.{Reply, Has, Is, Makes, Fails, GivesValue, IsTypeName, Calls, CallsExit, Lacks, RefusesEntry, Replies, operated, sum, difference, less, not_supported}
+use Rattle.py_answers.specs.Answers.{Calls, CallsAs, CallsExit, Fails, GivesValue, Has, Is, IsTypeName, Lacks, Makes, RefusesEntry, Replies, Reply, difference, less, not_supported, operated, sum, whole}
 
 -- the requests that are answered, by a reply or by the machine: of calls those without keyword arguments, of throws those without a traceback
 abbrev pub is_answered : Request → Bool
@@ -51,6 +52,10 @@ reply_of (made.Is v) = Is v
 reply_of (made.Str s) = Has (payload.Str s)
 reply_of (made.Makes class args) = Makes class args
 reply_of (made.Fails kind text) = Fails kind text
+
+-- what holds of a reply holds of the one that is made
+abbrev pub Says : (Reply → Type 0) → MadeReply → Type 0
+Says holds reply = holds (reply_of reply)
 
 -- a number among replies fits its bits
 abbrev pub IsSized : MadeReply → Type 0
@@ -96,7 +101,7 @@ IsOfMachine objects r =
     ⊎ ((m : Obj) × (r ≡ request.Enter m) × IsManager objects m)
     ⊎ ((x : Obj) × (c : Obj) × (e : Obj) × (t : Obj) × (r ≡ request.Exit x c e t) × IsLeft objects x)
 
--- what a request is answered among these objects, behind which there may be more by then: an object that is what the reply says, the raise that
+-- what a request is answered among these objects, after which there may be more by then: an object that is what the reply says, the raise that
 -- the reply is, or nothing, where a machine answers it or memory ran out
 abbrev pub IsAnsweredBy : (old new : List Payload) → Request → Answered → Type 0
 IsAnsweredBy old new r (answered.Done v) = (reply : Reply) × Replies old r reply × IsValueOf old new reply v
@@ -106,7 +111,7 @@ IsAnsweredBy old new r (answered.Passed e) = ⊥
 IsAnsweredBy old new r answered.Machine = IsOfMachine old r
 IsAnsweredBy old new r answered.NoMemory = Unit {0}
 
--- what gives a reply among these objects, behind which there may be more by then
+-- what gives a reply among these objects, after which there may be more by then
 abbrev pub IsGiven : (old new : List Payload) → Reply → Answered → Type 0
 IsGiven old new reply (answered.Done v) = IsValueOf old new reply v
 IsGiven old new reply (answered.Fault f) = reply ≡ Fails f.kind f.text
@@ -171,6 +176,14 @@ abbrev pub IsOperated : List Payload → BinaryOperator → Payload → Payload 
 IsOperated objects op p q reply =
     (left : Name) × (right : Name) × IsTypeName objects p left × IsTypeName objects q right × (operated op p q left right ≡ Some reply)
 
+-- a number's reply, where it fits its bits or not
+abbrev pub IsWhole : Option ℤ → Reply → Type 0
+IsWhole number reply = (n : ℤ) → SomeIff number (FitsSigned w128 n) n → reply ≡ whole n
+
+-- the reply to the call of what is a class, if it is one
+abbrev pub IsClassCalled : List Payload → Obj → Payload → List Obj → Reply → Type 0
+IsClassCalled objects f p vs reply = (c : ClassBody) → p ≡ payload.Class c → CallsAs objects f (payload.Class c) vs reply
+
 -- the refusal of the operator or comparison with this sign
 abbrev pub IsRefused : List Payload → List ℕ → Payload → Payload → Reply → Type 0
 IsRefused objects sign p q reply = (left : Name) × (right : Name) × IsTypeName objects p left × IsTypeName objects q right × (reply ≡ not_supported sign left right)
@@ -182,6 +195,6 @@ IsLike objects p q =
     ⊎ ((ps : Pairs) × (qs : Pairs) × (p ≡ payload.Dict ps) × (q ≡ payload.Dict qs))
     ⊎ ((e : ExceptionBody) × (t : Option Obj) × (p ≡ payload.Exception e) × (q ≡ payload.Exception (record e { traceback = t })) × IfThere (IsTraceback objects) t)
 
--- what an object is read as: what it was made as, but for the pairs of a dict and the traceback of an exception
+-- what an object is read as: what it was made as, except the pairs of a dict and the traceback of an exception
 abbrev pub IsRead : List Payload → Obj → Payload → Type 0
 IsRead objects o q = (p : Payload) × HasPayload objects o p × IsLike objects p q

@@ -14,7 +14,6 @@ use py_code::NoMemory;
 use py_objects::{
     AttrMap, ErrorKind, Fault, ObjList, PyBaseExceptionRef, PyObjectRef, Request, Store,
 };
-use std::alloc::Global;
 
 /// What a request is answered.
 #[derive(Drop)]
@@ -34,13 +33,8 @@ pub enum Answered {
 }
 
 /// What a request is answered, where `declarations` has the first object that is declared under each name. The objects that it needs are
-/// new, but for `None`, `True` and `False`.
-pub fn answer(
-    alloc: Global,
-    store: &mut Store,
-    declarations: &AttrMap,
-    request: &Request,
-) -> Answered
+/// new, except `None`, `True` and `False`.
+pub fn answer(store: &mut Store, declarations: &AttrMap, request: &Request) -> Answered
     requires known { is_answered request.now ≡ true }
     requires readable { IsReadable store.old }
     requires declarations { (x : Name) → value_of x declarations.now ≡ declared store.old.made x }
@@ -49,8 +43,8 @@ pub fn answer(
     ensures answered { IsAnsweredBy store.old.made store.new.made request.now result }
     ensures untouched { result ≡ Machine → store.new ≡ store.old }
 {
-    match reply_to(alloc, store, declarations, request) {
-        Ok(Some(reply)) => give(alloc, store, reply),
+    match reply_to(store.allocator(), store, declarations, request) {
+        Ok(Some(reply)) => give(store, reply),
         Ok(None) => Answered::Machine,
         Err(NoMemory) => Answered::NoMemory,
     }

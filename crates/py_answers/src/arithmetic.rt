@@ -1,14 +1,14 @@
 //! The reply of an operator, by the payloads of its operands.
 
-ghost use Rattle.std.specs.Prelude.{◌≡◌, ◌<◌, true, ℤ, length, FitsSigned, IfOk, IfSome, SomeIff};
+ghost use Rattle.std.specs.Prelude.{◌≡◌, ◌<◌, true, length, FitsSigned, IfOk, IfSome};
 ghost use Rattle.std.specs.Int.{w128};
 ghost use Rattle.py_code.specs.Operators.{is_asked};
 ghost use Rattle.py_objects.specs.Objects.{IsMade};
 ghost use Rattle.py_objects.specs.Values.{text_of};
 ghost use Rattle.py_objects.specs.declared.request.Request.TheVariants.{Binary};
-ghost use Rattle.py_answers.specs.Answers.{Replies, whole};
+ghost use Rattle.py_answers.specs.Answers.{Replies};
 ghost use Rattle.py_answers.specs.Readable.{IsReadable};
-ghost use Rattle.py_answers.specs.Replying.{reply_of, joined, IsSized, IsSum, IsDifference, IsOperated};
+ghost use Rattle.py_answers.specs.Replying.{joined, IsDifference, IsOperated, IsSized, IsSum, IsWhole, Says};
 
 use crate::refusals::refused;
 use crate::reply::Reply;
@@ -29,7 +29,7 @@ pub(crate) fn binary(
     requires readable { IsReadable store.now }
     requires left_below { left.number < length store.now.made }
     requires right_below { right.number < length store.now.made }
-    ensures reply { IfOk result (λ reply. Replies store.now.made (Binary op left right) (reply_of reply)) }
+    ensures reply { IfOk result (Says (Replies store.now.made (Binary op left right))) }
     ensures sized { IfOk result IsSized }
 {
     let first = entry(store, left);
@@ -48,7 +48,7 @@ pub(crate) fn operate(
     requires known { is_asked op ≡ true }
     requires left_made { IsMade store.now.made left.now }
     requires right_made { IsMade store.now.made right.now }
-    ensures reply { IfOk result (λ reply. IsOperated store.now.made op left.now right.now (reply_of reply)) }
+    ensures reply { IfOk result (Says (IsOperated store.now.made op left.now right.now)) }
     ensures sized { IfOk result IsSized }
 {
     match op {
@@ -62,7 +62,7 @@ pub(crate) fn operate(
 fn sum(alloc: Global, store: &Store, left: &Payload, right: &Payload) -> Result<Reply, NoMemory>
     requires left_made { IsMade store.now.made left.now }
     requires right_made { IsMade store.now.made right.now }
-    ensures reply { IfOk result (λ reply. IsSum store.now.made left.now right.now (reply_of reply)) }
+    ensures reply { IfOk result (Says (IsSum store.now.made left.now right.now)) }
     ensures sized { IfOk result IsSized }
 {
     if let Some(text) = concatenated(alloc, left, right)? {
@@ -83,7 +83,7 @@ fn difference(
 ) -> Result<Reply, NoMemory>
     requires left_made { IsMade store.now.made left.now }
     requires right_made { IsMade store.now.made right.now }
-    ensures reply { IfOk result (λ reply. IsDifference store.now.made left.now right.now (reply_of reply)) }
+    ensures reply { IfOk result (Says (IsDifference store.now.made left.now right.now)) }
     ensures sized { IfOk result IsSized }
 {
     let (Some(first), Some(second)) = (left.number(), right.number()) else {
@@ -107,7 +107,7 @@ fn concatenated(alloc: Global, left: &Payload, right: &Payload) -> Result<Option
 /// The reply that is a number, which is given where it fits 128 bits.
 fn whole(alloc: Global, number: Option<i128>) -> Result<Reply, NoMemory>
     requires { IfSome number (FitsSigned w128) }
-    ensures reply { IfOk result (λ reply. (n : ℤ) → SomeIff number (FitsSigned w128 n) n → reply_of reply ≡ whole n) }
+    ensures reply { IfOk result (Says (IsWhole number)) }
     ensures sized { IfOk result IsSized }
 {
     match number {

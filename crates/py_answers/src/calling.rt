@@ -1,14 +1,10 @@
 //! The replies to calls of anything but functions.
 
 ghost use Rattle.std.specs.Prelude.{◌≡◌, ◌<◌, length, IfOk};
-ghost use Rattle.py_code.specs.BuiltinNames.{builtin_name};
 ghost use Rattle.py_objects.specs.Objects.{IsClassObject, IsMade};
-ghost use Rattle.py_objects.specs.declared.error_kind.ErrorKind.TheVariants.{TypeError};
-ghost use Rattle.py_objects.specs.declared.payload.Payload.TheVariants.{Class as ClassPayload};
-ghost use Rattle.py_objects.specs.declared.payload.ClassBody.{ClassBody};
-ghost use Rattle.py_answers.specs.Answers.{CallsAs, Fails, IsRefusedCall, bad_arguments};
+ghost use Rattle.py_answers.specs.Answers.{IsRefusedCall, refused_arguments};
 ghost use Rattle.py_answers.specs.Readable.{IsReadable};
-ghost use Rattle.py_answers.specs.Replying.{reply_of, IsCallReplied, IsSized};
+ghost use Rattle.py_answers.specs.Replying.{reply_of, IsCallReplied, IsClassCalled, IsSized, Says};
 
 use crate::reply::Reply;
 use crate::values::{entry, is_of_exceptions};
@@ -34,17 +30,7 @@ pub(crate) fn called(
         Payload::Function(_) => Ok(None),
         Payload::Class(_) => Ok(Some(class_called(alloc, store, callee, payload, args)?)),
         Payload::Builtin(function) => Ok(Some(bad_arguments(alloc, *function)?)),
-        Payload::None
-        | Payload::Bool(_)
-        | Payload::Int(_)
-        | Payload::Str(_)
-        | Payload::Tuple(_)
-        | Payload::Dict(_)
-        | Payload::Manager(_)
-        | Payload::Frame(_)
-        | Payload::Generator(_)
-        | Payload::Exception(_)
-        | Payload::Traceback(_) => Ok(Some(not_callable(alloc, store, payload)?)),
+        _ => Ok(Some(not_callable(alloc, store, payload)?)),
     }
 }
 
@@ -58,7 +44,7 @@ fn class_called(
 ) -> Result<Reply, NoMemory>
     requires class { IsClassObject store.now.made callee }
     requires made { IsMade store.now.made payload.now }
-    ensures reply { (c : ClassBody) → payload.now ≡ ClassPayload c → IfOk result (λ reply. CallsAs store.now.made callee (ClassPayload c) args.now (reply_of reply)) }
+    ensures reply { IfOk result (Says (IsClassCalled store.now.made callee payload.now args.now)) }
     ensures sized { IfOk result IsSized }
 {
     if is_of_exceptions(store, callee) {
@@ -72,7 +58,7 @@ fn class_called(
 
 /// The refusal of a function of the machine's own, whose arguments don't fit.
 fn bad_arguments(alloc: Global, function: BuiltinFn) -> Result<Reply, NoMemory>
-    ensures reply { IfOk result (λ reply. reply_of reply ≡ Fails TypeError (bad_arguments (builtin_name function))) }
+    ensures reply { IfOk result (λ reply. reply_of reply ≡ refused_arguments function) }
     ensures sized { IfOk result IsSized }
 {
     let mut text = text_of(alloc, b"bad arguments for ")?;
@@ -84,7 +70,7 @@ fn bad_arguments(alloc: Global, function: BuiltinFn) -> Result<Reply, NoMemory>
 /// The refusal of what can't be called.
 fn not_callable(alloc: Global, store: &Store, payload: &Payload) -> Result<Reply, NoMemory>
     requires { IsMade store.now.made payload.now }
-    ensures reply { IfOk result (λ reply. IsRefusedCall store.now.made payload.now (reply_of reply)) }
+    ensures reply { IfOk result (Says (IsRefusedCall store.now.made payload.now)) }
     ensures sized { IfOk result IsSized }
 {
     let name = type_name(alloc, store, payload)?;

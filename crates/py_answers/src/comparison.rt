@@ -6,7 +6,7 @@ ghost use Rattle.py_objects.specs.Objects.{IsMade};
 ghost use Rattle.py_objects.specs.Values.{same_value};
 ghost use Rattle.py_answers.specs.Answers.{Compares, is_true, text_less};
 ghost use Rattle.py_answers.specs.Readable.{IsReadable};
-ghost use Rattle.py_answers.specs.Replying.{reply_of, IsSized, IsLess};
+ghost use Rattle.py_answers.specs.Replying.{IsLess, IsSized, Says};
 
 use crate::refusals::refused;
 use crate::reply::Reply;
@@ -27,7 +27,7 @@ pub(crate) fn compare(
     requires readable { IsReadable store.now }
     requires left_below { left.number < length store.now.made }
     requires right_below { right.number < length store.now.made }
-    ensures reply { IfOk result (λ reply. Compares store.now.made op left right (reply_of reply)) }
+    ensures reply { IfOk result (Says (Compares store.now.made op left right)) }
     ensures sized { IfOk result IsSized }
 {
     let first = entry(store, left);
@@ -55,7 +55,7 @@ pub(crate) fn less(
 ) -> Result<Reply, NoMemory>
     requires left_made { IsMade store.now.made left.now }
     requires right_made { IsMade store.now.made right.now }
-    ensures reply { IfOk result (λ reply. IsLess store.now.made left.now right.now (reply_of reply)) }
+    ensures reply { IfOk result (Says (IsLess store.now.made left.now right.now)) }
     ensures sized { IfOk result IsSized }
 {
     if let (Some(first), Some(second)) = (left.number(), right.number()) {
@@ -83,15 +83,6 @@ pub(crate) fn is_true(payload: &Payload) -> bool
         Payload::Bool(flag) => *flag,
         Payload::Int(number) => *number != 0,
         Payload::Str(text) => !text.is_empty(),
-        Payload::Tuple(_)
-        | Payload::Dict(_)
-        | Payload::Class(_)
-        | Payload::Function(_)
-        | Payload::Builtin(_)
-        | Payload::Manager(_)
-        | Payload::Frame(_)
-        | Payload::Generator(_)
-        | Payload::Exception(_)
-        | Payload::Traceback(_) => true,
+        _ => true,
     }
 }

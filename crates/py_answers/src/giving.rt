@@ -12,10 +12,9 @@ use crate::reply::Reply;
 use py_code::NoMemory;
 use py_exceptions::make_exception;
 use py_objects::{Fault, ObjList, Payload, PyObjectRef, PyTypeRef, Store};
-use std::alloc::Global;
 
-/// What gives a reply. The objects that it needs are new, but for `None`, `True` and `False`.
-pub(crate) fn give(alloc: Global, store: &mut Store, reply: Reply) -> Answered
+/// What gives a reply. The objects that it needs are new, except `None`, `True` and `False`.
+pub(crate) fn give(store: &mut Store, reply: Reply) -> Answered
     requires sized { IsSized reply }
     requires there { IsThere store.old.made (reply_of reply) }
     ensures grows { IsGrown store.old store.new }
@@ -27,7 +26,7 @@ pub(crate) fn give(alloc: Global, store: &mut Store, reply: Reply) -> Answered
         Reply::Is(object) => Answered::Done(object),
         Reply::Int(number) => added(store, Payload::Int(number)),
         Reply::Str(text) => added(store, Payload::Str(text)),
-        Reply::Makes(class, args) => made(alloc, store, class, args),
+        Reply::Makes(class, args) => made(store, class, args),
         Reply::Fails(kind, text) => Answered::Fault(Fault { kind, text }),
     }
 }
@@ -58,16 +57,14 @@ fn added(store: &mut Store, payload: Payload) -> Answered
 }
 
 /// The exception that a call of a class with these arguments makes.
-fn made(alloc: Global, store: &mut Store, class: PyTypeRef, args: ObjList) -> Answered
+fn made(store: &mut Store, class: PyTypeRef, args: ObjList) -> Answered
     requires class { IsClassObject store.old.made (class_object class) }
     requires args { AllBelow (length store.old.made) (numbers args) }
     ensures grows { IsGrown store.old store.new }
     ensures given { IsGiven store.old.made store.new.made (Makes class args) result }
 {
-    match make_exception(alloc, store, class, args) {
-        Ok(exception) => Answered::Done(PyObjectRef {
-            number: exception.number,
-        }),
+    match make_exception(store, class, args) {
+        Ok(exception) => Answered::Done(PyObjectRef::from(exception)),
         Err(NoMemory) => Answered::NoMemory,
     }
 }

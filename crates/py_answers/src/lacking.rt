@@ -1,11 +1,10 @@
 //! The replies to calls of `send`, `throw` and `close` on what is no generator, which lacks them.
 
 ghost use Rattle.std.specs.Prelude.{◌≡◌, ◌<◌, length, IfOk};
-ghost use Rattle.py_objects.specs.declared.error_kind.ErrorKind.TheVariants.{AttributeError};
 ghost use Rattle.py_objects.specs.Objects.{IsMade};
-ghost use Rattle.py_answers.specs.Answers.{Fails, IsLacking, no_attribute};
+ghost use Rattle.py_answers.specs.Answers.{IsLacking, lacks_attribute};
 ghost use Rattle.py_answers.specs.Readable.{IsReadable};
-ghost use Rattle.py_answers.specs.Replying.{reply_of, is_generator, IsLackReplied, IsSized};
+ghost use Rattle.py_answers.specs.Replying.{reply_of, is_generator, IsLackReplied, IsSized, Says};
 
 use crate::reply::Reply;
 use crate::values::entry;
@@ -37,22 +36,7 @@ pub(crate) fn lacking(
 fn is_generator(payload: &Payload) -> bool
     ensures { result ≡ is_generator payload.now }
 {
-    match payload {
-        Payload::Generator(_) => true,
-        Payload::None
-        | Payload::Bool(_)
-        | Payload::Int(_)
-        | Payload::Str(_)
-        | Payload::Tuple(_)
-        | Payload::Dict(_)
-        | Payload::Class(_)
-        | Payload::Function(_)
-        | Payload::Builtin(_)
-        | Payload::Manager(_)
-        | Payload::Frame(_)
-        | Payload::Exception(_)
-        | Payload::Traceback(_) => false,
-    }
+    matches!(payload, Payload::Generator(_))
 }
 
 /// The refusal of an attribute that what has this payload hasn't.
@@ -63,7 +47,7 @@ fn no_attribute(
     name: &[u8],
 ) -> Result<Reply, NoMemory>
     requires { IsMade store.now.made payload.now }
-    ensures reply { IfOk result (λ reply. IsLacking store.now.made name.now payload.now (reply_of reply)) }
+    ensures reply { IfOk result (Says (IsLacking store.now.made name.now payload.now)) }
     ensures sized { IfOk result IsSized }
 {
     let kind = type_name(alloc, store, payload)?;
@@ -72,7 +56,7 @@ fn no_attribute(
 
 /// The same of an object of the type of this name.
 fn without_attribute(alloc: Global, kind: &PyText, name: &[u8]) -> Result<Reply, NoMemory>
-    ensures reply { IfOk result (λ reply. reply_of reply ≡ Fails AttributeError (no_attribute kind.now name.now)) }
+    ensures reply { IfOk result (λ reply. reply_of reply ≡ lacks_attribute kind.now name.now) }
     ensures sized { IfOk result IsSized }
 {
     let mut text = text_of(alloc, b"'")?;

@@ -5,7 +5,7 @@ ghost use Rattle.py_objects.specs.Objects.{IsMade};
 ghost use Rattle.py_objects.specs.Callees.{is_manager};
 ghost use Rattle.py_answers.specs.Answers.{no_exit, no_protocol, IsRefusedBy, RefusesExit};
 ghost use Rattle.py_answers.specs.Readable.{IsReadable};
-ghost use Rattle.py_answers.specs.Replying.{reply_of, IsEntryReplied, IsExitReplied, IsSized};
+ghost use Rattle.py_answers.specs.Replying.{IsEntryReplied, IsExitReplied, IsSized, Says};
 
 use crate::calling::called;
 use crate::reply::Reply;
@@ -40,7 +40,7 @@ pub(crate) fn without_exit(
 ) -> Result<Reply, NoMemory>
     requires readable { IsReadable store.now }
     requires below { object.number < length store.now.made }
-    ensures reply { IfOk result (λ reply. RefusesExit store.now.made object (reply_of reply)) }
+    ensures reply { IfOk result (Says (RefusesExit store.now.made object)) }
     ensures sized { IfOk result IsSized }
 {
     not_exited(alloc, store, entry(store, object))
@@ -83,28 +83,13 @@ pub fn told(
 fn is_manager(payload: &Payload) -> bool
     ensures { result ≡ is_manager payload.now }
 {
-    match payload {
-        Payload::Manager(_) => true,
-        Payload::None
-        | Payload::Bool(_)
-        | Payload::Int(_)
-        | Payload::Str(_)
-        | Payload::Tuple(_)
-        | Payload::Dict(_)
-        | Payload::Class(_)
-        | Payload::Function(_)
-        | Payload::Builtin(_)
-        | Payload::Frame(_)
-        | Payload::Generator(_)
-        | Payload::Exception(_)
-        | Payload::Traceback(_) => false,
-    }
+    matches!(payload, Payload::Manager(_))
 }
 
 /// The refusal to enter what has this payload.
 fn not_entered(alloc: Global, store: &Store, payload: &Payload) -> Result<Reply, NoMemory>
     requires { IsMade store.now.made payload.now }
-    ensures reply { IfOk result (λ reply. IsRefusedBy store.now.made no_protocol payload.now (reply_of reply)) }
+    ensures reply { IfOk result (Says (IsRefusedBy store.now.made no_protocol payload.now)) }
     ensures sized { IfOk result IsSized }
 {
     let kind = type_name(alloc, store, payload)?;
@@ -114,7 +99,7 @@ fn not_entered(alloc: Global, store: &Store, payload: &Payload) -> Result<Reply,
 /// The refusal where the exit of what has this payload is missing.
 fn not_exited(alloc: Global, store: &Store, payload: &Payload) -> Result<Reply, NoMemory>
     requires { IsMade store.now.made payload.now }
-    ensures reply { IfOk result (λ reply. IsRefusedBy store.now.made no_exit payload.now (reply_of reply)) }
+    ensures reply { IfOk result (Says (IsRefusedBy store.now.made no_exit payload.now)) }
     ensures sized { IfOk result IsSized }
 {
     let kind = type_name(alloc, store, payload)?;

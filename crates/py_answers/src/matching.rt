@@ -3,7 +3,7 @@
 ghost use Rattle.std.specs.Prelude.{◌≡◌, ◌<◌, length, IfOk};
 ghost use Rattle.py_answers.specs.Answers.{cannot_catch, Matches};
 ghost use Rattle.py_answers.specs.Readable.{IsReadable};
-ghost use Rattle.py_answers.specs.Replying.{reply_of, IsSized};
+ghost use Rattle.py_answers.specs.Replying.{reply_of, IsSized, Says};
 
 use crate::reply::Reply;
 use crate::values::{entry, is_of_exceptions};
@@ -22,7 +22,7 @@ pub(crate) fn matches(
     requires readable { IsReadable store.now }
     requires exception_below { exception.number < length store.now.made }
     requires class_below { class.number < length store.now.made }
-    ensures reply { IfOk result (λ reply. Matches store.now.made exception class (reply_of reply)) }
+    ensures reply { IfOk result (Says (Matches store.now.made exception class)) }
     ensures sized { IfOk result IsSized }
 {
     let caught = entry(store, exception);

@@ -1,9 +1,7 @@
 //! The replies to names: to what is declared under one, and to a local that is unset.
 
 ghost use Rattle.std.specs.Prelude.{◌≡◌, IfOk};
-ghost use Rattle.py_objects.specs.Attrs.{value_of};
-ghost use Rattle.py_objects.specs.declared.error_kind.ErrorKind.TheVariants as kind;
-ghost use Rattle.py_answers.specs.Answers.{Fails, found, unbound_text};
+ghost use Rattle.py_answers.specs.Answers.{found_among, unset};
 ghost use Rattle.py_answers.specs.Replying.{reply_of, IsSized};
 
 use crate::reply::Reply;
@@ -17,7 +15,7 @@ pub(crate) fn global(
     declarations: &AttrMap,
     name: &PyText,
 ) -> Result<Reply, NoMemory>
-    ensures reply { IfOk result (λ reply. reply_of reply ≡ found name.now (value_of name.now declarations.now)) }
+    ensures reply { IfOk result (λ reply. reply_of reply ≡ found_among name.now declarations.now) }
     ensures sized { IfOk result IsSized }
 {
     if let Some(object) = declarations.get(name) {
@@ -31,7 +29,7 @@ pub(crate) fn global(
 
 /// The raise to a local that is unset.
 pub(crate) fn unbound(alloc: Global, name: &PyText) -> Result<Reply, NoMemory>
-    ensures reply { IfOk result (λ reply. reply_of reply ≡ Fails kind.UnboundLocalError (unbound_text name.now)) }
+    ensures reply { IfOk result (λ reply. reply_of reply ≡ unset name.now) }
     ensures sized { IfOk result IsSized }
 {
     let mut text = text_of(alloc, b"local variable '")?;

@@ -3,7 +3,7 @@
 ghost use Rattle.std.specs.Prelude.{◌≡◌, ◌<◌, length, IfOk};
 ghost use Rattle.py_answers.specs.Answers.{raised_as, Raises};
 ghost use Rattle.py_answers.specs.Readable.{IsReadable};
-ghost use Rattle.py_answers.specs.Replying.{reply_of, IsSized};
+ghost use Rattle.py_answers.specs.Replying.{reply_of, IsSized, Says};
 
 use crate::reply::Reply;
 use py_code::NoMemory;
@@ -15,7 +15,7 @@ use std::alloc::Global;
 pub(crate) fn raisable(alloc: Global, store: &Store, object: PyObjectRef) -> Result<Reply, NoMemory>
     requires readable { IsReadable store.now }
     requires below { object.number < length store.now.made }
-    ensures reply { IfOk result (λ reply. Raises store.now.made object (reply_of reply)) }
+    ensures reply { IfOk result (Says (Raises store.now.made object)) }
     ensures sized { IfOk result IsSized }
 {
     match ExceptionCtor::try_from_object(alloc, store, object) {
@@ -31,9 +31,7 @@ fn raised_as(alloc: Global, ctor: ExceptionCtor) -> Reply
     ensures sized { IsSized result }
 {
     match ctor.instantiate(alloc) {
-        Instantiate::Done(exception) => Reply::Is(PyObjectRef {
-            number: exception.number,
-        }),
+        Instantiate::Done(exception) => Reply::Is(PyObjectRef::from(exception)),
         Instantiate::Make(class, args) => Reply::Makes(class, args),
         Instantiate::Fault(_) | Instantiate::NoMemory => unreachable!(),
     }

@@ -3,7 +3,7 @@
 ghost use Rattle.std.specs.Prelude.{◌≡◌, IfOk};
 ghost use Rattle.py_objects.specs.Objects.{IsMade};
 ghost use Rattle.py_answers.specs.Answers.{not_supported};
-ghost use Rattle.py_answers.specs.Replying.{reply_of, IsSized, IsRefused};
+ghost use Rattle.py_answers.specs.Replying.{reply_of, IsRefused, IsSized, Says};
 
 use crate::reply::Reply;
 use py_code::{NoMemory, PyText, push_bytes, push_text, text_of};
@@ -21,7 +21,7 @@ pub(crate) fn refused(
 ) -> Result<Reply, NoMemory>
     requires left_made { IsMade store.now.made left.now }
     requires right_made { IsMade store.now.made right.now }
-    ensures reply { IfOk result (λ reply. IsRefused store.now.made sign.now left.now right.now (reply_of reply)) }
+    ensures reply { IfOk result (Says (IsRefused store.now.made sign.now left.now right.now)) }
     ensures sized { IfOk result IsSized }
 {
     let left_type = type_name(alloc, store, left)?;

@@ -1,23 +1,18 @@
 -- Which payloads have a type with a name, and that it stays.
-use Rattle.std.proofs.Common.{◌≡◌, List, refl, sym, subst}
-use Rattle.std.specs.Prelude.{codes}
+use Rattle.std.proofs.Common.{◌≡◌, List, refl}
+use Rattle.std.specs.Prelude.{None}
 use Rattle.py_objects.specs.declared.payload.Payload.{Payload}
 use Rattle.py_objects.specs.declared.payload.Payload.TheVariants as payload
-use Rattle.py_objects.specs.declared.payload.ClassBody.{ClassBody}
-use Rattle.py_objects.specs.declared.payload.ExceptionBody.{ExceptionBody}
 use Rattle.py_objects.specs.Objects.{Name, IsMade}
+use Rattle.py_objects.specs.Values.{exception_of}
 use Rattle.py_objects.specs.Growth.{Grows}
 use Rattle.py_objects.proofs.GrowthLemmas.{payload_grown}
 use Rattle.py_exceptions.specs.TypeNames.{IsTypeName}
 
 -- each payload but an exception, whatever the objects are
-pub other_type_name : (objects : List Payload) (p : Payload) → ((e : ExceptionBody) → p ≡ payload.Exception e → ⊥) → (n : Name) × IsTypeName objects p n
-other_type_name objects (payload.Exception e) other = absurd (other e refl)
-other_type_name objects _ other = (_, refl)
-
--- that of a class
-pub class_type_name : (objects : List Payload) (p : Payload) (c : ClassBody) → p ≡ payload.Class c → (n : Name) × IsTypeName objects p n
-class_type_name objects p c is = subst (λ (q : Payload). (n : Name) × IsTypeName objects q n) (sym is) (codes "type", refl)
+pub other_type_name : (objects : List Payload) (p : Payload) → exception_of p ≡ None → (n : Name) × IsTypeName objects p n
+other_type_name objects (payload.Exception e) none = absurd (cc none)
+other_type_name objects _ none = (_, refl)
 
 -- each payload that is made of what it needs
 pub has_type_name : (objects : List Payload) (p : Payload) → IsMade objects p → (n : Name) × IsTypeName objects p n

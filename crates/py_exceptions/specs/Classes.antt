@@ -7,13 +7,13 @@ use Rattle.py_objects.specs.declared.error_kind.ErrorKind.{ErrorKind}
 use Rattle.py_objects.specs.ErrorKinds.{name_of, bases_of, error_kinds}
 use Rattle.py_objects.specs.ErrorPlaces.{place_of}
 use Rattle.py_objects.specs.Objects.{Obj, class_object, declares}
-use Rattle.py_objects.specs.Attrs.{Attrs}
+use Rattle.py_objects.specs.Attrs.{Attrs, inserted}
 use Rattle.py_objects.specs.Edits.{Kept}
 use Rattle.py_objects.specs.Growth.{with_object}
 use Rattle.py_exceptions.specs.declared.zoo.ExceptionZoo.{ExceptionZoo}
 use Rattle.py_exceptions.specs.BuiltIn.{IsClassOf}
 
--- the class of the exceptions of a kind: the classes stand one behind the other
+-- the class of the exceptions of a kind: the classes stand one after the other
 abbrev pub class_of : ExceptionZoo → ErrorKind → PyTypeRef
 class_of zoo kind = record { number = zoo.first + place_of kind }
 
@@ -29,7 +29,11 @@ class_payload zoo kind = payload.Class (record { name = name_of kind; mro = mro_
 abbrev pub class_payloads : ExceptionZoo → List Payload
 class_payloads zoo = map (class_payload zoo) error_kinds
 
--- where the classes of a machine stand: behind None, False and True
+-- a store with all of them after its objects
+abbrev pub with_classes : Kept → ExceptionZoo → Kept
+with_classes s zoo = record s { made = s.made ++ class_payloads zoo }
+
+-- where the classes of a machine stand: after None, False and True
 abbrev pub first_classes : ExceptionZoo
 first_classes = record { first = 3 }
 
@@ -37,7 +41,11 @@ first_classes = record { first = 3 }
 abbrev pub declarations_of : ExceptionZoo → Attrs
 declarations_of zoo = map (λ kind. (name_of kind, class_object (class_of zoo kind))) error_kinds
 
--- where the classes stand that go behind the objects of a store
+-- the name of one of the classes comes to what is declared
+abbrev pub AddsName : ExceptionZoo → ErrorKind → Attrs → Attrs → Type 0
+AddsName zoo kind old new = new ≡ inserted (name_of kind) (class_object (class_of zoo kind)) old
+
+-- where the classes stand that go after the objects of a store
 abbrev pub classes_behind : Kept → ExceptionZoo
 classes_behind s = record { first = length s.made }
 
@@ -45,7 +53,7 @@ classes_behind s = record { first = length s.made }
 abbrev pub IsAddedOrNot : Kept → Kept → Payload → Type 0
 IsAddedOrNot old new p = (new ≡ old) ⊎ (new ≡ with_object old p)
 
--- memory ran out while the classes were added to a store without declarations: so many of them came behind its objects, and all else stayed; so
+-- memory ran out while the classes were added to a store without declarations: so many of them came after its objects, and all else stayed; so
 -- many of their names are declared, which is each but the last one's at most
 pub record AreBegun (old new : Kept) (names : Attrs) : Type 0 where
   pub classes : ℕ

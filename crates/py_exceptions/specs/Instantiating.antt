@@ -1,11 +1,14 @@
 -- What comes of what may be raised, with a value or without one.
-use Rattle.std.specs.Prelude.{Bool, true, false, List, [], ◌∷◌, ◌≡◌, codes}
+use Rattle.std.specs.Prelude.{Option, Some, None, Bool, true, false, List, [], ◌∷◌, ◌≡◌, codes}
 use Rattle.py_objects.specs.declared.refs.PyTypeRef.{PyTypeRef}
+use Rattle.py_objects.specs.declared.refs.PyBaseExceptionRef.{PyBaseExceptionRef}
 use Rattle.py_objects.specs.declared.payload.Payload.{Payload}
 use Rattle.py_objects.specs.declared.payload.Payload.TheVariants as payload
+use Rattle.py_objects.specs.declared.payload.ExceptionBody.{ExceptionBody}
 use Rattle.py_objects.specs.declared.payload.Fault.{Fault}
 use Rattle.py_objects.specs.declared.error_kind.ErrorKind.TheVariants.{TypeError}
 use Rattle.py_objects.specs.Objects.{Obj, HasPayload, class_object, as_exception}
+use Rattle.py_objects.specs.Values.{exception_of}
 use Rattle.py_exceptions.specs.declared.ctor.ExceptionCtor.{ExceptionCtor}
 use Rattle.py_exceptions.specs.declared.ctor.ExceptionCtor.TheVariants as ctor
 use Rattle.py_exceptions.specs.declared.ctor.Instantiate.{Instantiate}
@@ -44,23 +47,15 @@ abbrev pub ClassWith : List Payload → PyTypeRef → Obj → Payload → Bool �
 ClassWith objects class v p true outcome = outcome ≡ comes.Done (as_exception v)
 ClassWith objects class v p false outcome = (args : List Obj) × StandsFor objects v p args × (outcome ≡ comes.Make class args)
 
--- with a value of a payload: an exception with another exception is refused, and stays itself with any other value
+-- an exception stays itself with a value that is none, and is refused with another exception
+abbrev pub instance_with : PyBaseExceptionRef → Option ExceptionBody → Instantiate
+instance_with e None = comes.Done e
+instance_with e (Some x) = comes.Fault separate_value
+
+-- with a value of a payload
 abbrev pub InstantiatesAs : List Payload → ExceptionCtor → Obj → Payload → Instantiate → Type 0
 InstantiatesAs objects (ctor.Class class) v p outcome = (b : Bool) × IsInstanceOf objects p (class_object class) b × ClassWith objects class v p b outcome
-InstantiatesAs objects (ctor.Instance e) v payload.None outcome = outcome ≡ comes.Done e
-InstantiatesAs objects (ctor.Instance e) v (payload.Bool b) outcome = outcome ≡ comes.Done e
-InstantiatesAs objects (ctor.Instance e) v (payload.Int n) outcome = outcome ≡ comes.Done e
-InstantiatesAs objects (ctor.Instance e) v (payload.Str s) outcome = outcome ≡ comes.Done e
-InstantiatesAs objects (ctor.Instance e) v (payload.Tuple vs) outcome = outcome ≡ comes.Done e
-InstantiatesAs objects (ctor.Instance e) v (payload.Dict ps) outcome = outcome ≡ comes.Done e
-InstantiatesAs objects (ctor.Instance e) v (payload.Class c) outcome = outcome ≡ comes.Done e
-InstantiatesAs objects (ctor.Instance e) v (payload.Function f) outcome = outcome ≡ comes.Done e
-InstantiatesAs objects (ctor.Instance e) v (payload.Builtin f) outcome = outcome ≡ comes.Done e
-InstantiatesAs objects (ctor.Instance e) v (payload.Manager m) outcome = outcome ≡ comes.Done e
-InstantiatesAs objects (ctor.Instance e) v (payload.Frame n) outcome = outcome ≡ comes.Done e
-InstantiatesAs objects (ctor.Instance e) v (payload.Generator g) outcome = outcome ≡ comes.Done e
-InstantiatesAs objects (ctor.Instance e) v (payload.Exception x) outcome = outcome ≡ comes.Fault separate_value
-InstantiatesAs objects (ctor.Instance e) v (payload.Traceback t) outcome = outcome ≡ comes.Done e
+InstantiatesAs objects (ctor.Instance e) v p outcome = outcome ≡ instance_with e (exception_of p)
 
 -- with a value
 abbrev pub Instantiates : List Payload → ExceptionCtor → Obj → Instantiate → Type 0

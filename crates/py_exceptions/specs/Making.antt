@@ -5,12 +5,16 @@ use Rattle.py_objects.specs.declared.refs.PyBaseExceptionRef.{PyBaseExceptionRef
 use Rattle.py_objects.specs.declared.payload.Payload.{Payload}
 use Rattle.py_objects.specs.declared.payload.Payload.TheVariants as payload
 use Rattle.py_objects.specs.declared.payload.ExceptionBody.{ExceptionBody}
+use Rattle.py_objects.specs.declared.payload.Fault.{Fault}
 use Rattle.py_objects.specs.declared.error_kind.ErrorKind.TheVariants.{OSError}
 use Rattle.py_objects.specs.ErrorKinds.{name_of}
 use Rattle.py_objects.specs.Objects.{Obj, Name, HasPayload, as_object, class_object}
 use Rattle.py_objects.specs.Attrs.{Attrs}
+use Rattle.py_objects.specs.Edits.{Kept}
 use Rattle.py_objects.specs.Ancestry.{derives_from}
 use Rattle.py_objects.specs.Values.{new_exception}
+use Rattle.py_exceptions.specs.declared.zoo.ExceptionZoo.{ExceptionZoo}
+use Rattle.py_exceptions.specs.Classes.{class_of}
 use Rattle.py_exceptions.specs.Keeping.{kept_args, kept_attrs}
 
 -- whether a class is OSError, or derives from it
@@ -51,3 +55,15 @@ IsNewException old new class text e = IsNewText old new class text None e
 -- with one
 abbrev pub IsNewExceptionFrom : List Payload → List Payload → PyTypeRef → Name → (cause e : PyBaseExceptionRef) → Type 0
 IsNewExceptionFrom old new class text cause e = IsNewText old new class text (Some (as_object cause)) e
+
+-- the one of a fault's kind and text, with a cause or without one, as these classes stand
+abbrev pub IsNewOf : ExceptionZoo → Fault → Option Obj → Kept → Kept → PyBaseExceptionRef → Type 0
+IsNewOf zoo fault cause old new e = IsNewText old.made new.made (class_of zoo fault.kind) fault.text cause e
+
+-- with this cause
+abbrev pub IsNewFrom : ExceptionZoo → Fault → PyBaseExceptionRef → Kept → Kept → PyBaseExceptionRef → Type 0
+IsNewFrom zoo fault cause old new e = IsNewOf zoo fault (Some (as_object cause)) old new e
+
+-- an exception of a class, with all that it holds, is new in a store
+abbrev pub IsAddedFrom : Kept → Kept → PyTypeRef → List Obj → Option Obj → Attrs → PyBaseExceptionRef → Type 0
+IsAddedFrom old new class arguments cause attrs e = IsNewInstanceFrom old.made new.made class arguments cause attrs e

@@ -1,13 +1,15 @@
 -- What may be raised, and what it is raised as.
-use Rattle.std.specs.Prelude.{Bool, true, false, Result, Ok, List, ◌++◌, ◌≡◌, codes, IsErrAnd}
+use Rattle.std.specs.Prelude.{Option, Some, None, Bool, true, false, Result, Ok, List, ◌++◌, ◌≡◌, codes, IsErrAnd}
 use Rattle.py_objects.specs.declared.refs.PyTypeRef.{PyTypeRef}
 use Rattle.py_objects.specs.declared.payload.Payload.{Payload}
 use Rattle.py_objects.specs.declared.payload.Payload.TheVariants as payload
 use Rattle.py_objects.specs.declared.payload.ClassBody.{ClassBody}
+use Rattle.py_objects.specs.declared.payload.ExceptionBody.{ExceptionBody}
 use Rattle.py_objects.specs.declared.payload.Fault.{Fault}
 use Rattle.py_objects.specs.declared.error_kind.ErrorKind.TheVariants.{BaseException, TypeError}
 use Rattle.py_objects.specs.ErrorKinds.{name_of}
 use Rattle.py_objects.specs.Objects.{Obj, Name, HasPayload, as_exception}
+use Rattle.py_objects.specs.Values.{class_body_of, exception_of}
 use Rattle.py_objects.specs.Ancestry.{IsDerived}
 use Rattle.py_exceptions.specs.declared.ctor.ExceptionCtor.{ExceptionCtor}
 use Rattle.py_exceptions.specs.declared.ctor.ExceptionCtor.TheVariants as ctor
@@ -23,6 +25,10 @@ as_class v = record { number = v.number }
 abbrev pub not_exception : Name → Fault
 not_exception n = record { kind = TypeError; text = codes "exceptions must be classes or instances deriving from BaseException, not " ++ n }
 
+-- a text is that of the refusal of what has a payload
+abbrev pub IsRefusal : List Payload → Payload → Name → Type 0
+IsRefusal objects p text = (n : Name) × IsTypeName objects p n × (text ≡ (not_exception n).text)
+
 -- the object with a payload is refused, or memory ran out
 abbrev pub IsNotException : List Payload → Payload → CtorFault → Type 0
 IsNotException objects p (fault.NotException f) = (n : Name) × IsTypeName objects p n × (f ≡ not_exception n)
@@ -33,22 +39,15 @@ abbrev pub ClassTaken : List Payload → Obj → ClassBody → Bool → Result E
 ClassTaken objects v c true taken = taken ≡ Ok (ctor.Class (as_class v))
 ClassTaken objects v c false taken = IsErrAnd taken (IsNotException objects (payload.Class c))
 
--- what an object with a payload is taken for: a class that is BaseException or derives from it, and an exception, for themselves, and nothing else
+-- what an object with a payload is taken for, by the class and the exception that it is, if any: a class that is BaseException or derives from
+-- it, and an exception, for themselves, and nothing else
+abbrev pub TakenAs : List Payload → Obj → Payload → Option ClassBody → Option ExceptionBody → Result ExceptionCtor CtorFault → Type 0
+TakenAs objects v p None None taken = IsErrAnd taken (IsNotException objects p)
+TakenAs objects v p None (Some e) taken = taken ≡ Ok (ctor.Instance (as_exception v))
+TakenAs objects v p (Some c) e taken = (b : Bool) × IsDerived objects v (name_of BaseException) b × ClassTaken objects v c b taken
+
 abbrev pub IsTakenFor : List Payload → Obj → Payload → Result ExceptionCtor CtorFault → Type 0
-IsTakenFor objects v payload.None taken = IsErrAnd taken (IsNotException objects payload.None)
-IsTakenFor objects v (payload.Bool b) taken = IsErrAnd taken (IsNotException objects (payload.Bool b))
-IsTakenFor objects v (payload.Int n) taken = IsErrAnd taken (IsNotException objects (payload.Int n))
-IsTakenFor objects v (payload.Str s) taken = IsErrAnd taken (IsNotException objects (payload.Str s))
-IsTakenFor objects v (payload.Tuple vs) taken = IsErrAnd taken (IsNotException objects (payload.Tuple vs))
-IsTakenFor objects v (payload.Dict ps) taken = IsErrAnd taken (IsNotException objects (payload.Dict ps))
-IsTakenFor objects v (payload.Class c) taken = (b : Bool) × IsDerived objects v (name_of BaseException) b × ClassTaken objects v c b taken
-IsTakenFor objects v (payload.Function f) taken = IsErrAnd taken (IsNotException objects (payload.Function f))
-IsTakenFor objects v (payload.Builtin f) taken = IsErrAnd taken (IsNotException objects (payload.Builtin f))
-IsTakenFor objects v (payload.Manager m) taken = IsErrAnd taken (IsNotException objects (payload.Manager m))
-IsTakenFor objects v (payload.Frame n) taken = IsErrAnd taken (IsNotException objects (payload.Frame n))
-IsTakenFor objects v (payload.Generator g) taken = IsErrAnd taken (IsNotException objects (payload.Generator g))
-IsTakenFor objects v (payload.Exception e) taken = taken ≡ Ok (ctor.Instance (as_exception v))
-IsTakenFor objects v (payload.Traceback t) taken = IsErrAnd taken (IsNotException objects (payload.Traceback t))
+IsTakenFor objects v p taken = TakenAs objects v p (class_body_of p) (exception_of p) taken
 
 -- what an object is taken for
 abbrev pub IsTaken : List Payload → Obj → Result ExceptionCtor CtorFault → Type 0

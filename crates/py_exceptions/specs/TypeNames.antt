@@ -1,5 +1,6 @@
 -- The names of types.
 use Rattle.std.specs.Prelude.{List, ◌≡◌, codes}
+use Rattle.py_objects.specs.declared.refs.PyTypeRef.{PyTypeRef}
 use Rattle.py_objects.specs.declared.payload.Payload.{Payload}
 use Rattle.py_objects.specs.declared.payload.Payload.TheVariants as payload
 use Rattle.py_objects.specs.declared.payload.ClassBody.{ClassBody}
@@ -12,6 +13,10 @@ abbrev pub kind_name : CoroKind → Name
 kind_name coro.Generator = codes "generator"
 kind_name coro.Coroutine = codes "coroutine"
 kind_name coro.AsyncGen = codes "async_generator"
+
+-- the name of a class that is there
+abbrev pub IsNameOf : List Payload → PyTypeRef → Name → Type 0
+IsNameOf objects class n = (c : ClassBody) × HasPayload objects (class_object class) (payload.Class c) × (n ≡ c.name)
 
 -- the name of a payload's type; an exception's is the name of its class
 abbrev pub IsTypeName : List Payload → Payload → Name → Type 0
@@ -27,5 +32,9 @@ IsTypeName objects (payload.Builtin f) n = n ≡ codes "builtin_function_or_meth
 IsTypeName objects (payload.Manager m) n = n ≡ codes "manager"
 IsTypeName objects (payload.Frame c) n = n ≡ codes "frame"
 IsTypeName objects (payload.Generator g) n = n ≡ kind_name g.kind
-IsTypeName objects (payload.Exception e) n = (c : ClassBody) × HasPayload objects (class_object e.class) (payload.Class c) × (n ≡ c.name)
+IsTypeName objects (payload.Exception e) n = IsNameOf objects e.class n
 IsTypeName objects (payload.Traceback t) n = n ≡ codes "traceback"
+
+-- a payload's type has a name
+abbrev pub HasTypeName : List Payload → Payload → Type 0
+HasTypeName objects p = (n : Name) × IsTypeName objects p n

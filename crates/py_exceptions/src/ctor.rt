@@ -2,17 +2,17 @@
 
 ghost use Rattle.std.specs.Prelude.{◌≡◌, ◌<◌, length, IfOk};
 ghost use Rattle.py_objects.specs.Edits.{objects_of};
-ghost use Rattle.py_objects.specs.Objects.{Name, class_object, IfThere};
+ghost use Rattle.py_objects.specs.Objects.{class_object, IfThere};
 ghost use Rattle.py_objects.specs.Ancestry.{derives_from};
 ghost use Rattle.py_objects.specs.ErrorKinds.{name_of};
 ghost use Rattle.py_objects.specs.declared.error_kind.ErrorKind.TheVariants.{BaseException};
-ghost use Rattle.py_exceptions.specs.Raisable.{not_exception, IsNotException, IsTaken};
+ghost use Rattle.py_exceptions.specs.Raisable.{IsNotException, IsRefusal, IsTaken};
 ghost use Rattle.py_exceptions.specs.Instantiating.{instantiated, Instantiates, StandsFor};
 ghost use Rattle.py_exceptions.specs.Memory.{UnlessNoMemory};
 ghost use Rattle.py_exceptions.specs.Normalizing.{Normalizes};
 ghost use Rattle.py_exceptions.specs.Deriving.{IsInstanceOf};
 ghost use Rattle.py_exceptions.specs.Parts.{AreParts, HasParts};
-ghost use Rattle.py_exceptions.specs.TypeNames.{IsTypeName};
+ghost use Rattle.py_exceptions.specs.TypeNames.{HasTypeName};
 ghost use Rattle.py_exceptions.specs.declared.ctor.ExceptionCtor.TheVariants.{Class, Instance};
 
 use crate::reading::{class_body, tuple_items};
@@ -22,6 +22,7 @@ use py_objects::{
     ErrorKind, Fault, ObjList, Payload, PyBaseExceptionRef, PyObjectRef, PyTypeRef, Store, derives,
 };
 use std::alloc::Global;
+use thiserror::Error;
 
 /// What may be raised (Python Language Reference, 7.8).
 #[derive(Clone, Copy, Debug, PartialEq, Eq)]
@@ -33,11 +34,13 @@ pub enum ExceptionCtor {
 }
 
 /// Why an object can't be raised, or wasn't tried.
-#[derive(Debug, Drop)]
+#[derive(Debug, Drop, Error)]
 pub enum CtorFault {
     /// It is neither an exception nor a class that is BaseException or derives from it.
+    #[error("{0}")]
     NotException(Fault),
     /// Memory ran out.
+    #[error("out of memory")]
     NoMemory,
 }
 
@@ -65,30 +68,17 @@ impl ExceptionCtor {
         ensures { IsTaken (objects_of store.now) obj result }
     {
         let payload = store.get(obj);
-        match payload {
-            Payload::Class(_) => {
-                let class = PyTypeRef { number: obj.number };
-                if is_of_exceptions(store, class) {
-                    return Ok(ExceptionCtor::Class(class));
-                }
-                Err(not_exception(alloc, store, payload))
-            }
-            Payload::Exception(_) => Ok(ExceptionCtor::Instance(PyBaseExceptionRef {
-                number: obj.number,
-            })),
-            Payload::None
-            | Payload::Bool(_)
-            | Payload::Int(_)
-            | Payload::Str(_)
-            | Payload::Tuple(_)
-            | Payload::Dict(_)
-            | Payload::Function(_)
-            | Payload::Builtin(_)
-            | Payload::Manager(_)
-            | Payload::Frame(_)
-            | Payload::Generator(_)
-            | Payload::Traceback(_) => Err(not_exception(alloc, store, payload)),
+        if payload.exception().is_some() {
+            return Ok(ExceptionCtor::Instance(PyBaseExceptionRef { number: obj.number }));
         }
+        let Some(_) = payload.class() else {
+            return Err(not_exception(alloc, store, payload));
+        };
+        let class = PyTypeRef { number: obj.number };
+        if is_of_exceptions(store, class) {
+            return Ok(ExceptionCtor::Class(class));
+        }
+        Err(not_exception(alloc, store, payload))
     }
 
     /// What comes of it without a value.
@@ -144,7 +134,7 @@ fn is_of_exceptions(store: &Store, class: PyTypeRef) -> bool
 
 /// The refusal of what is neither an exception nor a class of exceptions.
 fn not_exception(alloc: Global, store: &Store, payload: &Payload) -> CtorFault
-    requires { (name : Name) × IsTypeName store.now.made payload.now name }
+    requires { HasTypeName store.now.made payload.now }
     ensures { IsNotException store.now.made payload.now result }
 {
     match refusal(alloc, store, payload) {
@@ -158,8 +148,8 @@ fn not_exception(alloc: Global, store: &Store, payload: &Payload) -> CtorFault
 
 /// Its text.
 fn refusal(alloc: Global, store: &Store, payload: &Payload) -> Result<PyText, NoMemory>
-    requires { (name : Name) × IsTypeName store.now.made payload.now name }
-    ensures { IfOk result (λ text. (name : Name) × IsTypeName store.now.made payload.now name × (text ≡ (not_exception name).text)) }
+    requires { HasTypeName store.now.made payload.now }
+    ensures { IfOk result (IsRefusal store.now.made payload.now) }
 {
     let name = type_name(alloc, store, payload)?;
     let mut text = text_of(
@@ -180,28 +170,14 @@ fn instance_with(
     requires { value.number < length store.now.made }
     ensures { IfOk result (Instantiates (objects_of store.now) (Instance exception) value) }
 {
-    match store.get(value) {
-        Payload::Exception(_) => {
-            let text = text_of(alloc, b"instance exception may not have a separate value")?;
-            Ok(Instantiate::Fault(Fault {
-                kind: ErrorKind::TypeError,
-                text,
-            }))
-        }
-        Payload::None
-        | Payload::Bool(_)
-        | Payload::Int(_)
-        | Payload::Str(_)
-        | Payload::Tuple(_)
-        | Payload::Dict(_)
-        | Payload::Class(_)
-        | Payload::Function(_)
-        | Payload::Builtin(_)
-        | Payload::Manager(_)
-        | Payload::Frame(_)
-        | Payload::Generator(_)
-        | Payload::Traceback(_) => Ok(Instantiate::Done(exception)),
+    if store.get(value).exception().is_none() {
+        return Ok(Instantiate::Done(exception));
     }
+    let text = text_of(alloc, b"instance exception may not have a separate value")?;
+    Ok(Instantiate::Fault(Fault {
+        kind: ErrorKind::TypeError,
+        text,
+    }))
 }
 
 /// What comes of a class with a value: the value, where it is an exception of the class, or a call.
@@ -229,18 +205,12 @@ pub fn is_instance(store: &Store, payload: &Payload, class: PyTypeRef) -> bool
     requires { AreParts (objects_of store.now) payload.now }
     ensures { IsInstanceOf (objects_of store.now) payload.now (class_object class) result }
 {
-    let Payload::Exception(exception) = payload else {
+    let Some(exception) = payload.exception() else {
         return false;
     };
-    let own = exception.value().class;
-    let body = class_body(store, PyObjectRef { number: own.number });
-    derives(
-        own,
-        body,
-        PyObjectRef {
-            number: class.number,
-        },
-    )
+    let own = exception.class;
+    let body = class_body(store, PyObjectRef::from(own));
+    derives(own, body, PyObjectRef::from(class))
 }
 
 /// The arguments that a value stands for, which has this payload.
@@ -260,17 +230,7 @@ fn arguments(
             let items = tuple_items(store, exception.value().args);
             items.copy(alloc)
         }
-        Payload::Bool(_)
-        | Payload::Int(_)
-        | Payload::Str(_)
-        | Payload::Dict(_)
-        | Payload::Class(_)
-        | Payload::Function(_)
-        | Payload::Builtin(_)
-        | Payload::Manager(_)
-        | Payload::Frame(_)
-        | Payload::Generator(_)
-        | Payload::Traceback(_) => {
+        _ => {
             let mut args = ObjList::new(alloc);
             args.push(value)?;
             Ok(args)

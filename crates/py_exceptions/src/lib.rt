@@ -14,7 +14,7 @@ mod zoo;
 
 pub use arguments::{args, get_arg};
 pub use ctor::{CtorFault, ExceptionCtor, Instantiate, is_instance, normalized};
-pub use kinds::{is_gen_exit, is_kind};
+pub use kinds::is_gen_exit;
 pub use making::{make_exception, new_exception, new_exception_from};
 pub use py_outside::{Sink, SinkMemory, StdSink, WriteFailed};
 pub use stack::ExceptionStack;

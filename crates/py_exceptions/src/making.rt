@@ -1,11 +1,11 @@
 //! New exceptions: of a class, with what that keeps of its arguments, and with no links but a cause where they have one.
 
-ghost use Rattle.std.specs.Prelude.{◌≡◌, [], ◌∷◌, length, codes, IfOk};
+ghost use Rattle.std.specs.Prelude.{◌≡◌, [], ◌∷◌, None, length, codes, IfOk};
 ghost use Rattle.py_objects.specs.Objects.{as_object, attr_numbers, class_object, numbers, AllBelow, IfThere, IsClassObject, IsException};
 ghost use Rattle.py_objects.specs.Growth.{IsGrown};
-ghost use Rattle.py_exceptions.specs.Classes.{class_of, HaveClasses};
+ghost use Rattle.py_exceptions.specs.Classes.{HaveClasses};
 ghost use Rattle.py_exceptions.specs.Keeping.{kept_args as args_kept, kept_attrs as attrs_kept, os_args as args_of_os, os_attrs as attrs_of_os};
-ghost use Rattle.py_exceptions.specs.Making.{IsNewCalled, IsNewException, IsNewExceptionFrom, IsNewInstanceFrom, IsNewText};
+ghost use Rattle.py_exceptions.specs.Making.{IsAddedFrom, IsNewCalled, IsNewFrom, IsNewOf};
 
 use crate::zoo::ExceptionZoo;
 use py_code::{NoMemory, text_of};
@@ -17,22 +17,20 @@ use std::alloc::Global;
 
 /// A new exception of a fault's kind, with the fault's text as its one argument.
 pub fn new_exception(
-    alloc: Global,
     store: &mut Store,
     zoo: &ExceptionZoo,
     fault: &Fault,
 ) -> Result<PyBaseExceptionRef, NoMemory>
     requires { HaveClasses zoo.now store.old.made }
     ensures grows { IsGrown store.old store.new }
-    ensures made { IfOk result (λ e. IsNewException store.old.made store.new.made (class_of zoo.now fault.now.kind) fault.now.text e) }
+    ensures made { IfOk result (IsNewOf zoo.now fault.now None store.old store.new) }
 {
-    with_text(alloc, store, zoo, fault, None)
+    with_text(store, zoo, fault, None)
 }
 
 /// A new exception of a fault's kind and text, raised from a cause, which keeps its context from being printed (Python Language
 /// Reference, 7.8).
 pub fn new_exception_from(
-    alloc: Global,
     store: &mut Store,
     zoo: &ExceptionZoo,
     fault: &Fault,
@@ -41,17 +39,13 @@ pub fn new_exception_from(
     requires classes { HaveClasses zoo.now store.old.made }
     requires cause { IsException store.old.made (as_object cause) }
     ensures grows { IsGrown store.old store.new }
-    ensures made { IfOk result (λ e. IsNewExceptionFrom store.old.made store.new.made (class_of zoo.now fault.now.kind) fault.now.text cause e) }
+    ensures made { IfOk result (IsNewFrom zoo.now fault.now cause store.old store.new) }
 {
-    let cause = PyObjectRef {
-        number: cause.number,
-    };
-    with_text(alloc, store, zoo, fault, Some(cause))
+    with_text(store, zoo, fault, Some(PyObjectRef::from(cause)))
 }
 
 /// A new exception of a fault's kind and text, maybe with a cause.
 fn with_text(
-    alloc: Global,
     store: &mut Store,
     zoo: &ExceptionZoo,
     fault: &Fault,
@@ -60,19 +54,19 @@ fn with_text(
     requires classes { HaveClasses zoo.now store.old.made }
     requires cause { IfThere (IsException store.old.made) cause }
     ensures grows { IsGrown store.old store.new }
-    ensures made { IfOk result (λ e. IsNewText store.old.made store.new.made (class_of zoo.now fault.now.kind) fault.now.text cause e) }
+    ensures made { IfOk result (IsNewOf zoo.now fault.now cause store.old store.new) }
 {
+    let alloc = store.allocator();
     let class = zoo.class(fault.kind);
     let text = fault.text.copy(alloc)?;
     let argument = store.add(Payload::Str(text))?;
     let mut items = ObjList::new(alloc);
     items.push(argument)?;
-    add_exception(alloc, store, class, items, cause, AttrMap::new(alloc))
+    add_exception(store, class, items, cause, AttrMap::new(alloc))
 }
 
 /// The exception that a call of a class with these arguments makes.
 pub fn make_exception(
-    alloc: Global,
     store: &mut Store,
     class: PyTypeRef,
     args: ObjList,
@@ -80,17 +74,17 @@ pub fn make_exception(
     requires class { IsClassObject store.old.made (class_object class) }
     requires args { AllBelow (length store.old.made) (numbers args) }
     ensures grows { IsGrown store.old store.new }
-    ensures made { IfOk result (λ e. IsNewCalled store.old.made store.new.made class args e) }
+    ensures made { IfOk result (IsNewCalled store.old.made store.new.made class args) }
 {
+    let alloc = store.allocator();
     let os = store.derives_from(class, ErrorKind::OSError);
     let attrs = kept_attrs(alloc, os, args.as_slice())?;
     let args = kept_args(alloc, os, args)?;
-    add_exception(alloc, store, class, args, None, attrs)
+    add_exception(store, class, args, None, attrs)
 }
 
 /// A new exception of a class, with these arguments and attributes, and maybe with a cause.
 fn add_exception(
-    alloc: Global,
     store: &mut Store,
     class: PyTypeRef,
     args: ObjList,
@@ -102,7 +96,7 @@ fn add_exception(
     requires cause { IfThere (IsException store.old.made) cause }
     requires attrs { AllBelow (length store.old.made) (attr_numbers attrs) }
     ensures grows { IsGrown store.old store.new }
-    ensures made { IfOk result (λ e. IsNewInstanceFrom store.old.made store.new.made class args cause attrs e) }
+    ensures made { IfOk result (IsAddedFrom store.old store.new class args cause attrs) }
 {
     let args = store.add(Payload::Tuple(args))?;
     let body = ExceptionBody {
@@ -114,7 +108,7 @@ fn add_exception(
         traceback: None,
         attrs,
     };
-    let exception = store.add(Payload::Exception(Boxed::new(alloc, body)?))?;
+    let exception = store.add(Payload::Exception(Boxed::new(store.allocator(), body)?))?;
     Ok(PyBaseExceptionRef {
         number: exception.number,
     })

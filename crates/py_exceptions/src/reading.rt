@@ -25,8 +25,7 @@ pub(crate) fn exception_body(store: &Store, exc: PyBaseExceptionRef) -> &Excepti
     requires { IsException (objects_of store.now) (as_object exc) }
     ensures { HasPayload (objects_of store.now) (as_object exc) (Exception result.now) }
 {
-    let object = PyObjectRef { number: exc.number };
-    let Payload::Exception(body) = store.get(object) else {
+    let Payload::Exception(body) = store.get(PyObjectRef::from(exc)) else {
         unreachable!();
     };
     body.value()

@@ -3,10 +3,8 @@
 ghost use Rattle.std.specs.Prelude.{◌≡◌, ◌<◌, ◌≤◌, ◌+◌, length, IfOk, OnOk, OnErr};
 ghost use Rattle.py_objects.specs.Objects.{as_object, IfThere, IsException, IsTraceback};
 ghost use Rattle.py_objects.specs.Edits.{objects_of, IsEdited};
-ghost use Rattle.py_objects.specs.Growth.{with_object, IsGrown};
-ghost use Rattle.py_objects.specs.declared.edit.Edit.TheVariants.{Link as LinkEdit};
-ghost use Rattle.py_objects.specs.declared.edit.LinkField.TheVariants.{Traceback as TracebackLink};
-ghost use Rattle.py_exceptions.specs.Tracebacks.{traceback_entry, traceback_object as object_of_traceback, HasTraceback, IsFrame, IsSplit, IsTracebackSet, StandsForTraceback};
+ghost use Rattle.py_objects.specs.Growth.{IsGrown};
+ghost use Rattle.py_exceptions.specs.Tracebacks.{traceback_edit, traceback_object as object_of_traceback, with_entry, HasTraceback, IsFrame, IsSplit, IsTracebackSet, StandsForTraceback};
 
 use crate::reading::exception_body;
 use py_code::NoMemory;
@@ -31,7 +29,7 @@ impl PyTraceback {
         requires next { IfThere (IsTraceback store.old.made) (object_of_traceback next) }
         requires frame { IsFrame store.old.made frame }
         ensures number { IfOk result (λ entry. entry.number ≡ length store.old.made) }
-        ensures added { OnOk result (store.new ≡ with_object store.old (traceback_entry next frame lasti lineno)) }
+        ensures added { OnOk result (store.new ≡ with_entry store.old next frame lasti lineno) }
         ensures err { OnErr result (store.new ≡ store.old) }
         ensures grows { IsGrown store.old store.new }
     {
@@ -65,17 +63,19 @@ pub fn set_traceback(store: &mut Store, exc: PyBaseExceptionRef, tb: Option<PyTr
     requires spare { 0 < store.old.spare }
     requires exception { IsException (objects_of store.old) (as_object exc) }
     requires traceback { IfThere (IsTraceback store.old.made) (object_of_traceback tb) }
-    ensures edited { IsEdited store.old store.new (as_object exc) (LinkEdit TracebackLink (object_of_traceback tb)) }
+    ensures edited { IsEdited store.old store.new (as_object exc) (traceback_edit tb) }
     ensures set { IsTracebackSet (objects_of store.old) (objects_of store.new) exc tb }
     ensures now { HasTraceback (objects_of store.new) exc tb }
     ensures spare { store.old.spare ≤ store.new.spare + 1 }
 {
-    let exception = PyObjectRef { number: exc.number };
     let link = traceback_object(tb);
-    store.change(exception, Edit::Link(LinkField::Traceback, link));
+    store.change(
+        PyObjectRef::from(exc),
+        Edit::Link(LinkField::Traceback, link),
+    );
 }
 
-/// The class of an exception, the exception, and its traceback or None (Python Language Reference, 3.3.9).
+/// The class of an exception, the exception, and its traceback or the store's own None (Python Language Reference, 3.3.9).
 pub fn split_exception(
     store: &Store,
     exc: PyBaseExceptionRef,
@@ -84,14 +84,14 @@ pub fn split_exception(
     ensures { IsSplit store.now exc result.0 result.1 result.2 }
 {
     let body = exception_body(store, exc);
-    let class = PyObjectRef {
-        number: body.class.number,
-    };
-    let exception = PyObjectRef { number: exc.number };
-    (class, exception, traceback_or_none(store, body.traceback))
+    (
+        PyObjectRef::from(body.class),
+        PyObjectRef::from(exc),
+        traceback_or_none(store, body.traceback),
+    )
 }
 
-/// A traceback, or None in place of none.
+/// A traceback, or the store's own None in place of none.
 fn traceback_or_none(store: &Store, traceback: Option<PyObjectRef>) -> PyObjectRef
     ensures { StandsForTraceback store.now.made traceback result }
 {
@@ -107,8 +107,6 @@ fn traceback_object(traceback: Option<PyTracebackRef>) -> Option<PyObjectRef>
 {
     match traceback {
         None => None,
-        Some(traceback) => Some(PyObjectRef {
-            number: traceback.number,
-        }),
+        Some(traceback) => Some(PyObjectRef::from(traceback)),
     }
 }

@@ -1,10 +1,8 @@
 //! The names of types.
 
 ghost use Rattle.std.specs.Prelude.{◌≡◌, IfOk};
-ghost use Rattle.py_objects.specs.Objects.{Name, HasPayload, class_object, IsClassObject};
-ghost use Rattle.py_objects.specs.declared.payload.ClassBody.{ClassBody as ClassOf};
-ghost use Rattle.py_objects.specs.declared.payload.Payload.TheVariants.{Class};
-ghost use Rattle.py_exceptions.specs.TypeNames.{IsTypeName, kind_name};
+ghost use Rattle.py_objects.specs.Objects.{class_object, IsClassObject};
+ghost use Rattle.py_exceptions.specs.TypeNames.{HasTypeName, IsNameOf, IsTypeName, kind_name};
 
 use crate::reading::class_body;
 use py_code::{NoMemory, PyText, text_of};
@@ -13,8 +11,8 @@ use std::alloc::Global;
 
 /// The name of a payload's type.
 pub fn type_name(alloc: Global, store: &Store, payload: &Payload) -> Result<PyText, NoMemory>
-    requires { (name : Name) × IsTypeName store.now.made payload.now name }
-    ensures { IfOk result (λ name. IsTypeName store.now.made payload.now name) }
+    requires { HasTypeName store.now.made payload.now }
+    ensures { IfOk result (IsTypeName store.now.made payload.now) }
 {
     match payload {
         Payload::None => text_of(alloc, b"NoneType"),
@@ -48,13 +46,8 @@ fn kind_name(alloc: Global, kind: CoroKind) -> Result<PyText, NoMemory>
 /// The name of a class.
 fn class_name(alloc: Global, store: &Store, class: PyTypeRef) -> Result<PyText, NoMemory>
     requires { IsClassObject store.now.made (class_object class) }
-    ensures { IfOk result (λ name. (c : ClassOf) × HasPayload store.now.made (class_object class) (Class c) × (name ≡ c.name)) }
+    ensures { IfOk result (IsNameOf store.now.made class) }
 {
-    let body = class_body(
-        store,
-        PyObjectRef {
-            number: class.number,
-        },
-    );
+    let body = class_body(store, PyObjectRef::from(class));
     body.name.copy(alloc)
 }

@@ -1,11 +1,9 @@
 //! The built-in exception classes, which each machine begins with.
 
-ghost use Rattle.std.specs.Prelude.{◌≡◌, ◌<◌, ◌+◌, ◌^◌, [], ◌∷◌, ◌++◌, length, IfOk, OnOk, OnErr};
-ghost use Rattle.py_objects.specs.Objects.{class_object};
-ghost use Rattle.py_objects.specs.ErrorKinds.{name_of};
+ghost use Rattle.std.specs.Prelude.{◌≡◌, ◌<◌, ◌+◌, ◌^◌, [], length, IfOk, OnOk, OnErr};
 ghost use Rattle.py_objects.specs.ErrorPlaces.{place_of};
-ghost use Rattle.py_objects.specs.Attrs.{inserted};
-ghost use Rattle.py_exceptions.specs.Classes.{class_of, class_payload, class_payloads, declarations_of, mro_of, AreBegun, DeclareNothing, HaveClasses, IsAddedOrNot};
+ghost use Rattle.py_objects.specs.Growth.{with_object};
+ghost use Rattle.py_exceptions.specs.Classes.{class_of, class_payload, declarations_of, mro_of, with_classes, AddsName, AreBegun, DeclareNothing, HaveClasses, IsAddedOrNot};
 
 use py_code::{NoMemory, text_of};
 use py_objects::{
@@ -13,7 +11,7 @@ use py_objects::{
 };
 use std::alloc::Global;
 
-/// The class of each kind of built-in exception. The classes stand one behind the other, in the order of [`ErrorKind::all`].
+/// The class of each kind of built-in exception. The classes stand one after the other, in the order of [`ErrorKind::all`].
 #[derive(Clone, Copy, Debug, PartialEq, Eq)]
 pub struct ExceptionZoo {
     /// The number of the first one.
@@ -21,18 +19,14 @@ pub struct ExceptionZoo {
 }
 
 impl ExceptionZoo {
-    /// Adds the classes to a store without declarations, behind its objects, and their names to those that are declared. Where memory runs out,
+    /// Adds the classes to a store without declarations, after its objects, and their names to those that are declared. Where memory runs out,
     /// the store has the first ones.
-    pub fn extend(
-        alloc: Global,
-        store: &mut Store,
-        declarations: &mut AttrMap,
-    ) -> Result<ExceptionZoo, NoMemory>
+    pub fn extend(store: &mut Store, declarations: &mut AttrMap) -> Result<ExceptionZoo, NoMemory>
         requires store { DeclareNothing store.old.made }
         requires short { length store.old.made < 2 ^ 32 }
         requires none { declarations.old ≡ [] }
         ensures first { IfOk result (λ zoo. zoo.first ≡ length store.old.made) }
-        ensures added { IfOk result (λ zoo. store.new ≡ record store.old { made = store.old.made ++ class_payloads zoo }) }
+        ensures added { IfOk result (λ zoo. store.new ≡ with_classes store.old zoo) }
         ensures classes { IfOk result (λ zoo. HaveClasses zoo store.new.made) }
         ensures declarations { IfOk result (λ zoo. declarations.new ≡ declarations_of zoo) }
         ensures err { OnErr result (AreBegun store.old store.new declarations.new) }
@@ -41,7 +35,7 @@ impl ExceptionZoo {
             first: store.len() as u32,
         };
         for kind in ErrorKind::all() {
-            zoo.add_class(alloc, store, declarations, *kind)?;
+            zoo.add_class(store, declarations, *kind)?;
         }
         Ok(zoo)
     }
@@ -55,21 +49,21 @@ impl ExceptionZoo {
         }
     }
 
-    /// The class of a kind goes behind the other objects, where its bases are, declared under its name. Where memory runs out, it is there or not,
+    /// The class of a kind goes after the other objects, where its bases are, declared under its name. Where memory runs out, it is there or not,
     /// and not declared.
     fn add_class(
         &self,
-        alloc: Global,
         store: &mut Store,
         declarations: &mut AttrMap,
         kind: ErrorKind,
     ) -> Result<(), NoMemory>
         requires place { length store.old.made ≡ self.now.first + place_of kind }
-        ensures added { OnOk result (store.new ≡ record store.old { made = store.old.made ++ class_payload self.now kind ∷ [] }) }
-        ensures declared { OnOk result (declarations.new ≡ inserted (name_of kind) (class_object (class_of self.now kind)) declarations.old) }
+        ensures added { OnOk result (store.new ≡ with_object store.old (class_payload self.now kind)) }
+        ensures declared { OnOk result (AddsName self.now kind declarations.old declarations.new) }
         ensures err { OnErr result (IsAddedOrNot store.old store.new (class_payload self.now kind)) }
         ensures undeclared { OnErr result (declarations.new ≡ declarations.old) }
     {
+        let alloc = store.allocator();
         let name = kind.name();
         let class = ClassBody {
             name: text_of(alloc, name)?,
@@ -86,10 +80,7 @@ impl ExceptionZoo {
     {
         let mut mro = ObjList::new(alloc);
         for base in kind.bases() {
-            let class = self.class(*base);
-            mro.push(PyObjectRef {
-                number: class.number,
-            })?;
+            mro.push(PyObjectRef::from(self.class(*base)))?;
         }
         Ok(mro)
     }

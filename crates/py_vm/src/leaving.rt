@@ -103,18 +103,12 @@ impl Core {
             CoroAnswer::Raise(exception) => Ok(Reply::Passed(exception)),
             CoroAnswer::Convert(cause, stop) => {
                 let fault = converted(self.alloc, kind, stop)?;
-                let exception = new_exception_from(
-                    self.alloc,
-                    &mut self.store,
-                    &self.zoo,
-                    &fault,
-                    cause,
-                )?;
+                let exception = new_exception_from(&mut self.store, &self.zoo, &fault, cause)?;
                 Ok(Reply::Fresh(exception))
             }
             CoroAnswer::Ignored => {
                 let fault = ignored(self.alloc, kind)?;
-                let exception = new_exception(self.alloc, &mut self.store, &self.zoo, &fault)?;
+                let exception = new_exception(&mut self.store, &self.zoo, &fault)?;
                 Ok(Reply::Fresh(exception))
             }
         }

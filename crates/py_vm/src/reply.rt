@@ -89,5 +89,5 @@ fn stopped(
     if let Some(value) = value {
         args.push(value)?;
     }
-    make_exception(alloc, store, zoo.class(ErrorKind::StopIteration), args)
+    make_exception(store, zoo.class(ErrorKind::StopIteration), args)
 }

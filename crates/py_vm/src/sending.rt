@@ -88,10 +88,10 @@ pub(crate) fn throw(
             thrown_into(alloc, store, zoo, generators, generator, exception, depth)
         }
         Instantiate::Make(class, args) => {
-            let exception = make_exception(alloc, store, class, args)?;
+            let exception = make_exception(store, class, args)?;
             thrown_into(alloc, store, zoo, generators, generator, exception, depth)
         }
-        Instantiate::Fault(fault) => Ok(Course::Says(raised(alloc, store, zoo, &fault)?)),
+        Instantiate::Fault(fault) => Ok(Course::Says(raised(store, zoo, &fault)?)),
         Instantiate::NoMemory => Err(NoMemory),
     }
 }
@@ -171,7 +171,6 @@ fn exit(
     ensures made { IfOk result (λ e. IsNewCalled store.old.made store.new.made (class_of zoo.now GeneratorExit) [] e) }
 {
     make_exception(
-        alloc,
         store,
         zoo.class(ErrorKind::GeneratorExit),
         ObjList::new(alloc),
@@ -211,5 +210,5 @@ fn refused_by(
     ensures refused { IfOk result (IsRefusedBy store.old.made store.new.made (refused (word_of kind) refusal)) }
 {
     let fault = refusal.fault(alloc, kind)?;
-    Ok(Course::Says(raised(alloc, store, zoo, &fault)?))
+    Ok(Course::Says(raised(store, zoo, &fault)?))
 }
