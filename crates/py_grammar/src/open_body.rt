@@ -6,7 +6,7 @@ ghost use Rattle.std.specs.List.{list_any};
 ghost use Rattle.py_tree.specs.Views.{clauses_of, form_of, suite_of, tree_of};
 ghost use Rattle.py_lines.specs.declared.line.Line.TheVariants.{Plain as PlainLine, Opens as OpensLine, Turns as TurnsLine};
 ghost use Rattle.py_grammar.specs.Rules.{is_loop as is_loop_head};
-ghost use Rattle.py_grammar.specs.Reader.{began, closed, else_behind, ended, except_behind, finally_behind, function_of, goes_on, inside as is_inside, only_if, opened, opener, plain_form, turned_by};
+ghost use Rattle.py_grammar.specs.Reader.{began, closed, else_behind, ended, except_behind, finally_behind, function_of, inside as is_inside, opened, opener, plain_form, turned_by};
 ghost use Rattle.py_tree.specs.Suites.{with_clause as is_with_clause};
 ghost use Rattle.py_grammar.specs.Reading.{began_of, closing_of, open_of, GoesOn};
 

@@ -1,18 +1,14 @@
 //! Bytes to scripts.
 
-ghost use Rattle.std.specs.Prelude.{◌≡◌, ◌≤◌, ◌⊎◌, IfOk, IsOk, OnOk, Err, length, ℕ, List, encode_utf8_all};
+ghost use Rattle.std.specs.Prelude.{◌≡◌, ◌≤◌, IfOk, IsOk, OnOk, Err, length, ℕ, encode_utf8_all};
 ghost use Rattle.std.specs.Str.{IsUtf8};
-ghost use Rattle.py_lines.specs.declared.drive.DriveLine.{DriveLine};
-ghost use Rattle.py_lines.specs.declared.line.LineRead.{LineRead as Read};
-ghost use Rattle.py_lines.specs.Reading.{IsReadAs};
-ghost use Rattle.py_grammar.specs.Grammar.{Decl};
-ghost use Rattle.py_grammar.specs.Script.{IsScript, IsBadLine, Spells, decls_of};
+ghost use Rattle.py_grammar.specs.Script.{IsScript, IsBadLine, HasBadLine, HasOneTree, SpellsSome};
 ghost use Rattle.py_grammar.specs.WellFormed.{IsWellFormed};
 ghost use Rattle.py_grammar.specs.Lines.{lines};
-ghost use Rattle.py_grammar.specs.Reader.{only_if, start, takes_line};
-ghost use Rattle.py_grammar.specs.Reading.{state_of, IsAnswerTo};
+ghost use Rattle.py_grammar.specs.Reader.{start};
+ghost use Rattle.py_grammar.specs.Reading.{state_of, IsAnswerTo, OnlyMemoryHides, TakesBytes};
 ghost use Rattle.py_grammar.specs.Tables.{TableIsKept};
-ghost use Rattle.py_grammar.specs.declared.fault.ParseFault.TheVariants.{Malformed, NoMemory as OutOfMemory};
+ghost use Rattle.py_grammar.specs.declared.fault.ParseFault.TheVariants.{Malformed};
 ghost use Rattle.py_grammar.specs.declared.script.Script.{Script as ScriptOf};
 
 use crate::fault::ParseFault;

@@ -1,10 +1,9 @@
 //! A reader of lines: what was read so far, and whether one more line may stand behind it.
 
-ghost use Rattle.std.specs.Prelude.{◌≡◌, [], IfOk, OnOk, None, option_map};
+ghost use Rattle.std.specs.Prelude.{◌≡◌, [], IfOk, OnOk, None};
 ghost use Rattle.py_lines.specs.declared.header.Header.TheVariants.{Class as ClassHeader, Def as DefHeader, Manager as ManagerHeader};
 ghost use Rattle.py_lines.specs.declared.line.Line.TheVariants.{Drive as DrivenLine, End as EndLine, Header as HeaderLine, Opens as OpensLine, Plain as PlainLine, Turns as TurnsLine};
-ghost use Rattle.py_grammar.specs.Script.{decls_of};
-ghost use Rattle.py_grammar.specs.Reader.{closes, function_of, headed, only_if, start, whole_body};
+ghost use Rattle.py_grammar.specs.Reader.{start};
 ghost use Rattle.py_grammar.specs.Reading.{state_of, ComesTo, IsDeclared, IsHeaded, IsTaken};
 ghost use Rattle.py_grammar.specs.Tables.{TableIsKept};
 
