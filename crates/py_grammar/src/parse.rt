@@ -1,6 +1,6 @@
 //! Bytes to scripts.
 
-ghost use Rattle.std.specs.Prelude.{◌≡◌, ◌≤◌, IfOk, IsOk, OnOk, Err, length, ℕ, encode_utf8_all};
+ghost use Rattle.std.specs.Prelude.{◌≡◌, ◌≤◌, ◌⊎◌, IfOk, IsOk, OnOk, Err, length, ℕ, encode_utf8_all};
 ghost use Rattle.std.specs.Str.{IsUtf8};
 ghost use Rattle.py_grammar.specs.Script.{IsScript, IsBadLine, HasBadLine, HasOneTree, SpellsSome};
 ghost use Rattle.py_grammar.specs.WellFormed.{IsWellFormed};
