@@ -1,13 +1,14 @@
 //! The code of statements with suites.
 
-ghost use Rattle.std.specs.Prelude.{◌≡◌, ◌+◌, ◌%◌, ◌≤◌, ◌^◌, false, true, OnOk};
+ghost use Rattle.std.specs.Prelude.{◌≡◌, ◌+◌, ◌≤◌, false, true, OnOk};
 ghost use Rattle.py_code.specs.Units.{is_prefix};
 ghost use Rattle.py_laid.specs.Code.{in_loop};
-ghost use Rattle.py_tree.specs.Tree.{IfElse, TryExcept, TryFinally, While, With};
+ghost use Rattle.py_tree.specs.Tree.{IfElse, While};
 ghost use Rattle.py_tree.specs.Views.{form_of, suite_of};
 ghost use Rattle.py_tree.specs.Compilable.{FormNests, SuiteFits, SuiteNests, statements, statements_in};
 ghost use Rattle.py_body.specs.Sizes.{size_form, size_rounds};
-ghost use Rattle.py_body.specs.Emitting.{draft_of, end_of, labels_of, scope_of, weights_of, EmitsBranch, EmitsForm, EmitsSuite, FormIn, SuiteIn};
+ghost use Rattle.py_body.specs.Emitting.{labels_of, scope_of, FormIn, SuiteIn};
+ghost use Rattle.py_body.specs.Puts.{label_behind, PutsForm, PutsSuite, PutsBranch};
 
 use crate::emitter::Emitter;
 use crate::scope::{Labels, Scope, in_loop};
@@ -24,7 +25,7 @@ impl Emitter {
         requires nests { SuiteNests scope.now.depth (suite_of suite.now) }
         requires low { (self.old.labels ≤ 3) × (self.old.others ≤ 3) }
         requires depth { scope.now.depth ≤ 1000 }
-        ensures code { OnOk result (EmitsSuite self.old.labels (draft_of self.old) (draft_of self.new) (scope_of scope.now) (suite_of suite.now)) }
+        ensures code { OnOk result (PutsSuite self.old self.new scope.now suite.now) }
         ensures widths { (self.new.labels ≡ self.old.labels) × (self.new.others ≡ self.old.others) }
     {
         for stmt in suite.as_slice() {
@@ -41,7 +42,7 @@ impl Emitter {
         requires nests { FormNests scope.now.depth (form_of form.now) }
         requires low { (self.old.labels ≤ 3) × (self.old.others ≤ 3) }
         requires depth { scope.now.depth ≤ 1000 }
-        ensures code { OnOk result (EmitsForm self.old.labels (draft_of self.old) (draft_of self.new) (scope_of scope.now) line (form_of form.now)) }
+        ensures code { OnOk result (PutsForm self.old self.new scope.now line (form_of form.now)) }
         ensures widths { (self.new.labels ≡ self.old.labels) × (self.new.others ≡ self.old.others) }
     {
         match form {
@@ -101,7 +102,7 @@ impl Emitter {
         requires nests { SuiteNests scope.now.depth (suite_of suite.now) }
         requires low { (self.old.labels ≤ 3) × (self.old.others ≤ 3) }
         requires depth { scope.now.depth ≤ 1000 }
-        ensures code { OnOk result (EmitsBranch self.old.labels (draft_of self.old) (draft_of self.new) (scope_of scope.now) line atom.now op (suite_of suite.now)) }
+        ensures code { OnOk result (PutsBranch self.old self.new scope.now line atom.now op suite.now) }
         ensures widths { (self.new.labels ≡ self.old.labels) × (self.new.others ≡ self.old.others) }
     {
         let weights = self.weights();
@@ -129,7 +130,7 @@ impl Emitter {
         requires nests_other { SuiteNests scope.now.depth (suite_of other.now) }
         requires low { (self.old.labels ≤ 3) × (self.old.others ≤ 3) }
         requires depth { scope.now.depth ≤ 1000 }
-        ensures code { OnOk result (EmitsForm self.old.labels (draft_of self.old) (draft_of self.new) (scope_of scope.now) line (IfElse atom.now (suite_of suite.now) (suite_of other.now))) }
+        ensures code { OnOk result (PutsForm self.old self.new scope.now line (IfElse atom.now (suite_of suite.now) (suite_of other.now))) }
         ensures widths { (self.new.labels ≡ self.old.labels) × (self.new.others ≡ self.old.others) }
     {
         let weights = self.weights();
@@ -159,7 +160,7 @@ impl Emitter {
         requires nests { SuiteNests scope.now.depth (suite_of suite.now) }
         requires low { (self.old.labels ≤ 3) × (self.old.others ≤ 3) }
         requires depth { scope.now.depth ≤ 1000 }
-        ensures code { OnOk result (EmitsForm self.old.labels (draft_of self.old) (draft_of self.new) (scope_of scope.now) line (While atom.now (suite_of suite.now))) }
+        ensures code { OnOk result (PutsForm self.old self.new scope.now line (While atom.now (suite_of suite.now))) }
         ensures widths { (self.new.labels ≡ self.old.labels) × (self.new.others ≡ self.old.others) }
     {
         let weights = self.weights();
@@ -193,10 +194,10 @@ impl Emitter {
         requires low { (self.old.labels ≤ 3) × (self.old.others ≤ 3) }
         requires depth { scope.now.depth ≤ 1000 }
         requires inner { scope_of inner.now ≡ in_loop (labels_of labels) (scope_of scope.now) }
-        requires again { labels.again ≡ (end_of (draft_of self.old) + (weights_of (draft_of self.old)).plain) % 2 ^ 32 }
-        requires stop { labels.stop ≡ (end_of (draft_of self.old) + size_form (weights_of (draft_of self.old)) (While atom.now (suite_of suite.now))) % 2 ^ 32 }
-        requires end { end ≡ (end_of (draft_of self.old) + size_rounds (weights_of (draft_of self.old)) (suite_of suite.now)) % 2 ^ 32 }
-        ensures code { OnOk result (EmitsForm self.old.labels (draft_of self.old) (draft_of self.new) (scope_of scope.now) line (While atom.now (suite_of suite.now))) }
+        requires again { labels.again ≡ label_behind self.old (λ w. w.plain) }
+        requires stop { labels.stop ≡ label_behind self.old (λ w. size_form w (While atom.now (suite_of suite.now))) }
+        requires end { end ≡ label_behind self.old (λ w. size_rounds w (suite_of suite.now)) }
+        ensures code { OnOk result (PutsForm self.old self.new scope.now line (While atom.now (suite_of suite.now))) }
         ensures widths { (self.new.labels ≡ self.old.labels) × (self.new.others ≡ self.old.others) }
     {
         self.put_plain(Instruction::SetupLoop, 0, scope, 0, line)?;

@@ -1,17 +1,17 @@
 //! The compiler: the code of a body.
 
-ghost use Rattle.std.specs.Prelude.{◌≡◌, ◌+◌, ◌<◌, ◌≤◌, ◌^◌, suc, false, length, List, IfOk, OnOk, codes, encode_utf8_all};
+ghost use Rattle.std.specs.Prelude.{◌≡◌, ◌<◌, ◌≤◌, ◌^◌, suc, false, length, IfOk, OnOk, codes, encode_utf8_all};
 ghost use Rattle.py_tree.specs.declared.body.BodyKind.{BodyKind};
-ghost use Rattle.py_tree.specs.Tree.{Name};
 ghost use Rattle.py_tree.specs.Compilable.{IsCompilable, SuiteFits, statements};
 ghost use Rattle.py_tree.specs.Views.{suite_of, tree_of};
-ghost use Rattle.py_laid.specs.Code.{flags_of, IsLaid, IsPlain};
+ghost use Rattle.py_laid.specs.Code.{flags_of, IsPlain};
 ghost use Rattle.py_laid.specs.Fits.{Fits, Continues};
 ghost use Rattle.py_laid.specs.Instructions.{UsesCompiled};
-ghost use Rattle.py_laid.specs.Naming.{IsNamed, IsNameOf, NamesAll};
+ghost use Rattle.py_laid.specs.Naming.{IsNameOf, NamesAll};
 ghost use Rattle.py_body.specs.Sizes.{counted, size_body, weights};
-ghost use Rattle.py_body.specs.Codes.{Each};
-ghost use Rattle.py_body.specs.Emitting.{draft_of, EmitsBody, IsEmitted};
+ghost use Rattle.py_body.specs.Codes.{Each, IsLaidWith};
+ghost use Rattle.py_body.specs.Emitting.{draft_of, IsEmitted};
+ghost use Rattle.py_body.specs.Puts.{PutsBody};
 
 use crate::emitter::Emitter;
 use crate::locals::locals_of;
@@ -40,7 +40,7 @@ pub fn compile_body(
     requires { IsCompilable (tree_of body.now) }
     ensures one { IfOk result (λ codes. length codes ≡ 1) }
     ensures fits { IfOk result (λ codes. Each (λ code. Fits names.new code (tree_of body.now)) codes) }
-    ensures laid { IfOk result (λ codes. Each (λ code. (globals : List Name) × IsLaid globals code (tree_of body.now) × IsNamed names.new globals code.code (tree_of body.now)) codes) }
+    ensures laid { IfOk result (λ codes. Each (λ code. IsLaidWith names.new code (tree_of body.now)) codes) }
     ensures plain { IfOk result (λ codes. Each (λ code. IsPlain code (tree_of body.now)) codes) }
     ensures uses { IfOk result (λ codes. Each (λ code. UsesCompiled code.code) codes) }
     ensures grows { Continues names.old names.new }
@@ -55,7 +55,7 @@ pub fn compile_body(
 /// The code of a body itself.
 fn compile_code(alloc: Global, names: &mut Names, body: &Body) -> Result<Annotated, NoMemory>
     requires { IsCompilable (tree_of body.now) }
-    ensures laid { IfOk result (λ code. (globals : List Name) × IsLaid globals code (tree_of body.now) × IsNamed names.new globals code.code (tree_of body.now)) }
+    ensures laid { IfOk result (λ code. IsLaidWith names.new code (tree_of body.now)) }
     ensures plain { IfOk result (λ code. IsPlain code (tree_of body.now)) }
     ensures grows { Continues names.old names.new }
 {
@@ -155,7 +155,7 @@ fn emit_body(alloc: Global, body: &Body) -> Result<Emitter, NoMemory>
 fn emit_all(emitter: &mut Emitter, body: &Body) -> Result<(), NoMemory>
     requires compilable { IsCompilable (tree_of body.now) }
     requires low { (emitter.old.labels ≤ 3) × (emitter.old.others ≤ 3) }
-    ensures { OnOk result (EmitsBody (draft_of emitter.old) (draft_of emitter.new) (tree_of body.now)) }
+    ensures { OnOk result (PutsBody emitter.old emitter.new (tree_of body.now)) }
 {
     let scope = entry(body.kind);
     emitter.compile_suite(&body.suite, &scope)?;

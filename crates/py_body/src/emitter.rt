@@ -1,12 +1,11 @@
 //! The emitter: units with their lines and notes, and the constants and names that they refer to.
 
-ghost use Rattle.std.specs.Prelude.{◌≡◌, ◌+◌, ◌%◌, ◌<◌, ◌≤◌, ◌^◌, ◌∷◌, ◌++◌, [], false, length, max, replicate, OnOk};
-ghost use Rattle.py_code.specs.declared.instruction.Instruction.TheVariants.{ExtendedArg};
+ghost use Rattle.std.specs.Prelude.{◌≡◌, ◌+◌, ◌%◌, ◌<◌, ◌≤◌, ◌^◌, ◌∷◌, ◌++◌, [], false, length, replicate, OnOk};
 ghost use Rattle.py_code.specs.Units.{is_prefix};
 ghost use Rattle.py_check.specs.Constants.{has_code};
-ghost use Rattle.py_laid.specs.Code.{note_of, over};
 ghost use Rattle.py_tree.specs.declared.expr.Atom.TheVariants as Atom;
-ghost use Rattle.py_body.specs.Emitting.{blank, byte_of, draft_of, put, scope_of, spelled, weights_of, EmitsAtom, EmitsConst, EmitsJump, EmitsLocal, EmitsPlain};
+ghost use Rattle.py_body.specs.Emitting.{blank, byte_of, draft_of, spelled, weights_of};
+ghost use Rattle.py_body.specs.Puts.{note_over, prefix, Puts, PutsPlain, PutsJump, PutsConst, PutsLocal, PutsAtom};
 
 use crate::scope::{Scope, note_of};
 use crate::sizes::Weights;
@@ -85,7 +84,7 @@ impl Emitter {
         requires plain { is_prefix op ≡ false }
         requires small { arg < 256 }
         requires depth { scope.now.depth + above ≤ 65535 }
-        ensures code { OnOk result (EmitsPlain (draft_of self.old) (draft_of self.new) (over above (scope_of scope.now)) line op arg) }
+        ensures code { OnOk result (PutsPlain self.old self.new scope.now line above op arg) }
         ensures widths { (self.new.labels ≡ self.old.labels) × (self.new.others ≡ self.old.others) }
     {
         self.put(0, op, arg, scope, above, line)
@@ -103,7 +102,7 @@ impl Emitter {
         requires plain { is_prefix op ≡ false }
         requires low { self.old.labels ≤ 3 }
         requires depth { scope.now.depth + above ≤ 65535 }
-        ensures code { OnOk result (EmitsJump self.old.labels (draft_of self.old) (draft_of self.new) (over above (scope_of scope.now)) line op label) }
+        ensures code { OnOk result (PutsJump self.old self.new scope.now line above op label) }
         ensures widths { (self.new.labels ≡ self.old.labels) × (self.new.others ≡ self.old.others) }
     {
         self.put(self.labels, op, label, scope, above, line)
@@ -122,7 +121,7 @@ impl Emitter {
         requires no_code { has_code literal ≡ false }
         requires low { self.old.others ≤ 3 }
         requires depth { scope.now.depth + above ≤ 65535 }
-        ensures code { OnOk result (EmitsConst (draft_of self.old) (draft_of self.new) (over above (scope_of scope.now)) line op literal) }
+        ensures code { OnOk result (PutsConst self.old self.new scope.now line above op literal) }
         ensures widths { (self.new.labels ≡ self.old.labels) × (self.new.others ≡ self.old.others) }
     {
         let place = index_of(self.constants.len());
@@ -140,7 +139,7 @@ impl Emitter {
     ) -> Result<(), NoMemory>
         requires low { self.old.others ≤ 3 }
         requires depth { scope.now.depth + above ≤ 65535 }
-        ensures code { OnOk result (EmitsAtom (draft_of self.old) (draft_of self.new) (over above (scope_of scope.now)) line (Atom.Name name.now)) }
+        ensures code { OnOk result (PutsAtom self.old self.new scope.now line above (Atom.Name name.now)) }
         ensures widths { (self.new.labels ≡ self.old.labels) × (self.new.others ≡ self.old.others) }
     {
         if let Some(place) = self.locals.place(name) {
@@ -178,7 +177,7 @@ impl Emitter {
         requires plain { is_prefix op ≡ false }
         requires low { self.old.others ≤ 3 }
         requires depth { scope.now.depth + above ≤ 65535 }
-        ensures code { OnOk result (EmitsLocal (draft_of self.old) (draft_of self.new) (over above (scope_of scope.now)) line op name.now) }
+        ensures code { OnOk result (PutsLocal self.old self.new scope.now line above op name.now) }
         ensures widths { (self.new.labels ≡ self.old.labels) × (self.new.others ≡ self.old.others) }
     {
         let place = self.locals.place(name).unwrap_or(self.locals.len());
@@ -198,7 +197,7 @@ impl Emitter {
     ) -> Result<(), NoMemory>
         requires width { width ≤ 3 }
         requires depth { scope.now.depth + above ≤ 65535 }
-        ensures put { OnOk result (draft_of self.new ≡ put width op arg (over above (scope_of scope.now)) line (draft_of self.old)) }
+        ensures put { OnOk result (Puts self.old self.new scope.now line above width op arg) }
         ensures widths { (self.new.labels ≡ self.old.labels) × (self.new.others ≡ self.old.others) }
     {
         put_units(&mut self.units, width, op, arg)?;
@@ -237,7 +236,7 @@ fn put_units(
 
 /// Adds a prefix.
 fn put_prefix(units: &mut Vec<CodeUnit>, byte: u8) -> Result<(), NoMemory>
-    ensures { OnOk result (units.new.items ≡ units.old.items ++ record { op = ExtendedArg; arg = byte } ∷ []) }
+    ensures { OnOk result (units.new.items ≡ units.old.items ++ prefix byte ∷ []) }
 {
     units.push(CodeUnit {
         op: Instruction::ExtendedArg,
@@ -273,7 +272,7 @@ fn put_note(
     above: u32,
 ) -> Result<(), NoMemory>
     requires { scope.now.depth + above ≤ 65535 }
-    ensures { OnOk result (notes.new ≡ notes.old ++ replicate count (note_of (over above (scope_of scope.now)))) }
+    ensures { OnOk result (notes.new ≡ notes.old ++ replicate count (note_over above scope.now)) }
 {
     for _unit in 0..count {
         let note = note_of(alloc, scope, above)?;

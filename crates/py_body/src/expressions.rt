@@ -5,9 +5,8 @@ ghost use Rattle.py_code.specs.Units.{is_prefix};
 ghost use Rattle.py_check.specs.Constants.{has_code};
 ghost use Rattle.py_code.specs.declared.instruction.Instruction.TheVariants.{LoadConst};
 ghost use Rattle.py_tree.specs.declared.expr.Operation.TheVariants as operation;
-ghost use Rattle.py_laid.specs.Code.{over};
 ghost use Rattle.py_tree.specs.Compilable.{ExprFits, OperationFits};
-ghost use Rattle.py_body.specs.Emitting.{draft_of, scope_of, EmitsAtom, EmitsAtoms, EmitsConst, EmitsDriven, EmitsExpr, EmitsOperation, EmitsTwo};
+ghost use Rattle.py_body.specs.Puts.{PutsConst, PutsAtom, PutsAtoms, PutsTwo, PutsDriven, PutsOperation, PutsExpr};
 
 use crate::emitter::Emitter;
 use crate::scope::Scope;
@@ -25,7 +24,7 @@ impl Emitter {
     ) -> Result<(), NoMemory>
         requires low { self.old.others ≤ 3 }
         requires depth { scope.now.depth + above ≤ 65535 }
-        ensures code { OnOk result (EmitsAtom (draft_of self.old) (draft_of self.new) (over above (scope_of scope.now)) line atom.now) }
+        ensures code { OnOk result (PutsAtom self.old self.new scope.now line above atom.now) }
         ensures widths { (self.new.labels ≡ self.old.labels) × (self.new.others ≡ self.old.others) }
     {
         match atom {
@@ -51,7 +50,7 @@ impl Emitter {
         requires no_code { has_code literal ≡ false }
         requires low { self.old.others ≤ 3 }
         requires depth { scope.now.depth + above ≤ 65535 }
-        ensures code { OnOk result (EmitsConst (draft_of self.old) (draft_of self.new) (over above (scope_of scope.now)) line LoadConst literal) }
+        ensures code { OnOk result (PutsConst self.old self.new scope.now line above LoadConst literal) }
         ensures widths { (self.new.labels ≡ self.old.labels) × (self.new.others ≡ self.old.others) }
     {
         self.put_const(Instruction::LoadConst, literal, scope, above, line)
@@ -62,7 +61,7 @@ impl Emitter {
         requires few { length atoms.now ≤ 255 }
         requires low { self.old.others ≤ 3 }
         requires depth { scope.now.depth ≤ 1000 }
-        ensures code { OnOk result (EmitsAtoms (draft_of self.old) (draft_of self.new) (over 1 (scope_of scope.now)) line atoms.now) }
+        ensures code { OnOk result (PutsAtoms self.old self.new scope.now line 1 atoms.now) }
         ensures widths { (self.new.labels ≡ self.old.labels) × (self.new.others ≡ self.old.others) }
     {
         let mut above = 1;
@@ -87,7 +86,7 @@ impl Emitter {
         requires small { arg < 256 }
         requires low { self.old.others ≤ 3 }
         requires depth { scope.now.depth ≤ 1000 }
-        ensures code { OnOk result (EmitsTwo (draft_of self.old) (draft_of self.new) (scope_of scope.now) line left.now right.now op arg) }
+        ensures code { OnOk result (PutsTwo self.old self.new scope.now line left.now right.now op arg) }
         ensures widths { (self.new.labels ≡ self.old.labels) × (self.new.others ≡ self.old.others) }
     {
         self.compile_atom(left, scope, 0, line)?;
@@ -107,7 +106,7 @@ impl Emitter {
         requires few { length atoms.now ≤ 255 }
         requires low { self.old.others ≤ 3 }
         requires depth { scope.now.depth ≤ 1000 }
-        ensures code { OnOk result (EmitsOperation (draft_of self.old) (draft_of self.new) (scope_of scope.now) line (operation.Call callee.now atoms.now)) }
+        ensures code { OnOk result (PutsOperation self.old self.new scope.now line (operation.Call callee.now atoms.now)) }
         ensures widths { (self.new.labels ≡ self.old.labels) × (self.new.others ≡ self.old.others) }
     {
         self.compile_atom(callee, scope, 0, line)?;
@@ -134,7 +133,7 @@ impl Emitter {
     ) -> Result<(), NoMemory>
         requires low { self.old.others ≤ 3 }
         requires depth { scope.now.depth ≤ 1000 }
-        ensures code { OnOk result (EmitsDriven (draft_of self.old) (draft_of self.new) (scope_of scope.now) line function left.now right.now) }
+        ensures code { OnOk result (PutsDriven self.old self.new scope.now line function left.now right.now) }
         ensures widths { (self.new.labels ≡ self.old.labels) × (self.new.others ≡ self.old.others) }
     {
         self.load_literal(Literal::Builtin(function), scope, 0, line)?;
@@ -148,7 +147,7 @@ impl Emitter {
     fn compile_close(&mut self, atom: &Atom, scope: &Scope, line: u32) -> Result<(), NoMemory>
         requires low { self.old.others ≤ 3 }
         requires depth { scope.now.depth ≤ 1000 }
-        ensures code { OnOk result (EmitsOperation (draft_of self.old) (draft_of self.new) (scope_of scope.now) line (operation.Close atom.now)) }
+        ensures code { OnOk result (PutsOperation self.old self.new scope.now line (operation.Close atom.now)) }
         ensures widths { (self.new.labels ≡ self.old.labels) × (self.new.others ≡ self.old.others) }
     {
         self.load_literal(Literal::Builtin(BuiltinFn::Close), scope, 0, line)?;
@@ -167,7 +166,7 @@ impl Emitter {
         requires fits { OperationFits scope.now.kind operation.now }
         requires low { self.old.others ≤ 3 }
         requires depth { scope.now.depth ≤ 1000 }
-        ensures code { OnOk result (EmitsOperation (draft_of self.old) (draft_of self.new) (scope_of scope.now) line operation.now) }
+        ensures code { OnOk result (PutsOperation self.old self.new scope.now line operation.now) }
         ensures widths { (self.new.labels ≡ self.old.labels) × (self.new.others ≡ self.old.others) }
     {
         let binary = Instruction::BinaryOperation;
@@ -214,7 +213,7 @@ impl Emitter {
         requires fits { ExprFits scope.now.kind expr.now }
         requires low { self.old.others ≤ 3 }
         requires depth { scope.now.depth ≤ 1000 }
-        ensures code { OnOk result (EmitsExpr (draft_of self.old) (draft_of self.new) (scope_of scope.now) line expr.now) }
+        ensures code { OnOk result (PutsExpr self.old self.new scope.now line expr.now) }
         ensures widths { (self.new.labels ≡ self.old.labels) × (self.new.others ≡ self.old.others) }
     {
         match expr {

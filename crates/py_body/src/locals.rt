@@ -3,6 +3,7 @@
 ghost use Rattle.std.specs.Prelude.{◌≡◌, ◌≢◌, [], IfOk, OnOk, AllPairs};
 ghost use Rattle.py_tree.specs.Binding.{bound, bound_by, bound_if, bound_in, bound_under, locals_of};
 ghost use Rattle.py_tree.specs.Views.{clauses_of, form_of, suite_of, tree_of};
+ghost use Rattle.py_body.specs.Puts.{bound_suite};
 
 use py_code::{NameSet, NoMemory, PyText};
 use py_tree::{Body, ClauseList, StmtForm, StmtList};
@@ -77,7 +78,7 @@ fn bind_form(names: &mut NameSet, form: &StmtForm) -> Result<(), NoMemory>
 /// Puts the names that two suites bind behind the others.
 #[cycle(bind)]
 fn bind_both(names: &mut NameSet, suite: &StmtList, other: &StmtList) -> Result<(), NoMemory>
-    ensures { OnOk result (names.new ≡ bound_by (bound_by names.old (suite_of suite.now)) (suite_of other.now)) }
+    ensures { OnOk result (names.new ≡ bound_suite (bound_suite names.old suite.now) other.now) }
 {
     bind_suite(names, suite)?;
     bind_suite(names, other)
@@ -86,7 +87,7 @@ fn bind_both(names: &mut NameSet, suite: &StmtList, other: &StmtList) -> Result<
 /// Puts the names that a suite and clauses bind behind the others.
 #[cycle(bind)]
 fn bind_tried(names: &mut NameSet, suite: &StmtList, clauses: &ClauseList) -> Result<(), NoMemory>
-    ensures { OnOk result (names.new ≡ bound_under (bound_by names.old (suite_of suite.now)) (clauses_of clauses.now)) }
+    ensures { OnOk result (names.new ≡ bound_under (bound_suite names.old suite.now) (clauses_of clauses.now)) }
 {
     bind_suite(names, suite)?;
     for clause in clauses.as_slice() {
@@ -103,7 +104,7 @@ fn bind_managed(
     target: &Option<PyText>,
     suite: &StmtList,
 ) -> Result<(), NoMemory>
-    ensures { OnOk result (names.new ≡ bound_by (bound_if names.old target.now) (suite_of suite.now)) }
+    ensures { OnOk result (names.new ≡ bound_suite (bound_if names.old target.now) suite.now) }
 {
     bind_target(names, target)?;
     bind_suite(names, suite)

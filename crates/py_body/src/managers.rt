@@ -1,13 +1,12 @@
 //! The code of managers: of `with`.
 
-ghost use Rattle.std.specs.Prelude.{◌≡◌, ◌+◌, ◌%◌, ◌≤◌, ◌<◌, ◌^◌, suc, Bool, OnOk};
+ghost use Rattle.std.specs.Prelude.{◌≡◌, ◌≤◌, ◌<◌, suc, OnOk};
 ghost use Rattle.py_laid.specs.Code.{on};
-ghost use Rattle.py_tree.specs.declared.body.BodyKind.{BodyKind};
 ghost use Rattle.py_tree.specs.Tree.{With};
 ghost use Rattle.py_tree.specs.Views.{suite_of};
-ghost use Rattle.py_tree.specs.Compilable.{SuiteFits, SuiteNests, statements};
-ghost use Rattle.py_body.specs.Sizes.{size_managed, size_suite};
-ghost use Rattle.py_body.specs.Emitting.{draft_of, end_of, scope_of, weights_of, EmitsForm, EmitsManaged, SuiteIn};
+ghost use Rattle.py_tree.specs.Compilable.{SuiteNests, statements};
+ghost use Rattle.py_body.specs.Emitting.{scope_of, SuiteIn};
+ghost use Rattle.py_body.specs.Puts.{exit_label, FitsSomewhere, PutsForm, PutsManaged};
 
 use crate::emitter::Emitter;
 use crate::scope::{Scope, before_finally, in_finally, with_value};
@@ -31,7 +30,7 @@ impl Emitter {
         requires room { scope.now.depth < 64 }
         requires nests { SuiteNests (suc scope.now.depth) (suite_of suite.now) }
         requires low { (self.old.labels ≤ 3) × (self.old.others ≤ 3) }
-        ensures code { OnOk result (EmitsForm self.old.labels (draft_of self.old) (draft_of self.new) (scope_of scope.now) line (With atom.now target.now (suite_of suite.now))) }
+        ensures code { OnOk result (PutsForm self.old self.new scope.now line (With atom.now target.now (suite_of suite.now))) }
         ensures widths { (self.new.labels ≡ self.old.labels) × (self.new.others ≡ self.old.others) }
     {
         let handler = self.exit_label(target, suite);
@@ -45,9 +44,9 @@ impl Emitter {
     /// The label of the exit of a with of this suite, which begins here.
     fn exit_label(&self, target: &Option<PyText>, suite: &StmtList) -> u32
         requires few { statements (suite_of suite.now) ≤ 1048575 }
-        requires fits { (kind : BodyKind) × (in_loop : Bool) × SuiteFits kind in_loop (suite_of suite.now) }
+        requires fits { FitsSomewhere suite.now }
         requires low { (self.now.labels ≤ 3) × (self.now.others ≤ 3) }
-        ensures { result ≡ (end_of (draft_of self.now) + size_managed (weights_of (draft_of self.now)) target.now (size_suite (weights_of (draft_of self.now)) (suite_of suite.now))) % 2 ^ 32 }
+        ensures { result ≡ exit_label self.now target.now suite.now }
     {
         let weights = self.weights();
         let size = size_of_suite(weights, suite);
@@ -73,7 +72,7 @@ impl Emitter {
         requires nests { SuiteNests (suc scope.now.depth) (suite_of suite.now) }
         requires inner { scope_of inner.now ≡ on (scope_of scope.now) }
         requires low { (self.old.labels ≤ 3) × (self.old.others ≤ 3) }
-        ensures code { OnOk result (EmitsManaged self.old.labels (draft_of self.old) (draft_of self.new) (scope_of scope.now) line atom.now target.now (suite_of suite.now) handler) }
+        ensures code { OnOk result (PutsManaged self.old self.new scope.now line atom.now target.now suite.now handler) }
         ensures widths { (self.new.labels ≡ self.old.labels) × (self.new.others ≡ self.old.others) }
     {
         self.compile_atom(atom, scope, 0, line)?;

@@ -1,13 +1,12 @@
 //! The code of tries: with a finally, and with clauses.
 
-ghost use Rattle.std.specs.Prelude.{◌≡◌, ◌+◌, ◌%◌, ◌≤◌, ◌^◌, Bool, Some, OnOk};
+ghost use Rattle.std.specs.Prelude.{◌≡◌, ◌+◌, ◌≤◌, Some, OnOk};
 ghost use Rattle.py_laid.specs.Code.{in_clauses};
-ghost use Rattle.py_tree.specs.declared.body.BodyKind.{BodyKind};
 ghost use Rattle.py_tree.specs.Tree.{TryExcept, TryFinally};
 ghost use Rattle.py_tree.specs.Views.{clauses_of, suite_of};
-ghost use Rattle.py_tree.specs.Compilable.{ClausesNest, SuiteFits, SuiteNests, statements, statements_under};
-ghost use Rattle.py_body.specs.Sizes.{size_clause, size_opening, size_suite};
-ghost use Rattle.py_body.specs.Emitting.{draft_of, end_of, scope_of, weights_of, ClausesIn, EmitsClauses, EmitsForget, EmitsForm, EmitsHandler, EmitsMatch, EmitsOpening, EmitsTarget, EmitsTried, SuiteIn};
+ghost use Rattle.py_tree.specs.Compilable.{ClausesNest, SuiteNests, statements, statements_under};
+ghost use Rattle.py_body.specs.Emitting.{scope_of, ClausesIn, SuiteIn};
+ghost use Rattle.py_body.specs.Puts.{finally_label, clause_label, FitsSomewhere, PutsForm, PutsOpening, PutsTried, PutsMatch, PutsTarget, PutsForget, PutsHandler, PutsClauses};
 
 use crate::emitter::Emitter;
 use crate::scope::{Scope, before_finally, in_clauses, in_finally, in_try};
@@ -32,7 +31,7 @@ impl Emitter {
         requires nests_last { SuiteNests scope.now.depth (suite_of last.now) }
         requires low { (self.old.labels ≤ 3) × (self.old.others ≤ 3) }
         requires depth { scope.now.depth ≤ 1000 }
-        ensures code { OnOk result (EmitsForm self.old.labels (draft_of self.old) (draft_of self.new) (scope_of scope.now) line (TryFinally (suite_of suite.now) (suite_of last.now))) }
+        ensures code { OnOk result (PutsForm self.old self.new scope.now line (TryFinally (suite_of suite.now) (suite_of last.now))) }
         ensures widths { (self.new.labels ≡ self.old.labels) × (self.new.others ≡ self.old.others) }
     {
         let handler = self.handler_label(suite);
@@ -45,9 +44,9 @@ impl Emitter {
     /// The label of the finally of a try with this suite, which begins here.
     fn handler_label(&self, suite: &StmtList) -> u32
         requires few { statements (suite_of suite.now) ≤ 1048575 }
-        requires fits { (kind : BodyKind) × (in_loop : Bool) × SuiteFits kind in_loop (suite_of suite.now) }
+        requires fits { FitsSomewhere suite.now }
         requires low { (self.now.labels ≤ 3) × (self.now.others ≤ 3) }
-        ensures { result ≡ (end_of (draft_of self.now) + size_opening (weights_of (draft_of self.now)) (size_suite (weights_of (draft_of self.now)) (suite_of suite.now))) % 2 ^ 32 }
+        ensures { result ≡ finally_label self.now suite.now }
     {
         let weights = self.weights();
         let size = size_of_suite(weights, suite);
@@ -68,7 +67,7 @@ impl Emitter {
         requires nests { SuiteNests scope.now.depth (suite_of suite.now) }
         requires low { (self.old.labels ≤ 3) × (self.old.others ≤ 3) }
         requires depth { scope.now.depth ≤ 1000 }
-        ensures code { OnOk result (EmitsOpening self.old.labels (draft_of self.old) (draft_of self.new) (scope_of scope.now) line (suite_of suite.now) handler) }
+        ensures code { OnOk result (PutsOpening self.old self.new scope.now line suite.now handler) }
         ensures widths { (self.new.labels ≡ self.old.labels) × (self.new.others ≡ self.old.others) }
     {
         self.put_jump(Instruction::SetupFinally, handler, scope, 0, line)?;
@@ -82,7 +81,7 @@ impl Emitter {
     fn put_forget(&mut self, name: &PyText, scope: &Scope, line: u32) -> Result<(), NoMemory>
         requires low { (self.old.labels ≤ 3) × (self.old.others ≤ 3) }
         requires depth { scope.now.depth ≤ 1000 }
-        ensures code { OnOk result (EmitsForget (draft_of self.old) (draft_of self.new) (scope_of scope.now) line name.now) }
+        ensures code { OnOk result (PutsForget self.old self.new scope.now line name.now) }
         ensures widths { (self.new.labels ≡ self.old.labels) × (self.new.others ≡ self.old.others) }
     {
         self.put_const(Instruction::LoadConst, Literal::None, scope, 0, line)?;
@@ -107,7 +106,7 @@ impl Emitter {
         requires nests_clauses { ClausesNest scope.now.depth (clauses_of clauses.now) }
         requires low { (self.old.labels ≤ 3) × (self.old.others ≤ 3) }
         requires depth { scope.now.depth ≤ 1000 }
-        ensures code { OnOk result (EmitsForm self.old.labels (draft_of self.old) (draft_of self.new) (scope_of scope.now) line (TryExcept (suite_of suite.now) (clauses_of clauses.now))) }
+        ensures code { OnOk result (PutsForm self.old self.new scope.now line (TryExcept (suite_of suite.now) (clauses_of clauses.now))) }
         ensures widths { (self.new.labels ≡ self.old.labels) × (self.new.others ≡ self.old.others) }
     {
         let weights = self.weights();
@@ -137,7 +136,7 @@ impl Emitter {
         requires nests { SuiteNests scope.now.depth (suite_of suite.now) }
         requires low { (self.old.labels ≤ 3) × (self.old.others ≤ 3) }
         requires depth { scope.now.depth ≤ 1000 }
-        ensures code { OnOk result (EmitsTried self.old.labels (draft_of self.old) (draft_of self.new) (scope_of scope.now) line (suite_of suite.now) handler end) }
+        ensures code { OnOk result (PutsTried self.old self.new scope.now line suite.now handler end) }
         ensures widths { (self.new.labels ≡ self.old.labels) × (self.new.others ≡ self.old.others) }
     {
         self.put_jump(Instruction::SetupExcept, handler, scope, 0, line)?;
@@ -162,7 +161,7 @@ impl Emitter {
         requires within { scope_of within.now ≡ in_clauses (scope_of scope.now) }
         requires low { (self.old.labels ≤ 3) × (self.old.others ≤ 3) }
         requires depth { scope.now.depth ≤ 1000 }
-        ensures code { OnOk result (EmitsClauses self.old.labels (draft_of self.old) (draft_of self.new) (scope_of scope.now) end (clauses_of clauses.now)) }
+        ensures code { OnOk result (PutsClauses self.old self.new scope.now end clauses.now) }
         ensures widths { (self.new.labels ≡ self.old.labels) × (self.new.others ≡ self.old.others) }
     {
         for clause in clauses.as_slice() {
@@ -179,9 +178,9 @@ impl Emitter {
     /// The label behind a clause with this target and suite, which begins here.
     fn clause_label(&self, target: &Option<PyText>, suite: &StmtList) -> u32
         requires few { statements (suite_of suite.now) ≤ 1048574 }
-        requires fits { (kind : BodyKind) × (in_loop : Bool) × SuiteFits kind in_loop (suite_of suite.now) }
+        requires fits { FitsSomewhere suite.now }
         requires low { (self.now.labels ≤ 3) × (self.now.others ≤ 3) }
-        ensures { result ≡ (end_of (draft_of self.now) + size_clause (weights_of (draft_of self.now)) target.now (size_suite (weights_of (draft_of self.now)) (suite_of suite.now))) % 2 ^ 32 }
+        ensures { result ≡ clause_label self.now target.now suite.now }
     {
         let weights = self.weights();
         let body = size_of_suite(weights, suite);
@@ -199,7 +198,7 @@ impl Emitter {
     ) -> Result<(), NoMemory>
         requires low { (self.old.labels ≤ 3) × (self.old.others ≤ 3) }
         requires depth { within.now.depth ≤ 1000 }
-        ensures code { OnOk result (EmitsMatch self.old.labels (draft_of self.old) (draft_of self.new) (scope_of within.now) line class.now target.now other) }
+        ensures code { OnOk result (PutsMatch self.old self.new within.now line class.now target.now other) }
         ensures widths { (self.new.labels ≡ self.old.labels) × (self.new.others ≡ self.old.others) }
     {
         let test = TestOperator::ExceptionMatch;
@@ -220,7 +219,7 @@ impl Emitter {
     ) -> Result<(), NoMemory>
         requires low { (self.old.labels ≤ 3) × (self.old.others ≤ 3) }
         requires depth { scope.now.depth ≤ 1000 }
-        ensures code { OnOk result (EmitsTarget (draft_of self.old) (draft_of self.new) (scope_of scope.now) line target.now) }
+        ensures code { OnOk result (PutsTarget self.old self.new scope.now line target.now) }
         ensures widths { (self.new.labels ≡ self.old.labels) × (self.new.others ≡ self.old.others) }
     {
         match target {
@@ -243,7 +242,7 @@ impl Emitter {
         requires nests { SuiteNests scope.now.depth (suite_of suite.now) }
         requires low { (self.old.labels ≤ 3) × (self.old.others ≤ 3) }
         requires depth { scope.now.depth ≤ 1000 }
-        ensures code { OnOk result (EmitsHandler self.old.labels (draft_of self.old) (draft_of self.new) (scope_of scope.now) line target.now (suite_of suite.now)) }
+        ensures code { OnOk result (PutsHandler self.old self.new scope.now line target.now suite.now) }
         ensures widths { (self.new.labels ≡ self.old.labels) × (self.new.others ≡ self.old.others) }
     {
         match target {
@@ -266,7 +265,7 @@ impl Emitter {
         requires nests { SuiteNests scope.now.depth (suite_of suite.now) }
         requires low { (self.old.labels ≤ 3) × (self.old.others ≤ 3) }
         requires depth { scope.now.depth ≤ 1000 }
-        ensures code { OnOk result (EmitsHandler self.old.labels (draft_of self.old) (draft_of self.new) (scope_of scope.now) line (Some name.now) (suite_of suite.now)) }
+        ensures code { OnOk result (PutsHandler self.old self.new scope.now line (Some name.now) suite.now) }
         ensures widths { (self.new.labels ≡ self.old.labels) × (self.new.others ≡ self.old.others) }
     {
         let handler = self.handler_label(suite);

@@ -1,8 +1,9 @@
 //! Scopes: where a statement stands, from which the notes of its units are made.
 
-ghost use Rattle.std.specs.Prelude.{◌≡◌, ◌+◌, ◌≤◌, ◌∷◌, IfOk};
-ghost use Rattle.py_laid.specs.Code.{before_finally, entry, in_clauses, in_finally, in_loop, in_try, leaving, note_of, on, over};
+ghost use Rattle.std.specs.Prelude.{◌≡◌, ◌+◌, ◌≤◌, IfOk};
+ghost use Rattle.py_laid.specs.Code.{before_finally, entry, in_clauses, in_finally, in_loop, in_try, leaving, on};
 ghost use Rattle.py_body.specs.Emitting.{around_of, labels_of, scope_of};
+ghost use Rattle.py_body.specs.Puts.{with_block, note_over};
 
 use py_check::{BlockList, BlockNote, Kind, KindList, Note, Pending, PendingSet};
 use py_code::NoMemory;
@@ -28,7 +29,7 @@ pub struct Scope {
 /// The note of a unit in a scope with so many values more. Of the values nothing is known.
 pub fn note_of(alloc: Global, scope: &Scope, above: u32) -> Result<Note, NoMemory>
     requires { scope.now.depth + above ≤ 65535 }
-    ensures { IfOk result (λ note. note ≡ note_of (over above (scope_of scope.now))) }
+    ensures { IfOk result (λ note. note ≡ note_over above scope.now) }
 {
     let depth = (scope.depth + above) as usize;
     let kinds = KindList::repeated(alloc, Kind::Any, depth)?;
@@ -43,7 +44,7 @@ fn with_block(
     around: Option<Labels>,
     block: BlockNote,
 ) -> Result<Scope, NoMemory>
-    ensures { IfOk result (λ inner. scope_of inner ≡ record { kind = scope.now.kind; around = around_of around; depth = scope.now.depth; blocks = block ∷ scope.now.blocks }) }
+    ensures { IfOk result (λ inner. scope_of inner ≡ with_block around block scope.now) }
 {
     let blocks = scope.blocks.with(alloc, block)?;
     Ok(Scope {

@@ -4,10 +4,10 @@ ghost use Rattle.std.specs.Prelude.{◌≡◌, ◌+◌, ◌≤◌, ◌<◌, fals
 ghost use Rattle.py_code.specs.declared.instruction.Instruction.TheVariants as op;
 ghost use Rattle.py_code.specs.Numbers.{raise_number};
 ghost use Rattle.py_code.specs.Units.{is_prefix};
-ghost use Rattle.py_laid.specs.Code.{over};
 ghost use Rattle.py_tree.specs.Tree.{Assign, Break, Continue, Do, Reraise};
 ghost use Rattle.py_tree.specs.Compilable.{ExprFits, OperationFits};
-ghost use Rattle.py_body.specs.Emitting.{draft_of, is_inside, scope_of, EmitsForm, EmitsPlain, EmitsTaken};
+ghost use Rattle.py_body.specs.Emitting.{is_inside, scope_of};
+ghost use Rattle.py_body.specs.Puts.{PutsPlain, PutsTaken, PutsForm};
 
 use crate::emitter::Emitter;
 use crate::scope::Scope;
@@ -26,7 +26,7 @@ impl Emitter {
         requires fits { ExprFits scope.now.kind expr.now }
         requires low { (self.old.labels ≤ 3) × (self.old.others ≤ 3) }
         requires depth { scope.now.depth ≤ 1000 }
-        ensures code { OnOk result (EmitsForm self.old.labels (draft_of self.old) (draft_of self.new) (scope_of scope.now) line (Assign name.now expr.now)) }
+        ensures code { OnOk result (PutsForm self.old self.new scope.now line (Assign name.now expr.now)) }
         ensures widths { (self.new.labels ≡ self.old.labels) × (self.new.others ≡ self.old.others) }
     {
         self.compile_expr(expr, scope, line)?;
@@ -44,7 +44,7 @@ impl Emitter {
         requires fits { OperationFits scope.now.kind operation.now }
         requires low { (self.old.labels ≤ 3) × (self.old.others ≤ 3) }
         requires depth { scope.now.depth ≤ 1000 }
-        ensures code { OnOk result (EmitsForm self.old.labels (draft_of self.old) (draft_of self.new) (scope_of scope.now) line (Do operation.now)) }
+        ensures code { OnOk result (PutsForm self.old self.new scope.now line (Do operation.now)) }
         ensures widths { (self.new.labels ≡ self.old.labels) × (self.new.others ≡ self.old.others) }
     {
         self.compile_operation(operation, scope, line)?;
@@ -65,7 +65,7 @@ impl Emitter {
         requires small { arg < 256 }
         requires low { self.old.others ≤ 3 }
         requires depth { scope.now.depth ≤ 1000 }
-        ensures code { OnOk result (EmitsTaken (draft_of self.old) (draft_of self.new) (scope_of scope.now) line atom.now op arg) }
+        ensures code { OnOk result (PutsTaken self.old self.new scope.now line atom.now op arg) }
         ensures widths { (self.new.labels ≡ self.old.labels) × (self.new.others ≡ self.old.others) }
     {
         self.compile_atom(atom, scope, 0, line)?;
@@ -77,7 +77,7 @@ impl Emitter {
     pub fn compile_reraise(&mut self, scope: &Scope, line: u32) -> Result<(), NoMemory>
         requires low { (self.old.labels ≤ 3) × (self.old.others ≤ 3) }
         requires depth { scope.now.depth ≤ 1000 }
-        ensures code { OnOk result (EmitsForm self.old.labels (draft_of self.old) (draft_of self.new) (scope_of scope.now) line Reraise) }
+        ensures code { OnOk result (PutsForm self.old self.new scope.now line Reraise) }
         ensures widths { (self.new.labels ≡ self.old.labels) × (self.new.others ≡ self.old.others) }
     {
         self.put_raise(RaiseKind::Reraise, scope, 0, line)?;
@@ -93,7 +93,7 @@ impl Emitter {
         line: u32,
     ) -> Result<(), NoMemory>
         requires depth { scope.now.depth + above ≤ 65535 }
-        ensures code { OnOk result (EmitsPlain (draft_of self.old) (draft_of self.new) (over above (scope_of scope.now)) line op.Raise (raise_number kind)) }
+        ensures code { OnOk result (PutsPlain self.old self.new scope.now line above op.Raise (raise_number kind)) }
         ensures widths { (self.new.labels ≡ self.old.labels) × (self.new.others ≡ self.old.others) }
     {
         self.put_plain(Instruction::Raise, kind.into(), scope, above, line)
@@ -104,7 +104,7 @@ impl Emitter {
         requires inside { is_inside (scope_of scope.now).around ≡ true }
         requires low { (self.old.labels ≤ 3) × (self.old.others ≤ 3) }
         requires depth { scope.now.depth ≤ 1000 }
-        ensures code { OnOk result (EmitsForm self.old.labels (draft_of self.old) (draft_of self.new) (scope_of scope.now) line Break) }
+        ensures code { OnOk result (PutsForm self.old self.new scope.now line Break) }
         ensures widths { (self.new.labels ≡ self.old.labels) × (self.new.others ≡ self.old.others) }
     {
         match scope.around {
@@ -118,7 +118,7 @@ impl Emitter {
         requires inside { is_inside (scope_of scope.now).around ≡ true }
         requires low { (self.old.labels ≤ 3) × (self.old.others ≤ 3) }
         requires depth { scope.now.depth ≤ 1000 }
-        ensures code { OnOk result (EmitsForm self.old.labels (draft_of self.old) (draft_of self.new) (scope_of scope.now) line Continue) }
+        ensures code { OnOk result (PutsForm self.old self.new scope.now line Continue) }
         ensures widths { (self.new.labels ≡ self.old.labels) × (self.new.others ≡ self.old.others) }
     {
         match scope.around {
