@@ -24,7 +24,7 @@ use Rattle.py_rows.specs.RunOfRows.{filled, is_thrown_into}
 use Rattle.py_rows.specs.States.{Setting}
 use Rattle.py_frame.specs.declared.input.Input.{Input}
 use Rattle.py_frame.specs.Added.{ClassesAreThere}
-use Rattle.py_frame.specs.Frames.{Framed, unfilled}
+use Rattle.py_frame.specs.Frames.{Framed, NamedCode, unfilled}
 use Rattle.py_frame.specs.Steps.{Expects, events, heard}
 use Rattle.py_frame.specs.Running.{IsRunning}
 use Rattle.py_frame.proofs.RunningLemmas.{fresh_runs}
@@ -88,9 +88,9 @@ expected objects setting x y i fits same (more, is) flags =
     (subst (λ (os : List Payload). Expects os setting x i × ((k : ℕ) → HearsBelow (length os) (events (heard k i)))) (sym is) (fits more setting flags))
 
 -- a frame that made a step is still driven
-pub driven_on : (old new : List Payload) (names : List (List ℕ)) (code : Annotated) (before slots : Slots) (f g : Framed) → IsDriven old names code before f → GrowsPlainly old new
-    → ClassesAreThere new → IsRunning new names code g → top_of slots ≡ g.state.slot → IsDriven new names code slots g
-driven_on old new names code before slots f g driven grows classes running left = record {
+pub driven_on : (old new : List Payload) (scene : NamedCode) (before slots : Slots) (f g : Framed) → IsDriven old scene before f → GrowsPlainly old new
+    → ClassesAreThere new → IsRunning new scene.names scene.code g → top_of slots ≡ g.state.slot → IsDriven new scene slots g
+driven_on old new scene before slots f g driven grows classes running left = record {
   running = running;
   classes = classes;
   grown = (driven.grown.0 ++ grows.more, grows.is ∙ ap (λ os. os ++ grows.more) driven.grown.1 ∙ append_assoc first_objects driven.grown.0 grows.more);
@@ -111,8 +111,8 @@ pub sound : (rows : List Row) (names : List (List ℕ)) (code : Annotated) → I
 sound rows names code of typed some = record { typed = typed; named = record { locals = rw of.varnames (places names 3 some); globals = rw of.names (places names 1 some) } }
 
 -- a frame that hasn't begun is driven
-pub driven_first : (objects : List Payload) (names : List (List ℕ)) (code : Annotated) (f : Framed) → objects ≡ first_objects → IsRunning objects names code f → f.state.wants ≡ expect.Start → IsDriven objects names code (Some (record { number = 6 }) ∷ []) f
-driven_first objects names code f is running fresh = record {
+pub driven_first : (objects : List Payload) (scene : NamedCode) (f : Framed) → objects ≡ first_objects → IsRunning objects scene.names scene.code f → f.state.wants ≡ expect.Start → IsDriven objects scene (Some (record { number = 6 }) ∷ []) f
+driven_first objects scene f is running fresh = record {
   running = running;
   classes = subst ClassesAreThere (sym is) first_classes;
   grown = ([], is);

@@ -1,20 +1,19 @@
 -- Frames that are driven.
-use Rattle.std.specs.Prelude.{ℕ, List, Bool}
+use Rattle.std.specs.Prelude.{List, Bool}
 use Rattle.std.specs.List.{list_all}
 use Rattle.py_objects.specs.declared.payload.Payload.{Payload}
 use Rattle.py_objects.specs.Growth.{Grows}
 use Rattle.py_exceptions.specs.Slots.{Slots, top_of}
-use Rattle.py_check.specs.declared.annotated.Annotated.{Annotated}
 use Rattle.py_frame.specs.Added.{ClassesAreThere}
-use Rattle.py_frame.specs.Frames.{Framed}
+use Rattle.py_frame.specs.Frames.{Framed, NamedCode}
 use Rattle.py_frame.specs.Running.{IsRunning, SlotFits}
 use Rattle.frame_tests.specs.Codes.{keeps_rules}
 use Rattle.frame_tests.specs.FirstObjects.{first_objects}
 use Rattle.frame_tests.specs.declared.tables.Case.{Case}
 
 -- a generator's frame that runs or waits among the first objects and more, while these slots are as its last step left them
-pub record IsDriven (objects : List Payload) (names : List (List ℕ)) (code : Annotated) (slots : Slots) (f : Framed) : Type 0 where
-  pub running : IsRunning objects names code f
+pub record IsDriven (objects : List Payload) (scene : NamedCode) (slots : Slots) (f : Framed) : Type 0 where
+  pub running : IsRunning objects scene.names scene.code f
   pub classes : ClassesAreThere objects
   pub grown : Grows first_objects objects
   pub slot_fits : SlotFits objects f.state (top_of slots)

@@ -4,6 +4,7 @@ ghost use Rattle.std.specs.Prelude.{◌≡◌, ◌<◌, ℕ, List, [], ◌∷◌
 ghost use Rattle.py_rows.specs.declared.expect.Expect.TheVariants as expect;
 ghost use Rattle.py_rows.specs.Sound.{IsSound};
 ghost use Rattle.py_rows.specs.RunOfRows.{is_thrown_into};
+ghost use Rattle.py_frame.specs.Frames.{parts};
 ghost use Rattle.py_frame.specs.Running.{IsRunning};
 ghost use Rattle.frame_tests.specs.Codes.{keeps_rules};
 ghost use Rattle.frame_tests.specs.FirstObjects.{first_objects, object_at};
@@ -15,8 +16,8 @@ use crate::objects::{classes, first_store, object};
 use crate::tables::{Case, Row, Said};
 use py_check::CheckedCode;
 use py_code::{Names, NoMemory, PyText, utf8_of};
-use py_exceptions::{ExceptionStack, ExceptionZoo};
-use py_frame::{Frame, FrameStep, OwnStack, positional};
+use py_exceptions::ExceptionStack;
+use py_frame::{Frame, FrameStep, OwnStack, Scene, positional};
 use py_objects::{FrameRef, ObjList, PyBaseExceptionRef, PyObjectRef, Request, Scope, Store};
 use std::alloc::Global;
 use std::mem;
@@ -197,41 +198,36 @@ fn frame_of(
 
 /// Tells a frame a word, where it expects it, and gives the event that comes.
 fn turn(
-    alloc: Global,
-    code: &CheckedCode,
-    names: &Names,
+    scene: &Scene<'_>,
     store: &mut Store,
-    zoo: &ExceptionZoo,
     slots: &mut ExceptionStack,
     frame: &mut Frame<OwnStack>,
     said: Said,
 ) -> Option<FrameStep>
-    requires generator { is_thrown_into code.now.code.code.flags ≡ true }
-    requires driven { IsDriven store.old.made names.now code.now slots.old frame.old }
-    ensures { IsDriven store.new.made names.now code.now slots.new frame.new }
+    requires generator { is_thrown_into (parts scene.now).flags ≡ true }
+    requires driven { IsDriven store.old.made scene.now slots.old frame.old }
+    ensures { IsDriven store.new.made scene.now slots.new frame.new }
 {
     let input = input(frame.expects(), said)?;
-    Some(frame.step(alloc, code, names, store, zoo, slots, input))
+    Some(frame.step(scene, store, slots, input))
 }
 
 /// The events of a frame that is told these words.
 fn drive(
-    alloc: Global,
-    code: &CheckedCode,
-    names: &Names,
+    scene: &Scene<'_>,
     store: &mut Store,
-    zoo: &ExceptionZoo,
     frame: &mut Frame<OwnStack>,
     words: &[Said],
 ) -> Result<String, NoMemory>
-    requires generator { is_thrown_into code.now.code.code.flags ≡ true }
-    requires driven { IsDriven store.old.made names.now code.now (Some (record { number = 6 }) ∷ []) frame.old }
+    requires generator { is_thrown_into (parts scene.now).flags ≡ true }
+    requires driven { IsDriven store.old.made scene.now (Some (record { number = 6 }) ∷ []) frame.old }
 {
+    let alloc = scene.alloc;
     let mut slots = ExceptionStack::new(alloc);
     slots.set_exception(Some(exception(6)));
     let mut told = String::new(alloc);
     for said in words {
-        let step = turn(alloc, code, names, store, zoo, &mut slots, frame, *said);
+        let step = turn(scene, store, &mut slots, frame, *said);
         let slot = slots.current_exception();
         tell(alloc, &mut told, frame.lasti(), step, slot)?;
     }
@@ -263,7 +259,13 @@ fn events_among(
 {
     let zoo = classes(alloc)?;
     let mut frame = frame_of(alloc, store, code)?;
-    drive(alloc, code, names, store, &zoo, &mut frame, words)
+    let scene = Scene {
+        alloc,
+        code,
+        names,
+        zoo: &zoo,
+    };
+    drive(&scene, store, &mut frame, words)
 }
 
 /// A table of one name.

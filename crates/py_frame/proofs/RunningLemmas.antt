@@ -33,7 +33,7 @@ use Rattle.py_rows.proofs.GrowingLemmas.{fits_grown, run_grown}
 use Rattle.py_frame.specs.Frames.{Framed, setting_of, unfilled}
 use Rattle.py_frame.specs.Steps.{told}
 use Rattle.py_frame.specs.Running.{IsRunning, IsSame, HasTold, IsCut}
-use Rattle.py_frame.specs.UnitSteps.{CanDo, CanMove, done, tells}
+use Rattle.py_frame.specs.UnitSteps.{HasRoom, HasNeeds, done, tells}
 use Rattle.py_frame.specs.declared.unit_step.UnitStep.{UnitStep}
 use Rattle.py_frame.specs.declared.unit_step.UnitStep.TheVariants as unit
 use Rattle.py_frame.specs.declared.input.FrameStep.{FrameStep}
@@ -132,12 +132,12 @@ module _ (names : List (List ℕ)) (code : Annotated) (sound : IsSound names cod
     state_done : (objects : List Payload) (t : State) → FitsAt objects code t.wants t → IsWithin (length g.state.stack + g.room) (length g.state.blocks + g.block_room) t
     state_done objects t fits = let sizes = within objects names g.scope.globals g.closure code sound t t.wants fits in (omega (arith, sizes.0, room), omega (arith, sizes.1, block_room))
 
-    step_done : (objects : List Payload) (step : Step) → LeadsTo (λ t. FitsAt objects code t.wants t) step → CanDo g step
+    step_done : (objects : List Payload) (step : Step) → LeadsTo (λ t. FitsAt objects code t.wants t) step → HasRoom g step
     step_done objects (Goes t) fits = state_done objects t fits
     step_done objects (Tells x t) fits = state_done objects t fits
     step_done objects Stuck fits = fits
 
-    move_done : (objects : List Payload) (m : Move) → SeenBelow (length objects) m → ((objects' : List Payload) → Grows objects objects' → AlwaysLeads objects' (λ t. FitsAt objects' code t.wants t) m) → CanMove objects g m
+    move_done : (objects : List Payload) (m : Move) → SeenBelow (length objects) m → ((objects' : List Payload) → Grows objects objects' → AlwaysLeads objects' (λ t. FitsAt objects' code t.wants t) m) → HasNeeds objects g m
     move_done objects (Plainly step) there all = step_done objects step (all objects ([], sym (append-nil objects)))
     move_done objects (Loads p f) there all = λ objects' v grows has. step_done objects' (f v) (all objects' grows v has)
     move_done objects (Decides v f) there all = let here = all objects ([], sym (append-nil objects)) in (here.0, λ b. step_done objects (f b) (here.1 b))
@@ -146,7 +146,7 @@ module _ (names : List (List ℕ)) (code : Annotated) (sound : IsSound names cod
     move_done objects (Exits e f) there all = let here = all objects ([], sym (append-nil objects)) in (here.0, λ t v b. step_done objects (f t v b) (here.1 t v b))
 
     -- a frame that goes on can do what it does next
-    pub can_move : (objects : List Payload) → FitsAt objects code g.state.wants g.state → HoldsBelow (length objects) g.state → IsMoving g.state.wants → CanMove objects g (moves (setting_of names code g) g.state.wants g.state)
+    pub can_move : (objects : List Payload) → FitsAt objects code g.state.wants g.state → HoldsBelow (length objects) g.state → IsMoving g.state.wants → HasNeeds objects g (moves (setting_of names code g) g.state.wants g.state)
     can_move objects fits below moving =
         move_done objects (moves (setting_of names code g) g.state.wants g.state) (seen_there (length objects) (setting_of names code g) g.state.wants g.state below.in_stack)
         (λ objects' grows. next_fits objects' names g.scope.globals g.closure code sound g.state g.state.wants (fits_grown objects objects' grows code g.state.wants g.state fits) moving)

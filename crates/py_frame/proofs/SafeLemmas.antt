@@ -14,7 +14,7 @@ use Rattle.py_rows.specs.Rows.{asks, reaches, calls, call_function, loads, or_st
 use Rattle.py_rows.specs.Receiving.{answered, entered, enters, enters_top, passes_if}
 use Rattle.py_rows.specs.Laws.{LeadsTo, IsWithin}
 use Rattle.py_frame.specs.Frames.{Framed}
-use Rattle.py_frame.specs.UnitSteps.{CanDo, CanMove, IsLoaded}
+use Rattle.py_frame.specs.UnitSteps.{HasRoom, HasNeeds, IsLoaded}
 
 -- where a transfer can be made
 pub safe_jump : (max depth to : ℕ) (s : State) → LeadsTo (IsWithin max depth) (jumps to s) → IsWithin max depth s
@@ -34,19 +34,19 @@ there_is P true step safe = refl
 there_is P false step safe = absurd safe
 
 -- a constant of which an object is loaded is one of which it can be made
-pub can_load : (objects : List Payload) (f : Framed) (o : Option Literal) (k : Obj → Step) → CanMove objects f (loads o k) → IsLoaded o
+pub can_load : (objects : List Payload) (f : Framed) (o : Option Literal) (k : Obj → Step) → HasNeeds objects f (loads o k) → IsLoaded o
 can_load objects f None k can = absurd can
 can_load objects f (Some l) k can = by_payload (payload_of l) can
   where
-    by_payload : (p : Option Payload) → CanMove objects f (or_stuck p k) → is_some p ≡ true
+    by_payload : (p : Option Payload) → HasNeeds objects f (or_stuck p k) → is_some p ≡ true
     by_payload None can = absurd can
     by_payload (Some p) can = refl
 
 -- a call finds its callee under its arguments
-pub call_there : (objects : List Payload) (g : Framed) (k : ℕ) (s : State) → CanMove objects g (call_function k s) → k < length s.stack
+pub call_there : (objects : List Payload) (g : Framed) (k : ℕ) (s : State) → HasNeeds objects g (call_function k s) → k < length s.stack
 call_there objects g k s can = omega (arith, reach_there (suc k) s.stack (by_values (reverse (take (suc k) s.stack)) (reaches (suc k) s.stack) (with_stack (drop (suc k) s.stack) s) can))
   where
-    by_values : (vs : List Obj) (there : Bool) (t : State) → CanMove objects g (calls vs there t) → there ≡ true
+    by_values : (vs : List Obj) (there : Bool) (t : State) → HasNeeds objects g (calls vs there t) → there ≡ true
     by_values [] there t can = absurd can
     by_values (f ∷ args) there t can = there_is (IsWithin (length g.state.stack + g.room) (length g.state.blocks + g.block_room)) there (asks (call_request can.0.0 f args) t) (can.1 can.0.0)
 
@@ -73,15 +73,15 @@ call_row k s f under is =
     ∙ ap (λ (vs : List Obj). Resolves f (λ (p : Payload). asks (call_request p f (reverse (take k s.stack))) (with_stack vs s))) less.0
 
 -- what is entered is the top, and this is the first answer
-pub can_enter : (objects : List Payload) (f : Framed) (n to : ℕ) (v : Obj) → CanMove objects f (enters n to v f.state) → CanDo f (entered to v f.state)
+pub can_enter : (objects : List Payload) (f : Framed) (n to : ℕ) (v : Obj) → HasNeeds objects f (enters n to v f.state) → HasRoom f (entered to v f.state)
 can_enter objects f zero to v can = by_stack f.state.stack can
   where
-    by_stack : (stack : List Obj) → CanMove objects f (enters_top stack to v f.state) → CanDo f (entered to v f.state)
+    by_stack : (stack : List Obj) → HasNeeds objects f (enters_top stack to v f.state) → HasRoom f (entered to v f.state)
     by_stack [] can = absurd can
     by_stack (m ∷ rest) can = can.1 true
 can_enter objects f (suc n) to v can = absurd can
 
 -- an exception that waited may be passed on or not
-pub can_pass : (objects : List Payload) (f : Framed) (op : Instruction) (arg : ℕ) (v : Obj) (b : Bool) → op ≡ WithCleanupFinish → CanMove objects f (answered op arg v f.state)
-    → CanDo f (takes_off f.state.stack (λ e rest. passes_if b e (with_stack rest f.state)))
-can_pass objects f op arg v b is can = let done : CanMove objects f (answered WithCleanupFinish arg v f.state) = subst (λ (o : Instruction). CanMove objects f (answered o arg v f.state)) is can in done.1 b
+pub can_pass : (objects : List Payload) (f : Framed) (op : Instruction) (arg : ℕ) (v : Obj) (b : Bool) → op ≡ WithCleanupFinish → HasNeeds objects f (answered op arg v f.state)
+    → HasRoom f (takes_off f.state.stack (λ e rest. passes_if b e (with_stack rest f.state)))
+can_pass objects f op arg v b is can = let done : HasNeeds objects f (answered WithCleanupFinish arg v f.state) = subst (λ (o : Instruction). HasNeeds objects f (answered o arg v f.state)) is can in done.1 b

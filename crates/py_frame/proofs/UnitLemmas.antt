@@ -19,14 +19,14 @@ use Rattle.py_rows.specs.Unwinding.{unwinds}
 use Rattle.py_rows.specs.Rows.{act, advance, unit_move}
 use Rattle.py_rows.specs.Receiving.{answered, receive, unit_answered}
 use Rattle.py_rows.specs.RunOfRows.{MayLead}
-use Rattle.py_frame.specs.Frames.{Framed, setting_in}
+use Rattle.py_frame.specs.Frames.{Framed, NamedCode, parts, setting_in}
 use Rattle.py_frame.specs.Running.{IsSame}
-use Rattle.py_frame.specs.UnitSteps.{CanDo, CanMove, Does, MayDo, done}
+use Rattle.py_frame.specs.UnitSteps.{HasRoom, HasNeeds, HasDone, HasMoved, done}
 use Rattle.py_frame.specs.declared.unit_step.UnitStep.{UnitStep}
 
 -- a unit that is read where the frame is
-pub unit_here : (units : List CodeUnit) (at n : ℕ) (u : CodeUnit) → n ≡ at → at < length units → u ≡ get_or units n u → slice_get units at ≡ Some u
-unit_here units at n u is there read = slice_get_read units (length units) at u refl there (subst (λ (m : ℕ). u ≡ get_or units m u) is read)
+pub unit_here : (scene : NamedCode) (at n : ℕ) (u : CodeUnit) → n ≡ at → slice_get (parts scene).instructions.items n ≡ Some u → slice_get (parts scene).instructions.items at ≡ Some u
+unit_here scene at n u is read = ap (slice_get (parts scene).instructions.items) (sym is) ∙ read
 
 -- the place behind a unit is below the most that a code may have
 pub unit_fits : (at n most : ℕ) → at < n → n < most → at + 1 < most
@@ -37,7 +37,7 @@ pub exits_of : (o : Option CodeUnit) (u v : CodeUnit) → o ≡ Some u → o ≡
 exits_of o u v first second exits = let same : u ≡ v = cc in ap (λ (w : CodeUnit). w.op) same ∙ exits
 
 -- a frame has the room that it had, whatever it waits for
-room_stays : (objects : List Payload) (f : Framed) (last phase : ℕ) (wants : Expect) (m : Move) → CanMove objects f m → CanMove objects (record f { state = record f.state { last = last; phase = phase; wants = wants } }) m
+room_stays : (objects : List Payload) (f : Framed) (last phase : ℕ) (wants : Expect) (m : Move) → HasNeeds objects f m → HasNeeds objects (record f { state = record f.state { last = last; phase = phase; wants = wants } }) m
 room_stays objects f last phase wants (Plainly step) can = can
 room_stays objects f last phase wants (Loads p k) can = can
 room_stays objects f last phase wants (Decides v k) can = can
@@ -51,54 +51,54 @@ same_stays f h last phase wants same = record { code = same.code; entry = same.e
 
 -- the unit that comes next
 module _ (code : PyCode) (names : List (List ℕ)) (f g : Framed) (u : CodeUnit) (arg : ℕ) (here : slice_get code.code.instructions.items f.state.at ≡ Some u) (is : arg ≡ with_byte f.state.prefix u.arg) (begins : g ≡ record f { state = begun f.state }) where
-  pub begun_can : (objects : List Payload) → CanMove objects f (advance (setting_in code names f) f.state) → CanMove objects g (act (setting_in code names g) u.op arg g.state)
+  pub begun_can : (objects : List Payload) → HasNeeds objects f (advance (setting_in code names f) f.state) → HasNeeds objects g (act (setting_in code names g) u.op arg g.state)
   begun_can objects can =
-      subst (λ (h : Framed). CanMove objects h (act (setting_in code names h) u.op arg h.state)) (sym begins)
-      (subst (λ (n : ℕ). CanMove objects (record f { state = begun f.state }) (act (setting_in code names f) u.op n (begun f.state))) (sym is)
+      subst (λ (h : Framed). HasNeeds objects h (act (setting_in code names h) u.op arg h.state)) (sym begins)
+      (subst (λ (n : ℕ). HasNeeds objects (record f { state = begun f.state }) (act (setting_in code names f) u.op n (begun f.state))) (sym is)
       (room_stays objects f (suc f.state.at) 0 expect.Go (act (setting_in code names f) u.op (with_byte f.state.prefix u.arg) (begun f.state))
-      (subst (λ (o : Option CodeUnit). CanMove objects f (unit_move (setting_in code names f) o f.state)) here can)))
+      (subst (λ (o : Option CodeUnit). HasNeeds objects f (unit_move (setting_in code names f) o f.state)) here can)))
 
-  pub begun_does : (objects : List Payload) (step : UnitStep) (h : Framed) → MayDo objects (act (setting_in code names g) u.op arg) g step h → MayDo objects (advance (setting_in code names f)) f step h
+  pub begun_does : (objects : List Payload) (step : UnitStep) (h : Framed) → HasMoved objects (act (setting_in code names g) u.op arg) g step h → HasMoved objects (advance (setting_in code names f)) f step h
   begun_does objects step h does =
-      let acted : MayDo objects (act (setting_in code names f) u.op (with_byte f.state.prefix u.arg)) (record f { state = begun f.state }) step h =
-      subst (λ (n : ℕ). MayDo objects (act (setting_in code names f) u.op n) (record f { state = begun f.state }) step h) is
-      (subst (λ (k : Framed). MayDo objects (act (setting_in code names k) u.op arg) k step h) begins does) in
+      let acted : HasMoved objects (act (setting_in code names f) u.op (with_byte f.state.prefix u.arg)) (record f { state = begun f.state }) step h =
+      subst (λ (n : ℕ). HasMoved objects (act (setting_in code names f) u.op n) (record f { state = begun f.state }) step h) is
+      (subst (λ (k : Framed). HasMoved objects (act (setting_in code names k) u.op arg) k step h) begins does) in
       record {
         row = subst (λ (o : Option CodeUnit). MayLead objects (unit_move (setting_in code names f) o f.state) (done f.state.at step h.state)) (sym here) acted.row;
         same = same_stays f h (suc f.state.at) 0 expect.Go acted.same;
       }
 
 -- the unit that waited for what the frame heard
-module _ (code : PyCode) (f g : Framed) (heard : GotAnswer) (waits : g ≡ record f { state = waiting expect.Go f.state }) where
+module _ (code : PyCode) (names : List (List ℕ)) (f g : Framed) (heard : GotAnswer) (waits : g ≡ record f { state = waiting expect.Go f.state }) where
   module _ (e : PyBaseExceptionRef) (is : heard ≡ got.Raise e) where
-    pub raise_can : (objects : List Payload) → CanMove objects f (receive (setting_in code [] f) heard f.state) → CanDo g (unwinds (reason.Raising e) g.state)
+    pub raise_can : (objects : List Payload) → HasNeeds objects f (receive (setting_in code names f) heard f.state) → HasRoom g (unwinds (reason.Raising e) g.state)
     raise_can objects can =
-        subst (λ (h : Framed). CanDo h (unwinds (reason.Raising e) h.state)) (sym waits)
-        (subst (λ (w : GotAnswer). CanMove objects f (receive (setting_in code [] f) w f.state)) is can)
+        subst (λ (h : Framed). HasRoom h (unwinds (reason.Raising e) h.state)) (sym waits)
+        (subst (λ (w : GotAnswer). HasNeeds objects f (receive (setting_in code names f) w f.state)) is can)
 
-    pub raise_does : (objects : List Payload) (step : UnitStep) (h : Framed) → Does (unwinds (reason.Raising e)) g step h → MayDo objects (receive (setting_in code [] f) heard) f step h
+    pub raise_does : (objects : List Payload) (step : UnitStep) (h : Framed) → HasDone (unwinds (reason.Raising e)) g step h → HasMoved objects (receive (setting_in code names f) heard) f step h
     raise_does objects step h does =
-        let waited = subst (λ (k : Framed). Does (unwinds (reason.Raising e)) k step h) waits does in
-        subst (λ (w : GotAnswer). MayDo objects (receive (setting_in code [] f) w) f step h) (sym is) (record {
+        let waited = subst (λ (k : Framed). HasDone (unwinds (reason.Raising e)) k step h) waits does in
+        subst (λ (w : GotAnswer). HasMoved objects (receive (setting_in code names f) w) f step h) (sym is) (record {
           row = waited.row;
           same = same_stays f h f.state.last f.state.phase expect.Go waited.same;
         })
 
   module _ (v : Obj) (is : heard ≡ got.Value v) (u : CodeUnit) (arg : ℕ) (here : slice_get code.code.instructions.items f.state.at ≡ Some u) (takes : arg ≡ with_byte f.state.prefix u.arg) where
-    pub value_can : (objects : List Payload) → CanMove objects f (receive (setting_in code [] f) heard f.state) → CanMove objects g (answered u.op arg v g.state)
+    pub value_can : (objects : List Payload) → HasNeeds objects f (receive (setting_in code names f) heard f.state) → HasNeeds objects g (answered u.op arg v g.state)
     value_can objects can =
-        subst (λ (h : Framed). CanMove objects h (answered u.op arg v h.state)) (sym waits)
-        (subst (λ (n : ℕ). CanMove objects (record f { state = waiting expect.Go f.state }) (answered u.op n v (waiting expect.Go f.state))) (sym takes)
+        subst (λ (h : Framed). HasNeeds objects h (answered u.op arg v h.state)) (sym waits)
+        (subst (λ (n : ℕ). HasNeeds objects (record f { state = waiting expect.Go f.state }) (answered u.op n v (waiting expect.Go f.state))) (sym takes)
         (room_stays objects f f.state.last f.state.phase expect.Go (answered u.op (with_byte f.state.prefix u.arg) v (waiting expect.Go f.state))
-        (subst (λ (o : Option CodeUnit). CanMove objects f (unit_answered o v (waiting expect.Go f.state))) here
-        (subst (λ (w : GotAnswer). CanMove objects f (receive (setting_in code [] f) w f.state)) is can))))
+        (subst (λ (o : Option CodeUnit). HasNeeds objects f (unit_answered o v (waiting expect.Go f.state))) here
+        (subst (λ (w : GotAnswer). HasNeeds objects f (receive (setting_in code names f) w f.state)) is can))))
 
-    pub value_does : (objects : List Payload) (step : UnitStep) (h : Framed) → MayDo objects (answered u.op arg v) g step h → MayDo objects (receive (setting_in code [] f) heard) f step h
+    pub value_does : (objects : List Payload) (step : UnitStep) (h : Framed) → HasMoved objects (answered u.op arg v) g step h → HasMoved objects (receive (setting_in code names f) heard) f step h
     value_does objects step h does =
-        let waited : MayDo objects (answered u.op (with_byte f.state.prefix u.arg) v) (record f { state = waiting expect.Go f.state }) step h =
-        subst (λ (n : ℕ). MayDo objects (answered u.op n v) (record f { state = waiting expect.Go f.state }) step h) takes
-        (subst (λ (k : Framed). MayDo objects (answered u.op arg v) k step h) waits does) in
-        subst (λ (w : GotAnswer). MayDo objects (receive (setting_in code [] f) w) f step h) (sym is) (record {
+        let waited : HasMoved objects (answered u.op (with_byte f.state.prefix u.arg) v) (record f { state = waiting expect.Go f.state }) step h =
+        subst (λ (n : ℕ). HasMoved objects (answered u.op n v) (record f { state = waiting expect.Go f.state }) step h) takes
+        (subst (λ (k : Framed). HasMoved objects (answered u.op arg v) k step h) waits does) in
+        subst (λ (w : GotAnswer). HasMoved objects (receive (setting_in code names f) w) f step h) (sym is) (record {
           row = subst (λ (o : Option CodeUnit). MayLead objects (unit_answered o v (waiting expect.Go f.state)) (done f.state.at step h.state)) (sym here) waited.row;
           same = same_stays f h f.state.last f.state.phase expect.Go waited.same;
         })

@@ -1,10 +1,12 @@
 -- Frames as callers see them.
 use Rattle.std.specs.Prelude.{ℕ, Option, None, List, []}
 use Rattle.py_code.specs.declared.code.PyCode.{PyCode}
+use Rattle.py_code.specs.declared.code.CodeObject.{CodeObject}
 use Rattle.py_objects.specs.declared.refs.PyBaseExceptionRef.{PyBaseExceptionRef}
 use Rattle.py_objects.specs.declared.refs.FrameRef.{FrameRef}
 use Rattle.py_objects.specs.declared.scope.Scope.{Scope}
 use Rattle.py_objects.specs.Objects.{Obj}
+use Rattle.py_stack.specs.Stacks.{Stack}
 use Rattle.py_check.specs.declared.annotated.Annotated.{Annotated}
 use Rattle.py_rows.specs.States.{Setting, State, with_stack}
 use Rattle.py_rows.specs.RunOfRows.{started}
@@ -19,9 +21,18 @@ pub record Framed : Type 0 where
   pub scope : Scope
   pub closure : List Obj  -- the cells of the bodies around it
 
--- a core, which is a frame without its stack, over a stack of these values and so many places left
-abbrev pub over : Framed → List Obj → ℕ → Framed
-over f stack room = record f { state = with_stack stack f.state; room = room }
+-- a core, which is a frame without its stack, over a stack that is seen as this
+abbrev pub over : Framed → Stack → Framed
+over core stack = record core { state = with_stack stack.list core.state; room = stack.room }
+
+-- what units are run by: a code, and the table that its names are places in
+pub record NamedCode : Type 0 where
+  pub code : Annotated
+  pub names : List (List ℕ)
+
+-- what a code is made of
+abbrev pub parts : NamedCode → CodeObject
+parts scene = scene.code.code.code
 
 -- the setting of a frame's run
 abbrev pub setting_in : PyCode → List (List ℕ) → Framed → Setting
@@ -29,6 +40,10 @@ setting_in code names f = record { code = code; names = names; globals = f.scope
 
 abbrev pub setting_of : List (List ℕ) → Annotated → Framed → Setting
 setting_of names code f = setting_in code.code names f
+
+-- the same by a code with its names
+abbrev pub setting : NamedCode → Framed → Setting
+setting scene f = setting_of scene.names scene.code f
 
 -- a frame's entry as an object
 abbrev pub frame_object : FrameRef → Obj

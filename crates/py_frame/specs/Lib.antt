@@ -8,5 +8,9 @@ pub mod Running
 pub mod Added
 -- what a unit did, as its row says it
 pub mod UnitSteps
+-- what units do, by their arguments
+pub mod UnitRows
+-- what is said of a core and its stack
+pub mod Cores
 -- which traceback an exit is told
 pub mod Exits

@@ -16,7 +16,7 @@ use Rattle.py_rows.specs.Fitting.{FitsAt}
 use Rattle.py_rows.specs.Sound.{IsSound}
 use Rattle.py_frame.specs.declared.input.Input.{Input}
 use Rattle.py_frame.specs.declared.input.FrameStep.{FrameStep}
-use Rattle.py_frame.specs.Frames.{Framed, setting_of, handed}
+use Rattle.py_frame.specs.Frames.{Framed, NamedCode, setting, setting_of, handed}
 use Rattle.py_rows.specs.Laws.{AllMayTell}
 use Rattle.py_frame.specs.Steps.{Extends, IfTold, KeepsFirst, NamesHandled, events, expected, heard, told}
 
@@ -64,6 +64,15 @@ pub record IsCut (objects : List Payload) (code : Annotated) (f g : Framed) : Ty
   pub within : length g.state.stack ≤ code.code.code.max_stackdepth
   pub below : HoldsBelow (length objects) g.state
   pub keeps : (first : Option PyBaseExceptionRef) → KeepsSlot first f.state → KeepsSlot first g.state
+
+-- the event that a step told, where it is one
+abbrev pub told_by : Framed → FrameStep → List Own
+told_by g step = events (told (g.state.last - 1) step)
+
+-- the run so far goes on, by what was heard, whatever number that event has, and the event that was told
+abbrev pub GoesOn : List Payload → NamedCode → Option PyBaseExceptionRef → Framed → Input → FrameStep → Framed → Type 0
+GoesOn objects scene slot f i step g =
+    (k : ℕ) → IfTold step (Extends objects (setting scene f) (handed slot f.state) (events (heard k i) ++ told_by g step) g.state)
 
 -- a frame took an input, whatever number its event has, and told an event, or memory ran out and it has ended
 pub record IsStepped (objects : List Payload) (names : List (List ℕ)) (code : Annotated) (slot : Option PyBaseExceptionRef) (i : Input) (f : Framed) (step : FrameStep) (g : Framed) : Type 0 where

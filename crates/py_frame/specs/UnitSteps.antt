@@ -22,17 +22,17 @@ use Rattle.py_frame.specs.Steps.{told}
 use Rattle.py_frame.specs.Running.{IsSame}
 
 -- a frame has room for a step
-abbrev pub CanDo : Framed → Step → Type 0
-CanDo f step = LeadsTo (IsWithin (length f.state.stack + f.room) (length f.state.blocks + f.block_room)) step
+abbrev pub HasRoom : Framed → Step → Type 0
+HasRoom f step = LeadsTo (IsWithin (length f.state.stack + f.room) (length f.state.blocks + f.block_room)) step
 
--- it has room for a move, whatever object is loaded later, and what the move goes by is there
-abbrev pub CanMove : List Payload → Framed → Move → Type 0
-CanMove objects f (Plainly step) = CanDo f step
-CanMove objects f (Loads p g) = (objects' : List Payload) (v : Obj) → Grows objects objects' → HasPayload objects' v p → CanDo f (g v)
-CanMove objects f (Decides v g) = ((b : Bool) × HasPayload objects v (payload.Bool b)) × ((b : Bool) → CanDo f (g b))
-CanMove objects f (Manages m g) = ((p : Payload) × HasPayload objects m p) × ((b : Bool) → CanDo f (g b))
-CanMove objects f (Resolves v g) = ((p : Payload) × HasPayload objects v p) × ((p : Payload) → CanDo f (g p))
-CanMove objects f (Exits e g) = RaisedThere objects e × ((t v b : Obj) → CanDo f (g t v b))
+-- what a move needs is there: room for what it leads to, whatever object is loaded later, and what it goes by
+abbrev pub HasNeeds : List Payload → Framed → Move → Type 0
+HasNeeds objects f (Plainly step) = HasRoom f step
+HasNeeds objects f (Loads p g) = (objects' : List Payload) (v : Obj) → Grows objects objects' → HasPayload objects' v p → HasRoom f (g v)
+HasNeeds objects f (Decides v g) = ((b : Bool) × HasPayload objects v (payload.Bool b)) × ((b : Bool) → HasRoom f (g b))
+HasNeeds objects f (Manages m g) = ((p : Payload) × HasPayload objects m p) × ((b : Bool) → HasRoom f (g b))
+HasNeeds objects f (Resolves v g) = ((p : Payload) × HasPayload objects v p) × ((p : Payload) → HasRoom f (g p))
+HasNeeds objects f (Exits e g) = RaisedThere objects e × ((t v b : Obj) → HasRoom f (g t v b))
 
 -- an event that is told, as a step; it has to be one
 abbrev pub tells : Option Own → State → Step
@@ -57,12 +57,12 @@ asks_by (AsksOnce wanted pushes) f s = asks_once (length wanted) f s
 asks_by Other f s = Stuck
 
 -- a unit did what a row says, and left the same frame
-pub record Does (act : State → Step) (f : Framed) (step : UnitStep) (g : Framed) : Type 0 where
+pub record HasDone (act : State → Step) (f : Framed) (step : UnitStep) (g : Framed) : Type 0 where
   pub row : act f.state ≡ done f.state.at step g.state
   pub same : IsSame f g
 
 -- the same of a move, which it may lead to
-pub record MayDo (objects : List Payload) (act : State → Move) (f : Framed) (step : UnitStep) (g : Framed) : Type 0 where
+pub record HasMoved (objects : List Payload) (act : State → Move) (f : Framed) (step : UnitStep) (g : Framed) : Type 0 where
   pub row : MayLead objects (act f.state) (done f.state.at step g.state)
   pub same : IsSame f g
 

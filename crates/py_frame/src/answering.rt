@@ -1,47 +1,43 @@
 //! What a frame does by itself: it runs its next unit, or goes by what it heard.
 
-ghost use Rattle.std.specs.Prelude.{◌≡◌, ◌+◌, ◌^◌, ◌<◌, [], length, slice_get, IfOk, OnErr};
+ghost use Rattle.std.specs.Prelude.{◌≡◌, ◌+◌, ◌^◌, ◌<◌, length, IfOk, OnErr};
 ghost use Rattle.py_rows.specs.declared.expect.Expect.TheVariants as expect;
-ghost use Rattle.py_rows.specs.States.{Goes, begun, next, pushed};
-ghost use Rattle.py_rows.specs.Receiving.{answered, moves, receive};
 ghost use Rattle.py_frame.specs.Added.{AddsConstants, ClassesAreThere};
 ghost use Rattle.py_frame.specs.Exits.{UnitAtTellsExit};
-ghost use Rattle.py_frame.specs.Frames.{over, setting_in, setting_of};
-ghost use Rattle.py_frame.specs.UnitSteps.{CanDo, CanMove, Does, MayDo};
+ghost use Rattle.py_frame.specs.Cores.{CanDo, CanMove, Does, HasBegun, MayDo};
+ghost use Rattle.py_frame.specs.Frames.{parts};
+ghost use Rattle.py_frame.specs.UnitRows.{answers, goes, moves_on, pushes, takes, unit_at};
 
 use crate::frame_core::FrameCore;
 use crate::objects::truth;
+use crate::scene::Scene;
 use crate::unit_step::UnitStep;
-use py_check::CheckedCode;
-use py_code::{Instruction, Names, NoMemory, PyCode};
+use py_code::{Instruction, NoMemory};
 use py_objects::{GotAnswer, PyObjectRef, Store};
 use py_rows::{Expect, UnwindReason};
 use py_stack::ValueStack;
-use std::alloc::Global;
 
 impl FrameCore {
     /// Runs the unit that comes next, or goes by what the frame heard. Where memory runs out the unit has begun.
     pub(crate) fn moves<S: ValueStack>(
         &mut self,
         stack: &mut S,
-        alloc: Global,
-        code: &CheckedCode,
-        names: &Names,
+        scene: &Scene<'_>,
         store: &mut Store,
     ) -> Result<UnitStep, NoMemory>
-        requires there { self.old.state.at < length code.now.code.code.instructions.items }
-        requires few { length code.now.code.code.instructions.items < 2 ^ 32 }
+        requires there { self.old.state.at < length (parts scene.now).instructions.items }
+        requires few { length (parts scene.now).instructions.items < 2 ^ 32 }
         requires classes { ClassesAreThere store.old.made }
-        requires safe { let f = over self.old (S.list stack.old) (S.room stack.old) in CanMove store.old.made f (moves (setting_of names.now code.now f) f.state.wants f.state) }
-        ensures row { IfOk result (λ step. MayDo store.new.made (λ s. moves (setting_of names.now code.now self.old) s.wants s) (over self.old (S.list stack.old) (S.room stack.old)) step (over self.new (S.list stack.new) (S.room stack.new))) }
-        ensures traceback { self.old.state.wants ≡ expect.Go → IfOk result (λ step. UnitAtTellsExit (slice_get code.now.code.code.instructions.items self.old.state.at) store.old store.new step) }
-        ensures err { OnErr result ((over self.new (S.list stack.new) (S.room stack.new)) ≡ record (over self.old (S.list stack.old) (S.room stack.old)) { state = begun ((over self.old (S.list stack.old) (S.room stack.old))).state }) }
+        requires safe { CanMove S.seen store.old.made (moves_on scene.now) self.old stack.old }
+        ensures row { IfOk result (λ step. MayDo S.seen store.new.made (moves_on scene.now) self.old stack.old step self.new stack.new) }
+        ensures traceback { self.old.state.wants ≡ expect.Go → IfOk result (λ step. UnitAtTellsExit (unit_at scene.now self.old) store.old store.new step) }
+        ensures err { OnErr result (HasBegun S.seen self.old stack.old self.new stack.new) }
         ensures objects { AddsConstants store.old.made store.new.made }
         ensures unchanged { store.new ≡ record store.old { made = store.new.made } }
     {
         match self.expects() {
-            Expect::Go => self.execute(stack, alloc, code.code(), names, store),
-            Expect::Heard(heard) => Ok(self.receive(stack, code.code(), store, heard)),
+            Expect::Go => self.execute(stack, scene, store),
+            Expect::Heard(heard) => Ok(self.receive(stack, scene, store, heard)),
             _ => unreachable!(),
         }
     }
@@ -50,19 +46,19 @@ impl FrameCore {
     fn receive<S: ValueStack>(
         &mut self,
         stack: &mut S,
-        code: &PyCode,
+        scene: &Scene<'_>,
         store: &Store,
         heard: GotAnswer,
     ) -> UnitStep
-        requires there { self.old.state.at < length code.now.code.instructions.items }
-        requires few { length code.now.code.instructions.items < 2 ^ 32 }
-        requires safe { let f = over self.old (S.list stack.old) (S.room stack.old) in CanMove store.now.made f (receive (setting_in code.now [] f) heard f.state) }
-        ensures { MayDo store.now.made (receive (setting_in code.now [] self.old) heard) (over self.old (S.list stack.old) (S.room stack.old)) result (over self.new (S.list stack.new) (S.room stack.new)) }
+        requires there { self.old.state.at < length (parts scene.now).instructions.items }
+        requires few { length (parts scene.now).instructions.items < 2 ^ 32 }
+        requires safe { CanMove S.seen store.now.made (takes scene.now heard) self.old stack.old }
+        ensures { MayDo S.seen store.now.made (takes scene.now heard) self.old stack.old result self.new stack.new }
     {
         self.waits(Expect::Go);
         match heard {
             GotAnswer::Value(value) => {
-                let unit = code.code.instructions[self.unit() as usize];
+                let unit = scene.unit_at(self.unit());
                 let mut prefix = self.prefix();
                 let arg = prefix.extend(unit.arg);
                 self.answer_instruction(stack, store, unit.op, arg.0, value)
@@ -82,8 +78,8 @@ impl FrameCore {
         value: PyObjectRef,
     ) -> UnitStep
         requires next { self.old.state.at + 1 < 2 ^ 32 }
-        requires safe { let f = over self.old (S.list stack.old) (S.room stack.old) in CanMove store.now.made f (answered op arg value f.state) }
-        ensures { MayDo store.now.made (answered op arg value) (over self.old (S.list stack.old) (S.room stack.old)) result (over self.new (S.list stack.new) (S.room stack.new)) }
+        requires safe { CanMove S.seen store.now.made (answers op arg value) self.old stack.old }
+        ensures { MayDo S.seen store.now.made (answers op arg value) self.old stack.old result self.new stack.new }
     {
         match op {
             Instruction::LoadGlobal
@@ -106,8 +102,8 @@ impl FrameCore {
     /// Pushes an answer.
     fn push_answer<S: ValueStack>(&mut self, stack: &mut S, value: PyObjectRef) -> UnitStep
         requires next { self.old.state.at + 1 < 2 ^ 32 }
-        requires safe { let f = over self.old (S.list stack.old) (S.room stack.old) in CanDo f (Goes (pushed value (next f.state))) }
-        ensures { Does (λ s. Goes (pushed value (next s))) (over self.old (S.list stack.old) (S.room stack.old)) result (over self.new (S.list stack.new) (S.room stack.new)) }
+        requires safe { CanDo S.seen (pushes value) self.old stack.old }
+        ensures { Does S.seen (pushes value) self.old stack.old result self.new stack.new }
     {
         self.goes_on();
         stack.push(value);
@@ -117,7 +113,7 @@ impl FrameCore {
     /// Goes on without an answer.
     fn drop_answer<S: ValueStack>(&mut self, stack: &S) -> UnitStep
         requires { self.old.state.at + 1 < 2 ^ 32 }
-        ensures { Does (λ s. Goes (next s)) (over self.old (S.list stack.now) (S.room stack.now)) result (over self.new (S.list stack.now) (S.room stack.now)) }
+        ensures { Does S.seen goes self.old stack.now result self.new stack.now }
     {
         self.goes_on();
         UnitStep::Goes

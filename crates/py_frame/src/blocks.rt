@@ -1,10 +1,9 @@
 //! Instructions that open blocks and end them.
 
-ghost use Rattle.std.specs.Prelude.{◌+◌, ◌^◌, ◌<◌, None};
-ghost use Rattle.py_rows.specs.Rows.{end_finally, goes_on, opens, pop_block, pop_exception, setup_loop};
-ghost use Rattle.py_rows.specs.declared.block.BlockType.TheVariants as typ;
-ghost use Rattle.py_frame.specs.Frames.{over};
-ghost use Rattle.py_frame.specs.UnitSteps.{CanDo, Does};
+ghost use Rattle.std.specs.Prelude.{◌+◌, ◌^◌, ◌<◌};
+ghost use Rattle.py_rows.specs.Rows.{end_finally, goes_on, opens, setup_loop};
+ghost use Rattle.py_frame.specs.Cores.{CanDo, Does};
+ghost use Rattle.py_frame.specs.UnitRows.{leaves_block, leaves_handler, opens_handler};
 
 use crate::frame_core::FrameCore;
 use crate::input::FrameStep;
@@ -17,8 +16,8 @@ impl FrameCore {
     /// Opens a block.
     pub(crate) fn opens<S: ValueStack>(&mut self, stack: &mut S, typ: BlockType) -> UnitStep
         requires next { self.old.state.at + 1 < 2 ^ 32 }
-        requires safe { let f = over self.old (S.list stack.old) (S.room stack.old) in CanDo f (opens typ f.state) }
-        ensures { Does (opens typ) (over self.old (S.list stack.old) (S.room stack.old)) result (over self.new (S.list stack.new) (S.room stack.new)) }
+        requires safe { CanDo S.seen (opens typ) self.old stack.old }
+        ensures { Does S.seen (opens typ) self.old stack.old result self.new stack.new }
     {
         let level = stack.len();
         self.goes_on();
@@ -29,8 +28,8 @@ impl FrameCore {
     /// Opens the block of a handler of a finally that control came to in order.
     pub(crate) fn enters_finally<S: ValueStack>(&mut self, stack: &mut S) -> UnitStep
         requires next { self.old.state.at + 1 < 2 ^ 32 }
-        requires safe { let f = over self.old (S.list stack.old) (S.room stack.old) in CanDo f (opens (typ.FinallyHandler None f.state.slot) f.state) }
-        ensures { Does (λ s. opens (typ.FinallyHandler None s.slot) s) (over self.old (S.list stack.old) (S.room stack.old)) result (over self.new (S.list stack.new) (S.room stack.new)) }
+        requires safe { CanDo S.seen opens_handler self.old stack.old }
+        ensures { Does S.seen opens_handler self.old stack.old result self.new stack.new }
     {
         let kept = self.slot();
         self.opens(stack, BlockType::FinallyHandler { reason: None, kept })
@@ -39,8 +38,8 @@ impl FrameCore {
     /// Opens the block of a loop, which is its first round.
     pub(crate) fn setup_loop<S: ValueStack>(&mut self, stack: &mut S) -> UnitStep
         requires next { self.old.state.at + 1 < 2 ^ 32 }
-        requires safe { let f = over self.old (S.list stack.old) (S.room stack.old) in CanDo f (setup_loop f.state) }
-        ensures { Does (setup_loop) (over self.old (S.list stack.old) (S.room stack.old)) result (over self.new (S.list stack.new) (S.room stack.new)) }
+        requires safe { CanDo S.seen setup_loop self.old stack.old }
+        ensures { Does S.seen setup_loop self.old stack.old result self.new stack.new }
     {
         let level = stack.len();
         self.goes_on();
@@ -54,8 +53,8 @@ impl FrameCore {
     /// Leaves the innermost block in order.
     pub(crate) fn leave_block<S: ValueStack>(&mut self, stack: &mut S) -> UnitStep
         requires next { self.old.state.at + 1 < 2 ^ 32 }
-        requires safe { let f = over self.old (S.list stack.old) (S.room stack.old) in CanDo f (pop_block f.state.blocks f.state) }
-        ensures { Does (λ s. pop_block s.blocks s) (over self.old (S.list stack.old) (S.room stack.old)) result (over self.new (S.list stack.new) (S.room stack.new)) }
+        requires safe { CanDo S.seen leaves_block self.old stack.old }
+        ensures { Does S.seen leaves_block self.old stack.old result self.new stack.new }
     {
         let Some(block) = self.pop_block() else {
             unreachable!();
@@ -74,8 +73,8 @@ impl FrameCore {
     /// Leaves the handler of an exception.
     pub(crate) fn pop_exception<S: ValueStack>(&mut self, stack: &mut S) -> UnitStep
         requires next { self.old.state.at + 1 < 2 ^ 32 }
-        requires safe { let f = over self.old (S.list stack.old) (S.room stack.old) in CanDo f (pop_exception f.state.blocks f.state) }
-        ensures { Does (λ s. pop_exception s.blocks s) (over self.old (S.list stack.old) (S.room stack.old)) result (over self.new (S.list stack.new) (S.room stack.new)) }
+        requires safe { CanDo S.seen leaves_handler self.old stack.old }
+        ensures { Does S.seen leaves_handler self.old stack.old result self.new stack.new }
     {
         let Some(block) = self.pop_block() else {
             unreachable!();
@@ -98,8 +97,8 @@ impl FrameCore {
         reason: Option<UnwindReason>,
     ) -> UnitStep
         requires next { self.old.state.at + 1 < 2 ^ 32 }
-        requires safe { let f = over self.old (S.list stack.old) (S.room stack.old) in CanDo f (goes_on reason f.state) }
-        ensures { Does (goes_on reason) (over self.old (S.list stack.old) (S.room stack.old)) result (over self.new (S.list stack.new) (S.room stack.new)) }
+        requires safe { CanDo S.seen (goes_on reason) self.old stack.old }
+        ensures { Does S.seen (goes_on reason) self.old stack.old result self.new stack.new }
     {
         match reason {
             None => {
@@ -113,8 +112,8 @@ impl FrameCore {
     /// Leaves the handler of a finally, and goes on with its reason.
     pub(crate) fn end_finally<S: ValueStack>(&mut self, stack: &mut S) -> UnitStep
         requires next { self.old.state.at + 1 < 2 ^ 32 }
-        requires safe { let f = over self.old (S.list stack.old) (S.room stack.old) in CanDo f (end_finally f.state) }
-        ensures { Does (end_finally) (over self.old (S.list stack.old) (S.room stack.old)) result (over self.new (S.list stack.new) (S.room stack.new)) }
+        requires safe { CanDo S.seen end_finally self.old stack.old }
+        ensures { Does S.seen end_finally self.old stack.old result self.new stack.new }
     {
         let Some(block) = self.pop_block() else {
             unreachable!();

@@ -1,14 +1,12 @@
 //! Calls, by what is called.
 
-ghost use Rattle.std.specs.Prelude.{◌≡◌, ◌+◌, length, IfOk, OnOk, OnErr};
+ghost use Rattle.std.specs.Prelude.{◌≡◌, IfOk, OnOk, OnErr};
 ghost use Rattle.py_objects.specs.declared.payload.Payload.{Payload as PayloadOf};
 ghost use Rattle.py_objects.specs.Objects.{HasPayload};
 ghost use Rattle.py_objects.specs.Callees.{builtin_request, call_request, close_request, own_request, send_request, throw_request};
-ghost use Rattle.py_rows.specs.States.{with_stack};
-ghost use Rattle.py_rows.specs.Rows.{asks, call_function};
-ghost use Rattle.py_rows.specs.RunOfRows.{MayLead};
-ghost use Rattle.py_frame.specs.Frames.{over};
-ghost use Rattle.py_frame.specs.UnitSteps.{CanMove, MayDo};
+ghost use Rattle.py_stack.specs.Stacks.{places};
+ghost use Rattle.py_frame.specs.Cores.{CanMove, IsUnchanged, MayAsk, MayDo};
+ghost use Rattle.py_frame.specs.UnitRows.{calls};
 
 use crate::frame_core::FrameCore;
 use crate::objects::builtin;
@@ -28,9 +26,9 @@ impl FrameCore {
         store: &Store,
         count: usize,
     ) -> Result<UnitStep, NoMemory>
-        requires safe { let f = over self.old (S.list stack.old) (S.room stack.old) in CanMove store.now.made f (call_function count f.state) }
-        ensures row { IfOk result (λ step. MayDo store.now.made (call_function count) (over self.old (S.list stack.old) (S.room stack.old)) step (over self.new (S.list stack.new) (S.room stack.new))) }
-        ensures err { OnErr result (over self.new (S.list stack.new) (S.room stack.new) ≡ over self.old (S.list stack.old) (S.room stack.old)) }
+        requires safe { CanMove S.seen store.now.made (calls count) self.old stack.old }
+        ensures row { IfOk result (λ step. MayDo S.seen store.now.made (calls count) self.old stack.old step self.new stack.new) }
+        ensures err { OnErr result (IsUnchanged S.seen self.old stack.old self.new stack.new) }
     {
         let request = self.call_request(stack, alloc, store, count)?;
         Ok(self.asks(stack, request))
@@ -44,11 +42,10 @@ impl FrameCore {
         store: &Store,
         count: usize,
     ) -> Result<Request, NoMemory>
-        requires safe { let f = over self.now (S.list stack.old) (S.room stack.old) in CanMove store.now.made f (call_function count f.state) }
-        ensures request { IfOk result (λ request. MayLead store.now.made (call_function count (with_stack (S.list stack.old) self.now.state)) (asks request (with_stack (S.list stack.new) self.now.state))) }
-        ensures places { OnOk result (length (S.list stack.new) + S.room stack.new ≡ length (S.list stack.old) + S.room stack.old) }
-        ensures err_list { OnErr result (S.list stack.new ≡ S.list stack.old) }
-        ensures err_room { OnErr result (S.room stack.new ≡ S.room stack.old) }
+        requires safe { CanMove S.seen store.now.made (calls count) self.now stack.old }
+        ensures request { IfOk result (λ request. MayAsk S.seen store.now.made (calls count) self.now stack.old request stack.new) }
+        ensures places { OnOk result (places (S.seen stack.new) ≡ places (S.seen stack.old)) }
+        ensures err { OnErr result (S.seen stack.new ≡ S.seen stack.old) }
     {
         let arguments = pop_many(stack, alloc, count)?;
         let callee = stack.pop();

@@ -1,14 +1,11 @@
 //! Managers that are left.
 
 ghost use Rattle.std.specs.Prelude.{◌≡◌, ◌+◌, ◌^◌, ◌<◌, IfOk, OnErr};
-ghost use Rattle.py_rows.specs.States.{Exits};
-ghost use Rattle.py_rows.specs.Receiving.{passes_if};
-ghost use Rattle.py_rows.specs.Rows.{asks_exit, finish_cleanup, finishes, raised_in, takes_off};
-ghost use Rattle.py_rows.specs.States.{with_stack};
+ghost use Rattle.py_rows.specs.Rows.{finish_cleanup, finishes};
 ghost use Rattle.py_frame.specs.Added.{AddsConstants, ClassesAreThere};
+ghost use Rattle.py_frame.specs.Cores.{CanDo, CanMove, Does, IsUnchanged, MayDo};
 ghost use Rattle.py_frame.specs.Exits.{UnitTellsExit};
-ghost use Rattle.py_frame.specs.Frames.{over};
-ghost use Rattle.py_frame.specs.UnitSteps.{CanDo, CanMove, Does, MayDo};
+ghost use Rattle.py_frame.specs.UnitRows.{passes_top, starts_cleanup, tells_exit};
 
 use crate::exits::exit_arguments;
 use crate::frame_core::FrameCore;
@@ -27,10 +24,10 @@ impl FrameCore {
         store: &mut Store,
     ) -> Result<UnitStep, NoMemory>
         requires classes { ClassesAreThere store.old.made }
-        requires safe { let f = over self.old (S.list stack.old) (S.room stack.old) in CanMove store.old.made f (Exits (raised_in f.state.blocks) (λ t v b. asks_exit f.state t v b)) }
-        ensures row { IfOk result (λ step. MayDo store.new.made (λ s. Exits (raised_in s.blocks) (λ t v b. asks_exit s t v b)) (over self.old (S.list stack.old) (S.room stack.old)) step (over self.new (S.list stack.new) (S.room stack.new))) }
+        requires safe { CanMove S.seen store.old.made starts_cleanup self.old stack.old }
+        ensures row { IfOk result (λ step. MayDo S.seen store.new.made starts_cleanup self.old stack.old step self.new stack.new) }
         ensures traceback { IfOk result (λ step. UnitTellsExit store.old store.new step) }
-        ensures err { OnErr result (over self.new (S.list stack.new) (S.room stack.new) ≡ over self.old (S.list stack.old) (S.room stack.old)) }
+        ensures err { OnErr result (IsUnchanged S.seen self.old stack.old self.new stack.new) }
         ensures objects { AddsConstants store.old.made store.new.made }
         ensures unchanged { store.new ≡ record store.old { made = store.new.made } }
     {
@@ -47,8 +44,8 @@ impl FrameCore {
         exception: PyObjectRef,
         traceback: PyObjectRef,
     ) -> UnitStep
-        requires { let f = over self.old (S.list stack.old) (S.room stack.old) in CanDo f (asks_exit f.state class exception traceback) }
-        ensures { Does (λ s. asks_exit s class exception traceback) (over self.old (S.list stack.old) (S.room stack.old)) result (over self.new (S.list stack.new) (S.room stack.new)) }
+        requires { CanDo S.seen (tells_exit class exception traceback) self.old stack.old }
+        ensures { Does S.seen (tells_exit class exception traceback) self.old stack.old result self.new stack.new }
     {
         let exit = stack.top();
         self.asks(stack, Request::Exit(exit, class, exception, traceback))
@@ -57,8 +54,8 @@ impl FrameCore {
     /// Takes off what the exit answered, its block and the exit.
     pub(crate) fn finish_cleanup<S: ValueStack>(&mut self, stack: &mut S) -> UnitStep
         requires next { self.old.state.at + 1 < 2 ^ 32 }
-        requires safe { let f = over self.old (S.list stack.old) (S.room stack.old) in CanDo f (finish_cleanup f.state) }
-        ensures { Does finish_cleanup (over self.old (S.list stack.old) (S.room stack.old)) result (over self.new (S.list stack.new) (S.room stack.new)) }
+        requires safe { CanDo S.seen finish_cleanup self.old stack.old }
+        ensures { Does S.seen finish_cleanup self.old stack.old result self.new stack.new }
     {
         let value = stack.pop();
         stack.pop();
@@ -82,8 +79,8 @@ impl FrameCore {
         value: PyObjectRef,
     ) -> UnitStep
         requires next { self.old.state.at + 1 < 2 ^ 32 }
-        requires safe { let f = over self.old (S.list stack.old) (S.room stack.old) in CanDo f (finishes reason value f.state) }
-        ensures { Does (finishes reason value) (over self.old (S.list stack.old) (S.room stack.old)) result (over self.new (S.list stack.new) (S.room stack.new)) }
+        requires safe { CanDo S.seen (finishes reason value) self.old stack.old }
+        ensures { Does S.seen (finishes reason value) self.old stack.old result self.new stack.new }
     {
         match reason {
             None => {
@@ -107,8 +104,8 @@ impl FrameCore {
     /// Lets the exception on the top go no further, or on.
     pub(crate) fn passes_if<S: ValueStack>(&mut self, stack: &mut S, stops: bool) -> UnitStep
         requires next { self.old.state.at + 1 < 2 ^ 32 }
-        requires safe { let f = over self.old (S.list stack.old) (S.room stack.old) in CanDo f (takes_off f.state.stack (λ e rest. passes_if stops e (with_stack rest f.state))) }
-        ensures { Does (λ s. takes_off s.stack (λ e rest. passes_if stops e (with_stack rest s))) (over self.old (S.list stack.old) (S.room stack.old)) result (over self.new (S.list stack.new) (S.room stack.new)) }
+        requires safe { CanDo S.seen (passes_top stops) self.old stack.old }
+        ensures { Does S.seen (passes_top stops) self.old stack.old result self.new stack.new }
     {
         let exception = stack.pop();
         if stops {

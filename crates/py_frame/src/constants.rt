@@ -1,19 +1,17 @@
 //! Instructions that load constants.
 
-ghost use Rattle.std.specs.Prelude.{◌≡◌, ◌+◌, ◌^◌, ◌<◌, slice_get, Some, is_some, true, IfOk, OnErr};
-ghost use Rattle.py_code.specs.Literals.{literals_of};
-ghost use Rattle.py_rows.specs.States.{Goes, next, pushed};
-ghost use Rattle.py_rows.specs.Unwinding.{unwinds};
-ghost use Rattle.py_rows.specs.Rows.{loads, payload_of};
-ghost use Rattle.py_rows.specs.declared.block.UnwindReason.TheVariants as reason;
+ghost use Rattle.std.specs.Prelude.{◌≡◌, ◌+◌, ◌^◌, ◌<◌, Some, is_some, true, IfOk, OnErr};
+ghost use Rattle.py_rows.specs.Rows.{payload_of};
 ghost use Rattle.py_frame.specs.Added.{AddsConstants};
-ghost use Rattle.py_frame.specs.Frames.{over};
-ghost use Rattle.py_frame.specs.UnitSteps.{CanMove, IsConstant, IsLoaded, MayDo};
+ghost use Rattle.py_frame.specs.Cores.{CanMove, IsUnchanged, MayDo};
+ghost use Rattle.py_frame.specs.UnitRows.{constant_at, loads_constant, returns_constant};
+ghost use Rattle.py_frame.specs.UnitSteps.{IsConstant, IsLoaded};
 
 use crate::frame_core::FrameCore;
 use crate::objects::add_constant;
+use crate::scene::Scene;
 use crate::unit_step::UnitStep;
-use py_code::{Literal, NoMemory, PyCode};
+use py_code::{Literal, NoMemory};
 use py_objects::{Payload, PyObjectRef, Store};
 use py_rows::UnwindReason;
 use py_stack::ValueStack;
@@ -24,19 +22,18 @@ impl FrameCore {
     pub(crate) fn load_const<S: ValueStack>(
         &mut self,
         stack: &mut S,
-        alloc: Global,
-        code: &PyCode,
+        scene: &Scene<'_>,
         store: &mut Store,
         place: usize,
     ) -> Result<UnitStep, NoMemory>
         requires next { self.old.state.at + 1 < 2 ^ 32 }
-        requires safe { let f = over self.old (S.list stack.old) (S.room stack.old) in CanMove store.old.made f (loads (slice_get (literals_of code.now.code.constants) place) (λ v. Goes (pushed v (next f.state)))) }
-        ensures row { IfOk result (λ step. MayDo store.new.made (λ s. loads (slice_get (literals_of code.now.code.constants) place) (λ v. Goes (pushed v (next s)))) (over self.old (S.list stack.old) (S.room stack.old)) step (over self.new (S.list stack.new) (S.room stack.new))) }
-        ensures err { OnErr result (over self.new (S.list stack.new) (S.room stack.new) ≡ over self.old (S.list stack.old) (S.room stack.old)) }
+        requires safe { CanMove S.seen store.old.made (loads_constant scene.now place) self.old stack.old }
+        ensures row { IfOk result (λ step. MayDo S.seen store.new.made (loads_constant scene.now place) self.old stack.old step self.new stack.new) }
+        ensures err { OnErr result (IsUnchanged S.seen self.old stack.old self.new stack.new) }
         ensures objects { AddsConstants store.old.made store.new.made }
         ensures unchanged { store.new ≡ record store.old { made = store.new.made } }
     {
-        let value = load(alloc, code, store, place)?;
+        let value = load(scene, store, place)?;
         self.goes_on();
         stack.push(value);
         Ok(UnitStep::Goes)
@@ -46,36 +43,30 @@ impl FrameCore {
     pub(crate) fn return_const<S: ValueStack>(
         &mut self,
         stack: &mut S,
-        alloc: Global,
-        code: &PyCode,
+        scene: &Scene<'_>,
         store: &mut Store,
         place: usize,
     ) -> Result<UnitStep, NoMemory>
-        requires safe { let f = over self.old (S.list stack.old) (S.room stack.old) in CanMove store.old.made f (loads (slice_get (literals_of code.now.code.constants) place) (λ v. unwinds (reason.Returning v) f.state)) }
-        ensures row { IfOk result (λ step. MayDo store.new.made (λ s. loads (slice_get (literals_of code.now.code.constants) place) (λ v. unwinds (reason.Returning v) s)) (over self.old (S.list stack.old) (S.room stack.old)) step (over self.new (S.list stack.new) (S.room stack.new))) }
-        ensures err { OnErr result (over self.new (S.list stack.new) (S.room stack.new) ≡ over self.old (S.list stack.old) (S.room stack.old)) }
+        requires safe { CanMove S.seen store.old.made (returns_constant scene.now place) self.old stack.old }
+        ensures row { IfOk result (λ step. MayDo S.seen store.new.made (returns_constant scene.now place) self.old stack.old step self.new stack.new) }
+        ensures err { OnErr result (IsUnchanged S.seen self.old stack.old self.new stack.new) }
         ensures objects { AddsConstants store.old.made store.new.made }
         ensures unchanged { store.new ≡ record store.old { made = store.new.made } }
     {
-        let value = load(alloc, code, store, place)?;
+        let value = load(scene, store, place)?;
         Ok(self.unwind(stack, UnwindReason::Returning(value)))
     }
 }
 
 /// A new object of a constant's payload.
-fn load(
-    alloc: Global,
-    code: &PyCode,
-    store: &mut Store,
-    place: usize,
-) -> Result<PyObjectRef, NoMemory>
-    requires { IsLoaded (slice_get (literals_of code.now.code.constants) place) }
-    ensures constant { IfOk result (λ object. IsConstant store.new.made (slice_get (literals_of code.now.code.constants) place) object) }
+fn load(scene: &Scene<'_>, store: &mut Store, place: usize) -> Result<PyObjectRef, NoMemory>
+    requires { IsLoaded (constant_at scene.now place) }
+    ensures constant { IfOk result (λ object. IsConstant store.new.made (constant_at scene.now place) object) }
     ensures objects { AddsConstants store.old.made store.new.made }
     ensures unchanged { store.new ≡ record store.old { made = store.new.made } }
 {
-    match code.code.constants.get(place) {
-        Some(literal) => add(alloc, store, literal),
+    match scene.parts().constants.get(place) {
+        Some(literal) => add(scene.alloc, store, literal),
         None => unreachable!(),
     }
 }

@@ -1,77 +1,72 @@
 //! Running one unit: an arm an instruction.
 
-ghost use Rattle.std.specs.Prelude.{◌≡◌, ◌+◌, ◌^◌, ◌<◌, length, slice_get, IfOk, OnErr};
+ghost use Rattle.std.specs.Prelude.{◌≡◌, ◌+◌, ◌^◌, ◌<◌, length, IfOk, OnErr};
 ghost use Rattle.py_code.specs.declared.instruction.Instruction.TheVariants.{WithCleanupStart};
-ghost use Rattle.py_rows.specs.States.{Goes, begun, next};
-ghost use Rattle.py_rows.specs.Rows.{act, advance};
 ghost use Rattle.py_frame.specs.Added.{AddsConstants, ClassesAreThere};
 ghost use Rattle.py_frame.specs.Exits.{UnitAtTellsExit, UnitTellsExit};
-ghost use Rattle.py_frame.specs.Frames.{over, setting_in};
-ghost use Rattle.py_frame.specs.UnitSteps.{CanMove, Does, MayDo};
+ghost use Rattle.py_frame.specs.Cores.{CanMove, Does, HasBegun, IsUnchanged, MayDo};
+ghost use Rattle.py_frame.specs.Frames.{parts};
+ghost use Rattle.py_frame.specs.UnitRows.{acts, advances, extends, unit_at};
 
 use crate::frame_core::FrameCore;
+use crate::scene::Scene;
 use crate::unit_step::UnitStep;
-use py_code::{Instruction, Names, NoMemory, OpArg, PyCode};
+use py_code::{Instruction, NoMemory, OpArg};
 use py_objects::Store;
 use py_rows::{BlockType, UnwindReason};
 use py_stack::ValueStack;
-use std::alloc::Global;
 
 impl FrameCore {
     /// Runs the unit that comes next. Where memory runs out it has begun.
     pub(crate) fn execute<S: ValueStack>(
         &mut self,
         stack: &mut S,
-        alloc: Global,
-        code: &PyCode,
-        names: &Names,
+        scene: &Scene<'_>,
         store: &mut Store,
     ) -> Result<UnitStep, NoMemory>
-        requires there { self.old.state.at < length code.now.code.instructions.items }
-        requires few { length code.now.code.instructions.items < 2 ^ 32 }
+        requires there { self.old.state.at < length (parts scene.now).instructions.items }
+        requires few { length (parts scene.now).instructions.items < 2 ^ 32 }
         requires classes { ClassesAreThere store.old.made }
-        requires safe { let f = over self.old (S.list stack.old) (S.room stack.old) in CanMove store.old.made f (advance (setting_in code.now names.now f) f.state) }
-        ensures row { IfOk result (λ step. MayDo store.new.made (advance (setting_in code.now names.now self.old)) (over self.old (S.list stack.old) (S.room stack.old)) step (over self.new (S.list stack.new) (S.room stack.new))) }
-        ensures traceback { IfOk result (λ step. UnitAtTellsExit (slice_get code.now.code.instructions.items self.old.state.at) store.old store.new step) }
-        ensures err { OnErr result ((over self.new (S.list stack.new) (S.room stack.new)) ≡ record (over self.old (S.list stack.old) (S.room stack.old)) { state = begun ((over self.old (S.list stack.old) (S.room stack.old))).state }) }
+        requires safe { CanMove S.seen store.old.made (advances scene.now) self.old stack.old }
+        ensures row { IfOk result (λ step. MayDo S.seen store.new.made (advances scene.now) self.old stack.old step self.new stack.new) }
+        ensures traceback { IfOk result (λ step. UnitAtTellsExit (unit_at scene.now self.old) store.old store.new step) }
+        ensures err { OnErr result (HasBegun S.seen self.old stack.old self.new stack.new) }
         ensures objects { AddsConstants store.old.made store.new.made }
         ensures unchanged { store.new ≡ record store.old { made = store.new.made } }
     {
-        let unit = code.code.instructions[self.unit() as usize];
+        let unit = scene.unit_at(self.unit());
         let mut prefix = self.prefix();
         let arg = prefix.extend(unit.arg);
         self.begin();
-        self.execute_instruction(stack, alloc, code, names, store, unit.op, arg.0)
+        self.execute_instruction(stack, scene, store, unit.op, arg.0)
     }
 
     /// Runs an instruction with its whole argument.
     fn execute_instruction<S: ValueStack>(
         &mut self,
         stack: &mut S,
-        alloc: Global,
-        code: &PyCode,
-        names: &Names,
+        scene: &Scene<'_>,
         store: &mut Store,
         op: Instruction,
         arg: u32,
     ) -> Result<UnitStep, NoMemory>
         requires next { self.old.state.at + 1 < 2 ^ 32 }
         requires classes { ClassesAreThere store.old.made }
-        requires safe { let f = over self.old (S.list stack.old) (S.room stack.old) in CanMove store.old.made f (act (setting_in code.now names.now f) op arg f.state) }
-        ensures row { IfOk result (λ step. MayDo store.new.made (act (setting_in code.now names.now self.old) op arg) (over self.old (S.list stack.old) (S.room stack.old)) step (over self.new (S.list stack.new) (S.room stack.new))) }
+        requires safe { CanMove S.seen store.old.made (acts scene.now op arg) self.old stack.old }
+        ensures row { IfOk result (λ step. MayDo S.seen store.new.made (acts scene.now op arg) self.old stack.old step self.new stack.new) }
         // No other instruction asks an exit.
         ensures traceback { IfOk result (λ step. op ≡ WithCleanupStart → UnitTellsExit store.old store.new step) }
-        ensures err { OnErr result ((over self.new (S.list stack.new) (S.room stack.new)) ≡ (over self.old (S.list stack.old) (S.room stack.old))) }
+        ensures err { OnErr result (IsUnchanged S.seen self.old stack.old self.new stack.new) }
         ensures objects { AddsConstants store.old.made store.new.made }
         ensures unchanged { store.new ≡ record store.old { made = store.new.made } }
     {
         match op {
-            Instruction::LoadConst => self.load_const(stack, alloc, code, store, arg as usize),
-            Instruction::LoadFast => self.load_fast(stack, alloc, code, names, arg as usize),
+            Instruction::LoadConst => self.load_const(stack, scene, store, arg as usize),
+            Instruction::LoadFast => self.load_fast(stack, scene, arg as usize),
             Instruction::StoreFast => Ok(self.store_fast(stack, arg as usize)),
-            Instruction::DeleteFast => self.delete_fast(stack, alloc, code, names, arg as usize),
+            Instruction::DeleteFast => self.delete_fast(stack, scene, arg as usize),
             Instruction::CallFunctionPositional => {
-                self.call_function(stack, alloc, store, arg as usize)
+                self.call_function(stack, scene.alloc, store, arg as usize)
             }
             Instruction::Jump => Ok(self.transfers(stack, arg)),
             Instruction::JumpIfTrue | Instruction::JumpIfFalse => Ok(self.asks_truth(stack)),
@@ -92,7 +87,7 @@ impl FrameCore {
             Instruction::Break => Ok(self.unwind(stack, UnwindReason::Break(arg))),
             Instruction::Continue => Ok(self.unwind(stack, UnwindReason::Continue(arg))),
             Instruction::ReturnValue => Ok(self.return_value(stack)),
-            Instruction::ReturnConst => self.return_const(stack, alloc, code, store, arg as usize),
+            Instruction::ReturnConst => self.return_const(stack, scene, store, arg as usize),
             Instruction::YieldValue => Ok(self.yield_value(stack)),
             Instruction::ExtendedArg => Ok(self.extends(stack, arg)),
             Instruction::Pop
@@ -103,7 +98,7 @@ impl FrameCore {
             | Instruction::BinaryOperation
             | Instruction::CompareOperation
             | Instruction::TestOperation
-            | Instruction::PrintExpr => self.ask_once(stack, alloc, code, names, op, arg),
+            | Instruction::PrintExpr => self.ask_once(stack, scene, op, arg),
             _ => unreachable!(),
         }
     }
@@ -111,7 +106,7 @@ impl FrameCore {
     /// Keeps the argument of a prefix for the next unit.
     fn extends<S: ValueStack>(&mut self, stack: &S, arg: u32) -> UnitStep
         requires { self.old.state.at + 1 < 2 ^ 32 }
-        ensures { Does (λ s. Goes (record (next s) { prefix = arg })) (over self.old (S.list stack.now) (S.room stack.now)) result (over self.new (S.list stack.now) (S.room stack.now)) }
+        ensures { Does S.seen (extends arg) self.old stack.now result self.new stack.now }
     {
         self.goes_on();
         self.keeps(OpArg(arg));

@@ -1,6 +1,6 @@
 //! Frames.
 
-ghost use Rattle.std.specs.Prelude.{ℕ, ◌≡◌, ◌-◌, ◌≤◌, ◌++◌, [], length, slice_get, slice_set, Some, IfOk};
+ghost use Rattle.std.specs.Prelude.{ℕ, ◌≡◌, ◌-◌, ◌≤◌, [], length, slice_get, slice_set, Some, IfOk};
 ghost use Rattle.py_objects.specs.declared.payload.Payload.TheVariants as payload;
 ghost use Rattle.py_objects.specs.Objects.{HasPayload};
 ghost use Rattle.py_objects.specs.Growth.{GrowsPlainly};
@@ -10,17 +10,18 @@ ghost use Rattle.py_rows.specs.Below.{HearsBelow, TellsBelow};
 ghost use Rattle.py_rows.specs.declared.expect.Expect.TheVariants as expect;
 ghost use Rattle.py_frame.specs.Added.{AddsConstants, ClassesAreThere};
 ghost use Rattle.py_frame.specs.Exits.{TellsExit};
-ghost use Rattle.py_frame.specs.Frames.{frame_object, handed, setting_of, unfilled};
-ghost use Rattle.py_frame.specs.Steps.{Expects, Extends, IfTold, KeepsFirst, NamesHandled, events, expected, heard, hearing, told};
+ghost use Rattle.py_frame.specs.Frames.{frame_object, handed, setting, unfilled};
+ghost use Rattle.py_frame.specs.Steps.{Expects, KeepsFirst, NamesHandled, events, expected, heard, hearing};
 ghost use Rattle.py_rows.specs.Laws.{AllMayTell};
-ghost use Rattle.py_frame.specs.Running.{IsRunning, IsSame, SlotFits};
+ghost use Rattle.py_frame.specs.Running.{GoesOn, IsRunning, IsSame, SlotFits, told_by};
 
 use crate::filled::Filled;
 use crate::frame_core::FrameCore;
 use crate::input::{FrameStep, Input};
+use crate::scene::Scene;
 use py_check::CheckedCode;
-use py_code::{Names, NoMemory, OpArgState};
-use py_exceptions::{ExceptionStack, ExceptionZoo};
+use py_code::{NoMemory, OpArgState};
+use py_exceptions::ExceptionStack;
 use py_objects::{FrameRef, ObjList, PyBaseExceptionRef, PyObjectRef, Scope, Store};
 use py_rows::Expect;
 use py_stack::ValueStack;
@@ -39,7 +40,7 @@ impl<S: ValueStack> Model for Frame<S> {
 
     ghost Value = { Framed };
 
-    ghost view = { λ f. over f.core (S.list f.stack) (S.room f.stack) };
+    ghost view = { λ f. over f.core (S.seen f.stack) };
 }
 
 impl<S: ValueStack + Drop> Frame<S> {
@@ -58,9 +59,9 @@ impl<S: ValueStack + Drop> Frame<S> {
     ) -> Result<Frame<S>, NoMemory>
         requires entry { HasPayload store.old.made (frame_object frame) (payload.Frame number) }
         requires cells { length closure ≡ length code.now.code.code.freevars.items }
-        requires empty { S.list stack ≡ [] }
-        requires room { code.now.code.code.max_stackdepth ≤ S.room stack }
-        ensures frame { IfOk result (λ made. made ≡ unfilled code.now number frame scope closure (S.room stack) made.block_room) }
+        requires empty { (S.seen stack).list ≡ [] }
+        requires room { code.now.code.code.max_stackdepth ≤ (S.seen stack).room }
+        ensures frame { IfOk result (λ made. made ≡ unfilled code.now number frame scope closure (S.seen stack).room made.block_room) }
         ensures blocks { IfOk result (λ made. deepest code.now.notes ≤ made.block_room) }
         ensures store { store.new ≡ store.old }
     {
@@ -104,34 +105,30 @@ impl<S: ValueStack + Drop> Frame<S> {
     }
 
     /// Takes an input, and runs units until one tells an event. A constant that is loaded is a new object. Where memory
-    /// runs out the frame has ended. Of the slots it works on the top one alone. The built-in classes aren't needed until a
-    /// frame makes exceptions itself.
+    /// runs out the frame has ended. Of the slots it works on the top one alone.
     pub fn step(
         &mut self,
-        alloc: Global,
-        code: &CheckedCode,
-        names: &Names,
+        scene: &Scene<'_>,
         store: &mut Store,
-        _zoo: &ExceptionZoo,
         slots: &mut ExceptionStack,
         input: Input,
     ) -> FrameStep
-        requires running { IsRunning store.old.made names.now code.now self.old }
+        requires running { IsRunning store.old.made scene.now.names scene.now.code self.old }
         // The class of each exception is an object that is there, since an exit may be told it.
         requires classes { ClassesAreThere store.old.made }
         // The top slot is as the frame's last step left it, before the first step any.
         requires slots { SlotFits store.old.made self.old.state (top_of slots.old) }
         // The input is one that the frame expects: an answer is as it was wanted. It names objects. Here and below, k is
         // whatever number its event has in the journal.
-        requires expected { Expects store.old.made (setting_of names.now code.now self.old) self.old.state.wants input }
+        requires expected { Expects store.old.made (setting scene.now self.old) self.old.state.wants input }
         requires named { (k : ℕ) → HearsBelow (length store.old.made) (events (heard k input)) }
         // The run so far goes on, by what was heard and the one event that is told.
-        ensures extends { (k : ℕ) → IfTold result (Extends store.new.made (setting_of names.now code.now self.old) (handed (top_of slots.old) self.old.state) (events (heard k input) ++ events (told (self.new.state.last - 1) result)) self.new.state) }
+        ensures extends { GoesOn store.new.made scene.now (top_of slots.old) self.old input result self.new }
         ensures expects { self.new.state.wants ≡ expected result }
         ensures own { NamesHandled self.new.state result }
         // What is asked, the instruction of its unit may ask; only YieldValue yields; a raise is one of an exception.
-        ensures may { AllMayTell store.new.made code.now.code (events (told (self.new.state.last - 1) result)) }
-        ensures told { TellsBelow (length store.new.made) (events (told (self.new.state.last - 1) result)) }
+        ensures may { AllMayTell store.new.made scene.now.code.code (told_by self.new result) }
+        ensures told { TellsBelow (length store.new.made) (told_by self.new result) }
         // Where an exit is asked that is told an exception, its traceback is what the store says of that exception: the one
         // that it has, where that is a traceback, and else a None.
         ensures traceback { TellsExit store.old store.new result }
@@ -141,7 +138,7 @@ impl<S: ValueStack + Drop> Frame<S> {
         // What the top slot held when the frame was entered it holds again where the frame has ended, also where memory ran out.
         ensures given_back { KeepsFirst (handed (top_of slots.old) self.old.state) self.new.state }
         // The frame runs as before, or has ended.
-        ensures running { IsRunning store.new.made names.now code.now self.new }
+        ensures running { IsRunning store.new.made scene.now.names scene.now.code self.new }
         ensures same { IsSame self.old self.new }
         // Also where memory ran out, nothing was declared, and nothing changed. What came are objects of constants, so the
         // classes of exceptions are still there.
@@ -151,9 +148,7 @@ impl<S: ValueStack + Drop> Frame<S> {
         ensures unchanged { store.new ≡ record store.old { made = store.new.made } }
     {
         let slot = slots.current_exception();
-        let step = self
-            .core
-            .step(&mut self.stack, alloc, code, names, store, slot, input);
+        let step = self.core.step(&mut self.stack, scene, store, slot, input);
         slots.set_exception(self.core.slot());
         step
     }

@@ -3,8 +3,7 @@
 ghost use Rattle.std.specs.Prelude.{◌+◌, ◌^◌, ◌<◌};
 ghost use Rattle.py_rows.specs.Receiving.{jumps_if};
 ghost use Rattle.py_rows.specs.Rows.{asks_truth};
-ghost use Rattle.py_frame.specs.Frames.{over};
-ghost use Rattle.py_frame.specs.UnitSteps.{CanDo, Does};
+ghost use Rattle.py_frame.specs.Cores.{CanDo, Does};
 
 use crate::frame_core::FrameCore;
 use crate::unit_step::UnitStep;
@@ -14,8 +13,8 @@ use py_stack::ValueStack;
 impl FrameCore {
     /// Asks for the truth of the top, by which it will jump or not.
     pub(crate) fn asks_truth<S: ValueStack>(&mut self, stack: &mut S) -> UnitStep
-        requires safe { let f = over self.old (S.list stack.old) (S.room stack.old) in CanDo f (asks_truth f.state) }
-        ensures { Does (asks_truth) (over self.old (S.list stack.old) (S.room stack.old)) result (over self.new (S.list stack.new) (S.room stack.new)) }
+        requires safe { CanDo S.seen asks_truth self.old stack.old }
+        ensures { Does S.seen asks_truth self.old stack.old result self.new stack.new }
     {
         let value = stack.pop();
         self.asks(stack, Request::Truth(value))
@@ -29,7 +28,7 @@ impl FrameCore {
         label: u32,
     ) -> UnitStep
         requires next { self.old.state.at + 1 < 2 ^ 32 }
-        ensures { Does (jumps_if jumps label) (over self.old (S.list stack.old) (S.room stack.old)) result (over self.new (S.list stack.new) (S.room stack.new)) }
+        ensures { Does S.seen (jumps_if jumps label) self.old stack.old result self.new stack.new }
     {
         if jumps {
             return self.transfers(stack, label);

@@ -1,10 +1,10 @@
 //! Managers that are entered.
 
 ghost use Rattle.std.specs.Prelude.{◌+◌, ◌^◌, ◌<◌};
-ghost use Rattle.py_rows.specs.Receiving.{entered, enters};
+ghost use Rattle.py_rows.specs.Receiving.{entered};
 ghost use Rattle.py_rows.specs.Rows.{asks_enter};
-ghost use Rattle.py_frame.specs.Frames.{over};
-ghost use Rattle.py_frame.specs.UnitSteps.{CanDo, CanMove, Does, MayDo};
+ghost use Rattle.py_frame.specs.Cores.{CanDo, CanMove, Does, MayDo};
+ghost use Rattle.py_frame.specs.UnitRows.{enters_manager};
 
 use crate::frame_core::FrameCore;
 use crate::objects::is_manager;
@@ -16,8 +16,8 @@ use py_stack::ValueStack;
 impl FrameCore {
     /// Asks to enter the manager on the top, which stays.
     pub(crate) fn asks_enter<S: ValueStack>(&mut self, stack: &mut S) -> UnitStep
-        requires safe { let f = over self.old (S.list stack.old) (S.room stack.old) in CanDo f (asks_enter f.state) }
-        ensures { Does (asks_enter) (over self.old (S.list stack.old) (S.room stack.old)) result (over self.new (S.list stack.new) (S.room stack.new)) }
+        requires safe { CanDo S.seen asks_enter self.old stack.old }
+        ensures { Does S.seen asks_enter self.old stack.old result self.new stack.new }
     {
         let manager = stack.top();
         self.asks(stack, Request::Enter(manager))
@@ -32,8 +32,8 @@ impl FrameCore {
         value: PyObjectRef,
     ) -> UnitStep
         requires next { self.old.state.at + 1 < 2 ^ 32 }
-        requires safe { let f = over self.old (S.list stack.old) (S.room stack.old) in CanMove store.now.made f (enters f.state.phase handler value f.state) }
-        ensures { MayDo store.now.made (λ s. enters s.phase handler value s) (over self.old (S.list stack.old) (S.room stack.old)) result (over self.new (S.list stack.new) (S.room stack.new)) }
+        requires safe { CanMove S.seen store.now.made (enters_manager handler value) self.old stack.old }
+        ensures { MayDo S.seen store.now.made (enters_manager handler value) self.old stack.old result self.new stack.new }
     {
         let manager = stack.top();
         if is_manager(store, manager) {
@@ -51,8 +51,8 @@ impl FrameCore {
         value: PyObjectRef,
     ) -> UnitStep
         requires next { self.old.state.at + 1 < 2 ^ 32 }
-        requires safe { let f = over self.old (S.list stack.old) (S.room stack.old) in CanDo f (entered handler value f.state) }
-        ensures { Does (entered handler value) (over self.old (S.list stack.old) (S.room stack.old)) result (over self.new (S.list stack.new) (S.room stack.new)) }
+        requires safe { CanDo S.seen (entered handler value) self.old stack.old }
+        ensures { Does S.seen (entered handler value) self.old stack.old result self.new stack.new }
     {
         self.opens(stack, BlockType::Finally { handler });
         stack.push(value);

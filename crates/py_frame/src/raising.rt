@@ -1,11 +1,7 @@
 //! Raises.
 
-ghost use Rattle.std.specs.Prelude.{◌<◌, slice_get};
-ghost use Rattle.py_code.specs.Operators.{raise_kinds};
-ghost use Rattle.py_rows.specs.Receiving.{causes, raised};
-ghost use Rattle.py_rows.specs.Rows.{raises};
-ghost use Rattle.py_frame.specs.Frames.{over};
-ghost use Rattle.py_frame.specs.UnitSteps.{CanDo, Does};
+ghost use Rattle.py_frame.specs.Cores.{CanDo, Does};
+ghost use Rattle.py_frame.specs.UnitRows.{causes_with, raises_answer, raises_as};
 
 use crate::frame_core::FrameCore;
 use crate::objects::as_exception;
@@ -18,8 +14,8 @@ use py_stack::ValueStack;
 impl FrameCore {
     /// Asks for the exception that is raised, or first for what its cause makes.
     pub(crate) fn raises<S: ValueStack>(&mut self, stack: &mut S, kind: u32) -> UnitStep
-        requires safe { let f = over self.old (S.list stack.old) (S.room stack.old) in CanDo f (raises (slice_get raise_kinds kind) f.state) }
-        ensures { Does (raises (slice_get raise_kinds kind)) (over self.old (S.list stack.old) (S.room stack.old)) result (over self.new (S.list stack.new) (S.room stack.new)) }
+        requires safe { CanDo S.seen (raises_as kind) self.old stack.old }
+        ensures { Does S.seen (raises_as kind) self.old stack.old result self.new stack.new }
     {
         let Ok(kind) = RaiseKind::try_from(kind) else {
             unreachable!();
@@ -44,8 +40,8 @@ impl FrameCore {
         kind: u32,
         value: PyObjectRef,
     ) -> UnitStep
-        requires safe { let f = over self.old (S.list stack.old) (S.room stack.old) in CanDo f (raised (slice_get raise_kinds kind) value f.state) }
-        ensures { Does (raised (slice_get raise_kinds kind) value) (over self.old (S.list stack.old) (S.room stack.old)) result (over self.new (S.list stack.new) (S.room stack.new)) }
+        requires safe { CanDo S.seen (raises_answer kind value) self.old stack.old }
+        ensures { Does S.seen (raises_answer kind value) self.old stack.old result self.new stack.new }
     {
         let Ok(kind) = RaiseKind::try_from(kind) else {
             unreachable!();
@@ -60,8 +56,8 @@ impl FrameCore {
 
     /// Asks for the exception behind its cause, and raises it.
     fn causes<S: ValueStack>(&mut self, stack: &mut S, value: PyObjectRef) -> UnitStep
-        requires safe { let f = over self.old (S.list stack.old) (S.room stack.old) in CanDo f (causes f.state.phase value f.state) }
-        ensures { Does (λ s. causes s.phase value s) (over self.old (S.list stack.old) (S.room stack.old)) result (over self.new (S.list stack.new) (S.room stack.new)) }
+        requires safe { CanDo S.seen (causes_with value) self.old stack.old }
+        ensures { Does S.seen (causes_with value) self.old stack.old result self.new stack.new }
     {
         if self.phase() == 0 {
             let raised = stack.pop();

@@ -5,44 +5,42 @@ ghost use Rattle.py_rows.specs.Below.{HearsBelow};
 ghost use Rattle.py_rows.specs.Laws.{IsMoving};
 ghost use Rattle.py_frame.specs.Added.{AddsConstants, ClassesAreThere};
 ghost use Rattle.py_frame.specs.Exits.{TellsExit};
-ghost use Rattle.py_frame.specs.Frames.{over, setting_of};
+ghost use Rattle.py_frame.specs.Cores.{Cut, KeepsFrame, Running, Stepped, Told};
+ghost use Rattle.py_frame.specs.Frames.{setting};
 ghost use Rattle.py_frame.specs.Steps.{Expects, events, heard, hearing};
-ghost use Rattle.py_frame.specs.Running.{HasTold, IsCut, IsRunning, IsSame, IsStepped, SlotFits};
+ghost use Rattle.py_frame.specs.Running.{SlotFits};
 
 use crate::frame_core::FrameCore;
 use crate::input::{FrameStep, Input};
+use crate::scene::Scene;
 use crate::unit_step::UnitStep;
-use py_check::CheckedCode;
-use py_code::{Names, NoMemory};
+use py_code::NoMemory;
 use py_objects::{GotAnswer, PyBaseExceptionRef, Store};
 use py_rows::Expect;
 use py_stack::ValueStack;
-use std::alloc::Global;
 
 impl FrameCore {
     /// Takes an input, and goes on until a unit tells an event. Where memory runs out the frame has ended.
     pub(crate) fn step<S: ValueStack>(
         &mut self,
         stack: &mut S,
-        alloc: Global,
-        code: &CheckedCode,
-        names: &Names,
+        scene: &Scene<'_>,
         store: &mut Store,
         slot: Option<PyBaseExceptionRef>,
         input: Input,
     ) -> FrameStep
-        requires running { IsRunning store.old.made names.now code.now (over self.old (S.list stack.old) (S.room stack.old)) }
+        requires running { Running S.seen store.old.made scene.now self.old stack.old }
         requires classes { ClassesAreThere store.old.made }
         requires slot { SlotFits store.old.made self.old.state slot }
-        requires expected { Expects store.old.made (setting_of names.now code.now self.old) self.old.state.wants input }
+        requires expected { Expects store.old.made (setting scene.now self.old) self.old.state.wants input }
         requires named { (k : ℕ) → HearsBelow (length store.old.made) (events (heard k input)) }
-        ensures stepped { IsStepped store.new.made names.now code.now slot input (over self.old (S.list stack.old) (S.room stack.old)) result (over self.new (S.list stack.new) (S.room stack.new)) }
+        ensures stepped { Stepped S.seen store.new.made scene.now slot input self.old stack.old result self.new stack.new }
         ensures traceback { TellsExit store.old store.new result }
         ensures objects { AddsConstants store.old.made store.new.made }
         ensures unchanged { store.new ≡ record store.old { made = store.new.made } }
     {
         self.hear(slot, input);
-        match self.run(stack, alloc, code, names, store) {
+        match self.run(stack, scene, store) {
             Ok(step) => step,
             Err(NoMemory) => {
                 self.gives_up();
@@ -73,23 +71,21 @@ impl FrameCore {
     fn run<S: ValueStack>(
         &mut self,
         stack: &mut S,
-        alloc: Global,
-        code: &CheckedCode,
-        names: &Names,
+        scene: &Scene<'_>,
         store: &mut Store,
     ) -> Result<FrameStep, NoMemory>
-        requires running { IsRunning store.old.made names.now code.now (over self.old (S.list stack.old) (S.room stack.old)) }
+        requires running { Running S.seen store.old.made scene.now self.old stack.old }
         requires moving { IsMoving self.old.state.wants }
         requires classes { ClassesAreThere store.old.made }
-        ensures told { IfOk result (λ step. HasTold store.new.made names.now code.now (over self.old (S.list stack.old) (S.room stack.old)) step (over self.new (S.list stack.new) (S.room stack.new))) }
-        ensures cut { OnErr result (IsCut store.new.made code.now (over self.old (S.list stack.old) (S.room stack.old)) (over self.new (S.list stack.new) (S.room stack.new))) }
-        ensures same { IsSame (over self.old (S.list stack.old) (S.room stack.old)) (over self.new (S.list stack.new) (S.room stack.new)) }
+        ensures told { IfOk result (λ step. Told S.seen store.new.made scene.now self.old stack.old step self.new stack.new) }
+        ensures cut { OnErr result (Cut S.seen store.new.made scene.now self.old stack.old self.new stack.new) }
+        ensures same { KeepsFrame S.seen self.old stack.old self.new stack.new }
         ensures traceback { IfOk result (λ step. TellsExit store.old store.new step) }
         ensures objects { AddsConstants store.old.made store.new.made }
         ensures unchanged { store.new ≡ record store.old { made = store.new.made } }
     {
         'silent: loop {
-            match self.moves(stack, alloc, code, names, store)? {
+            match self.moves(stack, scene, store)? {
                 UnitStep::Goes => {}
                 UnitStep::Tells(step) => return Ok(step),
             }

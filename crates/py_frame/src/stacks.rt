@@ -1,7 +1,7 @@
 //! What units do with several values of a stack at once.
 
 ghost use Rattle.std.specs.Prelude.{◌≡◌, ◌+◌, ◌<◌, ◌≤◌, ◌∷◌, length, take, drop, reverse, IfOk, OnOk, OnErr};
-ghost use Rattle.py_code.specs.Bottom.{bottom};
+ghost use Rattle.py_stack.specs.Stacks.{bottom, places};
 
 use py_code::NoMemory;
 use py_objects::{ObjList, PyObjectRef};
@@ -10,8 +10,8 @@ use std::alloc::Global;
 
 /// Takes all but the lowest `level` values off, where there are more.
 pub(crate) fn lower<S: ValueStack>(stack: &mut S, level: usize)
-    ensures list { S.list stack.new ≡ bottom level (S.list stack.old) }
-    ensures room { length (S.list stack.new) + S.room stack.new ≡ length (S.list stack.old) + S.room stack.old }
+    ensures list { (S.seen stack.new).list ≡ bottom level (S.seen stack.old).list }
+    ensures room { places (S.seen stack.new) ≡ places (S.seen stack.old) }
 {
     let level = level.min(stack.len());
     stack.truncate(level);
@@ -19,9 +19,9 @@ pub(crate) fn lower<S: ValueStack>(stack: &mut S, level: usize)
 
 /// Takes the top two values off, and hands over first the lower one.
 pub(crate) fn pop_two<S: ValueStack>(stack: &mut S) -> (PyObjectRef, PyObjectRef)
-    requires { 1 < length (S.list stack.old) }
-    ensures list { S.list stack.old ≡ result.1 ∷ result.0 ∷ S.list stack.new }
-    ensures room { S.room stack.new ≡ S.room stack.old + 2 }
+    requires { 1 < length (S.seen stack.old).list }
+    ensures list { (S.seen stack.old).list ≡ result.1 ∷ result.0 ∷ (S.seen stack.new).list }
+    ensures room { (S.seen stack.new).room ≡ (S.seen stack.old).room + 2 }
 {
     let upper = stack.pop();
     let lower = stack.pop();
@@ -34,12 +34,11 @@ pub(crate) fn pop_many<S: ValueStack>(
     alloc: Global,
     count: usize,
 ) -> Result<ObjList, NoMemory>
-    requires { count ≤ length (S.list stack.old) }
-    ensures values { IfOk result (λ values. values ≡ reverse (take count (S.list stack.old))) }
-    ensures list { OnOk result (S.list stack.new ≡ drop count (S.list stack.old)) }
-    ensures room { OnOk result (length (S.list stack.new) + S.room stack.new ≡ length (S.list stack.old) + S.room stack.old) }
-    ensures err_list { OnErr result (S.list stack.new ≡ S.list stack.old) }
-    ensures err_room { OnErr result (S.room stack.new ≡ S.room stack.old) }
+    requires { count ≤ length (S.seen stack.old).list }
+    ensures values { IfOk result (λ values. values ≡ reverse (take count (S.seen stack.old).list)) }
+    ensures list { OnOk result ((S.seen stack.new).list ≡ drop count (S.seen stack.old).list) }
+    ensures room { OnOk result (places (S.seen stack.new) ≡ places (S.seen stack.old)) }
+    ensures err { OnErr result (S.seen stack.new ≡ S.seen stack.old) }
 {
     let from = stack.len() - count;
     stack.drain(alloc, from)

@@ -1,24 +1,20 @@
 //! Instructions that the table of effects describes.
 
-ghost use Rattle.std.specs.Prelude.{◌≡◌, ◌+◌, ◌^◌, ◌<◌, length, slice_get, Some, true, IfOk, OnOk, OnErr};
-ghost use Rattle.py_code.specs.Operators.{test_operators};
-ghost use Rattle.py_check.specs.Effects.{effect};
-ghost use Rattle.py_rows.specs.Asked.{asked, name_in, on_two, tests};
-ghost use Rattle.py_rows.specs.States.{with_stack};
-ghost use Rattle.py_rows.specs.Rows.{asks, asks_once, is_there};
-ghost use Rattle.py_frame.specs.Frames.{over, setting_in};
-ghost use Rattle.py_frame.specs.UnitSteps.{CanDo, Does, asks_by, moves_by};
+ghost use Rattle.std.specs.Prelude.{◌≡◌, ◌+◌, ◌^◌, ◌<◌, Some, true, IfOk, OnOk, OnErr};
+ghost use Rattle.py_stack.specs.Stacks.{places};
+ghost use Rattle.py_rows.specs.Rows.{is_there};
+ghost use Rattle.py_frame.specs.Cores.{Asks, CanDo, Does, IsUnchanged};
+ghost use Rattle.py_frame.specs.UnitRows.{asks_as, asks_test, global_name, moves_as};
 
 use crate::frame_core::FrameCore;
+use crate::scene::Scene;
 use crate::stacks::pop_two;
 use crate::unit_step::UnitStep;
 use py_code::{
-    BinaryOperator, ComparisonOperator, Instruction, Names, NoMemory, PyCode, PyText, TestOperator,
-    text_of_str,
+    BinaryOperator, ComparisonOperator, Instruction, NoMemory, PyText, TestOperator, text_of_str,
 };
 use py_objects::Request;
 use py_stack::ValueStack;
-use std::alloc::Global;
 
 impl FrameCore {
     /// Moves entries of the stack.
@@ -29,8 +25,8 @@ impl FrameCore {
         arg: u32,
     ) -> UnitStep
         requires next { self.old.state.at + 1 < 2 ^ 32 }
-        requires safe { let f = over self.old (S.list stack.old) (S.room stack.old) in CanDo f (moves_by (effect op arg) f.state) }
-        ensures { Does (moves_by (effect op arg)) (over self.old (S.list stack.old) (S.room stack.old)) result (over self.new (S.list stack.new) (S.room stack.new)) }
+        requires safe { CanDo S.seen (moves_as op arg) self.old stack.old }
+        ensures { Does S.seen (moves_as op arg) self.old stack.old result self.new stack.new }
     {
         match op {
             Instruction::Pop => {
@@ -62,17 +58,15 @@ impl FrameCore {
     pub(crate) fn ask_once<S: ValueStack>(
         &mut self,
         stack: &mut S,
-        alloc: Global,
-        code: &PyCode,
-        names: &Names,
+        scene: &Scene<'_>,
         op: Instruction,
         arg: u32,
     ) -> Result<UnitStep, NoMemory>
-        requires safe { let f = over self.old (S.list stack.old) (S.room stack.old) in CanDo f (asks_by (effect op arg) (asked (setting_in code.now names.now f) op arg) f.state) }
-        ensures row { IfOk result (λ step. Does (asks_by (effect op arg) (asked (setting_in code.now names.now self.old) op arg)) (over self.old (S.list stack.old) (S.room stack.old)) step (over self.new (S.list stack.new) (S.room stack.new))) }
-        ensures err { OnErr result (over self.new (S.list stack.new) (S.room stack.new) ≡ over self.old (S.list stack.old) (S.room stack.old)) }
+        requires safe { CanDo S.seen (asks_as scene.now self.old op arg) self.old stack.old }
+        ensures row { IfOk result (λ step. Does S.seen (asks_as scene.now self.old op arg) self.old stack.old step self.new stack.new) }
+        ensures err { OnErr result (IsUnchanged S.seen self.old stack.old self.new stack.new) }
     {
-        let request = self.request(stack, alloc, code, names, op, arg)?;
+        let request = self.request(stack, scene, op, arg)?;
         Ok(self.asks(stack, request))
     }
 
@@ -80,21 +74,18 @@ impl FrameCore {
     fn request<S: ValueStack>(
         &self,
         stack: &mut S,
-        alloc: Global,
-        code: &PyCode,
-        names: &Names,
+        scene: &Scene<'_>,
         op: Instruction,
         arg: u32,
     ) -> Result<Request, NoMemory>
-        requires safe { let f = over self.now (S.list stack.old) (S.room stack.old) in CanDo f (asks_by (effect op arg) (asked (setting_in code.now names.now f) op arg) f.state) }
-        ensures request { IfOk result (λ request. asks_by (effect op arg) (asked (setting_in code.now names.now self.now) op arg) (with_stack (S.list stack.old) self.now.state) ≡ asks request (with_stack (S.list stack.new) self.now.state)) }
-        ensures places { OnOk result (length (S.list stack.new) + S.room stack.new ≡ length (S.list stack.old) + S.room stack.old) }
-        ensures err_list { OnErr result (S.list stack.new ≡ S.list stack.old) }
-        ensures err_room { OnErr result (S.room stack.new ≡ S.room stack.old) }
+        requires safe { CanDo S.seen (asks_as scene.now self.now op arg) self.now stack.old }
+        ensures request { IfOk result (λ request. Asks S.seen (asks_as scene.now self.now op arg) self.now stack.old request stack.new) }
+        ensures places { OnOk result (places (S.seen stack.new) ≡ places (S.seen stack.old)) }
+        ensures err { OnErr result (S.seen stack.new ≡ S.seen stack.old) }
     {
         match op {
             Instruction::LoadGlobal => {
-                let name = name_of_global(alloc, code, names, arg as usize)?;
+                let name = name_of_global(scene, arg as usize)?;
                 Ok(Request::Global(self.globals(), name))
             }
             Instruction::BinaryOperation => {
@@ -119,9 +110,9 @@ impl FrameCore {
 
     /// A test of the top two values, the left one of which lies lower.
     fn test_request<S: ValueStack>(&self, stack: &mut S, arg: u32) -> Request
-        requires { let f = over self.now (S.list stack.old) (S.room stack.old) in CanDo f (asks_once 2 (λ vs. on_two (λ a b. tests (slice_get test_operators arg) a b) vs) f.state) }
-        ensures request { asks_once 2 (λ vs. on_two (λ a b. tests (slice_get test_operators arg) a b) vs) (with_stack (S.list stack.old) self.now.state) ≡ asks result (with_stack (S.list stack.new) self.now.state) }
-        ensures places { length (S.list stack.new) + S.room stack.new ≡ length (S.list stack.old) + S.room stack.old }
+        requires { CanDo S.seen (asks_test arg) self.now stack.old }
+        ensures request { Asks S.seen (asks_test arg) self.now stack.old result stack.new }
+        ensures places { places (S.seen stack.new) ≡ places (S.seen stack.old) }
     {
         let Ok(operator) = TestOperator::try_from(arg) else {
             unreachable!();
@@ -135,17 +126,12 @@ impl FrameCore {
 }
 
 /// The name of a global.
-fn name_of_global(
-    alloc: Global,
-    code: &PyCode,
-    names: &Names,
-    place: usize,
-) -> Result<PyText, NoMemory>
-    requires { is_there (name_in names.now (slice_get code.now.code.names.items place)) ≡ true }
-    ensures { IfOk result (λ name. name_in names.now (slice_get code.now.code.names.items place) ≡ Some name) }
+fn name_of_global(scene: &Scene<'_>, place: usize) -> Result<PyText, NoMemory>
+    requires { is_there (global_name scene.now place) ≡ true }
+    ensures { IfOk result (λ name. global_name scene.now place ≡ Some name) }
 {
-    match code.code.names.get(place) {
-        Some(id) => text_of_str(alloc, names.text(*id)),
+    match scene.parts().names.get(place) {
+        Some(id) => text_of_str(scene.alloc, scene.names.text(*id)),
         None => unreachable!(),
     }
 }

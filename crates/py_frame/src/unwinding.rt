@@ -1,12 +1,10 @@
 //! Leaving blocks.
 
-ghost use Rattle.std.specs.Prelude.{◌≡◌, ◌<◌, ◌∷◌, Some, None};
-ghost use Rattle.py_rows.specs.States.{Stuck, jumps};
-ghost use Rattle.py_rows.specs.Unwinding.{meets_except, meets_finally, unwind, unwinds};
-ghost use Rattle.py_rows.specs.declared.block.UnwindReason.TheVariants as reason;
-ghost use Rattle.py_frame.specs.Frames.{over};
-ghost use Rattle.py_frame.specs.Running.{IsSame};
-ghost use Rattle.py_frame.specs.UnitSteps.{CanDo, Does, passed};
+ghost use Rattle.std.specs.Prelude.{◌≡◌, ◌<◌, None};
+ghost use Rattle.py_rows.specs.States.{jumps};
+ghost use Rattle.py_rows.specs.Unwinding.{unwinds};
+ghost use Rattle.py_frame.specs.Cores.{CanDo, Does, KeepsFrame, Meets};
+ghost use Rattle.py_frame.specs.UnitRows.{catches, enters_handler, meets_block};
 
 use crate::frame_core::FrameCore;
 use crate::input::FrameStep;
@@ -20,7 +18,7 @@ use py_stack::ValueStack;
 impl FrameCore {
     /// Control goes from the unit that runs to a label. It is a round where that isn't later.
     pub(crate) fn transfers<S: ValueStack>(&mut self, stack: &S, label: u32) -> UnitStep
-        ensures { Does (jumps label) (over self.old (S.list stack.now) (S.room stack.now)) result (over self.new (S.list stack.now) (S.room stack.now)) }
+        ensures { Does S.seen (jumps label) self.old stack.now result self.new stack.now }
     {
         let later = self.unit() < label;
         self.lands(label);
@@ -40,8 +38,8 @@ impl FrameCore {
         handler: u32,
         exception: PyBaseExceptionRef,
     ) -> UnitStep
-        requires { let f = over self.old (S.list stack.old) (S.room stack.old) in CanDo f (meets_except (reason.Raising exception) handler level f.state.blocks f.state (λ t. Stuck)) }
-        ensures { Does (λ s. meets_except (reason.Raising exception) handler level s.blocks s (λ t. Stuck)) (over self.old (S.list stack.old) (S.room stack.old)) result (over self.new (S.list stack.new) (S.room stack.new)) }
+        requires { CanDo S.seen (catches handler level exception) self.old stack.old }
+        ensures { Does S.seen (catches handler level exception) self.old stack.old result self.new stack.new }
     {
         lower(stack, level);
         stack.push(as_object(exception));
@@ -63,8 +61,8 @@ impl FrameCore {
         handler: u32,
         reason: UnwindReason,
     ) -> UnitStep
-        requires { let f = over self.old (S.list stack.old) (S.room stack.old) in CanDo f (meets_finally reason handler level f.state.blocks f.state) }
-        ensures { Does (λ s. meets_finally reason handler level s.blocks s) (over self.old (S.list stack.old) (S.room stack.old)) result (over self.new (S.list stack.new) (S.room stack.new)) }
+        requires { CanDo S.seen (enters_handler handler level reason) self.old stack.old }
+        ensures { Does S.seen (enters_handler handler level reason) self.old stack.old result self.new stack.new }
     {
         lower(stack, level);
         let kept = self.slot();
@@ -88,10 +86,10 @@ impl FrameCore {
         block: Block,
         reason: UnwindReason,
     ) -> Option<UnitStep>
-        requires safe { let f = over self.old (S.list stack.old) (S.room stack.old) in CanDo f (unwind reason (block ∷ f.state.blocks) (record f.state { blocks = block ∷ f.state.blocks })) }
+        requires safe { CanDo S.seen (meets_block reason block) self.old stack.old }
         requires room { 0 < self.old.block_room }
-        ensures row { let f = over self.old (S.list stack.old) (S.room stack.old) in unwind reason (block ∷ f.state.blocks) (record f.state { blocks = block ∷ f.state.blocks }) ≡ passed f.state.at result reason (over self.new (S.list stack.new) (S.room stack.new)).state }
-        ensures same { IsSame (over self.old (S.list stack.old) (S.room stack.old)) (over self.new (S.list stack.new) (S.room stack.new)) }
+        ensures row { Meets S.seen reason block self.old stack.old result self.new stack.new }
+        ensures same { KeepsFrame S.seen self.old stack.old self.new stack.new }
         ensures at { result ≡ None → self.new.state.at ≡ self.old.state.at }
         ensures fewer { result ≡ None → self.new.state.blocks ≡ self.old.state.blocks }
     {
@@ -138,8 +136,8 @@ impl FrameCore {
     /// Leaves blocks for a reason, until one takes it or the frame ends.
     #[tactic(auto, unfolding(py_rows::specs::Unwinding::unwinds))]
     pub(crate) fn unwind<S: ValueStack>(&mut self, stack: &mut S, reason: UnwindReason) -> UnitStep
-        requires { let f = over self.old (S.list stack.old) (S.room stack.old) in CanDo f (unwinds reason f.state) }
-        ensures { Does (unwinds reason) (over self.old (S.list stack.old) (S.room stack.old)) result (over self.new (S.list stack.new) (S.room stack.new)) }
+        requires { CanDo S.seen (unwinds reason) self.old stack.old }
+        ensures { Does S.seen (unwinds reason) self.old stack.old result self.new stack.new }
     {
         'blocks_left: while let Some(block) = self.pop_block() {
             if let Some(step) = self.meet(stack, block, reason) {

@@ -1,7 +1,7 @@
 //! What holds of every stack.
 
-ghost use Rattle.std.specs.Prelude.{◌≡◌, ◌≢◌, ◌+◌, ◌<◌, ◌≤◌, ◌∷◌, ◌++◌, length, reverse, slice_get, slice_set, Some};
-ghost use Rattle.py_stack.specs.Stacks.{from_bottom};
+ghost use Rattle.std.specs.Prelude.{◌≡◌, ◌≢◌, ◌+◌, ◌<◌, ◌≤◌, ◌∷◌, ◌++◌, length, reverse, Some};
+ghost use Rattle.py_stack.specs.Stacks.{entry_at, with_entry};
 
 use crate::stack::ValueStack;
 use py_code::NoMemory;
@@ -10,10 +10,9 @@ use std::alloc::Global;
 
 /// Pushes a value and pops it again, which changes nothing.
 pub fn push_pop<S: ValueStack>(stack: &mut S, value: PyObjectRef) -> PyObjectRef
-    requires { 0 < S.room stack.old }
+    requires { 0 < (S.seen stack.old).room }
     ensures value { result ≡ value }
-    ensures list { S.list stack.new ≡ S.list stack.old }
-    ensures room { S.room stack.new ≡ S.room stack.old }
+    ensures same { S.seen stack.new ≡ S.seen stack.old }
 {
     stack.push(value);
     stack.pop()
@@ -21,10 +20,10 @@ pub fn push_pop<S: ValueStack>(stack: &mut S, value: PyObjectRef) -> PyObjectRef
 
 /// Pushes a value and finds it above all that lay there.
 pub fn push_at<S: ValueStack>(stack: &mut S, value: PyObjectRef) -> PyObjectRef
-    requires { 0 < S.room stack.old }
+    requires { 0 < (S.seen stack.old).room }
     ensures value { result ≡ value }
-    ensures list { S.list stack.new ≡ value ∷ S.list stack.old }
-    ensures room { S.room stack.new + 1 ≡ S.room stack.old }
+    ensures list { (S.seen stack.new).list ≡ value ∷ (S.seen stack.old).list }
+    ensures room { (S.seen stack.new).room + 1 ≡ (S.seen stack.old).room }
 {
     let index = stack.len();
     stack.push(value);
@@ -33,10 +32,10 @@ pub fn push_at<S: ValueStack>(stack: &mut S, value: PyObjectRef) -> PyObjectRef
 
 /// Puts a value in a place and finds it there.
 pub fn put_at<S: ValueStack>(stack: &mut S, index: usize, value: PyObjectRef) -> PyObjectRef
-    requires { index < length (S.list stack.old) }
+    requires { index < length (S.seen stack.old).list }
     ensures value { result ≡ value }
-    ensures list { S.list stack.new ≡ slice_set (S.list stack.old) (from_bottom index (S.list stack.old)) value }
-    ensures room { S.room stack.new ≡ S.room stack.old }
+    ensures list { (S.seen stack.new).list ≡ with_entry index value (S.seen stack.old).list }
+    ensures room { (S.seen stack.new).room ≡ (S.seen stack.old).room }
 {
     stack.put(index, value);
     stack.at(index)
@@ -49,12 +48,12 @@ pub fn put_beside<S: ValueStack>(
     value: PyObjectRef,
     other: usize,
 ) -> PyObjectRef
-    requires place { index < length (S.list stack.old) }
-    requires other { other < length (S.list stack.old) }
+    requires place { index < length (S.seen stack.old).list }
+    requires other { other < length (S.seen stack.old).list }
     requires beside { other ≢ index }
-    ensures entry { slice_get (S.list stack.old) (from_bottom other (S.list stack.old)) ≡ Some result }
-    ensures list { S.list stack.new ≡ slice_set (S.list stack.old) (from_bottom index (S.list stack.old)) value }
-    ensures room { S.room stack.new ≡ S.room stack.old }
+    ensures entry { entry_at other (S.seen stack.old).list ≡ Some result }
+    ensures list { (S.seen stack.new).list ≡ with_entry index value (S.seen stack.old).list }
+    ensures room { (S.seen stack.new).room ≡ (S.seen stack.old).room }
 {
     stack.put(index, value);
     stack.at(other)
@@ -62,9 +61,9 @@ pub fn put_beside<S: ValueStack>(
 
 /// Pushes values, the first of them first.
 pub fn push_all<S: ValueStack>(stack: &mut S, values: &[PyObjectRef])
-    requires { length values.now ≤ S.room stack.old }
-    ensures list { S.list stack.new ≡ reverse values.now ++ S.list stack.old }
-    ensures room { S.room stack.new + length values.now ≡ S.room stack.old }
+    requires { length values.now ≤ (S.seen stack.old).room }
+    ensures list { (S.seen stack.new).list ≡ reverse values.now ++ (S.seen stack.old).list }
+    ensures room { (S.seen stack.new).room + length values.now ≡ (S.seen stack.old).room }
 {
     for value in values {
         stack.push(*value);
@@ -73,9 +72,8 @@ pub fn push_all<S: ValueStack>(stack: &mut S, values: &[PyObjectRef])
 
 /// Pushes values and truncates to what lay there before, which changes nothing.
 pub fn push_truncate<S: ValueStack>(stack: &mut S, values: &[PyObjectRef])
-    requires { length values.now ≤ S.room stack.old }
-    ensures list { S.list stack.new ≡ S.list stack.old }
-    ensures room { S.room stack.new ≡ S.room stack.old }
+    requires { length values.now ≤ (S.seen stack.old).room }
+    ensures same { S.seen stack.new ≡ S.seen stack.old }
 {
     let len = stack.len();
     push_all(stack, values);
@@ -84,9 +82,8 @@ pub fn push_truncate<S: ValueStack>(stack: &mut S, values: &[PyObjectRef])
 
 /// Drains entries and pushes them back, which changes nothing, also where memory runs out.
 pub fn drain_push<S: ValueStack>(stack: &mut S, alloc: Global, from: usize) -> Result<(), NoMemory>
-    requires { from ≤ length (S.list stack.old) }
-    ensures list { S.list stack.new ≡ S.list stack.old }
-    ensures room { S.room stack.new ≡ S.room stack.old }
+    requires { from ≤ length (S.seen stack.old).list }
+    ensures same { S.seen stack.new ≡ S.seen stack.old }
 {
     let drained = stack.drain(alloc, from)?;
     push_all(stack, drained.as_slice());

@@ -40,9 +40,7 @@ impl OwnStack {
 }
 
 impl ValueStack for OwnStack {
-    ghost list = { λ s. s.list };
-
-    ghost room = { λ s. s.room };
+    ghost seen = { λ s. s };
 
     fn len(&self) -> usize {
         self.entries.len()

@@ -1,8 +1,7 @@
 //! What frames ask of a stack.
 
-ghost use Rattle.std.specs.Prelude.{◌≡◌, ℕ, ◌+◌, ◌<◌, ◌≤◌, List, ◌∷◌, length, slice_get, slice_set, Some, IfOk, OnOk, OnErr};
-ghost use Rattle.py_objects.specs.Objects.{Obj};
-ghost use Rattle.py_stack.specs.Stacks.{above, bottom, from_bottom};
+ghost use Rattle.std.specs.Prelude.{◌≡◌, ◌+◌, ◌<◌, ◌≤◌, ◌∷◌, length, slice_get, Some, IfOk, OnOk, OnErr};
+ghost use Rattle.py_stack.specs.Stacks.{Stack, above, bottom, entry_at, places, with_entry};
 
 use py_code::NoMemory;
 use py_objects::{ObjList, PyObjectRef};
@@ -10,60 +9,56 @@ use std::alloc::Global;
 
 /// A stack of objects in places that are there from the beginning: only `drain` may want memory.
 pub trait ValueStack {
-    // The entries, the top first.
-    ghost list: { Self → List Obj };
-
-    // The places that are left.
-    ghost room: { Self → ℕ };
+    // What a stack is seen as: its entries, the top first, and the places that are left.
+    ghost seen: { Self → Stack };
 
     /// How many entries there are.
     fn len(&self) -> usize
-        ensures { result ≡ length (list self.now) };
+        ensures { result ≡ length (seen self.now).list };
 
     /// How many more entries there is a place for.
     fn spare(&self) -> usize
-        ensures { result ≡ room self.now };
+        ensures { result ≡ (seen self.now).room };
 
     /// Puts a value on the top.
     fn push(&mut self, value: PyObjectRef)
-        requires { 0 < room self.old }
-        ensures list { list self.new ≡ value ∷ list self.old }
-        ensures room { room self.new + 1 ≡ room self.old };
+        requires { 0 < (seen self.old).room }
+        ensures list { (seen self.new).list ≡ value ∷ (seen self.old).list }
+        ensures room { (seen self.new).room + 1 ≡ (seen self.old).room };
 
     /// Takes the top off.
     fn pop(&mut self) -> PyObjectRef
-        requires { 0 < length (list self.old) }
-        ensures list { list self.old ≡ result ∷ list self.new }
-        ensures room { room self.new ≡ room self.old + 1 };
+        requires { 0 < length (seen self.old).list }
+        ensures list { (seen self.old).list ≡ result ∷ (seen self.new).list }
+        ensures room { (seen self.new).room ≡ (seen self.old).room + 1 };
 
     /// The top.
     fn top(&self) -> PyObjectRef
-        requires { 0 < length (list self.now) }
-        ensures { slice_get (list self.now) 0 ≡ Some result };
+        requires { 0 < length (seen self.now).list }
+        ensures { slice_get (seen self.now).list 0 ≡ Some result };
 
     /// Takes all but the lowest `len` entries off.
     fn truncate(&mut self, len: usize)
-        requires { len ≤ length (list self.old) }
-        ensures list { list self.new ≡ bottom len (list self.old) }
-        ensures room { room self.new + len ≡ room self.old + length (list self.old) };
+        requires { len ≤ length (seen self.old).list }
+        ensures list { (seen self.new).list ≡ bottom len (seen self.old).list }
+        ensures room { (seen self.new).room + len ≡ places (seen self.old) };
 
     /// The entry that has `index` others below it.
     fn at(&self, index: usize) -> PyObjectRef
-        requires { index < length (list self.now) }
-        ensures { slice_get (list self.now) (from_bottom index (list self.now)) ≡ Some result };
+        requires { index < length (seen self.now).list }
+        ensures { entry_at index (seen self.now).list ≡ Some result };
 
     /// Puts a value in the place of the entry that has `index` others below it.
     fn put(&mut self, index: usize, value: PyObjectRef)
-        requires { index < length (list self.old) }
-        ensures list { list self.new ≡ slice_set (list self.old) (from_bottom index (list self.old)) value }
-        ensures room { room self.new ≡ room self.old };
+        requires { index < length (seen self.old).list }
+        ensures list { (seen self.new).list ≡ with_entry index value (seen self.old).list }
+        ensures room { (seen self.new).room ≡ (seen self.old).room };
 
     /// Takes all but the lowest `from` entries off and hands them over, the lowest of them first.
     fn drain(&mut self, alloc: Global, from: usize) -> Result<ObjList, NoMemory>
-        requires { from ≤ length (list self.old) }
-        ensures drained { IfOk result (λ values. values ≡ above from (list self.old)) }
-        ensures list { OnOk result (list self.new ≡ bottom from (list self.old)) }
-        ensures room { OnOk result (room self.new + from ≡ room self.old + length (list self.old)) }
-        ensures err_list { OnErr result (list self.new ≡ list self.old) }
-        ensures err_room { OnErr result (room self.new ≡ room self.old) };
+        requires { from ≤ length (seen self.old).list }
+        ensures drained { IfOk result (λ values. values ≡ above from (seen self.old).list) }
+        ensures list { OnOk result ((seen self.new).list ≡ bottom from (seen self.old).list) }
+        ensures room { OnOk result ((seen self.new).room + from ≡ places (seen self.old)) }
+        ensures err { OnErr result (seen self.new ≡ seen self.old) };
 }

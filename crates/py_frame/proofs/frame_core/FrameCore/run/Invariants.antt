@@ -6,10 +6,10 @@ use Rattle.py_frame.proofs.frame_core.FrameCore.run.Given as goal
 
 abbrev pub invariant-silent : goal.invariant-silent
 invariant-silent g l = record {
-  run : IsSilent l.store.made l.names l.code (over l.fn.self (g.S.ValueStack.list l.fn.stack) (g.S.ValueStack.room l.fn.stack)) (over l.self (g.S.ValueStack.list l.stack) (g.S.ValueStack.room l.stack));
+  run : IsSilent l.store.made l.scene.names l.scene.code (over l.fn.self (g.S.ValueStack.seen l.fn.stack)) (over l.self (g.S.ValueStack.seen l.stack));
   grows : AddsConstants l.fn.store.made l.store.made;
   unchanged : l.store ≡ record l.fn.store { made = l.store.made };
 }
 
 abbrev pub decreases-silent : goal.decreases-silent
-decreases-silent g l = length l.code.code.code.instructions.items - l.self.state.at
+decreases-silent g l = length l.scene.code.code.code.instructions.items - l.self.state.at

@@ -8,25 +8,25 @@ use Rattle.py_frame.proofs.frame_core.FrameCore.step.Goals as goal
 
 pub run-requires-clause-running : goal.run-requires-clause-running
 run-requires-clause-running g c =
-    subst (λ (f : Framed). IsRunning c.args.store.now.made c.args.names.now c.args.code.now (over f (g.S.ValueStack.list c.args.stack.now) (g.S.ValueStack.room c.args.stack.now))) (sym c.hear.ensures)
-    (hearing_runs c.args.store.now.made c.args.names.now c.args.code.now (over c.args.self.now (g.S.ValueStack.list c.args.stack.now) (g.S.ValueStack.room c.args.stack.now)) c.args.slot c.args.input c.requires.running (record { below = c.requires.slot.below; left = c.requires.slot.left }) c.requires.expected 0 (c.requires.named 0))
+    subst (λ (f : Framed). IsRunning c.args.store.now.made c.args.scene.now.names c.args.scene.now.code (over f (g.S.ValueStack.seen c.args.stack.now))) (sym c.hear.ensures)
+    (hearing_runs c.args.store.now.made c.args.scene.now.names c.args.scene.now.code (over c.args.self.now (g.S.ValueStack.seen c.args.stack.now)) c.args.slot c.args.input c.requires.running (record { below = c.requires.slot.below; left = c.requires.slot.left }) c.requires.expected 0 (c.requires.named 0))
 
 pub run-requires-clause-moving : goal.run-requires-clause-moving
 run-requires-clause-moving g c =
     subst (λ (f : Framed). IsMoving f.state.wants) (sym c.hear.ensures)
-    (taken_moves c.args.store.now.made (setting_of c.args.names.now c.args.code.now c.args.self.now) c.args.self.now.state.wants c.args.input c.requires.expected)
+    (taken_moves c.args.store.now.made (setting_of c.args.scene.now.names c.args.scene.now.code c.args.self.now) c.args.self.now.state.wants c.args.input c.requires.expected)
 
 pub returns-in-Ok-clause-stepped : goal.returns-in-Ok-clause-stepped
 returns-in-Ok-clause-stepped g c =
-    stepped_told c.args.store.now.made c.run.new.store.made c.args.names.now c.args.code.now c.args.slot c.args.input (over c.args.self.now (g.S.ValueStack.list c.args.stack.now) (g.S.ValueStack.room c.args.stack.now)) (over c.run.new.self (g.S.ValueStack.list c.run.new.stack) (g.S.ValueStack.room c.run.new.stack)) (record { below = c.requires.slot.below; left = c.requires.slot.left }) (adds_grow _ _ c.in-Ok.ensures.objects) c.in-Ok.step c.requires.expected
-    (subst (λ (f : Framed). HasTold c.run.new.store.made c.args.names.now c.args.code.now (over f (g.S.ValueStack.list c.args.stack.now) (g.S.ValueStack.room c.args.stack.now)) c.in-Ok.step (over c.run.new.self (g.S.ValueStack.list c.run.new.stack) (g.S.ValueStack.room c.run.new.stack))) c.hear.ensures c.in-Ok.ensures.told)
-    (subst (λ (f : Framed). IsSame (over f (g.S.ValueStack.list c.args.stack.now) (g.S.ValueStack.room c.args.stack.now)) (over c.run.new.self (g.S.ValueStack.list c.run.new.stack) (g.S.ValueStack.room c.run.new.stack))) c.hear.ensures c.in-Ok.ensures.same)
+    stepped_told c.args.store.now.made c.run.new.store.made c.args.scene.now.names c.args.scene.now.code c.args.slot c.args.input (over c.args.self.now (g.S.ValueStack.seen c.args.stack.now)) (over c.run.new.self (g.S.ValueStack.seen c.run.new.stack)) (record { below = c.requires.slot.below; left = c.requires.slot.left }) (adds_grow _ _ c.in-Ok.ensures.objects) c.in-Ok.step c.requires.expected
+    (subst (λ (f : Framed). HasTold c.run.new.store.made c.args.scene.now.names c.args.scene.now.code (over f (g.S.ValueStack.seen c.args.stack.now)) c.in-Ok.step (over c.run.new.self (g.S.ValueStack.seen c.run.new.stack))) c.hear.ensures c.in-Ok.ensures.told)
+    (subst (λ (f : Framed). IsSame (over f (g.S.ValueStack.seen c.args.stack.now)) (over c.run.new.self (g.S.ValueStack.seen c.run.new.stack))) c.hear.ensures c.in-Ok.ensures.same)
 
 pub returns-in-Err-clause-stepped : goal.returns-in-Err-clause-stepped
 returns-in-Err-clause-stepped g c =
-    stepped_cut c.args.store.now.made c.run.new.store.made c.args.names.now c.args.code.now c.args.slot c.args.input (over c.args.self.now (g.S.ValueStack.list c.args.stack.now) (g.S.ValueStack.room c.args.stack.now)) (over c.gives_up.new.self (g.S.ValueStack.list c.run.new.stack) (g.S.ValueStack.room c.run.new.stack)) (record { below = c.requires.slot.below; left = c.requires.slot.left }) (adds_grow _ _ c.in-Err.ensures.objects) (over c.run.new.self (g.S.ValueStack.list c.run.new.stack) (g.S.ValueStack.room c.run.new.stack))
-    (hearing_runs c.args.store.now.made c.args.names.now c.args.code.now (over c.args.self.now (g.S.ValueStack.list c.args.stack.now) (g.S.ValueStack.room c.args.stack.now)) c.args.slot c.args.input c.requires.running (record { below = c.requires.slot.below; left = c.requires.slot.left }) c.requires.expected 0 (c.requires.named 0))
-    (subst (λ (f : Framed). IsCut c.run.new.store.made c.args.code.now (over f (g.S.ValueStack.list c.args.stack.now) (g.S.ValueStack.room c.args.stack.now)) (over c.run.new.self (g.S.ValueStack.list c.run.new.stack) (g.S.ValueStack.room c.run.new.stack))) c.hear.ensures c.in-Err.ensures.cut)
-    (subst (λ (f : Framed). IsSame (over f (g.S.ValueStack.list c.args.stack.now) (g.S.ValueStack.room c.args.stack.now)) (over c.run.new.self (g.S.ValueStack.list c.run.new.stack) (g.S.ValueStack.room c.run.new.stack))) c.hear.ensures c.in-Err.ensures.same)
-    (ap (λ (f : Framed). over f (g.S.ValueStack.list c.run.new.stack) (g.S.ValueStack.room c.run.new.stack)) c.gives_up.ensures.frame)
+    stepped_cut c.args.store.now.made c.run.new.store.made c.args.scene.now.names c.args.scene.now.code c.args.slot c.args.input (over c.args.self.now (g.S.ValueStack.seen c.args.stack.now)) (over c.gives_up.new.self (g.S.ValueStack.seen c.run.new.stack)) (record { below = c.requires.slot.below; left = c.requires.slot.left }) (adds_grow _ _ c.in-Err.ensures.objects) (over c.run.new.self (g.S.ValueStack.seen c.run.new.stack))
+    (hearing_runs c.args.store.now.made c.args.scene.now.names c.args.scene.now.code (over c.args.self.now (g.S.ValueStack.seen c.args.stack.now)) c.args.slot c.args.input c.requires.running (record { below = c.requires.slot.below; left = c.requires.slot.left }) c.requires.expected 0 (c.requires.named 0))
+    (subst (λ (f : Framed). IsCut c.run.new.store.made c.args.scene.now.code (over f (g.S.ValueStack.seen c.args.stack.now)) (over c.run.new.self (g.S.ValueStack.seen c.run.new.stack))) c.hear.ensures c.in-Err.ensures.cut)
+    (subst (λ (f : Framed). IsSame (over f (g.S.ValueStack.seen c.args.stack.now)) (over c.run.new.self (g.S.ValueStack.seen c.run.new.stack))) c.hear.ensures c.in-Err.ensures.same)
+    (ap (λ (f : Framed). over f (g.S.ValueStack.seen c.run.new.stack)) c.gives_up.ensures.frame)
     (λ first keeps. c.gives_up.ensures.given_back first (record { slot = keeps.slot; outer = keeps.outer })) c.gives_up.ensures.room

@@ -6,10 +6,10 @@ use Rattle.py_frame.proofs.frame_core.FrameCore.unwind.Given as goal
 
 abbrev pub invariant-blocks_left : goal.invariant-blocks_left
 invariant-blocks_left g l = record {
-  rest : let f : Framed = over l.self (g.S.ValueStack.list l.stack) (g.S.ValueStack.room l.stack) in let first : Framed = over l.fn.self (g.S.ValueStack.list l.fn.stack) (g.S.ValueStack.room l.fn.stack) in
+  rest : let f : Framed = over l.self (g.S.ValueStack.seen l.stack) in let first : Framed = over l.fn.self (g.S.ValueStack.seen l.fn.stack) in
       unwind l.reason f.state.blocks f.state ≡ unwind l.reason first.state.blocks first.state;
   at : l.self.state.at ≡ l.fn.self.state.at;
-  same : IsSame (over l.fn.self (g.S.ValueStack.list l.fn.stack) (g.S.ValueStack.room l.fn.stack)) (over l.self (g.S.ValueStack.list l.stack) (g.S.ValueStack.room l.stack));
+  same : IsSame (over l.fn.self (g.S.ValueStack.seen l.fn.stack)) (over l.self (g.S.ValueStack.seen l.stack));
 }
 
 abbrev pub decreases-blocks_left : goal.decreases-blocks_left
