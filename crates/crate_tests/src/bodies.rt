@@ -1,21 +1,37 @@
-//! A list of statements.
+//! Lists of statements and of clauses.
 
-use py_code::NoMemory;
-use py_tree::{Stmt, StmtForm, StmtList};
-use std::alloc::Global;
+use py_code::{NoMemory, text_of_str};
+use py_tree::{Clause, ClauseList, Stmt, StmtForm, StmtList};
 
 #[test]
 fn a_statement_is_put_behind_the_others(rt: HostRuntime) -> Result<(), NoMemory> {
-    assert_eq!(rt; last_line(rt.alloc())?, Some(3));
-    Ok(())
-}
-
-/// The line of the last of three statements.
-fn last_line(alloc: Global) -> Result<Option<u32>, NoMemory> {
-    let mut suite = StmtList::new(alloc);
+    let mut suite = StmtList::new(rt.alloc());
     for line in 1..4 {
         let form = StmtForm::Pass;
         suite.push(Stmt { line, form })?;
     }
-    Ok(suite.as_slice().last().map(|stmt| stmt.line))
+    assert_eq!(rt; suite.len(), 3);
+    assert_eq!(rt; suite.get(2).map(|stmt| stmt.line), Some(3));
+    assert!(rt; suite.get(3).is_none());
+    Ok(())
+}
+
+#[test]
+fn a_clause_is_put_behind_the_others(rt: HostRuntime) -> Result<(), NoMemory> {
+    let mut clauses = ClauseList::new(rt.alloc());
+    for line in 1..4 {
+        let class = text_of_str(rt.alloc(), "ValueError")?;
+        let target = None;
+        let suite = StmtList::new(rt.alloc());
+        clauses.push(Clause {
+            line,
+            class,
+            target,
+            suite,
+        })?;
+    }
+    assert_eq!(rt; clauses.len(), 3);
+    assert_eq!(rt; clauses.get(0).map(|clause| clause.line), Some(1));
+    assert!(rt; clauses.get(3).is_none());
+    Ok(())
 }

@@ -7,7 +7,7 @@ ghost use Rattle.crate_tests.specs.Exit.{object, IsExit};
 use crate::made::{class, exception};
 use py_code::{NoMemory, PyText, push_text, same_text, text_of};
 use py_exceptions::{
-    CtorFault, ExceptionCtor, ExceptionStack, Instantiate, args, get_arg, is_gen_exit,
+    BaseException, CtorFault, ExceptionCtor, ExceptionStack, Instantiate, is_gen_exit,
 };
 use py_objects::{ErrorKind, ObjList, Payload, PyBaseExceptionRef, PyObjectRef, PyTypeRef, Store};
 use std::alloc::Global;
@@ -106,9 +106,9 @@ fn arguments(store: &Store) -> (PyObjectRef, Option<PyObjectRef>, Option<PyObjec
     requires { IsExit store.now }
 {
     (
-        args(store, EXIT),
-        get_arg(store, EXIT, 0),
-        get_arg(store, EXIT, 1),
+        EXIT.args(store),
+        EXIT.get_arg(store, 0),
+        EXIT.get_arg(store, 1),
     )
 }
 

@@ -9,6 +9,8 @@ mod codes;
 #[cfg(test)]
 mod compiling;
 #[cfg(test)]
+mod exception_texts;
+#[cfg(test)]
 mod exceptions;
 #[cfg(test)]
 mod generators;
@@ -16,6 +18,8 @@ mod generators;
 mod grammar;
 #[cfg(test)]
 mod made;
+#[cfg(test)]
+mod notes;
 #[cfg(test)]
 mod objects;
 #[cfg(test)]

@@ -8,7 +8,7 @@ ghost use Rattle.frame_tests.specs.FirstObjects.{exception_body, first_objects, 
 use crate::inputs::exception as exception_at;
 use crate::tables::{FIRST, First};
 use py_code::{NoMemory, text_of};
-use py_exceptions::{ExceptionZoo, set_traceback};
+use py_exceptions::{BaseException, ExceptionZoo};
 use py_objects::{
     AttrMap, Boxed, ClassBody, ExceptionBody, FrameRef, ManagerBody, ObjList, Payload, PyObjectRef,
     PyTracebackRef, PyTypeRef, Store, TracebackBody,
@@ -98,7 +98,7 @@ fn add_first(alloc: Global, store: &mut Store) -> Result<(), NoMemory>
     }
     store.reserve_changes(1)?;
     let traceback = PyTracebackRef { number: 9 };
-    set_traceback(store, exception_at(6), Some(traceback));
+    exception_at(6).set_traceback(store, Some(traceback));
     Ok(())
 }
 

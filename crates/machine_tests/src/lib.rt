@@ -3,3 +3,5 @@
 
 #[cfg(test)]
 mod machine;
+#[cfg(test)]
+mod normalizing;

@@ -19,14 +19,14 @@ use Rattle.py_objects.specs.Objects.{Obj, as_object}
 use Rattle.py_objects.specs.Attrs.{Attrs}
 use Rattle.py_coro.specs.declared.coro.CoroEnd.{CoroEnd}
 use Rattle.py_coro.specs.declared.coro.CoroEnd.TheVariants as left
-use Rattle.py_run.specs.Run.{Posed, Phase, Idle, Asking, Going, Made, Due, Act, Activation, State}
+use Rattle.py_run.specs.Run.{Pose, Requests, Posed, Phase, Idle, Asking, Going, Made, Due, Act, Activation, State}
 use Rattle.py_run.specs.Generators.{Generator}
 use Rattle.py_run.specs.Raises.{Raise}
 use Rattle.py_agreement.specs.Agreement.{Relation, SameException, SameMaybe, SameHandled, SameAll, SameRequest, SameAnswer, SameHow, SameEnding}
 use Rattle.py_determined.specs.Alike.{SameAttrs, Alike}
 use Rattle.py_determined.specs.Sameness.{SameTold, SameAsked, SameLeft, SameGenerators}
 use Rattle.py_determined.specs.Events.{SameResult, SameEvent, SameEvents}
-use Rattle.py_determined.proofs.SameStates.{SamePosed, SamePhase, SameAct, SameActs, SameActivations, SameState, SameRaises}
+use Rattle.py_determined.proofs.SameStates.{SamePose, SamePosed, SamePhase, SameAct, SameActs, SameActivations, SameState, SameRaises}
 use Rattle.py_determined.proofs.Requests.{BothAsk, BothUnbound, BothGlobal, BothBinary, BothCompare, BothTruth, BothMatch, BothHandled, BothRaisable, BothShow, BothCall, BothSend, BothThrow, BothClose, BothEnter, BothExit, BothNoExit, both_ask}
 
 -- two that may be there, under more
@@ -172,8 +172,12 @@ module _ (S S' : Relation) (more : (v w : Obj) → S v w → S' v w) where
   state_grows s s' same =
       record { done = same.done; phase = phase_grows s.phase s'.phase same.phase; stack = acts_grow s.stack s'.stack same.stack; made = activations_grow s.made s'.made same.made }
 
+  pose_grows : (x y : Pose) → SamePose S x y → SamePose S' x y
+  pose_grows (Requests r) (Requests q) s = asked_grow r q s
+  pose_grows _ _ s = absurd s
+
   pub posed_grows : (p q : Posed) → SamePosed S p q → SamePosed S' p q
-  posed_grows p q s = record { request = asked_grow p.request q.request s.request; entered = s.entered }
+  posed_grows p q s = record { pose = pose_grows p.pose q.pose s.pose; entered = s.entered }
 
   pub generators_grow : (xs ys : List Generator) → SameGenerators S xs ys → SameGenerators S' xs ys
   generators_grow [] [] s = tt

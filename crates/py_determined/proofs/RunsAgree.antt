@@ -1,12 +1,12 @@
 -- Two runs of one script are the same, event by event, as far as both go, but for the numbers of objects and of units.
 use Rattle.std.proofs.Common.{◌≡◌, ◌<◌, ℕ, zero, suc, ◌+◌, ◌⊎◌, inl, inr, List, [], ◌∷◌, ◌++◌, length, length-append, Some, refl, sym, ap, subst, ◌∙◌, append_assoc, append-nil, arith}
-use Rattle.std.specs.Prelude.{slice_get}
+use Rattle.std.specs.Prelude.{None, slice_get}
 use Rattle.py_objects.specs.declared.payload.Payload.{Payload}
 use Rattle.py_objects.specs.declared.event.Event.{Event}
 use Rattle.py_objects.specs.declared.event.Event.TheVariants as event
 use Rattle.py_objects.specs.Objects.{Obj}
 use Rattle.py_objects.specs.Own.{Own, whose, own_from, own_events}
-use Rattle.py_run.specs.Run.{Plan, Idle, Act, Activation, State, start, after, state_after, IsTop, question}
+use Rattle.py_run.specs.Run.{Plan, Idle, Act, Activation, State, start, after, state_after, IsTop, question, forming}
 use Rattle.py_run.specs.Generators.{generators_after}
 use Rattle.py_run.specs.Raises.{raises_after, raises_of}
 use Rattle.py_run.specs.Coming.{May, Past, nothing, past_after, setting, IsReply, MayCome, Comes, EachTells}
@@ -24,7 +24,7 @@ use Rattle.py_determined.specs.Events.{SameEvent, SameEvents}
 use Rattle.py_determined.specs.Related.{paired, pairs_of, value_numbers, IsPair, Related, Paired}
 use Rattle.py_determined.proofs.SameStates.{SamePosed, SameState, SameRaises}
 use Rattle.py_determined.proofs.Growing.{maybe_grows, event_grows, events_grow, state_grows, posed_grows, generators_grow, raises_grow}
-use Rattle.py_determined.proofs.StatesAgree.{tops_same, after_same, question_same, setting_same, ArePlain, generators_same, raises_same}
+use Rattle.py_determined.proofs.StatesAgree.{tops_same, after_same, forms_none, question_same, setting_same, ArePlain, generators_same, raises_same}
 use Rattle.py_determined.proofs.Pairing.{pairs_on, pairs_end, pairs_related, event_same, no_more_alike, born_alike, new_left, new_right, pair_left, pair_right, related_on, related_either}
 use Rattle.py_determined.proofs.Telling.{IsPositive, positive_behind, top_positive, made_stays, both_found, told_behind, told_first, IsTelling, SameTelling, telling_same}
 use Rattle.py_determined.proofs.Phases.{at_phase, IsTold, told_top, idle_next, plain_next}
@@ -179,10 +179,17 @@ module _ (plan plan' : Plan) (objects objects' : List Payload) (may may' : May) 
         | inr posed ↦ inr (setting_same (At p q) plan plan' p q script.signatures posed same.state same.generators, question_same (At p q) plan plan' p.state q.state posed same.state)
       ]
 
+      -- no exception is made of anything
+      no_forms : (p.state.phase ≡ Idle) ⊎ ((forming plan p.state ≡ None) × (forming plan' q.state ≡ None))
+      no_forms = elim same.posed [
+        | inl idle ↦ inl idle
+        | inr posed ↦ inr (forms_none (At p q) (slice_get plan.asked p.state.done) (slice_get plan'.asked q.state.done) posed)
+      ]
+
       next : AreNext (At p q) objects objects' p q e f
       next =
           phase_next plan plan' objects objects' script.signatures (At p q) same.alike p q same.state p.state.phase q.state.phase e f same.state.phase
-          same.raises open_now (λ going. telling) coming coming'
+          same.raises open_now no_forms (λ going. telling) coming coming'
 
       -- ---- behind it both are the same
 

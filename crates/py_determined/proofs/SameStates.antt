@@ -2,14 +2,19 @@
 use Rattle.std.specs.Prelude.{List, [], ◌∷◌, false, ◌≡◌}
 use Rattle.py_objects.specs.declared.payload.Payload.{Payload}
 use Rattle.py_objects.specs.Objects.{HasPayload}
-use Rattle.py_run.specs.Run.{Posed, Phase, Idle, Asking, Going, Made, Due, Act, Activation, State}
+use Rattle.py_run.specs.Run.{Pose, Requests, Posed, Phase, Idle, Asking, Going, Made, Due, Act, Activation, State}
 use Rattle.py_run.specs.Raises.{Raise}
 use Rattle.py_agreement.specs.Agreement.{Relation, SameMaybe, SameHandled, SameAll, has_literal}
 use Rattle.py_determined.specs.Sameness.{SameAsked, SameLeft}
 
--- two drives: the same question, at the same depth
+-- what two drives pose: the same question. What an exception is made of is compared nowhere, since no script poses it
+abbrev pub SamePose : Relation → Pose → Pose → Type 0
+SamePose S (Requests r) (Requests q) = SameAsked S r q
+SamePose S _ _ = ⊥
+
+-- the same at the same depth
 pub record SamePosed (S : Relation) (p q : Posed) : Type 0 where
-  pub request : SameAsked S p.request q.request
+  pub pose : SamePose S p.pose q.pose
   pub entered : p.entered ≡ q.entered
 
 -- two phases

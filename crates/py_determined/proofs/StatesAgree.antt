@@ -23,7 +23,7 @@ use Rattle.py_coro.specs.declared.coro.CoroEnd.{CoroEnd}
 use Rattle.py_coro.specs.declared.coro.CoroEnd.TheVariants as left
 use Rattle.py_coro.specs.Modes.{Mode, Running}
 use Rattle.py_coro.specs.Leaving.{mode_behind}
-use Rattle.py_run.specs.Run.{Posed, Plan, Phase, Idle, Asking, Going, Made, Due, Act, Activation, State, after, IsTop, top_asks, left_by, open_in, question, entered_in, depth, handled_among}
+use Rattle.py_run.specs.Run.{Pose, Requests, Posed, Plan, Phase, Idle, Asking, Going, Made, Due, Act, Activation, State, after, IsTop, top_asks, left_by, requested, requested_by, makings, makings_of, open_in, question, entered_in, depth, handled_among}
 use Rattle.py_run.specs.Generators.{Generator, running_at, with_mode, unentered, closed_by, settled, created, answered, value_of, returned_by, generators_after}
 use Rattle.py_run.specs.Raises.{Raise, raise_of, with_raise, with_traceback, is_raising, raised_by, told_by, raises_after}
 use Rattle.py_run.specs.Coming.{Past, setting}
@@ -31,7 +31,7 @@ use Rattle.py_agreement.specs.Agreement.{Relation, SameMaybe, SameHandled, SameA
 use Rattle.py_determined.specs.Alike.{Alike, AreAlike}
 use Rattle.py_determined.specs.Sameness.{SameTold, SameAsked, SameLeft, SameGenerator, SameGenerators, SameSetting}
 use Rattle.py_determined.specs.Events.{SameResult, SameEvent}
-use Rattle.py_determined.proofs.SameStates.{SamePosed, SamePhase, SameActs, SameActivation, SameActivations, SameState, SameRaises}
+use Rattle.py_determined.proofs.SameStates.{SamePose, SamePosed, SamePhase, SameActs, SameActivation, SameActivations, SameState, SameRaises}
 use Rattle.py_determined.proofs.AlikeLemmas.{eqb_turned}
 use Rattle.py_determined.proofs.Requests.{BothAsk, BothUnbound, BothGlobal, BothBinary, BothCompare, BothTruth, BothMatch, BothHandled, BothRaisable, BothShow, BothCall, BothSend, BothThrow, BothClose, BothEnter, BothExit, BothNoExit, both_ask}
 
@@ -88,10 +88,25 @@ module _ (S : Relation) where
 
   -- ---- settings
 
+  -- two drives request the same
+  requested_same : (x y : Pose) → SamePose S x y → SameMaybe (SameAsked S) (requested x) (requested y)
+  requested_same (Requests r) (Requests q) s = s
+  requested_same _ _ s = absurd s
+
+  -- and have no exception made of anything
+  makings_none : (x y : Pose) → SamePose S x y → (makings x ≡ None) × (makings y ≡ None)
+  makings_none (Requests r) (Requests q) s = (refl, refl)
+  makings_none _ _ s = absurd s
+
+  pub forms_none : (q q' : Option Posed) → SameMaybe (SamePosed S) q q' → (makings_of q ≡ None) × (makings_of q' ≡ None)
+  forms_none None None s = (refl, refl)
+  forms_none (Some p) (Some q) s = makings_none p.pose q.pose s.pose
+  forms_none _ _ s = absurd s
+
   -- the innermost activation's question is the same
   pub open_same : (q q' : Option Posed) (stack stack' : List Act) → SameMaybe (SamePosed S) q q' → SameActs S stack stack' → SameMaybe (SameAsked S) (open_in q stack) (open_in q' stack')
   open_same None None [] [] posed s = tt
-  open_same (Some p) (Some q) [] [] posed s = posed.request
+  open_same (Some p) (Some q) [] [] posed s = requested_same p.pose q.pose posed.pose
   open_same q q' (a ∷ stack) (b ∷ stack') posed s = s.0.asks
   open_same None (Some q) [] [] posed s = absurd posed
   open_same (Some p) None [] [] posed s = absurd posed

@@ -20,7 +20,7 @@ use Rattle.py_objects.specs.declared.event.Event.TheVariants as event
 use Rattle.py_objects.specs.Objects.{Obj, HasPayload, as_object, number_if}
 use Rattle.py_coro.specs.declared.coro.CoroEnd.{CoroEnd}
 use Rattle.py_answers.specs.Answers.{Reply, Has, Is, Makes, Creates, Fails, FailsFrom, Passes, Yields, Stops, Closes, GivesBody, GivesDrive, for_body}
-use Rattle.py_run.specs.Run.{Signature, Plan, Phase, Idle, Asking, Going, Made, Due, Act, IsTop, question}
+use Rattle.py_run.specs.Run.{Signature, Plan, Phase, Idle, Asking, Going, Made, Due, Act, IsTop, question, forming}
 use Rattle.py_run.specs.Raises.{Raise, raise_of, raises_of, IsToldOf, Tells}
 use Rattle.py_run.specs.Calls.{Course, Says, Enters, Begins, Sends, Throws}
 use Rattle.py_run.specs.Coming.{Past, setting, IsOfKind, MakesGenerator, MayCome}
@@ -235,10 +235,10 @@ module _ (plan plan' : Plan) (objects objects' : List Payload) (signatures : pla
         moved e _ f _ is is' (record { same = inl (next ∙ ap suc state.done ∙ sym next'); right = tt })
 
     asking_same : (e f : Event) → SameSetting S (setting plan p) (setting plan' q) → SameMaybe (SameAsked S) (question plan p.state) (question plan' q.state)
-        → MayCome plan objects (at_phase p Asking) e → MayCome plan' objects' (at_phase q Asking) f → Next e f
-    asking_same e f settings questions may may' =
-        let (r, c, open_, comes, is) = asking_next plan objects p e may in
-        let (r', c', open_', comes', is') = asking_next plan' objects' q f may' in
+        → (forming plan p.state ≡ None) × (forming plan' q.state ≡ None) → MayCome plan objects (at_phase p Asking) e → MayCome plan' objects' (at_phase q Asking) f → Next e f
+    asking_same e f settings questions none may may' =
+        let (r, c, open_, comes, is) = asking_next plan objects p e none.0 may in
+        let (r', c', open_', comes', is') = asking_next plan' objects' q f none.1 may' in
         course_next c c' e f (courses_agree S objects objects' alike (setting plan p) (setting plan' q) r r' c c' settings (maybe_both (SameAsked S) _ _ r r' open_ open_' questions) comes comes') is is'
 
     made_same : (f g : Obj) (x y : Event) → S f g → MayCome plan objects (at_phase p (Made f)) x → MayCome plan' objects' (at_phase q (Made g)) y → Next x y
@@ -344,16 +344,18 @@ module _ (plan plan' : Plan) (objects objects' : List Payload) (signatures : pla
     -- what comes next, in each phase, where what is told next agrees
     pub phase_next : (x y : Phase) (e f : Event) → SamePhase S x y → SameRaises S objects (raises_of p.events) (raises_of q.events)
         → ((x ≡ Idle) ⊎ (SameSetting S (setting plan p) (setting plan' q) × SameMaybe (SameAsked S) (question plan p.state) (question plan' q.state)))
+        → ((x ≡ Idle) ⊎ ((forming plan p.state ≡ None) × (forming plan' q.state ≡ None)))
         → (x ≡ Going → IsTold plan objects p e → IsTold plan' objects' q f → SameTelling S e f)
         → MayCome plan objects (at_phase p x) e → MayCome plan' objects' (at_phase q y) f → Next e f
-    phase_next Idle Idle e f phase raises open_ tells may may' = idle_same e f may may'
-    phase_next Asking Asking e f phase raises (inr (settings, questions)) tells may may' = asking_same e f settings questions may may'
-    phase_next Asking Asking e f phase raises (inl idle) tells may may' = absurd (cc idle)
-    phase_next Going Going e f phase raises open_ tells may may' =
+    phase_next Idle Idle e f phase raises open_ forms tells may may' = idle_same e f may may'
+    phase_next Asking Asking e f phase raises (inr (settings, questions)) (inr none) tells may may' = asking_same e f settings questions none may may'
+    phase_next Asking Asking e f phase raises (inl idle) forms tells may may' = absurd (cc idle)
+    phase_next Asking Asking e f phase raises (inr open_) (inl idle) tells may may' = absurd (cc idle)
+    phase_next Going Going e f phase raises open_ forms tells may may' =
         let first = going_next plan objects p e may in
         let second = going_next plan' objects' q f may' in
         told_next raises e f (tells refl first second) first second
-    phase_next (Made g) (Made h) e f phase raises open_ tells may may' = made_same g h e f phase may may'
-    phase_next (Due how) (Due how') e f phase raises (inr (settings, questions)) tells may may' = due_same how how' e f phase questions may may'
-    phase_next (Due how) (Due how') e f phase raises (inl idle) tells may may' = absurd (cc idle)
-    phase_next _ _ e f phase raises open_ tells may may' = absurd phase
+    phase_next (Made g) (Made h) e f phase raises open_ forms tells may may' = made_same g h e f phase may may'
+    phase_next (Due how) (Due how') e f phase raises (inr (settings, questions)) forms tells may may' = due_same how how' e f phase questions may may'
+    phase_next (Due how) (Due how') e f phase raises (inl idle) forms tells may may' = absurd (cc idle)
+    phase_next _ _ e f phase raises open_ forms tells may may' = absurd phase

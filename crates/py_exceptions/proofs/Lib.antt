@@ -8,5 +8,8 @@ pub mod RaisableLemmas
 pub mod MakingLemmas
 -- the topmost exception of slots
 pub mod SlotsLemmas
+-- what is shown with commas between, and the part of a path after its last /
+mod PathLemmas
+mod ReprLemmas
 -- what a change of a traceback does
 pub mod TracebacksLemmas

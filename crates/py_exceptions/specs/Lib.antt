@@ -12,6 +12,11 @@ pub mod TypeNames
 pub mod Making
 -- the arguments of exceptions
 pub mod Arguments
+-- what represents an object, what an exception says, and what functions that write these promise each other
+pub mod Repr
+pub mod Said
+pub mod Texts
+pub mod Writing
 -- the tracebacks of exceptions
 pub mod Tracebacks
 -- what may be raised, and what comes of it

@@ -2,22 +2,29 @@
 //! and tracebacks, and the slots of those that are handled.
 #![tactic(auto)]
 
-mod arguments;
+mod attributes;
+mod base_exception;
 mod ctor;
 mod kinds;
 mod making;
+mod quoted;
 mod reading;
+mod repr;
 mod stack;
+mod str_of;
+mod texts;
 mod tracebacks;
 mod type_names;
 mod zoo;
 
-pub use arguments::{args, get_arg};
+pub use base_exception::BaseException;
 pub use ctor::{CtorFault, ExceptionCtor, Instantiate, is_instance, normalized};
 pub use kinds::is_gen_exit;
 pub use making::{make_exception, new_exception, new_exception_from};
 pub use py_outside::{Sink, SinkMemory, StdSink, WriteFailed};
+pub use repr::payload_at;
 pub use stack::ExceptionStack;
-pub use tracebacks::{PyTraceback, set_traceback, split_exception, traceback};
+pub use texts::{push_raised, push_whole_repr};
+pub use tracebacks::{PyTraceback, split_exception};
 pub use type_names::type_name;
 pub use zoo::ExceptionZoo;

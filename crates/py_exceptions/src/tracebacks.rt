@@ -1,16 +1,15 @@
-//! The tracebacks of exceptions: their entries, and which one an exception has by now.
+//! The entries of tracebacks, and what stands for those of exceptions.
 
-ghost use Rattle.std.specs.Prelude.{◌≡◌, ◌<◌, ◌≤◌, ◌+◌, length, IfOk, OnOk, OnErr};
+ghost use Rattle.std.specs.Prelude.{◌≡◌, length, IfOk, OnOk, OnErr};
 ghost use Rattle.py_objects.specs.Objects.{as_object, IfThere, IsException, IsTraceback};
-ghost use Rattle.py_objects.specs.Edits.{objects_of, IsEdited};
+ghost use Rattle.py_objects.specs.Edits.{objects_of};
 ghost use Rattle.py_objects.specs.Growth.{IsGrown};
-ghost use Rattle.py_exceptions.specs.Tracebacks.{traceback_edit, traceback_object as object_of_traceback, with_entry, HasTraceback, IsFrame, IsSplit, IsTracebackSet, StandsForTraceback};
+ghost use Rattle.py_exceptions.specs.Tracebacks.{traceback_object as object_of_traceback, with_entry, IsFrame, IsSplit, StandsForTraceback};
 
 use crate::reading::exception_body;
 use py_code::NoMemory;
 use py_objects::{
-    Edit, FrameRef, LinkField, Payload, PyBaseExceptionRef, PyObjectRef, PyTracebackRef, Store,
-    TracebackBody,
+    FrameRef, Payload, PyBaseExceptionRef, PyObjectRef, PyTracebackRef, Store, TracebackBody,
 };
 
 /// What makes the entries of tracebacks (Python Language Reference, 3.2, under traceback objects).
@@ -45,36 +44,6 @@ impl PyTraceback {
     }
 }
 
-/// The traceback of an exception: the last that it was given (Python Language Reference, 4.2).
-pub fn traceback(store: &Store, exc: PyBaseExceptionRef) -> Option<PyTracebackRef>
-    requires { IsException (objects_of store.now) (as_object exc) }
-    ensures { HasTraceback (objects_of store.now) exc result }
-{
-    match exception_body(store, exc).traceback {
-        None => None,
-        Some(traceback) => Some(PyTracebackRef {
-            number: traceback.number,
-        }),
-    }
-}
-
-/// Gives an exception a traceback in place of the one that it has, or takes that off, by a change that there is a place for.
-pub fn set_traceback(store: &mut Store, exc: PyBaseExceptionRef, tb: Option<PyTracebackRef>)
-    requires spare { 0 < store.old.spare }
-    requires exception { IsException (objects_of store.old) (as_object exc) }
-    requires traceback { IfThere (IsTraceback store.old.made) (object_of_traceback tb) }
-    ensures edited { IsEdited store.old store.new (as_object exc) (traceback_edit tb) }
-    ensures set { IsTracebackSet (objects_of store.old) (objects_of store.new) exc tb }
-    ensures now { HasTraceback (objects_of store.new) exc tb }
-    ensures spare { store.old.spare ≤ store.new.spare + 1 }
-{
-    let link = traceback_object(tb);
-    store.change(
-        PyObjectRef::from(exc),
-        Edit::Link(LinkField::Traceback, link),
-    );
-}
-
 /// The class of an exception, the exception, and its traceback or the store's own None (Python Language Reference, 3.3.9).
 pub fn split_exception(
     store: &Store,
@@ -102,7 +71,7 @@ fn traceback_or_none(store: &Store, traceback: Option<PyObjectRef>) -> PyObjectR
 }
 
 /// A traceback as an object, where there is one.
-fn traceback_object(traceback: Option<PyTracebackRef>) -> Option<PyObjectRef>
+pub(crate) fn traceback_object(traceback: Option<PyTracebackRef>) -> Option<PyObjectRef>
     ensures { result ≡ object_of_traceback traceback }
 {
     match traceback {

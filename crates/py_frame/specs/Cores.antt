@@ -61,19 +61,19 @@ abbrev pub KeepsFrame : {T : Type 0} → (T → Stack) → Framed → T → Fram
 KeepsFrame seen core stack core' stack' = IsSame (over core (seen stack)) (over core' (seen stack'))
 
 -- the frame runs this code
-abbrev pub Running : {T : Type 0} → (T → Stack) → List Payload → NamedCode → Framed → T → Type 0
-Running seen objects scene core stack = IsRunning objects scene.names scene.code (over core (seen stack))
+abbrev pub IsRunningOn : {T : Type 0} → (T → Stack) → List Payload → NamedCode → Framed → T → Type 0
+IsRunningOn seen objects scene core stack = IsRunning objects scene.names scene.code (over core (seen stack))
 
 -- it has told an event
-abbrev pub Told : {T : Type 0} → (T → Stack) → List Payload → NamedCode → Framed → T → FrameStep → Framed → T → Type 0
-Told seen objects scene core stack step core' stack' =
+abbrev pub HasToldOn : {T : Type 0} → (T → Stack) → List Payload → NamedCode → Framed → T → FrameStep → Framed → T → Type 0
+HasToldOn seen objects scene core stack step core' stack' =
     HasTold objects scene.names scene.code (over core (seen stack)) step (over core' (seen stack'))
 
 -- memory ran out in a unit that had begun
-abbrev pub Cut : {T : Type 0} → (T → Stack) → List Payload → NamedCode → Framed → T → Framed → T → Type 0
-Cut seen objects scene core stack core' stack' = IsCut objects scene.code (over core (seen stack)) (over core' (seen stack'))
+abbrev pub IsCutOn : {T : Type 0} → (T → Stack) → List Payload → NamedCode → Framed → T → Framed → T → Type 0
+IsCutOn seen objects scene core stack core' stack' = IsCut objects scene.code (over core (seen stack)) (over core' (seen stack'))
 
 -- the frame took an input, and told an event or ended
-abbrev pub Stepped : {T : Type 0} → (T → Stack) → List Payload → NamedCode → Option PyBaseExceptionRef → Input → Framed → T → FrameStep → Framed → T → Type 0
-Stepped seen objects scene slot i core stack step core' stack' =
+abbrev pub IsSteppedOn : {T : Type 0} → (T → Stack) → List Payload → NamedCode → Option PyBaseExceptionRef → Input → Framed → T → FrameStep → Framed → T → Type 0
+IsSteppedOn seen objects scene slot i core stack step core' stack' =
     IsStepped objects scene.names scene.code slot i (over core (seen stack)) step (over core' (seen stack'))

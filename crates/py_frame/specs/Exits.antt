@@ -1,18 +1,28 @@
 -- Which traceback the exit of a manager is told.
-use Rattle.std.specs.Prelude.{◌≡◌, ◌⊎◌, Option, Some, None}
+use Rattle.std.specs.Prelude.{◌<◌, ◌≡◌, ◌⊎◌, Option, Some, None, List, length}
+use Rattle.py_code.specs.declared.instruction.Instruction.{Instruction}
 use Rattle.py_code.specs.declared.instruction.Instruction.TheVariants.{WithCleanupStart}
 use Rattle.py_code.specs.declared.unit.CodeUnit.{CodeUnit}
 use Rattle.py_objects.specs.declared.refs.PyBaseExceptionRef.{PyBaseExceptionRef}
+use Rattle.py_objects.specs.declared.payload.Payload.{Payload}
 use Rattle.py_objects.specs.declared.payload.Payload.TheVariants as payload
 use Rattle.py_objects.specs.declared.payload.ExceptionBody.{ExceptionBody}
 use Rattle.py_objects.specs.declared.request.Request.{Request}
 use Rattle.py_objects.specs.declared.request.Request.TheVariants as request
-use Rattle.py_objects.specs.Objects.{Obj, HasPayload, IsTraceback, as_object}
+use Rattle.py_objects.specs.Objects.{Obj, HasPayload, IsTraceback, as_object, class_object}
 use Rattle.py_objects.specs.Edits.{Kept, objects_of}
 use Rattle.py_frame.specs.declared.input.FrameStep.{FrameStep}
 use Rattle.py_frame.specs.declared.input.FrameStep.TheVariants as step
 use Rattle.py_frame.specs.declared.unit_step.UnitStep.{UnitStep}
 use Rattle.py_frame.specs.declared.unit_step.UnitStep.TheVariants as unit
+
+-- an object is an exception that is there
+abbrev pub IsException : List Payload → Obj → Type 0
+IsException objects v = (e : ExceptionBody) × HasPayload objects v (payload.Exception e)
+
+-- its class, which is there
+abbrev pub IsClassOf : List Payload → Obj → Obj → Type 0
+IsClassOf objects v class = (e : ExceptionBody) × HasPayload objects v (payload.Exception e) × (class ≡ class_object e.class) × (class.number < length objects)
 
 -- the traceback that an exception has by now, if any
 abbrev pub HasTraceback : Kept → Obj → Option Obj → Type 0
@@ -54,3 +64,7 @@ UnitTellsExit before behind (unit.Tells step) = TellsExit before behind step
 -- the same of a unit, where there is one, of the instruction that asks exits
 abbrev pub UnitAtTellsExit : Option CodeUnit → Kept → Kept → UnitStep → Type 0
 UnitAtTellsExit there before behind step = (u : CodeUnit) → there ≡ Some u → u.op ≡ WithCleanupStart → UnitTellsExit before behind step
+
+-- the same of the instruction that asks exits
+abbrev pub OpTellsExit : Instruction → Kept → Kept → UnitStep → Type 0
+OpTellsExit op before behind step = op ≡ WithCleanupStart → UnitTellsExit before behind step

@@ -1,5 +1,5 @@
 -- Frames as callers see them.
-use Rattle.std.specs.Prelude.{ℕ, Option, None, List, []}
+use Rattle.std.specs.Prelude.{ℕ, ◌+◌, ◌-◌, Option, None, List, [], length, slice_get}
 use Rattle.py_code.specs.declared.code.PyCode.{PyCode}
 use Rattle.py_code.specs.declared.code.CodeObject.{CodeObject}
 use Rattle.py_objects.specs.declared.refs.PyBaseExceptionRef.{PyBaseExceptionRef}
@@ -9,7 +9,7 @@ use Rattle.py_objects.specs.Objects.{Obj}
 use Rattle.py_stack.specs.Stacks.{Stack}
 use Rattle.py_check.specs.declared.annotated.Annotated.{Annotated}
 use Rattle.py_rows.specs.States.{Setting, State, with_stack}
-use Rattle.py_rows.specs.RunOfRows.{started}
+use Rattle.py_rows.specs.RunOfRows.{filled, started}
 
 -- a frame: where a run of the rows has come to, the places that are left, and what the frame is made for
 pub record Framed : Type 0 where
@@ -48,6 +48,22 @@ setting scene f = setting_of scene.names scene.code f
 -- a frame's entry as an object
 abbrev pub frame_object : FrameRef → Obj
 frame_object f = record { number = f.number }
+
+-- with these locals
+abbrev pub with_locals : List (Option Obj) → Framed → Framed
+with_locals locals f = record f { state = record f.state { locals = locals } }
+
+-- the unit that runs had one more answer
+abbrev pub next_phase : State → State
+next_phase s = record s { phase = s.phase + 1 }
+
+-- the first locals of a frame: the arguments, then unset ones
+abbrev pub first_locals : Annotated → List Obj → List (Option Obj)
+first_locals code args = filled (length code.code.code.varnames.items) args
+
+-- the line of the last unit that was begun, at first that of the first unit
+abbrev pub line_at : Annotated → Framed → Option ℕ
+line_at code f = slice_get code.code.code.locations.items (f.state.last - 1)
 
 -- with this exception in the slot
 abbrev pub handed : Option PyBaseExceptionRef → State → State

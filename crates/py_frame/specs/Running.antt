@@ -18,7 +18,7 @@ use Rattle.py_frame.specs.declared.input.Input.{Input}
 use Rattle.py_frame.specs.declared.input.FrameStep.{FrameStep}
 use Rattle.py_frame.specs.Frames.{Framed, NamedCode, setting, setting_of, handed}
 use Rattle.py_rows.specs.Laws.{AllMayTell}
-use Rattle.py_frame.specs.Steps.{Extends, IfTold, KeepsFirst, NamesHandled, events, expected, heard, told}
+use Rattle.py_frame.specs.Steps.{Expects, Extends, IfTold, KeepsFirst, NamesHandled, events, expected, heard, told}
 
 -- a frame of a code that it can run: it fits the notes of its code, stands where it waits, holds objects alone, and has room for the
 -- values and blocks that the code needs
@@ -64,6 +64,10 @@ pub record IsCut (objects : List Payload) (code : Annotated) (f g : Framed) : Ty
   pub within : length g.state.stack ≤ code.code.code.max_stackdepth
   pub below : HoldsBelow (length objects) g.state
   pub keeps : (first : Option PyBaseExceptionRef) → KeepsSlot first f.state → KeepsSlot first g.state
+
+-- an input is one that a frame expects, whatever number its event has
+abbrev pub MayTake : List Payload → NamedCode → Framed → Input → Type 0
+MayTake objects scene f i = Expects objects (setting scene f) f.state.wants i
 
 -- the event that a step told, where it is one
 abbrev pub told_by : Framed → FrameStep → List Own

@@ -74,8 +74,8 @@ abbrev pub raises_as : ℕ → State → Step
 raises_as kind s = raises (slice_get raise_kinds kind) s
 
 -- goes on with it by an answer
-abbrev pub raises_answer : ℕ → Obj → State → Step
-raises_answer kind v s = raised (slice_get raise_kinds kind) v s
+abbrev pub raises_on : ℕ → Obj → State → Step
+raises_on kind v s = raised (slice_get raise_kinds kind) v s
 
 -- the same of a raise with a cause
 abbrev pub causes_with : Obj → State → Step
@@ -138,17 +138,17 @@ abbrev pub calls : ℕ → Framed → Move
 calls count f = call_function count f.state
 
 -- pushes a constant
-abbrev pub loads_constant : NamedCode → ℕ → Framed → Move
-loads_constant scene place f = loads (constant_at scene place) (λ v. pushes v f.state)
+abbrev pub loading : NamedCode → ℕ → Framed → Move
+loading scene place f = loads (constant_at scene place) (λ v. pushes v f.state)
 
 -- returns a constant
-abbrev pub returns_constant : NamedCode → ℕ → Framed → Move
-returns_constant scene place f = loads (constant_at scene place) (λ v. unwinds (reason.Returning v) f.state)
+abbrev pub returning : NamedCode → ℕ → Framed → Move
+returning scene place f = loads (constant_at scene place) (λ v. unwinds (reason.Returning v) f.state)
 
 -- asks the exit of a manager, with what its block holds
 abbrev pub starts_cleanup : Framed → Move
 starts_cleanup f = Exits (raised_in f.state.blocks) (λ t v b. asks_exit f.state t v b)
 
 -- enters a manager, by what it answered
-abbrev pub enters_manager : ℕ → Obj → Framed → Move
-enters_manager handler v f = enters f.state.phase handler v f.state
+abbrev pub entering : ℕ → Obj → Framed → Move
+entering handler v f = enters f.state.phase handler v f.state

@@ -4,11 +4,13 @@ use Rattle.py_code.specs.declared.literal.Literal.{Literal}
 use Rattle.py_objects.specs.declared.payload.Payload.{Payload}
 use Rattle.py_objects.specs.declared.payload.Payload.TheVariants as payload
 use Rattle.py_objects.specs.Objects.{Obj, HasPayload}
+use Rattle.py_objects.specs.Callees.{call_request}
 use Rattle.py_objects.specs.Growth.{Grows}
 use Rattle.py_objects.specs.Own.{Own}
 use Rattle.py_objects.specs.declared.request.Request.{Request}
 use Rattle.py_check.specs.Effects.{Effect, Moves, AsksOnce, Other}
 use Rattle.py_rows.specs.declared.block.Block.{Block}
+use Rattle.py_rows.specs.declared.expect.Expect.TheVariants as expect
 use Rattle.py_rows.specs.declared.block.UnwindReason.{UnwindReason}
 use Rattle.py_rows.specs.States.{State, Step, Goes, Tells, Stuck, Move, Plainly, Loads, Decides, Manages, Resolves, Exits}
 use Rattle.py_rows.specs.Unwinding.{unwind}
@@ -71,6 +73,18 @@ abbrev pub passed : ℕ → Option UnitStep → UnwindReason → State → Step
 passed at None r s = unwind r s.blocks s
 passed at (Some step) r s = done at step s
 
+-- all of a frame's places for blocks, those that are taken and those that are left
+abbrev pub block_places : Framed → ℕ
+block_places f = length f.state.blocks + f.block_room
+
+-- a block was opened
+abbrev pub PushesBlock : Framed → Block → Framed → Type 0
+PushesBlock f b g = g ≡ record f { state = record f.state { blocks = b ∷ f.state.blocks }; block_room = g.block_room }
+
+-- all blocks were left, and nothing more is expected
+abbrev pub GivesUp : Framed → Framed → Type 0
+GivesUp f g = g ≡ record f { state = record f.state { blocks = []; slot = g.state.slot; wants = expect.Ended }; block_room = g.block_room }
+
 -- the innermost block was taken off, where there was one
 abbrev pub PopsBlock : Framed → Option Block → Framed → Type 0
 PopsBlock f None g = (f.state.blocks ≡ []) × (g ≡ f)
@@ -89,3 +103,7 @@ IsConstant objects (Some l) v = HasIf objects (payload_of l) v
 abbrev pub IsLoaded : Option Literal → Type 0
 IsLoaded None = ⊥
 IsLoaded (Some l) = is_some (payload_of l) ≡ true
+
+-- the call of an object with these arguments asks this, by what the object is
+abbrev pub IsCall : List Payload → Obj → List Obj → Request → Type 0
+IsCall objects callee args request = (p : Payload) × HasPayload objects callee p × (request ≡ call_request p callee args)

@@ -30,7 +30,7 @@ impl FrameCore {
         requires classes { ClassesAreThere store.old.made }
         requires safe { CanMove S.seen store.old.made (moves_on scene.now) self.old stack.old }
         ensures row { IfOk result (λ step. MayDo S.seen store.new.made (moves_on scene.now) self.old stack.old step self.new stack.new) }
-        ensures traceback { self.old.state.wants ≡ expect.Go → IfOk result (λ step. UnitAtTellsExit (unit_at scene.now self.old) store.old store.new step) }
+        ensures traceback { self.old.state.wants ≡ expect.Go → IfOk result (UnitAtTellsExit (unit_at scene.now self.old) store.old store.new) }
         ensures err { OnErr result (HasBegun S.seen self.old stack.old self.new stack.new) }
         ensures objects { AddsConstants store.old.made store.new.made }
         ensures unchanged { store.new ≡ record store.old { made = store.new.made } }

@@ -3,10 +3,11 @@
 ghost use Rattle.std.specs.Prelude.{◌≡◌, IfOk, OnOk, OnErr};
 ghost use Rattle.py_objects.specs.declared.payload.Payload.{Payload as PayloadOf};
 ghost use Rattle.py_objects.specs.Objects.{HasPayload};
-ghost use Rattle.py_objects.specs.Callees.{builtin_request, call_request, close_request, own_request, send_request, throw_request};
+ghost use Rattle.py_objects.specs.Callees.{builtin_request, close_request, own_request, send_request, throw_request};
 ghost use Rattle.py_stack.specs.Stacks.{places};
 ghost use Rattle.py_frame.specs.Cores.{CanMove, IsUnchanged, MayAsk, MayDo};
 ghost use Rattle.py_frame.specs.UnitRows.{calls};
+ghost use Rattle.py_frame.specs.UnitSteps.{IsCall};
 
 use crate::frame_core::FrameCore;
 use crate::objects::builtin;
@@ -15,14 +16,12 @@ use crate::unit_step::UnitStep;
 use py_code::{BuiltinFn, NoMemory};
 use py_objects::{Keywords, ObjList, PyObjectRef, Request, Store};
 use py_stack::ValueStack;
-use std::alloc::Global;
 
 impl FrameCore {
     /// Calls what lies under the top `count` values, with these in order.
     pub(crate) fn call_function<S: ValueStack>(
         &mut self,
         stack: &mut S,
-        alloc: Global,
         store: &Store,
         count: usize,
     ) -> Result<UnitStep, NoMemory>
@@ -30,7 +29,7 @@ impl FrameCore {
         ensures row { IfOk result (λ step. MayDo S.seen store.now.made (calls count) self.old stack.old step self.new stack.new) }
         ensures err { OnErr result (IsUnchanged S.seen self.old stack.old self.new stack.new) }
     {
-        let request = self.call_request(stack, alloc, store, count)?;
+        let request = self.call_request(stack, store, count)?;
         Ok(self.asks(stack, request))
     }
 
@@ -38,7 +37,6 @@ impl FrameCore {
     fn call_request<S: ValueStack>(
         &self,
         stack: &mut S,
-        alloc: Global,
         store: &Store,
         count: usize,
     ) -> Result<Request, NoMemory>
@@ -47,7 +45,7 @@ impl FrameCore {
         ensures places { OnOk result (places (S.seen stack.new) ≡ places (S.seen stack.old)) }
         ensures err { OnErr result (S.seen stack.new ≡ S.seen stack.old) }
     {
-        let arguments = pop_many(stack, alloc, count)?;
+        let arguments = pop_many(stack, store.allocator(), count)?;
         let callee = stack.pop();
         Ok(request_of(store, callee, arguments))
     }
@@ -56,7 +54,7 @@ impl FrameCore {
 /// What the call of an object asks, by what the object is.
 fn request_of(store: &Store, callee: PyObjectRef, args: ObjList) -> Request
     requires { (p : PayloadOf) × HasPayload store.now.made callee p }
-    ensures { (p : PayloadOf) × HasPayload store.now.made callee p × (result ≡ call_request p callee args) }
+    ensures { IsCall store.now.made callee args result }
 {
     match own_request(builtin(store, callee), args.as_slice()) {
         Some(request) => request,

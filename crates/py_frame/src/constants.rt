@@ -4,7 +4,7 @@ ghost use Rattle.std.specs.Prelude.{◌≡◌, ◌+◌, ◌^◌, ◌<◌, Some, 
 ghost use Rattle.py_rows.specs.Rows.{payload_of};
 ghost use Rattle.py_frame.specs.Added.{AddsConstants};
 ghost use Rattle.py_frame.specs.Cores.{CanMove, IsUnchanged, MayDo};
-ghost use Rattle.py_frame.specs.UnitRows.{constant_at, loads_constant, returns_constant};
+ghost use Rattle.py_frame.specs.UnitRows.{constant_at, loading, returning};
 ghost use Rattle.py_frame.specs.UnitSteps.{IsConstant, IsLoaded};
 
 use crate::frame_core::FrameCore;
@@ -27,8 +27,8 @@ impl FrameCore {
         place: usize,
     ) -> Result<UnitStep, NoMemory>
         requires next { self.old.state.at + 1 < 2 ^ 32 }
-        requires safe { CanMove S.seen store.old.made (loads_constant scene.now place) self.old stack.old }
-        ensures row { IfOk result (λ step. MayDo S.seen store.new.made (loads_constant scene.now place) self.old stack.old step self.new stack.new) }
+        requires safe { CanMove S.seen store.old.made (loading scene.now place) self.old stack.old }
+        ensures row { IfOk result (λ step. MayDo S.seen store.new.made (loading scene.now place) self.old stack.old step self.new stack.new) }
         ensures err { OnErr result (IsUnchanged S.seen self.old stack.old self.new stack.new) }
         ensures objects { AddsConstants store.old.made store.new.made }
         ensures unchanged { store.new ≡ record store.old { made = store.new.made } }
@@ -47,8 +47,8 @@ impl FrameCore {
         store: &mut Store,
         place: usize,
     ) -> Result<UnitStep, NoMemory>
-        requires safe { CanMove S.seen store.old.made (returns_constant scene.now place) self.old stack.old }
-        ensures row { IfOk result (λ step. MayDo S.seen store.new.made (returns_constant scene.now place) self.old stack.old step self.new stack.new) }
+        requires safe { CanMove S.seen store.old.made (returning scene.now place) self.old stack.old }
+        ensures row { IfOk result (λ step. MayDo S.seen store.new.made (returning scene.now place) self.old stack.old step self.new stack.new) }
         ensures err { OnErr result (IsUnchanged S.seen self.old stack.old self.new stack.new) }
         ensures objects { AddsConstants store.old.made store.new.made }
         ensures unchanged { store.new ≡ record store.old { made = store.new.made } }
@@ -61,7 +61,7 @@ impl FrameCore {
 /// A new object of a constant's payload.
 fn load(scene: &Scene<'_>, store: &mut Store, place: usize) -> Result<PyObjectRef, NoMemory>
     requires { IsLoaded (constant_at scene.now place) }
-    ensures constant { IfOk result (λ object. IsConstant store.new.made (constant_at scene.now place) object) }
+    ensures constant { IfOk result (IsConstant store.new.made (constant_at scene.now place)) }
     ensures objects { AddsConstants store.old.made store.new.made }
     ensures unchanged { store.new ≡ record store.old { made = store.new.made } }
 {
@@ -74,7 +74,7 @@ fn load(scene: &Scene<'_>, store: &mut Store, place: usize) -> Result<PyObjectRe
 /// A new object of this constant's payload.
 fn add(alloc: Global, store: &mut Store, literal: &Literal) -> Result<PyObjectRef, NoMemory>
     requires { is_some (payload_of literal.now) ≡ true }
-    ensures constant { IfOk result (λ object. IsConstant store.new.made (Some literal.now) object) }
+    ensures constant { IfOk result (IsConstant store.new.made (Some literal.now)) }
     ensures objects { AddsConstants store.old.made store.new.made }
     ensures unchanged { store.new ≡ record store.old { made = store.new.made } }
 {

@@ -1,9 +1,8 @@
 //! Running one unit: an arm an instruction.
 
 ghost use Rattle.std.specs.Prelude.{◌≡◌, ◌+◌, ◌^◌, ◌<◌, length, IfOk, OnErr};
-ghost use Rattle.py_code.specs.declared.instruction.Instruction.TheVariants.{WithCleanupStart};
 ghost use Rattle.py_frame.specs.Added.{AddsConstants, ClassesAreThere};
-ghost use Rattle.py_frame.specs.Exits.{UnitAtTellsExit, UnitTellsExit};
+ghost use Rattle.py_frame.specs.Exits.{OpTellsExit, UnitAtTellsExit};
 ghost use Rattle.py_frame.specs.Cores.{CanMove, Does, HasBegun, IsUnchanged, MayDo};
 ghost use Rattle.py_frame.specs.Frames.{parts};
 ghost use Rattle.py_frame.specs.UnitRows.{acts, advances, extends, unit_at};
@@ -29,7 +28,7 @@ impl FrameCore {
         requires classes { ClassesAreThere store.old.made }
         requires safe { CanMove S.seen store.old.made (advances scene.now) self.old stack.old }
         ensures row { IfOk result (λ step. MayDo S.seen store.new.made (advances scene.now) self.old stack.old step self.new stack.new) }
-        ensures traceback { IfOk result (λ step. UnitAtTellsExit (unit_at scene.now self.old) store.old store.new step) }
+        ensures traceback { IfOk result (UnitAtTellsExit (unit_at scene.now self.old) store.old store.new) }
         ensures err { OnErr result (HasBegun S.seen self.old stack.old self.new stack.new) }
         ensures objects { AddsConstants store.old.made store.new.made }
         ensures unchanged { store.new ≡ record store.old { made = store.new.made } }
@@ -55,7 +54,7 @@ impl FrameCore {
         requires safe { CanMove S.seen store.old.made (acts scene.now op arg) self.old stack.old }
         ensures row { IfOk result (λ step. MayDo S.seen store.new.made (acts scene.now op arg) self.old stack.old step self.new stack.new) }
         // No other instruction asks an exit.
-        ensures traceback { IfOk result (λ step. op ≡ WithCleanupStart → UnitTellsExit store.old store.new step) }
+        ensures traceback { IfOk result (OpTellsExit op store.old store.new) }
         ensures err { OnErr result (IsUnchanged S.seen self.old stack.old self.new stack.new) }
         ensures objects { AddsConstants store.old.made store.new.made }
         ensures unchanged { store.new ≡ record store.old { made = store.new.made } }
@@ -65,9 +64,7 @@ impl FrameCore {
             Instruction::LoadFast => self.load_fast(stack, scene, arg as usize),
             Instruction::StoreFast => Ok(self.store_fast(stack, arg as usize)),
             Instruction::DeleteFast => self.delete_fast(stack, scene, arg as usize),
-            Instruction::CallFunctionPositional => {
-                self.call_function(stack, scene.alloc, store, arg as usize)
-            }
+            Instruction::CallFunctionPositional => self.call_function(stack, store, arg as usize),
             Instruction::Jump => Ok(self.transfers(stack, arg)),
             Instruction::JumpIfTrue | Instruction::JumpIfFalse => Ok(self.asks_truth(stack)),
             Instruction::SetupLoop => Ok(self.setup_loop(stack)),

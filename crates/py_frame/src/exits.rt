@@ -1,13 +1,12 @@
 //! What the exit of a manager is told.
 
-ghost use Rattle.std.specs.Prelude.{◌≡◌, ◌<◌, length, Some, IfOk};
-ghost use Rattle.py_objects.specs.declared.payload.ExceptionBody.{ExceptionBody};
+ghost use Rattle.std.specs.Prelude.{◌≡◌, Some, IfOk};
 ghost use Rattle.py_objects.specs.declared.payload.Payload.TheVariants as payload;
-ghost use Rattle.py_objects.specs.Objects.{HasPayload, class_object};
+ghost use Rattle.py_objects.specs.Objects.{HasPayload};
 ghost use Rattle.py_rows.specs.Laws.{RaisedThere};
 ghost use Rattle.py_rows.specs.RunOfRows.{IsExit};
 ghost use Rattle.py_frame.specs.Added.{AddsConstants, ClassesAreThere};
-ghost use Rattle.py_frame.specs.Exits.{HasTraceback, IsTold, TellsIf, TellsTraceback};
+ghost use Rattle.py_frame.specs.Exits.{HasTraceback, IsClassOf, IsException, IsTold, TellsIf, TellsTraceback};
 
 use crate::objects::{add_constant, as_object, is_traceback};
 use py_code::NoMemory;
@@ -44,8 +43,8 @@ pub(crate) fn exit_arguments(
 /// The class of an exception.
 fn class(store: &Store, exception: PyObjectRef) -> PyObjectRef
     requires classes { ClassesAreThere store.now.made }
-    requires there { (e : ExceptionBody) × HasPayload store.now.made exception (payload.Exception e) }
-    ensures { (e : ExceptionBody) × HasPayload store.now.made exception (payload.Exception e) × (result ≡ class_object e.class) × (result.number < length store.now.made) }
+    requires there { IsException store.now.made exception }
+    ensures { IsClassOf store.now.made exception result }
 {
     match store.get(exception) {
         Payload::Exception(body) => PyObjectRef {
@@ -57,7 +56,7 @@ fn class(store: &Store, exception: PyObjectRef) -> PyObjectRef
 
 /// The traceback of an exception, where it has one that is a traceback, else a new None.
 fn traceback(store: &mut Store, exception: PyObjectRef) -> Result<PyObjectRef, NoMemory>
-    requires { (e : ExceptionBody) × HasPayload store.old.made exception (payload.Exception e) }
+    requires { IsException store.old.made exception }
     ensures told { IfOk result (λ told. TellsTraceback store.old store.new exception told) }
     ensures objects { AddsConstants store.old.made store.new.made }
     ensures unchanged { store.new ≡ record store.old { made = store.new.made } }
@@ -83,7 +82,7 @@ fn own_traceback(store: &mut Store, traceback: PyObjectRef) -> Result<PyObjectRe
 
 /// The traceback that an exception has by now, if any.
 fn traceback_of(store: &Store, exception: PyObjectRef) -> Option<PyObjectRef>
-    requires { (e : ExceptionBody) × HasPayload store.now.made exception (payload.Exception e) }
+    requires { IsException store.now.made exception }
     ensures { HasTraceback store.now exception result }
 {
     match store.get(exception) {

@@ -1,6 +1,6 @@
 //! Frames.
 
-ghost use Rattle.std.specs.Prelude.{ℕ, ◌≡◌, ◌-◌, ◌≤◌, [], length, slice_get, slice_set, Some, IfOk};
+ghost use Rattle.std.specs.Prelude.{ℕ, ◌≡◌, ◌≤◌, [], length, slice_set, Some, IfOk};
 ghost use Rattle.py_objects.specs.declared.payload.Payload.TheVariants as payload;
 ghost use Rattle.py_objects.specs.Objects.{HasPayload};
 ghost use Rattle.py_objects.specs.Growth.{GrowsPlainly};
@@ -10,10 +10,10 @@ ghost use Rattle.py_rows.specs.Below.{HearsBelow, TellsBelow};
 ghost use Rattle.py_rows.specs.declared.expect.Expect.TheVariants as expect;
 ghost use Rattle.py_frame.specs.Added.{AddsConstants, ClassesAreThere};
 ghost use Rattle.py_frame.specs.Exits.{TellsExit};
-ghost use Rattle.py_frame.specs.Frames.{frame_object, handed, setting, unfilled};
-ghost use Rattle.py_frame.specs.Steps.{Expects, KeepsFirst, NamesHandled, events, expected, heard, hearing};
+ghost use Rattle.py_frame.specs.Frames.{frame_object, handed, line_at, unfilled, with_locals};
+ghost use Rattle.py_frame.specs.Steps.{KeepsFirst, NamesHandled, events, expected, heard, hearing};
 ghost use Rattle.py_rows.specs.Laws.{AllMayTell};
-ghost use Rattle.py_frame.specs.Running.{GoesOn, IsRunning, IsSame, SlotFits, told_by};
+ghost use Rattle.py_frame.specs.Running.{GoesOn, IsRunning, MayTake, IsSame, SlotFits, told_by};
 
 use crate::filled::Filled;
 use crate::frame_core::FrameCore;
@@ -90,7 +90,7 @@ impl<S: ValueStack + Drop> Frame<S> {
     pub fn fill(&mut self, store: &mut Store, code: &CheckedCode, locals: Filled)
         requires fresh { self.old.state.wants ≡ expect.Start }
         requires all { length locals ≡ length self.old.state.locals }
-        ensures frame { self.new ≡ record self.old { state = record self.old.state { locals = locals } } }
+        ensures frame { self.new ≡ with_locals locals self.old }
         ensures store { store.new ≡ store.old }
     {
         self.core.locals = locals.into_vec();
@@ -120,7 +120,7 @@ impl<S: ValueStack + Drop> Frame<S> {
         requires slots { SlotFits store.old.made self.old.state (top_of slots.old) }
         // The input is one that the frame expects: an answer is as it was wanted. It names objects. Here and below, k is
         // whatever number its event has in the journal.
-        requires expected { Expects store.old.made (setting scene.now self.old) self.old.state.wants input }
+        requires expected { MayTake store.old.made scene.now self.old input }
         requires named { (k : ℕ) → HearsBelow (length store.old.made) (events (heard k input)) }
         // The run so far goes on, by what was heard and the one event that is told.
         ensures extends { GoesOn store.new.made scene.now (top_of slots.old) self.old input result self.new }
@@ -170,7 +170,7 @@ impl<S: ValueStack + Drop> Frame<S> {
     /// The line of the last unit that was begun, at first that of the first unit.
     pub fn current_location(&self, code: &CheckedCode) -> u32
         requires { self.now.state.last ≤ length code.now.code.code.instructions.items }
-        ensures { slice_get code.now.code.code.locations.items (self.now.state.last - 1) ≡ Some result }
+        ensures { line_at code.now self.now ≡ Some result }
     {
         code.code().code.locations[self.lasti().saturating_sub(1) as usize]
     }
@@ -178,7 +178,7 @@ impl<S: ValueStack + Drop> Frame<S> {
     /// The line that the frame is at, as `current_location` says it.
     pub fn f_lineno(&self, code: &CheckedCode) -> u32
         requires { self.now.state.last ≤ length code.now.code.code.instructions.items }
-        ensures { slice_get code.now.code.code.locations.items (self.now.state.last - 1) ≡ Some result }
+        ensures { line_at code.now self.now ≡ Some result }
     {
         self.current_location(code)
     }

@@ -2,7 +2,7 @@
 
 ghost use Rattle.std.specs.Prelude.{◌≡◌, ◌+◌, ◌^◌, ◌<◌};
 ghost use Rattle.py_rows.specs.States.{begun, landed, next, waiting};
-ghost use Rattle.py_frame.specs.Frames.{handed};
+ghost use Rattle.py_frame.specs.Frames.{handed, next_phase};
 
 mod blocks;
 mod getters;
@@ -62,7 +62,7 @@ impl FrameCore {
     /// The unit that runs had one more answer.
     pub(crate) fn next_phase(&mut self)
         requires { self.old.state.phase + 1 < 2 ^ 32 }
-        ensures { self.new ≡ record self.old { state = record self.old.state { phase = self.old.state.phase + 1 } } }
+        ensures { self.new ≡ record self.old { state = next_phase self.old.state } }
     {
         self.phase += 1;
     }

@@ -4,7 +4,7 @@ ghost use Rattle.std.specs.Prelude.{◌+◌, ◌^◌, ◌<◌};
 ghost use Rattle.py_rows.specs.Receiving.{entered};
 ghost use Rattle.py_rows.specs.Rows.{asks_enter};
 ghost use Rattle.py_frame.specs.Cores.{CanDo, CanMove, Does, MayDo};
-ghost use Rattle.py_frame.specs.UnitRows.{enters_manager};
+ghost use Rattle.py_frame.specs.UnitRows.{entering};
 
 use crate::frame_core::FrameCore;
 use crate::objects::is_manager;
@@ -32,8 +32,8 @@ impl FrameCore {
         value: PyObjectRef,
     ) -> UnitStep
         requires next { self.old.state.at + 1 < 2 ^ 32 }
-        requires safe { CanMove S.seen store.now.made (enters_manager handler value) self.old stack.old }
-        ensures { MayDo S.seen store.now.made (enters_manager handler value) self.old stack.old result self.new stack.new }
+        requires safe { CanMove S.seen store.now.made (entering handler value) self.old stack.old }
+        ensures { MayDo S.seen store.now.made (entering handler value) self.old stack.old result self.new stack.new }
     {
         let manager = stack.top();
         if is_manager(store, manager) {

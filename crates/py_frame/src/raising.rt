@@ -1,7 +1,7 @@
 //! Raises.
 
 ghost use Rattle.py_frame.specs.Cores.{CanDo, Does};
-ghost use Rattle.py_frame.specs.UnitRows.{causes_with, raises_answer, raises_as};
+ghost use Rattle.py_frame.specs.UnitRows.{causes_with, raises_on, raises_as};
 
 use crate::frame_core::FrameCore;
 use crate::objects::as_exception;
@@ -40,8 +40,8 @@ impl FrameCore {
         kind: u32,
         value: PyObjectRef,
     ) -> UnitStep
-        requires safe { CanDo S.seen (raises_answer kind value) self.old stack.old }
-        ensures { Does S.seen (raises_answer kind value) self.old stack.old result self.new stack.new }
+        requires safe { CanDo S.seen (raises_on kind value) self.old stack.old }
+        ensures { Does S.seen (raises_on kind value) self.old stack.old result self.new stack.new }
     {
         let Ok(kind) = RaiseKind::try_from(kind) else {
             unreachable!();

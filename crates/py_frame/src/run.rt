@@ -5,10 +5,9 @@ ghost use Rattle.py_rows.specs.Below.{HearsBelow};
 ghost use Rattle.py_rows.specs.Laws.{IsMoving};
 ghost use Rattle.py_frame.specs.Added.{AddsConstants, ClassesAreThere};
 ghost use Rattle.py_frame.specs.Exits.{TellsExit};
-ghost use Rattle.py_frame.specs.Cores.{Cut, KeepsFrame, Running, Stepped, Told};
-ghost use Rattle.py_frame.specs.Frames.{setting};
-ghost use Rattle.py_frame.specs.Steps.{Expects, events, heard, hearing};
-ghost use Rattle.py_frame.specs.Running.{SlotFits};
+ghost use Rattle.py_frame.specs.Cores.{HasToldOn, IsCutOn, IsRunningOn, IsSteppedOn, KeepsFrame};
+ghost use Rattle.py_frame.specs.Steps.{events, heard, hearing};
+ghost use Rattle.py_frame.specs.Running.{MayTake, SlotFits};
 
 use crate::frame_core::FrameCore;
 use crate::input::{FrameStep, Input};
@@ -29,12 +28,12 @@ impl FrameCore {
         slot: Option<PyBaseExceptionRef>,
         input: Input,
     ) -> FrameStep
-        requires running { Running S.seen store.old.made scene.now self.old stack.old }
+        requires running { IsRunningOn S.seen store.old.made scene.now self.old stack.old }
         requires classes { ClassesAreThere store.old.made }
         requires slot { SlotFits store.old.made self.old.state slot }
-        requires expected { Expects store.old.made (setting scene.now self.old) self.old.state.wants input }
+        requires expected { MayTake store.old.made scene.now self.old input }
         requires named { (k : ℕ) → HearsBelow (length store.old.made) (events (heard k input)) }
-        ensures stepped { Stepped S.seen store.new.made scene.now slot input self.old stack.old result self.new stack.new }
+        ensures stepped { IsSteppedOn S.seen store.new.made scene.now slot input self.old stack.old result self.new stack.new }
         ensures traceback { TellsExit store.old store.new result }
         ensures objects { AddsConstants store.old.made store.new.made }
         ensures unchanged { store.new ≡ record store.old { made = store.new.made } }
@@ -74,11 +73,11 @@ impl FrameCore {
         scene: &Scene<'_>,
         store: &mut Store,
     ) -> Result<FrameStep, NoMemory>
-        requires running { Running S.seen store.old.made scene.now self.old stack.old }
+        requires running { IsRunningOn S.seen store.old.made scene.now self.old stack.old }
         requires moving { IsMoving self.old.state.wants }
         requires classes { ClassesAreThere store.old.made }
-        ensures told { IfOk result (λ step. Told S.seen store.new.made scene.now self.old stack.old step self.new stack.new) }
-        ensures cut { OnErr result (Cut S.seen store.new.made scene.now self.old stack.old self.new stack.new) }
+        ensures told { IfOk result (λ step. HasToldOn S.seen store.new.made scene.now self.old stack.old step self.new stack.new) }
+        ensures cut { OnErr result (IsCutOn S.seen store.new.made scene.now self.old stack.old self.new stack.new) }
         ensures same { KeepsFrame S.seen self.old stack.old self.new stack.new }
         ensures traceback { IfOk result (λ step. TellsExit store.old store.new step) }
         ensures objects { AddsConstants store.old.made store.new.made }

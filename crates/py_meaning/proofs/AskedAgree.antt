@@ -16,15 +16,15 @@ use Rattle.py_lines.specs.declared.drive.DriveAtom.{DriveAtom}
 use Rattle.py_lines.specs.declared.drive.DriveAtom.TheVariants as atom
 use Rattle.py_lines.specs.declared.drive.DriveLine.{DriveLine}
 use Rattle.py_lines.specs.declared.drive.DriveLine.TheVariants as drive
-use Rattle.py_run.specs.Run.{Posed, Plan, State, start, after, state_after}
+use Rattle.py_run.specs.Run.{Pose, Requests, Forms, Posed, Plan, State, start, after, state_after}
 use Rattle.py_run.specs.Coming.{Past, nothing, past_after, MayCome, Comes}
 use Rattle.py_run.proofs.RunLemmas.{comes_front}
 use Rattle.py_agreement.specs.Agreement.{Relation, SameMaybe, SameAll, has_literal}
 use Rattle.py_determined.specs.Sameness.{SameAsked}
 use Rattle.py_determined.specs.Events.{SameResult, SameEvent, SameEvents}
-use Rattle.py_determined.proofs.SameStates.{SamePosed}
+use Rattle.py_determined.proofs.SameStates.{SamePose, SamePosed}
 use Rattle.py_meaning.specs.Earlier.{AtomIsEarlier, ValueIsEarlier, LineIsEarlier, NameEarlier}
-use Rattle.py_meaning.specs.Whole.{IsLeft, IsLeftBy, IsOf, AreOf, IsThrown, AsksThis, AreAsked}
+use Rattle.py_meaning.specs.Whole.{IsLeft, IsLeftBy, IsOf, AreOf, IsThrown, AsksThis, Poses, AreAsked}
 
 -- ---- results come in the order of their numbers
 
@@ -146,7 +146,7 @@ module _ (S : Relation) where
       asked_as r r' q q' is is' s = subst (λ (x : Request). SameAsked S x r') (sym is) (subst (λ (x : Request). SameAsked S q x) (sym is') s)
 
       -- the same line asks the same
-      pub asks_agree : (d : DriveLine) (r r' : Request) → LineIsEarlier made d → AsksThis objects es d r → AsksThis objects' es' d r' → SameAsked S r r'
+      asks_agree : (d : DriveLine) (r r' : Request) → LineIsEarlier made d → AsksThis objects es d r → AsksThis objects' es' d r' → SameAsked S r r'
       asks_agree (drive.Call x args) r r' may (g, vs, is, said, are) (g', ws, is', said', are') =
           asked_as r r' (request.Call g vs keywords.None) (request.Call g' ws keywords.None) is is' ((declared_agree x g g' said said', all_agree args vs ws may are are'), tt)
       asks_agree (drive.Next n) r r' may (g, v, is, by, none) (g', w, is', by', none') =
@@ -157,6 +157,11 @@ module _ (S : Relation) where
           asked_as r r' (request.Throw g c (Some v) None) (request.Throw g' c' (Some w) None) is is'
           ((left n g g' may.0 by by', declared_agree x c c' said said', thrown_agrees a v w may.1 of of', tt), tt)
       asks_agree (drive.Close n) r r' may (g, is, by) (g', is', by') = asked_as r r' (request.Close g) (request.Close g') is is' (left n g g' may by by', tt)
+
+      pub poses_agree : (d : DriveLine) (x y : Pose) → LineIsEarlier made d → Poses objects es d x → Poses objects' es' d y → SamePose S x y
+      poses_agree d (Requests r) (Requests r') may asks asks' = asks_agree d r r' may asks asks'
+      poses_agree d (Forms x) y may asks asks' = absurd asks
+      poses_agree d (Requests r) (Forms y) may asks asks' = absurd asks'
 
     -- ---- drives of a run
 
@@ -172,12 +177,12 @@ module _ (S : Relation) where
 
     -- the question of the drive with this place
     asked_at : (store : List Payload) (es : List Event) (ds : List DriveLine) (asked : List Posed) (i : ℕ) (q : Posed) → AreAsked store es ds asked → slice_get asked i ≡ Some q
-        → (d : DriveLine) × (slice_get ds i ≡ Some d) × AsksThis store es d q.request × (q.entered ≡ 0)
+        → (d : DriveLine) × (slice_get ds i ≡ Some d) × Poses store es d q.pose × (q.entered ≡ 0)
     asked_at store es ds [] i q are at = absurd (cc at)
     asked_at store es [] (p ∷ asked) i q are at = absurd are
     asked_at store es (d ∷ ds) (p ∷ asked) zero q are at =
         let same : p ≡ q = cc at in
-        (d, refl, subst (λ (x : Posed). AsksThis store es d x.request) same are.0.0, ap (λ (x : Posed). x.entered) (sym same) ∙ are.0.1)
+        (d, refl, subst (λ (x : Posed). Poses store es d x.pose) same are.0.0, ap (λ (x : Posed). x.entered) (sym same) ∙ are.0.1)
     asked_at store es (d ∷ ds) (p ∷ asked) (suc i) q are at = asked_at store es ds asked i q are.1 at
 
     -- a drive poses the same in two runs, where the events behind which those in front of it are done are the same
@@ -192,9 +197,9 @@ module _ (S : Relation) where
         let (d', line', asks', none') = asked_at objects' (fs ++ more') ds asked' i q' are' at' in
         let one : d' ≡ d = one_entry d' d (sym line' ∙ line) in
         record {
-          request =
-              asks_agree i (es ++ more) (fs ++ more')
-              (λ n v w few by by'. left_by_agrees plan plan' es fs more more' n v w comes comes' same (omega (arith, few, low)) (omega (arith, few, low')) by by') d q.request q'.request (well i d line) asks
-              (subst (λ (x : DriveLine). AsksThis objects' (fs ++ more') x q'.request) one asks');
+          pose =
+              poses_agree i (es ++ more) (fs ++ more')
+              (λ n v w few by by'. left_by_agrees plan plan' es fs more more' n v w comes comes' same (omega (arith, few, low)) (omega (arith, few, low')) by by') d q.pose q'.pose (well i d line) asks
+              (subst (λ (x : DriveLine). Poses objects' (fs ++ more') x q'.pose) one asks');
           entered = none ∙ sym none';
         }

@@ -41,13 +41,13 @@ use Rattle.py_lines.specs.declared.line.LineRead.TheVariants.{Said}
 use Rattle.py_grammar.specs.Grammar.{Row, FunctionDecl, Item, items_rows}
 use Rattle.py_answers.specs.Answers.{This, Reply, Passes, Replies, CallsAs, GivesBody, IsRaised, sum, whole}
 use Rattle.py_coro.specs.declared.coro.CoroEnd.{CoroEnd}
-use Rattle.py_run.specs.Run.{Signature, Posed, Plan, Activation, Phase, Asking, IsTop, question, start, state_after}
+use Rattle.py_run.specs.Run.{Signature, Pose, Requests, Forms, Posed, Plan, Activation, Phase, Asking, IsTop, requested, makings, question, start, state_after}
 use Rattle.py_run.specs.Calls.{Course, Says, Enters, Setting, LeavesCalled, IsDue, refusal, made_at, bound_by, CallsFunction, ComesTo}
 use Rattle.py_run.specs.Coming.{Past, setting, IsOfKind, IsReply, MayCome, nothing, Comes, EachTells}
 use Rattle.py_run.specs.Past.{past_behind}
 use Rattle.py_run.specs.First.{first_objects}
 use Rattle.py_run.proofs.FirstLemmas.{first_fit}
-use Rattle.py_meaning.specs.Whole.{AreOf, AsksThis, AreAsked, AreGlobals, AreObjects, Traces, IsRunOf, plan_of, signature_of}
+use Rattle.py_meaning.specs.Whole.{AreOf, AsksThis, Poses, Asks as AsksFor, AreAsked, AreGlobals, AreObjects, Traces, IsRunOf, plan_of, signature_of}
 use Rattle.py_meaning.specs.Worked.{call_of, object, exception, function_entry, loaded, objects_of, entered, asked, greatest, overflowing_of, out_of_range, error_entry, error_objects, raising_by, raised, raises, overflow_by}
 use Rattle.py_meaning.proofs.Behind.{declares_it, have_classes, none_declared}
 use Rattle.py_meaning.proofs.Entries.{one_declared}
@@ -104,7 +104,7 @@ differ m n other same =
 
 -- the question of a drive of the function with the two numbers
 abbrev pub call : Posed
-call = record { request = Calling (object 0) (object 3 ∷ object 4 ∷ []) keywords.None; entered = 0 }
+call = record { pose = Requests (Calling (object 0) (object 3 ∷ object 4 ∷ []) keywords.None); entered = 0 }
 
 -- the one activation tells what it may
 pub one_tells : (may : Obj → List Obj → List Own → Type 0) (f : Obj) (vs : List Obj) (events : List Event) → (state_after start events).made ≡ record { function = f; args = vs } ∷ [] → may f vs (own_events 1 events) → EachTells may events
@@ -141,6 +141,11 @@ asked_under units h g r q at k i w ts K (inr more) =
 -- the same where nothing is
 pub asked_so : (units : ℕ → Bool) (r q : Request) (at k i : ℕ) (w : GotAnswer) (ts : List Own) (K : AfterValue) → Asked units r None k (Asks at q None ∷ Gets i w ∷ ts) K → Answers w i ts K
 asked_so units r q at k i w ts K asked = asked_under units None None r q at k i w ts K asked
+
+-- what a drive of a script requests
+pub posed_request : (store : List Payload) (events : List Event) (d : DriveLine) (x : Pose) → Poses store events d x → (r : Request) × (requested x ≡ Some r) × AsksThis store events d r × (makings x ≡ None)
+posed_request store events d (Requests r) asks = (r, refl, asks, refl)
+posed_request store events d (Forms x) asks = absurd asks
 
 -- no more drives are begun than the script has
 pub few_asked : (store : List Payload) (events : List Event) (ds : List DriveLine) (qs : List Posed) → AreAsked store events ds qs → length qs ≤ length ds
@@ -361,7 +366,7 @@ module _ (t : Tree) where
       go (suc i) signed = cc signed
 
   -- a drive of the script's call asks for the two numbers
-  pub asks_numbers : (m n : ℤ) (more : List Payload) (events : List Event) → IsDeclared (with_more m n more) → AsksThis (with_more m n more) events (call_of t.name m n) call.request × (call.entered ≡ 0)
+  pub asks_numbers : (m n : ℤ) (more : List Payload) (events : List Event) → IsDeclared (with_more m n more) → AsksFor (with_more m n more) events (call_of t.name m n) call
   asks_numbers m n more events d = ((object 0, object 3 ∷ object 4 ∷ [], refl, d, (refl, (refl, tt))), refl)
 
   -- a run of the script whose first drive asks this
@@ -385,7 +390,7 @@ module _ (t : Tree) where
       → Comes (plan_with qs) (with_more m n more) (past_behind (plan_with qs) nothing (entered 1 (asked 1 (object 3) (object 4) []))) rest → Comes (plan_with qs) (with_more m n more) nothing (entered 1 (asked 1 (object 3) (object 4) rest))
   asking_comes qs m n more rest few binds plain k = (
     (refl, refl, few),
-    ((refl, (refl, (call.request, refl, inr (inl (object 0, object 3 ∷ object 4 ∷ [], refl, binds))))), ((refl, is_of_kind _ _ _ _ _ _ refl refl plain), (((refl, refl), tt), k))),
+    ((refl, (refl, (_, refl, inr (inl (object 0, object 3 ∷ object 4 ∷ [], refl, binds))))), ((refl, is_of_kind _ _ _ _ _ _ refl refl plain), (((refl, refl), tt), k))),
   )
 
   -- what gives the sum may answer that question
@@ -437,7 +442,7 @@ module _ (t : Tree) where
   first_raises qs more rest few binds plain k =
       let asking : Past = past_behind (plan_with qs) nothing (entered 1 (asked 1 (object 3) (object 4) [])) in
       asking_comes qs greatest (pos 1) (error_objects OverflowError more) (raised 1 (exception 8) rest) few binds plain
-      (sum_comes (plan_with qs) greatest (pos 1) (error_objects OverflowError more) asking 1 (got.Raise (exception 8)) refl refl refl (overflows 8 more asking.events refl (refl, (refl, (refl, (refl, tt))))), ((refl, refl), ((refl, refl, (Passes (This (exception 8)), (_, refl, (refl, refl)), refl)), k)))
+      (sum_comes (plan_with qs) greatest (pos 1) (error_objects OverflowError more) asking 1 (got.Raise (exception 8)) refl refl refl (overflows 8 more asking.events refl (refl, (refl, (refl, (refl, tt))))), ((refl, refl), ((refl, refl, (Passes (This (exception 8)), inl (_, refl, (refl, refl)), refl)), k)))
 
   -- what the activation of a drive that raises tells, which is entered and answered by the events with these numbers
   abbrev pub RaiseIsTraced : List Payload → ℕ → ℕ → PyBaseExceptionRef → Type 0

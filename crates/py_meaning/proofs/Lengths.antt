@@ -35,7 +35,8 @@ module _ (plan : Plan) (objects : List Payload) where
   nothing_comes p (event.Yield a v at) idle all may = going_busy (sym may.0 ∙ idle)
   nothing_comes p (event.End a e at) idle all may = going_busy (sym may.0 ∙ idle)
   nothing_comes p (event.Got a w) idle all (top, (reply, (r, asks, replies), gives)) = subst (λ (x : Phase). IsReply plan objects p x r reply) idle replies
-  nothing_comes p (event.Result d w) idle all (next, alone, (reply, (r, asks, replies), gives)) = subst (λ (x : Phase). IsReply plan objects p x r reply) idle replies
+  nothing_comes p (event.Result d w) idle all (next, alone, (reply, inr (asks, formed), gives)) = asking_busy (sym asks ∙ idle)
+  nothing_comes p (event.Result d w) idle all (next, alone, (reply, inl (r, asks, replies), gives)) = subst (λ (x : Phase). IsReply plan objects p x r reply) idle replies
 
   none_come : (p : Past) (es : List Event) → p.state.phase ≡ Idle → length plan.asked ≤ p.state.done → Comes plan objects p es → es ≡ []
   none_come p [] idle all comes = refl

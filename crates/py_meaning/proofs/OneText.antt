@@ -1,5 +1,5 @@
 -- Each whole run of one call of the worked function writes the same text.
-use Rattle.std.proofs.Common.{◌≡◌, ℕ, zero, suc, List, [], ◌∷◌, ◌++◌, Option, Some, None, ◌<◌, refl, sym, ap, subst, inl, ◌∙◌, ⊎_elim, arith, length, append-nil}
+use Rattle.std.proofs.Common.{◌≡◌, ℕ, zero, suc, List, [], ◌∷◌, ◌++◌, Option, Some, None, ◌<◌, refl, sym, ap, subst, inl, ◌∙◌, ⊎_elim, arith, length, append-nil, inr}
 use Rattle.std.specs.Prelude.{encode_utf8_all, ℤ, map, pos, ◌+ℤ◌, Bool, true, false, if◌then◌else◌, codes, slice_get, nat_lt}
 use Rattle.std.specs.List.{list_all}
 use Rattle.std.specs.Fmt.{signed_decimal}
@@ -32,18 +32,19 @@ use Rattle.py_tree.specs.Trace.{IsBegun, Ended}
 use Rattle.py_lines.specs.declared.drive.DriveAtom.TheVariants as atom
 use Rattle.py_answers.specs.Answers.{This, Reply, Has, Is, Fails, Passes, GivesBody, GivesDrive, IsRaised, whole}
 use Rattle.py_coro.specs.declared.coro.CoroEnd.{CoroEnd}
-use Rattle.py_run.specs.Run.{Signature, Posed, Plan, left_by, Phase, Idle, Asking, Going, Made, Due, Act, Activation, State, start, after, state_after, open_in, question, entered_in, IsTop}
+use Rattle.py_run.specs.Run.{Signature, Posed, Plan, left_by, Phase, Idle, Asking, Going, Made, Due, Act, Activation, State, start, after, state_after, makings_of, open_in, question, forming, entered_in, IsTop}
 use Rattle.py_run.specs.Generators.{Generator}
 use Rattle.py_run.specs.Calls.{Course, Says, Enters, Begins, Setting, LeavesCalled, ComesTo, CallsFunction, entry_at}
 use Rattle.py_run.specs.Coming.{Past, setting, past_after, Starts, Opens, IsReply, MayCome, Comes}
 use Rattle.py_meaning.specs.Whole.{AreAsked, AreOf, AsksThis, AreObjects, Traces, plan_of, signature_of}
-use Rattle.py_meaning.specs.Repr.{class_name, items_of, payload_of, repr_within, shown}
-use Rattle.py_meaning.specs.Said.{said_by}
-use Rattle.py_meaning.specs.Text.{details, events_text, numbered, raised, result_text, str_by, str_within}
+use Rattle.py_exceptions.specs.Repr.{class_name, items_of, payload_of, repr_within, shown}
+use Rattle.py_exceptions.specs.Said.{said_by}
+use Rattle.py_exceptions.specs.Texts.{details, raised, str_by, str_within}
+use Rattle.py_meaning.specs.Text.{events_text, numbered, result_text}
 use Rattle.py_meaning.proofs.PlainText.{plain_text, unchanged}
 use Rattle.py_meaning.specs.Worked.{Writes, call_of, events, exception, function, greatest, objects, out_of_range, overflow_by, overflow_objects, decls}
 use Rattle.py_meaning.proofs.WorkedObjects.{some_is}
-use Rattle.py_meaning.proofs.Journals.{ascii_bytes, asked_for, begun, called, course_is, decimal_1, decimal_45, due_leaves, entry_of, few_asked, gives_sum, gotten, never_suspended, plainly, sum_plain, traced_by}
+use Rattle.py_meaning.proofs.Journals.{ascii_bytes, asked_for, begun, called, course_is, decimal_1, decimal_45, due_leaves, entry_of, few_asked, gives_sum, gotten, never_suspended, plainly, posed_request, sum_plain, traced_by}
 use Rattle.py_meaning.proofs.WorkedLemmas.{is_run, overflow_is_run}
 
 -- how a drive's answer tells an ending
@@ -137,7 +138,8 @@ module _ (store : List Payload) (globals : Obj) (journal : List Event) (qs : Lis
 
   idle_next : (before : List Event) (s : State) (xs : List Generator) (e : Event) → s.phase ≡ Idle → MayCome plan store (past_with before s xs) e → (e ≡ event.Drive (suc s.done)) × (s.done < length qs)
   idle_next before s xs (event.Drive d) p h = (ap event.Drive h.1, h.2)
-  idle_next before s xs (event.Result d w) p (next, alone, (reply, (r, asks, replies), gives)) = absurd (subst (λ (x : Phase). IsReply plan store (past_with before s xs) x r reply) p replies)
+  idle_next before s xs (event.Result d w) p (next, alone, (reply, inr (asks, formed), gives)) = absurd (let clash = sym asks ∙ p in cc clash)
+  idle_next before s xs (event.Result d w) p (next, alone, (reply, inl (r, asks, replies), gives)) = absurd (subst (λ (x : Phase). IsReply plan store (past_with before s xs) x r reply) p replies)
   idle_next before s xs (event.Make a f vs) p h = absurd (cc h.1.0)
   idle_next before s xs (event.Resume a how.Start) p h = absurd (not_started before s xs Idle a p h)
   idle_next before s xs (event.Resume a (how.Send v)) p h = absurd (not_opened before s xs Idle _ p (λ e. cc) h)
@@ -155,12 +157,13 @@ module _ (store : List Payload) (globals : Obj) (journal : List Event) (qs : Lis
   entered_alone before s c only (phase, (r, asks, comes)) = let (f, vs, is, calls) = only r c asks comes in (f, vs, is)
 
   -- a drive's question is open
-  asked_next : (before : List Event) (s : State) (e : Event) → s.phase ≡ Asking → s.stack ≡ [] → Enters_only before s → MayCome plan store (past before s) e
+  asked_next : (before : List Event) (s : State) (e : Event) → s.phase ≡ Asking → s.stack ≡ [] → forming plan s ≡ None → Enters_only before s → MayCome plan store (past before s) e
       → (f : Obj) × (vs : List Obj) × (e ≡ event.Make (suc (length s.made)) f vs) × (question plan s ≡ Some (Calling f vs keywords.None))
-  asked_next before s (event.Result d w) p q only (next, alone, (reply, (r, asks, replies), gives)) =
+  asked_next before s (event.Result d w) p q none only (next, alone, (reply, inr (asks, (x, forms, is)), gives)) = absurd (let clash : None ≡ Some x = sym none ∙ forms in cc clash)
+  asked_next before s (event.Result d w) p q none only (next, alone, (reply, inl (r, asks, replies), gives)) =
       let (f, vs, is, calls) = only r (Says reply) asks (subst (λ (x : Phase). In before s x r reply) p replies) in
       absurd (cc is)
-  asked_next before s (event.Make a f vs) p q only (number, (phase, (r, asks, comes))) =
+  asked_next before s (event.Make a f vs) p q none only (number, (phase, (r, asks, comes))) =
       let (g, ws, is, calls) = only r (Enters f vs) asks comes in
       let function : f ≡ g = cc is in
       let args : vs ≡ ws = cc is in (
@@ -169,19 +172,20 @@ module _ (store : List Payload) (globals : Obj) (journal : List Event) (qs : Lis
         ap (λ (k : ℕ). event.Make k f vs) number,
         asks ∙ ap Some (calls ∙ (ap (λ (x : Obj). Calling x ws keywords.None) (sym function) ∙ ap (λ (xs : List Obj). Calling f xs keywords.None) (sym args))),
       )
-  asked_next before s (event.Resume a how.Start) p q only h = let (f, vs, is) = entered_alone before s (Begins a) only (not_started before s [] Asking a p h) in absurd (cc is)
-  asked_next before s (event.Resume a (how.Send v)) p q only h = let (f, vs, is) = entered_alone before s _ only h in absurd (cc is)
-  asked_next before s (event.Resume a (how.Throw e)) p q only h = let (f, vs, is) = entered_alone before s _ only h.1 in absurd (cc is)
-  asked_next before s (event.Got a w) p q only h = absurd (subst (IsTop a) q h.0)
-  asked_next before s (event.Ask a r own at) p q only h = absurd (cc h.0.0)
-  asked_next before s _ p q only h = absurd (cc h.0)
+  asked_next before s (event.Resume a how.Start) p q none only h = let (f, vs, is) = entered_alone before s (Begins a) only (not_started before s [] Asking a p h) in absurd (cc is)
+  asked_next before s (event.Resume a (how.Send v)) p q none only h = let (f, vs, is) = entered_alone before s _ only h in absurd (cc is)
+  asked_next before s (event.Resume a (how.Throw e)) p q none only h = let (f, vs, is) = entered_alone before s _ only h.1 in absurd (cc is)
+  asked_next before s (event.Got a w) p q none only h = absurd (subst (IsTop a) q h.0)
+  asked_next before s (event.Ask a r own at) p q none only h = absurd (cc h.0.0)
+  asked_next before s _ p q none only h = absurd (cc h.0)
 
   -- the script's function makes no generator
   not_made : (before : List Event) (s : State) (f : Obj) (r : Request) (reply : Reply) → In before s (Made f) r reply → ⊥
   not_made before s f r reply (kind, is, more) = never_suspended function qs store f kind refl is
 
   made_next : (before : List Event) (s : State) (e : Event) (f : Obj) → s.phase ≡ Made f → MayCome plan store (past before s) e → e ≡ event.Resume (length s.made) how.Start
-  made_next before s (event.Result d w) f p (next, alone, (reply, (r, asks, replies), gives)) = absurd (not_made before s f r reply (subst (λ (x : Phase). In before s x r reply) p replies))
+  made_next before s (event.Result d w) f p (next, alone, (reply, inr (asks, formed), gives)) = absurd (let clash = sym asks ∙ p in cc clash)
+  made_next before s (event.Result d w) f p (next, alone, (reply, inl (r, asks, replies), gives)) = absurd (not_made before s f r reply (subst (λ (x : Phase). In before s x r reply) p replies))
   made_next before s (event.Make a g vs) f p h = absurd (cc h.1.0)
   made_next before s (event.Resume a how.Start) f p h = ap (λ (k : ℕ). event.Resume k how.Start) (not_started before s [] (Made f) a p h).0
   made_next before s (event.Resume a (how.Send v)) f p h = absurd (not_opened before s [] (Made f) _ p (λ e. cc) h)
@@ -193,7 +197,8 @@ module _ (store : List Payload) (globals : Obj) (journal : List Event) (qs : Lis
   -- the innermost activation tells something
   going_next : (before : List Event) (s : State) (k : ℕ) (e : Event) → s.phase ≡ Going → MayCome plan store (past before s) e → IsTop (whose e) s.stack × ((o : Own) × (own_of k e ≡ o ∷ []))
   going_next before s k (event.Drive d) p h = absurd (cc h.0)
-  going_next before s k (event.Result d w) p (next, alone, (reply, (r, asks, replies), gives)) = absurd (subst (λ (x : Phase). In before s x r reply) p replies)
+  going_next before s k (event.Result d w) p (next, alone, (reply, inr (asks, formed), gives)) = absurd (let clash = sym asks ∙ p in cc clash)
+  going_next before s k (event.Result d w) p (next, alone, (reply, inl (r, asks, replies), gives)) = absurd (subst (λ (x : Phase). In before s x r reply) p replies)
   going_next before s k (event.Make a f vs) p h = absurd (cc h.1.0)
   going_next before s k (event.Resume a how.Start) p h = absurd (not_started before s [] Going a p h)
   going_next before s k (event.Resume a (how.Send v)) p h = absurd (not_opened before s [] Going _ p (λ e. cc) h)
@@ -233,7 +238,8 @@ module _ (store : List Payload) (globals : Obj) (journal : List Event) (qs : Lis
   due_next : (before : List Event) (s : State) (e : Event) (left : CoroEnd) → s.phase ≡ Due left → s.stack ≡ [] → ((r : Request) → question plan s ≡ Some r → (f : Obj) × (vs : List Obj) × (r ≡ Calling f vs keywords.None))
       → MayCome plan store (past before s) e
       → (w : DriveAnswer) × (e ≡ event.Result (suc s.done) w) × ((reply : Reply) × LeavesCalled left reply × GivesDrive store before reply w)
-  due_next before s (event.Result d w) left p q call (next, alone, (reply, (r, asks, replies), gives)) =
+  due_next before s (event.Result d w) left p q call (next, alone, (reply, inr (asks, formed), gives)) = absurd (let clash = sym asks ∙ p in cc clash)
+  due_next before s (event.Result d w) left p q call (next, alone, (reply, inl (r, asks, replies), gives)) =
       let (f, vs, calls) = call r asks in
       (w, ap (λ (k : ℕ). event.Result k w) next, (reply, due_leaves store r f vs left reply calls (subst (λ (x : Phase). In before s x r reply) p replies), gives))
   due_next before s (event.Make a f vs) left p q call h = absurd (cc h.1.0)
@@ -264,7 +270,8 @@ module _ (store : List Payload) (globals : Obj) (journal : List Event) (qs : Lis
   -- its question is a call
   asks_call : (xs : List Posed) (r : Request) → AreAsked store journal (call_of (codes "f") m n ∷ []) xs → open_in (slice_get xs 0) [] ≡ Some r → (f : Obj) × (vs : List Obj) × (r ≡ Calling f vs keywords.None)
   asks_call [] r asked open_ = absurd (cc open_)
-  asks_call (x ∷ xs) r asked open_ = let (f, vs, is, named, of) = asked.0.0 in (f, vs, sym (some_is _ _ open_) ∙ is)
+  asks_call (x ∷ xs) r asked open_ =
+      let (q, requests, (f, vs, is, named, of), none) = posed_request store journal (call_of (codes "f") m n) x.pose asked.0.0 in (f, vs, some_is _ _ (sym open_ ∙ requests) ∙ is)
 
   ended : (made : List Activation) (xs : List Generator) (before es : List Event) → AreCalls → Comes plan store (past_with before (at 1 Idle [] made) xs) es → es ≡ []
   ended made xs before [] asked h = refl
@@ -346,12 +353,19 @@ module _ (store : List Payload) (globals : Obj) (journal : List Event) (qs : Lis
   -- the first question is the script's
   first_asked : (xs : List Posed) (f : Obj) (vs : List Obj) → AreAsked store journal (call_of (codes "f") m n ∷ []) xs → open_in (slice_get xs 0) [] ≡ Some (Calling f vs keywords.None) → IsCalled f vs
   first_asked [] f vs h e = absurd cc
-  first_asked (x ∷ xs) f vs h e = asked_for store journal (codes "f") (atom.Int m ∷ atom.Int n ∷ []) f vs (subst (AsksThis store journal (call_of (codes "f") m n)) (some_is _ _ e) h.0.0)
+  first_asked (x ∷ xs) f vs h e =
+      let (q, requests, asks, none) = posed_request store journal (call_of (codes "f") m n) x.pose h.0.0 in
+      asked_for store journal (codes "f") (atom.Int m ∷ atom.Int n ∷ []) f vs (subst (AsksThis store journal (call_of (codes "f") m n)) (some_is _ _ (sym requests ∙ e)) asks)
 
   -- it is made by a host that has entered nothing
   none_entered : (xs : List Posed) → AreAsked store journal (call_of (codes "f") m n ∷ []) xs → entered_in (slice_get xs 0) ≡ 0
   none_entered [] h = refl
   none_entered (x ∷ xs) h = h.0.1
+
+  -- and has no exception made
+  none_formed : (xs : List Posed) → AreAsked store journal (call_of (codes "f") m n ∷ []) xs → makings_of (slice_get xs 0) ≡ None
+  none_formed [] h = refl
+  none_formed (x ∷ xs) h = let (q, requests, asks, none) = posed_request store journal (call_of (codes "f") m n) x.pose h.0.0 in none
 
   -- with so many arguments as it takes the function is entered
   entered_by : (f : Obj) (vs : List Obj) (place : Setting) (course : Course) → AreObjects decls store → place.signatures ≡ map signature_of (functions_in decls) → place.depth ≡ 0 → IsCalled f vs → CallsFunction place store f vs course → course ≡ Enters f vs
@@ -367,8 +381,8 @@ module _ (store : List Payload) (globals : Obj) (journal : List Event) (qs : Lis
       → open_in (slice_get xs 0) [] ≡ Some r → ComesTo place store r course → (f : Obj) × (vs : List Obj) × (course ≡ Enters f vs) × (r ≡ Calling f vs keywords.None)
   enters_only [] r course place o signed h at_zero e c = absurd cc
   enters_only (x ∷ xs) r course place o signed h at_zero e c =
-      let (f, vs, is, named, of) = h.0.0 in
-      let same : r ≡ Calling f vs keywords.None = some_is _ _ (sym e) ∙ is in
+      let (q, requests, (f, vs, is, named, of), none) = posed_request store journal (call_of (codes "f") m n) x.pose h.0.0 in
+      let same : r ≡ Calling f vs keywords.None = some_is _ _ (sym e ∙ requests) ∙ is in
       let comes = subst (λ (y : Request). ComesTo place store y course) same c in (
         f,
         vs,
@@ -394,7 +408,7 @@ module _ (store : List Payload) (globals : Obj) (journal : List Event) (qs : Lis
   making_behind before [] o asked t h = absurd (cc h.1)
   making_behind before (e ∷ es) o asked t h =
       let none = none_entered qs asked in
-      let c = asked_next before (at 0 Asking [] []) e refl refl (λ r course q x. enters_only qs r course (setting plan (past before (at 0 Asking [] []))) o refl asked (omega (arith, none)) q x) h.0.0 in
+      let c = asked_next before (at 0 Asking [] []) e refl refl (none_formed qs asked) (λ r course q x. enters_only qs r course (setting plan (past before (at 0 Asking [] []))) o refl asked (omega (arith, none)) q x) h.0.0 in
       subst (λ (x : Event). Tells (at 0 Asking [] []) 1 (x ∷ es) → Follows before (at 0 Asking [] []) (x ∷ es) → plain_text store (x ∷ es) ≡ line) (sym c.2)
       (λ u l. making c.0 c.1 before es o asked (first_asked qs c.0 c.1 asked c.3) u l) t h
 
@@ -445,7 +459,7 @@ raise_line_of d ts store kind text ascii_name ascii_text o before e h =
     ap (λ (p : Option Payload). numbered d (codes " raises " ++ raised store p)) h.made.entry
     ∙ (ap (λ (n : Name). numbered d (codes " raises " ++ (encode_utf8_all n ++ details store (items_of (payload_of store h.made.args))))) (class_named ts store kind (class_object h.class) o h.is_class)
     ∙ (ap (λ (p : Option Payload). numbered d (codes " raises " ++ (encode_utf8_all (name_of kind) ++ details store (items_of p)))) h.made.are
-    ∙ (ap (λ (t : List ℕ). numbered d (codes " raises " ++ (encode_utf8_all (name_of kind) ++ (codes ": " ++ t)))) (text_within 999 store h.argument text h.message)
+    ∙ (ap (λ (t : List ℕ). numbered d (codes " raises " ++ (encode_utf8_all (name_of kind) ++ (codes ": " ++ t)))) (text_within 1000 store h.argument text h.message)
     ∙ (ap (λ (name : List ℕ). numbered d (codes " raises " ++ (name ++ (codes ": " ++ encode_utf8_all text)))) (ascii_bytes (name_of kind) ascii_name)
     ∙ ap (λ (t : List ℕ). numbered d (codes " raises " ++ (name_of kind ++ (codes ": " ++ t)))) (ascii_bytes text ascii_text)))))
 

@@ -23,9 +23,10 @@ use Rattle.py_determined.specs.Alike.{SameAttrs, AlikeExceptions, Alike, AreAlik
 use Rattle.py_determined.specs.Events.{SameResult, SameEvent, SameEvents}
 use Rattle.py_determined.proofs.AlikeLemmas.{seen_same, derived_agree}
 use Rattle.py_determined.proofs.Requests.{BothAsk, BothShow, both_ask}
-use Rattle.py_meaning.specs.Repr.{payload_of, quoted, joined, class_name, items_of, Inner, in_parentheses, coro_of, shown, repr_within}
-use Rattle.py_meaning.specs.Said.{unless_none, given, attribute, text_in, text_at, base_name, second_file, file_and, line_between, found_at, said, key_said, os_said, syntax_said, said_by}
-use Rattle.py_meaning.specs.Text.{str_by, str_within, repr, details, raised, numbered, result_text, shown_line, request_text, event_text, text_from, events_text}
+use Rattle.py_exceptions.specs.Repr.{payload_of, quoted, joined, class_name, items_of, Inner, in_parentheses, coro_of, shown, repr_within}
+use Rattle.py_exceptions.specs.Said.{unless_none, given, attribute, text_in, text_at, base_name, second_file, file_and, line_between, found_at, said, key_said, os_said, syntax_said, said_by}
+use Rattle.py_exceptions.specs.Texts.{str_by, str_within, str, repr, details, raised}
+use Rattle.py_meaning.specs.Text.{numbered, result_text, shown_line, request_text, event_text, text_from, events_text}
 
 -- one of two texts, by a test
 chosen : {b c : Bool} {x x' y y' : List ℕ} → b ≡ c → x ≡ x' → y ≡ y' → (if b then x else y) ≡ (if c then x' else y')
@@ -309,7 +310,7 @@ module _ (S : Relation) (objects objects' : List Payload) (alike : AreAlike S ob
   details_agree [] [] s = refl
   details_agree (v ∷ vs) (w ∷ ws) s =
       ap (λ rest. codes ": " ++ rest)
-      (said_agree (str_within 999 objects) (str_within 999 objects') (repr_within 999 objects) (repr_within 999 objects') (strs_agree 999) (reprs_agree 999)
+      (said_agree (str objects) (str objects') (repr objects) (repr objects') (strs_agree 1000) (reprs_agree 1000)
       (v ∷ vs) (w ∷ ws) (matched Both (v ∷ vs) (w ∷ ws) s))
   details_agree _ _ s = absurd s
 

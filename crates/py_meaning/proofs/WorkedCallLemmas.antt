@@ -1,5 +1,5 @@
 -- What the definitions say of the journal of functions that call.
-use Rattle.std.proofs.Common.{◌≡◌, ℕ, zero, suc, Option, List, [], ◌∷◌, ◌++◌, length, drop, Some, None, false, refl, sym, ap, subst, inl, inr, lit<, ◌∙◌, arith}
+use Rattle.std.proofs.Common.{◌≡◌, ℕ, zero, suc, Option, List, [], ◌∷◌, ◌++◌, length, drop, Some, None, false, refl, sym, ap, subst, inl, inr, lit<, ⊎_elim, ◌∙◌, arith}
 use Rattle.std.proofs.lemmas.Fmt.{decimal_digit}
 use Rattle.std.specs.List.{AllZip}
 use Rattle.std.proofs.lemmas.Bool.{le-ltb}
@@ -30,7 +30,7 @@ use Rattle.py_grammar.specs.Lines.{lines}
 use Rattle.py_grammar.specs.Script.{Spells}
 use Rattle.py_answers.specs.Answers.{Reply, Fails, Is, GivesDrive, IsRaised}
 use Rattle.py_coro.specs.declared.coro.CoroEnd.TheVariants as how
-use Rattle.py_run.specs.Run.{Signature, Posed, Plan, Activation, open_in, depth}
+use Rattle.py_run.specs.Run.{Signature, Requests, Posed, Plan, Activation, open_in, depth}
 use Rattle.py_run.specs.Calls.{Says, Enters, Setting, too_many, missing_if, refusal, entry_at, made_at, bound_by, CallsFunction, ComesTo, IsDue}
 use Rattle.py_run.specs.Coming.{Past, nothing, setting, Comes, EachTells}
 use Rattle.py_run.specs.Past.{past_behind}
@@ -44,7 +44,7 @@ use Rattle.py_run.proofs.BoundLemmas.{enters_call, IsMaking}
 use Rattle.py_meaning.proofs.Behind.{none_declared}
 use Rattle.py_meaning.proofs.Entries.{one_declared}
 use Rattle.py_meaning.proofs.WorkedObjects.{each_at, objects_behind, some_is}
-use Rattle.py_meaning.proofs.Journals.{all_fit, are_named, asked_for, course_is, decimal_1, differ, due_leaves, is_of_kind, is_raised, made_exception, reads_of, runs}
+use Rattle.py_meaning.proofs.Journals.{all_fit, are_named, asked_for, course_is, decimal_1, differ, due_leaves, is_of_kind, is_raised, made_exception, posed_request, reads_of, runs}
 use Rattle.py_meaning.proofs.OneText.{raise_line_of, returned_so}
 
 -- call g $1 9
@@ -119,7 +119,7 @@ no_name_unbound are =
 
 -- a drive that calls this
 abbrev called : Obj → List Obj → Posed
-called f vs = record { request = Calling f vs keywords.None; entered = 0 }
+called f vs = record { pose = Requests (Calling f vs keywords.None); entered = 0 }
 
 -- the questions of the drives
 abbrev asked : List Posed
@@ -169,7 +169,7 @@ third_comes = (
       refl,
       (
         Fails TypeError (too_many (codes "f") 0 1),
-        (_, refl, inr (inl (object 1, object 6 ∷ [], refl, runs _ _ _ _ _ _ _ refl refl refl))),
+        inl (_, refl, inr (inl (object 1, object 6 ∷ [], refl, runs _ _ _ _ _ _ _ refl refl refl))),
         subst (λ (text : Name). IsRaised objects refusing TypeError text (exception 13)) (sym text_is) refused,
       ),
     ),
@@ -182,7 +182,7 @@ second_comes = (
   (refl, refl, lit< tt),
   (
     (refl, (refl, (_, refl, inr (inl (object 0, object 6 ∷ object 9 ∷ [], refl, runs _ _ _ _ _ _ _ refl refl refl))))),
-    ((refl, is_of_kind _ _ _ _ _ _ refl refl refl), ((refl, refl), ((refl, refl, (Is (object 6), (_, refl, (refl, refl)), refl)), third_comes))),
+    ((refl, is_of_kind _ _ _ _ _ _ refl refl refl), ((refl, refl), ((refl, refl, (Is (object 6), inl (_, refl, (refl, refl)), refl)), third_comes))),
   ),
 )
 
@@ -203,7 +203,7 @@ comes = (
               (refl, (refl, (_, refl, inr (inl (object 0, object 6 ∷ object 7 ∷ [], refl, runs _ _ _ _ _ _ _ refl refl refl))))),
               (
                 (refl, is_of_kind _ _ _ _ _ _ refl refl refl),
-                ((refl, refl), ((refl, (Is (object 6), (_, refl, (refl, refl)), refl)), ((refl, refl), ((refl, refl, (Is (object 6), (_, refl, (refl, refl)), refl)), second_comes)))),
+                ((refl, refl), ((refl, (Is (object 6), (_, refl, (refl, refl)), refl)), ((refl, refl), ((refl, refl, (Is (object 6), inl (_, refl, (refl, refl)), refl)), second_comes)))),
               ),
             ),
           ),
@@ -274,7 +274,8 @@ not_asked : (qs : List Posed) (r : Request) → AreAsked objects (again (object 
 not_asked [] r h e making = absurd cc
 not_asked (p ∷ []) r h e making = absurd cc
 not_asked (p ∷ q ∷ qs) r h e making =
-    let asks = subst (AsksThis objects (again (object 0) []) second_drive) (some_is _ _ e) h.1.0.0 in
+    let (first, requests, posed, none) = posed_request objects (again (object 0) []) second_drive q.pose h.1.0.0 in
+    let asks = subst (AsksThis objects (again (object 0) []) second_drive) (some_is _ _ (sym requests ∙ e)) posed in
     let call = subst (λ (x : Request). IsMaking objects x (object 0) (object 0 ∷ object 9 ∷ [])) asks.2 making in
     let (is, args) =
     asked_for objects (again (object 0) []) (codes "g") (argument.Drive 1 ∷ argument.Int (pos 9) ∷ []) (object 0) (object 0 ∷ object 9 ∷ [])
@@ -312,16 +313,18 @@ result_value v w e = cc
 result_due : (qs : List Posed) (q : Request) (reply : Reply) → AreAsked objects (returned (object 0) []) drives qs → open_in (slice_get qs 0) [] ≡ Some q → IsDue objects q (how.Return (object 6)) reply → reply ≡ Is (object 6)
 result_due [] q reply are asks due = absurd (cc asks)
 result_due (p ∷ qs) q reply are asks due =
-    let (f, vs, is, named, of) = are.0.0 in
-    due_leaves objects q f vs (how.Return (object 6)) reply (sym (some_is _ _ asks) ∙ is) due
+    let (first, requests, (f, vs, is, named, of), none) = posed_request objects (returned (object 0) []) (drive.Call (codes "f") []) p.pose are.0.0 in
+    due_leaves objects q f vs (how.Return (object 6)) reply (some_is _ _ (sym asks ∙ requests) ∙ is) due
 
 pub no_other_result : IsRunOf decls drives objects (returned (object 0) []) → ⊥
 no_other_result r =
     let before : List Event = left (event.Got 1 (got.Value (object 6)) ∷ event.End 1 (ending.Return (object 6)) 6 ∷ []) in
-    let (reply, (q, asks, due), gives) = r.run.comes.1.1.1.1.1.1.1.1.1.1.1.0.2 in
+    let (reply, result, gives) = r.run.comes.1.1.1.1.1.1.1.1.1.1.1.0.2 in
+    ⊎_elim (λ answered.
+    let (q, asks, due) = answered in
     let is : reply ≡ Is (object 6) = result_due r.asked q reply r.are_asked asks due in
     let same = returned_so objects before (object 6) (answer.Returns (object 0)) (subst (λ (x : Reply). GivesDrive objects before x (answer.Returns (object 0))) is gives) in
-    differ 0 6 refl (result_value (object 0) (object 6) same)
+    differ 0 6 refl (result_value (object 0) (object 6) same)) (λ formed. cc formed.0) result
 
 pub no_activation_of_a_refused_drive : IsRunOf decls drives objects refused_made → ⊥
 no_activation_of_a_refused_drive r =

@@ -64,7 +64,7 @@ comes : Comes plan objects at_first events
 comes = (
   (refl, refl, lit< tt),
   (
-    (refl, (refl, (call.request, refl, inr (inl (object 0, [], refl, runs _ _ _ _ _ _ _ refl refl refl))))),
+    (refl, (refl, (_, refl, inr (inl (object 0, [], refl, runs _ _ _ _ _ _ _ refl refl refl))))),
     (
       (refl, is_of_kind _ _ _ _ _ _ refl refl refl),
       (
@@ -75,7 +75,7 @@ comes = (
             ((refl, refl), tt),
             (
               (refl, (Has payload.None, (Showing (object 7), refl, inl (Has payload.None, refl, refl)), refl)),
-              ((refl, refl), ((refl, refl, (Passes (This (exception 6)), (_, refl, (refl, refl)), refl)), tt)),
+              ((refl, refl), ((refl, refl, (Passes (This (exception 6)), inl (_, refl, (refl, refl)), refl)), tt)),
             ),
           ),
         ),

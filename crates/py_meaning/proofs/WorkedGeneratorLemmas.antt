@@ -23,7 +23,7 @@ use Rattle.py_coro.specs.declared.coro.CoroAnswer.TheVariants as told
 use Rattle.py_coro.specs.declared.coro.CoroEnd.TheVariants as left
 use Rattle.py_coro.specs.Refusals.{word_of}
 use Rattle.py_answers.specs.Answers.{Reply, Creates, Yields, GivesDrive}
-use Rattle.py_run.specs.Run.{Signature, Posed, Plan, open_in}
+use Rattle.py_run.specs.Run.{Signature, Requests, Posed, Plan, open_in}
 use Rattle.py_run.specs.Calls.{IsDue, reply_by}
 use Rattle.py_run.specs.Coming.{IsOfKind, nothing as at_first, Comes}
 use Rattle.py_meaning.specs.Whole.{AreAsked, Traces, IsRunOf, plan_of, signature_of}
@@ -31,7 +31,7 @@ use Rattle.py_meaning.specs.Text.{events_text, result_text}
 use Rattle.py_meaning.specs.Worked.{object}
 use Rattle.py_meaning.specs.WorkedGenerator.{script, function, decls, drives, own_objects, objects, events_by, events, never_entered, entered_by_call, returned_other}
 use Rattle.py_meaning.proofs.WorkedObjects.{some_is}
-use Rattle.py_meaning.proofs.Journals.{are_globals, are_loaded, are_named, ascii_bytes, begun, decimal_1, differ, fits, is_new, is_of_kind, one_tells, reads_of, runs, traced_with}
+use Rattle.py_meaning.proofs.Journals.{are_globals, are_loaded, are_named, ascii_bytes, begun, decimal_1, differ, fits, is_new, is_of_kind, one_tells, posed_request, reads_of, runs, traced_with}
 
 pub spelled : Spells (lines script) decls drives
 spelled =
@@ -43,7 +43,7 @@ all_fit = fits function own_objects refl (tt, (tt, (tt, tt)))
 
 -- the questions of the drives
 abbrev asked : List Posed
-asked = record { request = Calling (object 0) [] keywords.None; entered = 0 } ∷ record { request = Send (object 4) none_object; entered = 0 } ∷ []
+asked = record { pose = Requests (Calling (object 0) [] keywords.None); entered = 0 } ∷ record { pose = Requests (Send (object 4) none_object); entered = 0 } ∷ []
 
 are_asked : AreAsked objects events drives asked
 are_asked = (((object 0, [], refl, refl, tt), refl), (((object 4, none_object, refl, (2, answer.Returns (object 4), refl, refl), refl), refl), tt))
@@ -62,12 +62,12 @@ comes = (
   (
     (refl, (refl, (_, refl, inr (inl (object 0, [], refl, runs _ _ _ _ _ _ _ refl refl refl))))),
     (
-      (refl, refl, (Creates _, (_, refl, (coro.Generator, is_of_kind _ _ _ _ _ _ refl refl refl, refl)), (new, refl))),
+      (refl, refl, (Creates _, inl (_, refl, (coro.Generator, is_of_kind _ _ _ _ _ _ refl refl refl, refl)), (new, refl))),
       (
         (refl, refl, lit< tt),
         (
           (refl, (_, refl, inr (inr (inr (inl (object 4, none_object, refl, (coro.Generator, _, record { body = _; entry = refl; kind_is = refl; kept = refl }, payload.None, refl, refl))))))),
-          ((refl, refl), ((refl, refl, (Yields (object 5), (_, refl, (_, refl, told.Value (object 5), refl, refl)), refl)), tt)),
+          ((refl, refl), ((refl, refl, (Yields (object 5), inl (_, refl, (_, refl, told.Value (object 5), refl, refl)), refl)), tt)),
         ),
       ),
     ),
@@ -123,17 +123,19 @@ no_entry_by_the_call r = suspended r.asked r.run.comes.1.1.0.1
 
 pub no_other_returned : IsRunOf decls drives objects returned_other → ⊥
 no_other_returned r =
-    let (reply, (q, asks, (kind, is, creates)), gives) = r.run.comes.1.1.0.2 in
+    let (reply, result, gives) = r.run.comes.1.1.0.2 in
+    ⊎_elim (λ answered.
+    let (q, asks, (kind, is, creates)) = answered in
     let (is_new, has) = subst (λ (x : Reply). GivesDrive objects (event.Drive 1 ∷ event.Make 1 (object 0) [] ∷ []) x (answer.Returns (object 0))) creates gives in
-    cc has
+    cc has) (λ formed. cc formed.0) result
 
 -- what the second drive asks of a generator is answered by what that yields
 yield_due : (es : List Event) (qs : List Posed) (q : Request) (v : Obj) (reply : Reply) → AreAsked objects es drives qs → open_in (slice_get qs 1) [] ≡ Some q → IsDue objects q (left.Yield v) reply → reply ≡ Yields v
 yield_due es [] q v reply are asks due = absurd (cc asks)
 yield_due es (p ∷ []) q v reply are asks due = absurd (cc asks)
 yield_due es (p ∷ p' ∷ qs) q v reply are asks due =
-    let (g, none, is, from, value) = are.1.0.0 in
-    let (body, has, a, finishes, replies) = subst (λ (x : Request). IsDue objects x (left.Yield v) reply) (sym (some_is _ _ asks) ∙ is) due in
+    let (second, requests, (g, none, is, from, value), plain) = posed_request objects es (drive.Next 1) p'.pose are.1.0.0 in
+    let (body, has, a, finishes, replies) = subst (λ (x : Request). IsDue objects x (left.Yield v) reply) (some_is _ _ (sym asks ∙ requests) ∙ is) due in
     replies ∙ ap (reply_by (word_of body.kind)) finishes
 
 yields_one : (v w : Obj) → Yields v ≡ Yields w → v ≡ w
@@ -141,9 +143,11 @@ yields_one v w e = cc
 
 pub no_other_value_yielded : IsRunOf decls drives objects (events_by (object 5) (object 3)) → ⊥
 no_other_value_yielded r =
-    let (reply, (q, asks, due), gives) = r.run.comes.1.1.1.1.1.1.0.2 in
+    let (reply, result, gives) = r.run.comes.1.1.1.1.1.1.0.2 in
+    ⊎_elim (λ answered.
+    let (q, asks, due) = answered in
     let is : reply ≡ Yields (object 5) = yield_due (events_by (object 5) (object 3)) r.asked q (object 5) reply r.are_asked asks due in
-    differ 5 3 refl (yields_one (object 5) (object 3) (sym is ∙ gives))
+    differ 5 3 refl (yields_one (object 5) (object 3) (sym is ∙ gives))) (λ formed. cc formed.0) result
 
 yielded_one : (at at' : ℕ) (v w : Obj) (ts us : List Own) → Yielding at v ∷ ts ≡ Yielding at' w ∷ us → v ≡ w
 yielded_one at at' v w ts us e = cc

@@ -54,7 +54,7 @@ sum_traced = (refl, (_, refl, inr (inr (2, _, refl, refl, inr (4, got.Value (obj
 
 pub is_run : IsRunOf decls drives objects events
 is_run =
-    call_runs function (pos 33) (pos 12) (payload.Int (pos 45) ∷ []) events refl (tt, tt) sum_fits (front_comes (event.Result 1 (answer.Returns (object 6)) ∷ []) ((refl, refl, (Is (object 6), (_, refl, (refl, refl)), refl)), tt))
+    call_runs function (pos 33) (pos 12) (payload.Int (pos 45) ∷ []) events refl (tt, tt) sum_fits (front_comes (event.Result 1 (answer.Returns (object 6)) ∷ []) ((refl, refl, (Is (object 6), inl (_, refl, (refl, refl)), refl)), tt))
     (one_tells (Traces (functions_in decls) (object 2) objects) (object 0) (object 3 ∷ object 4 ∷ []) events refl (_, refl, (function, refl, sum_traced))) (are_named objects events sum_fits refl)
 
 front_tells : EachTells (Traces (functions_in decls) (object 2) objects) unfinished
@@ -136,7 +136,7 @@ second_raises =
     let asking : Past = past_behind both_plan nothing second_asks in (
       (refl, refl, lit< tt),
       (
-        (refl, (refl, (call.request, refl, inr (inl (object 0, object 3 ∷ object 4 ∷ [], refl, runs _ _ _ _ _ _ _ refl refl refl))))),
+        (refl, (refl, (_, refl, inr (inl (object 0, object 3 ∷ object 4 ∷ [], refl, runs _ _ _ _ _ _ _ refl refl refl))))),
         (
           (refl, is_of_kind _ _ _ _ _ _ refl refl refl),
           (
@@ -144,7 +144,7 @@ second_raises =
             (
               sum_comes function both_plan greatest (pos 1) (error_objects OverflowError (error_entry OverflowError ∷ [])) asking 2 (got.Raise (exception 9)) refl refl refl
                   (overflows function 9 (error_entry OverflowError ∷ []) asking.events refl (refl, (refl, (refl, (refl, (refl, (refl, (refl, (refl, (refl, (refl, (refl, tt)))))))))))),
-              ((refl, refl), ((refl, refl, (Passes (This (exception 9)), (_, refl, (refl, refl)), refl)), tt)),
+              ((refl, refl), ((refl, refl, (Passes (This (exception 9)), inl (_, refl, (refl, refl)), refl)), tt)),
             ),
           ),
         ),

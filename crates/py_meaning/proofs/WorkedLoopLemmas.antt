@@ -23,7 +23,7 @@ use Rattle.py_grammar.specs.Grammar.{Declares, Drives, FunctionDecl, functions_i
 use Rattle.py_grammar.specs.Lines.{lines}
 use Rattle.py_grammar.specs.Script.{Spells}
 use Rattle.py_answers.specs.Answers.{This, Has, Fails, Passes, unknown_text, IsRaised}
-use Rattle.py_run.specs.Run.{Posed, Plan}
+use Rattle.py_run.specs.Run.{Requests, Posed, Plan}
 use Rattle.py_run.specs.Coming.{nothing as at_first, Comes}
 use Rattle.py_meaning.specs.Whole.{AreGlobals, Traces, IsRunOf, plan_of}
 use Rattle.py_meaning.specs.Text.{events_text, result_text}
@@ -39,7 +39,7 @@ spelled =
 
 -- the question of the drive
 abbrev pub call : Posed
-call = record { request = Calling (object 0) [] keywords.None; entered = 0 }
+call = record { pose = Requests (Calling (object 0) [] keywords.None); entered = 0 }
 
 -- what the run is of
 abbrev plan : Plan
@@ -52,7 +52,7 @@ comes : Comes plan objects at_first events
 comes = (
   (refl, refl, lit< tt),
   (
-    (refl, (refl, (call.request, refl, inr (inl (object 0, [], refl, runs _ _ _ _ _ _ _ refl refl refl))))),
+    (refl, (refl, (_, refl, inr (inl (object 0, [], refl, runs _ _ _ _ _ _ _ refl refl refl))))),
     (
       (refl, is_of_kind _ _ _ _ _ _ refl refl refl),
       ((refl, refl), (((refl, refl), tt), ((refl, (Has (payload.Bool true), (Truth (object 4), refl, inl (Has (payload.Bool true), refl, (payload.Bool true, refl, refl))), refl)), ((refl, refl), tt)))),
@@ -181,14 +181,14 @@ unknown_comes : Comes (plan_of (functions_in unknown_decls) (call ∷ [])) unkno
 unknown_comes = (
   (refl, refl, lit< tt),
   (
-    (refl, (refl, (call.request, refl, inr (inl (object 0, [], refl, runs _ _ _ _ _ _ _ refl refl refl))))),
+    (refl, (refl, (_, refl, inr (inl (object 0, [], refl, runs _ _ _ _ _ _ _ refl refl refl))))),
     (
       (refl, is_of_kind _ _ _ _ _ _ refl refl refl),
       (
         ((refl, refl), tt),
         (
           (refl, (Fails NameError (unknown_text (codes "z")), (Global (object 2) (codes "z"), refl, inl (Fails NameError (unknown_text (codes "z")), refl, refl)), unknown_raised)),
-          ((refl, refl), ((refl, refl, (Passes (This (exception 6)), (_, refl, (refl, refl)), refl)), tt)),
+          ((refl, refl), ((refl, refl, (Passes (This (exception 6)), inl (_, refl, (refl, refl)), refl)), tt)),
         ),
       ),
     ),

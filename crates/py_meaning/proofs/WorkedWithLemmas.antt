@@ -31,7 +31,7 @@ use Rattle.py_lines.specs.declared.drive.DriveLine.TheVariants as drive
 use Rattle.py_grammar.specs.Lines.{lines}
 use Rattle.py_grammar.specs.Script.{Spells}
 use Rattle.py_answers.specs.Answers.{Is}
-use Rattle.py_run.specs.Run.{Activation, Plan, Posed, start, state_after}
+use Rattle.py_run.specs.Run.{Activation, Plan, Requests as Poses, Posed, start, state_after}
 use Rattle.py_run.specs.Coming.{nothing as at_first, Comes, EachTells}
 use Rattle.py_run.specs.First.{first_objects}
 use Rattle.py_meaning.specs.Whole.{AreGlobals, AreObjects, Traces, IsRunOf, plan_of}
@@ -120,7 +120,7 @@ are_globals = record { pairs = pairs; dict = refl; bindings = pairs; bind = ((re
 
 -- the question of the drive
 abbrev call : Posed
-call = record { request = Calling (object 4) [] keywords.None; entered = 0 }
+call = record { pose = Poses (Calling (object 4) [] keywords.None); entered = 0 }
 
 -- what the run is of
 abbrev plan : Plan
@@ -130,7 +130,7 @@ comes : Comes plan objects at_first events
 comes = (
   (refl, refl, lit< tt),
   (
-    (refl, (refl, (call.request, refl, inr (inl (object 4, [], refl, runs _ _ _ _ _ _ _ refl refl refl))))),
+    (refl, (refl, (_, refl, inr (inl (object 4, [], refl, runs _ _ _ _ _ _ _ refl refl refl))))),
     (
       (refl, is_of_kind _ _ _ _ _ _ refl refl refl),
       (
@@ -153,7 +153,7 @@ comes = (
                         (refl, (refl, (_, refl, inr (inr (inr (inr (inr (inr (inr (object 2, none_object, none_object, none_object, refl, (_, refl, runs _ _ _ _ _ _ _ refl refl refl))))))))))),
                         (
                           (refl, is_of_kind _ _ _ _ _ _ refl refl refl),
-                          ((refl, refl), ((refl, (Is true_object, (_, refl, refl), refl)), ((refl, refl), ((refl, refl, (Is (object 13), (_, refl, (refl, refl)), refl)), tt)))),
+                          ((refl, refl), ((refl, (Is true_object, (_, refl, refl), refl)), ((refl, refl), ((refl, refl, (Is (object 13), inl (_, refl, (refl, refl)), refl)), tt)))),
                         ),
                       ),
                     ),

@@ -1,8 +1,6 @@
 -- what a script means
 pub mod Whole
--- what represents an object, what an exception says, and what is written
-pub mod Repr
-pub mod Said
+-- what is written
 pub mod Text
 -- how the entries of declarations come one behind the other
 pub mod Entries

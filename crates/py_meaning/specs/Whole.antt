@@ -30,7 +30,7 @@ use Rattle.py_grammar.specs.Grammar.{Decl, ClassDecl, ManagerDecl, decl_name, fu
 use Rattle.py_grammar.specs.Script.{decls_of, IsScript}
 use Rattle.py_exceptions.specs.BuiltIn.{IsClassOf}
 use Rattle.py_run.specs.declared.journal.Journal.{Journal}
-use Rattle.py_run.specs.Run.{Signature, Posed, Plan}
+use Rattle.py_run.specs.Run.{Signature, Pose, Requests, Forms, Posed, Plan}
 use Rattle.py_run.specs.Coming.{May, IsRunBy, IsDone}
 
 -- what the answer of a drive leaves for `$N`: its value or its exception, None where there is none
@@ -73,9 +73,14 @@ AsksThis objects events (drive.Throw n x a) r =
     (g : Obj) × (c : Obj) × (v : Obj) × (r ≡ request.Throw g c (Some v) None) × IsLeftBy objects events n g × (declared objects x ≡ Some c) × IsThrown objects events a v
 AsksThis objects events (drive.Close n) r = (g : Obj) × (r ≡ request.Close g) × IsLeftBy objects events n g
 
+-- what a drive of a script poses: that request, since none has an exception made
+abbrev pub Poses : List Payload → List Event → DriveLine → Pose → Type 0
+Poses objects events d (Requests r) = AsksThis objects events d r
+Poses objects events d (Forms x) = ⊥
+
 -- the same, made by a host that has entered nothing
 abbrev pub Asks : List Payload → List Event → DriveLine → Posed → Type 0
-Asks objects events d q = AsksThis objects events d q.request × (q.entered ≡ 0)
+Asks objects events d q = Poses objects events d q.pose × (q.entered ≡ 0)
 
 -- the questions of a script's drives in order, as far as they were begun
 abbrev pub AreAsked : List Payload → List Event → List DriveLine → List Posed → Type 0

@@ -112,6 +112,13 @@ impl Store {
         &self.payloads[object.number as usize]
     }
 
+    /// The objects as they are.
+    pub fn objects(&self) -> &[Payload]
+        ensures { result.now ≡ objects_of self.now }
+    {
+        self.payloads.as_slice()
+    }
+
     /// Whether a class is a built-in one, or derives from it (Python Language Reference, 3.3.3.1).
     pub fn derives_from(&self, class: PyTypeRef, kind: ErrorKind) -> bool
         ensures { result ≡ derives self.now.made (class_object class) (name_of kind) }

@@ -1,5 +1,5 @@
 -- Activations that were made have arguments that bind, and runs go over to more signatures.
-use Rattle.std.proofs.Common.{◌≡◌, ◌≤◌, ℕ, zero, suc, List, [], ◌∷◌, Bool, true, false, Some, None, inl, inr, refl, sym, ap, subst, ◌∙◌, length, arith, nat_le, nat_lt}
+use Rattle.std.proofs.Common.{◌≡◌, ◌≤◌, ℕ, zero, suc, List, [], ◌∷◌, Bool, true, false, Some, None, ◌⊎◌, inl, inr, refl, sym, ap, subst, ◌∙◌, length, arith, nat_le, nat_lt}
 use Rattle.std.specs.Prelude.{Option, slice_get, drop, if◌then◌else◌, codes}
 use Rattle.std.proofs.lemmas.Bool.{ltb-false}
 use Rattle.py_objects.specs.declared.error_kind.ErrorKind.TheVariants.{RecursionError}
@@ -23,7 +23,7 @@ use Rattle.py_coro.specs.Modes.{Mode, Fresh, Suspended, Running, Closed, most_de
 use Rattle.py_run.specs.Calls.{Course, Says, Enters, Begins, Sends, Throws, refusal, missing_if, too_many, made_at, bound_by, Setting, CallsFunction, exit_of, IsKept, ThrowsAs, ComesTo}
 use Rattle.py_run.specs.Run.{Signature, Plan, Phase, Asking, Made, Due, Activation, State, start, after, state_after}
 use Rattle.py_run.specs.Generators.{Generator, generators_after}
-use Rattle.py_run.specs.Coming.{Past, nothing, past_after, setting, IsOfKind, Opens, Starts, IsEntered, IsReply, IsAnswered, MayCome, Comes}
+use Rattle.py_run.specs.Coming.{Past, nothing, past_after, setting, IsOfKind, Opens, Starts, IsEntered, IsReply, IsAnswered, IsFormed, MayCome, Comes}
 use Rattle.py_run.specs.Past.{past_behind}
 use Rattle.py_run.proofs.PastLemmas.{past_state}
 use Rattle.py_run.proofs.CoursesLemmas.{ComesAs, comes_as, sends_of, throws_of, closes_of}
@@ -233,9 +233,14 @@ module _ (plan : Plan) (ys : List Signature) (objects : List Payload) (signed : 
   answered_signed : (p : Past) (reply : Reply) → IsAnswered plan objects p reply → IsAnswered (signed_by plan ys) objects p reply
   answered_signed p reply (r, open_, is) = (r, open_, reply_signed p p.state.phase r reply is)
 
+  -- so does what a drive is answered
+  result_signed : (p : Past) (reply : Reply) → IsAnswered plan objects p reply ⊎ IsFormed plan objects p reply → IsAnswered (signed_by plan ys) objects p reply ⊎ IsFormed (signed_by plan ys) objects p reply
+  result_signed p reply (inl answered) = inl (answered_signed p reply answered)
+  result_signed p reply (inr formed) = inr formed
+
   -- an event that may come still may
   may_come_signed : (p : Past) (e : Event) → MayCome plan objects p e → MayCome (signed_by plan ys) objects p e
-  may_come_signed p (event.Result d w) (next, alone, (reply, answered, gives)) = (next, alone, (reply, answered_signed p reply answered, gives))
+  may_come_signed p (event.Result d w) (next, alone, (reply, answered, gives)) = (next, alone, (reply, result_signed p reply answered, gives))
   may_come_signed p (event.Make a f vs) (next, opens) = (next, opens_signed p (Enters f vs) opens)
   may_come_signed p (event.Resume a h) enters = entered_signed p h a enters
   may_come_signed p (event.Got a w) (top, (reply, answered, gives)) = (top, (reply, answered_signed p reply answered, gives))

@@ -26,10 +26,13 @@ use Rattle.py_coro.specs.Leaving.{ConvertsAs, IsOfClass, Finishes}
 use Rattle.py_answers.specs.Answers.{Reply}
 use Rattle.py_answers.proofs.RepliesLemmas.{gives_body_grow, gives_drive_grow, raise_grows, replies_grow}
 use Rattle.py_answers.proofs.ThrownLemmas.{normalizes_grow}
-use Rattle.py_run.specs.Run.{Posed, Plan, Phase, Idle, Asking, Going, Made, Due, State, after, open_in, entered_in, question, handled_among}
+use Rattle.py_exceptions.proofs.TypeNamesLemmas.{type_name_grows}
+use Rattle.py_run.specs.declared.drive.Makings.{Makings}
+use Rattle.py_run.specs.Normalized.{NormalizesTo}
+use Rattle.py_run.specs.Run.{Posed, Plan, Phase, Idle, Asking, Going, Made, Due, State, after, open_in, makings_of, entered_in, question, handled_among}
 use Rattle.py_run.specs.Generators.{Generator, answered, value_of, returned_by}
 use Rattle.py_run.specs.Calls.{Course, Says, Enters, Begins, Sends, Throws, Setting, CallsFunction, IsKept, ThrowsAs, SendsTo, ThrowsTo, ClosesTo, EntersTo, ExitsTo, exit_of, ComesTo, LeavesGenerator, IsDue}
-use Rattle.py_run.specs.Coming.{Past, nothing, past_after, setting, IsOfKind, Opens, Starts, IsEntered, MakesGenerator, IsReply, IsAnswered, MayCome, Comes}
+use Rattle.py_run.specs.Coming.{Past, nothing, past_after, setting, IsOfKind, Opens, Starts, IsEntered, MakesGenerator, IsReply, IsAnswered, IsFormed, MayCome, Comes}
 use Rattle.py_run.specs.Past.{past_behind}
 use Rattle.py_run.specs.Raises.{raises_of}
 use Rattle.py_run.proofs.RaisesLemmas.{tells_grow}
@@ -167,10 +170,28 @@ reply_grows plan objects objects' p _ r reply grows is = absurd is
 pub answered_grows : (plan : Plan) (objects objects' : List Payload) (p : Past) (reply : Reply) → GrowsPlainly objects objects' → IsAnswered plan objects p reply → IsAnswered plan objects' p reply
 answered_grows plan objects objects' p reply grows (r, open_, is) = (r, open_, reply_grows plan objects objects' p p.state.phase r reply grows is)
 
+-- so does what an exception is made of
+pub normalizes_to_grow : (objects objects' : List Payload) (x : Makings) (reply : Reply) → GrowsPlainly objects objects' → NormalizesTo objects x reply → NormalizesTo objects' x reply
+normalizes_to_grow objects objects' x reply grows n = record {
+  outcome = n.outcome;
+  normalizes = normalizes_grow objects objects' x.thrown (Some x.value) n.outcome grows n.normalizes;
+  entry = n.entry;
+  has = payload_grown objects objects' x.traceback n.entry (plainly_grows objects objects' grows) n.has;
+  name = n.name;
+  typed = type_name_grows objects objects' n.entry n.name (plainly_grows objects objects' grows) n.typed;
+  is = n.is;
+}
+
+-- and what a drive is answered
+result_grows : (plan : Plan) (objects objects' : List Payload) (p : Past) (reply : Reply) → GrowsPlainly objects objects' → IsAnswered plan objects p reply ⊎ IsFormed plan objects p reply
+    → IsAnswered plan objects' p reply ⊎ IsFormed plan objects' p reply
+result_grows plan objects objects' p reply grows (inl answered) = inl (answered_grows plan objects objects' p reply grows answered)
+result_grows plan objects objects' p reply grows (inr (asks, (x, forms, is))) = inr (asks, (x, forms, normalizes_to_grow objects objects' x reply grows is))
+
 -- an event that may come still may
 pub may_come_grow : (plan : Plan) (objects objects' : List Payload) (p : Past) (e : Event) → GrowsPlainly objects objects' → MayCome plan objects p e → MayCome plan objects' p e
 may_come_grow plan objects objects' p (event.Result d w) grows (next, alone, (reply, answered, gives)) =
-    (next, alone, (reply, answered_grows plan objects objects' p reply grows answered, gives_drive_grow objects objects' p.events reply w grows gives))
+    (next, alone, (reply, result_grows plan objects objects' p reply grows answered, gives_drive_grow objects objects' p.events reply w grows gives))
 may_come_grow plan objects objects' p (event.Make a f vs) grows (next, opens) = (next, opens_grow plan objects objects' p (Enters f vs) grows opens)
 may_come_grow plan objects objects' p (event.Resume a h) grows enters = entered_grows plan objects objects' p h a grows enters
 may_come_grow plan objects objects' p (event.Ask a r own at) grows (goes, tells) = (goes, tells_grow objects objects' p.events (raises_of p.events) r grows tells)
@@ -288,6 +309,17 @@ module _ (plan : Plan) (more : List Posed) (objects : List Payload) where
   asked_of p reply (inl idle) (r, open_, is) = absurd (subst (λ x. IsReply plan objects p x r reply) idle is)
   asked_of p reply (inr within) answered = within
 
+  -- so is what a drive is answered
+  result_more : (p : Past) (reply : Reply) → p.state.done < length plan.asked → IsAnswered plan objects p reply ⊎ IsFormed plan objects p reply
+      → IsAnswered (with_more plan more) objects p reply ⊎ IsFormed (with_more plan more) objects p reply
+  result_more p reply within (inl answered) = inl (answered_more p reply within answered)
+  result_more p reply within (inr (asks, (x, forms, is))) = inr (asks, (x, ap makings_of (get_front plan.asked more p.state.done within) ∙ forms, is))
+
+  -- it is answered where it runs
+  drive_of : (p : Past) (reply : Reply) → IsAsked plan p.state → IsAnswered plan objects p reply ⊎ IsFormed plan objects p reply → p.state.done < length plan.asked
+  drive_of p reply asked (inl answered) = asked_of p reply asked answered
+  drive_of p reply asked (inr (asks, formed)) = asked_in plan p.state Asking asking_busy asks asked
+
   -- an activation starts as before
   starts_more : (p : Past) (phase : Phase) (a : ℕ) → IsAsked plan p.state → p.state.phase ≡ phase → Starts plan objects p phase a
       → Starts (with_more plan more) objects p phase a × (p.state.done < length plan.asked)
@@ -323,8 +355,8 @@ module _ (plan : Plan) (more : List Posed) (objects : List Payload) where
     same = refl;
   }
   may_come_more p (event.Result d w) asked (next, alone, (reply, is, gives)) =
-      let within = asked_of p reply asked is in
-      record { may = (next, alone, (reply, answered_more p reply within is, gives)); asked = inl refl; same = ap (with_generators plan p (event.Result d w)) (same_answered p (returned_by w) within) }
+      let within = drive_of p reply asked is in
+      record { may = (next, alone, (reply, result_more p reply within is, gives)); asked = inl refl; same = ap (with_generators plan p (event.Result d w)) (same_answered p (returned_by w) within) }
   may_come_more p (event.Make a f vs) asked (next, opens) =
       let within = asked_in plan p.state Asking asking_busy opens.0 asked in
       record { may = (next, opens_more p (Enters f vs) within opens); asked = inr within; same = refl }

@@ -1,6 +1,6 @@
 -- A run: a condition on a finished list of events, by the one kind of event that may come next. What an activation may tell
 -- is a parameter.
-use Rattle.std.specs.Prelude.{ℕ, suc, ◌<◌, Option, Some, None, List, [], ◌∷◌, ◌++◌, ◌≡◌, slice_get, length}
+use Rattle.std.specs.Prelude.{ℕ, suc, ◌<◌, Option, Some, None, List, [], ◌∷◌, ◌++◌, ◌≡◌, ◌⊎◌, slice_get, length}
 use Rattle.py_objects.specs.declared.payload.Payload.{Payload}
 use Rattle.py_objects.specs.declared.payload.Payload.TheVariants as payload
 use Rattle.py_objects.specs.declared.payload.CoroKind.{CoroKind}
@@ -13,9 +13,11 @@ use Rattle.py_objects.specs.declared.event.Event.TheVariants as event
 use Rattle.py_objects.specs.Objects.{Obj, HasPayload, AreNamed}
 use Rattle.py_objects.specs.Own.{Own, own_events}
 use Rattle.py_answers.specs.Answers.{Raised, Reply, Creates, IsRaise, GivesBody, GivesDrive}
-use Rattle.py_run.specs.Run.{Signature, Plan, Phase, Idle, Asking, Going, Made, Due, State, Activation, start, after, state_after, IsTop, question, depth, handled_among, GoesOn}
+use Rattle.py_run.specs.Run.{Signature, Plan, Phase, Idle, Asking, Going, Made, Due, State, Activation, start, after, state_after, IsTop, question, forming, depth, handled_among, GoesOn}
 use Rattle.py_run.specs.Generators.{Generator, generators_after}
 use Rattle.py_run.specs.Raises.{raises_of, Tells}
+use Rattle.py_run.specs.declared.drive.Makings.{Makings}
+use Rattle.py_run.specs.Normalized.{NormalizesTo}
 use Rattle.py_run.specs.Calls.{Course, Says, Enters, Begins, Sends, Throws, Setting, ComesTo, IsDue}
 
 -- the events so far, and what they come to
@@ -80,6 +82,10 @@ module _ (plan : Plan) (objects : List Payload) where
   abbrev pub IsAnswered : Past → Reply → Type 0
   IsAnswered p reply = (r : Request) × (question plan p.state ≡ Some r) × IsReply p p.state.phase r reply
 
+  -- what the drive has an exception made of comes to this
+  abbrev pub IsFormed : Past → Reply → Type 0
+  IsFormed p reply = (p.state.phase ≡ Asking) × ((x : Makings) × (forming plan p.state ≡ Some x) × NormalizesTo objects x reply)
+
   -- this event is of the one kind that may come next
   abbrev pub MayCome : Past → Event → Type 0
   MayCome p (event.Drive d) = (p.state.phase ≡ Idle) × (d ≡ suc p.state.done) × (p.state.done < length plan.asked)
@@ -90,7 +96,7 @@ module _ (plan : Plan) (objects : List Payload) where
   MayCome p (event.Yield a v at) = GoesOn p.state a
   MayCome p (event.End a e at) = GoesOn p.state a
   MayCome p (event.Got a w) = IsTop a p.state.stack × ((reply : Reply) × IsAnswered p reply × GivesBody objects p.events reply w)
-  MayCome p (event.Result d w) = (d ≡ suc p.state.done) × (p.state.stack ≡ []) × ((reply : Reply) × IsAnswered p reply × GivesDrive objects p.events reply w)
+  MayCome p (event.Result d w) = (d ≡ suc p.state.done) × (p.state.stack ≡ []) × ((reply : Reply) × (IsAnswered p reply ⊎ IsFormed p reply) × GivesDrive objects p.events reply w)
 
   -- each event may come where it stands, behind those before
   abbrev pub Comes : Past → List Event → Type 0

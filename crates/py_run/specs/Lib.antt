@@ -6,6 +6,8 @@ pub mod Generators
 pub mod Raises
 -- what questions come to
 pub mod Calls
+-- what comes of what an exception is made of
+pub mod Normalized
 -- which event may come next, and what a run is
 pub mod Coming
 -- what drives ask, and pasts with more events

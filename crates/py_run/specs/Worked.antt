@@ -13,7 +13,7 @@ use Rattle.py_objects.specs.declared.event.Event.{Event}
 use Rattle.py_objects.specs.declared.event.Event.TheVariants as event
 use Rattle.py_objects.specs.Objects.{Obj, Name}
 use Rattle.py_objects.specs.Values.{new_exception}
-use Rattle.py_run.specs.Run.{Signature, Posed, Plan}
+use Rattle.py_run.specs.Run.{Signature, Requests, Posed, Plan}
 use Rattle.py_run.specs.Coming.{nothing, May, MayCome}
 use Rattle.py_run.specs.Past.{past_behind}
 
@@ -26,16 +26,16 @@ exception n = record { number = n }
 
 -- what drives ask
 abbrev pub call : Obj → List Obj → Posed
-call f vs = record { request = request.Call f vs keywords.None; entered = 0 }
+call f vs = record { pose = Requests (request.Call f vs keywords.None); entered = 0 }
 
 abbrev pub send : Obj → Obj → Posed
-send g v = record { request = request.Send g v; entered = 0 }
+send g v = record { pose = Requests (request.Send g v); entered = 0 }
 
 abbrev pub throw : Obj → Obj → Obj → Posed
-throw g k v = record { request = request.Throw g k (Some v) None; entered = 0 }
+throw g k v = record { pose = Requests (request.Throw g k (Some v) None); entered = 0 }
 
 abbrev pub close : Obj → Posed
-close g = record { request = request.Close g; entered = 0 }
+close g = record { pose = Requests (request.Close g); entered = 0 }
 
 -- a function, and a class with those that it derives from
 abbrev pub function : Name → ℕ → Payload

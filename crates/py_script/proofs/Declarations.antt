@@ -1,11 +1,14 @@
 -- The codes of a script's functions, one behind the other.
 use Rattle.std.proofs.Common.{◌≡◌, ◌<◌, ◌≤◌, ◌+◌, ℕ, zero, suc, List, [], ◌∷◌, ◌++◌, length, Some, refl, sym, ap, ◌∙◌, subst, arith, length-append, append_assoc, ◌⊎◌, inl, inr, get_or, take}
 use Rattle.std.specs.Prelude.{Option, option_map, chars, slice_get, map, All}
+use Rattle.std.specs.List.{list_all}
 use Rattle.std.proofs.lemmas.List.{map-append, length-map, length-take-le, take_all}
 use Rattle.std.proofs.lemmas.Grind.{take_at_read}
 use Rattle.std.proofs.lemmas.Option.{slice_get-map, slice_get-get_or}
+use Rattle.py_code.specs.declared.flags.TheConstants.CodeFlags.{HAS_VARARGS, HAS_VARKEYWORDS}
 use Rattle.py_code.specs.declared.names.NameId.{NameId}
 use Rattle.py_check.specs.declared.annotated.Annotated.{Annotated}
+use Rattle.py_check.specs.WholeCode.{counts_if}
 use Rattle.py_objects.specs.declared.payload.CoroKind.{CoroKind}
 use Rattle.py_objects.specs.Objects.{Obj, Name, numbers, AllBelow}
 use Rattle.py_rows.specs.Asked.{name_in}
@@ -15,12 +18,13 @@ use Rattle.py_objects.proofs.GrowthLemmas.{slice_get_grown}
 use Rattle.py_tree.specs.declared.body.BodyKind.{BodyKind}
 use Rattle.py_tree.specs.declared.body.BodyKind.TheVariants as kind
 use Rattle.py_tree.specs.Tree.{Tree, seen_as}
+use Rattle.py_laid.specs.Code.{IsPlain, flags_of}
 use Rattle.py_laid.specs.Fits.{Fits, Continues}
 use Rattle.py_grammar.specs.declared.script.Declaration.{Declaration}
 use Rattle.py_grammar.specs.Grammar.{Decl}
 use Rattle.py_grammar.specs.Script.{decl_of}
 use Rattle.py_run.specs.Run.{Signature}
-use Rattle.py_vm.specs.Codes.{Checked, IsDriven, plain_codes, signature_in, signatures_of}
+use Rattle.py_vm.specs.Codes.{Checked, IsDriven, TakesPositional, plain_codes, signature_in, signatures_of, takes_none}
 use Rattle.py_run.proofs.BoundLemmas.{AreSigned}
 use Rattle.py_objects.proofs.NewLemmas.{newest}
 use Rattle.py_meaning.specs.Whole.{signature_of}
@@ -102,6 +106,23 @@ kind_driven kind.Generator = tt
 -- so are those of codes that fit bodies
 pub fits_driven : (names : List (List ℕ)) (c : Annotated) (t : Tree) → Fits names c t → IsDriven (kind_of c.code.code.flags)
 fits_driven names c t fits = subst IsDriven (sym fits.kind) (kind_driven t.kind)
+
+-- the code of a body takes positional arguments alone
+pub plain_positional : (c : Annotated) (t : Tree) → IsPlain c t → TakesPositional c.code.code
+plain_positional c t plain = record {
+  varargs = ap (λ (flags : ℕ). counts_if flags HAS_VARARGS) plain.flags ∙ no_varargs t.kind;
+  varkeywords = ap (λ (flags : ℕ). counts_if flags HAS_VARKEYWORDS) plain.flags ∙ no_varkeywords t.kind;
+  keyword_only = plain.kwonlyarg_count;
+  cells = ap (list_all takes_none) plain.cells.1;
+}
+  where
+    no_varargs : (k : BodyKind) → counts_if (flags_of k) HAS_VARARGS ≡ 0
+    no_varargs kind.Function = refl
+    no_varargs kind.Generator = refl
+
+    no_varkeywords : (k : BodyKind) → counts_if (flags_of k) HAS_VARKEYWORDS ≡ 0
+    no_varkeywords kind.Function = refl
+    no_varkeywords kind.Generator = refl
 
 -- no body is compiled yet
 pub none_checked : (names : List (List ℕ)) → AreChecked [] (record { names = names; codes = [] })

@@ -21,6 +21,4 @@ pub mod Settled
 mod WorkedUnitLemmas
 -- what is written
 mod NoteLemmas
-mod PathLemmas
-mod ReprLemmas
 mod TextLemmas

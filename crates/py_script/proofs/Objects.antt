@@ -19,8 +19,8 @@ use Rattle.py_lines.specs.declared.drive.DriveAtom.TheVariants as atom
 use Rattle.py_lines.specs.declared.drive.DriveLine.{DriveLine}
 use Rattle.py_lines.specs.declared.drive.DriveLine.TheVariants as drive
 use Rattle.py_grammar.specs.Grammar.{Decl, decl_name}
-use Rattle.py_run.specs.Run.{Posed}
-use Rattle.py_meaning.specs.Whole.{IsLeft, IsLeftBy, IsOf, IsThrown, AreOf, AsksThis, Asks, AreAsked, AreGlobals, AreObjects}
+use Rattle.py_run.specs.Run.{Pose, Requests, Forms, Posed}
+use Rattle.py_meaning.specs.Whole.{IsLeft, IsLeftBy, IsOf, IsThrown, AreOf, AsksThis, Poses, Asks, AreAsked, AreGlobals, AreObjects}
 use Rattle.py_script.specs.Session.{AreBindings}
 use Rattle.py_meaning.proofs.Entries.{objects_more}
 
@@ -75,11 +75,15 @@ module _ (objects objects' : List Payload) (events events' : List Event) (grows 
   asks_this_grows (drive.Throw n x a) r (g, c, v, is, left, named, of) = (g, c, v, is, left_by_grows n g left, declared_stays objects objects' x grows ∙ named, thrown_grows a v of)
   asks_this_grows (drive.Close n) r (g, is, left) = (g, is, left_by_grows n g left)
 
+  poses_grow : (d : DriveLine) (x : Pose) → Poses objects events d x → Poses objects' events' d x
+  poses_grow d (Requests r) asks = asks_this_grows d r asks
+  poses_grow d (Forms x) asks = asks
+
   -- questions of drives stay so
   pub asked_grow : (ds : List DriveLine) (qs : List Posed) → AreAsked objects events ds qs → AreAsked objects' events' ds qs
   asked_grow ds [] are = tt
   asked_grow [] (q ∷ qs) are = are
-  asked_grow (d ∷ ds) (q ∷ qs) are = ((asks_this_grows d q.request are.0.0, are.0.1), asked_grow ds qs are.1)
+  asked_grow (d ∷ ds) (q ∷ qs) are = ((poses_grow d q.pose are.0.0, are.0.1), asked_grow ds qs are.1)
 
   pub bindings_grow : (ts : List Decl) (ps : List (Obj × Obj)) → AreBindings objects ts ps → AreBindings objects' ts ps
   bindings_grow (t ∷ ts) (p ∷ ps) are = ((stays p.0 (payload.Str (decl_name t)) are.0.0, declared_stays objects objects' (decl_name t) grows ∙ are.0.1), bindings_grow ts ps are.1)

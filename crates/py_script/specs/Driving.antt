@@ -1,20 +1,25 @@
 -- What the drives of a session need, and what they come to.
-use Rattle.std.specs.Prelude.{ℕ, ◌+◌, ◌≤◌, ◌++◌, List, All, ◌≡◌, length, Result, Ok, Err}
+use Rattle.std.specs.Prelude.{ℕ, ◌+◌, ◌<◌, ◌≤◌, ◌∷◌, [], ◌++◌, List, All, ◌≡◌, length, Result, Ok, Err}
 use Rattle.py_objects.specs.declared.event.DriveAnswer.{DriveAnswer}
 use Rattle.py_objects.specs.declared.event.Event.{Event}
+use Rattle.py_objects.specs.declared.payload.Payload.{Payload}
+use Rattle.py_objects.specs.Objects.{Obj, AllBelow, result_numbers}
 use Rattle.py_objects.specs.Growth.{GrowsPlainly}
 use Rattle.py_lines.specs.declared.drive.DriveLine.{DriveLine}
 use Rattle.py_lines.specs.declared.drive.DriveLine.TheVariants as drive
 use Rattle.py_grammar.specs.Grammar.{Decl}
 use Rattle.py_grammar.specs.WellFormed.{IsDrivable, IsKnown, IsThrowable, NumbersDrive}
+use Rattle.py_run.specs.declared.drive.Drive.{Drive}
+use Rattle.py_run.specs.Drives.{request_of}
 use Rattle.py_run.specs.Coming.{IsDone}
 use Rattle.py_vm.specs.declared.fault.VmFault.{VmFault}
 use Rattle.py_vm.specs.declared.fault.VmFault.TheVariants as fault
 use Rattle.py_run.specs.declared.journal.Journal.{Journal}
 use Rattle.py_vm.specs.Machine.{done_of, EndsBy}
-use Rattle.py_meaning.specs.Whole.{IsJournalOf}
+use Rattle.py_meaning.specs.Whole.{AsksThis, IsJournalOf, IsLeft}
 use Rattle.py_script.specs.Compiled.{RunsCodesOf}
 use Rattle.py_script.specs.Held.{Held, journal_of}
+use Rattle.py_script.specs.Loaded.{HasNone}
 use Rattle.py_script.specs.Session.{IsSessionOf}
 
 -- a journal is a prefix of a run of these declarations and drives, with the codes that ran
@@ -43,6 +48,27 @@ IsDriven decls drives turns s s' (Err fault.OutOfTurns) =
 IsDriven decls drives turns s s' (Err fault.NoMemory) = HasRunOf decls drives (journal_of s') × (length s'.vm.events ≤ length s.vm.events + turns)
 IsDriven decls drives turns s s' (Err fault.Failed) = ⊥
 IsDriven decls drives turns s s' (Err (fault.Exception e)) = ⊥
+
+-- so it is with each of the declarations and the drives so far that the session is of, where this line is driven next
+abbrev pub MakesDrive : DriveLine → ℕ → Held → Held → Result DriveAnswer VmFault → Type 0
+MakesDrive line turns s s' result =
+    (decls : List Decl) → (drives : List DriveLine) → IsSessionOf decls drives s → IsDriven decls (drives ++ line ∷ []) turns s s' result
+
+-- a session that has failed answers so, and stays as it is
+abbrev pub IsRefused : Held → Held → Result DriveAnswer VmFault → Type 0
+IsRefused s s' result = (result ≡ Err fault.Failed) × (s' ≡ s)
+
+-- what a line asks the machine, by the objects and the events of the session
+abbrev pub IsQuestionOf : Held → DriveLine → Drive → Type 0
+IsQuestionOf s line question = AsksThis s.vm.objects s.vm.events line (request_of question)
+
+-- an answer leaves this object, wherever None is the first
+abbrev pub Leaves : DriveAnswer → Obj → Type 0
+Leaves answer value = (objects : List Payload) → HasNone objects → IsLeft objects answer value
+
+-- which is there where what the answer names is
+abbrev pub LeavesBelow : DriveAnswer → Obj → Type 0
+LeavesBelow answer value = (n : ℕ) → 0 < n → AllBelow n (result_numbers answer) → value.number < n
 
 -- what was there stays: events come behind those before, objects behind those before, and the codes are the same
 pub record GoesOn (old new : Held) : Type 0 where

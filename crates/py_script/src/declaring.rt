@@ -1,14 +1,12 @@
 //! The objects of a script's declarations: functions, classes and managers, each behind those that it names.
 
 ghost use Rattle.std.specs.Prelude.{◌≡◌, ◌≤◌, ◌+◌, ◌∷◌, [], false, IfOk, OnOk, map, length};
-ghost use Rattle.py_objects.specs.declared.payload.ClassBody.{ClassBody as ClassOf};
-ghost use Rattle.py_objects.specs.declared.payload.Payload.TheVariants as payload;
-ghost use Rattle.py_objects.specs.Objects.{HasPayload, declared, IsClassObject};
+ghost use Rattle.py_objects.specs.Objects.{declared, IsClassObject};
 ghost use Rattle.py_grammar.specs.Grammar.{ClassDecl, ManagerDecl, functions_in};
 ghost use Rattle.py_grammar.specs.Script.{decl_of};
 ghost use Rattle.py_run.specs.First.{first_objects};
 ghost use Rattle.py_meaning.specs.Entries.{AreWellDeclared, IsEntryOf, IsFoundedOn, IsNamed};
-ghost use Rattle.py_script.specs.Loaded.{HasObjects};
+ghost use Rattle.py_script.specs.Loaded.{HasObjects, IsOrderFrom};
 
 use py_code::{NoMemory, PyText};
 use py_grammar::Declaration;
@@ -32,7 +30,7 @@ pub(crate) fn object_named(vm: &VirtualMachine, name: &PyText) -> PyObjectRef
 fn mro_from(alloc: Global, vm: &VirtualMachine, base: PyObjectRef) -> Result<ObjList, NoMemory>
     requires unchanged { vm.now.changes ≡ [] }
     requires class { IsClassObject vm.now.objects base }
-    ensures { IfOk result (λ mro. (above : ClassOf) × HasPayload vm.now.objects base (payload.Class above) × (mro ≡ base ∷ above.mro)) }
+    ensures { IfOk result (IsOrderFrom vm.now.objects base) }
 {
     let Payload::Class(body) = vm.store().get(base) else {
         unreachable!();
@@ -55,7 +53,7 @@ fn class_entry(
     requires works { vm.now.failed ≡ false }
     requires unchanged { vm.now.changes ≡ [] }
     requires founded { IsFoundedOn vm.now.objects (ClassDecl name.now base.now) }
-    ensures { IfOk result (λ entry. IsEntryOf vm.now.objects 0 (ClassDecl name.now base.now) entry) }
+    ensures { IfOk result (IsEntryOf vm.now.objects 0 (ClassDecl name.now base.now)) }
 {
     let base = object_named(vm, base);
     let mro = mro_from(alloc, vm, base)?;
@@ -76,7 +74,7 @@ fn manager_entry(
 ) -> Result<Payload, NoMemory>
     requires works { vm.now.failed ≡ false }
     requires founded { IsFoundedOn vm.now.objects (ManagerDecl name.now enter.now exit.now) }
-    ensures { IfOk result (λ entry. IsEntryOf vm.now.objects 0 (ManagerDecl name.now enter.now exit.now) entry) }
+    ensures { IfOk result (IsEntryOf vm.now.objects 0 (ManagerDecl name.now enter.now exit.now)) }
 {
     let enter = object_named(vm, enter);
     let exit = object_named(vm, exit);
@@ -97,7 +95,7 @@ fn entry_of(
     requires works { vm.now.failed ≡ false }
     requires unchanged { vm.now.changes ≡ [] }
     requires founded { IsFoundedOn vm.now.objects (decl_of declaration.now) }
-    ensures { IfOk result (λ entry. IsEntryOf vm.now.objects code (decl_of declaration.now) entry) }
+    ensures { IfOk result (IsEntryOf vm.now.objects code (decl_of declaration.now)) }
 {
     match declaration {
         Declaration::Class(name, base) => class_entry(alloc, vm, name, base),

@@ -46,8 +46,8 @@ fn push_latest(
     ensures { OnOk result (string_bytes out.new ≡ string_bytes out.old ++ event_text (latest made.now changed.now) event.now) }
 {
     match changed {
-        Some(objects) => push_event(out, objects, event),
-        None => push_event(out, made, event),
+        Some(objects) => push_event(out, objects.as_slice(), event),
+        None => push_event(out, made.as_slice(), event),
     }
 }
 

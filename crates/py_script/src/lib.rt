@@ -1,18 +1,14 @@
 //! Scripts from bytes to lines: how they are read and run, and what is written.
 #![tactic(auto)]
 
-mod attributes;
 mod command;
 mod declaring;
 mod fault;
 mod journal;
 mod loading;
 mod notes;
-mod quoted;
 mod read;
-mod repr;
 mod session;
-mod str_of;
 mod text;
 mod words;
 mod worked_answer;

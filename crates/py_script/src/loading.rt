@@ -8,10 +8,9 @@ ghost use Rattle.py_tree.specs.Compilable.{IsCompilable};
 ghost use Rattle.py_tree.specs.Views.{tree_of};
 ghost use Rattle.py_rows.specs.Sound.{AreNames};
 ghost use Rattle.py_vm.specs.Codes.{CodeIsAnswered};
-ghost use Rattle.py_grammar.specs.Grammar.{functions_in};
 ghost use Rattle.py_grammar.specs.Script.{decl_of, decls_of};
 ghost use Rattle.py_grammar.specs.WellFormed.{IsWellFormed};
-ghost use Rattle.py_script.specs.Loaded.{AreChecked, with_codes};
+ghost use Rattle.py_script.specs.Loaded.{AreCodesOf, with_codes};
 ghost use Rattle.py_meaning.specs.Entries.{AreDeclared, AreWellDeclared};
 ghost use Rattle.py_script.specs.Session.{AreBindings, BindsAll, HasDeclarations, IsLoaded, IsSessionOf, IsValue, OnlyGrew, TakesGlobals};
 ghost use Rattle.py_run.specs.Coming.{IsDone};
@@ -56,7 +55,7 @@ fn compile_all(
     declarations: &[Declaration],
 ) -> Result<Vec<CheckedCode>, NoMemory>
     requires { AreWellDeclared (map decl_of declarations.now) }
-    ensures checked { IfOk result (λ codes. AreChecked (functions_in (map decl_of declarations.now)) (record { names = names.new; codes = codes.items })) }
+    ensures checked { IfOk result (λ codes. AreCodesOf declarations.now names.new codes.items) }
     ensures answered { IfOk result (λ codes. All (λ code. CodeIsAnswered code.code) codes.items) }
 {
     let mut codes = Vec::new(alloc);
@@ -123,7 +122,7 @@ fn bind_names(
     requires declared { AreDeclared vm.old.objects (map decl_of declarations.now) }
     ensures works { OnOk result (vm.new.failed ≡ false) }
     ensures grew { OnOk result (OnlyGrew vm.old vm.new) }
-    ensures bindings { IfOk result (λ pairs. AreBindings vm.new.objects (map decl_of declarations.now) pairs) }
+    ensures bindings { IfOk result (AreBindings vm.new.objects (map decl_of declarations.now)) }
 {
     let mut pairs = PairList::new(alloc);
     for declaration in declarations {

@@ -1,39 +1,23 @@
 //! The text of an event.
 
-ghost use Rattle.std.specs.Prelude.{◌≡◌, ◌++◌, OnOk, string_bytes, codes};
-ghost use Rattle.py_objects.specs.Objects.{as_object};
+ghost use Rattle.std.specs.Prelude.{◌++◌};
 ghost use Rattle.py_objects.specs.declared.request.Request.TheVariants.{Show};
-ghost use Rattle.py_meaning.specs.Repr.{payload_of};
-ghost use Rattle.py_meaning.specs.Text.{repr, details, raised, numbered, request_text, result_text, event_text};
+ghost use Rattle.py_exceptions.specs.Texts.{repr};
+ghost use Rattle.py_exceptions.specs.Writing.{Adds};
+ghost use Rattle.py_meaning.specs.Text.{numbered, request_text, result_text, event_text};
+ghost use Rattle.py_script.specs.Writing.{raised_line};
 
-use crate::repr::{push_class_name, push_repr, push_words, tuple_items};
-use crate::str_of::push_said;
 use py_code::{NoMemory, push_utf8};
-use py_objects::{
-    DriveAnswer, Event, Payload, PayloadList, PyBaseExceptionRef, PyObjectRef, Request,
-};
+use py_exceptions::{payload_at, push_raised, push_whole_repr};
+use py_objects::{DriveAnswer, Event, Payload, PyBaseExceptionRef, PyObjectRef, Request};
 
-/// How many objects are shown inside one another.
-const DEPTH: u32 = 1000;
-
-/// Puts the representation of an object behind the text.
-fn push_whole_repr(
-    out: &mut String,
-    objects: &PayloadList,
-    object: PyObjectRef,
-) -> Result<(), NoMemory>
-    ensures { OnOk result (string_bytes out.new ≡ string_bytes out.old ++ repr objects.now object) }
-{
-    push_repr(out, objects, object, DEPTH)
-}
-
-/// Puts behind the text what is written of an event, where these are the objects at it.
+/// Puts after the text what is written of an event, where these are the objects at it.
 pub(crate) fn push_event(
     out: &mut String,
-    objects: &PayloadList,
+    objects: &[Payload],
     event: &Event,
 ) -> Result<(), NoMemory>
-    ensures { OnOk result (string_bytes out.new ≡ string_bytes out.old ++ event_text objects.now event.now) }
+    ensures { Adds result out.old out.new (event_text objects.now event.now) }
 {
     match event {
         Event::Result { drive, answer } => push_result(out, objects, *drive, answer),
@@ -48,8 +32,8 @@ pub(crate) fn push_event(
     }
 }
 
-fn push_request(out: &mut String, objects: &PayloadList, request: &Request) -> Result<(), NoMemory>
-    ensures { OnOk result (string_bytes out.new ≡ string_bytes out.old ++ request_text objects.now request.now) }
+fn push_request(out: &mut String, objects: &[Payload], request: &Request) -> Result<(), NoMemory>
+    ensures { Adds result out.old out.new (request_text objects.now request.now) }
 {
     match request {
         Request::Show(value) => push_shown(out, objects, *value),
@@ -57,24 +41,24 @@ fn push_request(out: &mut String, objects: &PayloadList, request: &Request) -> R
     }
 }
 
-/// Puts a line for a value that is shown behind the text, unless it is None.
-fn push_shown(out: &mut String, objects: &PayloadList, value: PyObjectRef) -> Result<(), NoMemory>
-    ensures { OnOk result (string_bytes out.new ≡ string_bytes out.old ++ request_text objects.now (Show value)) }
+/// Puts a line for a value that is shown after the text, unless it is None.
+fn push_shown(out: &mut String, objects: &[Payload], value: PyObjectRef) -> Result<(), NoMemory>
+    ensures { Adds result out.old out.new (request_text objects.now (Show value)) }
 {
-    if matches!(objects.get(value.number as usize), Some(Payload::None)) {
+    if matches!(payload_at(objects, value), Some(Payload::None)) {
         return Ok(());
     }
     push_whole_repr(out, objects, value)?;
-    push_words(out, "\n")
+    Ok(out.push_str("\n")?)
 }
 
 fn push_result(
     out: &mut String,
-    objects: &PayloadList,
+    objects: &[Payload],
     drive: u64,
     answer: &DriveAnswer,
 ) -> Result<(), NoMemory>
-    ensures { OnOk result (string_bytes out.new ≡ string_bytes out.old ++ result_text objects.now drive answer.now) }
+    ensures { Adds result out.old out.new (result_text objects.now drive answer.now) }
 {
     match answer {
         DriveAnswer::Returns(value) => push_value(out, objects, drive, " returns ", *value),
@@ -88,7 +72,7 @@ fn push_result(
 }
 
 fn push_line(out: &mut String, drive: u64, words: &str) -> Result<(), NoMemory>
-    ensures { OnOk result (string_bytes out.new ≡ string_bytes out.old ++ numbered drive words.now) }
+    ensures { Adds result out.old out.new (numbered drive words.now) }
 {
     write!(out, "{drive}{words}\n")?;
     Ok(())
@@ -96,74 +80,27 @@ fn push_line(out: &mut String, drive: u64, words: &str) -> Result<(), NoMemory>
 
 fn push_value(
     out: &mut String,
-    objects: &PayloadList,
+    objects: &[Payload],
     drive: u64,
     word: &str,
     value: PyObjectRef,
 ) -> Result<(), NoMemory>
-    ensures { OnOk result (string_bytes out.new ≡ string_bytes out.old ++ numbered drive (word.now ++ repr objects.now value)) }
+    ensures { Adds result out.old out.new (numbered drive (word.now ++ repr objects.now value)) }
 {
     write!(out, "{drive}{word}")?;
     push_whole_repr(out, objects, value)?;
-    push_words(out, "\n")
+    Ok(out.push_str("\n")?)
 }
 
 fn push_raise(
     out: &mut String,
-    objects: &PayloadList,
+    objects: &[Payload],
     drive: u64,
     exception: PyBaseExceptionRef,
 ) -> Result<(), NoMemory>
-    ensures { OnOk result (string_bytes out.new ≡ string_bytes out.old ++ numbered drive (codes " raises " ++ raised objects.now (payload_of objects.now (as_object exception)))) }
+    ensures { Adds result out.old out.new (raised_line objects.now drive exception) }
 {
     write!(out, "{drive} raises ")?;
-    push_exception(out, objects, exception)?;
-    push_words(out, "\n")
-}
-
-fn push_exception(
-    out: &mut String,
-    objects: &PayloadList,
-    exception: PyBaseExceptionRef,
-) -> Result<(), NoMemory>
-    ensures { OnOk result (string_bytes out.new ≡ string_bytes out.old ++ raised objects.now (payload_of objects.now (as_object exception))) }
-{
-    let Some(payload) = objects.get(exception.number as usize) else {
-        return Ok(());
-    };
-    match payload {
-        Payload::Exception(exception) => {
-            let body = exception.value();
-            push_class_name(out, objects, body.class)?;
-            push_details(out, objects, tuple_items(objects, body.args))
-        }
-        Payload::None
-        | Payload::Bool(_)
-        | Payload::Int(_)
-        | Payload::Str(_)
-        | Payload::Tuple(_)
-        | Payload::Dict(_)
-        | Payload::Class(_)
-        | Payload::Function(_)
-        | Payload::Builtin(_)
-        | Payload::Manager(_)
-        | Payload::Frame(_)
-        | Payload::Generator(_)
-        | Payload::Traceback(_) => Ok(()),
-    }
-}
-
-fn push_details(
-    out: &mut String,
-    objects: &PayloadList,
-    items: &[PyObjectRef],
-) -> Result<(), NoMemory>
-    ensures { OnOk result (string_bytes out.new ≡ string_bytes out.old ++ details objects.now items.now) }
-{
-    if items.is_empty() {
-        return Ok(());
-    }
-    out.push_str(": ")?;
-    // The exception that is raised is the first of them.
-    push_said(out, objects, items, DEPTH - 1)
+    push_raised(out, objects, exception)?;
+    Ok(out.push_str("\n")?)
 }

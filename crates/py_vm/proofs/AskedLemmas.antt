@@ -1,5 +1,5 @@
 -- Who asked gets the answer: an activation that waits goes on, or the drive has its result.
-use Rattle.std.proofs.Common.{◌≡◌, ◌++◌, ℕ, suc, List, [], ◌∷◌, Some, inr, refl, sym, ap, subst, ◌∙◌, length, ◌+◌, arith}
+use Rattle.std.proofs.Common.{◌≡◌, ◌++◌, ℕ, suc, List, [], ◌∷◌, Some, inl, inr, refl, sym, ap, subst, ◌∙◌, length, ◌+◌, arith}
 use Rattle.std.specs.Prelude.{Option, None, slice_get}
 use Rattle.py_objects.specs.declared.refs.PyBaseExceptionRef.{PyBaseExceptionRef}
 use Rattle.py_objects.specs.declared.payload.Payload.{Payload}
@@ -16,7 +16,6 @@ use Rattle.py_objects.specs.Growth.{Grows, GrowsPlainly, IsGrown}
 use Rattle.py_objects.specs.Own.{Gets, whose}
 use Rattle.py_objects.specs.Edits.{Kept}
 use Rattle.py_objects.proofs.GrowthLemmas.{below_more, grows_plainly_refl, length_grown, payload_grown}
-use Rattle.py_objects.proofs.NewLemmas.{newest}
 use Rattle.py_objects.proofs.GrownLemmas.{objects_grow, grown_trans}
 use Rattle.py_exceptions.specs.Slots.{Slots, top_of}
 use Rattle.py_rows.specs.declared.expect.Expect.{Expect}
@@ -42,7 +41,7 @@ use Rattle.py_vm.specs.declared.generators.KeptGenerator.{KeptGenerator}
 use Rattle.py_vm.specs.declared.machinery.Core.{Core}
 use Rattle.py_vm.specs.Courses.{GivesReply, IsReplied}
 use Rattle.py_vm.specs.Generators.{modes_of}
-use Rattle.py_vm.specs.Machine.{plan_of, AreFrames, IsFrame}
+use Rattle.py_vm.specs.Machine.{plan_of}
 use Rattle.py_vm.specs.Raises.{Raises}
 use Rattle.py_vm.specs.Stands.{AreApart, IsApart, IsHalted, IsInside, IsOutside, Keeps, Plays, asking, caller_acts, caller_frames, first_slot, slots_in, stacked}
 use Rattle.py_vm.specs.Turns.{past_at, got_by, heard_by, result_by, result_of, IsNoted, IsNotedBy, KeepsValue, Replies, Turns}
@@ -101,10 +100,6 @@ raised_exception objects _ (got.Value v) is = tt
 raised_exception objects q (got.Stop v) is = tt
 raised_exception objects q (got.Raise e) is = is
 
--- the frame of the innermost that waits is one
-frame_there : (m : Core) (h : Halted) (hs : List Halted) → m.frames ≡ caller_frames hs ++ h.running.frame.entry ∷ [] → AreFrames m.store.made m.frames → IsFrame m.store.made h.running.frame.entry
-frame_there m h hs frames are = (subst (AreFrames m.store.made) frames are) (length (caller_frames hs)) h.running.frame.entry (newest (caller_frames hs) h.running.frame.entry)
-
 -- it gets the answer to what it asked, which is as it is wanted and names objects
 pub got_law : (m : Core) (d : Drive) (s : Stage) (h : Halted) (hs : List Halted) (store : Kept) (list : List KeptGenerator) (raises : Raises) (w : Answer) (Other : ℕ → Type 0) → Keeps m d s → IsGrown m.store store → (waits : Waiting m d h hs)
     → IsAnswer store.made (wanted waits.halted.question.request) (got_of w) → AllBelow (length store.made) (got_numbers (got_of w))
@@ -135,7 +130,6 @@ got_law m d s h hs store list raises w Other k grown waits as_wanted below repli
     let both : Some (event.Ask act asked own at) ≡ Some (event.Ask q.act q.request q.own q.at) = sym entry ∙ q.entry in
     let same : asked ≡ q.request = cc both in
     let raise : Option Obj = raised_by (Some q.request) (got_of w) in
-    let (code, frame) = frame_there m h hs waits.frames k.nested.are_frames in
     next_law m d s e None (got_by (record m { store = store; generators = list; callers = hs; raises = raises }) r w) k (record {
       grown = grown;
       done = k.follows.done;
@@ -147,10 +141,9 @@ got_law m d s h hs store list raises w Other k grown waits as_wanted below repli
       kept = record { each = change.each (each_still m store.made e grows m.made m.made m.generators (omega arith) waits.outside k.kept.each); single = change.single k.kept.single };
       apart = waits.apart;
       frames = waits.frames;
-      are_frames = k.nested.are_frames;
       slots = slots_heard r.kind (slots_in hs) m.slots r.frame.state.slot r.frame.state.wants (inr shares) (waits.slots ∙ ap (λ x. stacked r.kind x (slots_in hs)) (sym shares));
       raised = raised_noted m.store.made store.made m.events e m.raises grows k.raised raises h raise (subst (λ y. IsNoted h (raised_by (Some y) (got_of w)) m.raises raises) same noted)
-          (ap (λ l. with_raise (raised_by (open_in None l) (got_of w)) (raises_of m.events)) stack) (raised_exception store.made q.request (got_of w) as_wanted) (code, payload_grown m.store.made store.made _ _ grows frame);
+          (ap (λ l. with_raise (raised_by (open_in None l) (got_of w)) (raises_of m.events)) stack) (raised_exception store.made q.request (got_of w) as_wanted) (old.body.code, payload_grown m.store.made store.made _ _ grows old.entry);
       at_stage = (
         record { plays = plays; moves = subst (λ (x : Expect). IsMoving (taken (input.Answer w) x)) (sym waiting) tt },
         record {
@@ -182,12 +175,11 @@ result_law m d s store list w Other k none alone grown below replied change fold
       kept = record { each = change.each (each_still m store.made e grows m.made m.made m.generators (omega arith) (zero_outside m m.made m.generators k.kept.each) k.kept.each); single = change.single k.kept.single };
       apart = k.nested.apart;
       frames = alone.frames ∙ sym (ap caller_frames none);
-      are_frames = k.nested.are_frames;
       slots = alone.slots ∙ sym (ap slots_in none);
       raised = still_raised m d s store e k grown refl;
       at_stage = none;
     }) (refl, refl, refl)
-    (λ asked is. (next_number _ _ k.follows.done, alone.stack, replied asked is))
+    (λ asked is. let (reply, answered, gives) = replied asked is in (next_number _ _ k.follows.done, alone.stack, (reply, inl answered, gives)))
 
 -- ---- by a reply
 

@@ -125,7 +125,6 @@ module _ (m : Core) where
       plays = plays_still m.codes m.globals m.store.made objects m.events e grows r None other x.plays;
       begins = begins_still m.codes m.globals m.store.made objects m.events e grows r None other x.plays x.begins;
       unheard = unheard_still m.codes m.globals m.store.made objects m.events e grows r None other x.plays x.unheard;
-      entry = (x.entry.0, payload_grown m.store.made objects _ _ grows x.entry.1);
     }
 
     -- one that was left by a yield
@@ -134,7 +133,6 @@ module _ (m : Core) where
       plays = plays_still m.codes m.globals m.store.made objects m.events e grows s.running None other x.plays;
       waits = x.waits;
       slot = x.slot;
-      entry = (x.entry.0, payload_grown m.store.made objects _ _ grows x.entry.1);
       kind = x.kind;
       kind_is = x.kind_is;
     }

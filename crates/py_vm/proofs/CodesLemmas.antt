@@ -12,7 +12,7 @@ use Rattle.py_objects.specs.declared.request.Request.TheVariants as request
 use Rattle.py_rows.specs.Questions.{raise_of, may_raise, may_ask}
 use Rattle.py_rows.specs.Signature.{kind_of}
 use Rattle.py_answers.specs.Replying.{is_answered}
-use Rattle.py_vm.specs.Codes.{CodeIsAnswered, IsDriven}
+use Rattle.py_vm.specs.Codes.{CodeIsAnswered, IsDriven, TakesPositional}
 
 -- instructions, each with some arguments, that the machine answers: no raise has a cause
 pub record AreAnswered (is_used : Instruction → ℕ → Bool) : Type 0 where
@@ -48,6 +48,7 @@ module _ (is_used : Instruction → ℕ → Bool) (answered : AreAnswered is_use
   unit_answered Raise arg used q asks = raise_answered (raise_of arg) q (answered.no_cause arg used) asks
   unit_answered _ arg used _ asks = absurd (cc asks)
 
-  -- so are all questions of a code whose units are all such, and whose activations are driven
-  pub code_answered : (code : PyCode) → ((at : ℕ) (u : CodeUnit) → slice_get code.code.instructions.items at ≡ Some u → is_used u.op u.arg ≡ true) → IsDriven (kind_of code.code.flags) → CodeIsAnswered code
-  code_answered code uses driven = record { units = λ at u here. unit_answered u.op u.arg (uses at u here); driven = driven }
+  -- so are all questions of a code whose units are all such, whose arguments are bound, and whose activations are driven
+  pub code_answered : (code : PyCode) → ((at : ℕ) (u : CodeUnit) → slice_get code.code.instructions.items at ≡ Some u → is_used u.op u.arg ≡ true) → TakesPositional code.code → IsDriven (kind_of code.code.flags)
+      → CodeIsAnswered code
+  code_answered code uses bound driven = record { bound = bound; units = λ at u here. unit_answered u.op u.arg (uses at u here); driven = driven }

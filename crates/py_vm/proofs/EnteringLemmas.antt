@@ -47,7 +47,7 @@ use Rattle.py_vm.specs.declared.generators.KeptGenerator.{KeptGenerator}
 use Rattle.py_vm.specs.declared.machinery.Core.{Core}
 use Rattle.py_vm.specs.Courses.{EntersBy, TakesThrows}
 use Rattle.py_vm.specs.Generators.{changed_at, entered_at, generator_asked, is_close, kept_at, modes_of, without_activation}
-use Rattle.py_vm.specs.Machine.{IsFrame, plan_of}
+use Rattle.py_vm.specs.Machine.{plan_of}
 use Rattle.py_vm.specs.Stands.{AreEach, AreSingle, HasEntered, IsApart, IsFresh, IsGoing, IsInside, IsLeft, IsOutside, IsUnentered, Keeps, KeepsIn, Plays, first_slot, slots_in, stacked}
 use Rattle.py_vm.specs.Codes.{signature_in}
 use Rattle.py_vm.specs.Turns.{past_at, entered_by, heard_by, input_of, resumed_by, setting_at, IsEntering, Turns}
@@ -59,7 +59,7 @@ use Rattle.py_vm.proofs.ChangesLemmas.{IsStill, each_at, entered_carried, entere
 use Rattle.py_vm.proofs.NextLemmas.{next_law, played_told, slots_heard, still_raised}
 use Rattle.py_vm.proofs.QuestionsLemmas.{IsOpen, resumes_there}
 use Rattle.py_vm.proofs.AskedLemmas.{AskedBy}
-use Rattle.py_vm.proofs.TurnsLemmas.{apart_of, frames_and, frames_of, slots_of, stack_of, IsTheirs}
+use Rattle.py_vm.proofs.TurnsLemmas.{apart_of, frames_of, slots_of, stack_of, IsTheirs}
 
 -- a frame that hasn't begun, and of whose run nothing was told, is where a run begins that has this in the slot
 module _ (m : Core) (r : Running) (f : IsFresh m.codes m.globals m.store.made m.events r) (slot : Option PyBaseExceptionRef) where
@@ -102,7 +102,6 @@ entered_law m d r f plain k =
       };
       apart = k.nested.apart;
       frames = ap (λ l. l ++ r.frame.entry ∷ []) k.nested.frames;
-      are_frames = frames_and objects m.frames r.frame.entry k.nested.are_frames fresh_one.entry;
       slots = slots_heard r.kind (slots_in m.callers) m.slots r.frame.state.slot r.frame.state.wants (inl starts) (plain_slots r.kind plain);
       raised = still_raised m d (stage.Made r f) m.store e k (grown_refl m.store) refl;
       at_stage = (
@@ -153,7 +152,6 @@ pub record IsReadyFor (m : Core) (objects : List Payload) (s : Suspended) (h : R
   pub expects : Expects objects (setting_in m.codes m.globals plays.code s.running.frame.closure) s.running.frame.state.wants (input_of h)
   pub moves : IsMoving (taken (input_of h) s.running.frame.state.wants)
   pub named : AllBelow (length objects) (how_numbers h)
-  pub entry : IsFrame m.store.made s.running.frame.entry
   pub kind : CoroKind
   pub kind_is : s.running.kind ≡ Some kind
 
@@ -173,7 +171,6 @@ unentered_ready m objects s h x named expects moves =
       expects = subst (λ y. Expects objects (setting_in m.codes m.globals f.plays.code s.running.frame.closure) y (input_of h)) (sym starts) (expects (setting_in m.codes m.globals f.plays.code s.running.frame.closure) flags);
       moves = subst (λ y. IsMoving (taken (input_of h) y)) (sym starts) moves;
       named = named;
-      entry = f.entry;
       kind = x.kind;
       kind_is = x.kind_is;
     }
@@ -189,7 +186,6 @@ left_ready m objects s h x named expects moves = record {
   expects = subst (λ y. Expects objects (setting_in m.codes m.globals x.plays.code s.running.frame.closure) y (input_of h)) (sym x.waits) (expects (setting_in m.codes m.globals x.plays.code s.running.frame.closure));
   moves = subst (λ y. IsMoving (taken (input_of h) y)) (sym x.waits) moves;
   named = named;
-  entry = x.entry;
   kind = x.kind;
   kind_is = x.kind_is;
 }
@@ -298,7 +294,6 @@ resumed_law m d s hs q store list x h k opened asked_by theirs entering =
       };
       apart = apart_of m d hs asked_by;
       frames = ap (λ l. l ++ r.frame.entry ∷ []) (frames_of m d hs asked_by);
-      are_frames = frames_and m.store.made m.frames r.frame.entry k.nested.are_frames ready.entry;
       slots = slots_heard r.kind (slots_in hs) (x.slot ∷ m.slots) r.frame.state.slot r.frame.state.wants ready.left (own_slots r.kind ready.kind x.slot m.slots (slots_in hs) ready.kind_is (slots_of m d hs asked_by));
       raised = still_raised m d s store e k grown refl;
       at_stage = (

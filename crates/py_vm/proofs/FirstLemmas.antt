@@ -132,7 +132,6 @@ start_idle m no_events begins no_codes names none_done none_made no_callers no_g
         nested = record {
           apart = subst AreApart (sym no_callers) tt;
           frames = no_frames ∙ ap (λ hs. frames_at hs stage.Idle) (sym no_callers) ∙ ap (frames_at m.callers) (sym idle);
-          are_frames = λ i f here. absurd (let none : None ≡ Some f = sym (ap (λ l. slice_get l i) no_frames) ∙ here in cc none);
           slots = empty ∙ ap (λ hs. slots_at hs stage.Idle) (sym no_callers) ∙ ap (slots_at m.callers) (sym idle);
         };
         raised = subst (AreRaised m.store.made m.events) (sym no_raises) (subst (λ es. AreRaised m.store.made es []) (sym no_events) (record { are = λ e. refl; there = λ e x here. absurd (cc here) }));

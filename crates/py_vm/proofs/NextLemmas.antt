@@ -11,7 +11,6 @@ use Rattle.py_objects.specs.Objects.{AllBelow, event_numbers}
 use Rattle.py_objects.specs.Edits.{Kept}
 use Rattle.py_objects.specs.Growth.{Grows, IsGrown}
 use Rattle.py_objects.specs.Own.{whose}
-use Rattle.py_objects.proofs.GrowthLemmas.{payload_grown}
 use Rattle.py_objects.proofs.GrownLemmas.{objects_grow}
 use Rattle.py_exceptions.specs.Slots.{Slots, topmost, top_of}
 use Rattle.py_rows.specs.declared.expect.Expect.{Expect}
@@ -32,17 +31,13 @@ use Rattle.py_vm.specs.declared.stage.Stage.TheVariants as stage
 use Rattle.py_vm.specs.declared.machinery.Core.{Core}
 use Rattle.py_vm.specs.Codes.{signatures_of}
 use Rattle.py_vm.specs.Generators.{modes_of}
-use Rattle.py_vm.specs.Machine.{posed, plan_of, AreFrames}
+use Rattle.py_vm.specs.Machine.{posed, plan_of}
 use Rattle.py_vm.specs.Raises.{AreRaised}
 use Rattle.py_vm.specs.Stands.{AreApart, AreKept, AtStage, IsTold, Keeps, Plays, acts_of, caller_acts, caller_frames, frames_at, phase_of, slots_at, stacked}
 use Rattle.py_vm.specs.Turns.{setting_at, past_at, AfterTurn, Turns}
 use Rattle.py_vm.proofs.JournalLemmas.{acted_on, low_at, made_same, marked_on, nobody_on, runnable_on, stored_on, told_still}
 use Rattle.py_vm.proofs.PlaysLemmas.{plays_rows}
 use Rattle.py_vm.proofs.RaisedLemmas.{raised_still}
-
--- frames are frames among more objects
-pub frames_still : (objects objects' : List Payload) (frames : List FrameRef) → Grows objects objects' → AreFrames objects frames → AreFrames objects' frames
-frames_still objects objects' frames grows are = λ i f here. let (code, has) = are i f here in (code, payload_grown objects objects' _ _ grows has)
 
 -- as many frames are listed as activations run
 one_more : (acts : List Act) (frames : List FrameRef) (entry : FrameRef) → length acts ≡ length frames → suc (length acts) ≡ length (frames ++ entry ∷ [])
@@ -95,7 +90,6 @@ pub record Next (m : Core) (d : Drive) (e : Event) (n : Core) : Type 0 where
   pub kept : AreKept m.codes m.globals n.store.made (m.events ++ e ∷ []) n.made n.generators
   pub apart : AreApart n.callers
   pub frames : n.frames ≡ frames_at n.callers n.stage
-  pub are_frames : AreFrames m.store.made n.frames
   pub slots : n.slots ≡ slots_at n.callers n.stage
   pub raised : AreRaised n.store.made (m.events ++ e ∷ []) n.raises
   pub at_stage : AtStage m.codes m.globals n.store.made (m.events ++ e ∷ []) n.generators d n.made n.callers n.stage
@@ -110,7 +104,6 @@ pub next_law : (m : Core) (d : Drive) (s : Stage) (e : Event) (a : Option DriveA
     → ((asked : List Posed) → IsNext m d asked → MayCome (plan_of m.codes asked) n.store.made (past_at m) e) → Turns m d s a (next_to m e n)
 next_law m d s e a n k x ends comes =
     let next = state_after-append start m.events e in
-    let grows : Grows m.store.made n.store.made = objects_grow m.store n.store x.grown in
     record {
       keeps = record {
         follows = record {
@@ -127,7 +120,6 @@ next_law m d s e a n k x ends comes =
         nested = record {
           apart = x.apart;
           frames = x.frames;
-          are_frames = frames_still m.store.made n.store.made n.frames grows x.are_frames;
           slots = x.slots;
         };
         raised = x.raised;

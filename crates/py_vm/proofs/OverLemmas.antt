@@ -35,6 +35,7 @@ module _ (codes : Checked) (list : List Annotated) (stay : (i : ℕ) (c : Annota
     body = p.body;
     is_function = payload_grown objects objects' _ _ grows p.is_function;
     placed = p.placed;
+    entry = payload_grown objects objects' _ _ grows p.entry;
     scoped = p.scoped;
     code = p.code;
     is_code = stay p.body.code p.code p.is_code;
@@ -47,14 +48,13 @@ module _ (codes : Checked) (list : List Annotated) (stay : (i : ℕ) (c : Annota
   }
 
   fresh_over : (r : Running) → IsFresh codes globals objects events r → IsFresh more globals objects' events r
-  fresh_over r x = record { plays = plays_over r _ x.plays; begins = x.begins; unheard = x.unheard; entry = (x.entry.0, payload_grown objects objects' _ _ grows x.entry.1) }
+  fresh_over r x = record { plays = plays_over r _ x.plays; begins = x.begins; unheard = x.unheard }
 
   left_over : (s : Suspended) → IsLeft codes globals objects events s → IsLeft more globals objects' events s
   left_over s x = record {
     plays = plays_over s.running _ x.plays;
     waits = x.waits;
     slot = x.slot;
-    entry = (x.entry.0, payload_grown objects objects' _ _ grows x.entry.1);
     kind = x.kind;
     kind_is = x.kind_is;
   }

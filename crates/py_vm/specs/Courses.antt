@@ -5,6 +5,7 @@ use Rattle.py_objects.specs.declared.refs.PyBaseExceptionRef.{PyBaseExceptionRef
 use Rattle.py_objects.specs.declared.payload.Payload.{Payload}
 use Rattle.py_objects.specs.declared.payload.Payload.TheVariants as payload
 use Rattle.py_objects.specs.declared.payload.CoroBody.{CoroBody}
+use Rattle.py_objects.specs.declared.payload.CoroKind.{CoroKind}
 use Rattle.py_objects.specs.declared.payload.Fault.{Fault}
 use Rattle.py_objects.specs.declared.payload.ManagerBody.{ManagerBody}
 use Rattle.py_objects.specs.Edits.{Kept}
@@ -15,7 +16,8 @@ use Rattle.py_objects.specs.declared.event.GotAnswer.{GotAnswer}
 use Rattle.py_objects.specs.declared.event.GotAnswer.TheVariants as got
 use Rattle.py_objects.specs.declared.event.ResumeHow.{ResumeHow}
 use Rattle.py_objects.specs.declared.event.ResumeHow.TheVariants as how
-use Rattle.py_objects.specs.Objects.{Obj, Name, HasPayload, AllBelow, AreNamed, as_object, got_numbers, numbers_if}
+use Rattle.py_objects.specs.Objects.{Obj, Name, HasPayload, AllBelow, AllFit, AreNamed, as_object, got_numbers, numbers_if}
+use Rattle.py_objects.specs.Growth.{Grows}
 use Rattle.py_check.specs.declared.note.Kind.TheVariants as kind
 use Rattle.py_rows.specs.Asked.{name_in}
 use Rattle.py_rows.specs.Signature.{characters}
@@ -24,9 +26,10 @@ use Rattle.py_answers.specs.Answers.{Raised, Reply, Fails, Yields, Stops, Closes
 use Rattle.py_frame.specs.declared.input.Answer.{Answer}
 use Rattle.py_frame.specs.declared.input.Answer.TheVariants as given
 use Rattle.py_frame.specs.Steps.{got_of}
+use Rattle.py_coro.specs.declared.refusal.CoroRefusal.{CoroRefusal}
 use Rattle.py_coro.specs.Modes.{Mode, Fresh, Suspended as Left, Running, Closed, Row, Stops as RowStops, Raises as RowRaises, Done as RowDone, Starts as RowStarts, Sends as RowSends, Throws as RowThrows, Exits as RowExits, Refuses as RowRefuses, thrown}
 use Rattle.py_coro.specs.Refusals.{refused, word_of}
-use Rattle.py_run.specs.Calls.{Course, Says, Enters, Begins, Sends, Throws, Setting, ComesTo, CallsFunction, exit_of}
+use Rattle.py_run.specs.Calls.{Course, Says, Enters, Begins, Sends, Throws, Setting, ComesTo, CallsFunction, exit_of, refusal}
 use Rattle.py_vm.specs.declared.calls.Course.{Course as MadeCourse}
 use Rattle.py_vm.specs.declared.calls.Course.TheVariants as course
 use Rattle.py_vm.specs.declared.calls.Standing.{Standing}
@@ -77,6 +80,16 @@ IsReplied old new reply (made.Passed e) = RepliesRaise old new reply e
 IsReplied old new reply (made.Yields v) = (reply ≡ Yields v) × (v.number < length new)
 IsReplied old new reply (made.Stops v) = (reply ≡ Stops v) × AllBelow (length new) (numbers_if v)
 IsReplied old new reply made.Closes = reply ≡ Closes
+
+-- what is replied is the raise of this fault
+abbrev pub IsRaiseOf : Fault → (old new : Kept) → MadeReply → Type 0
+IsRaiseOf fault old new w = IsReplied old.made new.made (Fails fault.kind fault.text) w
+
+-- an answer gives each reply that it was made for
+abbrev pub GivesAny : (old new : Kept) → MadeReply → Answer → Type 0
+GivesAny old new w a =
+    (before : List Payload) (reply : Reply) → Grows before old.made → AllFit old.made → IsReplied before old.made reply w
+    → GivesReply before new.made reply a
 
 -- the value that says why a generator stopped is there
 abbrev pub NamesThere : List Payload → MadeReply → Type 0
@@ -160,6 +173,14 @@ IsRefusedBy old new fault (course.Says w) = IsReplied old new (Fails fault.kind 
 IsRefusedBy old new fault (course.Enters f vs) = ⊥
 IsRefusedBy old new fault (course.Resumes g h) = ⊥
 
+-- it says that a generator of this kind refuses
+abbrev pub IsRefusedOf : CoroKind → CoroRefusal → (old new : Kept) → MadeCourse → Type 0
+IsRefusedOf kind why old new c = IsRefusedBy old.made new.made (refused (word_of kind) why) c
+
+-- the kind of the generator that an object is
+abbrev pub IsKindOf : List Payload → Obj → CoroKind → Type 0
+IsKindOf objects g kind = (body : CoroBody) → HasPayload objects g (payload.Generator body) → kind ≡ body.kind
+
 -- where a request to a generator stands
 module _ (codes : Checked) (handled : Option PyBaseExceptionRef) (depth : ℕ) where
   -- at so many activations
@@ -201,6 +222,13 @@ unless_refused (Some fault) c = Says (Fails fault.kind fault.text)
 abbrev pub IsRefusal : Setting → List Payload → Obj → ℕ → Option Fault → Type 0
 IsRefusal at objects f given fault = (vs : List Obj) → length vs ≡ given → CallsFunction at objects f vs (unless_refused fault (Enters f vs))
 
--- the names at these places of a table
+-- why so many arguments don't bind to these parameters of a function of this name, if they don't
+abbrev pub IsWhy : Name → List Name → ℕ → Option Name → Type 0
+IsWhy function params given text = text ≡ refusal function params given
+
+-- the name at a place of a table, and those at several
+abbrev pub name_at : List (List ℕ) → NameId → Name
+name_at names id = characters (name_in names (Some id))
+
 abbrev pub names_at : List (List ℕ) → List NameId → List Name
 names_at names ids = map (λ id. characters (name_in names (Some id))) ids

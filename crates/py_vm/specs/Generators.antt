@@ -3,14 +3,15 @@ use Rattle.std.specs.Prelude.{ℕ, Option, Some, None, List, [], ◌∷◌, ◌�
 use Rattle.py_objects.specs.declared.refs.PyBaseExceptionRef.{PyBaseExceptionRef}
 use Rattle.py_objects.specs.declared.request.Request.{Request}
 use Rattle.py_objects.specs.declared.request.Request.TheVariants as request
+use Rattle.py_objects.specs.Edits.{Kept}
 use Rattle.py_objects.specs.Objects.{Obj}
 use Rattle.py_coro.specs.declared.coro.CoroEnd.{CoroEnd}
 use Rattle.py_coro.specs.declared.coro.CoroAnswer.{CoroAnswer}
 use Rattle.py_coro.specs.declared.coro.CoroAnswer.TheVariants as coro_answer
 use Rattle.py_coro.specs.declared.coro.Begin.{Begin}
-use Rattle.py_coro.specs.Modes.{Mode, Fresh, Suspended as Left, Running, Closed, Row, thrown}
+use Rattle.py_coro.specs.Modes.{Mode, Fresh, Suspended as Left, Running, Closed, Row, sent, thrown}
 use Rattle.py_coro.specs.Coros.{State, behind, begun, entered, left_by}
-use Rattle.py_coro.specs.Leaving.{mode_behind}
+use Rattle.py_coro.specs.Leaving.{Finishes, mode_behind}
 use Rattle.py_run.specs.Generators.{Generator}
 use Rattle.py_vm.specs.declared.generators.KeptGenerator.{KeptGenerator}
 use Rattle.py_vm.specs.declared.stage.Suspended.{Suspended}
@@ -89,6 +90,19 @@ IsThrownInto g e depth old new (Some b) =
 -- the generator that an object is runs, if it is one
 abbrev pub IsRunningNow : List KeptGenerator → Obj → Type 0
 IsRunningNow list g = (x : KeptGenerator) × (kept_at list g ≡ Some x) × (x.generator.mode ≡ Running)
+
+-- the generator that an object is answers this, where it was left like this
+abbrev pub FinishesAt : List KeptGenerator → Obj → Kept → CoroEnd → CoroAnswer → Type 0
+FinishesAt list g store how a =
+    (x : KeptGenerator) → kept_at list g ≡ Some x → Finishes store.made x.generator.kind x.generator.closing how a
+
+-- it has this activation
+abbrev pub TakesFrom : List KeptGenerator → Obj → Option Suspended → Type 0
+TakesFrom list g s = (x : KeptGenerator) → kept_at list g ≡ Some x → s ≡ x.suspended
+
+-- a send of a value that is None or isn't, as a row of a state
+abbrev pub sent_in : (none : Bool) → (depth : ℕ) → State → Row
+sent_in none depth s = sent s.mode none depth
 
 -- whether a request closes a generator
 abbrev pub is_close : Request → Bool

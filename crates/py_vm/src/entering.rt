@@ -4,7 +4,7 @@ ghost use Rattle.std.specs.Prelude.{◌≡◌, ◌≤◌, length, IfOk, OnOk, On
 ghost use Rattle.py_objects.specs.Objects.{IsFunction};
 ghost use Rattle.py_answers.specs.Readable.{IsReadable};
 ghost use Rattle.py_vm.specs.Holds.{AreRunnable};
-ghost use Rattle.py_vm.specs.Turns.{entered_by, input_of, CanReply, CreatedOne, FirstAsks, Halts, IsFreshFor, IsResumable, MadeOne, ResumedOne, Started};
+ghost use Rattle.py_vm.specs.Turns.{entered_by, input_of, CanReply, CreatesOne, FirstAsks, Halts, IsResumable, MadeOne, MakesFresh, ResumedOne, StartedOne};
 
 use crate::calls::kind_of;
 use crate::generators::KeptGenerator;
@@ -55,7 +55,7 @@ impl Core {
         requires can { CanReply self.old }
         requires function { IsFunction self.old.store.made function }
         requires first { FirstAsks self.old.codes self.old.events self.old.callers }
-        ensures ok { IfOk result (λ answer. Started self.old running function running.kind answer self.new) }
+        ensures ok { IfOk result (StartedOne self.old running function self.new) }
         ensures err { OnErr result (Halts self.old self.new) }
     {
         match running.kind {
@@ -97,7 +97,7 @@ impl Core {
     ) -> Result<PyObjectRef, NoMemory>
         requires can { CanReply self.old }
         requires function { IsFunction self.old.store.made function }
-        ensures ok { IfOk result (λ object. CreatedOne self.old running function kind object self.new) }
+        ensures ok { IfOk result (CreatesOne self.old running function kind self.new) }
         ensures err { OnErr result (Halts self.old self.new) }
     {
         let Payload::Function(body) = entry(&self.store, function) else {
@@ -158,7 +158,7 @@ impl Core {
         requires readable { IsReadable self.old.store }
         requires runnable { AreRunnable self.old.codes self.old.store.made }
         requires callee { IsFunction self.old.store.made function }
-        ensures ok { IfOk result (λ running. IsFreshFor self.old act function args.now running self.new) }
+        ensures ok { IfOk result (MakesFresh self.old act function args.now self.new) }
         ensures err { OnErr result (Halts self.old self.new) }
     {
         let Payload::Function(body) = entry(&self.store, function) else {

@@ -3,10 +3,9 @@
 ghost use Rattle.std.specs.Prelude.{◌≡◌, [], ◌∷◌, ◌++◌, None, Some, IfErr, OnOk, OnErr};
 ghost use Rattle.py_objects.specs.Objects.{AllFit};
 ghost use Rattle.py_coro.specs.declared.refusal.CoroRefusal.TheVariants as refusal;
-ghost use Rattle.py_coro.specs.Modes.{closed, sent};
+ghost use Rattle.py_coro.specs.Modes.{closed};
 ghost use Rattle.py_coro.specs.Coros.{State, AreRead};
-ghost use Rattle.py_coro.specs.Leaving.{Finishes};
-ghost use Rattle.py_vm.specs.Generators.{changed_at, kept_at, kept_by, place_of, settled, without_activation, IsCalledOn, IsRunningNow, IsThrownInto};
+ghost use Rattle.py_vm.specs.Generators.{changed_at, kept_at, kept_by, place_of, sent_in, settled, without_activation, FinishesAt, IsCalledOn, IsRunningNow, IsThrownInto, TakesFrom};
 
 use crate::stage::Suspended;
 use indexmap::IndexSet;
@@ -72,7 +71,7 @@ impl GeneratorList {
 
     /// Sends a value, which is None or isn't, to the generator that an object is, where so many activations run.
     pub(crate) fn send(&mut self, object: PyObjectRef, is_none: bool, depth: usize) -> Option<Begin>
-        ensures { IsCalledOn object (λ (s : State). sent s.mode is_none depth) self.old self.new result }
+        ensures { IsCalledOn object (sent_in is_none depth) self.old self.new result }
     {
         let at = self.find(object)?;
         Some(self.items[at].generator.send(is_none, depth))
@@ -123,7 +122,7 @@ impl GeneratorList {
         requires runs { IsRunningNow self.old object }
         requires fit { AllFit store.now.made }
         requires read { AreRead store.now.made how }
-        ensures answer { (x : KeptGenerator) → kept_at self.old object ≡ Some x → Finishes store.now.made x.generator.kind x.generator.closing how result }
+        ensures answer { FinishesAt self.old object store.now how result }
         ensures left { self.new ≡ changed_at object (settled left how) self.old }
     {
         let Some(at) = self.find(object) else {
@@ -137,7 +136,7 @@ impl GeneratorList {
 
     /// Takes the activation of the generator that an object is, to be entered or dropped.
     pub(crate) fn take(&mut self, object: PyObjectRef) -> Option<Suspended>
-        ensures taken { (x : KeptGenerator) → kept_at self.old object ≡ Some x → result ≡ x.suspended }
+        ensures taken { TakesFrom self.old object result }
         ensures left { self.new ≡ changed_at object without_activation self.old }
     {
         let at = self.find(object)?;

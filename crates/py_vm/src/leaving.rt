@@ -1,12 +1,11 @@
 //! Activations that were left, and what those are answered that entered them.
 
 ghost use Rattle.std.specs.Prelude.{◌≡◌, ◌≤◌, length, IfOk, OnErr};
-ghost use Rattle.py_objects.specs.declared.request.Request.{Request as Asked};
 ghost use Rattle.py_answers.specs.Replying.{IsGenerator};
 ghost use Rattle.py_run.specs.Drives.{request_of};
 ghost use Rattle.py_vm.specs.Generators.{generator_asked, IsRunningNow};
-ghost use Rattle.py_vm.specs.Stands.{AreStored, IsEnding};
-ghost use Rattle.py_vm.specs.Turns.{left_of, own_slot, passed, popped, CanFinish, Finished, FirstAsks, Halts, HasOwnSlot, Questioned, SettledOne};
+ghost use Rattle.py_vm.specs.Stands.{IsEnding, IsStored};
+ghost use Rattle.py_vm.specs.Turns.{left_of, own_slot, passed, popped, CanFinish, EntersAs, Finished, FirstAsks, Halts, HasOwnSlot, SettledOne};
 
 use crate::frames::FrameList;
 use crate::machinery::Core;
@@ -69,7 +68,7 @@ impl Core {
     /// The generator that the open question has entered, if it has entered one.
     fn generator_entered(&self, drive: &Drive) -> Option<PyObjectRef>
         requires { FirstAsks self.now.codes self.now.events self.now.callers }
-        ensures { (q : Asked) → Questioned self.now.events drive.now self.now.callers q → result ≡ generator_asked q }
+        ensures { EntersAs self.now drive.now result }
     {
         let Some(halted) = self.callers.last() else {
             return generator_of(drive);
@@ -88,7 +87,7 @@ impl Core {
         left: Suspended,
         how: CoroEnd,
     ) -> Result<Reply, NoMemory>
-        requires stored { AreStored self.old.zoo self.old.globals self.old.declarations self.old.store }
+        requires stored { IsStored self.old }
         requires ending { IsEnding self.old.store.made how }
         requires runs { IsRunningNow self.old.generators object }
         requires generator { IsGenerator self.old.store.made object }

@@ -1,14 +1,11 @@
 //! What questions are answered, before it is known who asked.
 
-ghost use Rattle.std.specs.Prelude.{◌≡◌, List, length, IfOk};
-ghost use Rattle.py_objects.specs.declared.payload.Payload.{Payload};
-ghost use Rattle.py_objects.specs.declared.error_kind.ErrorKind.TheVariants.{StopIteration};
-ghost use Rattle.py_objects.specs.Growth.{Grows, IsGrown};
-ghost use Rattle.py_objects.specs.Objects.{numbers_if, AllBelow, AllFit};
-ghost use Rattle.py_exceptions.specs.Classes.{class_of, HaveClasses};
-ghost use Rattle.py_exceptions.specs.Making.{IsNewCalled};
-ghost use Rattle.py_answers.specs.Answers.{stop_args, Reply as Replied};
-ghost use Rattle.py_vm.specs.Courses.{GivesReply, IsReplied, NamesThere};
+ghost use Rattle.std.specs.Prelude.{◌≡◌, length, IfOk};
+ghost use Rattle.py_objects.specs.Growth.{IsGrown};
+ghost use Rattle.py_objects.specs.Objects.{numbers_if, AllBelow};
+ghost use Rattle.py_exceptions.specs.Classes.{HaveClasses};
+ghost use Rattle.py_vm.specs.Courses.{GivesAny, NamesThere};
+ghost use Rattle.py_vm.specs.Made.{IsNewStop};
 ghost use Rattle.py_vm.specs.Turns.{result_of, KeepsValue};
 
 use py_code::NoMemory;
@@ -46,7 +43,7 @@ impl Reply {
         requires there { NamesThere store.old.made self }
         ensures grows { IsGrown store.old store.new }
         ensures value { IfOk result (KeepsValue self) }
-        ensures given { IfOk result (λ answer. (before : List Payload) (reply : Replied) → Grows before store.old.made → AllFit store.old.made → IsReplied before store.old.made reply self → GivesReply before store.new.made reply answer) }
+        ensures given { IfOk result (GivesAny store.old store.new self) }
     {
         match self {
             Reply::Value(value) => Ok(Answer::Value(value)),
@@ -83,7 +80,7 @@ fn stopped(
     requires classes { HaveClasses zoo.now store.old.made }
     requires value { AllBelow (length store.old.made) (numbers_if value) }
     ensures grows { IsGrown store.old store.new }
-    ensures made { IfOk result (λ e. IsNewCalled store.old.made store.new.made (class_of zoo.now StopIteration) (stop_args value) e) }
+    ensures made { IfOk result (IsNewStop zoo.now store.old store.new value) }
 {
     let mut args = ObjList::new(alloc);
     if let Some(value) = value {

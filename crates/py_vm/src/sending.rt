@@ -1,20 +1,16 @@
 //! What sends, throws and closes of generators come to (Python Language Reference, 6.2.9.1). A generator that no call of the machine made is closed.
 
-ghost use Rattle.std.specs.Prelude.{◌≡◌, ◌<◌, length, None, [], IfOk};
+ghost use Rattle.std.specs.Prelude.{◌≡◌, ◌<◌, length, None, IfOk};
 ghost use Rattle.py_objects.specs.Growth.{IsGrown};
 ghost use Rattle.py_objects.specs.Objects.{numbers_if, AllBelow, HasPayload};
 ghost use Rattle.py_objects.specs.declared.request.Request.TheVariants as request;
-ghost use Rattle.py_objects.specs.declared.payload.CoroBody.{CoroBody};
 ghost use Rattle.py_objects.specs.declared.payload.Payload.{Payload as Entry};
-ghost use Rattle.py_objects.specs.declared.payload.Payload.TheVariants as payload;
 ghost use Rattle.py_objects.specs.Values.{is_none};
-ghost use Rattle.py_objects.specs.declared.error_kind.ErrorKind.TheVariants.{GeneratorExit};
-ghost use Rattle.py_exceptions.specs.Classes.{class_of, HaveClasses};
-ghost use Rattle.py_exceptions.specs.Making.{IsNewCalled};
+ghost use Rattle.py_exceptions.specs.Classes.{HaveClasses};
 ghost use Rattle.py_answers.specs.Readable.{IsReadable};
 ghost use Rattle.py_answers.specs.Replying.{IsGenerator};
-ghost use Rattle.py_coro.specs.Refusals.{refused, word_of};
-ghost use Rattle.py_vm.specs.Courses.{IsCourseAt, IsRefusedBy, IsThrownCourse};
+ghost use Rattle.py_vm.specs.Courses.{IsCourseAt, IsKindOf, IsRefusedOf, IsThrownCourse};
+ghost use Rattle.py_vm.specs.Made.{IsNewExit};
 
 use crate::calls::{Course, raised};
 use crate::generators::GeneratorList;
@@ -168,7 +164,7 @@ fn exit(
 ) -> Result<PyBaseExceptionRef, NoMemory>
     requires { HaveClasses zoo.now store.old.made }
     ensures grows { IsGrown store.old store.new }
-    ensures made { IfOk result (λ e. IsNewCalled store.old.made store.new.made (class_of zoo.now GeneratorExit) [] e) }
+    ensures made { IfOk result (IsNewExit zoo.now store.old store.new) }
 {
     make_exception(
         store,
@@ -181,7 +177,7 @@ fn exit(
 pub(crate) fn generator_kind(store: &Store, generator: PyObjectRef) -> CoroKind
     requires generator { IsGenerator store.now.made generator }
     requires readable { IsReadable store.now }
-    ensures { (body : CoroBody) → HasPayload store.now.made generator (payload.Generator body) → result ≡ body.kind }
+    ensures { IsKindOf store.now.made generator result }
 {
     let Payload::Generator(body) = entry(store, generator) else {
         unreachable!();
@@ -207,7 +203,7 @@ fn refused_by(
 ) -> Result<Course, NoMemory>
     requires { HaveClasses zoo.now store.old.made }
     ensures grows { IsGrown store.old store.new }
-    ensures refused { IfOk result (IsRefusedBy store.old.made store.new.made (refused (word_of kind) refusal)) }
+    ensures refused { IfOk result (IsRefusedOf kind refusal store.old store.new) }
 {
     let fault = refusal.fault(alloc, kind)?;
     Ok(Course::Says(raised(store, zoo, &fault)?))

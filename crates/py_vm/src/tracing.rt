@@ -6,8 +6,8 @@ ghost use Rattle.py_answers.specs.Readable.{IsReadable};
 ghost use Rattle.py_frame.specs.Steps.{got_of};
 ghost use Rattle.py_run.specs.Raises.{is_raising, raised_by};
 ghost use Rattle.py_vm.specs.Machine.{IsFrame};
-ghost use Rattle.py_vm.specs.Raises.{raise_at, AreThere};
-ghost use Rattle.py_vm.specs.Turns.{AsksAt, CanNote, Halts, IsTraced, IsTracedBy, NotedOne, ToldOne};
+ghost use Rattle.py_vm.specs.Raises.{AreThere};
+ghost use Rattle.py_vm.specs.Turns.{AsksAt, CanNote, Halts, IsLastTraced, IsTraced, NotedOne, ToldOne};
 
 use crate::machinery::Core;
 use crate::raises::KeptRaise;
@@ -69,7 +69,7 @@ impl Core {
     /// The traceback of an exception's last raise, which is new where no exit was told it yet. None where it was never raised in a body.
     fn traceback(&mut self, exception: PyObjectRef) -> Result<PyObjectRef, NoMemory>
         requires { AreThere self.old.store.made self.old.raises }
-        ensures ok { IfOk result (λ object. IsTracedBy self.old exception (raise_at self.old.raises exception) object self.new) }
+        ensures ok { IfOk result (IsLastTraced self.old exception self.new) }
         ensures err { OnErr result (Halts self.old self.new) }
     {
         let Some(raise) = self.raises.get(exception) else {

@@ -1,11 +1,10 @@
 //! The blocks of a core.
 
-ghost use Rattle.std.specs.Prelude.{◌≡◌, ◌+◌, ◌<◌, ◌∷◌, [], length, reverse, None};
+ghost use Rattle.std.specs.Prelude.{◌≡◌, ◌+◌, ◌<◌, reverse, None};
 ghost use Rattle.py_rows.specs.Handled.{handled_in};
 ghost use Rattle.py_rows.specs.Rows.{raised_in};
-ghost use Rattle.py_rows.specs.declared.expect.Expect.TheVariants as expect;
 ghost use Rattle.py_frame.specs.Steps.{GivesBack};
-ghost use Rattle.py_frame.specs.UnitSteps.{PopsBlock};
+ghost use Rattle.py_frame.specs.UnitSteps.{GivesUp, PopsBlock, PushesBlock, block_places};
 
 use super::FrameCore;
 use py_objects::PyBaseExceptionRef;
@@ -15,7 +14,7 @@ impl FrameCore {
     /// Opens a block.
     pub(crate) fn push_block(&mut self, block: Block)
         requires { 0 < self.old.block_room }
-        ensures frame { self.new ≡ record self.old { state = record self.old.state { blocks = block ∷ self.old.state.blocks }; block_room = self.new.block_room } }
+        ensures frame { PushesBlock self.old block self.new }
         ensures room { self.new.block_room + 1 ≡ self.old.block_room }
     {
         self.blocks.push_reserved(block);
@@ -24,16 +23,16 @@ impl FrameCore {
     /// Takes the innermost block off, where there is one.
     pub(crate) fn pop_block(&mut self) -> Option<Block>
         ensures frame { PopsBlock self.old result self.new }
-        ensures room { length self.new.state.blocks + self.new.block_room ≡ length self.old.state.blocks + self.old.block_room }
+        ensures room { block_places self.new ≡ block_places self.old }
     {
         self.blocks.pop()
     }
 
     /// Leaves all blocks, each handler with what it kept, and expects nothing more.
     pub(crate) fn gives_up(&mut self)
-        ensures frame { self.new ≡ record self.old { state = record self.old.state { blocks = []; slot = self.new.state.slot; wants = expect.Ended }; block_room = self.new.block_room } }
+        ensures frame { GivesUp self.old self.new }
         ensures given_back { GivesBack self.old.state self.new.state }
-        ensures room { self.new.block_room ≡ length self.old.state.blocks + self.old.block_room }
+        ensures room { self.new.block_room ≡ block_places self.old }
     {
         'blocks_left: while let Some(block) = self.pop_block() {
             match block.typ {

@@ -1,6 +1,7 @@
 //! What a core says of itself.
 
 ghost use Rattle.std.specs.Prelude.{◌≡◌, ◌<◌, length, slice_get, slice_set};
+ghost use Rattle.py_frame.specs.Frames.{with_locals};
 
 use super::FrameCore;
 use py_code::OpArgState;
@@ -60,7 +61,7 @@ impl FrameCore {
     /// Sets a local, or unsets it.
     pub(crate) fn set_local(&mut self, place: usize, value: Option<PyObjectRef>)
         requires { place < length self.old.state.locals }
-        ensures { self.new ≡ record self.old { state = record self.old.state { locals = slice_set self.old.state.locals place value } } }
+        ensures { self.new ≡ with_locals (slice_set self.old.state.locals place value) self.old }
     {
         self.locals[place] = value;
     }

@@ -38,7 +38,7 @@ pub returns-clause-entry_at_999 : goal.returns-clause-entry_at_999
 returns-clause-entry_at_999 c = entry_at_999
 
 pub returns-clause-no_entry_at_1000 : goal.returns-clause-no_entry_at_1000
-returns-clause-no_entry_at_1000 c = no_entry_at_1000
+returns-clause-no_entry_at_1000 c plan p store f vs full g ws = no_entry_at_1000 plan p store f vs g ws full
 
 pub returns-clause-made_at_any_depth : goal.returns-clause-made_at_any_depth
 returns-clause-made_at_any_depth c = made_at_any_depth

@@ -1,5 +1,6 @@
 use Rattle.std.proofs.Common.{subst, sym}
 use Rattle.py_check.specs.declared.annotated.Annotated.{Annotated}
+use Rattle.py_laid.specs.Code.{IsPlain}
 use Rattle.py_laid.specs.Fits.{Fits}
 use Rattle.py_laid.specs.Instructions.{UsesCompiled, is_compiled}
 use Rattle.py_laid.proofs.Uses.{compiled_raise}
@@ -7,7 +8,7 @@ use Rattle.py_body.proofs.CodesLemmas.{last_of_each}
 use Rattle.py_tree.specs.Views.{tree_of}
 use Rattle.py_vm.specs.Codes.{CodeIsAnswered}
 use Rattle.py_vm.proofs.CodesLemmas.{AreAnswered, code_answered}
-use Rattle.py_script.proofs.Declarations.{fits_driven}
+use Rattle.py_script.proofs.Declarations.{fits_driven, plain_positional}
 use Rattle.py_script.proofs.loading.compile_one.Goals as goal
 
 pub returns-clause-fits : goal.returns-clause-fits
@@ -25,4 +26,7 @@ returns-clause-answered c =
     let tree = tree_of c.args.body.now in
     let uses = last_of_each (λ (code : Annotated). UsesCompiled code.code) _ _ _ _ _ c.into_vec.ensures c.pop.ensures.items c.in-Some.is c.in_ok-codes.ensures.uses in
     let fits = last_of_each (λ (code : Annotated). Fits names code tree) _ _ _ _ _ c.into_vec.ensures c.pop.ensures.items c.in-Some.is c.in_ok-codes.ensures.fits in
-    subst (λ (code : Annotated). CodeIsAnswered code.code) (sym c.of.ensures) (code_answered is_compiled compiled_answered c.in-Some.code.code uses (fits_driven names c.in-Some.code tree fits))
+    let plain = last_of_each (λ (code : Annotated). IsPlain code tree) _ _ _ _ _ c.into_vec.ensures c.pop.ensures.items c.in-Some.is c.in_ok-codes.ensures.plain in
+    let code : Annotated = c.in-Some.code in
+    subst (λ (code : Annotated). CodeIsAnswered code.code) (sym c.of.ensures)
+    (code_answered is_compiled compiled_answered code.code uses (plain_positional code tree plain) (fits_driven names code tree fits))

@@ -1,0 +1,7 @@
+use Rattle.std.proofs.Common.{◌≡◌, ◌++◌, drop}
+use Rattle.std.specs.Prelude.{encode_utf8_all, string_bytes}
+use Rattle.py_exceptions.specs.Said.{base_name}
+use Rattle.py_exceptions.proofs.attributes.push_base_name.Given as goal
+
+abbrev pub invariant-loop-c : goal.invariant-loop-c
+invariant-loop-c l = string_bytes l.out ++ encode_utf8_all (drop l.c-index l.c-items) ≡ string_bytes l.fn.out ++ encode_utf8_all (base_name l.path)

@@ -1,0 +1,17 @@
+use Rattle.std.proofs.Common.{◌≡◌, ◌++◌, ◌∙◌, List, ℕ, ap, subst}
+use Rattle.std.specs.Prelude.{IfOk, chars}
+use Rattle.py_objects.specs.declared.payload.Payload.{Payload}
+use Rattle.py_objects.specs.Objects.{as_object}
+use Rattle.py_objects.specs.Edits.{objects_of}
+use Rattle.py_exceptions.specs.Texts.{str}
+use Rattle.py_exceptions.proofs.base_exception.PyBaseExceptionRefBaseException.str.Goals as goal
+
+pub returns : goal.returns
+returns c =
+    let objects : List Payload = objects_of c.args.store.now in
+    let written : c.as_str.result.now ≡ str objects (as_object c.args.self.now) =
+    c.as_str.ensures.value
+    ∙ (c.in_ok-push_whole_str.ensures
+    ∙ (ap (λ (front : List ℕ). front ++ str c.objects.result.now (as_object c.args.self.now)) c.new-out.ensures.bytes
+    ∙ ap (λ (os : List Payload). str os (as_object c.args.self.now)) c.objects.ensures)) in
+    subst (λ (bytes : List ℕ). IfOk c.text_of_str.result (λ text. text ≡ chars bytes)) written c.text_of_str.ensures
