@@ -53,7 +53,8 @@ only_third (suc (suc zero)) other (i, arg, is, asks) = other refl
 only_third (suc (suc (suc zero))) other (i, arg, is, asks) = may_not i _ arg is refl asks
 only_third (suc (suc (suc (suc zero)))) other (i, arg, is, asks) = may_not i _ arg is refl asks
 only_third (suc (suc (suc (suc (suc zero))))) other (i, arg, is, asks) = may_not i _ arg is refl asks
-only_third (suc (suc (suc (suc (suc (suc at)))))) other (i, arg, is, asks) = absurd (cc is)
+only_third (suc (suc (suc (suc (suc (suc zero)))))) other (i, arg, is, asks) = may_not i _ arg is refl asks
+only_third (suc (suc (suc (suc (suc (suc (suc at))))))) other (i, arg, is, asks) = absurd (cc is)
 
 -- what the activation's own events ask is asked by a unit of its code
 asked_by : (c : PyCode) (at : ℕ) (us : List Own) → own_events 1 (events_at at) ≡ Makes ∷ us → AllMayTell objects c us → UnitAsks (slice_get c.code.instructions.items at) sum

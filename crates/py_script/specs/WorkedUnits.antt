@@ -3,7 +3,7 @@ use Rattle.std.specs.Prelude.{◌≡◌, ℕ, Some, None, List, [], ◌∷◌, m
 use Rattle.py_code.specs.Codes.{Codes}
 use Rattle.py_code.specs.declared.code.PyCode.{PyCode}
 use Rattle.py_code.specs.declared.instruction.Instruction.{Instruction}
-use Rattle.py_code.specs.declared.instruction.Instruction.TheVariants.{LoadFast, StoreFast, BinaryOperation, ReturnValue}
+use Rattle.py_code.specs.declared.instruction.Instruction.TheVariants.{LoadFast, StoreFast, BinaryOperation, ReturnConst, ReturnValue}
 use Rattle.py_code.specs.declared.operator.BinaryOperator.TheVariants as binary
 use Rattle.py_objects.specs.declared.request.Request.{Request}
 use Rattle.py_objects.specs.declared.request.Request.TheVariants.{Binary}
@@ -25,9 +25,9 @@ events_at at = entered 1 (event.Ask 1 sum None at ∷ returned 1 (object 6) [])
 abbrev pub journal_at : Codes → ℕ → Journal
 journal_at cs at = record { events = events_at at; objects = objects; changes = []; codes = cs }
 
--- what the units of the function do: load a, load b, add, store x, load x, return
+-- what the units of the function do: load a, load b, add, store x, load x, return, and the return of None at the body's end
 abbrev pub operations : List Instruction
-operations = LoadFast ∷ LoadFast ∷ BinaryOperation ∷ StoreFast ∷ LoadFast ∷ ReturnValue ∷ []
+operations = LoadFast ∷ LoadFast ∷ BinaryOperation ∷ StoreFast ∷ LoadFast ∷ ReturnValue ∷ ReturnConst ∷ []
 
 -- the first code has these units
 abbrev pub AddsAtTwo : Codes → Type 0

@@ -309,12 +309,18 @@ module _ (m : Core) (idle : IsIdle m) (works : m.failed ≡ false) (x : Makings)
 
   -- memory ran out
   pub no_memory : (turns : ℕ) → 0 < turns → Forms (seen m) x turns (Err fault.NoMemory) (seen (record m { failed = true }))
-  no_memory turns some = ([], some, none_adds m idle x, refl, refl)
+  no_memory turns some = ([], some, none_adds m idle x, refl, refl, refl)
 
   pub stopped : (turns : ℕ) (m' : Core) → 1 < turns → Stopped begun_core m' → Forms (seen m) x turns (Err fault.NoMemory) (seen (record m' { failed = true }))
   stopped turns m' some (store, plainly, changes, is) =
-      subst (λ (n : Core). Forms (seen m) x turns (Err fault.NoMemory) (seen (record n { failed = true }))) (sym is)
-      (event.Drive (m.done + 1) ∷ [], (let one : length (event.Drive (m.done + 1) ∷ []) ≡ 1 = refl in omega (arith, some, one)), begun_adds m idle x store plainly, refl, changes)
+      subst (λ (n : Core). Forms (seen m) x turns (Err fault.NoMemory) (seen (record n { failed = true }))) (sym is) (
+        event.Drive (m.done + 1) ∷ [],
+        (let one : length (event.Drive (m.done + 1) ∷ []) ≡ 1 = refl in omega (arith, some, one)),
+        begun_adds m idle x store plainly,
+        refl,
+        changes,
+        ap (λ (y : State). y.done) (state_after-append start m.events (event.Drive (m.done + 1))),
+      )
 
   -- it has its result
   pub stands_behind : (f : Formed) (m' : Core) → FormedOne begun_core x f m' → IsIdle m'

@@ -79,7 +79,8 @@ abbrev pub Forms : Machine → Makings → ℕ → Result PyBaseExceptionRef VmF
 Forms m x turns (Ok e) m' = (2 ≤ turns) × AddsForming x (ended m (answer.Returns (as_object e))) m m' × (m'.failed ≡ false) × IsTracedBy m x.traceback e m'
 Forms m x turns (Err (fault.Exception e)) m' = (2 ≤ turns) × AddsForming x (ended m (answer.Raises e)) m m' × (m'.failed ≡ false) × (m'.changes ≡ m.changes)
 Forms m x turns (Err fault.OutOfTurns) m' = (turns < 2) × AddsForming x (take turns (begun m)) m m' × (m'.failed ≡ true) × (m'.changes ≡ m.changes)
-Forms m x turns (Err fault.NoMemory) m' = (part : List Event) × (length part < turns) × AddsForming x part m m' × (m'.failed ≡ true) × (m'.changes ≡ m.changes)
+Forms m x turns (Err fault.NoMemory) m' =
+    (part : List Event) × (length part < turns) × AddsForming x part m m' × (m'.failed ≡ true) × (m'.changes ≡ m.changes) × (done_of m' ≡ done_of m)
 Forms m x turns (Err fault.Failed) m' = ⊥
 
 -- ---- what the functions inside the crate promise each other
