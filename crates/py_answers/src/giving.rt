@@ -1,7 +1,8 @@
 //! What gives a reply: an object, or the raise of a new exception.
 
-ghost use Rattle.std.specs.Prelude.{◌≡◌, length, None};
+ghost use Rattle.std.specs.Prelude.{◌≡◌, length, None, false};
 ghost use Rattle.py_objects.specs.Objects.{class_object, declares, numbers, payload_numbers, AllBelow, IsClassObject, IsMade};
+ghost use Rattle.py_objects.specs.FrameEntries.{is_frame};
 ghost use Rattle.py_objects.specs.Growth.{IsGrown};
 ghost use Rattle.py_objects.specs.declared.payload.Payload.TheVariants.{Bool};
 ghost use Rattle.py_answers.specs.Answers.{Has, Makes};
@@ -42,9 +43,10 @@ fn truth(store: &mut Store, flag: bool) -> Answered
     }
 }
 
-/// A new object of a payload that declares nothing.
+/// A new object of a payload that declares nothing, and is no frame.
 fn added(store: &mut Store, payload: Payload) -> Answered
     requires plain { declares payload ≡ None }
+    requires no_frame { is_frame payload ≡ false }
     requires below { AllBelow (length store.old.made) (payload_numbers payload) }
     requires made { IsMade store.old.made payload }
     ensures grows { IsGrown store.old store.new }

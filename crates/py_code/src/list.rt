@@ -10,7 +10,7 @@ use thiserror::Error;
 
 /// Memory ran out.
 #[derive(Clone, Copy, Debug, PartialEq, Eq, Error)]
-#[error("out of memory")]
+#[error("memory ran out")]
 pub struct NoMemory;
 
 impl From<AllocError> for NoMemory {

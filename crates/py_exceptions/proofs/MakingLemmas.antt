@@ -28,10 +28,10 @@ pub record AreInstance (s0 s1 s2 : Kept) (class : PyTypeRef) (arguments : List O
   pub last : e.number ≡ length s1.made
 
 pub text_grows : (s0 s1 : Kept) (text : Name) → s1 ≡ with_object s0 (payload.Str text) → IsGrown s0 s1
-text_grows s0 s1 text added = added_grown s0 s1 (payload.Str text) added refl (λ fit. tt) (λ fit. tt)
+text_grows s0 s1 text added = added_grown s0 s1 (payload.Str text) added refl refl (λ fit. tt) (λ fit. tt)
 
 pub tuple_grows : (s0 s1 : Kept) (arguments : List Obj) → AllBelow (length s0.made) (numbers arguments) → s1 ≡ with_object s0 (payload.Tuple arguments) → IsGrown s0 s1
-tuple_grows s0 s1 arguments below added = added_grown s0 s1 (payload.Tuple arguments) added refl (λ fit. below) (λ fit. tt)
+tuple_grows s0 s1 arguments below added = added_grown s0 s1 (payload.Tuple arguments) added refl refl (λ fit. below) (λ fit. tt)
 
 -- a class stays one
 pub class_stays : (s0 s1 : Kept) (class : PyTypeRef) → IsGrown s0 s1 → IsClassObject s0.made (class_object class) → IsClassObject s1.made (class_object class)
@@ -70,7 +70,7 @@ instance_grows s0 s1 s2 class arguments cause attrs args e is below caused attrs
     let front : IsGrown s0 s1 = tuple_grows s0 s1 arguments below x.args_added in
     let (c, has) = class_stays s0 s1 class front is in
     grown_trans s0 s1 s2 front
-    (added_grown s1 s2 (payload.Exception (exception_from class args cause attrs)) x.entry_added refl
+    (added_grown s1 s2 (payload.Exception (exception_from class args cause attrs)) x.entry_added refl refl
     (λ fit. instance_below s0 s1 class arguments cause attrs args is below caused attrs_below x.args_added x.args_last)
     (λ fit. record {
       class = c;

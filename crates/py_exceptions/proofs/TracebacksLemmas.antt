@@ -35,7 +35,7 @@ entry_below objects (Some t) frame lasti lineno (b, is) (code, has) = (slice_get
 pub entry_grows : (old new : Kept) (next : Option PyTracebackRef) (frame : FrameRef) (lasti lineno : ℕ)
     → IfThere (IsTraceback old.made) (traceback_object next) → IsFrame old.made frame → new ≡ with_object old (traceback_entry next frame lasti lineno) → IsGrown old new
 entry_grows old new next frame lasti lineno leads is_frame added =
-    added_grown old new (traceback_entry next frame lasti lineno) added refl (λ fit. entry_below old.made next frame lasti lineno leads is_frame) (λ fit. (leads, is_frame))
+    added_grown old new (traceback_entry next frame lasti lineno) added refl refl (λ fit. entry_below old.made next frame lasti lineno leads is_frame) (λ fit. (leads, is_frame))
 
 -- the objects behind an edit
 edited_objects : (old new : Kept) (o : Obj) (x : Edit) → IsEdited old new o x → objects_of new ≡ with_edit (objects_of old) o x

@@ -40,7 +40,7 @@ pub enum CtorFault {
     #[error("{0}")]
     NotException(Fault),
     /// Memory ran out.
-    #[error("out of memory")]
+    #[error("memory ran out")]
     NoMemory,
 }
 

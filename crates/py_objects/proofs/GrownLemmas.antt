@@ -1,12 +1,14 @@
 -- Stores that grew.
 use Rattle.std.proofs.Common.{◌≡◌, ◌<◌, ◌+◌, ◌++◌, ℕ, List, [], ◌∷◌, refl, sym, ap, subst, ◌∙◌, length, length-append, arith}
-use Rattle.std.specs.Prelude.{None}
+use Rattle.std.specs.Prelude.{None, false}
 use Rattle.py_objects.specs.declared.payload.Payload.{Payload}
 use Rattle.py_objects.specs.declared.payload.Payload.TheVariants as payload
 use Rattle.py_objects.specs.Objects.{Name, declares, payload_numbers, AllBelow, IsMade, AllFit}
-use Rattle.py_objects.specs.Growth.{Grows, GrowsPlainly, with_object, IsGrown}
+use Rattle.py_objects.specs.FrameEntries.{is_frame}
+use Rattle.py_objects.specs.Growth.{Grows, GrowsPlainly, with_object, IsGrown, IsLonger}
 use Rattle.py_objects.specs.Edits.{Kept}
 use Rattle.py_objects.proofs.GrowthLemmas.{below_more, plainly_grows, grows_plainly_refl, grows_plainly_trans, grows_plainly_by}
+use Rattle.py_objects.proofs.FrameEntriesLemmas.{frames_same_by_one}
 
 -- what is below stays below one more
 pub below_more_by_one : (n : ℕ) (ks : List ℕ) → AllBelow n ks → AllBelow (n + 1) ks
@@ -18,7 +20,7 @@ objects_grow old new grown = plainly_grows old.made new.made grown.objects
 
 -- nothing more is growth
 pub grown_refl : (s : Kept) → IsGrown s s
-grown_refl s = record { objects = grows_plainly_refl s.made; others = refl }
+grown_refl s = record { objects = grows_plainly_refl s.made; frames = refl; others = refl }
 
 pub still_grown : (old new : Kept) → new ≡ old → IsGrown old new
 still_grown old new same = subst (IsGrown old) (sym same) (grown_refl old)
@@ -27,6 +29,22 @@ still_grown old new same = subst (IsGrown old) (sym same) (grown_refl old)
 pub grown_trans : (old mid new : Kept) → IsGrown old mid → IsGrown mid new → IsGrown old new
 grown_trans old mid new first second = record {
   objects = grows_plainly_trans old.made mid.made new.made first.objects second.objects;
+  frames = second.frames ∙ first.frames;
+  others = second.others ∙ ap (λ (s : Kept). let t : Kept = record s { made = new.made } in t) first.others;
+}
+
+-- a store that grew is longer
+pub grown_longer : (old new : Kept) → IsGrown old new → IsLonger old new
+grown_longer old new grown = record { objects = grown.objects; others = grown.others }
+
+-- and so is the store itself
+pub longer_refl : (s : Kept) → IsLonger s s
+longer_refl s = grown_longer s s (grown_refl s)
+
+-- longer and longer is longer
+pub longer_trans : (old mid new : Kept) → IsLonger old mid → IsLonger mid new → IsLonger old new
+longer_trans old mid new first second = record {
+  objects = grows_plainly_trans old.made mid.made new.made first.objects second.objects;
   others = second.others ∙ ap (λ (s : Kept). let t : Kept = record s { made = new.made } in t) first.others;
 }
 
@@ -34,10 +52,15 @@ grown_trans old mid new first second = record {
 pub grown_changes : (old new : Kept) → IsGrown old new → new.changes ≡ old.changes
 grown_changes old new grown = ap (λ (s : Kept). s.changes) grown.others
 
--- one more object that declares nothing
-pub added_grown : (old new : Kept) (p : Payload) → new ≡ with_object old p → declares p ≡ None
+-- one more object that declares nothing, and is no frame
+pub added_grown : (old new : Kept) (p : Payload) → new ≡ with_object old p → declares p ≡ None → is_frame p ≡ false
     → (AllFit old.made → AllBelow (length old.made) (payload_numbers p)) → (AllFit old.made → IsMade old.made p) → IsGrown old new
-added_grown old new p added plain below made = subst (IsGrown old) (sym added) (record { objects = grows_plainly_by old.made p plain below made; others = refl })
+added_grown old new p added plain none below made =
+    subst (IsGrown old) (sym added) (record { objects = grows_plainly_by old.made p plain below made; frames = frames_same_by_one old.made p none; others = refl })
+
+-- one more frame
+pub frame_longer : (old : Kept) (code : ℕ) → IsLonger old (with_object old (payload.Frame code))
+frame_longer old code = record { objects = grows_plainly_by old.made (payload.Frame code) refl (λ fit. tt) (λ fit. tt); others = refl }
 
 -- the objects are the old ones and that one
 pub added_made : (old new : Kept) (p : Payload) → new ≡ with_object old p → new.made ≡ old.made ++ p ∷ []

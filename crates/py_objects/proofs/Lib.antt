@@ -10,12 +10,15 @@ pub mod ValuesLemmas
 -- what changes leave as it was made
 pub mod ChangesLemmas
 pub mod OriginalsLemmas
+-- changes made one event after another
+pub mod DueLemmas
 -- truth values among objects
 pub mod SingletonsLemmas
 pub mod StoreLemmas
 pub mod OwnLemmas
 -- objects and stores that grow, and new objects
 pub mod GrowthLemmas
+pub mod FrameEntriesLemmas
 pub mod GrownLemmas
 pub mod NewLemmas
 -- what a class derives from stays, through changes and as more objects come

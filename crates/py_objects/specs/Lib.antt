@@ -13,6 +13,8 @@ pub mod Callees
 pub mod Singletons
 -- which classes a class derives from
 pub mod Ancestry
+-- the frames among objects
+pub mod FrameEntries
 -- objects that come behind others
 pub mod Growth
 -- an activation's own events, and the words in which bodies tell them
@@ -30,5 +32,7 @@ pub mod Values
 pub mod Keys
 pub mod Changes
 pub mod Edits
+-- changes in the order of their events
+pub mod Due
 -- how a store keeps what its objects were made as
 pub mod Originals

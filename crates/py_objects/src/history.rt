@@ -13,7 +13,8 @@ use crate::refs::PyObjectRef;
 use py_code::NoMemory;
 use std::alloc::Global;
 
-fn copy_all(alloc: Global, payloads: &[Payload]) -> Result<Vec<Payload>, NoMemory>
+/// A copy of each payload, in order.
+pub fn copy_all(alloc: Global, payloads: &[Payload]) -> Result<Vec<Payload>, NoMemory>
     ensures { IfOk result (λ copy. copy.items ≡ payloads.now) }
 {
     let mut copy = Vec::new(alloc);
@@ -107,7 +108,7 @@ fn fits_entry(payloads: &[Payload], object: PyObjectRef, edit: &Edit) -> bool
 }
 
 /// Makes an edit where it fits what the object is, and else none.
-fn edit_where_it_fits(
+pub(crate) fn edit_where_it_fits(
     alloc: Global,
     payloads: &mut [Payload],
     object: PyObjectRef,

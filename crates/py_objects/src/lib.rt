@@ -4,6 +4,7 @@
 mod ancestry;
 mod attr_map;
 mod boxed;
+mod due;
 mod edit;
 mod editing;
 mod error_kind;
@@ -23,10 +24,11 @@ mod values;
 pub use ancestry::{derives, derives_from};
 pub use attr_map::AttrMap;
 pub use boxed::Boxed;
+pub use due::{are_in_order, make_due};
 pub use edit::{AwaitState, Change, ChangeList, Edit, History, LinkField};
 pub use error_kind::ErrorKind;
 pub use event::{DriveAnswer, Ending, Event, EventList, GotAnswer, ResumeHow};
-pub use history::objects_at;
+pub use history::{copy_all, objects_at};
 pub use laws::laws_of_own_events;
 pub use pair_list::PairList;
 pub use payload::{

@@ -10,7 +10,7 @@ add-requires c = below_more (length c.args.store.now.made) (length c.args.store.
 
 pub returns-in-Ok-clause-grows : goal.returns-in-Ok-clause-grows
 returns-in-Ok-clause-grows c =
-    added_grown c.args.store.now c.add.new.self c.args.payload c.in-Ok.ensures.added c.requires.plain (λ fit. c.requires.below) (λ fit. c.requires.made)
+    added_grown c.args.store.now c.add.new.self c.args.payload c.in-Ok.ensures.added c.requires.plain c.requires.no_frame (λ fit. c.requires.below) (λ fit. c.requires.made)
 
 pub returns-in-Ok-clause-given : goal.returns-in-Ok-clause-given
 returns-in-Ok-clause-given c = added_given c.args.store.now c.add.new.self c.args.payload c.in-Ok.object c.in-Ok.ensures.added c.in-Ok.ensures.number
