@@ -1,9 +1,15 @@
 -- The program's reader and answers as the definitions see them.
-use Rattle.std.specs.Prelude.{◌≡◌, ◌⊎◌, ℕ, Bool, List, [], ◌∷◌, Option, Some, None, option_map}
+use Rattle.std.specs.Prelude.{◌≡◌, ◌⊎◌, ℕ, Bool, List, [], ◌∷◌, Option, Some, None, option_map, IsOk}
 use Rattle.std.specs.declared.result.Result.{Result}
 use Rattle.std.specs.declared.result.Result.TheVariants.{Ok, Err}
-use Rattle.py_tree.specs.Views.{clauses_of, suite_of}
+use Rattle.py_tree.specs.declared.stmt.ClauseList.{ClauseList}
+use Rattle.py_tree.specs.declared.stmt.StmtList.{StmtList}
+use Rattle.py_tree.specs.declared.stmt.StmtForm.{StmtForm}
+use Rattle.py_tree.specs.Suites.{with_clause}
+use Rattle.py_tree.specs.Views.{clauses_of, form_of, suite_of}
+use Rattle.py_lines.specs.declared.head.Turn.{Turn}
 use Rattle.py_lines.specs.declared.header.Header.{Header}
+use Rattle.py_lines.specs.declared.header.Header.TheVariants.{Def}
 use Rattle.py_lines.specs.declared.line.Line.{Line}
 use Rattle.py_lines.specs.declared.line.LineRead.{LineRead}
 use Rattle.py_lines.specs.Reading.{IsReadAs}
@@ -11,14 +17,16 @@ use Rattle.py_grammar.specs.declared.fault.ParseFault.{ParseFault}
 use Rattle.py_grammar.specs.declared.fault.ParseFault.TheVariants.{Malformed, NoMemory}
 use Rattle.py_grammar.specs.declared.open_body.BlockHead.{BlockHead}
 use Rattle.py_grammar.specs.declared.open_body.BlockHead.TheVariants as block
+use Rattle.py_grammar.specs.declared.open_body.ClauseHead.{ClauseHead}
+use Rattle.py_grammar.specs.declared.open_body.FunctionHeader.{FunctionHeader}
 use Rattle.py_grammar.specs.declared.open_body.OpenBlock.{OpenBlock}
 use Rattle.py_grammar.specs.declared.open_body.OpenBody.{OpenBody}
 use Rattle.py_grammar.specs.declared.open_body.Ended.{Ended}
 use Rattle.py_grammar.specs.declared.open_body.Ended.TheVariants as ended
 use Rattle.py_grammar.specs.declared.reader.Reader.{Reader}
 use Rattle.py_grammar.specs.declared.script.Script.{Script}
-use Rattle.py_grammar.specs.Script.{decls_of, Text}
-use Rattle.py_grammar.specs.Reader.{Began, in_if, in_else, in_while, in_try, in_except, in_finally, in_with, Block, Open, Closing, whole_body, one_block, function_of, State, state, accept, closes, goes_on, headed, only_if, takes_line, Good, Bad, WalksTo, start}
+use Rattle.py_grammar.specs.Script.{decls_of, IsBadLine, IsScript, Text}
+use Rattle.py_grammar.specs.Reader.{Began, in_if, in_else, in_while, in_try, in_except, in_finally, in_with, Block, Open, Closing, whole_body, one_block, closed, ended as ended_as, except_behind, turned_by, function_of, State, state, accept, closes, goes_on, headed, only_if, takes_line, Good, Bad, WalksTo, start}
 
 -- how an open block began
 abbrev pub began_of : BlockHead → Began
@@ -56,13 +64,36 @@ closing_of ended.Nothing o = None
 abbrev pub state_of : Reader → State
 state_of r = state (decls_of r.whole) r.whole.drives (option_map open_of r.inside)
 
+-- all clauses: those before, and one that began so and has this suite
+abbrev pub AddsClause : ClauseList → ClauseHead → StmtList → ClauseList → Type 0
+AddsClause clauses last suite all = clauses_of all ≡ with_clause (clauses_of clauses) last.line last.class last.target (suite_of suite)
+
+-- how a block goes on after its last suite by an `except` that begins so, and by any turn, if it may
+abbrev pub TurnsToExcept : BlockHead → ClauseHead → StmtList → Option BlockHead → Type 0
+TurnsToExcept head next suite turned = option_map began_of turned ≡ except_behind next.line next.class next.target (began_of head) (suite_of suite)
+
+abbrev pub TurnsAs : BlockHead → ℕ → Turn → StmtList → Option BlockHead → Type 0
+TurnsAs head n turn suite turned = option_map began_of turned ≡ turned_by n turn (began_of head) (suite_of suite)
+
+-- the statement that a block is at its end with its last suite, if it may end
+abbrev pub EndsAs : BlockHead → StmtList → Option StmtForm → Type 0
+EndsAs head suite form = option_map form_of form ≡ ended_as (began_of head) (suite_of suite)
+
+-- what an end closes in an open body
+abbrev pub Closes : (old new : OpenBody) → Ended → Type 0
+Closes old new end = closing_of end new ≡ closed (open_of old) (open_of old).blocks
+
+-- the header of a function as a line says it
+abbrev pub header_of : FunctionHeader → Header
+header_of f = Def f.kind f.name f.params
+
 -- an open body goes on with this line, or it may not stand there
-abbrev pub GoesOn : (old new : OpenBody) → (taken : Bool) → ℕ → Line → Type 0
-GoesOn old new taken n l = only_if taken (open_of new) ≡ goes_on (open_of old) n l
+abbrev pub GoesOn : (old new : OpenBody) → ℕ → Line → (taken : Bool) → Type 0
+GoesOn old new n l taken = only_if taken (open_of new) ≡ goes_on (open_of old) n l
 
 -- a reader with no open body took this header, or refused it
-abbrev pub IsHeaded : (old new : Reader) → (taken : Bool) → ℕ → Header → Type 0
-IsHeaded old new taken n h = only_if taken (state_of new) ≡ headed (decls_of old.whole) old.whole.drives n h
+abbrev pub IsHeaded : (old new : Reader) → ℕ → Header → (taken : Bool) → Type 0
+IsHeaded old new n h taken = only_if taken (state_of new) ≡ headed (decls_of old.whole) old.whole.drives n h
 
 -- the function that is open declares itself, where one is
 abbrev pub IsDeclared : (old new : Reader) → (taken : Bool) → Type 0
@@ -71,12 +102,12 @@ IsDeclared old new taken =
     ≡ option_map (λ body. closes (decls_of old.whole) old.whole.drives (whole_body (function_of body))) (state_of old).inside
 
 -- a reader took this line, or refused it
-abbrev pub IsTaken : (old new : Reader) → (taken : Bool) → ℕ → Line → Type 0
-IsTaken old new taken n l = only_if taken (state_of new) ≡ accept (state_of old) n l
+abbrev pub IsTaken : (old new : Reader) → ℕ → Line → (taken : Bool) → Type 0
+IsTaken old new n l taken = only_if taken (state_of new) ≡ accept (state_of old) n l
 
 -- a reader took this line of bytes, as it reads, or refused it
-abbrev pub TakesBytes : (old new : Reader) → (taken : Bool) → ℕ → List ℕ → Type 0
-TakesBytes old new taken n bytes = (read : LineRead) × IsReadAs bytes read × (only_if taken (state_of new) ≡ takes_line (state_of old) n read)
+abbrev pub TakesBytes : (old new : Reader) → ℕ → List ℕ → (taken : Bool) → Type 0
+TakesBytes old new n bytes taken = (read : LineRead) × IsReadAs bytes read × (only_if taken (state_of new) ≡ takes_line (state_of old) n read)
 
 -- from a state on, lines come to this answer, unless memory ran out
 abbrev pub ComesToFault : State → ℕ → Text → ParseFault → Type 0
@@ -94,3 +125,10 @@ IsAnswerTo text r = ComesTo start 1 text r
 -- this is so, or memory ran out
 abbrev pub OnlyMemoryHides : Result Script ParseFault → Type 0 → Type 0
 OnlyMemoryHides result claim = (result ≡ Err NoMemory) ⊎ claim
+
+-- memory is the only reason for which bytes that are a script are refused, or their bad line isn't named
+abbrev pub TakesEachScript : List ℕ → Result Script ParseFault → Type 0
+TakesEachScript bytes result = (script : Script) → IsScript bytes script → OnlyMemoryHides result (IsOk result)
+
+abbrev pub NamesEachBadLine : List ℕ → Result Script ParseFault → Type 0
+NamesEachBadLine bytes result = (k : ℕ) → IsBadLine bytes k → OnlyMemoryHides result (result ≡ Err (Malformed k))

@@ -7,10 +7,10 @@ use thiserror::Error;
 #[derive(Clone, Copy, Debug, PartialEq, Eq, Error)]
 pub enum ParseFault {
     /// The bad line, from 1: the least with which no script begins, or the one behind the last where a body is left open.
-    #[error("malformed: line {0}")]
+    #[error("the bytes are no script: the first bad line is {0}")]
     Malformed(u64),
     /// Memory ran out.
-    #[error("out of memory")]
+    #[error("memory ran out")]
     NoMemory,
 }
 

@@ -1,9 +1,8 @@
 //! The lines of a text.
 
-ghost use Rattle.std.specs.Prelude.{◌≡◌, ◌<◌, ◌∷◌, [], length, MatchOption};
+ghost use Rattle.std.specs.Prelude.{◌≡◌};
 ghost use Rattle.std.specs.List.{prefix_len};
-ghost use Rattle.py_grammar.specs.Lines.{lines};
-ghost use Rattle.py_grammar.specs.Pieces.{is_within, without_cr};
+ghost use Rattle.py_grammar.specs.Pieces.{is_within, without_cr, IsFirstLine};
 
 /// How many bytes stand before the first LF.
 fn line_len(bytes: &[u8]) -> usize
@@ -25,7 +24,7 @@ fn chopped(line: &[u8]) -> &[u8]
 
 /// The first line, and the bytes behind it; None where there are no bytes.
 pub fn first_line(bytes: &[u8]) -> Option<(&[u8], &[u8])>
-    ensures { MatchOption result (lines bytes.now ≡ []) (λ p. (lines bytes.now ≡ p.0.now ∷ lines p.1.now) × (length p.1.now < length bytes.now)) }
+    ensures { IsFirstLine bytes.now result }
 {
     if bytes.is_empty() {
         return None;

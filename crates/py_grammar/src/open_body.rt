@@ -3,12 +3,11 @@
 
 ghost use Rattle.std.specs.Prelude.{◌≡◌, IfOk, option_map};
 ghost use Rattle.std.specs.List.{list_any};
-ghost use Rattle.py_tree.specs.Views.{clauses_of, form_of, suite_of, tree_of};
+ghost use Rattle.py_tree.specs.Views.{form_of, suite_of, tree_of};
 ghost use Rattle.py_lines.specs.declared.line.Line.TheVariants.{Plain as PlainLine, Opens as OpensLine, Turns as TurnsLine};
 ghost use Rattle.py_grammar.specs.Rules.{is_loop as is_loop_head};
-ghost use Rattle.py_grammar.specs.Reader.{began, closed, else_behind, ended, except_behind, finally_behind, function_of, inside as is_inside, opened, opener, plain_form, turned_by};
-ghost use Rattle.py_tree.specs.Suites.{with_clause as is_with_clause};
-ghost use Rattle.py_grammar.specs.Reading.{began_of, closing_of, open_of, GoesOn};
+ghost use Rattle.py_grammar.specs.Reader.{began, else_behind, ended, finally_behind, function_of, inside as is_inside, opened, opener, plain_form};
+ghost use Rattle.py_grammar.specs.Reading.{began_of, open_of, AddsClause, Closes, EndsAs, GoesOn, TurnsAs, TurnsToExcept};
 
 use crate::rules::{Inside, may_hold, may_open};
 use py_code::{NoMemory, PyText};
@@ -50,6 +49,14 @@ pub struct OpenBlock {
     before: StmtList,
     line: u32,
     head: BlockHead,
+}
+
+/// What the header of a function says: its kind, its name and its parameters.
+#[derive(Drop)]
+pub struct FunctionHeader {
+    pub kind: BodyKind,
+    pub name: PyText,
+    pub params: ParamList,
 }
 
 /// The header of a function, with the line it stands in, the blocks that are open in it, the innermost last,
@@ -98,7 +105,7 @@ fn with_clause(
     last: ClauseHead,
     suite: StmtList,
 ) -> Result<ClauseList, NoMemory>
-    ensures { IfOk result (λ all. clauses_of all ≡ is_with_clause (clauses_of clauses) last.line last.class last.target (suite_of suite)) }
+    ensures { IfOk result (AddsClause clauses last suite) }
 {
     let ClauseHead {
         line,
@@ -163,7 +170,7 @@ impl BlockHead {
         next: ClauseHead,
         suite: StmtList,
     ) -> Result<Option<BlockHead>, NoMemory>
-        ensures { IfOk result (λ turned. option_map began_of turned ≡ except_behind next.line next.class next.target (began_of self) (suite_of suite)) }
+        ensures { IfOk result (TurnsToExcept self next suite) }
     {
         match self {
             BlockHead::Try => Ok(Some(BlockHead::Except(suite, ClauseList::new(alloc), next))),
@@ -199,7 +206,7 @@ impl BlockHead {
         turn: Turn,
         suite: StmtList,
     ) -> Result<Option<BlockHead>, NoMemory>
-        ensures { IfOk result (λ next. option_map began_of next ≡ turned_by number turn (began_of self) (suite_of suite)) }
+        ensures { IfOk result (TurnsAs self number turn suite) }
     {
         match turn {
             Turn::Else => Ok(self.at_else(suite)),
@@ -221,7 +228,7 @@ impl BlockHead {
 
     /// The statement that the block is at its end with this last suite, where it may end.
     fn ended(self, suite: StmtList) -> Result<Option<StmtForm>, NoMemory>
-        ensures { IfOk result (λ form. option_map form_of form ≡ ended (began_of self) (suite_of suite)) }
+        ensures { IfOk result (EndsAs self suite) }
     {
         match self {
             BlockHead::If(atom) => Ok(Some(StmtForm::If(atom, suite))),
@@ -247,15 +254,10 @@ fn have_loop(blocks: &[OpenBlock]) -> bool
 
 impl OpenBody {
     /// The body of a function of which the header alone was read.
-    pub fn new(
-        alloc: Global,
-        line: u32,
-        kind: BodyKind,
-        name: PyText,
-        params: ParamList,
-    ) -> OpenBody
-        ensures { open_of result ≡ opened line kind name params }
+    pub fn new(alloc: Global, line: u32, header: FunctionHeader) -> OpenBody
+        ensures { open_of result ≡ opened line header.kind header.name header.params }
     {
+        let FunctionHeader { kind, name, params } = header;
         OpenBody {
             line,
             kind,
@@ -280,7 +282,7 @@ impl OpenBody {
 
     /// Takes one more plain statement, where it is allowed.
     pub fn hold(&mut self, number: u32, plain: Plain) -> Result<bool, NoMemory>
-        ensures taken { IfOk result (λ taken. GoesOn self.old self.new taken number (PlainLine plain)) }
+        ensures taken { IfOk result (GoesOn self.old self.new number (PlainLine plain)) }
         ensures name { self.new.name ≡ self.old.name }
     {
         if !may_hold(self.inside(), &plain) {
@@ -295,7 +297,7 @@ impl OpenBody {
     /// Opens one more block, where it is allowed.
     #[tactic(auto, using(crate::proofs::Stacks::stack_push))]
     pub fn open(&mut self, alloc: Global, number: u32, head: Head) -> Result<bool, NoMemory>
-        ensures taken { IfOk result (λ taken. GoesOn self.old self.new taken number (OpensLine head)) }
+        ensures taken { IfOk result (GoesOn self.old self.new number (OpensLine head)) }
         ensures name { self.new.name ≡ self.old.name }
     {
         if !may_open(self.inside()) {
@@ -314,7 +316,7 @@ impl OpenBody {
     /// Turns the innermost block to its next suite, where it may turn so; else the block is lost.
     #[tactic(auto, using(crate::proofs::Stacks::stack_push))]
     pub fn turn(&mut self, alloc: Global, number: u32, turn: Turn) -> Result<bool, NoMemory>
-        ensures taken { IfOk result (λ taken. GoesOn self.old self.new taken number (TurnsLine turn)) }
+        ensures taken { IfOk result (GoesOn self.old self.new number (TurnsLine turn)) }
         ensures name { self.new.name ≡ self.old.name }
     {
         let Some(block) = self.blocks.pop() else {
@@ -333,7 +335,7 @@ impl OpenBody {
     /// Ends the innermost block, where it may end; else the block is lost.
     #[tactic(auto, using(crate::proofs::Stacks::stack_push))]
     pub fn end(&mut self) -> Result<Ended, NoMemory>
-        ensures ended { IfOk result (λ end. closing_of end self.new ≡ closed (open_of self.old) (open_of self.old).blocks) }
+        ensures ended { IfOk result (Closes self.old self.new) }
         ensures name { self.new.name ≡ self.old.name }
     {
         let Some(block) = self.blocks.pop() else {

@@ -1,12 +1,12 @@
 //! Bytes to scripts.
 
-ghost use Rattle.std.specs.Prelude.{◌≡◌, ◌≤◌, ◌⊎◌, IfOk, IsOk, OnOk, Err, length, ℕ, encode_utf8_all};
+ghost use Rattle.std.specs.Prelude.{◌≡◌, ◌≤◌, ◌⊎◌, IfOk, OnOk, Err, length, ℕ, encode_utf8_all};
 ghost use Rattle.std.specs.Str.{IsUtf8};
 ghost use Rattle.py_grammar.specs.Script.{IsScript, IsBadLine, HasBadLine, HasOneTree, SpellsSome};
 ghost use Rattle.py_grammar.specs.WellFormed.{IsWellFormed};
 ghost use Rattle.py_grammar.specs.Lines.{lines};
 ghost use Rattle.py_grammar.specs.Reader.{start};
-ghost use Rattle.py_grammar.specs.Reading.{state_of, IsAnswerTo, OnlyMemoryHides, TakesBytes};
+ghost use Rattle.py_grammar.specs.Reading.{state_of, IsAnswerTo, NamesEachBadLine, TakesBytes, TakesEachScript};
 ghost use Rattle.py_grammar.specs.Tables.{TableIsKept};
 ghost use Rattle.py_grammar.specs.declared.fault.ParseFault.TheVariants.{Malformed};
 ghost use Rattle.py_grammar.specs.declared.script.Script.{Script as ScriptOf};
@@ -28,7 +28,7 @@ fn push_bytes(
     line: &[u8],
 ) -> Result<bool, NoMemory>
     requires { TableIsKept reader.old }
-    ensures taken { IfOk result (λ taken. TakesBytes reader.old reader.new taken number line.now) }
+    ensures taken { IfOk result (TakesBytes reader.old reader.new number line.now) }
     ensures kept { OnOk result (TableIsKept reader.new) }
 {
     match read_line(alloc, line)? {
@@ -74,8 +74,8 @@ fn parse_lines(alloc: Global, bytes: &[u8]) -> Result<Script, ParseFault>
     requires { length bytes.now ≤ 1048576 }
     ensures ok { IfOk result (λ script. IsScript bytes.now script) }
     ensures malformed { (k : ℕ) → result ≡ Err (Malformed k) → IsBadLine bytes.now k }
-    ensures only_scripts { (script : ScriptOf) → IsScript bytes.now script → OnlyMemoryHides result (IsOk result) }
-    ensures bad { (k : ℕ) → IsBadLine bytes.now k → OnlyMemoryHides result (result ≡ Err (Malformed k)) }
+    ensures only_scripts { TakesEachScript bytes.now result }
+    ensures bad { NamesEachBadLine bytes.now result }
 {
     read_lines(alloc, bytes)
 }
@@ -101,8 +101,8 @@ pub fn parse_script(alloc: Global, bytes: &[u8]) -> Result<Script, ParseFault>
     ensures malformed { (k : ℕ) → result ≡ Err (Malformed k) → IsBadLine bytes.now k }
 
     // Memory is the only reason for which it refuses a script, or doesn't name the bad line.
-    ensures only_scripts { (script : ScriptOf) → IsScript bytes.now script → OnlyMemoryHides result (IsOk result) }
-    ensures bad { (k : ℕ) → IsBadLine bytes.now k → OnlyMemoryHides result (result ≡ Err (Malformed k)) }
+    ensures only_scripts { TakesEachScript bytes.now result }
+    ensures bad { NamesEachBadLine bytes.now result }
 {
     let mut script = parse_lines(alloc, bytes)?;
     laws_of_lines();

@@ -1,20 +1,19 @@
 //! A reader of lines: what was read so far, and whether one more line may stand behind it.
 
 ghost use Rattle.std.specs.Prelude.{◌≡◌, [], IfOk, OnOk, None};
-ghost use Rattle.py_lines.specs.declared.header.Header.TheVariants.{Class as ClassHeader, Def as DefHeader, Manager as ManagerHeader};
+ghost use Rattle.py_lines.specs.declared.header.Header.TheVariants.{Class as ClassHeader, Manager as ManagerHeader};
 ghost use Rattle.py_lines.specs.declared.line.Line.TheVariants.{Drive as DrivenLine, End as EndLine, Header as HeaderLine, Opens as OpensLine, Plain as PlainLine, Turns as TurnsLine};
 ghost use Rattle.py_grammar.specs.Reader.{start};
-ghost use Rattle.py_grammar.specs.Reading.{state_of, ComesTo, IsDeclared, IsHeaded, IsTaken};
+ghost use Rattle.py_grammar.specs.Reading.{header_of, state_of, ComesTo, IsDeclared, IsHeaded, IsTaken};
 ghost use Rattle.py_grammar.specs.Tables.{TableIsKept};
 
 use crate::fault::ParseFault;
-use crate::open_body::{Ended, OpenBody};
+use crate::open_body::{Ended, FunctionHeader, OpenBody};
 use crate::rules::{may_declare, may_derive, may_drive, may_manage};
 use crate::script::{DeclList, Declaration, DriveList, Script};
 use crate::table::Table;
 use py_code::{NoMemory, PyText};
 use py_lines::{DriveLine, Head, Header, Line, Plain, Turn};
-use py_tree::{BodyKind, ParamList};
 use std::alloc::Global;
 use std::mem;
 
@@ -55,7 +54,7 @@ impl Reader {
     /// Declares the function that the open body is at its end, where one is open.
     fn declare_function(&mut self) -> Result<bool, NoMemory>
         requires { TableIsKept self.old }
-        ensures taken { IfOk result (λ taken. IsDeclared self.old self.new taken) }
+        ensures taken { IfOk result (IsDeclared self.old self.new) }
         ensures kept { OnOk result (TableIsKept self.new) }
     {
         let Some(body) = self.inside.take() else {
@@ -70,7 +69,7 @@ impl Reader {
     /// Takes an `end`, where a body is open and it may stand there; the number of its line is kept nowhere.
     fn end(&mut self) -> Result<bool, NoMemory>
         requires { TableIsKept self.old }
-        ensures taken { IfOk result (λ taken. IsTaken self.old self.new taken 0 EndLine) }
+        ensures taken { IfOk result (IsTaken self.old self.new 0 EndLine) }
         ensures kept { OnOk result (TableIsKept self.new) }
     {
         let Some(body) = &mut self.inside else {
@@ -86,7 +85,7 @@ impl Reader {
     /// Takes a plain line, where a body is open and it may stand there.
     fn hold(&mut self, number: u32, plain: Plain) -> Result<bool, NoMemory>
         requires { TableIsKept self.old }
-        ensures taken { IfOk result (λ taken. IsTaken self.old self.new taken number (PlainLine plain)) }
+        ensures taken { IfOk result (IsTaken self.old self.new number (PlainLine plain)) }
         ensures kept { OnOk result (TableIsKept self.new) }
     {
         match &mut self.inside {
@@ -101,7 +100,7 @@ impl Reader {
     /// Takes a line that opens a block, likewise.
     fn open_block(&mut self, alloc: Global, number: u32, head: Head) -> Result<bool, NoMemory>
         requires { TableIsKept self.old }
-        ensures taken { IfOk result (λ taken. IsTaken self.old self.new taken number (OpensLine head)) }
+        ensures taken { IfOk result (IsTaken self.old self.new number (OpensLine head)) }
         ensures kept { OnOk result (TableIsKept self.new) }
     {
         match &mut self.inside {
@@ -116,7 +115,7 @@ impl Reader {
     /// Takes a line that turns a block to its next suite, likewise.
     fn turn_block(&mut self, alloc: Global, number: u32, turn: Turn) -> Result<bool, NoMemory>
         requires { TableIsKept self.old }
-        ensures taken { IfOk result (λ taken. IsTaken self.old self.new taken number (TurnsLine turn)) }
+        ensures taken { IfOk result (IsTaken self.old self.new number (TurnsLine turn)) }
         ensures kept { OnOk result (TableIsKept self.new) }
     {
         match &mut self.inside {
@@ -134,20 +133,18 @@ impl Reader {
         &mut self,
         alloc: Global,
         number: u32,
-        kind: BodyKind,
-        name: PyText,
-        params: ParamList,
+        header: FunctionHeader,
     ) -> Result<bool, NoMemory>
         requires kept { TableIsKept self.old }
         requires outside { self.old.inside ≡ None }
-        ensures taken { IfOk result (λ taken. IsHeaded self.old self.new taken number (DefHeader kind name params)) }
+        ensures taken { IfOk result (IsHeaded self.old self.new number (header_of header)) }
         ensures kept { OnOk result (TableIsKept self.new) }
     {
-        if !may_declare(&self.table.names, &name, &params) {
+        if !may_declare(&self.table.names, &header.name, &header.params) {
             return Ok(false);
         }
-        self.table.add_function(&name)?;
-        self.inside = Some(OpenBody::new(alloc, number, kind, name, params));
+        self.table.add_function(&header.name)?;
+        self.inside = Some(OpenBody::new(alloc, number, header));
         Ok(true)
     }
 
@@ -156,7 +153,7 @@ impl Reader {
     fn declare_class(&mut self, name: PyText, base: PyText) -> Result<bool, NoMemory>
         requires kept { TableIsKept self.old }
         requires outside { self.old.inside ≡ None }
-        ensures taken { IfOk result (λ taken. IsHeaded self.old self.new taken 0 (ClassHeader name base)) }
+        ensures taken { IfOk result (IsHeaded self.old self.new 0 (ClassHeader name base)) }
         ensures kept { OnOk result (TableIsKept self.new) }
     {
         if !may_derive(&self.table, &name, &base) {
@@ -179,7 +176,7 @@ impl Reader {
     ) -> Result<bool, NoMemory>
         requires kept { TableIsKept self.old }
         requires outside { self.old.inside ≡ None }
-        ensures taken { IfOk result (λ taken. IsHeaded self.old self.new taken 0 (ManagerHeader name enter exit)) }
+        ensures taken { IfOk result (IsHeaded self.old self.new 0 (ManagerHeader name enter exit)) }
         ensures kept { OnOk result (TableIsKept self.new) }
     {
         if !may_manage(&self.table, &name, &enter, &exit) {
@@ -195,7 +192,7 @@ impl Reader {
     /// Takes a header, where no body is open and it may stand there.
     fn take_header(&mut self, alloc: Global, number: u32, header: Header) -> Result<bool, NoMemory>
         requires { TableIsKept self.old }
-        ensures taken { IfOk result (λ taken. IsTaken self.old self.new taken number (HeaderLine header)) }
+        ensures taken { IfOk result (IsTaken self.old self.new number (HeaderLine header)) }
         ensures kept { OnOk result (TableIsKept self.new) }
     {
         if self.inside.is_some() {
@@ -203,9 +200,10 @@ impl Reader {
             return Ok(false);
         }
         match header {
-            Header::Def(kind, name, params) => self.open_function(
-                alloc, number, kind, name, params,
-            ),
+            Header::Def(kind, name, params) => {
+                let header = FunctionHeader { kind, name, params };
+                self.open_function(alloc, number, header)
+            }
             Header::Class(name, base) => self.declare_class(name, base),
             Header::Manager(name, enter, exit) => self.declare_manager(name, enter, exit),
         }
@@ -214,7 +212,7 @@ impl Reader {
     /// Takes a drive, where no body is open and it may stand there; the number of its line is kept nowhere.
     fn take_drive(&mut self, drive: DriveLine) -> Result<bool, NoMemory>
         requires { TableIsKept self.old }
-        ensures taken { IfOk result (λ taken. IsTaken self.old self.new taken 0 (DrivenLine drive)) }
+        ensures taken { IfOk result (IsTaken self.old self.new 0 (DrivenLine drive)) }
         ensures kept { OnOk result (TableIsKept self.new) }
     {
         if self.inside.is_some() || !may_drive(&self.table, &self.whole, &drive) {
@@ -229,7 +227,7 @@ impl Reader {
     /// read stands for nothing.
     pub fn push_line(&mut self, alloc: Global, number: u32, line: Line) -> Result<bool, NoMemory>
         requires { TableIsKept self.old }
-        ensures taken { IfOk result (λ taken. IsTaken self.old self.new taken number line) }
+        ensures taken { IfOk result (IsTaken self.old self.new number line) }
         ensures kept { OnOk result (TableIsKept self.new) }
     {
         match line {

@@ -1,7 +1,7 @@
 //! Names and atoms, by what the tokens mean that print them.
 
-ghost use Rattle.std.specs.Prelude.{◌≡◌, ◌≢◌, ◌∷◌, [], IfOk, MatchOption, map};
-ghost use Rattle.py_lines.specs.Finding.{Prints};
+ghost use Rattle.std.specs.Prelude.{◌∷◌, [], IfOk, map};
+ghost use Rattle.py_lines.specs.Finding.{IsAlone, Prints, Reads};
 ghost use Rattle.py_lines.specs.Meaning.{Key, Word};
 ghost use Rattle.py_lines.specs.Senses.{meaning_of};
 ghost use Rattle.py_lines.specs.Printing.{atom_token};
@@ -49,14 +49,14 @@ pub fn name_of(alloc: Global, token: &Sense<'_>) -> Result<Option<PyText>, NoMem
 
 /// A finding of no tokens, where there are none.
 pub fn alone<T: Drop>(found: T, tokens: &[Sense<'_>]) -> Option<T>
-    ensures { MatchOption result (map meaning_of tokens.now ≢ []) (λ same. (same ≡ found) × (map meaning_of tokens.now ≡ [])) }
+    ensures { IsAlone found tokens.now result }
 {
     if tokens.is_empty() { Some(found) } else { None }
 }
 
 /// The atom that is the only token.
 pub fn lone_atom(alloc: Global, tokens: &[Sense<'_>]) -> Result<Option<Atom>, NoMemory>
-    ensures { IfOk result (Prints (λ a. atom_token a ∷ []) (map meaning_of tokens.now)) }
+    ensures { IfOk result (Reads (λ a. atom_token a ∷ []) tokens.now) }
 {
     match tokens {
         [] => Ok(None),
@@ -67,7 +67,7 @@ pub fn lone_atom(alloc: Global, tokens: &[Sense<'_>]) -> Result<Option<Atom>, No
 
 /// The name that is the only token.
 pub fn lone_name(alloc: Global, tokens: &[Sense<'_>]) -> Result<Option<PyText>, NoMemory>
-    ensures { IfOk result (Prints (λ x. Word x ∷ []) (map meaning_of tokens.now)) }
+    ensures { IfOk result (Reads (λ x. Word x ∷ []) tokens.now) }
 {
     match tokens {
         [] => Ok(None),
@@ -78,7 +78,7 @@ pub fn lone_name(alloc: Global, tokens: &[Sense<'_>]) -> Result<Option<PyText>, 
 
 /// The atoms that all the tokens are.
 pub fn atoms_of(alloc: Global, tokens: &[Sense<'_>]) -> Result<Option<AtomList>, NoMemory>
-    ensures { IfOk result (Prints (map atom_token) (map meaning_of tokens.now)) }
+    ensures { IfOk result (Reads (map atom_token) tokens.now) }
 {
     let mut atoms = AtomList::new(alloc);
     for token in tokens {
@@ -92,7 +92,7 @@ pub fn atoms_of(alloc: Global, tokens: &[Sense<'_>]) -> Result<Option<AtomList>,
 
 /// The names that all the tokens are.
 pub fn names_of(alloc: Global, tokens: &[Sense<'_>]) -> Result<Option<ParamList>, NoMemory>
-    ensures { IfOk result (Prints (map Word) (map meaning_of tokens.now)) }
+    ensures { IfOk result (Reads (map Word) tokens.now) }
 {
     let mut names = ParamList::new(alloc);
     for token in tokens {
@@ -106,7 +106,7 @@ pub fn names_of(alloc: Global, tokens: &[Sense<'_>]) -> Result<Option<ParamList>
 
 /// The two atoms that are the only tokens.
 pub fn two_atoms(alloc: Global, tokens: &[Sense<'_>]) -> Result<Option<(Atom, Atom)>, NoMemory>
-    ensures { IfOk result (Prints (λ p. atom_token p.0 ∷ atom_token p.1 ∷ []) (map meaning_of tokens.now)) }
+    ensures { IfOk result (Reads (λ p. atom_token p.0 ∷ atom_token p.1 ∷ []) tokens.now) }
 {
     let Some((left, rest)) = tokens.split_first() else {
         return Ok(None);
@@ -125,7 +125,7 @@ pub fn atom_and_atoms(
     alloc: Global,
     tokens: &[Sense<'_>],
 ) -> Result<Option<(Atom, AtomList)>, NoMemory>
-    ensures { IfOk result (Prints (λ p. atom_token p.0 ∷ map atom_token p.1) (map meaning_of tokens.now)) }
+    ensures { IfOk result (Reads (λ p. atom_token p.0 ∷ map atom_token p.1) tokens.now) }
 {
     let Some((first, rest)) = tokens.split_first() else {
         return Ok(None);
@@ -144,7 +144,7 @@ pub fn name_and_names(
     alloc: Global,
     tokens: &[Sense<'_>],
 ) -> Result<Option<(PyText, ParamList)>, NoMemory>
-    ensures { IfOk result (Prints (λ p. Word p.0 ∷ map Word p.1) (map meaning_of tokens.now)) }
+    ensures { IfOk result (Reads (λ p. Word p.0 ∷ map Word p.1) tokens.now) }
 {
     let Some((first, rest)) = tokens.split_first() else {
         return Ok(None);
@@ -160,7 +160,7 @@ pub fn name_and_names(
 
 /// The two names that are the only tokens.
 pub fn two_names(alloc: Global, tokens: &[Sense<'_>]) -> Result<Option<(PyText, PyText)>, NoMemory>
-    ensures { IfOk result (Prints (λ p. Word p.0 ∷ Word p.1 ∷ []) (map meaning_of tokens.now)) }
+    ensures { IfOk result (Reads (λ p. Word p.0 ∷ Word p.1 ∷ []) tokens.now) }
 {
     let Some((first, rest)) = tokens.split_first() else {
         return Ok(None);
@@ -179,7 +179,7 @@ pub fn three_names(
     alloc: Global,
     tokens: &[Sense<'_>],
 ) -> Result<Option<(PyText, PyText, PyText)>, NoMemory>
-    ensures { IfOk result (Prints (λ p. Word p.0 ∷ Word p.1 ∷ Word p.2 ∷ []) (map meaning_of tokens.now)) }
+    ensures { IfOk result (Reads (λ p. Word p.0 ∷ Word p.1 ∷ Word p.2 ∷ []) tokens.now) }
 {
     let Some((first, rest)) = tokens.split_first() else {
         return Ok(None);

@@ -1,7 +1,7 @@
 //! Drives: what a script asks of its functions from outside.
 
 ghost use Rattle.std.specs.Prelude.{◌≡◌, ◌∷◌, [], IfOk, codes, map};
-ghost use Rattle.py_lines.specs.Finding.{Prints};
+ghost use Rattle.py_lines.specs.Finding.{Prints, Reads, ReadsAfter};
 ghost use Rattle.py_lines.specs.Meaning.{Word};
 ghost use Rattle.py_lines.specs.Senses.{meaning_of};
 ghost use Rattle.py_lines.specs.Printing.{atom_token, drive_token, drive_tokens, number_token, thrown_tokens};
@@ -78,7 +78,7 @@ fn drive_atom_of(alloc: Global, token: &Sense<'_>) -> Result<Option<DriveAtom>, 
 
 /// The arguments of a drive that all the tokens are.
 fn drive_atoms_of(alloc: Global, tokens: &[Sense<'_>]) -> Result<Option<DriveAtomList>, NoMemory>
-    ensures { IfOk result (Prints (map drive_token) (map meaning_of tokens.now)) }
+    ensures { IfOk result (Reads (map drive_token) tokens.now) }
 {
     let mut atoms = DriveAtomList::new(alloc);
     for token in tokens {
@@ -95,7 +95,7 @@ fn name_and_atoms(
     alloc: Global,
     tokens: &[Sense<'_>],
 ) -> Result<Option<(PyText, DriveAtomList)>, NoMemory>
-    ensures { IfOk result (Prints (λ p. Word p.0 ∷ map drive_token p.1) (map meaning_of tokens.now)) }
+    ensures { IfOk result (Reads (λ p. Word p.0 ∷ map drive_token p.1) tokens.now) }
 {
     let Some((first, rest)) = tokens.split_first() else {
         return Ok(None);
@@ -111,7 +111,7 @@ fn name_and_atoms(
 
 /// The drive that the tokens behind a `call` make.
 fn call_of(alloc: Global, tokens: &[Sense<'_>]) -> Result<Option<DriveLine>, NoMemory>
-    ensures { IfOk result (Prints drive_tokens (Word (codes "call") ∷ map meaning_of tokens.now)) }
+    ensures { IfOk result (ReadsAfter (Word (codes "call")) drive_tokens tokens.now) }
 {
     let Some((name, atoms)) = name_and_atoms(alloc, tokens)? else {
         return Ok(None);
@@ -131,7 +131,7 @@ fn number_of(token: &Sense<'_>) -> Option<u64>
 
 /// The number of a drive that is the only token.
 fn lone_number(tokens: &[Sense<'_>]) -> Option<u64>
-    ensures { Prints (λ n. number_token n ∷ []) (map meaning_of tokens.now) result }
+    ensures { Reads (λ n. number_token n ∷ []) tokens.now result }
 {
     match tokens {
         [] => None,
@@ -142,7 +142,7 @@ fn lone_number(tokens: &[Sense<'_>]) -> Option<u64>
 
 /// The argument of a drive that is the only token.
 fn lone_drive_atom(alloc: Global, tokens: &[Sense<'_>]) -> Result<Option<DriveAtom>, NoMemory>
-    ensures { IfOk result (Prints (λ a. drive_token a ∷ []) (map meaning_of tokens.now)) }
+    ensures { IfOk result (Reads (λ a. drive_token a ∷ []) tokens.now) }
 {
     match tokens {
         [] => Ok(None),
@@ -153,7 +153,7 @@ fn lone_drive_atom(alloc: Global, tokens: &[Sense<'_>]) -> Result<Option<DriveAt
 
 /// The drive that the tokens behind a `next` make.
 fn next_of(tokens: &[Sense<'_>]) -> Option<DriveLine>
-    ensures { Prints drive_tokens (Word (codes "next") ∷ map meaning_of tokens.now) result }
+    ensures { ReadsAfter (Word (codes "next")) drive_tokens tokens.now result }
 {
     let Some(number) = lone_number(tokens) else {
         return None;
@@ -163,7 +163,7 @@ fn next_of(tokens: &[Sense<'_>]) -> Option<DriveLine>
 
 /// The drive that the tokens behind a `close` make.
 fn close_of(tokens: &[Sense<'_>]) -> Option<DriveLine>
-    ensures { Prints drive_tokens (Word (codes "close") ∷ map meaning_of tokens.now) result }
+    ensures { ReadsAfter (Word (codes "close")) drive_tokens tokens.now result }
 {
     let Some(number) = lone_number(tokens) else {
         return None;
@@ -176,7 +176,7 @@ fn number_and_atom(
     alloc: Global,
     tokens: &[Sense<'_>],
 ) -> Result<Option<(u64, DriveAtom)>, NoMemory>
-    ensures { IfOk result (Prints (λ p. number_token p.0 ∷ drive_token p.1 ∷ []) (map meaning_of tokens.now)) }
+    ensures { IfOk result (Reads (λ p. number_token p.0 ∷ drive_token p.1 ∷ []) tokens.now) }
 {
     let Some((first, rest)) = tokens.split_first() else {
         return Ok(None);
@@ -192,7 +192,7 @@ fn number_and_atom(
 
 /// The drive that the tokens behind a `send` make.
 fn send_of(alloc: Global, tokens: &[Sense<'_>]) -> Result<Option<DriveLine>, NoMemory>
-    ensures { IfOk result (Prints drive_tokens (Word (codes "send") ∷ map meaning_of tokens.now)) }
+    ensures { IfOk result (ReadsAfter (Word (codes "send")) drive_tokens tokens.now) }
 {
     let Some((number, atom)) = number_and_atom(alloc, tokens)? else {
         return Ok(None);
@@ -202,7 +202,7 @@ fn send_of(alloc: Global, tokens: &[Sense<'_>]) -> Result<Option<DriveLine>, NoM
 
 /// The value that is thrown with a class by the tokens behind it, which is none where there are none.
 fn thrown_of(alloc: Global, tokens: &[Sense<'_>]) -> Result<Option<Option<DriveAtom>>, NoMemory>
-    ensures { IfOk result (Prints thrown_tokens (map meaning_of tokens.now)) }
+    ensures { IfOk result (Reads thrown_tokens tokens.now) }
 {
     if tokens.is_empty() {
         return Ok(Some(None));
@@ -218,7 +218,7 @@ fn class_and_value(
     alloc: Global,
     tokens: &[Sense<'_>],
 ) -> Result<Option<(PyText, Option<DriveAtom>)>, NoMemory>
-    ensures { IfOk result (Prints (λ p. Word p.0 ∷ thrown_tokens p.1) (map meaning_of tokens.now)) }
+    ensures { IfOk result (Reads (λ p. Word p.0 ∷ thrown_tokens p.1) tokens.now) }
 {
     let Some((first, rest)) = tokens.split_first() else {
         return Ok(None);
@@ -244,7 +244,7 @@ fn throw_at(alloc: Global, number: u64, tokens: &[Sense<'_>]) -> Result<Option<D
 
 /// The drive that the tokens behind a `throw` make.
 fn throw_of(alloc: Global, tokens: &[Sense<'_>]) -> Result<Option<DriveLine>, NoMemory>
-    ensures { IfOk result (Prints drive_tokens (Word (codes "throw") ∷ map meaning_of tokens.now)) }
+    ensures { IfOk result (ReadsAfter (Word (codes "throw")) drive_tokens tokens.now) }
 {
     let Some((first, rest)) = tokens.split_first() else {
         return Ok(None);
@@ -257,7 +257,7 @@ fn throw_of(alloc: Global, tokens: &[Sense<'_>]) -> Result<Option<DriveLine>, No
 
 /// The drive that a word begins with these tokens behind it.
 fn drive_by(alloc: Global, word: &[u8], rest: &[Sense<'_>]) -> Result<Option<DriveLine>, NoMemory>
-    ensures { IfOk result (Prints drive_tokens (Word word.now ∷ map meaning_of rest.now)) }
+    ensures { IfOk result (ReadsAfter (Word word.now) drive_tokens rest.now) }
 {
     if word == b"call".as_slice() {
         return call_of(alloc, rest);
@@ -279,7 +279,7 @@ fn drive_by(alloc: Global, word: &[u8], rest: &[Sense<'_>]) -> Result<Option<Dri
 
 /// The drive that tokens are.
 pub fn read_drive(alloc: Global, tokens: &[Sense<'_>]) -> Result<Option<DriveLine>, NoMemory>
-    ensures { IfOk result (Prints drive_tokens (map meaning_of tokens.now)) }
+    ensures { IfOk result (Reads drive_tokens tokens.now) }
 {
     let Some((first, rest)) = tokens.split_first() else {
         return Ok(None);

@@ -1,9 +1,8 @@
 //! Operations and expressions, by what the tokens mean that print them.
 
-ghost use Rattle.std.specs.Prelude.{◌∷◌, IfOk, codes, map};
-ghost use Rattle.py_lines.specs.Finding.{Prints};
+ghost use Rattle.std.specs.Prelude.{IfOk, codes};
+ghost use Rattle.py_lines.specs.Finding.{Reads, ReadsAfter};
 ghost use Rattle.py_lines.specs.Meaning.{Word};
-ghost use Rattle.py_lines.specs.Senses.{meaning_of};
 ghost use Rattle.py_lines.specs.Printing.{expr_tokens, in_parentheses, operation_tokens};
 
 use crate::atoms::{atom_and_atoms, lone_atom, two_atoms};
@@ -14,7 +13,7 @@ use std::alloc::Global;
 
 /// The call that the operands of a `call` make.
 fn call_of(alloc: Global, operands: &[Sense<'_>]) -> Result<Option<Operation>, NoMemory>
-    ensures { IfOk result (Prints operation_tokens (Word (codes "call") ∷ map meaning_of operands.now)) }
+    ensures { IfOk result (ReadsAfter (Word (codes "call")) operation_tokens operands.now) }
 {
     let Some((callee, args)) = atom_and_atoms(alloc, operands)? else {
         return Ok(None);
@@ -24,14 +23,14 @@ fn call_of(alloc: Global, operands: &[Sense<'_>]) -> Result<Option<Operation>, N
 
 /// The closing of a generator that the operand of a `close` names.
 fn close_of(alloc: Global, operands: &[Sense<'_>]) -> Result<Option<Operation>, NoMemory>
-    ensures { IfOk result (Prints operation_tokens (Word (codes "close") ∷ map meaning_of operands.now)) }
+    ensures { IfOk result (ReadsAfter (Word (codes "close")) operation_tokens operands.now) }
 {
     Ok(lone_atom(alloc, operands)?.map(Operation::Close))
 }
 
 /// The yield of what the operand of a `yield` names.
 fn yield_of(alloc: Global, operands: &[Sense<'_>]) -> Result<Option<Operation>, NoMemory>
-    ensures { IfOk result (Prints operation_tokens (Word (codes "yield") ∷ map meaning_of operands.now)) }
+    ensures { IfOk result (ReadsAfter (Word (codes "yield")) operation_tokens operands.now) }
 {
     Ok(lone_atom(alloc, operands)?.map(Operation::Yield))
 }
@@ -42,7 +41,7 @@ fn operation_by(
     operator: &[u8],
     operands: &[Sense<'_>],
 ) -> Result<Option<Operation>, NoMemory>
-    ensures { IfOk result (Prints operation_tokens (Word operator.now ∷ map meaning_of operands.now)) }
+    ensures { IfOk result (ReadsAfter (Word operator.now) operation_tokens operands.now) }
 {
     if operator == b"call".as_slice() {
         return call_of(alloc, operands);
@@ -79,7 +78,7 @@ fn operation_by(
 
 /// The operation that tokens are.
 fn operation_of(alloc: Global, tokens: &[Sense<'_>]) -> Result<Option<Operation>, NoMemory>
-    ensures { IfOk result (Prints operation_tokens (map meaning_of tokens.now)) }
+    ensures { IfOk result (Reads operation_tokens tokens.now) }
 {
     let Some((first, operands)) = tokens.split_first() else {
         return Ok(None);
@@ -92,7 +91,7 @@ fn operation_of(alloc: Global, tokens: &[Sense<'_>]) -> Result<Option<Operation>
 
 /// The operation that tokens are within parentheses.
 pub fn parenthesized(alloc: Global, tokens: &[Sense<'_>]) -> Result<Option<Operation>, NoMemory>
-    ensures { IfOk result (Prints (λ o. in_parentheses (operation_tokens o)) (map meaning_of tokens.now)) }
+    ensures { IfOk result (Reads (λ o. in_parentheses (operation_tokens o)) tokens.now) }
 {
     let Some((open, behind)) = tokens.split_first() else {
         return Ok(None);
@@ -111,7 +110,7 @@ pub fn parenthesized(alloc: Global, tokens: &[Sense<'_>]) -> Result<Option<Opera
 
 /// The expression that tokens are.
 pub fn expr_of(alloc: Global, tokens: &[Sense<'_>]) -> Result<Option<Expr>, NoMemory>
-    ensures { IfOk result (Prints expr_tokens (map meaning_of tokens.now)) }
+    ensures { IfOk result (Reads expr_tokens tokens.now) }
 {
     match tokens {
         [] => Ok(None),

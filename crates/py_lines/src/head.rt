@@ -1,10 +1,9 @@
 //! Lines that open a block, and those that turn it to its next suite.
 
-ghost use Rattle.std.specs.Prelude.{◌∷◌, [], IfOk, codes, map};
+ghost use Rattle.std.specs.Prelude.{◌∷◌, [], IfOk, codes};
 ghost use Rattle.py_lines.specs.declared.keyword.Keyword.TheVariants as keyword;
-ghost use Rattle.py_lines.specs.Finding.{Prints};
+ghost use Rattle.py_lines.specs.Finding.{Reads, ReadsAfter};
 ghost use Rattle.py_lines.specs.Meaning.{Key, Word};
-ghost use Rattle.py_lines.specs.Senses.{meaning_of};
 ghost use Rattle.py_lines.specs.Printing.{atom_token, head_tokens, target_tokens, turn_tokens};
 
 use crate::atoms::{alone, atom_of, lone_atom, lone_name, name_of};
@@ -40,7 +39,7 @@ pub enum Turn {
 
 /// The line that opens a block and that tokens are.
 pub fn read_head(alloc: Global, tokens: &[Sense<'_>]) -> Result<Option<Head>, NoMemory>
-    ensures { IfOk result (Prints head_tokens (map meaning_of tokens.now)) }
+    ensures { IfOk result (Reads head_tokens tokens.now) }
 {
     let Some((first, rest)) = tokens.split_first() else {
         return Ok(None);
@@ -59,7 +58,7 @@ pub fn read_head(alloc: Global, tokens: &[Sense<'_>]) -> Result<Option<Head>, No
 
 /// The name that `as` has behind it.
 fn named_by_as(alloc: Global, tokens: &[Sense<'_>]) -> Result<Option<PyText>, NoMemory>
-    ensures { IfOk result (Prints (λ x. Word (codes "as") ∷ Word x ∷ []) (map meaning_of tokens.now)) }
+    ensures { IfOk result (Reads (λ x. Word (codes "as") ∷ Word x ∷ []) tokens.now) }
 {
     let Some((first, rest)) = tokens.split_first() else {
         return Ok(None);
@@ -76,7 +75,7 @@ fn named_by_as(alloc: Global, tokens: &[Sense<'_>]) -> Result<Option<PyText>, No
 
 /// The name that a line binds by the tokens at its end, which binds none where there are none.
 fn target_of(alloc: Global, tokens: &[Sense<'_>]) -> Result<Option<Option<PyText>>, NoMemory>
-    ensures { IfOk result (Prints target_tokens (map meaning_of tokens.now)) }
+    ensures { IfOk result (Reads target_tokens tokens.now) }
 {
     if tokens.is_empty() {
         return Ok(Some(None));
@@ -92,7 +91,7 @@ fn atom_and_target(
     alloc: Global,
     tokens: &[Sense<'_>],
 ) -> Result<Option<(Atom, Option<PyText>)>, NoMemory>
-    ensures { IfOk result (Prints (λ p. atom_token p.0 ∷ target_tokens p.1) (map meaning_of tokens.now)) }
+    ensures { IfOk result (Reads (λ p. atom_token p.0 ∷ target_tokens p.1) tokens.now) }
 {
     let Some((first, rest)) = tokens.split_first() else {
         return Ok(None);
@@ -108,7 +107,7 @@ fn atom_and_target(
 
 /// The line that the tokens behind a `with` make.
 fn with_of(alloc: Global, tokens: &[Sense<'_>]) -> Result<Option<Head>, NoMemory>
-    ensures { IfOk result (Prints head_tokens (Key keyword.With ∷ map meaning_of tokens.now)) }
+    ensures { IfOk result (ReadsAfter (Key keyword.With) head_tokens tokens.now) }
 {
     let Some((manager, target)) = atom_and_target(alloc, tokens)? else {
         return Ok(None);
@@ -121,7 +120,7 @@ fn class_and_target(
     alloc: Global,
     tokens: &[Sense<'_>],
 ) -> Result<Option<(PyText, Option<PyText>)>, NoMemory>
-    ensures { IfOk result (Prints (λ p. Word p.0 ∷ target_tokens p.1) (map meaning_of tokens.now)) }
+    ensures { IfOk result (Reads (λ p. Word p.0 ∷ target_tokens p.1) tokens.now) }
 {
     let Some((first, rest)) = tokens.split_first() else {
         return Ok(None);
@@ -137,7 +136,7 @@ fn class_and_target(
 
 /// The clause that the tokens behind an `except` make.
 fn except_of(alloc: Global, tokens: &[Sense<'_>]) -> Result<Option<Turn>, NoMemory>
-    ensures { IfOk result (Prints turn_tokens (Key keyword.Except ∷ map meaning_of tokens.now)) }
+    ensures { IfOk result (ReadsAfter (Key keyword.Except) turn_tokens tokens.now) }
 {
     let Some((class, target)) = class_and_target(alloc, tokens)? else {
         return Ok(None);
@@ -147,7 +146,7 @@ fn except_of(alloc: Global, tokens: &[Sense<'_>]) -> Result<Option<Turn>, NoMemo
 
 /// The line that turns a block and that tokens are.
 pub fn read_turn(alloc: Global, tokens: &[Sense<'_>]) -> Result<Option<Turn>, NoMemory>
-    ensures { IfOk result (Prints turn_tokens (map meaning_of tokens.now)) }
+    ensures { IfOk result (Reads turn_tokens tokens.now) }
 {
     let Some((first, rest)) = tokens.split_first() else {
         return Ok(None);

@@ -1,10 +1,9 @@
 //! Lines that declare, or open what is declared.
 
-ghost use Rattle.std.specs.Prelude.{◌∷◌, IfOk, map};
+ghost use Rattle.std.specs.Prelude.{IfOk};
 ghost use Rattle.py_lines.specs.declared.keyword.Keyword.TheVariants as keyword;
-ghost use Rattle.py_lines.specs.Finding.{Prints};
+ghost use Rattle.py_lines.specs.Finding.{Reads, ReadsAfter};
 ghost use Rattle.py_lines.specs.Meaning.{Key};
-ghost use Rattle.py_lines.specs.Senses.{meaning_of};
 ghost use Rattle.py_lines.specs.Printing.{body_keyword, header_tokens};
 
 use crate::atoms::{name_and_names, three_names, two_names};
@@ -27,7 +26,7 @@ pub enum Header {
 
 /// The header that tokens are.
 pub fn read_header(alloc: Global, tokens: &[Sense<'_>]) -> Result<Option<Header>, NoMemory>
-    ensures { IfOk result (Prints header_tokens (map meaning_of tokens.now)) }
+    ensures { IfOk result (Reads header_tokens tokens.now) }
 {
     let Some((first, rest)) = tokens.split_first() else {
         return Ok(None);
@@ -43,7 +42,7 @@ pub fn read_header(alloc: Global, tokens: &[Sense<'_>]) -> Result<Option<Header>
 
 /// The header of a body of this kind, by its name and its parameters.
 fn def_of(alloc: Global, kind: BodyKind, tokens: &[Sense<'_>]) -> Result<Option<Header>, NoMemory>
-    ensures { IfOk result (Prints header_tokens (Key (body_keyword kind) ∷ map meaning_of tokens.now)) }
+    ensures { IfOk result (ReadsAfter (Key (body_keyword kind)) header_tokens tokens.now) }
 {
     let Some((name, params)) = name_and_names(alloc, tokens)? else {
         return Ok(None);
@@ -53,7 +52,7 @@ fn def_of(alloc: Global, kind: BodyKind, tokens: &[Sense<'_>]) -> Result<Option<
 
 /// The class that the tokens behind a `class` declare.
 fn class_of(alloc: Global, tokens: &[Sense<'_>]) -> Result<Option<Header>, NoMemory>
-    ensures { IfOk result (Prints header_tokens (Key keyword.Class ∷ map meaning_of tokens.now)) }
+    ensures { IfOk result (ReadsAfter (Key keyword.Class) header_tokens tokens.now) }
 {
     let Some((name, base)) = two_names(alloc, tokens)? else {
         return Ok(None);
@@ -63,7 +62,7 @@ fn class_of(alloc: Global, tokens: &[Sense<'_>]) -> Result<Option<Header>, NoMem
 
 /// The manager that the tokens behind a `manager` declare.
 fn manager_of(alloc: Global, tokens: &[Sense<'_>]) -> Result<Option<Header>, NoMemory>
-    ensures { IfOk result (Prints header_tokens (Key keyword.Manager ∷ map meaning_of tokens.now)) }
+    ensures { IfOk result (ReadsAfter (Key keyword.Manager) header_tokens tokens.now) }
 {
     let Some((name, enter, exit)) = three_names(alloc, tokens)? else {
         return Ok(None);

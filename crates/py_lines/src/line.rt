@@ -3,7 +3,7 @@
 ghost use Rattle.std.specs.Prelude.{◌≡◌, ◌∷◌, [], IfOk, map, true};
 ghost use Rattle.py_lines.specs.declared.keyword.Keyword.TheVariants as keyword;
 ghost use Rattle.py_lines.specs.Comments.{is_comment as is_comment_line};
-ghost use Rattle.py_lines.specs.Finding.{AreReadAs, Prints};
+ghost use Rattle.py_lines.specs.Finding.{AreReadAs, Reads};
 ghost use Rattle.py_lines.specs.Meaning.{Key};
 ghost use Rattle.py_lines.specs.Senses.{meaning_of};
 ghost use Rattle.py_lines.specs.Printing.{line_tokens};
@@ -50,7 +50,7 @@ pub enum LineRead {
 
 /// The `end` that tokens are.
 fn read_end(tokens: &[Sense<'_>]) -> Option<()>
-    ensures { Prints (λ end. Key keyword.End ∷ []) (map meaning_of tokens.now) result }
+    ensures { Reads (λ end. Key keyword.End ∷ []) tokens.now result }
 {
     let (first, rest) = tokens.split_first()?;
     match first {
@@ -61,7 +61,7 @@ fn read_end(tokens: &[Sense<'_>]) -> Option<()>
 
 /// The line that tokens are.
 fn line_of(alloc: Global, tokens: &[Sense<'_>]) -> Result<Option<Line>, NoMemory>
-    ensures { IfOk result (Prints line_tokens (map meaning_of tokens.now)) }
+    ensures { IfOk result (Reads line_tokens tokens.now) }
 {
     if let Some(plain) = read_plain(alloc, tokens)? {
         return Ok(Some(Line::Plain(plain)));

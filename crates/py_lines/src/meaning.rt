@@ -1,7 +1,7 @@
 //! What the tokens of a line mean.
 
 ghost use Rattle.std.specs.Prelude.{◌≡◌, IfOk, map};
-ghost use Rattle.py_lines.specs.Tokens.{tokens_of as tokens_in};
+ghost use Rattle.py_lines.specs.Reading.{meanings};
 ghost use Rattle.py_lines.specs.Meaning.{literal_meaning as literal_meaning_in, meaning as meaning_in, word_meaning as word_meaning_in};
 ghost use Rattle.py_lines.specs.Senses.{meaning_of};
 ghost use Rattle.py_lines.specs.Pieces.{lexeme_of};
@@ -80,7 +80,7 @@ fn meaning<'a>(token: &Token<'a>) -> Sense<'a>
 
 /// What the tokens of a line mean.
 pub fn meanings_of(alloc: Global, line: &[u8]) -> Result<Vec<Sense<'_>>, NoMemory>
-    ensures { IfOk result (λ meanings. map meaning_of meanings.items ≡ map meaning_in (tokens_in line.now)) }
+    ensures { IfOk result (λ found. map meaning_of found.items ≡ meanings line.now) }
 {
     let mut meanings = Vec::new(alloc);
     let mut rest = line;

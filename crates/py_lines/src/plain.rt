@@ -1,9 +1,8 @@
 //! Plain statements: lines that open and close nothing.
 
-ghost use Rattle.std.specs.Prelude.{IfOk, ◌∷◌, map};
-ghost use Rattle.py_lines.specs.Finding.{Prints};
+ghost use Rattle.std.specs.Prelude.{IfOk};
+ghost use Rattle.py_lines.specs.Finding.{Reads, ReadsAfter};
 ghost use Rattle.py_lines.specs.Meaning.{Key, Word};
-ghost use Rattle.py_lines.specs.Senses.{meaning_of};
 ghost use Rattle.py_lines.specs.Printing.{plain_tokens};
 
 use crate::atoms::{alone, lone_atom};
@@ -39,7 +38,7 @@ pub enum Plain {
 
 /// The plain statement that tokens are.
 pub fn read_plain(alloc: Global, tokens: &[Sense<'_>]) -> Result<Option<Plain>, NoMemory>
-    ensures { IfOk result (Prints plain_tokens (map meaning_of tokens.now)) }
+    ensures { IfOk result (Reads plain_tokens tokens.now) }
 {
     let Some((first, rest)) = tokens.split_first() else {
         return Ok(None);
@@ -57,7 +56,7 @@ fn read_statement(
     keyword: Keyword,
     rest: &[Sense<'_>],
 ) -> Result<Option<Plain>, NoMemory>
-    ensures { IfOk result (Prints plain_tokens (Key keyword ∷ map meaning_of rest.now)) }
+    ensures { IfOk result (ReadsAfter (Key keyword) plain_tokens rest.now) }
 {
     match keyword {
         Keyword::Do => Ok(parenthesized(alloc, rest)?.map(Plain::Do)),
@@ -78,7 +77,7 @@ fn read_assignment(
     name: &[u8],
     rest: &[Sense<'_>],
 ) -> Result<Option<Plain>, NoMemory>
-    ensures { IfOk result (Prints plain_tokens (Word name.now ∷ map meaning_of rest.now)) }
+    ensures { IfOk result (ReadsAfter (Word name.now) plain_tokens rest.now) }
 {
     let Some((equals, value)) = rest.split_first() else {
         return Ok(None);

@@ -1,11 +1,10 @@
 //! The tokens of a line.
 
-ghost use Rattle.std.specs.Prelude.{◌≡◌, ◌<◌, ◌≤◌, ◌∷◌, [], length, MatchOption, true, false};
+ghost use Rattle.std.specs.Prelude.{◌≡◌, ◌≤◌, length};
 ghost use Rattle.std.specs.List.{prefix_len};
 ghost use Rattle.py_lines.specs.Comments.{is_comment};
-ghost use Rattle.py_lines.specs.Tokens.{is_blank as is_blank_byte, is_mark as is_mark_byte, tokens_of as tokens_in, mark_of as mark_at};
-ghost use Rattle.py_lines.specs.Pieces.{is_plain};
-ghost use Rattle.py_lines.specs.Pieces.{lexeme_of, quoted_len as quoted_len_in, word_size};
+ghost use Rattle.py_lines.specs.Tokens.{is_blank as is_blank_byte, is_mark as is_mark_byte, tokens_of as tokens_in};
+ghost use Rattle.py_lines.specs.Pieces.{is_plain, quoted_len as quoted_len_in, word_size, IsFirstToken, IsMarkOf};
 
 /// A token of a line.
 #[derive(Clone, Copy, Debug, PartialEq, Eq)]
@@ -77,7 +76,7 @@ pub fn behind_blanks(bytes: &[u8]) -> &[u8]
 
 /// The token that a byte is by itself.
 fn mark_of(byte: u8) -> Option<Token<'static>>
-    ensures { MatchOption result (is_mark_byte byte ≡ false) (λ token. (is_mark_byte byte ≡ true) × (lexeme_of token ≡ mark_at byte)) }
+    ensures { IsMarkOf byte result }
 {
     match byte {
         b'(' => Some(Token::Open),
@@ -101,7 +100,7 @@ fn first_len(first: u8, more: &[u8]) -> usize
 
 /// The first token, and the bytes behind it; None where there is none.
 pub fn first_token(bytes: &[u8]) -> Option<(Token<'_>, &[u8])>
-    ensures { MatchOption result (tokens_in bytes.now ≡ []) (λ p. (tokens_in bytes.now ≡ lexeme_of p.0 ∷ tokens_in p.1.now) × (length p.1.now < length bytes.now)) }
+    ensures { IsFirstToken bytes.now result }
 {
     let rest = behind_blanks(bytes);
     let (first, more) = rest.split_first()?;
