@@ -1,5 +1,5 @@
--- What is emitted, said of emitters and scopes as the program has them: what there was, what there is, the scope and the line come first.
-use Rattle.std.specs.Prelude.{ℕ, ◌+◌, ◌%◌, ◌^◌, ◌≡◌, Bool, Option, List, ◌∷◌}
+-- What is emitted, said of emitters and scopes as the program has them: what there was, what there is and where that stands come first.
+use Rattle.std.specs.Prelude.{ℕ, ◌+◌, ◌%◌, ◌^◌, ◌≡◌, Bool, Option, Some, List, ◌∷◌}
 use Rattle.py_code.specs.declared.instruction.Instruction.{Instruction}
 use Rattle.py_code.specs.declared.literal.Literal.{Literal}
 use Rattle.py_code.specs.declared.literal.BuiltinFn.{BuiltinFn}
@@ -8,26 +8,38 @@ use Rattle.py_tree.specs.declared.body.BodyKind.{BodyKind}
 use Rattle.py_tree.specs.declared.expr.Atom.{Atom}
 use Rattle.py_tree.specs.declared.expr.Expr.{Expr}
 use Rattle.py_tree.specs.declared.expr.Operation.{Operation}
-use Rattle.py_tree.specs.Tree.{Name, Form}
-use Rattle.py_tree.specs.Compilable.{SuiteFits}
-use Rattle.py_laid.specs.Code.{Scope, note_of, over}
+use Rattle.py_tree.specs.declared.expr.Operation.TheVariants as operation
+use Rattle.py_tree.specs.Tree.{Name, Form, IfElse, While, TryExcept, TryFinally, With}
+use Rattle.py_tree.specs.Compilable.{SuiteFits, statements, statements_under}
+use Rattle.py_laid.specs.Code.{Scope, in_loop, note_of, over}
 use Rattle.py_check.specs.declared.note.Note.{Note}
-use Rattle.py_code.specs.declared.instruction.Instruction.TheVariants.{ExtendedArg}
+use Rattle.py_code.specs.declared.instruction.Instruction.TheVariants as op
+use Rattle.py_code.specs.declared.operator.BinaryOperator.{BinaryOperator}
+use Rattle.py_code.specs.declared.operator.ComparisonOperator.{ComparisonOperator}
+use Rattle.py_code.specs.declared.operator.RaiseKind.{RaiseKind}
+use Rattle.py_code.specs.Numbers.{binary_number, comparison_number, raise_number}
 use Rattle.py_code.specs.declared.unit.CodeUnit.{CodeUnit}
 use Rattle.py_tree.specs.declared.stmt.StmtList.{StmtList}
 use Rattle.py_tree.specs.declared.stmt.ClauseList.{ClauseList}
-use Rattle.py_tree.specs.Binding.{bound_by}
+use Rattle.py_tree.specs.Binding.{bound_by, bound_under}
 use Rattle.py_tree.specs.Tree.{Tree}
 use Rattle.py_tree.specs.Views.{clauses_of, suite_of}
-use Rattle.py_body.specs.Sizes.{size_clause, size_managed, size_opening, size_suite}
+use Rattle.py_body.specs.Sizes.{size_clause, size_form, size_managed, size_opening, size_rounds, size_suite}
 use Rattle.py_body.specs.declared.scope.Labels.{Labels as OwnLabels}
 use Rattle.py_body.specs.declared.sizes.Weights.{Weights}
 use Rattle.py_body.specs.declared.scope.Scope.{Scope as OwnScope}
+use Rattle.py_body.specs.declared.scope.Site.{Site}
+use Rattle.py_body.specs.declared.managers.Managed.{Managed}
 use Rattle.py_body.specs.declared.emitter.Emitter.{Emitter}
-use Rattle.py_body.specs.Emitting.{around_of, draft_of, end_of, scope_of, weights_of, put, EmitsBody, EmitsAtom, EmitsAtoms, EmitsBranch, EmitsClauses, EmitsConst, EmitsDriven, EmitsExpr, EmitsForget, EmitsForm, EmitsHandler}
+use Rattle.py_body.specs.declared.emitter.Spelled.{Spelled}
+use Rattle.py_body.specs.Emitting.{around_of, draft_of, end_of, labels_of, scope_of, weights_of, put, EmitsBody, EmitsAtom, EmitsAtoms, EmitsBranch, EmitsClauses, EmitsConst, EmitsDriven, EmitsExpr, EmitsForget, EmitsForm, EmitsHandler}
 use Rattle.py_body.specs.Emitting.{EmitsJump, EmitsLocal, EmitsManaged, EmitsMatch, EmitsOpening, EmitsOperation, EmitsPlain, EmitsSuite, EmitsTaken, EmitsTarget, EmitsTried, EmitsTwo}
 
 -- ---- scopes and labels
+
+-- the scope in which code stands
+abbrev pub scope_at : Site → Scope
+scope_at at = scope_of at.scope.now
 
 -- a scope in which one block more is open, in a loop with these labels
 abbrev pub with_block : Option OwnLabels → BlockNote → OwnScope → Scope
@@ -51,107 +63,167 @@ exit_label e x s = label_behind e (λ w. size_managed w x (size_suite w (suite_o
 abbrev pub clause_label : Emitter → Option Name → StmtList → ℕ
 clause_label e x s = label_behind e (λ w. size_clause w x (size_suite w (suite_of s)))
 
+-- the labels of a loop of this atom and suite that begins there: behind its end, and where its test has failed
+abbrev pub stop_label : Emitter → Atom → StmtList → ℕ
+stop_label e a s = label_behind e (λ w. size_form w (While a (suite_of s)))
+
+abbrev pub failed_label : Emitter → StmtList → ℕ
+failed_label e s = label_behind e (λ w. size_rounds w (suite_of s))
+
+-- the scope inside of a loop there
+abbrev pub loop_at : Site → OwnLabels → Scope
+loop_at at labels = in_loop (labels_of labels) (scope_at at)
+
 -- the note of a unit in a scope with so many values more
 abbrev pub note_over : ℕ → OwnScope → Note
 note_over above scope = note_of (over above (scope_of scope))
 
 -- a prefix with this byte
 abbrev pub prefix : ℕ → CodeUnit
-prefix byte = record { op = ExtendedArg; arg = byte }
+prefix byte = record { op = op.ExtendedArg; arg = byte }
 
 -- the names that a suite binds, behind others
 abbrev pub bound_suite : List Name → StmtList → List Name
 bound_suite names s = bound_by names (suite_of s)
 
+-- the names that clauses bind, behind others
+abbrev pub bound_clauses : List Name → ClauseList → List Name
+bound_clauses names cs = bound_under names (clauses_of cs)
+
+-- the names that a try with clauses binds, behind others
+abbrev pub bound_tried : List Name → StmtList → ClauseList → List Name
+bound_tried names s cs = bound_clauses (bound_suite names s) cs
+
+-- how many statements a try with clauses has in it
+abbrev pub statements_tried : StmtList → ClauseList → ℕ
+statements_tried s cs = statements (suite_of s) + statements_under (clauses_of cs)
+
 -- ---- instructions, with so many values more than the scope has
 
--- with so many prefixes
-abbrev pub Puts : Emitter → Emitter → OwnScope → ℕ → ℕ → ℕ → Instruction → ℕ → Type 0
-Puts old new scope line above width i arg = draft_of new ≡ put width i arg (over above (scope_of scope)) line (draft_of old)
+-- behind its prefixes
+abbrev pub Puts : Emitter → Emitter → Site → ℕ → Spelled → Type 0
+Puts old new at above unit = draft_of new ≡ put unit.width unit.op unit.arg (over above (scope_at at)) at.line (draft_of old)
 
 -- with an operand that fits a byte
-abbrev pub PutsPlain : Emitter → Emitter → OwnScope → ℕ → ℕ → Instruction → ℕ → Type 0
-PutsPlain old new scope line above i arg = EmitsPlain (draft_of old) (draft_of new) (over above (scope_of scope)) line i arg
+abbrev pub PutsPlain : Emitter → Emitter → Site → ℕ → Instruction → ℕ → Type 0
+PutsPlain old new at above i arg = EmitsPlain (draft_of old) (draft_of new) (over above (scope_at at)) at.line i arg
 
 -- with a label
-abbrev pub PutsJump : Emitter → Emitter → OwnScope → ℕ → ℕ → Instruction → ℕ → Type 0
-PutsJump old new scope line above i label = EmitsJump old.labels (draft_of old) (draft_of new) (over above (scope_of scope)) line i label
+abbrev pub PutsJump : Emitter → Emitter → Site → ℕ → Instruction → ℕ → Type 0
+PutsJump old new at above i label = EmitsJump old.labels (draft_of old) (draft_of new) (over above (scope_at at)) at.line i label
 
 -- with a constant
-abbrev pub PutsConst : Emitter → Emitter → OwnScope → ℕ → ℕ → Instruction → Literal → Type 0
-PutsConst old new scope line above i literal = EmitsConst (draft_of old) (draft_of new) (over above (scope_of scope)) line i literal
+abbrev pub PutsConst : Emitter → Emitter → Site → ℕ → Instruction → Literal → Type 0
+PutsConst old new at above i literal = EmitsConst (draft_of old) (draft_of new) (over above (scope_at at)) at.line i literal
 
 -- with a local
-abbrev pub PutsLocal : Emitter → Emitter → OwnScope → ℕ → ℕ → Instruction → Name → Type 0
-PutsLocal old new scope line above i x = EmitsLocal (draft_of old) (draft_of new) (over above (scope_of scope)) line i x
+abbrev pub PutsLocal : Emitter → Emitter → Site → ℕ → Instruction → Name → Type 0
+PutsLocal old new at above i x = EmitsLocal (draft_of old) (draft_of new) (over above (scope_at at)) at.line i x
 
 -- the load of an atom, and of atoms one behind another
-abbrev pub PutsAtom : Emitter → Emitter → OwnScope → ℕ → ℕ → Atom → Type 0
-PutsAtom old new scope line above a = EmitsAtom (draft_of old) (draft_of new) (over above (scope_of scope)) line a
+abbrev pub PutsAtom : Emitter → Emitter → Site → ℕ → Atom → Type 0
+PutsAtom old new at above a = EmitsAtom (draft_of old) (draft_of new) (over above (scope_at at)) at.line a
 
-abbrev pub PutsAtoms : Emitter → Emitter → OwnScope → ℕ → ℕ → List Atom → Type 0
-PutsAtoms old new scope line above atoms = EmitsAtoms (draft_of old) (draft_of new) (over above (scope_of scope)) line atoms
+abbrev pub PutsAtoms : Emitter → Emitter → Site → ℕ → List Atom → Type 0
+PutsAtoms old new at above atoms = EmitsAtoms (draft_of old) (draft_of new) (over above (scope_at at)) at.line atoms
 
 -- ---- expressions
 
 -- an instruction behind the atom that it takes, and behind two
-abbrev pub PutsTaken : Emitter → Emitter → OwnScope → ℕ → Atom → Instruction → ℕ → Type 0
-PutsTaken old new scope line a i arg = EmitsTaken (draft_of old) (draft_of new) (scope_of scope) line a i arg
+abbrev pub PutsTaken : Emitter → Emitter → Site → Atom → Instruction → ℕ → Type 0
+PutsTaken old new at a i arg = EmitsTaken (draft_of old) (draft_of new) (scope_at at) at.line a i arg
 
-abbrev pub PutsTwo : Emitter → Emitter → OwnScope → ℕ → Atom → Atom → Instruction → ℕ → Type 0
-PutsTwo old new scope line a b i arg = EmitsTwo (draft_of old) (draft_of new) (scope_of scope) line a b i arg
+abbrev pub PutsTwo : Emitter → Emitter → Site → Atom → Atom → Instruction → ℕ → Type 0
+PutsTwo old new at a b i arg = EmitsTwo (draft_of old) (draft_of new) (scope_at at) at.line a b i arg
+
+-- the operation or the comparison of two atoms
+abbrev pub PutsBinary : Emitter → Emitter → Site → BinaryOperator → Atom → Atom → Type 0
+PutsBinary old new at o a b = PutsTwo old new at a b op.BinaryOperation (binary_number o)
+
+abbrev pub PutsComparison : Emitter → Emitter → Site → ComparisonOperator → Atom → Atom → Type 0
+PutsComparison old new at o a b = PutsTwo old new at a b op.CompareOperation (comparison_number o)
 
 -- the call of a function of the machine's own
-abbrev pub PutsDriven : Emitter → Emitter → OwnScope → ℕ → BuiltinFn → Atom → Atom → Type 0
-PutsDriven old new scope line fn a b = EmitsDriven (draft_of old) (draft_of new) (scope_of scope) line fn a b
+abbrev pub PutsDriven : Emitter → Emitter → Site → BuiltinFn → Atom → Atom → Type 0
+PutsDriven old new at fn a b = EmitsDriven (draft_of old) (draft_of new) (scope_at at) at.line fn a b
 
-abbrev pub PutsOperation : Emitter → Emitter → OwnScope → ℕ → Operation → Type 0
-PutsOperation old new scope line o = EmitsOperation (draft_of old) (draft_of new) (scope_of scope) line o
+abbrev pub PutsOperation : Emitter → Emitter → Site → Operation → Type 0
+PutsOperation old new at o = EmitsOperation (draft_of old) (draft_of new) (scope_at at) at.line o
 
-abbrev pub PutsExpr : Emitter → Emitter → OwnScope → ℕ → Expr → Type 0
-PutsExpr old new scope line e = EmitsExpr (draft_of old) (draft_of new) (scope_of scope) line e
+abbrev pub PutsCall : Emitter → Emitter → Site → Atom → List Atom → Type 0
+PutsCall old new at f atoms = PutsOperation old new at (operation.Call f atoms)
+
+abbrev pub PutsClose : Emitter → Emitter → Site → Atom → Type 0
+PutsClose old new at a = PutsOperation old new at (operation.Close a)
+
+abbrev pub PutsExpr : Emitter → Emitter → Site → Expr → Type 0
+PutsExpr old new at e = EmitsExpr (draft_of old) (draft_of new) (scope_at at) at.line e
 
 -- ---- statements
 
-abbrev pub PutsForm : Emitter → Emitter → OwnScope → ℕ → Form → Type 0
-PutsForm old new scope line f = EmitsForm old.labels (draft_of old) (draft_of new) (scope_of scope) line f
+-- what raises the exception on the stack, or the one that is handled
+abbrev pub PutsRaise : Emitter → Emitter → Site → ℕ → RaiseKind → Type 0
+PutsRaise old new at above kind = PutsPlain old new at above op.Raise (raise_number kind)
+
+abbrev pub PutsForm : Emitter → Emitter → Site → Form → Type 0
+PutsForm old new at f = EmitsForm old.labels (draft_of old) (draft_of new) (scope_at at) at.line f
+
+-- those with two suites, a loop, tries and managers
+abbrev pub PutsIfElse : Emitter → Emitter → Site → Atom → StmtList → StmtList → Type 0
+PutsIfElse old new at a s t = PutsForm old new at (IfElse a (suite_of s) (suite_of t))
+
+abbrev pub PutsWhile : Emitter → Emitter → Site → Atom → StmtList → Type 0
+PutsWhile old new at a s = PutsForm old new at (While a (suite_of s))
+
+abbrev pub PutsTryFinally : Emitter → Emitter → Site → StmtList → StmtList → Type 0
+PutsTryFinally old new at s t = PutsForm old new at (TryFinally (suite_of s) (suite_of t))
+
+abbrev pub PutsTryExcept : Emitter → Emitter → Site → StmtList → ClauseList → Type 0
+PutsTryExcept old new at s cs = PutsForm old new at (TryExcept (suite_of s) (clauses_of cs))
+
+abbrev pub PutsWith : Emitter → Emitter → Site → Atom → Option Name → StmtList → Type 0
+PutsWith old new at a x s = PutsForm old new at (With a x (suite_of s))
 
 -- statements, each of which has its own line
 abbrev pub PutsSuite : Emitter → Emitter → OwnScope → StmtList → Type 0
 PutsSuite old new scope s = EmitsSuite old.labels (draft_of old) (draft_of new) (scope_of scope) (suite_of s)
 
 -- a suite over which a jump leads, by the value of an atom
-abbrev pub PutsBranch : Emitter → Emitter → OwnScope → ℕ → Atom → Instruction → StmtList → Type 0
-PutsBranch old new scope line a i s = EmitsBranch old.labels (draft_of old) (draft_of new) (scope_of scope) line a i (suite_of s)
+abbrev pub PutsBranch : Emitter → Emitter → Site → Atom → Instruction → StmtList → Type 0
+PutsBranch old new at a i s = EmitsBranch old.labels (draft_of old) (draft_of new) (scope_at at) at.line a i (suite_of s)
 
 -- ---- tries and managers
 
 -- a try with a finally, up to the finally, which is at a label
-abbrev pub PutsOpening : Emitter → Emitter → OwnScope → ℕ → StmtList → ℕ → Type 0
-PutsOpening old new scope line s handler = EmitsOpening old.labels (draft_of old) (draft_of new) (scope_of scope) line (suite_of s) handler
+abbrev pub PutsOpening : Emitter → Emitter → Site → StmtList → ℕ → Type 0
+PutsOpening old new at s handler = EmitsOpening old.labels (draft_of old) (draft_of new) (scope_at at) at.line (suite_of s) handler
 
 -- a with up to its exit, which is at a label
-abbrev pub PutsManaged : Emitter → Emitter → OwnScope → ℕ → Atom → Option Name → StmtList → ℕ → Type 0
-PutsManaged old new scope line a x s handler = EmitsManaged old.labels (draft_of old) (draft_of new) (scope_of scope) line a x (suite_of s) handler
+abbrev pub PutsManaged : Emitter → Emitter → Site → Managed → StmtList → Type 0
+PutsManaged old new at m s = EmitsManaged old.labels (draft_of old) (draft_of new) (scope_at at) at.line m.atom.now m.target.now (suite_of s) m.handler
 
 -- the body of a try with clauses at a label, from which another is jumped to
-abbrev pub PutsTried : Emitter → Emitter → OwnScope → ℕ → StmtList → ℕ → ℕ → Type 0
-PutsTried old new scope line s handler end = EmitsTried old.labels (draft_of old) (draft_of new) (scope_of scope) line (suite_of s) handler end
+abbrev pub PutsTried : Emitter → Emitter → Site → StmtList → ℕ → ℕ → Type 0
+PutsTried old new at s handler end = EmitsTried old.labels (draft_of old) (draft_of new) (scope_at at) at.line (suite_of s) handler end
 
 -- the test of a clause, from which a label is jumped to where it fails, and what binds the clause's name
-abbrev pub PutsMatch : Emitter → Emitter → OwnScope → ℕ → Name → Option Name → ℕ → Type 0
-PutsMatch old new scope line c x other = EmitsMatch old.labels (draft_of old) (draft_of new) (scope_of scope) line c x other
+abbrev pub PutsMatch : Emitter → Emitter → Site → Name → Option Name → ℕ → Type 0
+PutsMatch old new at c x other = EmitsMatch old.labels (draft_of old) (draft_of new) (scope_at at) at.line c x other
 
-abbrev pub PutsTarget : Emitter → Emitter → OwnScope → ℕ → Option Name → Type 0
-PutsTarget old new scope line x = EmitsTarget (draft_of old) (draft_of new) (scope_of scope) line x
+abbrev pub PutsTarget : Emitter → Emitter → Site → Option Name → Type 0
+PutsTarget old new at x = EmitsTarget (draft_of old) (draft_of new) (scope_at at) at.line x
 
 -- a local is unset
-abbrev pub PutsForget : Emitter → Emitter → OwnScope → ℕ → Name → Type 0
-PutsForget old new scope line x = EmitsForget (draft_of old) (draft_of new) (scope_of scope) line x
+abbrev pub PutsForget : Emitter → Emitter → Site → Name → Type 0
+PutsForget old new at x = EmitsForget (draft_of old) (draft_of new) (scope_at at) at.line x
 
 -- the suite of a clause
-abbrev pub PutsHandler : Emitter → Emitter → OwnScope → ℕ → Option Name → StmtList → Type 0
-PutsHandler old new scope line x s = EmitsHandler old.labels (draft_of old) (draft_of new) (scope_of scope) line x (suite_of s)
+abbrev pub PutsHandler : Emitter → Emitter → Site → Option Name → StmtList → Type 0
+PutsHandler old new at x s = EmitsHandler old.labels (draft_of old) (draft_of new) (scope_at at) at.line x (suite_of s)
+
+-- the same of a clause that binds a name, which is unset at its end
+abbrev pub PutsForgetting : Emitter → Emitter → Site → Name → StmtList → Type 0
+PutsForgetting old new at x s = PutsHandler old new at (Some x) s
 
 -- clauses whose suites are left for a label
 abbrev pub PutsClauses : Emitter → Emitter → OwnScope → ℕ → ClauseList → Type 0

@@ -1,6 +1,6 @@
 //! The compiler: the code of a body.
 
-ghost use Rattle.std.specs.Prelude.{◌≡◌, ◌<◌, ◌≤◌, ◌^◌, suc, false, length, IfOk, OnOk, codes, encode_utf8_all};
+ghost use Rattle.std.specs.Prelude.{◌≡◌, ◌<◌, ◌≤◌, ◌^◌, suc, false, length, IfOk, OnOk};
 ghost use Rattle.py_tree.specs.declared.body.BodyKind.{BodyKind};
 ghost use Rattle.py_tree.specs.Compilable.{IsCompilable, SuiteFits, statements};
 ghost use Rattle.py_tree.specs.Views.{suite_of, tree_of};
@@ -9,14 +9,14 @@ ghost use Rattle.py_laid.specs.Fits.{Fits, Continues};
 ghost use Rattle.py_laid.specs.Instructions.{UsesCompiled};
 ghost use Rattle.py_laid.specs.Naming.{IsNameOf, NamesAll};
 ghost use Rattle.py_body.specs.Sizes.{counted, size_body, weights};
-ghost use Rattle.py_body.specs.Codes.{Each, IsLaidWith};
+ghost use Rattle.py_body.specs.Codes.{Each, IsLaidWith, name_of, script_path};
 ghost use Rattle.py_body.specs.Emitting.{draft_of, IsEmitted};
 ghost use Rattle.py_body.specs.Puts.{PutsBody};
 
 use crate::emitter::Emitter;
 use crate::locals::locals_of;
 use crate::naming::{intern_all, intern_text};
-use crate::scope::entry;
+use crate::scope::{Site, entry};
 use crate::sizes::{Weights, size_of_suite};
 use py_check::Annotated;
 use py_code::{
@@ -107,8 +107,8 @@ fn names_for(
     locals: NameSet,
     globals: NameSet,
 ) -> Result<CodeNames, NoMemory>
-    ensures source_path { IfOk result (λ ids. IsNameOf names.new ids.source_path (codes "<script>")) }
-    ensures obj_name { IfOk result (λ ids. IsNameOf names.new ids.obj_name (encode_utf8_all (tree_of body.now).name)) }
+    ensures source_path { IfOk result (λ ids. IsNameOf names.new ids.source_path script_path) }
+    ensures obj_name { IfOk result (λ ids. IsNameOf names.new ids.obj_name (name_of body.now)) }
     ensures global_names { IfOk result (λ ids. NamesAll names.new ids.global_names.items globals) }
     ensures varnames { IfOk result (λ ids. NamesAll names.new ids.varnames.items locals) }
     ensures grows { Continues names.old names.new }
@@ -159,13 +159,11 @@ fn emit_all(emitter: &mut Emitter, body: &Body) -> Result<(), NoMemory>
 {
     let scope = entry(body.kind);
     emitter.compile_suite(&body.suite, &scope)?;
-    emitter.put_const(
-        Instruction::ReturnConst,
-        Literal::None,
-        &scope,
-        0,
-        body.line,
-    )?;
+    let at = Site {
+        scope: &scope,
+        line: body.line,
+    };
+    emitter.put_const(Instruction::ReturnConst, Literal::None, &at, 0)?;
     Ok(())
 }
 

@@ -7,11 +7,19 @@ ghost use Rattle.py_tree.specs.declared.expr.Atom.TheVariants as Atom;
 ghost use Rattle.py_body.specs.Emitting.{blank, byte_of, draft_of, spelled, weights_of};
 ghost use Rattle.py_body.specs.Puts.{note_over, prefix, Puts, PutsPlain, PutsJump, PutsConst, PutsLocal, PutsAtom};
 
-use crate::scope::{Scope, note_of};
+use crate::scope::{Scope, Site, note_of};
 use crate::sizes::Weights;
 use py_check::NoteList;
 use py_code::{CodeUnit, Instruction, Literal, LiteralList, NameSet, NoMemory, PyText};
 use std::alloc::Global;
+
+/// An instruction with its operand, and how many prefixes carry it.
+#[derive(Clone, Copy)]
+struct Spelled {
+    width: u32,
+    op: Instruction,
+    arg: u32,
+}
 
 /// What the code of a body is put together from.
 #[derive(Drop)]
@@ -77,17 +85,17 @@ impl Emitter {
         &mut self,
         op: Instruction,
         arg: u32,
-        scope: &Scope,
+        at: &Site<'_>,
         above: u32,
-        line: u32,
     ) -> Result<(), NoMemory>
         requires plain { is_prefix op ≡ false }
         requires small { arg < 256 }
-        requires depth { scope.now.depth + above ≤ 65535 }
-        ensures code { OnOk result (PutsPlain self.old self.new scope.now line above op arg) }
+        requires depth { at.now.scope.now.depth + above ≤ 65535 }
+        ensures code { OnOk result (PutsPlain self.old self.new at.now above op arg) }
         ensures widths { (self.new.labels ≡ self.old.labels) × (self.new.others ≡ self.old.others) }
     {
-        self.put(0, op, arg, scope, above, line)
+        let width = 0;
+        self.put(Spelled { width, op, arg }, at, above)
     }
 
     /// Adds an instruction whose operand is a label.
@@ -95,17 +103,18 @@ impl Emitter {
         &mut self,
         op: Instruction,
         label: u32,
-        scope: &Scope,
+        at: &Site<'_>,
         above: u32,
-        line: u32,
     ) -> Result<(), NoMemory>
         requires plain { is_prefix op ≡ false }
         requires low { self.old.labels ≤ 3 }
-        requires depth { scope.now.depth + above ≤ 65535 }
-        ensures code { OnOk result (PutsJump self.old self.new scope.now line above op label) }
+        requires depth { at.now.scope.now.depth + above ≤ 65535 }
+        ensures code { OnOk result (PutsJump self.old self.new at.now above op label) }
         ensures widths { (self.new.labels ≡ self.old.labels) × (self.new.others ≡ self.old.others) }
     {
-        self.put(self.labels, op, label, scope, above, line)
+        let width = self.labels;
+        let arg = label;
+        self.put(Spelled { width, op, arg }, at, above)
     }
 
     /// Adds an instruction whose operand is a new constant.
@@ -113,56 +122,39 @@ impl Emitter {
         &mut self,
         op: Instruction,
         literal: Literal,
-        scope: &Scope,
+        at: &Site<'_>,
         above: u32,
-        line: u32,
     ) -> Result<(), NoMemory>
         requires plain { is_prefix op ≡ false }
         requires no_code { has_code literal ≡ false }
         requires low { self.old.others ≤ 3 }
-        requires depth { scope.now.depth + above ≤ 65535 }
-        ensures code { OnOk result (PutsConst self.old self.new scope.now line above op literal) }
+        requires depth { at.now.scope.now.depth + above ≤ 65535 }
+        ensures code { OnOk result (PutsConst self.old self.new at.now above op literal) }
         ensures widths { (self.new.labels ≡ self.old.labels) × (self.new.others ≡ self.old.others) }
     {
-        let place = index_of(self.constants.len());
+        let arg = index_of(self.constants.len());
         self.constants.push(literal)?;
-        self.put(self.others, op, place, scope, above, line)
+        let width = self.others;
+        self.put(Spelled { width, op, arg }, at, above)
     }
 
     /// Adds the load of a name, as a local or as a global.
-    pub fn put_load(
-        &mut self,
-        name: &PyText,
-        scope: &Scope,
-        above: u32,
-        line: u32,
-    ) -> Result<(), NoMemory>
+    pub fn put_load(&mut self, name: &PyText, at: &Site<'_>, above: u32) -> Result<(), NoMemory>
         requires low { self.old.others ≤ 3 }
-        requires depth { scope.now.depth + above ≤ 65535 }
-        ensures code { OnOk result (PutsAtom self.old self.new scope.now line above (Atom.Name name.now)) }
+        requires depth { at.now.scope.now.depth + above ≤ 65535 }
+        ensures code { OnOk result (PutsAtom self.old self.new at.now above (Atom.Name name.now)) }
         ensures widths { (self.new.labels ≡ self.old.labels) × (self.new.others ≡ self.old.others) }
     {
+        let width = self.others;
         if let Some(place) = self.locals.place(name) {
-            let local = index_of(place);
-            return self.put(
-                self.others,
-                Instruction::LoadFast,
-                local,
-                scope,
-                above,
-                line,
-            );
+            let op = Instruction::LoadFast;
+            let arg = index_of(place);
+            return self.put(Spelled { width, op, arg }, at, above);
         }
         let place = self.globals.insert(name)?;
-        let global = index_of(place);
-        self.put(
-            self.others,
-            Instruction::LoadGlobal,
-            global,
-            scope,
-            above,
-            line,
-        )
+        let op = Instruction::LoadGlobal;
+        let arg = index_of(place);
+        self.put(Spelled { width, op, arg }, at, above)
     }
 
     /// Adds an instruction whose operand is a local.
@@ -170,40 +162,33 @@ impl Emitter {
         &mut self,
         op: Instruction,
         name: &PyText,
-        scope: &Scope,
+        at: &Site<'_>,
         above: u32,
-        line: u32,
     ) -> Result<(), NoMemory>
         requires plain { is_prefix op ≡ false }
         requires low { self.old.others ≤ 3 }
-        requires depth { scope.now.depth + above ≤ 65535 }
-        ensures code { OnOk result (PutsLocal self.old self.new scope.now line above op name.now) }
+        requires depth { at.now.scope.now.depth + above ≤ 65535 }
+        ensures code { OnOk result (PutsLocal self.old self.new at.now above op name.now) }
         ensures widths { (self.new.labels ≡ self.old.labels) × (self.new.others ≡ self.old.others) }
     {
         let place = self.locals.place(name).unwrap_or(self.locals.len());
-        let local = index_of(place);
-        self.put(self.others, op, local, scope, above, line)
+        let width = self.others;
+        let arg = index_of(place);
+        self.put(Spelled { width, op, arg }, at, above)
     }
 
-    /// Adds an instruction of a line with so many prefixes, in a scope with so many values more.
-    fn put(
-        &mut self,
-        width: u32,
-        op: Instruction,
-        arg: u32,
-        scope: &Scope,
-        above: u32,
-        line: u32,
-    ) -> Result<(), NoMemory>
-        requires width { width ≤ 3 }
-        requires depth { scope.now.depth + above ≤ 65535 }
-        ensures put { OnOk result (Puts self.old self.new scope.now line above width op arg) }
+    /// Adds an instruction after its prefixes, where the stack has so many values more than the scope.
+    fn put(&mut self, unit: Spelled, at: &Site<'_>, above: u32) -> Result<(), NoMemory>
+        requires width { unit.width ≤ 3 }
+        requires depth { at.now.scope.now.depth + above ≤ 65535 }
+        ensures put { OnOk result (Puts self.old self.new at.now above unit) }
         ensures widths { (self.new.labels ≡ self.old.labels) × (self.new.others ≡ self.old.others) }
     {
+        let Spelled { width, op, arg } = unit;
         put_units(&mut self.units, width, op, arg)?;
-        put_line(&mut self.locations, width + 1, line)?;
-        put_note(self.alloc, &mut self.notes, width + 1, scope, above)?;
-        self.deepest = self.deepest.max(scope.depth + above);
+        put_line(&mut self.locations, width + 1, at.line)?;
+        put_note(self.alloc, &mut self.notes, width + 1, at.scope, above)?;
+        self.deepest = self.deepest.max(at.scope.depth + above);
         Ok(())
     }
 }

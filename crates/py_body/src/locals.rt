@@ -1,9 +1,9 @@
 //! The locals of a body: its parameters, and the names that its statements bind.
 
 ghost use Rattle.std.specs.Prelude.{◌≡◌, ◌≢◌, [], IfOk, OnOk, AllPairs};
-ghost use Rattle.py_tree.specs.Binding.{bound, bound_by, bound_if, bound_in, bound_under, locals_of};
-ghost use Rattle.py_tree.specs.Views.{clauses_of, form_of, suite_of, tree_of};
-ghost use Rattle.py_body.specs.Puts.{bound_suite};
+ghost use Rattle.py_tree.specs.Binding.{bound, bound_by, bound_if, bound_in, locals_of};
+ghost use Rattle.py_tree.specs.Views.{form_of, suite_of, tree_of};
+ghost use Rattle.py_body.specs.Puts.{bound_suite, bound_tried};
 
 use py_code::{NameSet, NoMemory, PyText};
 use py_tree::{Body, ClauseList, StmtForm, StmtList};
@@ -87,7 +87,7 @@ fn bind_both(names: &mut NameSet, suite: &StmtList, other: &StmtList) -> Result<
 /// Puts the names that a suite and clauses bind behind the others.
 #[cycle(bind)]
 fn bind_tried(names: &mut NameSet, suite: &StmtList, clauses: &ClauseList) -> Result<(), NoMemory>
-    ensures { OnOk result (names.new ≡ bound_under (bound_suite names.old suite.now) (clauses_of clauses.now)) }
+    ensures { OnOk result (names.new ≡ bound_tried names.old suite.now clauses.now) }
 {
     bind_suite(names, suite)?;
     for clause in clauses.as_slice() {

@@ -2,17 +2,29 @@
 
 ghost use Rattle.std.specs.Prelude.{◌≡◌, ◌≤◌, ◌<◌, suc, OnOk};
 ghost use Rattle.py_laid.specs.Code.{on};
-ghost use Rattle.py_tree.specs.Tree.{With};
 ghost use Rattle.py_tree.specs.Views.{suite_of};
 ghost use Rattle.py_tree.specs.Compilable.{SuiteNests, statements};
 ghost use Rattle.py_body.specs.Emitting.{scope_of, SuiteIn};
-ghost use Rattle.py_body.specs.Puts.{exit_label, FitsSomewhere, PutsForm, PutsManaged};
+ghost use Rattle.py_body.specs.Puts.{scope_at, exit_label, FitsSomewhere, PutsWith, PutsManaged};
 
 use crate::emitter::Emitter;
-use crate::scope::{Scope, before_finally, in_finally, with_value};
+use crate::scope::{Scope, Site, before_finally, in_finally, with_value};
 use crate::sizes::{size_of_suite, size_of_target};
 use py_code::{Instruction, NoMemory, PyText};
 use py_tree::{Atom, StmtList};
+
+/// What belongs to a manager.
+#[derive(Clone, Copy)]
+pub struct Managed<'a> {
+    /// The atom that gives it.
+    atom: &'a Atom,
+    /// The name that its entry is bound to, if there is one.
+    target: &'a Option<PyText>,
+    /// The scope with the manager on the stack.
+    inner: &'a Scope,
+    /// The label of its exit.
+    handler: u32,
+}
 
 impl Emitter {
     /// Adds `with a` or `with a as x`, and its suite.
@@ -22,23 +34,32 @@ impl Emitter {
         atom: &Atom,
         target: &Option<PyText>,
         suite: &StmtList,
-        scope: &Scope,
-        line: u32,
+        at: &Site<'_>,
     ) -> Result<(), NoMemory>
         requires few { statements (suite_of suite.now) ≤ 1048575 }
-        requires fits { SuiteIn (scope_of scope.now) (suite_of suite.now) }
-        requires room { scope.now.depth < 64 }
-        requires nests { SuiteNests (suc scope.now.depth) (suite_of suite.now) }
+        requires fits { SuiteIn (scope_at at.now) (suite_of suite.now) }
+        requires room { at.now.scope.now.depth < 64 }
+        requires nests { SuiteNests (suc at.now.scope.now.depth) (suite_of suite.now) }
         requires low { (self.old.labels ≤ 3) × (self.old.others ≤ 3) }
-        ensures code { OnOk result (PutsForm self.old self.new scope.now line (With atom.now target.now (suite_of suite.now))) }
+        ensures code { OnOk result (PutsWith self.old self.new at.now atom.now target.now suite.now) }
         ensures widths { (self.new.labels ≡ self.old.labels) × (self.new.others ≡ self.old.others) }
     {
         let handler = self.exit_label(target, suite);
-        let inner = with_value(scope)?;
-        self.compile_managed(atom, target, suite, scope, &inner, handler, line)?;
+        let inner = with_value(at.scope)?;
+        let managed = Managed {
+            atom,
+            target,
+            inner: &inner,
+            handler,
+        };
+        self.compile_managed(suite, at, &managed)?;
         let within = in_finally(self.alloc, &inner)?;
-        self.put_plain(Instruction::WithCleanupStart, 0, &within, 0, line)?;
-        self.put_plain(Instruction::WithCleanupFinish, 0, &within, 1, line)
+        let inside = Site {
+            scope: &within,
+            line: at.line,
+        };
+        self.put_plain(Instruction::WithCleanupStart, 0, &inside, 0)?;
+        self.put_plain(Instruction::WithCleanupFinish, 0, &inside, 1)
     }
 
     /// The label of the exit of a with of this suite, which begins here.
@@ -54,33 +75,33 @@ impl Emitter {
         self.label(weights.index + weights.jump + binds + size + weights.plain + weights.plain)
     }
 
-    /// Adds a with up to its exit, whose label is given, where the scope with the manager on the stack is given too.
+    /// Adds a with up to its exit, where what belongs to its manager is given.
     #[cycle(compile)]
     fn compile_managed(
         &mut self,
-        atom: &Atom,
-        target: &Option<PyText>,
         suite: &StmtList,
-        scope: &Scope,
-        inner: &Scope,
-        handler: u32,
-        line: u32,
+        at: &Site<'_>,
+        managed: &Managed<'_>,
     ) -> Result<(), NoMemory>
         requires few { statements (suite_of suite.now) ≤ 1048575 }
-        requires fits { SuiteIn (scope_of scope.now) (suite_of suite.now) }
-        requires room { scope.now.depth < 64 }
-        requires nests { SuiteNests (suc scope.now.depth) (suite_of suite.now) }
-        requires inner { scope_of inner.now ≡ on (scope_of scope.now) }
+        requires fits { SuiteIn (scope_at at.now) (suite_of suite.now) }
+        requires room { at.now.scope.now.depth < 64 }
+        requires nests { SuiteNests (suc at.now.scope.now.depth) (suite_of suite.now) }
+        requires inner { scope_of managed.now.inner.now ≡ on (scope_at at.now) }
         requires low { (self.old.labels ≤ 3) × (self.old.others ≤ 3) }
-        ensures code { OnOk result (PutsManaged self.old self.new scope.now line atom.now target.now suite.now handler) }
+        ensures code { OnOk result (PutsManaged self.old self.new at.now managed.now suite.now) }
         ensures widths { (self.new.labels ≡ self.old.labels) × (self.new.others ≡ self.old.others) }
     {
-        self.compile_atom(atom, scope, 0, line)?;
-        self.put_jump(Instruction::SetupWith, handler, scope, 1, line)?;
-        let before = before_finally(self.alloc, inner, handler)?;
-        self.put_target(target, &before, line)?;
+        self.compile_atom(managed.atom, at, 0)?;
+        self.put_jump(Instruction::SetupWith, managed.handler, at, 1)?;
+        let before = before_finally(self.alloc, managed.inner, managed.handler)?;
+        let inside = Site {
+            scope: &before,
+            line: at.line,
+        };
+        self.put_target(managed.target, &inside)?;
         self.compile_suite(suite, &before)?;
-        self.put_plain(Instruction::PopBlock, 0, &before, 0, line)?;
-        self.put_plain(Instruction::EnterFinally, 0, scope, 1, line)
+        self.put_plain(Instruction::PopBlock, 0, &inside, 0)?;
+        self.put_plain(Instruction::EnterFinally, 0, at, 1)
     }
 }

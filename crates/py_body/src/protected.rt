@@ -1,15 +1,14 @@
 //! The code of tries: with a finally, and with clauses.
 
-ghost use Rattle.std.specs.Prelude.{◌≡◌, ◌+◌, ◌≤◌, Some, OnOk};
+ghost use Rattle.std.specs.Prelude.{◌≡◌, ◌+◌, ◌≤◌, OnOk};
 ghost use Rattle.py_laid.specs.Code.{in_clauses};
-ghost use Rattle.py_tree.specs.Tree.{TryExcept, TryFinally};
 ghost use Rattle.py_tree.specs.Views.{clauses_of, suite_of};
 ghost use Rattle.py_tree.specs.Compilable.{ClausesNest, SuiteNests, statements, statements_under};
 ghost use Rattle.py_body.specs.Emitting.{scope_of, ClausesIn, SuiteIn};
-ghost use Rattle.py_body.specs.Puts.{finally_label, clause_label, FitsSomewhere, PutsForm, PutsOpening, PutsTried, PutsMatch, PutsTarget, PutsForget, PutsHandler, PutsClauses};
+ghost use Rattle.py_body.specs.Puts.{scope_at, statements_tried, finally_label, clause_label, FitsSomewhere, PutsTryFinally, PutsTryExcept, PutsOpening, PutsTried, PutsMatch, PutsTarget, PutsForget, PutsForgetting, PutsHandler, PutsClauses};
 
 use crate::emitter::Emitter;
-use crate::scope::{Scope, before_finally, in_clauses, in_finally, in_try};
+use crate::scope::{Scope, Site, before_finally, in_clauses, in_finally, in_try};
 use crate::sizes::{size_of_clause, size_of_clauses, size_of_suite};
 use py_code::{Instruction, Literal, NoMemory, PyText, RaiseKind, TestOperator};
 use py_tree::{ClauseList, StmtList};
@@ -21,24 +20,27 @@ impl Emitter {
         &mut self,
         suite: &StmtList,
         last: &StmtList,
-        scope: &Scope,
-        line: u32,
+        at: &Site<'_>,
     ) -> Result<(), NoMemory>
         requires few { statements (suite_of suite.now) + statements (suite_of last.now) ≤ 1048575 }
-        requires fits { SuiteIn (scope_of scope.now) (suite_of suite.now) }
-        requires nests { SuiteNests scope.now.depth (suite_of suite.now) }
-        requires fits_last { SuiteIn (scope_of scope.now) (suite_of last.now) }
-        requires nests_last { SuiteNests scope.now.depth (suite_of last.now) }
+        requires fits { SuiteIn (scope_at at.now) (suite_of suite.now) }
+        requires nests { SuiteNests at.now.scope.now.depth (suite_of suite.now) }
+        requires fits_last { SuiteIn (scope_at at.now) (suite_of last.now) }
+        requires nests_last { SuiteNests at.now.scope.now.depth (suite_of last.now) }
         requires low { (self.old.labels ≤ 3) × (self.old.others ≤ 3) }
-        requires depth { scope.now.depth ≤ 1000 }
-        ensures code { OnOk result (PutsForm self.old self.new scope.now line (TryFinally (suite_of suite.now) (suite_of last.now))) }
+        requires depth { at.now.scope.now.depth ≤ 1000 }
+        ensures code { OnOk result (PutsTryFinally self.old self.new at.now suite.now last.now) }
         ensures widths { (self.new.labels ≡ self.old.labels) × (self.new.others ≡ self.old.others) }
     {
         let handler = self.handler_label(suite);
-        self.compile_opening(suite, scope, handler, line)?;
-        let within = in_finally(self.alloc, scope)?;
+        self.compile_opening(suite, at, handler)?;
+        let within = in_finally(self.alloc, at.scope)?;
+        let inside = Site {
+            scope: &within,
+            line: at.line,
+        };
         self.compile_suite(last, &within)?;
-        self.put_plain(Instruction::EndFinally, 0, &within, 0, line)
+        self.put_plain(Instruction::EndFinally, 0, &inside, 0)
     }
 
     /// The label of the finally of a try with this suite, which begins here.
@@ -58,35 +60,38 @@ impl Emitter {
     fn compile_opening(
         &mut self,
         suite: &StmtList,
-        scope: &Scope,
+        at: &Site<'_>,
         handler: u32,
-        line: u32,
     ) -> Result<(), NoMemory>
         requires few { statements (suite_of suite.now) ≤ 1048575 }
-        requires fits { SuiteIn (scope_of scope.now) (suite_of suite.now) }
-        requires nests { SuiteNests scope.now.depth (suite_of suite.now) }
+        requires fits { SuiteIn (scope_at at.now) (suite_of suite.now) }
+        requires nests { SuiteNests at.now.scope.now.depth (suite_of suite.now) }
         requires low { (self.old.labels ≤ 3) × (self.old.others ≤ 3) }
-        requires depth { scope.now.depth ≤ 1000 }
-        ensures code { OnOk result (PutsOpening self.old self.new scope.now line suite.now handler) }
+        requires depth { at.now.scope.now.depth ≤ 1000 }
+        ensures code { OnOk result (PutsOpening self.old self.new at.now suite.now handler) }
         ensures widths { (self.new.labels ≡ self.old.labels) × (self.new.others ≡ self.old.others) }
     {
-        self.put_jump(Instruction::SetupFinally, handler, scope, 0, line)?;
-        let before = before_finally(self.alloc, scope, handler)?;
+        self.put_jump(Instruction::SetupFinally, handler, at, 0)?;
+        let before = before_finally(self.alloc, at.scope, handler)?;
+        let inside = Site {
+            scope: &before,
+            line: at.line,
+        };
         self.compile_suite(suite, &before)?;
-        self.put_plain(Instruction::PopBlock, 0, &before, 0, line)?;
-        self.put_plain(Instruction::EnterFinally, 0, scope, 0, line)
+        self.put_plain(Instruction::PopBlock, 0, &inside, 0)?;
+        self.put_plain(Instruction::EnterFinally, 0, at, 0)
     }
 
     /// Adds what unsets a local, whether it was set or not.
-    fn put_forget(&mut self, name: &PyText, scope: &Scope, line: u32) -> Result<(), NoMemory>
+    fn put_forget(&mut self, name: &PyText, at: &Site<'_>) -> Result<(), NoMemory>
         requires low { (self.old.labels ≤ 3) × (self.old.others ≤ 3) }
-        requires depth { scope.now.depth ≤ 1000 }
-        ensures code { OnOk result (PutsForget self.old self.new scope.now line name.now) }
+        requires depth { at.now.scope.now.depth ≤ 1000 }
+        ensures code { OnOk result (PutsForget self.old self.new at.now name.now) }
         ensures widths { (self.new.labels ≡ self.old.labels) × (self.new.others ≡ self.old.others) }
     {
-        self.put_const(Instruction::LoadConst, Literal::None, scope, 0, line)?;
-        self.put_local(Instruction::StoreFast, name, scope, 1, line)?;
-        self.put_local(Instruction::DeleteFast, name, scope, 0, line)?;
+        self.put_const(Instruction::LoadConst, Literal::None, at, 0)?;
+        self.put_local(Instruction::StoreFast, name, at, 1)?;
+        self.put_local(Instruction::DeleteFast, name, at, 0)?;
         Ok(())
     }
 
@@ -96,17 +101,16 @@ impl Emitter {
         &mut self,
         suite: &StmtList,
         clauses: &ClauseList,
-        scope: &Scope,
-        line: u32,
+        at: &Site<'_>,
     ) -> Result<(), NoMemory>
-        requires few { statements (suite_of suite.now) + statements_under (clauses_of clauses.now) ≤ 1048575 }
-        requires fits { SuiteIn (scope_of scope.now) (suite_of suite.now) }
-        requires nests { SuiteNests scope.now.depth (suite_of suite.now) }
-        requires fits_clauses { ClausesIn (scope_of scope.now) (clauses_of clauses.now) }
-        requires nests_clauses { ClausesNest scope.now.depth (clauses_of clauses.now) }
+        requires few { statements_tried suite.now clauses.now ≤ 1048575 }
+        requires fits { SuiteIn (scope_at at.now) (suite_of suite.now) }
+        requires nests { SuiteNests at.now.scope.now.depth (suite_of suite.now) }
+        requires fits_clauses { ClausesIn (scope_at at.now) (clauses_of clauses.now) }
+        requires nests_clauses { ClausesNest at.now.scope.now.depth (clauses_of clauses.now) }
         requires low { (self.old.labels ≤ 3) × (self.old.others ≤ 3) }
-        requires depth { scope.now.depth ≤ 1000 }
-        ensures code { OnOk result (PutsForm self.old self.new scope.now line (TryExcept (suite_of suite.now) (clauses_of clauses.now))) }
+        requires depth { at.now.scope.now.depth ≤ 1000 }
+        ensures code { OnOk result (PutsTryExcept self.old self.new at.now suite.now clauses.now) }
         ensures widths { (self.new.labels ≡ self.old.labels) × (self.new.others ≡ self.old.others) }
     {
         let weights = self.weights();
@@ -115,10 +119,14 @@ impl Emitter {
         let before = weights.jump + size + weights.plain + weights.jump;
         let handler = self.label(before);
         let end = self.label(before + size_clauses + weights.plain);
-        self.compile_tried(suite, scope, handler, end, line)?;
-        let within = in_clauses(self.alloc, scope)?;
-        self.compile_clauses(clauses, scope, &within, end)?;
-        self.put_raise(RaiseKind::Reraise, &within, 1, line)
+        self.compile_tried(suite, at, handler, end)?;
+        let within = in_clauses(self.alloc, at.scope)?;
+        let inside = Site {
+            scope: &within,
+            line: at.line,
+        };
+        self.compile_clauses(clauses, at.scope, &within, end)?;
+        self.put_raise(RaiseKind::Reraise, &inside, 1)
     }
 
     /// Adds the body of a try with clauses, which are jumped over from its end.
@@ -126,24 +134,27 @@ impl Emitter {
     fn compile_tried(
         &mut self,
         suite: &StmtList,
-        scope: &Scope,
+        at: &Site<'_>,
         handler: u32,
         end: u32,
-        line: u32,
     ) -> Result<(), NoMemory>
         requires few { statements (suite_of suite.now) ≤ 1048575 }
-        requires fits { SuiteIn (scope_of scope.now) (suite_of suite.now) }
-        requires nests { SuiteNests scope.now.depth (suite_of suite.now) }
+        requires fits { SuiteIn (scope_at at.now) (suite_of suite.now) }
+        requires nests { SuiteNests at.now.scope.now.depth (suite_of suite.now) }
         requires low { (self.old.labels ≤ 3) × (self.old.others ≤ 3) }
-        requires depth { scope.now.depth ≤ 1000 }
-        ensures code { OnOk result (PutsTried self.old self.new scope.now line suite.now handler end) }
+        requires depth { at.now.scope.now.depth ≤ 1000 }
+        ensures code { OnOk result (PutsTried self.old self.new at.now suite.now handler end) }
         ensures widths { (self.new.labels ≡ self.old.labels) × (self.new.others ≡ self.old.others) }
     {
-        self.put_jump(Instruction::SetupExcept, handler, scope, 0, line)?;
-        let inner = in_try(self.alloc, scope, handler)?;
+        self.put_jump(Instruction::SetupExcept, handler, at, 0)?;
+        let inner = in_try(self.alloc, at.scope, handler)?;
+        let inside = Site {
+            scope: &inner,
+            line: at.line,
+        };
         self.compile_suite(suite, &inner)?;
-        self.put_plain(Instruction::PopBlock, 0, &inner, 0, line)?;
-        self.put_jump(Instruction::Jump, end, scope, 0, line)
+        self.put_plain(Instruction::PopBlock, 0, &inside, 0)?;
+        self.put_jump(Instruction::Jump, end, at, 0)
     }
 
     /// Adds clauses, whose suites are left for a label.
@@ -166,11 +177,16 @@ impl Emitter {
     {
         for clause in clauses.as_slice() {
             let line = clause.line;
+            let at = Site { scope, line };
+            let inside = Site {
+                scope: within,
+                line,
+            };
             let other = self.clause_label(&clause.target, &clause.suite);
-            self.put_match(&clause.class, &clause.target, within, other, line)?;
-            self.compile_handler(&clause.target, &clause.suite, within, line)?;
-            self.put_plain(Instruction::PopException, 0, within, 0, line)?;
-            self.put_jump(Instruction::Jump, end, scope, 0, line)?;
+            self.put_match(&clause.class, &clause.target, &inside, other)?;
+            self.compile_handler(&clause.target, &clause.suite, &inside)?;
+            self.put_plain(Instruction::PopException, 0, &inside, 0)?;
+            self.put_jump(Instruction::Jump, end, &at, 0)?;
         }
         Ok(())
     }
@@ -192,39 +208,33 @@ impl Emitter {
         &mut self,
         class: &PyText,
         target: &Option<PyText>,
-        within: &Scope,
+        at: &Site<'_>,
         other: u32,
-        line: u32,
     ) -> Result<(), NoMemory>
         requires low { (self.old.labels ≤ 3) × (self.old.others ≤ 3) }
-        requires depth { within.now.depth ≤ 1000 }
-        ensures code { OnOk result (PutsMatch self.old self.new within.now line class.now target.now other) }
+        requires depth { at.now.scope.now.depth ≤ 1000 }
+        ensures code { OnOk result (PutsMatch self.old self.new at.now class.now target.now other) }
         ensures widths { (self.new.labels ≡ self.old.labels) × (self.new.others ≡ self.old.others) }
     {
         let test = TestOperator::ExceptionMatch;
-        self.put_plain(Instruction::Duplicate, 0, within, 1, line)?;
-        self.put_load(class, within, 2, line)?;
-        self.put_plain(Instruction::TestOperation, test.into(), within, 3, line)?;
-        self.put_jump(Instruction::JumpIfFalse, other, within, 2, line)?;
-        self.put_target(target, within, line)?;
+        self.put_plain(Instruction::Duplicate, 0, at, 1)?;
+        self.put_load(class, at, 2)?;
+        self.put_plain(Instruction::TestOperation, test.into(), at, 3)?;
+        self.put_jump(Instruction::JumpIfFalse, other, at, 2)?;
+        self.put_target(target, at)?;
         Ok(())
     }
 
     /// Adds what binds a value to a name, or drops it.
-    pub fn put_target(
-        &mut self,
-        target: &Option<PyText>,
-        scope: &Scope,
-        line: u32,
-    ) -> Result<(), NoMemory>
+    pub fn put_target(&mut self, target: &Option<PyText>, at: &Site<'_>) -> Result<(), NoMemory>
         requires low { (self.old.labels ≤ 3) × (self.old.others ≤ 3) }
-        requires depth { scope.now.depth ≤ 1000 }
-        ensures code { OnOk result (PutsTarget self.old self.new scope.now line target.now) }
+        requires depth { at.now.scope.now.depth ≤ 1000 }
+        ensures code { OnOk result (PutsTarget self.old self.new at.now target.now) }
         ensures widths { (self.new.labels ≡ self.old.labels) × (self.new.others ≡ self.old.others) }
     {
         match target {
-            None => self.put_plain(Instruction::Pop, 0, scope, 1, line),
-            Some(name) => self.put_local(Instruction::StoreFast, name, scope, 1, line),
+            None => self.put_plain(Instruction::Pop, 0, at, 1),
+            Some(name) => self.put_local(Instruction::StoreFast, name, at, 1),
         }
     }
 
@@ -234,20 +244,19 @@ impl Emitter {
         &mut self,
         target: &Option<PyText>,
         suite: &StmtList,
-        scope: &Scope,
-        line: u32,
+        at: &Site<'_>,
     ) -> Result<(), NoMemory>
         requires few { statements (suite_of suite.now) ≤ 1048574 }
-        requires fits { SuiteIn (scope_of scope.now) (suite_of suite.now) }
-        requires nests { SuiteNests scope.now.depth (suite_of suite.now) }
+        requires fits { SuiteIn (scope_at at.now) (suite_of suite.now) }
+        requires nests { SuiteNests at.now.scope.now.depth (suite_of suite.now) }
         requires low { (self.old.labels ≤ 3) × (self.old.others ≤ 3) }
-        requires depth { scope.now.depth ≤ 1000 }
-        ensures code { OnOk result (PutsHandler self.old self.new scope.now line target.now suite.now) }
+        requires depth { at.now.scope.now.depth ≤ 1000 }
+        ensures code { OnOk result (PutsHandler self.old self.new at.now target.now suite.now) }
         ensures widths { (self.new.labels ≡ self.old.labels) × (self.new.others ≡ self.old.others) }
     {
         match target {
-            None => self.compile_suite(suite, scope),
-            Some(name) => self.compile_forgetting(name, suite, scope, line),
+            None => self.compile_suite(suite, at.scope),
+            Some(name) => self.compile_forgetting(name, suite, at),
         }
     }
 
@@ -257,21 +266,24 @@ impl Emitter {
         &mut self,
         name: &PyText,
         suite: &StmtList,
-        scope: &Scope,
-        line: u32,
+        at: &Site<'_>,
     ) -> Result<(), NoMemory>
         requires few { statements (suite_of suite.now) ≤ 1048574 }
-        requires fits { SuiteIn (scope_of scope.now) (suite_of suite.now) }
-        requires nests { SuiteNests scope.now.depth (suite_of suite.now) }
+        requires fits { SuiteIn (scope_at at.now) (suite_of suite.now) }
+        requires nests { SuiteNests at.now.scope.now.depth (suite_of suite.now) }
         requires low { (self.old.labels ≤ 3) × (self.old.others ≤ 3) }
-        requires depth { scope.now.depth ≤ 1000 }
-        ensures code { OnOk result (PutsHandler self.old self.new scope.now line (Some name.now) suite.now) }
+        requires depth { at.now.scope.now.depth ≤ 1000 }
+        ensures code { OnOk result (PutsForgetting self.old self.new at.now name.now suite.now) }
         ensures widths { (self.new.labels ≡ self.old.labels) × (self.new.others ≡ self.old.others) }
     {
         let handler = self.handler_label(suite);
-        self.compile_opening(suite, scope, handler, line)?;
-        let within = in_finally(self.alloc, scope)?;
-        self.put_forget(name, &within, line)?;
-        self.put_plain(Instruction::EndFinally, 0, &within, 0, line)
+        self.compile_opening(suite, at, handler)?;
+        let within = in_finally(self.alloc, at.scope)?;
+        let inside = Site {
+            scope: &within,
+            line: at.line,
+        };
+        self.put_forget(name, &inside)?;
+        self.put_plain(Instruction::EndFinally, 0, &inside, 0)
     }
 }

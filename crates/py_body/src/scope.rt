@@ -26,6 +26,13 @@ pub struct Scope {
     pub blocks: BlockList,
 }
 
+/// Where an instruction stands: in a scope, and at a line.
+#[derive(Clone, Copy)]
+pub struct Site<'a> {
+    pub scope: &'a Scope,
+    pub line: u32,
+}
+
 /// The note of a unit in a scope with so many values more. Of the values nothing is known.
 pub fn note_of(alloc: Global, scope: &Scope, above: u32) -> Result<Note, NoMemory>
     requires { scope.now.depth + above ≤ 65535 }

@@ -68,11 +68,11 @@ pub compile_form-returns-in-Return-clause-code : goal.compile_form-returns-in-Re
 compile_form-returns-in-Return-clause-code t c = rw c.in-Return.is (form_taken _ _ _ _ _ _ (Return c.in-Return.atom) _ _ _ (λ w. refl) (λ whole at next laid. laid) c.compile_taken-in-Return.ensures.code)
 
 pub compile_form-returns-in-Raise-clause-code : goal.compile_form-returns-in-Raise-clause-code
-compile_form-returns-in-Raise-clause-code t c = rw c.in-Raise.is (form_taken _ _ _ c.args.self.now.labels (scope_of c.args.scope.now) c.args.line (Raise c.in-Raise.atom)
-    _ _ _ (λ w. refl) (λ whole at next laid. subst (λ (n : ℕ). LaidTaken whole (scope_of c.args.scope.now) c.args.line c.in-Raise.atom op.Raise n at next) c.into.ensures.0 laid) c.compile_taken-in-Raise.ensures.code)
+compile_form-returns-in-Raise-clause-code t c = rw c.in-Raise.is (form_taken _ _ _ c.args.self.now.labels (scope_of c.args.at.now.scope.now) c.args.at.now.line (Raise c.in-Raise.atom)
+    _ _ _ (λ w. refl) (λ whole at next laid. subst (λ (n : ℕ). LaidTaken whole (scope_of c.args.at.now.scope.now) c.args.at.now.line c.in-Raise.atom op.Raise n at next) c.into.ensures.0 laid) c.compile_taken-in-Raise.ensures.code)
 
 pub compile_form-returns-in-Pass-clause-code : goal.compile_form-returns-in-Pass-clause-code
-compile_form-returns-in-Pass-clause-code t c = rw c.in-Pass.is (pass_emits c.args.self.now.labels (draft_of c.args.self.now) (scope_of c.args.scope.now) c.args.line)
+compile_form-returns-in-Pass-clause-code t c = rw c.in-Pass.is (pass_emits c.args.self.now.labels (draft_of c.args.self.now) (scope_of c.args.at.now.scope.now) c.args.at.now.line)
 
 -- ---- the statements inside of a statement: the search finds the rest of each answer, but not these sums
 
@@ -143,7 +143,7 @@ compile_form-returns-in-If-clause-code t c = rw c.in-If.is c.compile_branch.ensu
 
 pub compile_branch-size_of_suite-size-requires : goal.compile_branch-size_of_suite-size-requires
 compile_branch-size_of_suite-size-requires t c =
-    suite_most _ c.weights-weights.result c.args.self.now.labels c.args.self.now.others (is_inside (scope_of c.args.scope.now).around) (suite_of c.args.suite.now) c.weights-weights.ensures
+    suite_most _ c.weights-weights.result c.args.self.now.labels c.args.self.now.others (is_inside (scope_of c.args.at.now.scope.now).around) (suite_of c.args.suite.now) c.weights-weights.ensures
     c.requires.low.0 c.requires.low.1
     c.requires.fits (omega (arith, c.requires.few))
 
@@ -152,20 +152,20 @@ compile_branch-returns-clause-code t c =
     let old = draft_of c.args.self.now in
     let suite : Suite = suite_of c.args.suite.now in
     let sizes : c.size_of_suite-size.result ≡ size_suite c.weights-weights.result suite = c.size_of_suite-size.ensures.size in
-    on_ok_weaker c.compile_suite.result (branch_emits (scope_of c.args.scope.now) c.args.line c.args.atom.now suite c.label-behind.result
+    on_ok_weaker c.compile_suite.result (branch_emits (scope_of c.args.at.now.scope.now) c.args.at.now.line c.args.atom.now suite c.label-behind.result
     (c.label-behind.ensures ∙ (λ k. (end_of old + (c.weights-weights.result.index + c.weights-weights.result.jump + sizes k)) % 2 ^ 32)
     ∙ (λ k. (end_of old + size_form (c.weights-weights.ensures k) (If c.args.atom.now suite)) % 2 ^ 32))
     c.in_ok-compile_atom.ensures.code c.in_ok-put_jump.ensures.code) c.compile_suite.ensures.code
 
 pub compile_if_else-size_of_suite-size-requires : goal.compile_if_else-size_of_suite-size-requires
 compile_if_else-size_of_suite-size-requires t c =
-    suite_most _ c.weights-weights.result c.args.self.now.labels c.args.self.now.others (is_inside (scope_of c.args.scope.now).around) (suite_of c.args.suite.now) c.weights-weights.ensures
+    suite_most _ c.weights-weights.result c.args.self.now.labels c.args.self.now.others (is_inside (scope_of c.args.at.now.scope.now).around) (suite_of c.args.suite.now) c.weights-weights.ensures
     c.requires.low.0 c.requires.low.1
     c.requires.fits (omega (arith, c.requires.few))
 
 pub compile_if_else-size_of_suite-size_other-requires : goal.compile_if_else-size_of_suite-size_other-requires
 compile_if_else-size_of_suite-size_other-requires t c =
-    suite_most _ c.weights-weights.result c.args.self.now.labels c.args.self.now.others (is_inside (scope_of c.args.scope.now).around) (suite_of c.args.other.now) c.weights-weights.ensures
+    suite_most _ c.weights-weights.result c.args.self.now.labels c.args.self.now.others (is_inside (scope_of c.args.at.now.scope.now).around) (suite_of c.args.other.now) c.weights-weights.ensures
     c.requires.low.0 c.requires.low.1
     c.requires.fits_other (omega (arith, c.requires.few))
 
@@ -197,7 +197,7 @@ compile_if_else-returns-clause-code t c =
     let w = c.weights-weights.result in
     let sizes : c.size_of_suite-size.result ≡ size_suite w suite = c.size_of_suite-size.ensures.size in
     let others : c.size_of_suite-size_other.result ≡ size_suite w other = c.size_of_suite-size_other.ensures.size in
-    on_ok_weaker c.compile_suite-2.result (if_else_emits (scope_of c.args.scope.now) c.args.line c.args.atom.now suite other c.label-second.result c.label-behind.result
+    on_ok_weaker c.compile_suite-2.result (if_else_emits (scope_of c.args.at.now.scope.now) c.args.at.now.line c.args.atom.now suite other c.label-second.result c.label-behind.result
     (c.label-second.ensures ∙ (λ k. (end_of old + (w.index + w.jump + sizes k + w.jump)) % 2 ^ 32)
     ∙ (λ k. (end_of old + ((c.weights-weights.ensures k).index + (c.weights-weights.ensures k).jump + size_suite (c.weights-weights.ensures k) suite + (c.weights-weights.ensures k).jump)) % 2 ^ 32))
     (c.label-behind.ensures ∙ (λ k. (end_of old + (w.index + w.jump + sizes k + w.jump + others k)) % 2 ^ 32)
@@ -216,16 +216,16 @@ compile_rounds-compile_suite-requires t c =
     let suite : Suite = suite_of c.args.suite.now in
     let few : statements suite ≤ 1048576 = omega (arith, c.requires.few) in
     let smaller : 5 * statements suite + 1 < 5 * statements suite + 2 = omega arith in
-    let fits : SuiteIn (scope_of c.args.inner.now) suite = subst (λ (i : Scope). SuiteIn i suite) (sym c.requires.inner) c.requires.fits in
-    let nests : SuiteNests c.args.inner.now.depth suite = subst (λ (i : Scope). SuiteNests i.depth suite) (sym c.requires.inner) c.requires.nests in
-    let depth : c.args.inner.now.depth ≤ 1000 = subst (λ (i : Scope). i.depth ≤ 1000) (sym c.requires.inner) c.requires.depth in
+    let fits : SuiteIn (scope_of c.args.rounds.now.inner) suite = subst (λ (i : Scope). SuiteIn i suite) (sym c.requires.inner) c.requires.fits in
+    let nests : SuiteNests c.args.rounds.now.inner.depth suite = subst (λ (i : Scope). SuiteNests i.depth suite) (sym c.requires.inner) c.requires.nests in
+    let depth : c.args.rounds.now.inner.depth ≤ 1000 = subst (λ (i : Scope). i.depth ≤ 1000) (sym c.requires.inner) c.requires.depth in
     let labels : c.put_jump.new.self.labels ≤ 3 = subst (λ (w : ℕ). w ≤ 3) (sym (c.in_ok-put_jump.ensures.widths.0 ∙ c.in_ok-compile_atom.ensures.widths.0 ∙ c.in_ok-put_plain.ensures.widths.0)) c.requires.low.0 in
     let others : c.put_jump.new.self.others ≤ 3 = subst (λ (w : ℕ). w ≤ 3) (sym (c.in_ok-put_jump.ensures.widths.1 ∙ c.in_ok-compile_atom.ensures.widths.1 ∙ c.in_ok-put_plain.ensures.widths.1)) c.requires.low.1 in
     search rules
 
 pub compile_rounds-returns-clause-code : goal.compile_rounds-returns-clause-code
 compile_rounds-returns-clause-code t c =
-    on_ok_weaker c.put_plain-2.result (while_emits (scope_of c.args.scope.now) (scope_of c.args.inner.now) c.args.line c.args.atom.now (suite_of c.args.suite.now) (labels_of c.args.labels) c.args.end c.requires.inner
+    on_ok_weaker c.put_plain-2.result (while_emits (scope_of c.args.at.now.scope.now) (scope_of c.args.rounds.now.inner) c.args.at.now.line c.args.atom.now (suite_of c.args.suite.now) (labels_of c.args.rounds.now.labels) c.args.rounds.now.end c.requires.inner
     c.requires.again c.requires.stop
     c.requires.end c.in_ok-put_plain.ensures.code c.in_ok-compile_atom.ensures.code c.in_ok-put_jump.ensures.code c.in_ok-compile_suite.ensures.code c.in_ok-put_jump-2.ensures.code) c.put_plain-2.ensures.code
 
@@ -243,7 +243,7 @@ compile_opening-compile_suite-requires t c =
 
 pub compile_opening-returns-clause-code : goal.compile_opening-returns-clause-code
 compile_opening-returns-clause-code t c =
-    on_ok_weaker c.put_plain-2.result (opening_emits (scope_of c.args.scope.now) (scope_of c.in_ok-before.before) c.args.line (suite_of c.args.suite.now) c.args.handler c.in_ok-before.ensures c.in_ok-put_jump.ensures.code
+    on_ok_weaker c.put_plain-2.result (opening_emits (scope_of c.args.at.now.scope.now) (scope_of c.in_ok-before.before) c.args.at.now.line (suite_of c.args.suite.now) c.args.handler c.in_ok-before.ensures c.in_ok-put_jump.ensures.code
     c.in_ok-compile_suite.ensures.code
     c.in_ok-put_plain.ensures.code) c.put_plain-2.ensures.code
 
@@ -261,17 +261,17 @@ compile_try_finally-compile_suite-requires t c =
 
 pub compile_try_finally-returns-clause-code : goal.compile_try_finally-returns-clause-code
 compile_try_finally-returns-clause-code t c =
-    on_ok_weaker c.put_plain.result (try_finally_emits (scope_of c.args.scope.now) (scope_of c.in_ok-within.within) c.args.line (suite_of c.args.suite.now) (suite_of c.args.last.now) c.handler_label-handler.result
+    on_ok_weaker c.put_plain.result (try_finally_emits (scope_of c.args.at.now.scope.now) (scope_of c.in_ok-within.within) c.args.at.now.line (suite_of c.args.suite.now) (suite_of c.args.last.now) c.handler_label-handler.result
     c.in_ok-within.ensures
     c.handler_label-handler.ensures c.in_ok-compile_opening.ensures.code c.in_ok-compile_suite.ensures.code) c.put_plain.ensures.code
 
 pub compile_handler-returns-in-None-clause-code : goal.compile_handler-returns-in-None-clause-code
 compile_handler-returns-in-None-clause-code t c = rw c.in-None.is (on_ok_weaker c.compile_suite.result
-    (plain_handler_emits c.args.self.now.labels (scope_of c.args.scope.now) c.args.line (suite_of c.args.suite.now)) c.compile_suite.ensures.code)
+    (plain_handler_emits c.args.self.now.labels (scope_of c.args.at.now.scope.now) c.args.at.now.line (suite_of c.args.suite.now)) c.compile_suite.ensures.code)
 
 pub compile_forgetting-returns-clause-code : goal.compile_forgetting-returns-clause-code
 compile_forgetting-returns-clause-code t c =
-    on_ok_weaker c.put_plain.result (forgetting_emits (scope_of c.args.scope.now) (scope_of c.in_ok-within.within) c.args.line c.args.name.now (suite_of c.args.suite.now) c.handler_label-handler.result c.in_ok-within.ensures
+    on_ok_weaker c.put_plain.result (forgetting_emits (scope_of c.args.at.now.scope.now) (scope_of c.in_ok-within.within) c.args.at.now.line c.args.name.now (suite_of c.args.suite.now) c.handler_label-handler.result c.in_ok-within.ensures
     c.handler_label-handler.ensures c.in_ok-compile_opening.ensures.code c.in_ok-put_forget.ensures.code) c.put_plain.ensures.code
 
 -- ---- managers
@@ -279,7 +279,7 @@ compile_forgetting-returns-clause-code t c =
 pub compile_managed-compile_suite-requires : goal.compile_managed-compile_suite-requires
 compile_managed-compile_suite-requires t c =
     let suite : Suite = suite_of c.args.suite.now in
-    let is : scope_of c.in_ok-before.before ≡ before_finally c.args.handler (on (scope_of c.args.scope.now)) = c.in_ok-before.ensures ∙ ap (λ (i : Scope). before_finally c.args.handler i) c.requires.inner in
+    let is : scope_of c.in_ok-before.before ≡ before_finally c.args.managed.now.handler (on (scope_of c.args.at.now.scope.now)) = c.in_ok-before.ensures ∙ ap (λ (i : Scope). before_finally c.args.managed.now.handler i) c.requires.inner in
     let few : statements suite ≤ 1048576 = omega (arith, c.requires.few) in
     let fits : SuiteIn (scope_of c.in_ok-before.before) suite = subst (λ (i : Scope). SuiteIn i suite) (sym is) c.requires.fits in
     let nests : SuiteNests c.in_ok-before.before.depth suite = subst (λ (i : Scope). SuiteNests i.depth suite) (sym is) c.requires.nests in
@@ -290,13 +290,13 @@ compile_managed-compile_suite-requires t c =
 
 pub compile_managed-returns-clause-code : goal.compile_managed-returns-clause-code
 compile_managed-returns-clause-code t c =
-    on_ok_weaker c.put_plain-2.result (managed_emits (scope_of c.args.scope.now) (scope_of c.in_ok-before.before) c.args.line c.args.atom.now c.args.target.now (suite_of c.args.suite.now) c.args.handler
-    (c.in_ok-before.ensures ∙ ap (λ (i : Scope). before_finally c.args.handler i) c.requires.inner) c.in_ok-compile_atom.ensures.code c.in_ok-put_jump.ensures.code c.in_ok-put_target.ensures.code
+    on_ok_weaker c.put_plain-2.result (managed_emits (scope_of c.args.at.now.scope.now) (scope_of c.in_ok-before.before) c.args.at.now.line c.args.managed.now.atom.now c.args.managed.now.target.now (suite_of c.args.suite.now) c.args.managed.now.handler
+    (c.in_ok-before.ensures ∙ ap (λ (i : Scope). before_finally c.args.managed.now.handler i) c.requires.inner) c.in_ok-compile_atom.ensures.code c.in_ok-put_jump.ensures.code c.in_ok-put_target.ensures.code
     c.in_ok-compile_suite.ensures.code c.in_ok-put_plain.ensures.code) c.put_plain-2.ensures.code
 
 pub compile_with-returns-clause-code : goal.compile_with-returns-clause-code
 compile_with-returns-clause-code t c =
-    on_ok_weaker c.put_plain-2.result (with_emits (scope_of c.args.scope.now) (scope_of c.in_ok-within.within) c.args.line c.args.atom.now c.args.target.now (suite_of c.args.suite.now) c.exit_label-handler.result
+    on_ok_weaker c.put_plain-2.result (with_emits (scope_of c.args.at.now.scope.now) (scope_of c.in_ok-within.within) c.args.at.now.line c.args.atom.now c.args.target.now (suite_of c.args.suite.now) c.exit_label-handler.result
     (c.in_ok-within.ensures ∙ ap (λ (i : Scope). in_finally i) c.in_ok-inner.ensures) c.exit_label-handler.ensures c.in_ok-compile_managed.ensures.code c.in_ok-put_plain.ensures.code) c.put_plain-2.ensures.code
 
 -- ---- tries with clauses
@@ -313,18 +313,18 @@ compile_tried-compile_suite-requires t c =
 
 pub compile_tried-returns-clause-code : goal.compile_tried-returns-clause-code
 compile_tried-returns-clause-code t c =
-    on_ok_weaker c.put_jump-2.result (tried_emits (scope_of c.args.scope.now) (scope_of c.in_ok-inner.inner) c.args.line (suite_of c.args.suite.now) c.args.handler c.args.end c.in_ok-inner.ensures c.in_ok-put_jump.ensures.code
+    on_ok_weaker c.put_jump-2.result (tried_emits (scope_of c.args.at.now.scope.now) (scope_of c.in_ok-inner.inner) c.args.at.now.line (suite_of c.args.suite.now) c.args.handler c.args.end c.in_ok-inner.ensures c.in_ok-put_jump.ensures.code
     c.in_ok-compile_suite.ensures.code c.in_ok-put_plain.ensures.code) c.put_jump-2.ensures.code
 
 pub compile_try_except-size_of_suite-size-requires : goal.compile_try_except-size_of_suite-size-requires
 compile_try_except-size_of_suite-size-requires t c =
-    suite_most _ c.weights-weights.result c.args.self.now.labels c.args.self.now.others (is_inside (scope_of c.args.scope.now).around) (suite_of c.args.suite.now) c.weights-weights.ensures
+    suite_most _ c.weights-weights.result c.args.self.now.labels c.args.self.now.others (is_inside (scope_of c.args.at.now.scope.now).around) (suite_of c.args.suite.now) c.weights-weights.ensures
     c.requires.low.0 c.requires.low.1
     c.requires.fits (omega (arith, c.requires.few))
 
 pub compile_try_except-size_of_clauses-size_clauses-requires : goal.compile_try_except-size_of_clauses-size_clauses-requires
 compile_try_except-size_of_clauses-size_clauses-requires t c =
-    clauses_most _ c.weights-weights.result c.args.self.now.labels c.args.self.now.others (is_inside (scope_of c.args.scope.now).around) (clauses_of c.args.clauses.now)
+    clauses_most _ c.weights-weights.result c.args.self.now.labels c.args.self.now.others (is_inside (scope_of c.args.at.now.scope.now).around) (clauses_of c.args.clauses.now)
     c.weights-weights.ensures c.requires.low.0
     c.requires.low.1 c.requires.fits_clauses (omega (arith, c.requires.few))
 
@@ -336,7 +336,7 @@ compile_try_except-returns-clause-code t c =
     let w = c.weights-weights.result in
     let sizes : c.size_of_suite-size.result ≡ size_suite w suite = c.size_of_suite-size.ensures.size in
     let others : c.size_of_clauses-size_clauses.result ≡ size_clauses w clauses = c.size_of_clauses-size_clauses.ensures.size in
-    on_ok_weaker c.put_raise.result (try_except_emits (scope_of c.args.scope.now) (scope_of c.in_ok-within.within) c.args.line suite clauses c.label-handler.result c.label-end.result c.in_ok-within.ensures
+    on_ok_weaker c.put_raise.result (try_except_emits (scope_of c.args.at.now.scope.now) (scope_of c.in_ok-within.within) c.args.at.now.line suite clauses c.label-handler.result c.label-end.result c.in_ok-within.ensures
     (c.label-handler.ensures ∙ (λ k. (end_of old + (w.jump + sizes k + w.plain + w.jump)) % 2 ^ 32) ∙ (λ k. (end_of old + size_tried (c.weights-weights.ensures k) suite) % 2 ^ 32))
     (c.label-end.ensures ∙ (λ k. (end_of old + (w.jump + sizes k + w.plain + w.jump + others k + w.plain)) % 2 ^ 32)
     ∙ (λ k. (end_of old + size_form (c.weights-weights.ensures k) (TryExcept suite clauses)) % 2 ^ 32))

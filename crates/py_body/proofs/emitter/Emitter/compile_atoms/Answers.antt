@@ -6,7 +6,7 @@ use Rattle.py_body.proofs.ExpressionLemmas.{atoms_more, atoms_none}
 use Rattle.py_body.proofs.emitter.Emitter.compile_atoms.Goals as goal
 
 pub loop-atom-init : goal.loop-atom-init
-loop-atom-init c = record { code = atoms_none (draft_of c.args.self.now) (over 1 (scope_of c.args.scope.now)) c.args.line; labels = refl; others = refl; above = refl }
+loop-atom-init c = record { code = atoms_none (draft_of c.args.self.now) (over 1 (scope_of c.args.at.now.scope.now)) c.args.at.now.line; labels = refl; others = refl; above = refl }
 
 pub loop-atom-preserved : goal.loop-atom-preserved
 loop-atom-preserved c =
@@ -15,7 +15,7 @@ loop-atom-preserved c =
     let here : c.atom-item.result ≡ get_or c.args.atoms.now c.loop-atom.atom-index c.atom-item.result =
     c.atom-item.is ∙ ap (λ (l : List Atom). get_or l c.loop-atom.atom-index c.atom-item.result) items in
     record {
-      code = atoms_more (draft_of c.args.self.now) (draft_of c.loop-atom.self) (draft_of c.compile_atom.new.self) (scope_of c.args.scope.now) c.args.line c.args.atoms.now
+      code = atoms_more (draft_of c.args.self.now) (draft_of c.loop-atom.self) (draft_of c.compile_atom.new.self) (scope_of c.args.at.now.scope.now) c.args.at.now.line c.args.atoms.now
           c.loop-atom.atom-index c.loop-atom.above
           c.atom-item.result c.loop-atom.invariant.above low here c.loop-atom.invariant.code c.in_ok-compile_atom.ensures.code;
       labels = c.in_ok-compile_atom.ensures.widths.0 ∙ c.loop-atom.invariant.labels;

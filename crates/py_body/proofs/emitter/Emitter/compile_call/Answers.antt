@@ -8,7 +8,7 @@ use Rattle.py_body.proofs.emitter.Emitter.compile_call.Goals as goal
 
 pub returns-clause-code : goal.returns-clause-code
 returns-clause-code c =
-    let scope : Scope = scope_of c.args.scope.now in
-    call_emits scope c.args.line c.args.callee.now c.args.atoms.now c.in_ok-compile_atom.ensures.code c.in_ok-compile_atoms.ensures.code
-    (subst (λ (n : ℕ). EmitsPlain (draft_of c.compile_atoms.new.self) (draft_of c.put_plain.new.self) (over (n + 1) scope) c.args.line CallFunctionPositional n) c.len-count.ensures
+    let scope : Scope = scope_of c.args.at.now.scope.now in
+    call_emits scope c.args.at.now.line c.args.callee.now c.args.atoms.now c.in_ok-compile_atom.ensures.code c.in_ok-compile_atoms.ensures.code
+    (subst (λ (n : ℕ). EmitsPlain (draft_of c.compile_atoms.new.self) (draft_of c.put_plain.new.self) (over (n + 1) scope) c.args.at.now.line CallFunctionPositional n) c.len-count.ensures
     c.in_ok-put_plain.ensures.code)

@@ -11,10 +11,10 @@ use Rattle.py_body.proofs.emitter.Emitter.put_const.Goals as goal
 pub returns-clause-code : goal.returns-clause-code
 returns-clause-code c =
     let old : Draft = draft_of c.args.self.now in
-    let scope : Scope = over c.args.above (scope_of c.args.scope.now) in
+    let scope : Scope = over c.args.above (scope_of c.args.at.now.scope.now) in
     let pushed : literals_of c.push.new.self ≡ old.parts.constants ++ c.args.literal ∷ [] = c.in_ok-push.ensures.added in
     on_ok_weaker c.put.result
-    (λ is. const_emits old (draft_of c.put.new.self) scope c.args.line c.args.op c.args.literal c.index_of-place.result c.requires.plain c.requires.no_code c.requires.low
-    (over_shallow c.args.above (scope_of c.args.scope.now) c.requires.depth) (c.index_of-place.ensures ∙ ap (λ (n : ℕ). n % 2 ^ 32) c.len.ensures)
-    (is ∙ λ k. put old.others c.args.op c.index_of-place.result scope c.args.line (record old { parts = record old.parts { constants = pushed k } })))
+    (λ is. const_emits old (draft_of c.put.new.self) scope c.args.at.now.line c.args.op c.args.literal c.index_of-arg.result c.requires.plain c.requires.no_code c.requires.low
+    (over_shallow c.args.above (scope_of c.args.at.now.scope.now) c.requires.depth) (c.index_of-arg.ensures ∙ ap (λ (n : ℕ). n % 2 ^ 32) c.len.ensures)
+    (is ∙ λ k. put old.others c.args.op c.index_of-arg.result scope c.args.at.now.line (record old { parts = record old.parts { constants = pushed k } })))
     c.put.ensures.put

@@ -7,8 +7,8 @@ use Rattle.py_body.proofs.emitter.Emitter.put_jump.Goals as goal
 
 pub returns-clause-code : goal.returns-clause-code
 returns-clause-code c =
-    let scope : Scope = over c.args.above (scope_of c.args.scope.now) in
+    let scope : Scope = over c.args.above (scope_of c.args.at.now.scope.now) in
     on_ok_weaker c.put.result
-    (jump_emits (draft_of c.args.self.now) (draft_of c.put.new.self) scope c.args.line c.args.op c.args.label c.requires.plain c.requires.low
-    (over_shallow c.args.above (scope_of c.args.scope.now) c.requires.depth))
+    (jump_emits (draft_of c.args.self.now) (draft_of c.put.new.self) scope c.args.at.now.line c.args.op c.args.label c.requires.plain c.requires.low
+    (over_shallow c.args.above (scope_of c.args.at.now.scope.now) c.requires.depth))
     c.put.ensures.put

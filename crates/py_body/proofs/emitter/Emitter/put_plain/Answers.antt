@@ -7,8 +7,8 @@ use Rattle.py_body.proofs.emitter.Emitter.put_plain.Goals as goal
 
 pub returns-clause-code : goal.returns-clause-code
 returns-clause-code c =
-    let scope : Scope = over c.args.above (scope_of c.args.scope.now) in
+    let scope : Scope = over c.args.above (scope_of c.args.at.now.scope.now) in
     on_ok_weaker c.put.result
-    (plain_emits (draft_of c.args.self.now) (draft_of c.put.new.self) scope c.args.line c.args.op c.args.arg c.requires.plain c.requires.small
-    (over_shallow c.args.above (scope_of c.args.scope.now) c.requires.depth))
+    (plain_emits (draft_of c.args.self.now) (draft_of c.put.new.self) scope c.args.at.now.line c.args.op c.args.arg c.requires.plain c.requires.small
+    (over_shallow c.args.above (scope_of c.args.at.now.scope.now) c.requires.depth))
     c.put.ensures.put
