@@ -12,12 +12,12 @@ ghost use Rattle.frame_tests.specs.Drives.{IsDriven, keep_rules};
 
 use crate::codes::checked;
 use crate::inputs::{exception, input};
-use crate::objects::{classes, first_store, object};
+use crate::objects::{first_store, object};
 use crate::tables::{Case, Row, Said};
 use py_check::CheckedCode;
 use py_code::{Names, NoMemory, PyText, utf8_of};
 use py_exceptions::ExceptionStack;
-use py_frame::{Frame, FrameStep, OwnStack, Scene, positional};
+use py_frame::{Frame, FrameConstructor, FrameStep, OwnStack, Scene, positional};
 use py_objects::{FrameRef, ObjList, PyBaseExceptionRef, PyObjectRef, Request, Scope, Store};
 use std::alloc::Global;
 use std::mem;
@@ -191,7 +191,13 @@ fn frame_of(
     let closure = ObjList::new(alloc);
     let scope = Scope::new(None, object(0));
     let entry = FrameRef { number: 7 };
-    let mut frame = Frame::new(alloc, store, code, 0, entry, scope, closure, stack)?;
+    let constructor = FrameConstructor {
+        number: 0,
+        entry,
+        scope,
+        closure,
+    };
+    let mut frame = Frame::new(alloc, store, code, constructor, stack)?;
     frame.fill(store, code, locals);
     Ok(frame)
 }
@@ -257,14 +263,8 @@ fn events_among(
     requires sound { IsSound names.now code.now }
     requires objects { store.old.made ≡ first_objects }
 {
-    let zoo = classes(alloc)?;
     let mut frame = frame_of(alloc, store, code)?;
-    let scene = Scene {
-        alloc,
-        code,
-        names,
-        zoo: &zoo,
-    };
+    let scene = Scene { alloc, code, names };
     drive(&scene, store, &mut frame, words)
 }
 

@@ -8,7 +8,7 @@ ghost use Rattle.frame_tests.specs.FirstObjects.{exception_body, first_objects, 
 use crate::inputs::exception as exception_at;
 use crate::tables::{FIRST, First};
 use py_code::{NoMemory, text_of};
-use py_exceptions::{BaseException, ExceptionZoo};
+use py_exceptions::BaseException;
 use py_objects::{
     AttrMap, Boxed, ClassBody, ExceptionBody, FrameRef, ManagerBody, ObjList, Payload, PyObjectRef,
     PyTracebackRef, PyTypeRef, Store, TracebackBody,
@@ -100,11 +100,4 @@ fn add_first(alloc: Global, store: &mut Store) -> Result<(), NoMemory>
     let traceback = PyTracebackRef { number: 9 };
     exception_at(6).set_traceback(store, Some(traceback));
     Ok(())
-}
-
-/// The built-in classes, in a store of their own: no frame reads them yet.
-pub fn classes(alloc: Global) -> Result<ExceptionZoo, NoMemory> {
-    let mut store = Store::new(alloc)?;
-    let mut declarations = AttrMap::new(alloc);
-    ExceptionZoo::extend(&mut store, &mut declarations)
 }

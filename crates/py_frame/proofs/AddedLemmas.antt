@@ -1,21 +1,25 @@
 -- Objects of constants that come behind others: what is there stays, and what else there is was there before.
 use Rattle.std.proofs.Common.{◌≡◌, ◌∙◌, ◌++◌, ◌<◌, ℕ, List, [], ◌∷◌, Some, ◌⊎◌, inl, inr, refl, sym, ap, subst, length, append-nil, append_assoc, arith}
-use Rattle.std.specs.Prelude.{None, slice_get}
+use Rattle.std.specs.Prelude.{None, false, slice_get}
 use Rattle.py_code.specs.declared.literal.Literal.{Literal, None as NoneLiteral, Bool as BoolLiteral, Int as IntLiteral, Str as StrLiteral, Tuple' as TupleLiteral, Code as CodeLiteral, Builtin as BuiltinLiteral}
 use Rattle.py_objects.specs.declared.payload.Payload.{Payload}
 use Rattle.py_objects.specs.declared.payload.Payload.TheVariants as payload
 use Rattle.py_objects.specs.declared.payload.ExceptionBody.{ExceptionBody}
 use Rattle.py_objects.specs.declared.payload.TracebackBody.{TracebackBody}
 use Rattle.py_objects.specs.Objects.{Obj, HasPayload, IsTraceback, AllBelow, AllFit, IsMade, declares, payload_numbers}
-use Rattle.py_objects.specs.Growth.{Grows, GrowsPlainly}
+use Rattle.py_objects.specs.FrameEntries.{frames_in, is_frame}
+use Rattle.py_objects.specs.Growth.{Grows, GrowsPlainly, IsGrown}
+use Rattle.py_objects.specs.Edits.{Kept}
 use Rattle.py_rows.specs.Rows.{payload_of}
+use Rattle.py_objects.proofs.FrameEntriesLemmas.{frames_same}
 use Rattle.py_objects.proofs.GrowthLemmas.{below_more, length_grown, made_grown, one_entry, slice_get_split}
 use Rattle.py_frame.specs.Added.{AddsConstants, ClassesAreThere}
 
--- what is no exception and no traceback, declares nothing, and names nothing
+-- what is no exception, no traceback and no frame, declares nothing, and names nothing
 pub record IsBare (p : Payload) : Type 1 where
   pub declares_none : declares p ≡ None
   pub names_none : payload_numbers p ≡ []
+  pub no_frame : is_frame p ≡ false
   pub made : (objects : List Payload) → IsMade objects p
   pub no_exception : (e : ExceptionBody) → p ≡ payload.Exception e → ⊥
   pub no_traceback : (t : TracebackBody) → p ≡ payload.Traceback t → ⊥
@@ -23,17 +27,17 @@ pub record IsBare (p : Payload) : Type 1 where
 -- what a constant is
 pub constant_bare : (l : Literal) (p : Payload) → payload_of l ≡ Some p → IsBare p
 constant_bare NoneLiteral p is =
-    subst IsBare (let same : payload.None ≡ p = cc in same) (record { declares_none = refl; names_none = refl; made = λ objects. tt; no_exception = λ e same. cc; no_traceback = λ t same. cc })
+    subst IsBare (let same : payload.None ≡ p = cc in same) (record { declares_none = refl; names_none = refl; no_frame = refl; made = λ objects. tt; no_exception = λ e same. cc; no_traceback = λ t same. cc })
 constant_bare (BoolLiteral b) p is =
-    subst IsBare (let same : payload.Bool b ≡ p = cc in same) (record { declares_none = refl; names_none = refl; made = λ objects. tt; no_exception = λ e same. cc; no_traceback = λ t same. cc })
+    subst IsBare (let same : payload.Bool b ≡ p = cc in same) (record { declares_none = refl; names_none = refl; no_frame = refl; made = λ objects. tt; no_exception = λ e same. cc; no_traceback = λ t same. cc })
 constant_bare (IntLiteral n) p is =
-    subst IsBare (let same : payload.Int n ≡ p = cc in same) (record { declares_none = refl; names_none = refl; made = λ objects. tt; no_exception = λ e same. cc; no_traceback = λ t same. cc })
+    subst IsBare (let same : payload.Int n ≡ p = cc in same) (record { declares_none = refl; names_none = refl; no_frame = refl; made = λ objects. tt; no_exception = λ e same. cc; no_traceback = λ t same. cc })
 constant_bare (StrLiteral s) p is =
-    subst IsBare (let same : payload.Str s ≡ p = cc in same) (record { declares_none = refl; names_none = refl; made = λ objects. tt; no_exception = λ e same. cc; no_traceback = λ t same. cc })
+    subst IsBare (let same : payload.Str s ≡ p = cc in same) (record { declares_none = refl; names_none = refl; no_frame = refl; made = λ objects. tt; no_exception = λ e same. cc; no_traceback = λ t same. cc })
 constant_bare (TupleLiteral shape items) p is = cc
 constant_bare (CodeLiteral c) p is = cc
 constant_bare (BuiltinLiteral f) p is =
-    subst IsBare (let same : payload.Builtin f ≡ p = cc in same) (record { declares_none = refl; names_none = refl; made = λ objects. tt; no_exception = λ e same. cc; no_traceback = λ t same. cc })
+    subst IsBare (let same : payload.Builtin f ≡ p = cc in same) (record { declares_none = refl; names_none = refl; no_frame = refl; made = λ objects. tt; no_exception = λ e same. cc; no_traceback = λ t same. cc })
 
 pub constant_below : (n : ℕ) (l : Literal) (p : Payload) → payload_of l ≡ Some p → AllBelow n (payload_numbers p)
 constant_below n l p is = subst (AllBelow n) (sym (constant_bare l p is).names_none) tt
@@ -74,6 +78,10 @@ module _ (old new : List Payload) (adds : AddsConstants old new) where
       fits fit i p (inl front) = let (below, made) = fit i p front in (below_more _ _ _ (length_grown old new (adds_grow old new adds)) below, made_grown old new p (adds_grow old new adds) made)
       fits fit i p (inr bare) = (subst (AllBelow (length new)) (sym bare.names_none) tt, bare.made new)
 
+  -- no frame came
+  adds_no_frame : frames_in new ≡ frames_in old
+  adds_no_frame = ap frames_in adds.is ∙ frames_same old adds.more (λ i p here. let (l, is) = adds.constants i p here in (constant_bare l p is).no_frame)
+
   -- exceptions and tracebacks were there
   pub exception_before : (v : Obj) (e : ExceptionBody) → HasPayload new v (payload.Exception e) → HasPayload old v (payload.Exception e)
   exception_before v e has = by (old_or_bare v.number (payload.Exception e) has)
@@ -92,6 +100,10 @@ module _ (old new : List Payload) (adds : AddsConstants old new) where
   -- so classes of exceptions stay there
   pub classes_stay : ClassesAreThere old → ClassesAreThere new
   classes_stay there v e has = let below : e.class.number < length old = there v e (exception_before v e has) in omega (arith, below, length_grown old new (adds_grow old new adds))
+
+-- a store to which objects of constants came grew
+pub constants_grown : (old new : Kept) → AddsConstants old.made new.made → new ≡ record old { made = new.made } → IsGrown old new
+constants_grown old new adds others = record { objects = adds_plainly old.made new.made adds; frames = adds_no_frame old.made new.made adds; others = others }
 
 -- where each entry fits, they are there
 pub fit_classes : (objects : List Payload) → AllFit objects → ClassesAreThere objects

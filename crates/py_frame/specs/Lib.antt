@@ -10,7 +10,7 @@ pub mod Added
 pub mod UnitSteps
 -- what units do, by their arguments
 pub mod UnitRows
--- what is said of a core and its stack
+-- what is said of frames whose units run
 pub mod Cores
 -- which traceback an exit is told
 pub mod Exits

@@ -14,6 +14,7 @@ use Rattle.py_rows.specs.RunOfRows.{Runs}
 use Rattle.py_rows.specs.Standing.{IsOf, IsStanding}
 use Rattle.py_rows.specs.Fitting.{FitsAt}
 use Rattle.py_rows.specs.Sound.{IsSound}
+use Rattle.py_exceptions.specs.Slots.{Slots, top_of}
 use Rattle.py_frame.specs.declared.input.Input.{Input}
 use Rattle.py_frame.specs.declared.input.FrameStep.{FrameStep}
 use Rattle.py_frame.specs.Frames.{Framed, NamedCode, setting, setting_of, handed}
@@ -73,10 +74,10 @@ MayTake objects scene f i = Expects objects (setting scene f) f.state.wants i
 abbrev pub told_by : Framed → FrameStep → List Own
 told_by g step = events (told (g.state.last - 1) step)
 
--- the run so far goes on, by what was heard, whatever number that event has, and the event that was told
-abbrev pub GoesOn : List Payload → NamedCode → Option PyBaseExceptionRef → Framed → Input → FrameStep → Framed → Type 0
-GoesOn objects scene slot f i step g =
-    (k : ℕ) → IfTold step (Extends objects (setting scene f) (handed slot f.state) (events (heard k i) ++ told_by g step) g.state)
+-- the run so far goes on from the top slot, by what was heard, whatever number that event has, and the event that was told
+abbrev pub GoesOn : List Payload → NamedCode → Slots → Framed → Input → FrameStep → Framed → Type 0
+GoesOn objects scene slots f i step g =
+    (k : ℕ) → IfTold step (Extends objects (setting scene f) (handed (top_of slots) f.state) (events (heard k i) ++ told_by g step) g.state)
 
 -- a frame took an input, whatever number its event has, and told an event, or memory ran out and it has ended
 pub record IsStepped (objects : List Payload) (names : List (List ℕ)) (code : Annotated) (slot : Option PyBaseExceptionRef) (i : Input) (f : Framed) (step : FrameStep) (g : Framed) : Type 0 where

@@ -5,45 +5,45 @@ ghost use Rattle.py_rows.specs.Rows.{end_finally, goes_on, opens, setup_loop};
 ghost use Rattle.py_frame.specs.Cores.{CanDo, Does};
 ghost use Rattle.py_frame.specs.UnitRows.{leaves_block, leaves_handler, opens_handler};
 
-use crate::frame_core::FrameCore;
+use crate::executing::ExecutingFrame;
 use crate::input::FrameStep;
 use crate::stacks::lower;
 use crate::unit_step::UnitStep;
 use py_rows::{Block, BlockType, UnwindReason};
 use py_stack::ValueStack;
 
-impl FrameCore {
+impl<S: ValueStack> ExecutingFrame<S> {
     /// Opens a block.
-    pub(crate) fn opens<S: ValueStack>(&mut self, stack: &mut S, typ: BlockType) -> UnitStep
-        requires next { self.old.state.at + 1 < 2 ^ 32 }
-        requires safe { CanDo S.seen (opens typ) self.old stack.old }
-        ensures { Does S.seen (opens typ) self.old stack.old result self.new stack.new }
+    pub(crate) fn opens(&mut self, typ: BlockType) -> UnitStep
+        requires next { self.old.core.state.at + 1 < 2 ^ 32 }
+        requires safe { CanDo S.seen (opens typ) self.old }
+        ensures { Does S.seen (opens typ) self.old self.new result }
     {
-        let level = stack.len();
-        self.goes_on();
-        self.push_block(Block { typ, level });
+        let level = self.stack.len();
+        self.core.goes_on();
+        self.core.push_block(Block { typ, level });
         UnitStep::Goes
     }
 
     /// Opens the block of a handler of a finally that control came to in order.
-    pub(crate) fn enters_finally<S: ValueStack>(&mut self, stack: &mut S) -> UnitStep
-        requires next { self.old.state.at + 1 < 2 ^ 32 }
-        requires safe { CanDo S.seen opens_handler self.old stack.old }
-        ensures { Does S.seen opens_handler self.old stack.old result self.new stack.new }
+    pub(crate) fn enters_finally(&mut self) -> UnitStep
+        requires next { self.old.core.state.at + 1 < 2 ^ 32 }
+        requires safe { CanDo S.seen opens_handler self.old }
+        ensures { Does S.seen opens_handler self.old self.new result }
     {
-        let kept = self.slot();
-        self.opens(stack, BlockType::FinallyHandler { reason: None, kept })
+        let kept = self.core.slot();
+        self.opens(BlockType::FinallyHandler { reason: None, kept })
     }
 
     /// Opens the block of a loop, which is its first round.
-    pub(crate) fn setup_loop<S: ValueStack>(&mut self, stack: &mut S) -> UnitStep
-        requires next { self.old.state.at + 1 < 2 ^ 32 }
-        requires safe { CanDo S.seen setup_loop self.old stack.old }
-        ensures { Does S.seen setup_loop self.old stack.old result self.new stack.new }
+    pub(crate) fn setup_loop(&mut self) -> UnitStep
+        requires next { self.old.core.state.at + 1 < 2 ^ 32 }
+        requires safe { CanDo S.seen setup_loop self.old }
+        ensures { Does S.seen setup_loop self.old self.new result }
     {
-        let level = stack.len();
-        self.goes_on();
-        self.push_block(Block {
+        let level = self.stack.len();
+        self.core.goes_on();
+        self.core.push_block(Block {
             typ: BlockType::Loop,
             level,
         });
@@ -51,18 +51,18 @@ impl FrameCore {
     }
 
     /// Leaves the innermost block in order.
-    pub(crate) fn leave_block<S: ValueStack>(&mut self, stack: &mut S) -> UnitStep
-        requires next { self.old.state.at + 1 < 2 ^ 32 }
-        requires safe { CanDo S.seen leaves_block self.old stack.old }
-        ensures { Does S.seen leaves_block self.old stack.old result self.new stack.new }
+    pub(crate) fn leave_block(&mut self) -> UnitStep
+        requires next { self.old.core.state.at + 1 < 2 ^ 32 }
+        requires safe { CanDo S.seen leaves_block self.old }
+        ensures { Does S.seen leaves_block self.old self.new result }
     {
-        let Some(block) = self.pop_block() else {
+        let Some(block) = self.core.pop_block() else {
             unreachable!();
         };
         match block.typ {
             BlockType::Loop | BlockType::TryExcept { .. } | BlockType::Finally { .. } => {
-                lower(stack, block.level);
-                self.goes_on();
+                lower(&mut self.stack, block.level);
+                self.core.goes_on();
                 UnitStep::Goes
             }
             BlockType::FinallyHandler { .. } => unreachable!(),
@@ -71,19 +71,19 @@ impl FrameCore {
     }
 
     /// Leaves the handler of an exception.
-    pub(crate) fn pop_exception<S: ValueStack>(&mut self, stack: &mut S) -> UnitStep
-        requires next { self.old.state.at + 1 < 2 ^ 32 }
-        requires safe { CanDo S.seen leaves_handler self.old stack.old }
-        ensures { Does S.seen leaves_handler self.old stack.old result self.new stack.new }
+    pub(crate) fn pop_exception(&mut self) -> UnitStep
+        requires next { self.old.core.state.at + 1 < 2 ^ 32 }
+        requires safe { CanDo S.seen leaves_handler self.old }
+        ensures { Does S.seen leaves_handler self.old self.new result }
     {
-        let Some(block) = self.pop_block() else {
+        let Some(block) = self.core.pop_block() else {
             unreachable!();
         };
         match block.typ {
             BlockType::ExceptHandler { exception: _, kept } => {
-                lower(stack, block.level);
-                self.handles(kept);
-                self.goes_on();
+                lower(&mut self.stack, block.level);
+                self.core.handles(kept);
+                self.core.goes_on();
                 UnitStep::Goes
             }
             _ => unreachable!(),
@@ -91,38 +91,34 @@ impl FrameCore {
     }
 
     /// Goes on with the reason of a finally, if any.
-    fn goes_on_with<S: ValueStack>(
-        &mut self,
-        stack: &mut S,
-        reason: Option<UnwindReason>,
-    ) -> UnitStep
-        requires next { self.old.state.at + 1 < 2 ^ 32 }
-        requires safe { CanDo S.seen (goes_on reason) self.old stack.old }
-        ensures { Does S.seen (goes_on reason) self.old stack.old result self.new stack.new }
+    fn goes_on_with(&mut self, reason: Option<UnwindReason>) -> UnitStep
+        requires next { self.old.core.state.at + 1 < 2 ^ 32 }
+        requires safe { CanDo S.seen (goes_on reason) self.old }
+        ensures { Does S.seen (goes_on reason) self.old self.new result }
     {
         match reason {
             None => {
-                self.goes_on();
+                self.core.goes_on();
                 UnitStep::Goes
             }
-            Some(reason) => self.unwind(stack, reason),
+            Some(reason) => self.unwind(reason),
         }
     }
 
     /// Leaves the handler of a finally, and goes on with its reason.
-    pub(crate) fn end_finally<S: ValueStack>(&mut self, stack: &mut S) -> UnitStep
-        requires next { self.old.state.at + 1 < 2 ^ 32 }
-        requires safe { CanDo S.seen end_finally self.old stack.old }
-        ensures { Does S.seen end_finally self.old stack.old result self.new stack.new }
+    pub(crate) fn end_finally(&mut self) -> UnitStep
+        requires next { self.old.core.state.at + 1 < 2 ^ 32 }
+        requires safe { CanDo S.seen end_finally self.old }
+        ensures { Does S.seen end_finally self.old self.new result }
     {
-        let Some(block) = self.pop_block() else {
+        let Some(block) = self.core.pop_block() else {
             unreachable!();
         };
         match block.typ {
             BlockType::FinallyHandler { reason, kept } => {
-                lower(stack, block.level);
-                self.handles(kept);
-                self.goes_on_with(stack, reason)
+                lower(&mut self.stack, block.level);
+                self.core.handles(kept);
+                self.goes_on_with(reason)
             }
             _ => unreachable!(),
         }

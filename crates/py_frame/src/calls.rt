@@ -5,10 +5,11 @@ ghost use Rattle.py_objects.specs.declared.payload.Payload.{Payload as PayloadOf
 ghost use Rattle.py_objects.specs.Objects.{HasPayload};
 ghost use Rattle.py_objects.specs.Callees.{builtin_request, close_request, own_request, send_request, throw_request};
 ghost use Rattle.py_stack.specs.Stacks.{places};
-ghost use Rattle.py_frame.specs.Cores.{CanMove, IsUnchanged, MayAsk, MayDo};
+ghost use Rattle.py_frame.specs.Cores.{CanAskBy, CanMove, IsUnchanged, MayAsk, MayDo};
 ghost use Rattle.py_frame.specs.UnitRows.{calls};
 ghost use Rattle.py_frame.specs.UnitSteps.{IsCall};
 
+use crate::executing::ExecutingFrame;
 use crate::frame_core::FrameCore;
 use crate::objects::builtin;
 use crate::stacks::pop_many;
@@ -17,22 +18,23 @@ use py_code::{BuiltinFn, NoMemory};
 use py_objects::{Keywords, ObjList, PyObjectRef, Request, Store};
 use py_stack::ValueStack;
 
-impl FrameCore {
+impl<S: ValueStack> ExecutingFrame<S> {
     /// Calls what lies under the top `count` values, with these in order.
-    pub(crate) fn call_function<S: ValueStack>(
+    pub(crate) fn call_function(
         &mut self,
-        stack: &mut S,
         store: &Store,
         count: usize,
     ) -> Result<UnitStep, NoMemory>
-        requires safe { CanMove S.seen store.now.made (calls count) self.old stack.old }
-        ensures row { IfOk result (λ step. MayDo S.seen store.now.made (calls count) self.old stack.old step self.new stack.new) }
-        ensures err { OnErr result (IsUnchanged S.seen self.old stack.old self.new stack.new) }
+        requires safe { CanMove S.seen store.now (calls count) self.old }
+        ensures row { IfOk result (MayDo S.seen store.now (calls count) self.old self.new) }
+        ensures err { OnErr result (IsUnchanged S.seen self.old self.new) }
     {
-        let request = self.call_request(stack, store, count)?;
-        Ok(self.asks(stack, request))
+        let request = self.core.call_request(&mut self.stack, store, count)?;
+        Ok(self.asks(request))
     }
+}
 
+impl FrameCore {
     /// Takes a callee and its arguments off, and hands over what the call asks.
     fn call_request<S: ValueStack>(
         &self,
@@ -40,8 +42,8 @@ impl FrameCore {
         store: &Store,
         count: usize,
     ) -> Result<Request, NoMemory>
-        requires safe { CanMove S.seen store.now.made (calls count) self.now stack.old }
-        ensures request { IfOk result (λ request. MayAsk S.seen store.now.made (calls count) self.now stack.old request stack.new) }
+        requires safe { CanAskBy S.seen store.now (calls count) self.now stack.old }
+        ensures request { IfOk result (MayAsk S.seen store.now (calls count) self.now stack.old stack.new) }
         ensures places { OnOk result (places (S.seen stack.new) ≡ places (S.seen stack.old)) }
         ensures err { OnErr result (S.seen stack.new ≡ S.seen stack.old) }
     {

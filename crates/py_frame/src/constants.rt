@@ -7,7 +7,7 @@ ghost use Rattle.py_frame.specs.Cores.{CanMove, IsUnchanged, MayDo};
 ghost use Rattle.py_frame.specs.UnitRows.{constant_at, loading, returning};
 ghost use Rattle.py_frame.specs.UnitSteps.{IsConstant, IsLoaded};
 
-use crate::frame_core::FrameCore;
+use crate::executing::ExecutingFrame;
 use crate::objects::add_constant;
 use crate::scene::Scene;
 use crate::unit_step::UnitStep;
@@ -17,44 +17,42 @@ use py_rows::UnwindReason;
 use py_stack::ValueStack;
 use std::alloc::Global;
 
-impl FrameCore {
+impl<S: ValueStack> ExecutingFrame<S> {
     /// Pushes a constant.
-    pub(crate) fn load_const<S: ValueStack>(
+    pub(crate) fn load_const(
         &mut self,
-        stack: &mut S,
         scene: &Scene<'_>,
         store: &mut Store,
         place: usize,
     ) -> Result<UnitStep, NoMemory>
-        requires next { self.old.state.at + 1 < 2 ^ 32 }
-        requires safe { CanMove S.seen store.old.made (loading scene.now place) self.old stack.old }
-        ensures row { IfOk result (λ step. MayDo S.seen store.new.made (loading scene.now place) self.old stack.old step self.new stack.new) }
-        ensures err { OnErr result (IsUnchanged S.seen self.old stack.old self.new stack.new) }
+        requires next { self.old.core.state.at + 1 < 2 ^ 32 }
+        requires safe { CanMove S.seen store.old (loading scene.now place) self.old }
+        ensures row { IfOk result (MayDo S.seen store.new (loading scene.now place) self.old self.new) }
+        ensures err { OnErr result (IsUnchanged S.seen self.old self.new) }
         ensures objects { AddsConstants store.old.made store.new.made }
         ensures unchanged { store.new ≡ record store.old { made = store.new.made } }
     {
         let value = load(scene, store, place)?;
-        self.goes_on();
-        stack.push(value);
+        self.core.goes_on();
+        self.stack.push(value);
         Ok(UnitStep::Goes)
     }
 
     /// Returns a constant.
-    pub(crate) fn return_const<S: ValueStack>(
+    pub(crate) fn return_const(
         &mut self,
-        stack: &mut S,
         scene: &Scene<'_>,
         store: &mut Store,
         place: usize,
     ) -> Result<UnitStep, NoMemory>
-        requires safe { CanMove S.seen store.old.made (returning scene.now place) self.old stack.old }
-        ensures row { IfOk result (λ step. MayDo S.seen store.new.made (returning scene.now place) self.old stack.old step self.new stack.new) }
-        ensures err { OnErr result (IsUnchanged S.seen self.old stack.old self.new stack.new) }
+        requires safe { CanMove S.seen store.old (returning scene.now place) self.old }
+        ensures row { IfOk result (MayDo S.seen store.new (returning scene.now place) self.old self.new) }
+        ensures err { OnErr result (IsUnchanged S.seen self.old self.new) }
         ensures objects { AddsConstants store.old.made store.new.made }
         ensures unchanged { store.new ≡ record store.old { made = store.new.made } }
     {
         let value = load(scene, store, place)?;
-        Ok(self.unwind(stack, UnwindReason::Returning(value)))
+        Ok(self.unwind(UnwindReason::Returning(value)))
     }
 }
 

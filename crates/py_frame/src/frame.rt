@@ -1,8 +1,6 @@
-//! Frames.
+//! Frames as their callers have them.
 
 ghost use Rattle.std.specs.Prelude.{ℕ, ◌≡◌, ◌≤◌, [], length, slice_set, Some, IfOk};
-ghost use Rattle.py_objects.specs.declared.payload.Payload.TheVariants as payload;
-ghost use Rattle.py_objects.specs.Objects.{HasPayload};
 ghost use Rattle.py_objects.specs.Growth.{GrowsPlainly};
 ghost use Rattle.py_exceptions.specs.Slots.{top_of};
 ghost use Rattle.py_check.specs.Depths.{deepest};
@@ -10,11 +8,12 @@ ghost use Rattle.py_rows.specs.Below.{HearsBelow, TellsBelow};
 ghost use Rattle.py_rows.specs.declared.expect.Expect.TheVariants as expect;
 ghost use Rattle.py_frame.specs.Added.{AddsConstants, ClassesAreThere};
 ghost use Rattle.py_frame.specs.Exits.{TellsExit};
-ghost use Rattle.py_frame.specs.Frames.{frame_object, handed, line_at, unfilled, with_locals};
+ghost use Rattle.py_frame.specs.Frames.{handed, line_at, with_locals, HasEntry, IsUnfilled};
 ghost use Rattle.py_frame.specs.Steps.{KeepsFirst, NamesHandled, events, expected, heard, hearing};
 ghost use Rattle.py_rows.specs.Laws.{AllMayTell};
 ghost use Rattle.py_frame.specs.Running.{GoesOn, IsRunning, MayTake, IsSame, SlotFits, told_by};
 
+use crate::executing::ExecutingFrame;
 use crate::filled::Filled;
 use crate::frame_core::FrameCore;
 use crate::input::{FrameStep, Input};
@@ -28,11 +27,22 @@ use py_stack::ValueStack;
 use std::alloc::Global;
 use std::marker::Model;
 
-/// A running code with its stack. It takes memory when it is made, and none later but for what its units ask.
+/// What a frame is made for, beside its code (CPython's PyFrameConstructor).
+#[derive(Drop)]
+pub struct FrameConstructor {
+    /// The number of its code among the codes of the run.
+    pub number: usize,
+    /// The object that stands for it.
+    pub entry: FrameRef,
+    pub scope: Scope,
+    /// The cells of the bodies around.
+    pub closure: ObjList,
+}
+
+/// A running code with its stack. It takes memory when it is made, and none later except for what its units ask.
 #[derive(Drop)]
 pub struct Frame<S: ValueStack> {
-    core: FrameCore,
-    stack: S,
+    executing: ExecutingFrame<S>,
 }
 
 impl<S: ValueStack> Model for Frame<S> {
@@ -40,28 +50,24 @@ impl<S: ValueStack> Model for Frame<S> {
 
     ghost Value = { Framed };
 
-    ghost view = { λ f. over f.core (S.seen f.stack) };
+    ghost view = { λ f. over f.executing.core (S.seen f.executing.stack) };
 }
 
 impl<S: ValueStack + Drop> Frame<S> {
-    /// A frame of a code, which has this number among the codes of the run; the object `frame` stands for it. It hasn't
-    /// begun, and its locals are unset. No cells are made yet.
+    /// A frame of a code. It hasn't begun, and its locals are unset. No cells are made yet.
     #[tactic(auto, using(crate::proofs::Filling::filled_next))]
     pub fn new(
         alloc: Global,
         store: &mut Store,
         code: &CheckedCode,
-        number: usize,
-        frame: FrameRef,
-        scope: Scope,
-        closure: ObjList,
+        constructor: FrameConstructor,
         stack: S,
     ) -> Result<Frame<S>, NoMemory>
-        requires entry { HasPayload store.old.made (frame_object frame) (payload.Frame number) }
-        requires cells { length closure ≡ length code.now.code.code.freevars.items }
+        requires entry { HasEntry store.old.made constructor }
+        requires cells { length constructor.closure ≡ length code.now.code.code.freevars.items }
         requires empty { (S.seen stack).list ≡ [] }
         requires room { code.now.code.code.max_stackdepth ≤ (S.seen stack).room }
-        ensures frame { IfOk result (λ made. made ≡ unfilled code.now number frame scope closure (S.seen stack).room made.block_room) }
+        ensures frame { IfOk result (IsUnfilled code.now constructor (S.seen stack).room) }
         ensures blocks { IfOk result (λ made. deepest code.now.notes ≤ made.block_room) }
         ensures store { store.new ≡ store.old }
     {
@@ -69,6 +75,12 @@ impl<S: ValueStack + Drop> Frame<S> {
         for _ in 0..code.code().code.varnames.len() {
             locals.push(None)?;
         }
+        let FrameConstructor {
+            number,
+            entry,
+            scope,
+            closure,
+        } = constructor;
         let core = FrameCore {
             at: 0,
             lasti: 0,
@@ -79,11 +91,13 @@ impl<S: ValueStack + Drop> Frame<S> {
             phase: 0,
             wants: Expect::Start,
             number,
-            entry: frame,
+            entry,
             scope,
             closure,
         };
-        Ok(Frame { core, stack })
+        Ok(Frame {
+            executing: ExecutingFrame { core, stack },
+        })
     }
 
     /// Gives a frame that hasn't begun its first locals. No cells take arguments over yet.
@@ -93,7 +107,7 @@ impl<S: ValueStack + Drop> Frame<S> {
         ensures frame { self.new ≡ with_locals locals self.old }
         ensures store { store.new ≡ store.old }
     {
-        self.core.locals = locals.into_vec();
+        self.executing.core.locals = locals.into_vec();
     }
 
     /// Takes an input, by which a step goes on. A frame that hasn't begun takes the slot over, a later one has it as it left
@@ -101,7 +115,7 @@ impl<S: ValueStack + Drop> Frame<S> {
     pub fn hear(&mut self, slot: Option<PyBaseExceptionRef>, input: Input)
         ensures { self.new ≡ record self.old { state = hearing slot input self.old.state } }
     {
-        self.core.hear(slot, input);
+        self.executing.core.hear(slot, input);
     }
 
     /// Takes an input, and runs units until one tells an event. A constant that is loaded is a new object. Where memory
@@ -123,7 +137,7 @@ impl<S: ValueStack + Drop> Frame<S> {
         requires expected { MayTake store.old.made scene.now self.old input }
         requires named { (k : ℕ) → HearsBelow (length store.old.made) (events (heard k input)) }
         // The run so far goes on, by what was heard and the one event that is told.
-        ensures extends { GoesOn store.new.made scene.now (top_of slots.old) self.old input result self.new }
+        ensures extends { GoesOn store.new.made scene.now slots.old self.old input result self.new }
         ensures expects { self.new.state.wants ≡ expected result }
         ensures own { NamesHandled self.new.state result }
         // What is asked, the instruction of its unit may ask; only YieldValue yields; a raise is one of an exception.
@@ -148,8 +162,8 @@ impl<S: ValueStack + Drop> Frame<S> {
         ensures unchanged { store.new ≡ record store.old { made = store.new.made } }
     {
         let slot = slots.current_exception();
-        let step = self.core.step(&mut self.stack, scene, store, slot, input);
-        slots.set_exception(self.core.slot());
+        let step = self.executing.step(scene, store, slot, input);
+        slots.set_exception(self.executing.core.slot());
         step
     }
 
@@ -157,14 +171,14 @@ impl<S: ValueStack + Drop> Frame<S> {
     pub fn expects(&self) -> Expect
         ensures { result ≡ self.now.state.wants }
     {
-        self.core.expects()
+        self.executing.core.expects()
     }
 
     /// The place behind the last unit that was begun, 0 where none was.
     pub fn lasti(&self) -> u32
         ensures { result ≡ self.now.state.last }
     {
-        self.core.lasti
+        self.executing.core.lasti
     }
 
     /// The line of the last unit that was begun, at first that of the first unit.
@@ -187,20 +201,20 @@ impl<S: ValueStack + Drop> Frame<S> {
     pub fn f_code(&self) -> usize
         ensures { result ≡ self.now.code }
     {
-        self.core.number
+        self.executing.core.number
     }
 
     /// The object that stands for the frame.
     pub fn entry(&self) -> FrameRef
         ensures { result ≡ self.now.entry }
     {
-        self.core.entry
+        self.executing.core.entry
     }
 
     /// The dict of the frame's globals.
     pub fn f_globals(&self) -> PyObjectRef
         ensures { result ≡ self.now.scope.globals }
     {
-        self.core.globals()
+        self.executing.core.globals()
     }
 }

@@ -1,14 +1,16 @@
-//! The core of a frame: all of it but its stack, on which it works.
+//! The core of a frame: all of it except its stack.
 
 ghost use Rattle.std.specs.Prelude.{◌≡◌, ◌+◌, ◌^◌, ◌<◌};
 ghost use Rattle.py_rows.specs.States.{begun, landed, next, waiting};
-ghost use Rattle.py_frame.specs.Frames.{handed, next_phase};
+ghost use Rattle.py_frame.specs.Frames.{handed, next_phase, with_prefix};
+ghost use Rattle.py_frame.specs.Steps.{hearing};
 
 mod blocks;
 mod getters;
 
+use crate::input::Input;
 use py_code::{OpArg, OpArgState};
-use py_objects::{FrameRef, ObjList, PyBaseExceptionRef, PyObjectRef, Scope};
+use py_objects::{FrameRef, GotAnswer, ObjList, PyBaseExceptionRef, PyObjectRef, Scope};
 use py_rows::{Block, Expect};
 use std::marker::Model;
 
@@ -78,7 +80,7 @@ impl FrameCore {
 
     /// Keeps an argument for the next unit.
     pub(crate) fn keeps(&mut self, arg: OpArg)
-        ensures { self.new ≡ record self.old { state = record self.old.state { prefix = arg.0 } } }
+        ensures { self.new ≡ record self.old { state = with_prefix arg.0 self.old.state } }
     {
         self.prefix = OpArgState::of(arg);
     }
@@ -103,5 +105,23 @@ impl FrameCore {
         ensures { self.new ≡ record self.old { state = handed slot self.old.state } }
     {
         self.slot = slot;
+    }
+
+    /// Takes an input. A frame that hasn't begun takes the slot over; one that has ended stays so.
+    pub(crate) fn hear(&mut self, slot: Option<PyBaseExceptionRef>, input: Input)
+        ensures { self.new ≡ record self.old { state = hearing slot input self.old.state } }
+    {
+        match self.expects() {
+            Expect::Start => self.handles(slot),
+            Expect::Ended => return,
+            Expect::Go | Expect::Answer(_) | Expect::Resume | Expect::Heard(_) => {}
+        }
+        match input {
+            Input::Start => self.waits(Expect::Go),
+            Input::Go => {}
+            Input::Send(value) => self.waits(Expect::Heard(GotAnswer::Value(value))),
+            Input::Throw(exception) => self.waits(Expect::Heard(GotAnswer::Raise(exception))),
+            Input::Answer(answer) => self.waits(Expect::Heard(answer.got())),
+        }
     }
 }

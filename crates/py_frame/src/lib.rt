@@ -7,6 +7,7 @@ mod calls;
 mod cleanup;
 mod constants;
 mod execute;
+mod executing;
 mod exits;
 mod filled;
 mod frame;
@@ -27,7 +28,7 @@ mod unwinding;
 mod wanted;
 
 pub use filled::{Filled, positional};
-pub use frame::Frame;
+pub use frame::{Frame, FrameConstructor};
 pub use input::{Answer, FrameStep, Input};
 pub use py_rows::{Expect, Wanted};
 pub use py_stack::{OwnStack, ValueStack};

@@ -3,7 +3,7 @@
 ghost use Rattle.py_rows.specs.Rows.{asks, return_value, yield_value};
 ghost use Rattle.py_frame.specs.Cores.{CanDo, Does};
 
-use crate::frame_core::FrameCore;
+use crate::executing::ExecutingFrame;
 use crate::input::FrameStep;
 use crate::unit_step::UnitStep;
 use crate::wanted::wanted;
@@ -11,32 +11,32 @@ use py_objects::Request;
 use py_rows::{Expect, UnwindReason};
 use py_stack::ValueStack;
 
-impl FrameCore {
+impl<S: ValueStack> ExecutingFrame<S> {
     /// Asks from the unit that runs.
-    pub(crate) fn asks<S: ValueStack>(&mut self, stack: &S, request: Request) -> UnitStep
-        ensures { Does S.seen (asks request) self.old stack.now result self.new stack.now }
+    pub(crate) fn asks(&mut self, request: Request) -> UnitStep
+        ensures { Does S.seen (asks request) self.old self.new result }
     {
-        let own = self.handled();
-        self.waits(Expect::Answer(wanted(&request)));
+        let own = self.core.handled();
+        self.core.waits(Expect::Answer(wanted(&request)));
         UnitStep::Tells(FrameStep::Ask(request, own))
     }
 
     /// Yields the top.
-    pub(crate) fn yield_value<S: ValueStack>(&mut self, stack: &mut S) -> UnitStep
-        requires { CanDo S.seen yield_value self.old stack.old }
-        ensures { Does S.seen yield_value self.old stack.old result self.new stack.new }
+    pub(crate) fn yield_value(&mut self) -> UnitStep
+        requires { CanDo S.seen yield_value self.old }
+        ensures { Does S.seen yield_value self.old self.new result }
     {
-        let value = stack.pop();
-        self.waits(Expect::Resume);
+        let value = self.stack.pop();
+        self.core.waits(Expect::Resume);
         UnitStep::Tells(FrameStep::Yield(value))
     }
 
     /// Returns the top.
-    pub(crate) fn return_value<S: ValueStack>(&mut self, stack: &mut S) -> UnitStep
-        requires { CanDo S.seen return_value self.old stack.old }
-        ensures { Does S.seen return_value self.old stack.old result self.new stack.new }
+    pub(crate) fn return_value(&mut self) -> UnitStep
+        requires { CanDo S.seen return_value self.old }
+        ensures { Does S.seen return_value self.old self.new result }
     {
-        let value = stack.pop();
-        self.unwind(stack, UnwindReason::Returning(value))
+        let value = self.stack.pop();
+        self.unwind(UnwindReason::Returning(value))
     }
 }

@@ -5,18 +5,15 @@ ghost use Rattle.py_frame.specs.Frames.{parts};
 
 use py_check::CheckedCode;
 use py_code::{CodeObject, CodeUnit, Names};
-use py_exceptions::ExceptionZoo;
 use std::alloc::Global;
 use std::marker::Model;
 
-/// What units are run by: a code, the table that its names are places in, and where memory is taken from. The built-in
-/// classes aren't needed until a frame makes exceptions itself.
+/// What units are run by: a code, the table that its names are places in, and where memory is taken from.
 #[derive(Drop)]
 pub struct Scene<'a> {
     pub alloc: Global,
     pub code: &'a CheckedCode,
     pub names: &'a Names,
-    pub zoo: &'a ExceptionZoo,
 }
 
 impl<'a> Model for Scene<'a> {

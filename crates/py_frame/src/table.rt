@@ -3,9 +3,10 @@
 ghost use Rattle.std.specs.Prelude.{◌≡◌, ◌+◌, ◌^◌, ◌<◌, Some, true, IfOk, OnOk, OnErr};
 ghost use Rattle.py_stack.specs.Stacks.{places};
 ghost use Rattle.py_rows.specs.Rows.{is_there};
-ghost use Rattle.py_frame.specs.Cores.{Asks, CanDo, Does, IsUnchanged};
+ghost use Rattle.py_frame.specs.Cores.{Asks, CanAsk, CanDo, Does, IsUnchanged};
 ghost use Rattle.py_frame.specs.UnitRows.{asks_as, asks_test, global_name, moves_as};
 
+use crate::executing::ExecutingFrame;
 use crate::frame_core::FrameCore;
 use crate::scene::Scene;
 use crate::stacks::pop_two;
@@ -16,60 +17,56 @@ use py_code::{
 use py_objects::Request;
 use py_stack::ValueStack;
 
-impl FrameCore {
+impl<S: ValueStack> ExecutingFrame<S> {
     /// Moves entries of the stack.
-    pub(crate) fn move_entries<S: ValueStack>(
-        &mut self,
-        stack: &mut S,
-        op: Instruction,
-        arg: u32,
-    ) -> UnitStep
-        requires next { self.old.state.at + 1 < 2 ^ 32 }
-        requires safe { CanDo S.seen (moves_as op arg) self.old stack.old }
-        ensures { Does S.seen (moves_as op arg) self.old stack.old result self.new stack.new }
+    pub(crate) fn move_entries(&mut self, op: Instruction, arg: u32) -> UnitStep
+        requires next { self.old.core.state.at + 1 < 2 ^ 32 }
+        requires safe { CanDo S.seen (moves_as op arg) self.old }
+        ensures { Does S.seen (moves_as op arg) self.old self.new result }
     {
         match op {
             Instruction::Pop => {
-                stack.pop();
+                self.stack.pop();
             }
             Instruction::Duplicate => {
-                let value = stack.top();
-                stack.push(value);
+                let value = self.stack.top();
+                self.stack.push(value);
             }
             Instruction::Rotate2 => {
-                let (lower, upper) = pop_two(stack);
-                stack.push(upper);
-                stack.push(lower);
+                let (lower, upper) = pop_two(&mut self.stack);
+                self.stack.push(upper);
+                self.stack.push(lower);
             }
             Instruction::Rotate3 => {
-                let upper = stack.pop();
-                let (lowest, lower) = pop_two(stack);
-                stack.push(upper);
-                stack.push(lowest);
-                stack.push(lower);
+                let upper = self.stack.pop();
+                let (lowest, lower) = pop_two(&mut self.stack);
+                self.stack.push(upper);
+                self.stack.push(lowest);
+                self.stack.push(lower);
             }
             _ => unreachable!(),
         }
-        self.goes_on();
+        self.core.goes_on();
         UnitStep::Goes
     }
 
     /// Asks something of the operands that it takes.
-    pub(crate) fn ask_once<S: ValueStack>(
+    pub(crate) fn ask_once(
         &mut self,
-        stack: &mut S,
         scene: &Scene<'_>,
         op: Instruction,
         arg: u32,
     ) -> Result<UnitStep, NoMemory>
-        requires safe { CanDo S.seen (asks_as scene.now self.old op arg) self.old stack.old }
-        ensures row { IfOk result (λ step. Does S.seen (asks_as scene.now self.old op arg) self.old stack.old step self.new stack.new) }
-        ensures err { OnErr result (IsUnchanged S.seen self.old stack.old self.new stack.new) }
+        requires safe { CanDo S.seen (asks_as scene.now self.old.core op arg) self.old }
+        ensures row { IfOk result (Does S.seen (asks_as scene.now self.old.core op arg) self.old self.new) }
+        ensures err { OnErr result (IsUnchanged S.seen self.old self.new) }
     {
-        let request = self.request(stack, scene, op, arg)?;
-        Ok(self.asks(stack, request))
+        let request = self.core.request(&mut self.stack, scene, op, arg)?;
+        Ok(self.asks(request))
     }
+}
 
+impl FrameCore {
     /// Takes the operands of an instruction off, and hands over what it asks of them.
     fn request<S: ValueStack>(
         &self,
@@ -78,8 +75,8 @@ impl FrameCore {
         op: Instruction,
         arg: u32,
     ) -> Result<Request, NoMemory>
-        requires safe { CanDo S.seen (asks_as scene.now self.now op arg) self.now stack.old }
-        ensures request { IfOk result (λ request. Asks S.seen (asks_as scene.now self.now op arg) self.now stack.old request stack.new) }
+        requires safe { CanAsk S.seen (asks_as scene.now self.now op arg) self.now stack.old }
+        ensures request { IfOk result (Asks S.seen (asks_as scene.now self.now op arg) self.now stack.old stack.new) }
         ensures places { OnOk result (places (S.seen stack.new) ≡ places (S.seen stack.old)) }
         ensures err { OnErr result (S.seen stack.new ≡ S.seen stack.old) }
     {
@@ -110,8 +107,8 @@ impl FrameCore {
 
     /// A test of the top two values, the left one of which lies lower.
     fn test_request<S: ValueStack>(&self, stack: &mut S, arg: u32) -> Request
-        requires { CanDo S.seen (asks_test arg) self.now stack.old }
-        ensures request { Asks S.seen (asks_test arg) self.now stack.old result stack.new }
+        requires { CanAsk S.seen (asks_test arg) self.now stack.old }
+        ensures request { Asks S.seen (asks_test arg) self.now stack.old stack.new result }
         ensures places { places (S.seen stack.new) ≡ places (S.seen stack.old) }
     {
         let Ok(operator) = TestOperator::try_from(arg) else {

@@ -6,7 +6,7 @@ ghost use Rattle.py_rows.specs.Unwinding.{unwinds};
 ghost use Rattle.py_frame.specs.Cores.{CanDo, Does, KeepsFrame, Meets};
 ghost use Rattle.py_frame.specs.UnitRows.{catches, enters_handler, meets_block};
 
-use crate::frame_core::FrameCore;
+use crate::executing::ExecutingFrame;
 use crate::input::FrameStep;
 use crate::objects::as_object;
 use crate::stacks::lower;
@@ -15,13 +15,13 @@ use py_objects::PyBaseExceptionRef;
 use py_rows::{Block, BlockType, Expect, UnwindReason};
 use py_stack::ValueStack;
 
-impl FrameCore {
+impl<S: ValueStack> ExecutingFrame<S> {
     /// Control goes from the unit that runs to a label. It is a round where that isn't later.
-    pub(crate) fn transfers<S: ValueStack>(&mut self, stack: &S, label: u32) -> UnitStep
-        ensures { Does S.seen (jumps label) self.old stack.now result self.new stack.now }
+    pub(crate) fn transfers(&mut self, label: u32) -> UnitStep
+        ensures { Does S.seen (jumps label) self.old self.new result }
     {
-        let later = self.unit() < label;
-        self.lands(label);
+        let later = self.core.unit() < label;
+        self.core.lands(label);
         if later {
             UnitStep::Goes
         } else {
@@ -31,42 +31,35 @@ impl FrameCore {
 
     /// Enters the handler of a `TryExcept` by an exception.
     #[tactic(auto, using(crate::proofs::SafeLemmas::safe_jump))]
-    fn enter_except<S: ValueStack>(
+    fn enter_except(
         &mut self,
-        stack: &mut S,
         level: usize,
         handler: u32,
         exception: PyBaseExceptionRef,
     ) -> UnitStep
-        requires { CanDo S.seen (catches handler level exception) self.old stack.old }
-        ensures { Does S.seen (catches handler level exception) self.old stack.old result self.new stack.new }
+        requires { CanDo S.seen (catches handler level exception) self.old }
+        ensures { Does S.seen (catches handler level exception) self.old self.new result }
     {
-        lower(stack, level);
-        stack.push(as_object(exception));
-        let kept = self.slot();
-        self.push_block(Block {
+        lower(&mut self.stack, level);
+        self.stack.push(as_object(exception));
+        let kept = self.core.slot();
+        self.core.push_block(Block {
             typ: BlockType::ExceptHandler { exception, kept },
             level,
         });
-        self.handles(Some(exception));
-        self.transfers(stack, handler)
+        self.core.handles(Some(exception));
+        self.transfers(handler)
     }
 
     /// Enters the handler of a `Finally`.
     #[tactic(auto, using(crate::proofs::SafeLemmas::safe_jump))]
-    fn enter_finally<S: ValueStack>(
-        &mut self,
-        stack: &mut S,
-        level: usize,
-        handler: u32,
-        reason: UnwindReason,
-    ) -> UnitStep
-        requires { CanDo S.seen (enters_handler handler level reason) self.old stack.old }
-        ensures { Does S.seen (enters_handler handler level reason) self.old stack.old result self.new stack.new }
+    fn enter_finally(&mut self, level: usize, handler: u32, reason: UnwindReason) -> UnitStep
+        requires { CanDo S.seen (enters_handler handler level reason) self.old }
+        ensures { Does S.seen (enters_handler handler level reason) self.old self.new result }
     {
-        lower(stack, level);
-        let kept = self.slot();
-        self.push_block(Block {
+        lower(&mut self.stack, level);
+        let kept = self.core.slot();
+        self.core.push_block(Block {
             typ: BlockType::FinallyHandler {
                 reason: Some(reason),
                 kept,
@@ -74,60 +67,55 @@ impl FrameCore {
             level,
         });
         if let UnwindReason::Raising(exception) = reason {
-            self.handles(Some(exception));
+            self.core.handles(Some(exception));
         }
-        self.transfers(stack, handler)
+        self.transfers(handler)
     }
 
     /// The innermost block is met. None: it is passed, and left.
-    fn meet<S: ValueStack>(
-        &mut self,
-        stack: &mut S,
-        block: Block,
-        reason: UnwindReason,
-    ) -> Option<UnitStep>
-        requires safe { CanDo S.seen (meets_block reason block) self.old stack.old }
-        requires room { 0 < self.old.block_room }
-        ensures row { Meets S.seen reason block self.old stack.old result self.new stack.new }
-        ensures same { KeepsFrame S.seen self.old stack.old self.new stack.new }
-        ensures at { result ≡ None → self.new.state.at ≡ self.old.state.at }
-        ensures fewer { result ≡ None → self.new.state.blocks ≡ self.old.state.blocks }
+    fn meet(&mut self, block: Block, reason: UnwindReason) -> Option<UnitStep>
+        requires safe { CanDo S.seen (meets_block reason block) self.old }
+        requires room { 0 < self.old.core.block_room }
+        ensures row { Meets S.seen reason block self.old self.new result }
+        ensures same { KeepsFrame S.seen self.old self.new }
+        ensures at { result ≡ None → self.new.core.state.at ≡ self.old.core.state.at }
+        ensures fewer { result ≡ None → self.new.core.state.blocks ≡ self.old.core.state.blocks }
     {
         match block.typ {
             BlockType::Loop => match reason {
                 UnwindReason::Break(label) => {
-                    lower(stack, block.level);
-                    Some(self.transfers(stack, label))
+                    lower(&mut self.stack, block.level);
+                    Some(self.transfers(label))
                 }
                 UnwindReason::Continue(label) => {
-                    self.push_block(block);
-                    Some(self.transfers(stack, label))
+                    self.core.push_block(block);
+                    Some(self.transfers(label))
                 }
                 UnwindReason::Raising(_) | UnwindReason::Returning(_) => {
-                    lower(stack, block.level);
+                    lower(&mut self.stack, block.level);
                     None
                 }
             },
             BlockType::TryExcept { handler } => match reason {
                 UnwindReason::Raising(exception) => {
-                    Some(self.enter_except(stack, block.level, handler, exception))
+                    Some(self.enter_except(block.level, handler, exception))
                 }
                 UnwindReason::Returning(_) | UnwindReason::Break(_) | UnwindReason::Continue(_) => {
-                    lower(stack, block.level);
+                    lower(&mut self.stack, block.level);
                     None
                 }
             },
             BlockType::Finally { handler } => {
-                Some(self.enter_finally(stack, block.level, handler, reason))
+                Some(self.enter_finally(block.level, handler, reason))
             }
             BlockType::FinallyHandler { reason: _, kept } => {
-                lower(stack, block.level);
-                self.handles(kept);
+                lower(&mut self.stack, block.level);
+                self.core.handles(kept);
                 None
             }
             BlockType::ExceptHandler { exception: _, kept } => {
-                lower(stack, block.level);
-                self.handles(kept);
+                lower(&mut self.stack, block.level);
+                self.core.handles(kept);
                 None
             }
         }
@@ -135,16 +123,16 @@ impl FrameCore {
 
     /// Leaves blocks for a reason, until one takes it or the frame ends.
     #[tactic(auto, unfolding(py_rows::specs::Unwinding::unwinds))]
-    pub(crate) fn unwind<S: ValueStack>(&mut self, stack: &mut S, reason: UnwindReason) -> UnitStep
-        requires { CanDo S.seen (unwinds reason) self.old stack.old }
-        ensures { Does S.seen (unwinds reason) self.old stack.old result self.new stack.new }
+    pub(crate) fn unwind(&mut self, reason: UnwindReason) -> UnitStep
+        requires { CanDo S.seen (unwinds reason) self.old }
+        ensures { Does S.seen (unwinds reason) self.old self.new result }
     {
-        'blocks_left: while let Some(block) = self.pop_block() {
-            if let Some(step) = self.meet(stack, block, reason) {
+        'blocks_left: while let Some(block) = self.core.pop_block() {
+            if let Some(step) = self.meet(block, reason) {
                 return step;
             }
         }
-        self.waits(Expect::Ended);
+        self.core.waits(Expect::Ended);
         match reason {
             UnwindReason::Raising(exception) => UnitStep::Tells(FrameStep::Raise(exception)),
             UnwindReason::Returning(value) => UnitStep::Tells(FrameStep::Return(value)),
