@@ -16,7 +16,7 @@ use Rattle.py_objects.specs.Growth.{Grows, GrowsPlainly, IsGrown}
 use Rattle.py_objects.specs.Own.{Gets, whose}
 use Rattle.py_objects.specs.Edits.{Kept}
 use Rattle.py_objects.proofs.GrowthLemmas.{below_more, grows_plainly_refl, length_grown, payload_grown}
-use Rattle.py_objects.proofs.GrownLemmas.{objects_grow, grown_trans}
+use Rattle.py_objects.proofs.GrownLemmas.{objects_grow, grown_trans, grown_longer}
 use Rattle.py_exceptions.specs.Slots.{Slots, top_of}
 use Rattle.py_rows.specs.declared.expect.Expect.{Expect}
 use Rattle.py_rows.specs.RunOfRows.{Runs, started}
@@ -56,11 +56,11 @@ use Rattle.py_vm.proofs.GoingLemmas.{goes}
 
 -- an activation that waits inside of these, where a machine is so far
 pub record Waiting (m : Core) (d : Drive) (h : Halted) (hs : List Halted) : Type 0 where
-  pub halted : IsHalted m.codes m.globals m.store.made m.events h (first_slot h.running.kind hs)
+  pub halted : IsHalted m.world.codes m.globals m.world.store.made m.events h (first_slot h.running.kind hs)
   pub apart : AreApart hs
   pub others : IsApart h.running.act hs
-  pub outside : IsOutside h.running.act m.generators
-  pub inside : IsInside m.codes m.globals m.store.made m.events m.generators d h.running.kind h.running.act hs
+  pub outside : IsOutside h.running.act m.world.generators
+  pub inside : IsInside m.world.codes m.globals m.world.store.made m.events m.world.generators d h.running.kind h.running.act hs
   pub stack : (state_after start m.events).stack ≡ asking h.running.act (slice_get m.events h.place) ∷ caller_acts m.events hs
   pub frames : m.frames ≡ caller_frames hs ++ h.running.frame.entry ∷ []
   pub slots : m.slots ≡ slots_in (h ∷ hs)
@@ -90,7 +90,7 @@ top_stacked (Some kind) slot outer = refl
 abbrev pub IsFold : Core → Drive → (Option Obj → Type 0) → List KeptGenerator → Type 0
 IsFold m d May list =
     (asked : List Posed) (v : Option Obj) → IsNext m d asked → May v
-    → answered (question (plan_of m.codes asked) (state_after start m.events)) (state_after start m.events).phase (length (state_after start m.events).made) v (modes_of m.generators) ≡ modes_of list
+    → answered (question (plan_of m.world.codes asked) (state_after start m.events)) (state_after start m.events).phase (length (state_after start m.events).made) v (modes_of m.world.generators) ≡ modes_of list
 
 -- what an answer that is as it is wanted raises is an exception
 raised_exception : (objects : List Payload) (q : Request) (g : GotAnswer) → IsAnswer objects (wanted q) g → IfThere (IsException objects) (raised_by (Some q) g)
@@ -101,11 +101,11 @@ raised_exception objects q (got.Stop v) is = tt
 raised_exception objects q (got.Raise e) is = is
 
 -- it gets the answer to what it asked, which is as it is wanted and names objects
-pub got_law : (m : Core) (d : Drive) (s : Stage) (h : Halted) (hs : List Halted) (store : Kept) (list : List KeptGenerator) (raises : Raises) (w : Answer) (Other : ℕ → Type 0) → Keeps m d s → IsGrown m.store store → (waits : Waiting m d h hs)
+pub got_law : (m : Core) (d : Drive) (s : Stage) (h : Halted) (hs : List Halted) (store : Kept) (list : List KeptGenerator) (raises : Raises) (w : Answer) (Other : ℕ → Type 0) → Keeps m d s → IsGrown m.world.store store → (waits : Waiting m d h hs)
     → IsAnswer store.made (wanted waits.halted.question.request) (got_of w) → AllBelow (length store.made) (got_numbers (got_of w))
-    → ((asked : List Posed) → IsNext m d asked → (reply : Reply) × IsAnswered (plan_of m.codes asked) store.made (past_at m) reply × GivesBody store.made m.events reply (got_of w))
+    → ((asked : List Posed) → IsNext m d asked → (reply : Reply) × IsAnswered (plan_of m.world.codes asked) store.made (past_at m) reply × GivesBody store.made m.events reply (got_of w))
     → IsChange m Other store (event.Got h.running.act (got_of w)) list → AreOthers Other hs → Other h.running.act → IsFold m d (λ v. v ≡ value_of (got_of w)) list
-    → IsNotedBy m.events h w m.raises raises → Turns m d s None (got_by (record m { store = store; generators = list; callers = hs; raises = raises }) h.running w)
+    → IsNotedBy m.events h w m.raises raises → Turns m d s None (got_by (record m { world = record m.world { store = store; generators = list }; callers = hs; raises = raises }) h.running w)
 got_law m d s h hs store list raises w Other k grown waits as_wanted below replied change others other fold (act, asked, own, at, entry, noted) =
     let r : Running = h.running in
     let e : Event = event.Got r.act (got_of w) in
@@ -117,62 +117,62 @@ got_law m d s h hs store list raises w Other k grown waits as_wanted below repli
     let shares : slot ≡ r.frame.state.slot = ap top_of waits.slots ∙ top_stacked r.kind r.frame.state.slot (slots_in hs) in
     let stack : (state_after start m.events).stack ≡ record { number = r.act; asks = Some q.request; own = q.own } ∷ caller_acts m.events hs =
     waits.stack ∙ ap (λ y. asking r.act y ∷ caller_acts m.events hs) q.entry in
-    let halted : AreHalted m hs = inside_halted m m.generators d r.kind r.act hs waits.inside in
-    let grows : Grows m.store.made store.made = objects_grow m.store store grown in
+    let halted : AreHalted m hs = inside_halted m m.world.generators d r.kind r.act hs waits.inside in
+    let grows : Grows m.world.store.made store.made = objects_grow m.world.store store grown in
     let now : Running = heard_by m r (input.Answer w) in
-    let expects : Expects store.made (setting_in m.codes m.globals old.code r.frame.closure) r.frame.state.wants (input.Answer w) =
-    subst (λ (y : Expect). Expects store.made (setting_in m.codes m.globals old.code r.frame.closure) y (input.Answer w)) (sym waiting) (λ k. (as_wanted, refl)) in
-    let run : Runs m.store.made (setting_in m.codes m.globals old.code r.frame.closure) (started old.code.code first old.activation.args) old.told (handed slot r.frame.state) =
-    subst (λ (x : Option PyBaseExceptionRef). Runs m.store.made (setting_in m.codes m.globals old.code r.frame.closure) (started old.code.code first old.activation.args) old.told (handed x r.frame.state)) (sym shares) old.run in
-    let low = subst (λ (x : Option PyBaseExceptionRef). AllBelow (length store.made) (number_if x)) (sym shares) (below_more _ _ _ (length_grown m.store.made store.made grows) old.running.below.in_slot) in
-    let plays : Plays m.codes m.globals store.made (m.events ++ e ∷ []) now first =
-    plays_hears m.codes m.globals m.store.made store.made m.events e grows r refl first slot first (input.Answer w) (Gets (length m.events) (got_of w)) refl refl below (record { below = low; left = inr shares }) old expects run in
+    let expects : Expects store.made (setting_in m.world.codes m.globals old.code r.frame.closure) r.frame.state.wants (input.Answer w) =
+    subst (λ (y : Expect). Expects store.made (setting_in m.world.codes m.globals old.code r.frame.closure) y (input.Answer w)) (sym waiting) (λ k. (as_wanted, refl)) in
+    let run : Runs m.world.store.made (setting_in m.world.codes m.globals old.code r.frame.closure) (started old.code.code first old.activation.args) old.told (handed slot r.frame.state) =
+    subst (λ (x : Option PyBaseExceptionRef). Runs m.world.store.made (setting_in m.world.codes m.globals old.code r.frame.closure) (started old.code.code first old.activation.args) old.told (handed x r.frame.state)) (sym shares) old.run in
+    let low = subst (λ (x : Option PyBaseExceptionRef). AllBelow (length store.made) (number_if x)) (sym shares) (below_more _ _ _ (length_grown m.world.store.made store.made grows) old.running.below.in_slot) in
+    let plays : Plays m.world.codes m.globals store.made (m.events ++ e ∷ []) now first =
+    plays_hears m.world.codes m.globals m.world.store.made store.made m.events e grows r refl first slot first (input.Answer w) (Gets (length m.events) (got_of w)) refl refl below (record { below = low; left = inr shares }) old expects run in
     let both : Some (event.Ask act asked own at) ≡ Some (event.Ask q.act q.request q.own q.at) = sym entry ∙ q.entry in
     let same : asked ≡ q.request = cc both in
     let raise : Option Obj = raised_by (Some q.request) (got_of w) in
-    next_law m d s e None (got_by (record m { store = store; generators = list; callers = hs; raises = raises }) r w) k (record {
-      grown = grown;
+    next_law m d s e None (got_by (record m { world = record m.world { store = store; generators = list }; callers = hs; raises = raises }) r w) k (record {
+      grown = grown_longer m.world.store store grown;
       done = k.follows.done;
       phase = refl;
       stack = ap (top_asks None None) stack ∙ ap (λ l. goes r ∷ l) (acts_still m e hs halted);
       made = k.follows.made;
       modes = λ asked is. fold asked (value_of (got_of w)) is refl;
       told = played_told m s store e d k grown refl below now first refl plays;
-      kept = record { each = change.each (each_still m store.made e grows m.made m.made m.generators (omega arith) waits.outside k.kept.each); single = change.single k.kept.single };
+      kept = record { each = change.each (each_still m store.made e grows m.made m.made m.world.generators (omega arith) waits.outside k.kept.each); single = change.single k.kept.single };
       apart = waits.apart;
       frames = waits.frames;
       slots = slots_heard r.kind (slots_in hs) m.slots r.frame.state.slot r.frame.state.wants (inr shares) (waits.slots ∙ ap (λ x. stacked r.kind x (slots_in hs)) (sym shares));
-      raised = raised_noted m.store.made store.made m.events e m.raises grows k.raised raises h raise (subst (λ y. IsNoted h (raised_by (Some y) (got_of w)) m.raises raises) same noted)
-          (ap (λ l. with_raise (raised_by (open_in None l) (got_of w)) (raises_of m.events)) stack) (raised_exception store.made q.request (got_of w) as_wanted) (old.body.code, payload_grown m.store.made store.made _ _ grows old.entry);
+      raised = raised_noted m.world.store.made store.made m.events e m.raises grows k.raised raises h raise (subst (λ y. IsNoted h (raised_by (Some y) (got_of w)) m.raises raises) same noted)
+          (ap (λ l. with_raise (raised_by (open_in None l) (got_of w)) (raises_of m.events)) stack) (raised_exception store.made q.request (got_of w) as_wanted) (old.body.code, payload_grown m.world.store.made store.made _ _ grows old.entry);
       at_stage = (
         record { plays = plays; moves = subst (λ (x : Expect). IsMoving (taken (input.Answer w) x)) (sym waiting) tt },
         record {
           apart = waits.others;
           outside = change.carried.outside r.act other waits.outside;
-          inside = inside_on m store.made e grows Other m.generators list change.carried d r.kind r.act hs waits.others others other waits.inside;
+          inside = inside_on m store.made e grows Other m.world.generators list change.carried d r.kind r.act hs waits.others others other waits.inside;
         },
       );
     }) (refl, tt) (λ asked is. (top_is m r (Some q.request) q.own (caller_acts m.events hs) stack, replied asked is))
 
 -- the drive has its result, where what it asked is answered and no activation runs
-pub result_law : (m : Core) (d : Drive) (s : Stage) (store : Kept) (list : List KeptGenerator) (w : MadeReply) (Other : ℕ → Type 0) → Keeps m d s → m.callers ≡ [] → Alone m → IsGrown m.store store
+pub result_law : (m : Core) (d : Drive) (s : Stage) (store : Kept) (list : List KeptGenerator) (w : MadeReply) (Other : ℕ → Type 0) → Keeps m d s → m.callers ≡ [] → Alone m → IsGrown m.world.store store
     → AllBelow (length store.made) (result_numbers (result_of w))
-    → ((asked : List Posed) → IsNext m d asked → (reply : Reply) × IsAnswered (plan_of m.codes asked) store.made (past_at m) reply × GivesDrive store.made m.events reply (result_of w))
+    → ((asked : List Posed) → IsNext m d asked → (reply : Reply) × IsAnswered (plan_of m.world.codes asked) store.made (past_at m) reply × GivesDrive store.made m.events reply (result_of w))
     → IsChange m Other store (event.Result (m.done + 1) (result_of w)) list → IsFold m d (λ v. v ≡ returned_by (result_of w)) list
-    → Turns m d s (Some (result_of w)) (result_by (record m { store = store; generators = list }) (result_of w))
+    → Turns m d s (Some (result_of w)) (result_by (record m { world = record m.world { store = store; generators = list } }) (result_of w))
 result_law m d s store list w Other k none alone grown below replied change fold =
     let e : Event = event.Result (m.done + 1) (result_of w) in
-    let n : Core = result_by (record m { store = store; generators = list }) (result_of w) in
-    let grows : Grows m.store.made store.made = objects_grow m.store store grown in
+    let n : Core = result_by (record m { world = record m.world { store = store; generators = list } }) (result_of w) in
+    let grows : Grows m.world.store.made store.made = objects_grow m.world.store store grown in
     next_law m d s e (Some (result_of w)) n k (record {
-      grown = grown;
+      grown = grown_longer m.world.store store grown;
       done = ap suc k.follows.done ∙ sym (next_number _ _ refl);
       phase = refl;
       stack = alone.stack ∙ sym (ap (caller_acts (m.events ++ e ∷ [])) none);
       made = k.follows.made;
       modes = λ asked is. fold asked (returned_by (result_of w)) is refl;
       told = drive_told m s store e d k grown refl below refl;
-      kept = record { each = change.each (each_still m store.made e grows m.made m.made m.generators (omega arith) (zero_outside m m.made m.generators k.kept.each) k.kept.each); single = change.single k.kept.single };
+      kept = record { each = change.each (each_still m store.made e grows m.made m.made m.world.generators (omega arith) (zero_outside m m.made m.world.generators k.kept.each) k.kept.each); single = change.single k.kept.single };
       apart = k.nested.apart;
       frames = alone.frames ∙ sym (ap caller_frames none);
       slots = alone.slots ∙ sym (ap slots_in none);
@@ -229,25 +229,25 @@ result_may made.Closes = tt
 -- an answer by a reply is as who asked wants it
 abbrev pub FitsWho : (m : Core) (d : Drive) → Kept → Reply → (hs : List Halted) → AskedBy m d hs → Type 0
 FitsWho m d store reply [] alone = Unit {0}
-FitsWho m d store reply (h ∷ hs) waits = (store' : Kept) (a : Answer) → IsGrown store store' → GivesReply m.store.made store'.made reply a → IsAnswer store'.made (wanted waits.halted.question.request) (got_of a)
+FitsWho m d store reply (h ∷ hs) waits = (store' : Kept) (a : Answer) → IsGrown store store' → GivesReply m.world.store.made store'.made reply a → IsAnswer store'.made (wanted waits.halted.question.request) (got_of a)
 
 -- who asked gets the reply
 pub replies_law : (m : Core) (d : Drive) (s : Stage) (hs : List Halted) (store : Kept) (list : List KeptGenerator) (reply : Reply) (w : MadeReply) (a : Option DriveAnswer) (m' : Core) (Other : ℕ → Type 0) → Keeps m d s
-    → IsGrown m.store store → (asked_by : AskedBy m d hs) → FitsWho m d store reply hs asked_by → ((objects : List Payload) → GrowsPlainly store.made objects → Answers m d objects reply) → IsReplied m.store.made store.made reply w
-    → ((store' : Kept) (e : Event) → IsGrown m.store store' → who hs ≡ whose e → GrowsPlainly store.made store'.made → IsChange m Other store' e list) → AreOthers Other hs → IsFold m d (MayBe w) list → (hs ≡ [] → m.callers ≡ [])
-    → Replies (record m { store = store; generators = list; callers = hs }) w hs a m' → Turns m d s a m'
+    → IsGrown m.world.store store → (asked_by : AskedBy m d hs) → FitsWho m d store reply hs asked_by → ((objects : List Payload) → GrowsPlainly store.made objects → Answers m d objects reply) → IsReplied m.world.store.made store.made reply w
+    → ((store' : Kept) (e : Event) → IsGrown m.world.store store' → who hs ≡ whose e → GrowsPlainly store.made store'.made → IsChange m Other store' e list) → AreOthers Other hs → IsFold m d (MayBe w) list → (hs ≡ [] → m.callers ≡ [])
+    → Replies (record m { world = record m.world { store = store; generators = list }; callers = hs }) w hs a m' → Turns m d s a m'
 replies_law m d s [] store list reply w a m' Other k grown alone fits answers replied change others fold none (is_answer, is) =
     let e : Event = event.Result (m.done + 1) (result_of w) in
     let callers : m.callers ≡ [] = none refl in
-    let turned : Turns m d s (Some (result_of w)) (result_by (record m { store = store; generators = list }) (result_of w)) = result_law m d s store list w Other k callers alone grown (said_below m.store.made store.made reply w replied)
-    (λ asked is. (reply, answers store.made (grows_plainly_refl store.made) asked is, gives_result m.store.made store.made m.events reply w k.told.named replied)) (change store e grown refl (grows_plainly_refl store.made))
+    let turned : Turns m d s (Some (result_of w)) (result_by (record m { world = record m.world { store = store; generators = list } }) (result_of w)) = result_law m d s store list w Other k callers alone grown (said_below m.world.store.made store.made reply w replied)
+    (λ asked is. (reply, answers store.made (grows_plainly_refl store.made) asked is, gives_result m.world.store.made store.made m.events reply w k.told.named replied)) (change store e grown refl (grows_plainly_refl store.made))
     (λ asked v is same. fold asked v is (subst (MayBe w) (sym same) (result_may w))) in
-    let same : m' ≡ result_by (record m { store = store; generators = list }) (result_of w) =
-    is ∙ ap (λ hs. result_by (record m { store = store; generators = list; callers = hs }) (result_of w)) (sym callers) in
+    let same : m' ≡ result_by (record m { world = record m.world { store = store; generators = list } }) (result_of w) =
+    is ∙ ap (λ hs. result_by (record m { world = record m.world { store = store; generators = list }; callers = hs }) (result_of w)) (sym callers) in
     subst (λ x. Turns m d s x m') (sym is_answer) (subst (Turns m d s (Some (result_of w))) (sym same) turned)
 replies_law m d s (h ∷ hs) store list reply w a m' Other k grown waits fits answers replied change others fold none (is_answer, (store', answer, (more, keeps, gives), (raises, noted, is))) =
-    let all : IsGrown m.store store' = grown_trans m.store store store' grown more in
-    let given : GivesReply m.store.made store'.made reply answer = gives m.store.made reply (objects_grow m.store store grown) (grown.objects.fit k.stored.readable.fit) replied in
+    let all : IsGrown m.world.store store' = grown_trans m.world.store store store' grown more in
+    let given : GivesReply m.world.store.made store'.made reply answer = gives m.world.store.made reply (objects_grow m.world.store store grown) (grown.objects.fit k.stored.readable.fit) replied in
     let turned = got_law m d s h hs store' list raises answer Other k all waits (fits store' answer more given) given.below
     (λ asked next. (reply, answers store'.made more.objects asked next, given.gives m.events k.told.named)) (change store' (event.Got h.running.act (got_of answer)) all refl more.objects) others.1 others.0
     (λ asked v next same. fold asked v next (subst (MayBe w) (sym same) (got_may w answer keeps))) noted in

@@ -75,7 +75,7 @@ entered_on Other list list' r (Some k) a carried other entered = record {
 module _ (m : Core) where
   -- an activation waits in it, with this in the slot at first
   abbrev pub Waits : Halted → Option PyBaseExceptionRef → Type 0
-  Waits h slot = IsHalted m.codes m.globals m.store.made m.events h slot
+  Waits h slot = IsHalted m.world.codes m.globals m.world.store.made m.events h slot
 
   -- each of these waits inside of the next
   abbrev pub AreHalted : List Halted → Type 0
@@ -83,13 +83,13 @@ module _ (m : Core) where
   AreHalted (h ∷ hs) = Waits h (first_slot h.running.kind hs) × AreHalted hs
 
   -- they do where one was entered inside of them
-  pub inside_halted : (list : List KeptGenerator) (d : Drive) (k : Option CoroKind) (a : ℕ) (hs : List Halted) → IsInside m.codes m.globals m.store.made m.events list d k a hs → AreHalted hs
+  pub inside_halted : (list : List KeptGenerator) (d : Drive) (k : Option CoroKind) (a : ℕ) (hs : List Halted) → IsInside m.world.codes m.globals m.world.store.made m.events list d k a hs → AreHalted hs
   inside_halted list d k a [] inside = tt
   inside_halted list d k a (h ∷ hs) inside = (inside.0, inside_halted list d h.running.kind h.running.act hs inside.3)
 
-  module _ (objects : List Payload) (e : Event) (grows : Grows m.store.made objects) where
+  module _ (objects : List Payload) (e : Event) (grows : Grows m.world.store.made objects) where
     -- what was asked is still there behind one more event, among more objects
-    abbrev question_still : (place : ℕ) → IsQuestion m.store.made m.events place → IsQuestion objects (m.events ++ e ∷ []) place
+    abbrev question_still : (place : ℕ) → IsQuestion m.world.store.made m.events place → IsQuestion objects (m.events ++ e ∷ []) place
     question_still place q = record {
       act = q.act;
       request = q.request;
@@ -97,18 +97,18 @@ module _ (m : Core) where
       at = q.at;
       entry = slice_get_grown m.events (e ∷ []) place _ q.entry;
       known = q.known;
-      below = below_more _ _ _ (length_grown m.store.made objects grows) q.below;
+      below = below_more _ _ _ (length_grown m.world.store.made objects grows) q.below;
     }
 
     -- an activation that waits still does, as an event of another one comes
-    abbrev pub halted_still : (h : Halted) (slot : Option PyBaseExceptionRef) → eqb h.running.act (whose e) ≡ false → Waits h slot → IsHalted m.codes m.globals objects (m.events ++ e ∷ []) h slot
+    abbrev pub halted_still : (h : Halted) (slot : Option PyBaseExceptionRef) → eqb h.running.act (whose e) ≡ false → Waits h slot → IsHalted m.world.codes m.globals objects (m.events ++ e ∷ []) h slot
     halted_still h slot other x =
-        record { plays = plays_still m.codes m.globals m.store.made objects m.events e grows h.running slot other x.plays; question = question_still h.place x.question; waits = x.waits; handles = x.handles }
+        record { plays = plays_still m.world.codes m.globals m.world.store.made objects m.events e grows h.running slot other x.plays; question = question_still h.place x.question; waits = x.waits; handles = x.handles }
 
     module _ (Other : ℕ → Type 0) (list list' : List KeptGenerator) (carried : IsCarried Other list list') (d : Drive) where
       -- so does one that was entered inside of those, as an event of none of them comes
-      pub inside_on : (k : Option CoroKind) (a : ℕ) (hs : List Halted) → IsApart (whose e) hs → AreOthers Other hs → Other a → IsInside m.codes m.globals m.store.made m.events list d k a hs
-          → IsInside m.codes m.globals objects (m.events ++ e ∷ []) list' d k a hs
+      pub inside_on : (k : Option CoroKind) (a : ℕ) (hs : List Halted) → IsApart (whose e) hs → AreOthers Other hs → Other a → IsInside m.world.codes m.globals m.world.store.made m.events list d k a hs
+          → IsInside m.world.codes m.globals objects (m.events ++ e ∷ []) list' d k a hs
       inside_on k a [] apart others other inside = entered_on Other list list' (request_of d) k a carried other inside
       inside_on k a (h ∷ hs) apart others other inside = (
         halted_still h (first_slot h.running.kind hs) apart.0 inside.0,
@@ -120,28 +120,28 @@ module _ (m : Core) where
     -- ---- generators, as an event of none that waits comes
 
     -- one that hasn't begun
-    pub fresh_still : (r : Running) → eqb r.act (whose e) ≡ false → IsFresh m.codes m.globals m.store.made m.events r → IsFresh m.codes m.globals objects (m.events ++ e ∷ []) r
+    pub fresh_still : (r : Running) → eqb r.act (whose e) ≡ false → IsFresh m.world.codes m.globals m.world.store.made m.events r → IsFresh m.world.codes m.globals objects (m.events ++ e ∷ []) r
     fresh_still r other x = record {
-      plays = plays_still m.codes m.globals m.store.made objects m.events e grows r None other x.plays;
-      begins = begins_still m.codes m.globals m.store.made objects m.events e grows r None other x.plays x.begins;
-      unheard = unheard_still m.codes m.globals m.store.made objects m.events e grows r None other x.plays x.unheard;
+      plays = plays_still m.world.codes m.globals m.world.store.made objects m.events e grows r None other x.plays;
+      begins = begins_still m.world.codes m.globals m.world.store.made objects m.events e grows r None other x.plays x.begins;
+      unheard = unheard_still m.world.codes m.globals m.world.store.made objects m.events e grows r None other x.plays x.unheard;
     }
 
     -- one that was left by a yield
-    pub left_still : (s : Suspended) → eqb s.running.act (whose e) ≡ false → IsLeft m.codes m.globals m.store.made m.events s → IsLeft m.codes m.globals objects (m.events ++ e ∷ []) s
+    pub left_still : (s : Suspended) → eqb s.running.act (whose e) ≡ false → IsLeft m.world.codes m.globals m.world.store.made m.events s → IsLeft m.world.codes m.globals objects (m.events ++ e ∷ []) s
     left_still s other x = record {
-      plays = plays_still m.codes m.globals m.store.made objects m.events e grows s.running None other x.plays;
+      plays = plays_still m.world.codes m.globals m.world.store.made objects m.events e grows s.running None other x.plays;
       waits = x.waits;
       slot = x.slot;
       kind = x.kind;
       kind_is = x.kind_is;
     }
 
-    pub unentered_still : (s : Suspended) → eqb s.running.act (whose e) ≡ false → IsUnentered m.codes m.globals m.store.made m.events s → IsUnentered m.codes m.globals objects (m.events ++ e ∷ []) s
+    pub unentered_still : (s : Suspended) → eqb s.running.act (whose e) ≡ false → IsUnentered m.world.codes m.globals m.world.store.made m.events s → IsUnentered m.world.codes m.globals objects (m.events ++ e ∷ []) s
     unentered_still s other x = record { fresh = fresh_still s.running other x.fresh; slot = x.slot; kind = x.kind; kind_is = x.kind_is }
 
     -- what a generator keeps in its mode
-    keeps_still : (mode : Mode) (x : KeptGenerator) → IsNot (whose e) x.act x.suspended → KeepsIn m.codes m.globals m.store.made m.events mode x → KeepsIn m.codes m.globals objects (m.events ++ e ∷ []) mode x
+    keeps_still : (mode : Mode) (x : KeptGenerator) → IsNot (whose e) x.act x.suspended → KeepsIn m.world.codes m.globals m.world.store.made m.events mode x → KeepsIn m.world.codes m.globals objects (m.events ++ e ∷ []) mode x
     keeps_still Fresh x out (s, is, act, unentered) =
         let other : eqb x.act (whose e) ≡ false = subst (IsNot (whose e) x.act) is out in
         (s, is, act, unentered_still s (subst (λ n. eqb n (whose e) ≡ false) (sym act) other) unentered)
@@ -152,14 +152,14 @@ module _ (m : Core) where
     keeps_still Closed x out none = none
 
     -- each of them, where no fewer activations were made
-    pub each_still : (made made' : ℕ) (list : List KeptGenerator) → made ≤ made' → IsOutside (whose e) list → AreEach m.codes m.globals m.store.made m.events made list
-        → AreEach m.codes m.globals objects (m.events ++ e ∷ []) made' list
+    pub each_still : (made made' : ℕ) (list : List KeptGenerator) → made ≤ made' → IsOutside (whose e) list → AreEach m.world.codes m.globals m.world.store.made m.events made list
+        → AreEach m.world.codes m.globals objects (m.events ++ e ∷ []) made' list
     each_still made made' [] more out each = tt
     each_still made made' (x ∷ xs) more out each =
-        let k : IsKept m.codes m.globals m.store.made m.events made x = each.0 in (
+        let k : IsKept m.world.codes m.globals m.world.store.made m.events made x = each.0 in (
           record {
             body = k.body;
-            entry = payload_grown m.store.made objects _ _ grows k.entry;
+            entry = payload_grown m.world.store.made objects _ _ grows k.entry;
             kind_is = k.kind_is;
             activation = keeps_still x.generator.mode x out.0 k.activation;
             low = omega (arith, more, k.low);
@@ -183,19 +183,19 @@ module _ (m : Core) where
       (ne_eqb h.running.act n (λ is. unmade p.at (slice_get_within _ p.at _ p.is_made) (sym is ∙ p.numbered)), unmade_apart n hs unmade halted.1)
 
   -- nor is it any generator's
-  pub unmade_no_ones : (n made : ℕ) (list : List KeptGenerator) → made < n → AreEach m.codes m.globals m.store.made m.events made list → IsNoOnes n list
+  pub unmade_no_ones : (n made : ℕ) (list : List KeptGenerator) → made < n → AreEach m.world.codes m.globals m.world.store.made m.events made list → IsNoOnes n list
   unmade_no_ones n made [] past each = tt
   unmade_no_ones n made (x ∷ xs) past each = (ne_eqb x.act n (λ is. omega (arith, is, past, each.0.low)), unmade_no_ones n made xs past each.1)
 
   -- the number 0 is none's that waits to be entered
-  zero_waits : (mode : Mode) (x : KeptGenerator) (s : Option Suspended) → x.suspended ≡ s → KeepsIn m.codes m.globals m.store.made m.events mode x → IsNot 0 x.act s
+  zero_waits : (mode : Mode) (x : KeptGenerator) (s : Option Suspended) → x.suspended ≡ s → KeepsIn m.world.codes m.globals m.world.store.made m.events mode x → IsNot 0 x.act s
   zero_waits mode x None is keeps = tt
   zero_waits Fresh x (Some s) is (t, has, act, unentered) = ne_eqb x.act 0 (λ none. let number = unentered.fresh.plays.numbered in absurd (omega (arith, none, act, number)))
   zero_waits Left x (Some s) is (t, has, act, left) = ne_eqb x.act 0 (λ none. let number = left.plays.numbered in absurd (omega (arith, none, act, number)))
   zero_waits Entered x (Some s) is none = absurd (let both : Some s ≡ None = sym is ∙ none in cc both)
   zero_waits Closed x (Some s) is none = absurd (let both : Some s ≡ None = sym is ∙ none in cc both)
 
-  pub zero_outside : (made : ℕ) (list : List KeptGenerator) → AreEach m.codes m.globals m.store.made m.events made list → IsOutside 0 list
+  pub zero_outside : (made : ℕ) (list : List KeptGenerator) → AreEach m.world.codes m.globals m.world.store.made m.events made list → IsOutside 0 list
   zero_outside made [] each = tt
   zero_outside made (x ∷ xs) each = (zero_waits x.generator.mode x x.suspended refl each.0.activation, zero_outside made xs each.1)
 
@@ -238,21 +238,21 @@ module _ (m : Core) where
   halted_keeps : (h : Halted) (slot : Option PyBaseExceptionRef) → Waits h slot → KeepsSlot slot h.running.frame.state
   halted_keeps h slot x =
       let p = x.plays in
-      runs_keep_slot m.store.made (setting_in m.codes m.globals p.code h.running.frame.closure) slot p.activation.args h.running.frame.state p.told p.run
+      runs_keep_slot m.world.store.made (setting_in m.world.codes m.globals p.code h.running.frame.closure) slot p.activation.args h.running.frame.state p.told p.run
 
   -- what is in the slot is an object, and an exception
-  pub slots_low : (hs : List Halted) → AreHalted hs → AllHold (λ x. AllBelow (length m.store.made) (number_if x)) (slots_in hs)
-  slots_low hs halted = slots_hold (λ x. AllBelow (length m.store.made) (number_if x)) tt (λ h slot x low. x.plays.running.below.in_slot) hs halted
+  pub slots_low : (hs : List Halted) → AreHalted hs → AllHold (λ x. AllBelow (length m.world.store.made) (number_if x)) (slots_in hs)
+  slots_low hs halted = slots_hold (λ x. AllBelow (length m.world.store.made) (number_if x)) tt (λ h slot x low. x.plays.running.below.in_slot) hs halted
 
-  halted_there : (h : Halted) (slot : Option PyBaseExceptionRef) → Waits h slot → RaisedThere m.store.made slot → RaisedThere m.store.made h.running.frame.state.slot
+  halted_there : (h : Halted) (slot : Option PyBaseExceptionRef) → Waits h slot → RaisedThere m.world.store.made slot → RaisedThere m.world.store.made h.running.frame.state.slot
   halted_there h slot x there =
       let state = h.running.frame.state in
       let keeps = halted_keeps h slot x in
-      let fits : FitsBut m.store.made x.plays.code (wanted x.question.request) state = subst (λ (w : Expect). FitsAt m.store.made x.plays.code w state) x.waits x.plays.running.fits in
-      subst (RaisedThere m.store.made) (sym keeps.slot) (handled_there m.store.made slot state.blocks fits.left.blocks fits.has.blocks there)
+      let fits : FitsBut m.world.store.made x.plays.code (wanted x.question.request) state = subst (λ (w : Expect). FitsAt m.world.store.made x.plays.code w state) x.waits x.plays.running.fits in
+      subst (RaisedThere m.world.store.made) (sym keeps.slot) (handled_there m.world.store.made slot state.blocks fits.left.blocks fits.has.blocks there)
 
-  pub slots_there : (hs : List Halted) → AreHalted hs → AllHold (RaisedThere m.store.made) (slots_in hs)
-  slots_there hs halted = slots_hold (RaisedThere m.store.made) tt halted_there hs halted
+  pub slots_there : (hs : List Halted) → AreHalted hs → AllHold (RaisedThere m.world.store.made) (slots_in hs)
+  slots_there hs halted = slots_hold (RaisedThere m.world.store.made) tt halted_there hs halted
 
   -- what is in the slots of one that waits is what it handles, or else what those around it do
   or_none : (own : Option PyBaseExceptionRef) → option_or own None ≡ own

@@ -68,13 +68,13 @@ runs_changed g f keeps list h y here other = elim (eqb_tells h.number g.number) 
 
 -- what becomes of the generators of a machine behind an event, where activations of such numbers wait
 pub record IsChange (m : Core) (Other : ℕ → Type 0) (store : Kept) (e : Event) (list : List KeptGenerator) : Type 0 where
-  pub carried : IsCarried Other m.generators list
-  pub each : AreEach m.codes m.globals store.made (m.events ++ e ∷ []) m.made m.generators → AreEach m.codes m.globals store.made (m.events ++ e ∷ []) m.made list
-  pub single : AreSingle m.generators → AreSingle list
+  pub carried : IsCarried Other m.world.generators list
+  pub each : AreEach m.world.codes m.globals store.made (m.events ++ e ∷ []) m.made m.world.generators → AreEach m.world.codes m.globals store.made (m.events ++ e ∷ []) m.made list
+  pub single : AreSingle m.world.generators → AreSingle list
 
 -- nothing
-pub no_change : (m : Core) (store : Kept) (e : Event) → IsChange m Anyone store e m.generators
-no_change m store e = record { carried = carried_same m.generators; each = λ each. each; single = λ single. single }
+pub no_change : (m : Core) (store : Kept) (e : Event) → IsChange m Anyone store e m.world.generators
+no_change m store e = record { carried = carried_same m.world.generators; each = λ each. each; single = λ single. single }
 
 -- what doesn't run can be closed
 abbrev pub IsStill : Mode → Type 0
@@ -96,14 +96,14 @@ other_one list g x y here still runs there =
     let same : x ≡ y = cc both in
     still_not_runs x.generator.mode still (ap (λ (z : KeptGenerator). z.generator.mode) same ∙ runs)
 
-pub shut_change : (m : Core) (store : Kept) (e : Event) (g : Obj) (x : KeptGenerator) → kept_at m.generators g ≡ Some x → IsStill x.generator.mode → IsChange m Anyone store e (changed_at g shut m.generators)
+pub shut_change : (m : Core) (store : Kept) (e : Event) (g : Obj) (x : KeptGenerator) → kept_at m.world.generators g ≡ Some x → IsStill x.generator.mode → IsChange m Anyone store e (changed_at g shut m.world.generators)
 shut_change m store e g x here still = record {
   carried = record {
-    runs = λ h y there runs other. runs_changed g shut (λ z. refl) m.generators h y there (other_one m.generators g x y here still runs);
-    outside = λ a other out. outside_changed g shut (λ z. refl) a m.generators (λ z is. tt) out;
+    runs = λ h y there runs other. runs_changed g shut (λ z. refl) m.world.generators h y there (other_one m.world.generators g x y here still runs);
+    outside = λ a other out. outside_changed g shut (λ z. refl) a m.world.generators (λ z is. tt) out;
   };
-  each = λ each. each_changed m.codes m.globals store.made (m.events ++ e ∷ []) m.made g shut m.generators (λ z is k. record { body = k.body; entry = k.entry; kind_is = k.kind_is; activation = refl; low = k.low }) each;
-  single = λ single. single_changed g shut (λ z. refl) (λ z. refl) m.generators single;
+  each = λ each. each_changed m.world.codes m.globals store.made (m.events ++ e ∷ []) m.made g shut m.world.generators (λ z is k. record { body = k.body; entry = k.entry; kind_is = k.kind_is; activation = refl; low = k.low }) each;
+  single = λ single. single_changed g shut (λ z. refl) (λ z. refl) m.world.generators single;
 }
 
 -- numbers but this one
@@ -111,7 +111,7 @@ abbrev pub But : ℕ → ℕ → Type 0
 But n a = eqb a n ≡ false
 
 -- a generator that runs is left
-module _ (m : Core) (store : Kept) (e : Event) (g : Obj) (s : Suspended) (how : CoroEnd) (x : KeptGenerator) (here : kept_at m.generators g ≡ Some x) (act : x.act ≡ s.running.act) where
+module _ (m : Core) (store : Kept) (e : Event) (g : Obj) (s : Suspended) (how : CoroEnd) (x : KeptGenerator) (here : kept_at m.world.generators g ≡ Some x) (act : x.act ≡ s.running.act) where
   -- what is kept then waits for what isn't this one
   kept_other : (a : ℕ) (mode : Mode) → But x.act a → IsNot a x.act (kept_in mode s)
   kept_other a Fresh other = tt
@@ -132,32 +132,32 @@ module _ (m : Core) (store : Kept) (e : Event) (g : Obj) (s : Suspended) (how : 
   not_entered false (Return v) = (λ is. absurd (cc is), λ is. absurd (cc is))
   not_entered false (Raise v) = (λ is. absurd (cc is), λ is. absurd (cc is))
 
-  pub settled_change : (mode_behind x.generator.closing how ≡ Left → IsLeft m.codes m.globals store.made (m.events ++ e ∷ []) s) → IsChange m (But x.act) store e (changed_at g (settled s how) m.generators)
+  pub settled_change : (mode_behind x.generator.closing how ≡ Left → IsLeft m.world.codes m.globals store.made (m.events ++ e ∷ []) s) → IsChange m (But x.act) store e (changed_at g (settled s how) m.world.generators)
   settled_change left = record {
     carried = record {
-      runs = λ h y there runs other. runs_changed g (settled s how) (λ z. refl) m.generators h y there (λ mine. is_other y other mine);
-      outside = λ a other out. outside_changed g (settled s how) (λ z. refl) a m.generators (λ z is. subst (λ (w : KeptGenerator). IsNot a w.act (kept_in (mode_behind w.generator.closing how) s)) (one z is) (kept_other a (mode_behind x.generator.closing how) other)) out;
+      runs = λ h y there runs other. runs_changed g (settled s how) (λ z. refl) m.world.generators h y there (λ mine. is_other y other mine);
+      outside = λ a other out. outside_changed g (settled s how) (λ z. refl) a m.world.generators (λ z is. subst (λ (w : KeptGenerator). IsNot a w.act (kept_in (mode_behind w.generator.closing how) s)) (one z is) (kept_other a (mode_behind x.generator.closing how) other)) out;
     };
-    each = λ each. each_changed m.codes m.globals store.made (m.events ++ e ∷ []) m.made g (settled s how) m.generators
-        (λ z is k. subst (λ (w : KeptGenerator). IsKept m.codes m.globals store.made (m.events ++ e ∷ []) m.made (settled s how w)) (one z is) (kept_so (subst (IsKept m.codes m.globals store.made (m.events ++ e ∷ []) m.made) (sym (one z is)) k))) each;
-    single = λ single. single_changed g (settled s how) (λ z. refl) (λ z. refl) m.generators single;
+    each = λ each. each_changed m.world.codes m.globals store.made (m.events ++ e ∷ []) m.made g (settled s how) m.world.generators
+        (λ z is k. subst (λ (w : KeptGenerator). IsKept m.world.codes m.globals store.made (m.events ++ e ∷ []) m.made (settled s how w)) (one z is) (kept_so (subst (IsKept m.world.codes m.globals store.made (m.events ++ e ∷ []) m.made) (sym (one z is)) k))) each;
+    single = λ single. single_changed g (settled s how) (λ z. refl) (λ z. refl) m.world.generators single;
   }
     where
-      one : (z : KeptGenerator) → kept_at m.generators g ≡ Some z → x ≡ z
+      one : (z : KeptGenerator) → kept_at m.world.generators g ≡ Some z → x ≡ z
       one z is = let both : Some x ≡ Some z = sym here ∙ is in cc both
 
-      is_other : (y : KeptGenerator) → But x.act y.act → kept_at m.generators g ≡ Some y → ⊥
+      is_other : (y : KeptGenerator) → But x.act y.act → kept_at m.world.generators g ≡ Some y → ⊥
       is_other y other mine = elim (eqb_tells y.act x.act) [
         | inl equal ↦ absurd (let clash : true ≡ false = sym equal.0 ∙ other in cc clash)
         | inr differs ↦ differs.1 (ap (λ (w : KeptGenerator). w.act) (sym (one y mine)))
       ]
 
-      kept_so : IsKept m.codes m.globals store.made (m.events ++ e ∷ []) m.made x → IsKept m.codes m.globals store.made (m.events ++ e ∷ []) m.made (settled s how x)
+      kept_so : IsKept m.world.codes m.globals store.made (m.events ++ e ∷ []) m.made x → IsKept m.world.codes m.globals store.made (m.events ++ e ∷ []) m.made (settled s how x)
       kept_so k = record {
         body = k.body;
         entry = k.entry;
         kind_is = k.kind_is;
-        activation = kept_by m.codes m.globals store.made (m.events ++ e ∷ []) (mode_behind x.generator.closing how) (not_entered x.generator.closing how).0 (not_entered x.generator.closing how).1 left;
+        activation = kept_by m.world.codes m.globals store.made (m.events ++ e ∷ []) (mode_behind x.generator.closing how) (not_entered x.generator.closing how).0 (not_entered x.generator.closing how).1 left;
         low = k.low;
       }
 
@@ -187,15 +187,15 @@ each_more : (codes : Checked) (globals : Obj) (objects : List Payload) (events :
 each_more codes globals objects events made [] x k each = (k, tt)
 each_more codes globals objects events made (z ∷ zs) x k each = (each.0, each_more codes globals objects events made zs x k each.1)
 
-pub created_change : (m : Core) (store : Kept) (e : Event) (x : KeptGenerator) → IsNoOnes x.act m.generators → IsKept m.codes m.globals store.made (m.events ++ e ∷ []) m.made x
-    → IsChange m (But x.act) store e (m.generators ++ x ∷ [])
+pub created_change : (m : Core) (store : Kept) (e : Event) (x : KeptGenerator) → IsNoOnes x.act m.world.generators → IsKept m.world.codes m.globals store.made (m.events ++ e ∷ []) m.made x
+    → IsChange m (But x.act) store e (m.world.generators ++ x ∷ [])
 created_change m store e x none kept = record {
   carried = record {
-    runs = λ h y there runs other. kept_more m.generators x h y there;
-    outside = λ a other out. outside_more a m.generators x (waits a other x.suspended) out;
+    runs = λ h y there runs other. kept_more m.world.generators x h y there;
+    outside = λ a other out. outside_more a m.world.generators x (waits a other x.suspended) out;
   };
-  each = λ each. each_more m.codes m.globals store.made (m.events ++ e ∷ []) m.made m.generators x kept each;
-  single = λ single. single_more m.generators x none single;
+  each = λ each. each_more m.world.codes m.globals store.made (m.events ++ e ∷ []) m.made m.world.generators x kept each;
+  single = λ single. single_more m.world.generators x none single;
 }
   where
     waits : (a : ℕ) → But x.act a → (s : Option Suspended) → IsNot a x.act s

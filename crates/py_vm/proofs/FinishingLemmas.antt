@@ -1,5 +1,5 @@
 -- Activations that become generators, and those that were left: who asked gets the answer.
-use Rattle.std.proofs.Common.{◌≡◌, ◌++◌, ℕ, suc, List, [], ◌∷◌, Some, Bool, true, false, eqb, refl, sym, ap, subst, ◌∙◌, length, ◌+◌, ◌≤◌, ne_eqb, arith}
+use Rattle.std.proofs.Common.{◌≡◌, ◌++◌, ℕ, suc, List, [], ◌∷◌, Some, Bool, true, false, eqb, refl, sym, ap, subst, ◌∙◌, length, ◌≤◌, ne_eqb, arith}
 use Rattle.std.specs.Prelude.{Option, None}
 use Rattle.std.proofs.lemmas.List.{map-append}
 use Rattle.std.proofs.lemmas.Option.{slice_get_within}
@@ -76,7 +76,7 @@ any_answer objects (given.Passed e) heard raises = raises
 
 -- the question of who asks in a run
 pub their_question : (m : Core) (d : Drive) (hs : List Halted) (asked_by : AskedBy m d hs) (q : Request) (asked : List Posed) → IsTheirs m d hs asked_by q → (state_after start m.events).done ≡ m.done → IsNext m d asked
-    → question (plan_of m.codes asked) (state_after start m.events) ≡ Some q
+    → question (plan_of m.world.codes asked) (state_after start m.events) ≡ Some q
 their_question m d [] alone q asked theirs done is = drive_asks m d asked done alone.stack is ∙ ap Some theirs
 their_question m d (h ∷ hs) waits q asked theirs done is = body_asks m h (caller_acts m.events hs) asked (first_slot h.running.kind hs, waits.halted) waits.stack ∙ ap Some theirs
 
@@ -85,7 +85,7 @@ pub record Asker (m : Core) (d : Drive) (hs : List Halted) (kind : Option CoroKi
   pub asked_by : AskedBy m d hs
   pub q : Request
   pub theirs : IsTheirs m d hs asked_by q
-  pub entered : HasEntered m.generators q kind a
+  pub entered : HasEntered m.world.generators q kind a
   pub known : is_answered q ≡ true
   pub is : (r : Request) → Questioned m.events d hs r → r ≡ q
 
@@ -98,7 +98,7 @@ drive_answered (Close g) = refl
 
 -- they are there while no activation goes on
 pub asker : (m : Core) (d : Drive) (kind : Option CoroKind) (a : ℕ) (hs : List Halted) → (state_after start m.events).stack ≡ caller_acts m.events hs → m.frames ≡ caller_frames hs → m.slots ≡ slots_in hs → AreApart hs
-    → IsInside m.codes m.globals m.store.made m.events m.generators d kind a hs → Asker m d hs kind a
+    → IsInside m.world.codes m.globals m.world.store.made m.events m.world.generators d kind a hs → Asker m d hs kind a
 asker m d kind a [] stack frames slots apart inside = record {
   asked_by = record { stack = stack; frames = frames; slots = slots };
   q = request_of d;
@@ -181,20 +181,20 @@ module _ (m : Core) (d : Drive) (r : Running) (f : Obj) (kind : CoroKind) (x : K
   abbrev body : CoroBody
   body = record { activation = r.act; name = new.body.name; kind = kind }
 
-  grown : IsGrown m.store store
-  grown = added_grown m.store store (payload.Generator body) new.added refl (λ fit. tt) (λ fit. tt)
+  grown : IsGrown m.world.store store
+  grown = added_grown m.world.store store (payload.Generator body) new.added refl refl (λ fit. tt) (λ fit. tt)
 
   number : r.act ≡ length (state_after start m.events).made
   number = k.at_stage.2 ∙ sym k.follows.made
 
   -- the call makes it
-  makes : (objects : List Payload) → GrowsPlainly m.store.made objects → (asked : List Posed) → MakesGenerator (plan_of m.codes asked) objects f (length (state_after start m.events).made) (Creates body)
+  makes : (objects : List Payload) → GrowsPlainly m.world.store.made objects → (asked : List Posed) → MakesGenerator (plan_of m.world.codes asked) objects f (length (state_after start m.events).made) (Creates body)
   makes objects more asked =
       let p = k.at_stage.0.plays in
-      let function_is : HasPayload m.store.made f (payload.Function p.body) = subst (λ o. HasPayload m.store.made o (payload.Function p.body)) k.at_stage.1 p.is_function in
-      let same_body : new.body ≡ p.body = same_function m.store.made f new.body p.body new.function function_is in (
+      let function_is : HasPayload m.world.store.made f (payload.Function p.body) = subst (λ o. HasPayload m.world.store.made o (payload.Function p.body)) k.at_stage.1 p.is_function in
+      let same_body : new.body ≡ p.body = same_function m.world.store.made f new.body p.body new.function function_is in (
         kind,
-        record { body = p.body; entry = payload_grown m.store.made objects f _ (plainly_grows m.store.made objects more) function_is; signature = signature_in m.codes.names p.code; signed = signature_at m.codes p.body.code p.code p.is_code; kind_is = sym p.kind_is ∙ is_kind },
+        record { body = p.body; entry = payload_grown m.world.store.made objects f _ (plainly_grows m.world.store.made objects more) function_is; signature = signature_in m.world.codes.names p.code; signed = signature_at m.world.codes p.body.code p.code p.is_code; kind_is = sym p.kind_is ∙ is_kind },
         ap (λ n. Creates (record { activation = n; name = new.body.name; kind = kind })) number
             ∙ ap (λ (b : FunctionBody). Creates (record { activation = length (state_after start m.events).made; name = b.name; kind = kind })) same_body,
       )
@@ -202,27 +202,27 @@ module _ (m : Core) (d : Drive) (r : Running) (f : Obj) (kind : CoroKind) (x : K
   -- its object is there
   has : HasPayload store.made x.object (payload.Generator body)
   has =
-      let more : List Payload = m.store.made ++ payload.Generator body ∷ [] in
-      subst (λ (s : Kept). HasPayload s.made x.object (payload.Generator body)) (sym new.added) (subst (λ o. HasPayload more o (payload.Generator body)) (sym new.object) (newest m.store.made (payload.Generator body)))
+      let more : List Payload = m.world.store.made ++ payload.Generator body ∷ [] in
+      subst (λ (s : Kept). HasPayload s.made x.object (payload.Generator body)) (sym new.added) (subst (λ o. HasPayload more o (payload.Generator body)) (sym new.object) (newest m.world.store.made (payload.Generator body)))
 
   -- the value that is answered
-  replied : IsReplied m.store.made store.made (Creates body) (made.Value x.object)
+  replied : IsReplied m.world.store.made store.made (Creates body) (made.Value x.object)
   replied = record {
     plain = refl;
-    gives = λ before named. (past_is_new m.store.made store.made before x.object.number grown.objects named (subst (λ n. length m.store.made ≤ n) (sym (ap (λ (o : Obj). o.number) new.object)) (omega arith)), has);
+    gives = λ before named. (past_is_new m.world.store.made store.made before x.object.number grown.objects named (subst (λ n. length m.world.store.made ≤ n) (sym (ap (λ (o : Obj). o.number) new.object)) (omega arith)), has);
     below = slice_get_within store.made x.object.number _ has;
   }
 
   -- what becomes of the generators
-  change : (hs : List Halted) → IsApart r.act hs → (store' : Kept) (e : Event) → IsGrown m.store store' → who hs ≡ whose e → GrowsPlainly store.made store'.made → IsChange m (But x.act) store' e (m.generators ++ x ∷ [])
+  change : (hs : List Halted) → IsApart r.act hs → (store' : Kept) (e : Event) → IsGrown m.world.store store' → who hs ≡ whose e → GrowsPlainly store.made store'.made → IsChange m (But x.act) store' e (m.world.generators ++ x ∷ [])
   change hs apart store' e more mine after =
       let p = k.at_stage.0.plays in
-      let grows : Grows m.store.made store'.made = objects_grow m.store store' more in
-      created_change m store' e x (subst (λ n. IsNoOnes n m.generators) (sym new.act) k.at_stage.4) (record {
+      let grows : Grows m.world.store.made store'.made = objects_grow m.world.store store' more in
+      created_change m store' e x (subst (λ n. IsNoOnes n m.world.generators) (sym new.act) k.at_stage.4) (record {
         body = body;
         entry = payload_grown store.made store'.made x.object _ (plainly_grows store.made store'.made after) has;
         kind_is = new.kind_is;
-        activation = subst (λ mode. KeepsIn m.codes m.globals store'.made (m.events ++ e ∷ []) mode x) (sym new.fresh) (
+        activation = subst (λ mode. KeepsIn m.world.codes m.globals store'.made (m.events ++ e ∷ []) mode x) (sym new.fresh) (
           record { running = r; slot = None },
           new.activation,
           sym new.act,
@@ -231,23 +231,23 @@ module _ (m : Core) (d : Drive) (r : Running) (f : Obj) (kind : CoroKind) (x : K
         low = subst (λ n. n ≤ m.made) (sym (new.act ∙ k.at_stage.2)) (omega arith);
       })
 
-  fold : (q : (asked : List Posed) → Option Request) → ((asked : List Posed) → question (plan_of m.codes asked) (state_after start m.events) ≡ q asked) → IsFold m d (MayBe (made.Value x.object)) (m.generators ++ x ∷ [])
+  fold : (q : (asked : List Posed) → Option Request) → ((asked : List Posed) → question (plan_of m.world.codes asked) (state_after start m.events) ≡ q asked) → IsFold m d (MayBe (made.Value x.object)) (m.world.generators ++ x ∷ [])
   fold q is asked v next may =
       let st = state_after start m.events in
-      ap (λ phase. answered (question (plan_of m.codes asked) st) phase (length st.made) v (modes_of m.generators)) k.follows.phase
-      ∙ ap (λ o. created (length st.made) o (modes_of m.generators)) may ∙ created_seen m.generators x (length st.made) new.fresh (sym number ∙ sym new.act)
+      ap (λ phase. answered (question (plan_of m.world.codes asked) st) phase (length st.made) v (modes_of m.world.generators)) k.follows.phase
+      ∙ ap (λ o. created (length st.made) o (modes_of m.world.generators)) may ∙ created_seen m.world.generators x (length st.made) new.fresh (sym number ∙ sym new.act)
 
-  pub created_law : (a : Option DriveAnswer) (m' : Core) → Replies (record m { store = store; generators = m.generators ++ x ∷ [] }) (made.Value x.object) m.callers a m' → Turns m d (stage.Made r f) a m'
+  pub created_law : (a : Option DriveAnswer) (m' : Core) → Replies (record m { world = record m.world { store = store; generators = m.world.generators ++ x ∷ [] } }) (made.Value x.object) m.callers a m' → Turns m d (stage.Made r f) a m'
   created_law a m' replies =
       let hs : List Halted = m.callers in
       let asks : Asker m d hs None r.act = asker m d None r.act hs k.follows.stack k.nested.frames k.nested.slots k.nested.apart k.at_stage.5 in
-      replies_law m d (stage.Made r f) hs store (m.generators ++ x ∷ []) (Creates body) (made.Value x.object) a m' (But x.act) k grown asks.asked_by
+      replies_law m d (stage.Made r f) hs store (m.world.generators ++ x ∷ []) (Creates body) (made.Value x.object) a m' (But x.act) k grown asks.asked_by
       (any_fits m d store (Creates body) hs asks.asked_by asks.q asks.theirs (calling_any asks.q asks.entered))
       (λ objects more. made_answers m d asks.q objects f kind (Creates body) k.follows.phase (λ asked next. their_question m d hs asks.asked_by asks.q asked asks.theirs k.follows.done next)
-      (makes objects (grows_plainly_trans m.store.made store.made objects grown.objects more)))
+      (makes objects (grows_plainly_trans m.world.store.made store.made objects grown.objects more)))
       replied (λ store' e more mine after. change hs k.at_stage.3 store' e more mine after)
       (subst (λ n. AreOthers (But n) hs) (sym new.act) (others_but r.act hs k.at_stage.3))
-      (fold (λ asked. question (plan_of m.codes asked) (state_after start m.events)) (λ asked. refl)) (λ none. none) replies
+      (fold (λ asked. question (plan_of m.world.codes asked) (state_after start m.events)) (λ asked. refl)) (λ none. none) replies
 
 -- ---- an activation was left
 
@@ -278,8 +278,8 @@ settles_mode (request.Close h) g how xs asks = let same : h ≡ g = cc asks in a
 settles_mode _ g how xs asks = absurd (cc asks)
 
 -- one that may be entered again was left by a yield
-left_then : (m : Core) (objects : List Payload) (e : Event) (s : Suspended) (hs : List Halted) (closing : Bool) (how : CoroEnd) → Grows m.store.made objects → who hs ≡ whose e → IsApart s.running.act hs
-    → LeavesAs m.codes m.globals m.store.made m.events s how → mode_behind closing how ≡ Left → IsLeft m.codes m.globals objects (m.events ++ e ∷ []) s
+left_then : (m : Core) (objects : List Payload) (e : Event) (s : Suspended) (hs : List Halted) (closing : Bool) (how : CoroEnd) → Grows m.world.store.made objects → who hs ≡ whose e → IsApart s.running.act hs
+    → LeavesAs m.world.codes m.globals m.world.store.made m.events s how → mode_behind closing how ≡ Left → IsLeft m.world.codes m.globals objects (m.events ++ e ∷ []) s
 left_then m objects e s hs true how grows mine apart leaves is = absurd (cc is)
 left_then m objects e s hs false (left.Yield v) grows mine apart leaves is =
     left_still m objects e grows s (subst (λ n. eqb s.running.act n ≡ false) mine (apart_who s.running.act leaves.plays.at hs leaves.plays.numbered apart)) leaves
@@ -287,8 +287,8 @@ left_then m objects e s hs false (left.Return v) grows mine apart leaves is = ab
 left_then m objects e s hs false (left.Raise x) grows mine apart leaves is = absurd (cc is)
 
 -- a call is answered how its activation was left
-call_replied : (m : Core) (s : Suspended) (how : CoroEnd) → s.running.kind ≡ None → IsEnding m.store.made how → LeavesAs m.codes m.globals m.store.made m.events s how
-    → (reply : Reply) × LeavesCalled how reply × IsReplied m.store.made m.store.made reply (passed how)
+call_replied : (m : Core) (s : Suspended) (how : CoroEnd) → s.running.kind ≡ None → IsEnding m.world.store.made how → LeavesAs m.world.codes m.globals m.world.store.made m.events s how
+    → (reply : Reply) × LeavesCalled how reply × IsReplied m.world.store.made m.world.store.made reply (passed how)
 call_replied m s (left.Yield v) plain ending leaves = absurd (let clash : Some leaves.kind ≡ None = sym leaves.kind_is ∙ plain in cc clash)
 call_replied m s (left.Return v) plain ending leaves = (Is v, refl, record { plain = refl; gives = λ before named. refl; below = ending })
 call_replied m s (left.Raise e) plain ending leaves = (Passes (This e), refl, record { plain = refl; gives = λ before named. refl; below = ending.0; raises = ending.1 })
@@ -297,30 +297,30 @@ module _ (m : Core) (d : Drive) (s : Suspended) (how : CoroEnd) (k : Keeps m d (
   abbrev asks : Asker m d m.callers s.running.kind s.running.act
   asks = asker m d s.running.kind s.running.act m.callers k.follows.stack k.nested.frames k.nested.slots k.nested.apart k.at_stage.2.inside
 
-  asked_there : (asked : List Posed) → IsNext m d asked → question (plan_of m.codes asked) (state_after start m.events) ≡ Some asks.q
+  asked_there : (asked : List Posed) → IsNext m d asked → question (plan_of m.world.codes asked) (state_after start m.events) ≡ Some asks.q
   asked_there asked next = their_question m d m.callers asks.asked_by asks.q asked asks.theirs k.follows.done next
 
   -- so the question is settled that is open
-  settled_there : (list : List KeptGenerator) → settles (Some asks.q) how (modes_of m.generators) ≡ modes_of list → (May : Option Obj → Type 0) → IsFold m d May list
+  settled_there : (list : List KeptGenerator) → settles (Some asks.q) how (modes_of m.world.generators) ≡ modes_of list → (May : Option Obj → Type 0) → IsFold m d May list
   settled_there list same May asked v next may =
       let st = state_after start m.events in
-      ap (λ phase. answered (question (plan_of m.codes asked) st) phase (length st.made) v (modes_of m.generators)) k.follows.phase
-      ∙ ap (λ q. settles q how (modes_of m.generators)) (asked_there asked next) ∙ same
+      ap (λ phase. answered (question (plan_of m.world.codes asked) st) phase (length st.made) v (modes_of m.world.generators)) k.follows.phase
+      ∙ ap (λ q. settles q how (modes_of m.world.generators)) (asked_there asked next) ∙ same
 
   -- that of a call
-  finished_call : s.running.kind ≡ None → HasEntered m.generators asks.q None s.running.act → (a : Option DriveAnswer) (m' : Core) → Replies m (passed how) m.callers a m' → Turns m d (stage.Due s how) a m'
+  finished_call : s.running.kind ≡ None → HasEntered m.world.generators asks.q None s.running.act → (a : Option DriveAnswer) (m' : Core) → Replies m (passed how) m.callers a m' → Turns m d (stage.Due s how) a m'
   finished_call plain calls a m' replies =
       let (reply, leaves, replied) = call_replied m s how plain k.at_stage.0 k.at_stage.1 in
-      let due : IsDue m.store.made asks.q how reply = calling_due m.store.made asks.q how reply calls leaves in
-      replies_law m d (stage.Due s how) m.callers m.store m.generators reply (passed how) a m' Anyone k (grown_refl m.store) asks.asked_by
-      (any_fits m d m.store reply m.callers asks.asked_by asks.q asks.theirs (calling_any asks.q calls))
-      (λ objects more asked next. answered_grows (plan_of m.codes asked) m.store.made objects (past_at m) reply more (due_answers m d asks.q m.store how reply (grown_refl m.store) k.follows.phase asked_there due asked next))
+      let due : IsDue m.world.store.made asks.q how reply = calling_due m.world.store.made asks.q how reply calls leaves in
+      replies_law m d (stage.Due s how) m.callers m.world.store m.world.generators reply (passed how) a m' Anyone k (grown_refl m.world.store) asks.asked_by
+      (any_fits m d m.world.store reply m.callers asks.asked_by asks.q asks.theirs (calling_any asks.q calls))
+      (λ objects more asked next. answered_grows (plan_of m.world.codes asked) m.world.store.made objects (past_at m) reply more (due_answers m d asks.q m.world.store how reply (grown_refl m.world.store) k.follows.phase asked_there due asked next))
       replied (λ store' e more mine after. no_change m store' e) (all_others m.callers)
-      (settled_there m.generators (calling_settles asks.q how (modes_of m.generators) calls) (MayBe (passed how))) (λ none. none) replies
+      (settled_there m.world.generators (calling_settles asks.q how (modes_of m.world.generators) calls) (MayBe (passed how))) (λ none. none) replies
 
   -- that of a generator
-  finished_generator : (kind : CoroKind) → EntersGenerator m.generators asks.q s.running.act → (store : Kept) (list : List KeptGenerator) (w : MadeReply) → IsSettled m s how (generator_asked asks.q) store list w
-      → (a : Option DriveAnswer) (m' : Core) → Replies (record m { store = store; generators = list }) w m.callers a m' → Turns m d (stage.Due s how) a m'
+  finished_generator : (kind : CoroKind) → EntersGenerator m.world.generators asks.q s.running.act → (store : Kept) (list : List KeptGenerator) (w : MadeReply) → IsSettled m s how (generator_asked asks.q) store list w
+      → (a : Option DriveAnswer) (m' : Core) → Replies (record m { world = record m.world { store = store; generators = list } }) w m.callers a m' → Turns m d (stage.Due s how) a m'
   finished_generator kind enters store list w is_settled a m' replies =
       let g : Obj = enters.object in
       let (x, here, body, has, answer, finishes, grown, changes, replied) = subst (λ o. IsSettled m s how o store list w) enters.asks is_settled in
@@ -328,18 +328,18 @@ module _ (m : Core) (d : Drive) (s : Suspended) (how : CoroEnd) (k : Keeps m d (
       let one : x ≡ enters.kept = cc both in
       let closing : x.generator.closing ≡ is_close asks.q = ap (λ (y : KeptGenerator). y.generator.closing) one ∙ enters.closing in
       let act : x.act ≡ s.running.act = ap (λ (y : KeptGenerator). y.act) one ∙ enters.act in
-      let kinds : x.generator.kind ≡ body.kind = kind_at m.codes m.globals m.store.made m.events m.made m.generators g x body here k.kept.each has in
+      let kinds : x.generator.kind ≡ body.kind = kind_at m.world.codes m.globals m.world.store.made m.events m.made m.world.generators g x body here k.kept.each has in
       let reply : Reply = reply_by (word_of body.kind) answer in
-      let due : IsDue m.store.made asks.q how reply = generator_due m.store.made asks.q g how reply asks.known enters.asks (body, has, answer, subst (λ c. Finishes m.store.made body.kind c how answer) closing (subst (λ n. Finishes m.store.made n x.generator.closing how answer) kinds finishes), refl) in
+      let due : IsDue m.world.store.made asks.q how reply = generator_due m.world.store.made asks.q g how reply asks.known enters.asks (body, has, answer, subst (λ c. Finishes m.world.store.made body.kind c how answer) closing (subst (λ n. Finishes m.world.store.made n x.generator.closing how answer) kinds finishes), refl) in
       let others : IsApart s.running.act m.callers = k.at_stage.2.apart in
       replies_law m d (stage.Due s how) m.callers store list reply w a m' (But x.act) k grown asks.asked_by
       (any_fits m d store reply m.callers asks.asked_by asks.q asks.theirs (wants_any asks.q g enters.asks))
-      (λ objects more asked next. answered_grows (plan_of m.codes asked) store.made objects (past_at m) reply more (due_answers m d asks.q store how reply grown k.follows.phase asked_there due asked next))
+      (λ objects more asked next. answered_grows (plan_of m.world.codes asked) store.made objects (past_at m) reply more (due_answers m d asks.q store how reply grown k.follows.phase asked_there due asked next))
       replied (λ store' e more mine after. subst (IsChange m (But x.act) store' e) (sym changes)
-      (settled_change m store' e g s how x here act (left_then m store'.made e s m.callers x.generator.closing how (objects_grow m.store store' more) mine others k.at_stage.1)))
+      (settled_change m store' e g s how x here act (left_then m store'.made e s m.callers x.generator.closing how (objects_grow m.world.store store' more) mine others k.at_stage.1)))
       (subst (λ n. AreOthers (But n) m.callers) (sym act) (others_but s.running.act m.callers others))
-      (settled_there list (settles_mode asks.q g how (modes_of m.generators) enters.asks
-      ∙ sym (modes_changed_one g (settled s how) (λ y. refl) (λ y. refl) (λ mode. mode_behind (is_close asks.q) how) m.generators (λ y is. moved x y closing (let same : Some x ≡ Some y = sym here ∙ is in cc same)))
+      (settled_there list (settles_mode asks.q g how (modes_of m.world.generators) enters.asks
+      ∙ sym (modes_changed_one g (settled s how) (λ y. refl) (λ y. refl) (λ mode. mode_behind (is_close asks.q) how) m.world.generators (λ y is. moved x y closing (let same : Some x ≡ Some y = sym here ∙ is in cc same)))
       ∙ ap modes_of (sym changes)) (MayBe w)) (λ none. none) replies
     where
       moved : (x y : KeptGenerator) → x.generator.closing ≡ is_close asks.q → x ≡ y → (settled s how y).generator.mode ≡ mode_behind (is_close asks.q) how
@@ -351,9 +351,9 @@ module _ (m : Core) (d : Drive) (s : Suspended) (how : CoroEnd) (k : Keeps m d (
       settled_so : IsSettled m s how (generator_asked asks.q) store list w
       settled_so = subst (λ r. IsSettled m s how (generator_asked r) store list w) (asks.is q questioned) is_settled
 
-      by_kind : (kind : Option CoroKind) → s.running.kind ≡ kind → HasEntered m.generators asks.q kind s.running.act → Turns m d (stage.Due s how) a m'
+      by_kind : (kind : Option CoroKind) → s.running.kind ≡ kind → HasEntered m.world.generators asks.q kind s.running.act → Turns m d (stage.Due s how) a m'
       by_kind None plain calls =
           let (store_is, list_is, w_is) = subst (λ o. IsSettled m s how o store list w) (calling_none asks.q calls) settled_so in
-          finished_call plain calls a m' (subst (λ y. Replies m y m.callers a m') w_is (subst (λ l. Replies (record m { generators = l }) w m.callers a m') list_is
-          (subst (λ (t : Kept). Replies (record m { store = t; generators = list }) w m.callers a m') store_is replies)))
+          finished_call plain calls a m' (subst (λ y. Replies m y m.callers a m') w_is (subst (λ l. Replies (record m { world = record m.world { generators = l } }) w m.callers a m') list_is
+          (subst (λ (t : Kept). Replies (record m { world = record m.world { store = t; generators = list } }) w m.callers a m') store_is replies)))
       by_kind (Some kind) is enters = finished_generator kind enters store list w settled_so a m' replies

@@ -1,5 +1,5 @@
 -- A machine that was just made holds what it has to, and is between drives.
-use Rattle.std.proofs.Common.{◌≡◌, ◌<◌, ◌+◌, ◌^◌, ◌++◌, ℕ, List, [], ◌∷◌, true, false, Some, refl, sym, ap, subst, ◌∙◌, length, append_assoc, arith}
+use Rattle.std.proofs.Common.{◌≡◌, ◌<◌, ◌^◌, ◌++◌, ℕ, List, [], ◌∷◌, true, false, Some, refl, sym, ap, subst, ◌∙◌, length, append_assoc, arith}
 use Rattle.std.specs.Prelude.{None, slice_get}
 use Rattle.py_objects.specs.declared.payload.Payload.{Payload}
 use Rattle.py_objects.specs.declared.payload.Payload.TheVariants as payload
@@ -25,6 +25,7 @@ use Rattle.py_run.proofs.OwnLemmas.{own_events-nil}
 use Rattle.py_objects.proofs.GrownLemmas.{added_made}
 use Rattle.py_objects.specs.Growth.{with_object}
 use Rattle.py_objects.proofs.NewLemmas.{added_has}
+use Rattle.py_objects.specs.FrameEntries.{frames_in}
 
 -- the names that a machine begins with
 first_declared : (x : Name) → value_of x (declarations_of first_classes) ≡ declared first_objects x
@@ -88,15 +89,15 @@ dict_begins old new zoo pairs globals begun none added last =
     }
 
 -- a machine that has done nothing, as callers see it
-pub seen_first : (m : Core) (names : List Name) → m.store.made ≡ first_objects → m.store.changes ≡ [] → m.codes ≡ record { names = names; codes = [] } → m.globals ≡ first_globals → m.events ≡ [] → m.generators ≡ [] → m.frames ≡ []
+pub seen_first : (m : Core) (names : List Name) → m.world.store.made ≡ first_objects → m.world.store.changes ≡ [] → m.world.codes ≡ record { names = names; codes = [] } → m.globals ≡ first_globals → m.events ≡ [] → m.world.generators ≡ [] → m.frames ≡ []
     → seen m ≡ record (new_machine names) { entered = m.entered; failed = m.failed; state = m.state }
 seen_first m names objects unchanged codes globals no_events no_generators no_frames = rw (objects, unchanged, codes, globals, no_events, no_generators, no_frames)
 
 -- a machine that has done nothing is between drives
-pub start_idle : (m : Core) → m.events ≡ [] → Begins m.store m.zoo m.globals → m.codes.codes ≡ [] → m.declarations ≡ declarations_of first_classes → m.done ≡ 0 → m.made ≡ 0
-    → m.callers ≡ [] → m.generators ≡ [] → m.frames ≡ [] → m.slots ≡ None ∷ [] → m.raises ≡ [] → m.stage ≡ stage.Idle → IsIdle m
+pub start_idle : (m : Core) → m.events ≡ [] → Begins m.world.store m.world.zoo m.globals → m.world.codes.codes ≡ [] → m.world.declarations ≡ declarations_of first_classes → m.done ≡ 0 → m.made ≡ 0
+    → m.callers ≡ [] → m.world.generators ≡ [] → m.frames ≡ [] → m.slots ≡ None ∷ [] → m.raises ≡ [] → m.stage ≡ stage.Idle → IsIdle m
 start_idle m no_events begins no_codes names none_done none_made no_callers no_generators no_frames empty no_raises idle =
-    let fit : AllFit m.store.made = subst AllFit (sym begins.objects) first_fit in
+    let fit : AllFit m.world.store.made = subst AllFit (sym begins.objects) first_fit in
     let nothing : state_after start m.events ≡ start = ap (state_after start) no_events in
     record {
       keeps = λ d. record {
@@ -111,7 +112,7 @@ start_idle m no_events begins no_codes names none_done none_made no_callers no_g
             unread = λ i c here. absurd (let none : None ≡ Some c = sym (ap (λ l. slice_get l i) begins.unchanged) ∙ here in cc none);
             fit = fit;
           };
-          classes = subst (λ zoo. HaveClasses zoo m.store.made) (sym begins.classes) (subst (HaveClasses first_classes) (sym begins.objects) first_have);
+          classes = subst (λ zoo. HaveClasses zoo m.world.store.made) (sym begins.classes) (subst (HaveClasses first_classes) (sym begins.objects) first_have);
           dict = ([], begins.globals_are);
           names_are = λ x. ap (value_of x) names ∙ first_declared x ∙ ap (λ os. declared os x) (sym begins.objects);
         };
@@ -127,15 +128,16 @@ start_idle m no_events begins no_codes names none_done none_made no_callers no_g
             in_events = λ i e here. absurd (let none : None ≡ Some e = sym (ap (λ l. slice_get l i) no_events) ∙ here in cc none);
             in_payloads = λ i p here. (fit i p here).0;
           };
+          framed = ap (λ (os : List Payload). length (frames_in os)) begins.objects ∙ sym none_made;
         };
-        kept = subst (AreKept m.codes m.globals m.store.made m.events m.made) (sym no_generators) (record { each = tt; single = tt });
+        kept = subst (AreKept m.world.codes m.globals m.world.store.made m.events m.made) (sym no_generators) (record { each = tt; single = tt });
         nested = record {
           apart = subst AreApart (sym no_callers) tt;
           frames = no_frames ∙ ap (λ hs. frames_at hs stage.Idle) (sym no_callers) ∙ ap (frames_at m.callers) (sym idle);
           slots = empty ∙ ap (λ hs. slots_at hs stage.Idle) (sym no_callers) ∙ ap (slots_at m.callers) (sym idle);
         };
-        raised = subst (AreRaised m.store.made m.events) (sym no_raises) (subst (λ es. AreRaised m.store.made es []) (sym no_events) (record { are = λ e. refl; there = λ e x here. absurd (cc here) }));
-        at_stage = subst (AtStage m.codes m.globals m.store.made m.events m.generators d m.made m.callers) (sym idle) no_callers;
+        raised = subst (AreRaised m.world.store.made m.events) (sym no_raises) (subst (λ es. AreRaised m.world.store.made es []) (sym no_events) (record { are = λ e. refl; there = λ e x here. absurd (cc here) }));
+        at_stage = subst (AtStage m.world.codes m.globals m.world.store.made m.events m.world.generators d m.made m.callers) (sym idle) no_callers;
       };
       idle = idle;
     }

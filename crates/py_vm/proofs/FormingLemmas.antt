@@ -1,5 +1,5 @@
 -- A drive by which an exception is made: what it leaves of a machine between drives, and which part of a run it adds.
-use Rattle.std.proofs.Common.{◌≡◌, ◌≤◌, ◌<◌, ◌+◌, ◌++◌, ℕ, suc, List, [], ◌∷◌, true, false, Some, Ok, Err, inl, inr, refl, sym, ap, subst, ◌∙◌, length, length-append, append_assoc, append-nil, add-one, arith}
+use Rattle.std.proofs.Common.{◌≡◌, ◌≤◌, ◌<◌, ◌+◌, ◌++◌, ℕ, suc, List, [], ◌∷◌, true, false, Some, Ok, Err, inr, refl, sym, ap, subst, ◌∙◌, length, length-append, append_assoc, append-nil, arith}
 use Rattle.std.specs.Prelude.{Option, None, slice_get, take}
 use Rattle.std.proofs.lemmas.Option.{slice_get_within}
 use Rattle.py_objects.specs.declared.refs.PyBaseExceptionRef.{PyBaseExceptionRef}
@@ -9,25 +9,22 @@ use Rattle.py_objects.specs.declared.edit.Change.{Change}
 use Rattle.py_objects.specs.declared.event.Event.{Event}
 use Rattle.py_objects.specs.declared.event.Event.TheVariants as event
 use Rattle.py_objects.specs.declared.event.DriveAnswer.{DriveAnswer}
-use Rattle.py_objects.specs.declared.event.DriveAnswer.TheVariants as answer
-use Rattle.py_objects.specs.Objects.{Obj, as_object, result_numbers, AllBelow, AreNamed, IfThere, IsException, IsTraceback}
-use Rattle.py_objects.specs.Edits.{Kept, objects_of}
-use Rattle.py_objects.specs.Growth.{Grows, GrowsPlainly, IsGrown}
-use Rattle.py_objects.proofs.ChangesLemmas.{exception_now}
-use Rattle.py_objects.proofs.GrowthLemmas.{payload_grown, plainly_grows, grows_plainly_refl, declared_stays}
-use Rattle.py_objects.proofs.GrownLemmas.{grown_refl}
+use Rattle.py_objects.specs.Objects.{result_numbers, AllBelow, AreNamed}
+use Rattle.py_objects.specs.Edits.{Kept}
+use Rattle.py_objects.specs.Growth.{Grows, GrowsPlainly}
+use Rattle.py_objects.proofs.GrowthLemmas.{payload_grown, plainly_grows, grows_plainly_refl}
+use Rattle.py_objects.proofs.GrownLemmas.{grown_refl, longer_refl}
 use Rattle.py_exceptions.specs.Tracebacks.{traceback_object}
-use Rattle.py_exceptions.proofs.ClassesLemmas.{classes_grown}
 use Rattle.py_answers.specs.Answers.{Reply, GivesDrive}
-use Rattle.py_answers.specs.Readable.{ChangeUnread, IsReadable}
+use Rattle.py_answers.specs.Readable.{ChangeUnread}
 use Rattle.py_answers.proofs.ReadableLemmas.{change_unread, changes_grown}
 use Rattle.py_run.specs.declared.drive.Drive.{Drive}
 use Rattle.py_run.specs.declared.drive.Drive.TheVariants.{Close}
 use Rattle.py_run.specs.declared.drive.Makings.{Makings}
 use Rattle.py_run.specs.Normalized.{NormalizesTo}
-use Rattle.py_run.specs.Run.{Asking, Posed, Plan, State, start, state_after, after, open_in, makings_of as makings_in, question}
+use Rattle.py_run.specs.Run.{Posed, Plan, State, start, state_after, after, open_in, makings_of as makings_in, question}
 use Rattle.py_run.specs.Generators.{Generator, closed_by}
-use Rattle.py_run.specs.Coming.{Past, Comes, MayCome, EachTells, IsFormed}
+use Rattle.py_run.specs.Coming.{Past, MayCome}
 use Rattle.py_run.specs.Past.{past_behind}
 use Rattle.py_run.proofs.OwnLemmas.{state_after-append}
 use Rattle.py_run.proofs.RunLemmas.{normalizes_to_grow}
@@ -38,18 +35,17 @@ use Rattle.py_vm.specs.declared.normalizing.Formed.{Formed}
 use Rattle.py_vm.specs.declared.normalizing.Formed.TheVariants as form
 use Rattle.py_vm.specs.Codes.{plain_codes}
 use Rattle.py_vm.specs.Generators.{modes_of}
-use Rattle.py_vm.specs.Machine.{Machine, done_of, past_of, plan_of}
-use Rattle.py_vm.specs.Normalizing.{answer_of, begun, changes_by, ended, outcome_of, forming, makings_numbers, told_by, tracing, AddsForming, CanForm, Forms, FormedOne, IsFormOf, IsTracedBy, IsTracebackOf, Stopped}
-use Rattle.py_vm.specs.RowsOf.{RowsOf}
-use Rattle.py_vm.specs.Stands.{AtStage, IsIdle, Keeps, acts_of, caller_acts, frames_at, phase_of, slots_at, seen}
-use Rattle.py_vm.specs.Turns.{begun_by, result_by, Turns}
+use Rattle.py_vm.specs.Machine.{done_of, past_of, plan_of}
+use Rattle.py_vm.specs.Normalizing.{answer_of, begun, changes_by, ended, outcome_of, forming, makings_numbers, told_by, tracing, AddsForming, CanForm, Forms, FormedOne, IsFormOf, Stopped}
+use Rattle.py_vm.specs.Stands.{IsIdle, Keeps, acts_of, caller_acts, frames_at, phase_of, slots_at, seen}
+use Rattle.py_vm.specs.Turns.{begun_by, result_by}
 use Rattle.py_vm.proofs.ChainLemmas.{each_still, zero_outside}
-use Rattle.py_vm.proofs.JournalLemmas.{dict_grown, marked_on, named_still, next_number, runnable_on, stored_on, told_still}
+use Rattle.py_vm.proofs.JournalLemmas.{marked_on, named_still, next_number}
 use Rattle.py_vm.proofs.NextLemmas.{done_counted, drive_told, still_raised}
-use Rattle.py_vm.proofs.OverLemmas.{kept_over}
 use Rattle.py_vm.proofs.RowsOfLemmas.{tells_still}
 use Rattle.py_vm.proofs.StandsLemmas.{grown_idle, idle_again, idle_callers, kept_idle, restored_idle}
 use Rattle.py_vm.proofs.TurnsLemmas.{begun_law}
+use Rattle.py_objects.specs.FrameEntries.{frames_in}
 
 -- the drive of a script that is asked in its place, where it doesn't matter which
 abbrev any_drive : Drive
@@ -100,7 +96,7 @@ module _ (m : Core) (idle : IsIdle m) where
   asks = (begun_law m any_drive begins).keeps
 
 -- it has its result, and nothing else was done
-result_keeps : (m : Core) (d : Drive) (w : DriveAnswer) → Keeps m d stage.Asking → AllBelow (length m.store.made) (result_numbers w) → Keeps (result_by m w) d stage.Idle
+result_keeps : (m : Core) (d : Drive) (w : DriveAnswer) → Keeps m d stage.Asking → AllBelow (length m.world.store.made) (result_numbers w) → Keeps (result_by m w) d stage.Idle
 result_keeps m d w k below =
     let e : Event = event.Result (m.done + 1) w in
     let none : m.callers ≡ [] = k.at_stage in
@@ -113,12 +109,12 @@ result_keeps m d w k below =
         made = ap (λ (y : State). length y.made) next ∙ k.follows.made;
       };
       stored = k.stored;
-      marked = marked_on m.store m.store m.events e (grown_refl m.store) k.marked;
+      marked = marked_on m.world.store m.world.store m.events e (longer_refl m.world.store) k.marked;
       runnable = k.runnable;
-      told = drive_told m stage.Asking m.store e d k (grown_refl m.store) refl below refl;
-      kept = record { each = each_still m m.store.made e (plainly_grows m.store.made m.store.made (grows_plainly_refl m.store.made)) m.made m.made m.generators (omega arith) (zero_outside m m.made m.generators k.kept.each) k.kept.each; single = k.kept.single };
+      told = drive_told m stage.Asking m.world.store e d k (grown_refl m.world.store) refl below refl;
+      kept = record { each = each_still m m.world.store.made e (plainly_grows m.world.store.made m.world.store.made (grows_plainly_refl m.world.store.made)) m.made m.made m.world.generators (omega arith) (zero_outside m m.made m.world.generators k.kept.each) k.kept.each; single = k.kept.single };
       nested = record { apart = k.nested.apart; frames = k.nested.frames; slots = k.nested.slots };
-      raised = still_raised m d stage.Asking m.store e k (grown_refl m.store) refl;
+      raised = still_raised m d stage.Asking m.world.store e k (grown_refl m.world.store) refl;
       at_stage = none;
     }
 
@@ -165,7 +161,7 @@ module _ (m : Core) (idle : IsIdle m) (x : Makings) where
 
   module _ (asked : List Posed) (next : slice_get asked (done_of (seen m)) ≡ Some (forming m.entered x)) where
     abbrev plan : Plan
-    plan = plan_of m.codes asked
+    plan = plan_of m.world.codes asked
 
     abbrev past : Past
     past = past_of (seen m)
@@ -181,25 +177,25 @@ module _ (m : Core) (idle : IsIdle m) (x : Makings) where
     unasked = ap (λ q. open_in q past.state.stack) next ∙ ap (open_in (Some (forming m.entered x))) (alone m idle)
 
   -- where only that was told
-  begun_adds : (store : Kept) → GrowsPlainly m.store.made store.made → AddsForming x (first ∷ []) (seen m) (seen (record m { store = store; events = m.events ++ first ∷ []; failed = true }))
+  begun_adds : (store : Kept) → GrowsPlainly m.world.store.made store.made → AddsForming x (first ∷ []) (seen m) (seen (record m { world = record m.world { store = store }; events = m.events ++ first ∷ []; failed = true }))
   begun_adds store plainly =
       let told = (asks m idle).told in
-      let grows : Grows m.store.made store.made = plainly_grows m.store.made store.made plainly in
+      let grows : Grows m.world.store.made store.made = plainly_grows m.world.store.made store.made plainly in
       record {
         events = refl;
         grows = plainly;
         others = refl;
         runs = λ asked next. (first_comes asked next store.made, tt);
-        follows = λ asked next. ap (λ (st : State). let p : Past = record { events = m.events ++ first ∷ []; state = st; generators = modes_of m.generators } in p) (sym (state_after-append start m.events first));
-        tells = tells_still (plain_codes m.codes) m.globals m.store.made store.made (m.events ++ first ∷ []) grows told.tells;
-        named = named_still m.store.made store.made (m.events ++ first ∷ []) grows (plainly.fit (kept_idle m idle).stored.readable.fit) told.named;
+        follows = λ asked next. ap (λ (st : State). let p : Past = record { events = m.events ++ first ∷ []; state = st; generators = modes_of m.world.generators } in p) (sym (state_after-append start m.events first));
+        tells = tells_still (plain_codes m.world.codes) m.globals m.world.store.made store.made (m.events ++ first ∷ []) grows told.tells;
+        named = named_still m.world.store.made store.made (m.events ++ first ∷ []) grows (plainly.fit (kept_idle m idle).stored.readable.fit) told.named;
       }
 
   -- or nothing
   pub none_adds : AddsForming x [] (seen m) (seen (record m { failed = true }))
   none_adds = record {
     events = sym (append-nil m.events);
-    grows = grows_plainly_refl m.store.made;
+    grows = grows_plainly_refl m.world.store.made;
     others = refl;
     runs = λ asked next. tt;
     follows = λ asked next. refl;
@@ -208,14 +204,14 @@ module _ (m : Core) (idle : IsIdle m) (x : Makings) where
   }
 
   -- where it has its result
-  module _ (f : Formed) (store : Kept) (plainly : GrowsPlainly m.store.made store.made) (is : IsFormOf m.store.made store.made x f) (changes : store.changes ≡ m.store.changes ++ changes_by (length (m.events ++ first ∷ [])) f)
+  module _ (f : Formed) (store : Kept) (plainly : GrowsPlainly m.world.store.made store.made) (frames : frames_in store.made ≡ frames_in m.world.store.made) (is : IsFormOf m.world.store.made store.made x f) (changes : store.changes ≡ m.world.store.changes ++ changes_by (length (m.events ++ first ∷ [])) f)
       (marked : store.mark ≡ length (m.events ++ first ∷ [])) where
-    abbrev grows : Grows m.store.made store.made
-    grows = plainly_grows m.store.made store.made plainly
+    abbrev grows : Grows m.world.store.made store.made
+    grows = plainly_grows m.world.store.made store.made plainly
 
     -- with the objects that came, before the events
     abbrev grown : Core
-    grown = record m { store = record m.store { made = store.made } }
+    grown = record m { world = record m.world { store = record m.world.store { made = store.made } } }
 
     abbrev last : Event
     last = event.Result (m.done + 1) (answer_of f)
@@ -225,19 +221,19 @@ module _ (m : Core) (idle : IsIdle m) (x : Makings) where
     then = result_by (begun_by grown) (answer_of f)
 
     abbrev now : Core
-    now = told_by (record m { store = store; events = m.events ++ first ∷ [] }) f
+    now = told_by (record m { world = record m.world { store = store }; events = m.events ++ first ∷ [] }) f
 
     grown_stands : IsIdle grown
-    grown_stands = grown_idle m (record m.store { made = store.made }) (record { objects = plainly; others = refl }) idle
+    grown_stands = grown_idle m (record m.world.store { made = store.made }) (record { objects = plainly; frames = frames; others = refl }) idle
 
     then_stands : IsIdle then
-    then_stands = idle_again then any_drive (result_keeps (begun_by grown) any_drive (answer_of f) (asks grown grown_stands) (answer_below m.store.made store.made x f is)) refl
+    then_stands = idle_again then any_drive (result_keeps (begun_by grown) any_drive (answer_of f) (asks grown grown_stands) (answer_below m.world.store.made store.made x f is)) refl
 
     -- then the machine stands again
     pub formed_stands : IsIdle now
     formed_stands =
         let more : length ((m.events ++ first ∷ []) ++ last ∷ []) ≡ length (m.events ++ first ∷ []) + 1 = length-append (m.events ++ first ∷ []) (last ∷ []) in
-        let unread : ChangeUnread store.made store.changes = subst (ChangeUnread store.made) (sym changes) (unread_by m.store.made store.made m.store.changes x (length (m.events ++ first ∷ [])) f grows is (kept_idle m idle).stored.readable.unread) in
+        let unread : ChangeUnread store.made store.changes = subst (ChangeUnread store.made) (sym changes) (unread_by m.world.store.made store.made m.world.store.changes x (length (m.events ++ first ∷ [])) f grows is (kept_idle m idle).stored.readable.unread) in
         restored_idle then store m.stage idle.idle refl unread (omega (arith, more, marked)) then_stands
 
     -- a past with its events
@@ -245,12 +241,12 @@ module _ (m : Core) (idle : IsIdle m) (x : Makings) where
     past_with st xs = record { events = (m.events ++ first ∷ []) ++ last ∷ []; state = st; generators = xs }
 
     -- it is what the run is behind them
-    past_same : (asked : List Posed) → slice_get asked (done_of (seen m)) ≡ Some (forming m.entered x) → past_behind (plan_of m.codes asked) (past_of (seen m)) (first ∷ last ∷ []) ≡ past_of (seen now)
+    past_same : (asked : List Posed) → slice_get asked (done_of (seen m)) ≡ Some (forming m.entered x) → past_behind (plan_of m.world.codes asked) (past_of (seen m)) (first ∷ last ∷ []) ≡ past_of (seen now)
     past_same asked next =
         let st : State = state_after start m.events in
         let told : state_after start ((m.events ++ first ∷ []) ++ last ∷ []) ≡ after (after st first) last =
         state_after-append start (m.events ++ first ∷ []) last ∙ ap (λ (s : State). after s last) (state_after-append start m.events first) in
-        ap (λ q. past_with (after (after st first) last) (closed_by q (modes_of m.generators))) (unasked asked next) ∙ ap (λ (s : State). past_with s (modes_of m.generators)) (sym told)
+        ap (λ q. past_with (after (after st first) last) (closed_by q (modes_of m.world.generators))) (unasked asked next) ∙ ap (λ (s : State). past_with s (modes_of m.world.generators)) (sym told)
 
     -- and the drive is a part of a run
     pub formed_adds : AddsForming x (ended (seen m) (answer_of f)) (seen m) (seen now)
@@ -265,9 +261,9 @@ module _ (m : Core) (idle : IsIdle m) (x : Makings) where
             next_number _ _ (done m idle),
             alone m idle,
             (
-              reply_in m.store.made store.made x f is,
-              inr (refl, (x, ap makings_in next, normalizes_to_grow m.store.made store.made x _ plainly (normalizes_in m.store.made store.made x f is))),
-              gives_in m.store.made store.made x f is (m.events ++ first ∷ []) (asks m idle).told.named,
+              reply_in m.world.store.made store.made x f is,
+              inr (refl, (x, ap makings_in next, normalizes_to_grow m.world.store.made store.made x _ plainly (normalizes_in m.world.store.made store.made x f is))),
+              gives_in m.world.store.made store.made x f is (m.events ++ first ∷ []) (asks m idle).told.named,
             ),
           ),
           tt,
@@ -285,11 +281,11 @@ module _ (m : Core) (idle : IsIdle m) (works : m.failed ≡ false) (x : Makings)
   begun_core = record m { events = m.events ++ event.Drive (m.done + 1) ∷ [] }
 
   -- what is needed to make an exception is there
-  pub can_form : AllBelow (length m.store.made) (makings_numbers x) → CanForm begun_core x
+  pub can_form : AllBelow (length m.world.store.made) (makings_numbers x) → CanForm begun_core x
   can_form below =
       let k = kept_idle m idle in
       let more : length (m.events ++ event.Drive (m.done + 1) ∷ []) ≡ length m.events + 1 = length-append m.events (event.Drive (m.done + 1) ∷ []) in
-      let marked : m.store.mark ≤ length m.events = k.marked in
+      let marked : m.world.store.mark ≤ length m.events = k.marked in
       record { readable = k.stored.readable; classes = k.stored.classes; below = below; marked = omega (arith, more, marked) }
 
   -- no turn is left
@@ -299,7 +295,7 @@ module _ (m : Core) (idle : IsIdle m) (works : m.failed ≡ false) (x : Makings)
 
   pub one_turn : (turns : ℕ) → turns ≡ 1 → Forms (seen m) x turns (Err fault.OutOfTurns) (seen (record begun_core { failed = true }))
   one_turn turns one =
-      let added : AddsForming x (event.Drive (m.done + 1) ∷ []) (seen m) (seen (record begun_core { failed = true })) = begun_adds m idle x m.store (grows_plainly_refl m.store.made) in (
+      let added : AddsForming x (event.Drive (m.done + 1) ∷ []) (seen m) (seen (record begun_core { failed = true })) = begun_adds m idle x m.world.store (grows_plainly_refl m.world.store.made) in (
         omega (arith, one),
         subst (λ n. AddsForming x (take n (begun (seen m))) (seen m) (seen (record begun_core { failed = true }))) (sym one)
             (subst (λ l. AddsForming x l (seen m) (seen (record begun_core { failed = true }))) (sym (begun_as m idle x)) added),
@@ -324,23 +320,23 @@ module _ (m : Core) (idle : IsIdle m) (works : m.failed ≡ false) (x : Makings)
 
   -- it has its result
   pub stands_behind : (f : Formed) (m' : Core) → FormedOne begun_core x f m' → IsIdle m'
-  stands_behind f m' (store, plainly, made, changes, marked, is) = subst IsIdle (sym is) (formed_stands m idle x f store plainly made changes marked)
+  stands_behind f m' (store, plainly, frames, made, changes, marked, is) = subst IsIdle (sym is) (formed_stands m idle x f store plainly frames made changes marked)
 
   formed_made : (turns : ℕ) (e : PyBaseExceptionRef) (t : Option PyTracebackRef) (m' : Core) → 1 < turns → FormedOne begun_core x (form.Made e t) m' → Forms (seen m) x turns (Ok e) (seen m')
-  formed_made turns e t m' some (store, plainly, made, changes, marked, is) =
+  formed_made turns e t m' some (store, plainly, frames, made, changes, marked, is) =
       let (reply, normalizes, value, (p, has, read), exception, traceback) = made in
       let count : length (m.events ++ event.Drive (m.done + 1) ∷ []) ≡ length m.events + 1 = length-append m.events (event.Drive (m.done + 1) ∷ []) in
       subst (λ (n : Core). Forms (seen m) x turns (Ok e) (seen n)) (sym is) (
         omega (arith, some),
-        formed_adds m idle x (form.Made e t) store plainly made changes marked,
+        formed_adds m idle x (form.Made e t) store plainly frames made changes marked,
         works,
-        (p, has, traceback_object t, read, changes ∙ ap (λ n. m.store.changes ++ tracing n e (traceback_object t)) count),
+        (p, has, traceback_object t, read, changes ∙ ap (λ n. m.world.store.changes ++ tracing n e (traceback_object t)) count),
       )
 
   formed_raised : (turns : ℕ) (e : PyBaseExceptionRef) (m' : Core) → 1 < turns → FormedOne begun_core x (form.Raised e) m' → Forms (seen m) x turns (Err (fault.Exception e)) (seen m')
-  formed_raised turns e m' some (store, plainly, made, changes, marked, is) =
+  formed_raised turns e m' some (store, plainly, frames, made, changes, marked, is) =
       subst (λ (n : Core). Forms (seen m) x turns (Err (fault.Exception e)) (seen n)) (sym is)
-      (omega (arith, some), formed_adds m idle x (form.Raised e) store plainly made changes marked, works, changes ∙ append-nil m.store.changes)
+      (omega (arith, some), formed_adds m idle x (form.Raised e) store plainly frames made changes marked, works, changes ∙ append-nil m.world.store.changes)
 
   pub formed_forms : (turns : ℕ) (f : Formed) (m' : Core) → 1 < turns → FormedOne begun_core x f m' → Forms (seen m) x turns (outcome_of f) (seen m')
   formed_forms turns (form.Made e t) m' some formed = formed_made turns e t m' some formed

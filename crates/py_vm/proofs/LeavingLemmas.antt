@@ -118,10 +118,10 @@ pub passes_given : (objects : List Payload) (e : PyBaseExceptionRef) → (e.numb
 passes_given objects e (low, raises) = record { plain = refl; gives = λ before named. refl; below = low; raises = raises }
 
 -- a generator settles with what it answers
-module _ (m : Core) (g : Obj) (s : Suspended) (how : CoroEnd) (x : KeptGenerator) (here : kept_at m.generators g ≡ Some x) (a : CoroAnswer) (finishes : Finishes m.store.made x.generator.kind x.generator.closing how a)
-    (body : CoroBody) (has : HasPayload m.store.made g (payload.Generator body)) where
-  pub settled_one : (store : Kept) (list : List KeptGenerator) (w : MadeReply) → IsGrown m.store store → list ≡ changed_at g (settled s how) m.generators
-      → IsReplied m.store.made store.made (reply_by (word_of body.kind) a) w → SettledOne m g s how w (record m { store = store; generators = list })
+module _ (m : Core) (g : Obj) (s : Suspended) (how : CoroEnd) (x : KeptGenerator) (here : kept_at m.world.generators g ≡ Some x) (a : CoroAnswer) (finishes : Finishes m.world.store.made x.generator.kind x.generator.closing how a)
+    (body : CoroBody) (has : HasPayload m.world.store.made g (payload.Generator body)) where
+  pub settled_one : (store : Kept) (list : List KeptGenerator) (w : MadeReply) → IsGrown m.world.store store → list ≡ changed_at g (settled s how) m.world.generators
+      → IsReplied m.world.store.made store.made (reply_by (word_of body.kind) a) w → SettledOne m g s how w (record m { world = record m.world { store = store; generators = list } })
   settled_one store list w grown changes replied = (store, list, (x, here, body, has, a, finishes, grown, changes, replied), refl)
 
 -- what it answers without a new exception
@@ -141,40 +141,40 @@ replied_at_once objects word (answer.Raise e) w there is = subst (IsReplied obje
 replied_at_once objects word (answer.Convert e stop) w there is = absurd is
 replied_at_once objects word answer.Ignored w there is = absurd is
 
-module _ (m : Core) (g : Obj) (s : Suspended) (how : CoroEnd) (runs : IsRunningNow m.generators g) (generator : IsGenerator m.store.made g) (ending : IsEnding m.store.made how) (a : CoroAnswer)
-    (finishes : (x : KeptGenerator) → kept_at m.generators g ≡ Some x → Finishes m.store.made x.generator.kind x.generator.closing how a) (list : List KeptGenerator) (changes : list ≡ changed_at g (settled s how) m.generators) where
+module _ (m : Core) (g : Obj) (s : Suspended) (how : CoroEnd) (runs : IsRunningNow m.world.generators g) (generator : IsGenerator m.world.store.made g) (ending : IsEnding m.world.store.made how) (a : CoroAnswer)
+    (finishes : (x : KeptGenerator) → kept_at m.world.generators g ≡ Some x → Finishes m.world.store.made x.generator.kind x.generator.closing how a) (list : List KeptGenerator) (changes : list ≡ changed_at g (settled s how) m.world.generators) where
   -- it names objects that are there
-  pub answers_there : AnswersThere m.store.made a
-  answers_there = finishes_there m.store.made runs.0.generator.kind runs.0.generator.closing how a ending (finishes runs.0 runs.1)
+  pub answers_there : AnswersThere m.world.store.made a
+  answers_there = finishes_there m.world.store.made runs.0.generator.kind runs.0.generator.closing how a ending (finishes runs.0 runs.1)
 
-  pub settled_by : (store : Kept) (w : MadeReply) → IsGrown m.store store → IsReplied m.store.made store.made (reply_by (word_of generator.0.kind) a) w → SettledOne m g s how w (record m { store = store; generators = list })
+  pub settled_by : (store : Kept) (w : MadeReply) → IsGrown m.world.store store → IsReplied m.world.store.made store.made (reply_by (word_of generator.0.kind) a) w → SettledOne m g s how w (record m { world = record m.world { store = store; generators = list } })
   settled_by store w grown replied = settled_one m g s how runs.0 runs.1 a (finishes runs.0 runs.1) generator.0 generator.1 store list w grown changes replied
 
-  pub settled_at_once : (w : MadeReply) → IsAtOnce a w → SettledOne m g s how w (record m { generators = list })
-  settled_at_once w once = settled_by m.store w (grown_refl m.store) (replied_at_once m.store.made (word_of generator.0.kind) a w answers_there once)
+  pub settled_at_once : (w : MadeReply) → IsAtOnce a w → SettledOne m g s how w (record m { world = record m.world { generators = list } })
+  settled_at_once w once = settled_by m.world.store w (grown_refl m.world.store) (replied_at_once m.world.store.made (word_of generator.0.kind) a w answers_there once)
 
   -- a new exception, of its kind
-  module _ (kind : CoroKind) (kinds : (body : CoroBody) → HasPayload m.store.made g (payload.Generator body) → kind ≡ body.kind) (store : Kept) (grown : IsGrown m.store store)
-      (classes : HaveClasses m.zoo m.store.made) (e : PyBaseExceptionRef) (fault : Fault) where
-    pub settled_converted : (cause : PyBaseExceptionRef) (stop : ErrorKind) → a ≡ answer.Convert cause stop → fault ≡ stopping (word_of kind) stop → IsNewExceptionFrom m.store.made store.made (class_of m.zoo fault.kind) fault.text cause e
-        → SettledOne m g s how (made.Fresh e) (record m { store = store; generators = list })
+  module _ (kind : CoroKind) (kinds : (body : CoroBody) → HasPayload m.world.store.made g (payload.Generator body) → kind ≡ body.kind) (store : Kept) (grown : IsGrown m.world.store store)
+      (classes : HaveClasses m.world.zoo m.world.store.made) (e : PyBaseExceptionRef) (fault : Fault) where
+    pub settled_converted : (cause : PyBaseExceptionRef) (stop : ErrorKind) → a ≡ answer.Convert cause stop → fault ≡ stopping (word_of kind) stop → IsNewExceptionFrom m.world.store.made store.made (class_of m.world.zoo fault.kind) fault.text cause e
+        → SettledOne m g s how (made.Fresh e) (record m { world = record m.world { store = store; generators = list } })
     settled_converted cause stop is text one =
-        let made_so : IsNewExceptionFrom m.store.made store.made (class_of m.zoo RuntimeError) (stopping (word_of kind) stop).text cause e =
-        subst (λ (f : Fault). IsNewExceptionFrom m.store.made store.made (class_of m.zoo f.kind) f.text cause e) text one in
-        let replied : RepliesRaise m.store.made store.made (reply_by (word_of kind) (answer.Convert cause stop)) e = raise_from_given m.store.made store.made m.zoo RuntimeError _ cause e classes grown.objects made_so in
+        let made_so : IsNewExceptionFrom m.world.store.made store.made (class_of m.world.zoo RuntimeError) (stopping (word_of kind) stop).text cause e =
+        subst (λ (f : Fault). IsNewExceptionFrom m.world.store.made store.made (class_of m.world.zoo f.kind) f.text cause e) text one in
+        let replied : RepliesRaise m.world.store.made store.made (reply_by (word_of kind) (answer.Convert cause stop)) e = raise_from_given m.world.store.made store.made m.world.zoo RuntimeError _ cause e classes grown.objects made_so in
         settled_by store (made.Fresh e) grown
-        (subst (λ (k : CoroKind). RepliesRaise m.store.made store.made (reply_by (word_of k) a) e) (kinds generator.0 generator.1)
-        (subst (λ (x : CoroAnswer). RepliesRaise m.store.made store.made (reply_by (word_of kind) x) e) (sym is) replied))
+        (subst (λ (k : CoroKind). RepliesRaise m.world.store.made store.made (reply_by (word_of k) a) e) (kinds generator.0 generator.1)
+        (subst (λ (x : CoroAnswer). RepliesRaise m.world.store.made store.made (reply_by (word_of kind) x) e) (sym is) replied))
 
-    pub settled_ignored : a ≡ answer.Ignored → fault ≡ ignoring (word_of kind) → IsNewException m.store.made store.made (class_of m.zoo fault.kind) fault.text e
-        → SettledOne m g s how (made.Fresh e) (record m { store = store; generators = list })
+    pub settled_ignored : a ≡ answer.Ignored → fault ≡ ignoring (word_of kind) → IsNewException m.world.store.made store.made (class_of m.world.zoo fault.kind) fault.text e
+        → SettledOne m g s how (made.Fresh e) (record m { world = record m.world { store = store; generators = list } })
     settled_ignored is text one =
-        let made_so : IsNewException m.store.made store.made (class_of m.zoo RuntimeError) (ignoring (word_of kind)).text e =
-        subst (λ (f : Fault). IsNewException m.store.made store.made (class_of m.zoo f.kind) f.text e) text one in
-        let replied : RepliesRaise m.store.made store.made (reply_by (word_of kind) answer.Ignored) e = raise_given m.store.made store.made m.zoo RuntimeError _ e classes grown.objects made_so in
+        let made_so : IsNewException m.world.store.made store.made (class_of m.world.zoo RuntimeError) (ignoring (word_of kind)).text e =
+        subst (λ (f : Fault). IsNewException m.world.store.made store.made (class_of m.world.zoo f.kind) f.text e) text one in
+        let replied : RepliesRaise m.world.store.made store.made (reply_by (word_of kind) answer.Ignored) e = raise_given m.world.store.made store.made m.world.zoo RuntimeError _ e classes grown.objects made_so in
         settled_by store (made.Fresh e) grown
-        (subst (λ (k : CoroKind). RepliesRaise m.store.made store.made (reply_by (word_of k) a) e) (kinds generator.0 generator.1)
-        (subst (λ (x : CoroAnswer). RepliesRaise m.store.made store.made (reply_by (word_of kind) x) e) (sym is) replied))
+        (subst (λ (k : CoroKind). RepliesRaise m.world.store.made store.made (reply_by (word_of k) a) e) (kinds generator.0 generator.1)
+        (subst (λ (x : CoroAnswer). RepliesRaise m.world.store.made store.made (reply_by (word_of kind) x) e) (sym is) replied))
 
 -- ---- whose answer it is
 
@@ -189,7 +189,7 @@ module _ (m : Core) (d : Drive) (s : Suspended) (how : CoroEnd) (q : Request) (a
   -- of a call
   pub finished_call : (a : Option DriveAnswer) (m' : Core) → None ≡ generator_asked q → Replies m (passed how) m.callers a m' → Finished m d s how a m'
   finished_call a m' none replies =
-      (q, asks, m.store, m.generators, passed how, subst (λ o. IsSettled m s how o m.store m.generators (passed how)) none (refl, refl, refl), replies)
+      (q, asks, m.world.store, m.world.generators, passed how, subst (λ o. IsSettled m s how o m.world.store m.world.generators (passed how)) none (refl, refl, refl), replies)
 
   -- or of a generator
   pub finished_generator : (g : Obj) (w : MadeReply) (n : Core) (a : Option DriveAnswer) (m' : Core) → Some g ≡ generator_asked q → SettledOne m g s how w n → Replies n w n.callers a m' → Finished m d s how a m'
@@ -200,7 +200,7 @@ module _ (m : Core) (d : Drive) (s : Suspended) (how : CoroEnd) (q : Request) (a
 
 module _ (m : Core) (w : MadeReply) where
   -- the innermost caller gets it
-  pub caller_replied : (hs rest : List Halted) (h : Halted) (store : Kept) (a : Answer) (n m' : Core) → hs ≡ h ∷ rest → IsAnswerTo m.store store w a → NotedOne (record m { store = store; callers = rest }) h a n
+  pub caller_replied : (hs rest : List Halted) (h : Halted) (store : Kept) (a : Answer) (n m' : Core) → hs ≡ h ∷ rest → IsAnswerTo m.world.store store w a → NotedOne (record m { world = record m.world { store = store }; callers = rest }) h a n
       → m' ≡ got_by n h.running a → Replies m w hs None m'
   caller_replied hs rest h store a n m' is answers (raises, noted, same) gets =
       subst (λ l. Replies m w l None m') (sym is) (refl, (store, a, answers, (raises, noted, gets ∙ ap (λ (y : Core). got_by y h.running a) same)))
@@ -228,12 +228,12 @@ module _ (m : Core) (s : Stage) where
     x,
     store,
     record { body = created.body; function = created.function; added = created.added; object = created.object; act = created.act; fresh = created.fresh; kind_is = created.kind_is; activation = created.activation },
-    replies_at (record m { store = store; generators = m.generators ++ x ∷ [] }) (made.Value x.object) m.callers a m' replies,
+    replies_at (record m { world = record m.world { store = store; generators = m.world.generators ++ x ∷ [] } }) (made.Value x.object) m.callers a m' replies,
   )
 
   pub finished_at : (d : Drive) (t : Suspended) (how : CoroEnd) (a : Option DriveAnswer) (m' : Core) → Finished (record m { stage = s }) d t how a m' → Finished m d t how a m'
   finished_at d t how a m' (q, asks, store, list, w, is_settled, replies) =
-      (q, asks, store, list, w, settles (generator_asked q) is_settled, replies_at (record m { store = store; generators = list }) w m.callers a m' replies)
+      (q, asks, store, list, w, settles (generator_asked q) is_settled, replies_at (record m { world = record m.world { store = store; generators = list } }) w m.callers a m' replies)
     where
       settles : (o : Option Obj) → IsSettled (record m { stage = s }) t how o store list w → IsSettled m t how o store list w
       settles None x = x

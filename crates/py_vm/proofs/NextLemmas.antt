@@ -3,13 +3,12 @@ use Rattle.std.proofs.Common.{◌≡◌, ◌≤◌, ◌+◌, ◌++◌, ℕ, suc,
 use Rattle.std.specs.Prelude.{Option, None, slice_get, slice_set}
 use Rattle.py_objects.specs.declared.refs.FrameRef.{FrameRef}
 use Rattle.py_objects.specs.declared.refs.PyBaseExceptionRef.{PyBaseExceptionRef}
-use Rattle.py_objects.specs.declared.payload.Payload.{Payload}
 use Rattle.py_objects.specs.declared.payload.CoroKind.{CoroKind}
 use Rattle.py_objects.specs.declared.event.Event.{Event}
 use Rattle.py_objects.specs.declared.event.DriveAnswer.{DriveAnswer}
 use Rattle.py_objects.specs.Objects.{AllBelow, event_numbers}
 use Rattle.py_objects.specs.Edits.{Kept}
-use Rattle.py_objects.specs.Growth.{Grows, IsGrown}
+use Rattle.py_objects.specs.Growth.{IsGrown, IsLonger}
 use Rattle.py_objects.specs.Own.{whose}
 use Rattle.py_objects.proofs.GrownLemmas.{objects_grow}
 use Rattle.py_exceptions.specs.Slots.{Slots, topmost, top_of}
@@ -64,11 +63,11 @@ IsNext m d asked = slice_get asked m.done ≡ Some (posed m.entered d)
 
 -- a question of a run stands where one of the machine does, where what is in the slots is handled
 pub setting_is : (m : Core) (d : Drive) (s : Stage) (asked : List Posed) → Keeps m d s → handled_among (state_after start m.events).stack ≡ topmost m.slots → IsNext m d asked
-    → setting (plan_of m.codes asked) (past_at m) ≡ setting_at m
+    → setting (plan_of m.world.codes asked) (past_at m) ≡ setting_at m
 setting_is m d s asked k handled is =
     let st : State = state_after start m.events in
-    let at : ℕ → Option PyBaseExceptionRef → Setting = λ n e. record { signatures = signatures_of m.codes; depth = n; handled = e; generators = modes_of m.generators } in
-    let deep : depth (plan_of m.codes asked) st ≡ m.entered + length m.frames =
+    let at : ℕ → Option PyBaseExceptionRef → Setting = λ n e. record { signatures = signatures_of m.world.codes; depth = n; handled = e; generators = modes_of m.world.generators } in
+    let deep : depth (plan_of m.world.codes asked) st ≡ m.entered + length m.frames =
     ap (λ n. entered_in (slice_get asked n) + length st.stack) k.follows.done ∙ ap (λ q. entered_in q + length st.stack) is
     ∙ ap (λ l. m.entered + length l) k.follows.stack ∙ ap (λ n. m.entered + n) (frames_count m.events m.callers s ∙ ap length (sym k.nested.frames)) in
     ap (λ n. at n (handled_among st.stack)) deep ∙ ap (at (m.entered + length m.frames)) handled
@@ -76,32 +75,32 @@ setting_is m d s asked k handled is =
 -- this machine with one more event, and otherwise with what a turn may change as that one has it
 abbrev pub next_to : Core → Event → Core → Core
 next_to m e n =
-    record m { store = n.store; events = m.events ++ e ∷ []; done = n.done; made = n.made; frames = n.frames; callers = n.callers; generators = n.generators; slots = n.slots; raises = n.raises; stage = n.stage }
+    record m { world = record m.world { store = n.world.store; generators = n.world.generators }; events = m.events ++ e ∷ []; done = n.done; made = n.made; frames = n.frames; callers = n.callers; slots = n.slots; raises = n.raises; stage = n.stage }
 
 -- where a run is behind the event, what the journal keeps, and what runs
 pub record Next (m : Core) (d : Drive) (e : Event) (n : Core) : Type 0 where
-  pub grown : IsGrown m.store n.store
+  pub grown : IsLonger m.world.store n.world.store
   pub done : (after (state_after start m.events) e).done ≡ n.done
   pub phase : (after (state_after start m.events) e).phase ≡ phase_of n.stage
   pub stack : (after (state_after start m.events) e).stack ≡ acts_of (m.events ++ e ∷ []) n.callers n.stage
   pub made : length (after (state_after start m.events) e).made ≡ n.made
-  pub modes : (asked : List Posed) → IsNext m d asked → generators_after (plan_of m.codes asked) (state_after start m.events) (modes_of m.generators) e ≡ modes_of n.generators
-  pub told : IsTold m.codes m.globals n.store.made (m.events ++ e ∷ []) n.made
-  pub kept : AreKept m.codes m.globals n.store.made (m.events ++ e ∷ []) n.made n.generators
+  pub modes : (asked : List Posed) → IsNext m d asked → generators_after (plan_of m.world.codes asked) (state_after start m.events) (modes_of m.world.generators) e ≡ modes_of n.world.generators
+  pub told : IsTold m.world.codes m.globals n.world.store.made (m.events ++ e ∷ []) n.made
+  pub kept : AreKept m.world.codes m.globals n.world.store.made (m.events ++ e ∷ []) n.made n.world.generators
   pub apart : AreApart n.callers
   pub frames : n.frames ≡ frames_at n.callers n.stage
   pub slots : n.slots ≡ slots_at n.callers n.stage
-  pub raised : AreRaised n.store.made (m.events ++ e ∷ []) n.raises
-  pub at_stage : AtStage m.codes m.globals n.store.made (m.events ++ e ∷ []) n.generators d n.made n.callers n.stage
+  pub raised : AreRaised n.world.store.made (m.events ++ e ∷ []) n.raises
+  pub at_stage : AtStage m.world.codes m.globals n.world.store.made (m.events ++ e ∷ []) n.world.generators d n.made n.callers n.stage
 
 -- what was raised is the same behind an event that raises nothing, and tells no exit
-pub still_raised : (m : Core) (d : Drive) (s : Stage) (store : Kept) (e : Event) → Keeps m d s → IsGrown m.store store → raises_after (state_after start m.events) (raises_of m.events) e ≡ raises_of m.events
+pub still_raised : (m : Core) (d : Drive) (s : Stage) (store : Kept) (e : Event) → Keeps m d s → IsGrown m.world.store store → raises_after (state_after start m.events) (raises_of m.events) e ≡ raises_of m.events
     → AreRaised store.made (m.events ++ e ∷ []) m.raises
-still_raised m d s store e k grown same = raised_still m.store.made store.made m.events e m.raises (objects_grow m.store store grown) k.raised same
+still_raised m d s store e k grown same = raised_still m.world.store.made store.made m.events e m.raises (objects_grow m.world.store store grown) k.raised same
 
 -- the machine turns
 pub next_law : (m : Core) (d : Drive) (s : Stage) (e : Event) (a : Option DriveAnswer) (n : Core) → Keeps m d s → Next m d e n → AfterTurn m (next_to m e n) e a
-    → ((asked : List Posed) → IsNext m d asked → MayCome (plan_of m.codes asked) n.store.made (past_at m) e) → Turns m d s a (next_to m e n)
+    → ((asked : List Posed) → IsNext m d asked → MayCome (plan_of m.world.codes asked) n.world.store.made (past_at m) e) → Turns m d s a (next_to m e n)
 next_law m d s e a n k x ends comes =
     let next = state_after-append start m.events e in
     record {
@@ -112,9 +111,9 @@ next_law m d s e a n k x ends comes =
           stack = ap (λ (y : State). y.stack) next ∙ x.stack;
           made = ap (λ (y : State). length y.made) next ∙ x.made;
         };
-        stored = stored_on m.zoo m.globals m.declarations m.store n.store x.grown k.stored;
-        marked = marked_on m.store n.store m.events e x.grown k.marked;
-        runnable = runnable_on m.codes m.store.made n.store.made x.grown.objects k.runnable;
+        stored = stored_on m.world.zoo m.globals m.world.declarations m.world.store n.world.store x.grown k.stored;
+        marked = marked_on m.world.store n.world.store m.events e x.grown k.marked;
+        runnable = runnable_on m.world.codes m.world.store.made n.world.store.made x.grown.objects k.runnable;
         told = x.told;
         kept = x.kept;
         nested = record {
@@ -130,28 +129,28 @@ next_law m d s e a n k x ends comes =
       kept = record { grows = x.grown; codes = refl; globals = refl; entered = refl; failed = refl; state = refl };
       ends = ends;
       comes = comes;
-      follows = λ asked is. ap (λ (st : State). past m.events st (generators_after (plan_of m.codes asked) (state_after start m.events) (modes_of m.generators) e)) (sym next)
+      follows = λ asked is. ap (λ (st : State). past m.events st (generators_after (plan_of m.world.codes asked) (state_after start m.events) (modes_of m.world.generators) e)) (sym next)
           ∙ ap (λ (xs : List Generator). past m.events (state_after start (m.events ++ e ∷ [])) xs) (x.modes asked is);
     }
   where
     past : List Event → State → List Generator → Past
     past events st xs = record { events = events ++ e ∷ []; state = st; generators = xs }
 
-module _ (m : Core) (s : Stage) (store : Kept) (e : Event) (d : Drive) (k : Keeps m d s) (grown : IsGrown m.store store)
+module _ (m : Core) (s : Stage) (store : Kept) (e : Event) (d : Drive) (k : Keeps m d s) (grown : IsGrown m.world.store store)
     (same : (after (state_after start m.events) e).made ≡ (state_after start m.events).made) (below : AllBelow (length store.made) (event_numbers e)) where
   -- the journal behind an event of the drive
-  pub drive_told : 0 ≡ whose e → IsTold m.codes m.globals store.made (m.events ++ e ∷ []) m.made
+  pub drive_told : 0 ≡ whose e → IsTold m.world.codes m.globals store.made (m.events ++ e ∷ []) m.made
   drive_told nobody =
       let fit = grown.objects.fit k.stored.readable.fit in
-      nobody_on m.codes m.globals store.made m.events m.made e nobody (made_same m.events e same) fit below
-      (told_still m.codes m.globals m.store.made store.made m.events m.made (objects_grow m.store store grown) fit k.told)
+      nobody_on m.world.codes m.globals store.made m.events m.made e nobody (made_same m.events e same) fit below
+      (told_still m.world.codes m.globals m.world.store.made store.made m.events m.made (objects_grow m.world.store store grown) fit grown.frames k.told)
 
   -- and behind one of an activation that plays on
-  pub played_told : (r : Running) (slot : Option PyBaseExceptionRef) → r.act ≡ whose e → Plays m.codes m.globals store.made (m.events ++ e ∷ []) r slot → IsTold m.codes m.globals store.made (m.events ++ e ∷ []) m.made
+  pub played_told : (r : Running) (slot : Option PyBaseExceptionRef) → r.act ≡ whose e → Plays m.world.codes m.globals store.made (m.events ++ e ∷ []) r slot → IsTold m.world.codes m.globals store.made (m.events ++ e ∷ []) m.made
   played_told r slot mine p =
       let made = made_same m.events e same in
-      acted_on m.codes m.globals m.store.made store.made m.events m.made e r p.at p.activation (objects_grow m.store store grown) mine p.numbered (low_at m.made _ p.at _ (ap length made ∙ k.follows.made) p.is_made) made p.is_made
-      (plays_rows m.codes m.globals store.made (m.events ++ e ∷ []) r slot p) (grown.objects.fit k.stored.readable.fit) below k.told
+      acted_on m.world.codes m.globals m.world.store.made store.made m.events m.made e r p.at p.activation (objects_grow m.world.store store grown) mine p.numbered (low_at m.made _ p.at _ (ap length made ∙ k.follows.made) p.is_made) made p.is_made
+      (plays_rows m.world.codes m.globals store.made (m.events ++ e ∷ []) r slot p) (grown.objects.fit k.stored.readable.fit) below grown.frames k.told
 
 -- what is in the slots of a machine whose frame takes an input, as the frame left its own or where it begins
 pub slots_heard : (k : Option CoroKind) (outer slots : Slots) (left : Option PyBaseExceptionRef) (x : Expect) → (x ≡ expect.Start) ⊎ (top_of slots ≡ left) → slots ≡ stacked k (top_of slots) outer

@@ -1,6 +1,6 @@
 -- Drives by which exceptions are made: what their makings come to, and what such a drive leaves of a machine.
-use Rattle.std.proofs.Common.{◌≡◌, ◌≤◌, ◌<◌, ◌+◌, ◌++◌, ℕ, suc, List, [], ◌∷◌, true, false, Some, Ok, Err, inl, inr, refl, sym, ap, subst, ◌∙◌, length, length-append, append_assoc, append-nil, add-one, arith}
-use Rattle.std.specs.Prelude.{Option, None, option_map, slice_get, codes}
+use Rattle.std.proofs.Common.{◌≡◌, ◌<◌, ℕ, List, Some, refl, sym, ap, subst, ◌∙◌, length}
+use Rattle.std.specs.Prelude.{Option, None}
 use Rattle.std.proofs.lemmas.Option.{slice_get_within}
 use Rattle.py_objects.specs.declared.refs.PyBaseExceptionRef.{PyBaseExceptionRef}
 use Rattle.py_objects.specs.declared.refs.PyTracebackRef.{PyTracebackRef}
@@ -8,19 +8,12 @@ use Rattle.py_objects.specs.declared.refs.PyTypeRef.{PyTypeRef}
 use Rattle.py_objects.specs.declared.payload.Payload.{Payload}
 use Rattle.py_objects.specs.declared.payload.Payload.TheVariants as payload
 use Rattle.py_objects.specs.declared.payload.Fault.{Fault}
-use Rattle.py_objects.specs.declared.payload.TracebackBody.{TracebackBody}
 use Rattle.py_objects.specs.declared.error_kind.ErrorKind.TheVariants.{TypeError}
-use Rattle.py_objects.specs.declared.edit.Change.{Change}
-use Rattle.py_objects.specs.declared.event.Event.{Event}
-use Rattle.py_objects.specs.declared.event.Event.TheVariants as event
-use Rattle.py_objects.specs.declared.event.DriveAnswer.{DriveAnswer}
-use Rattle.py_objects.specs.declared.event.DriveAnswer.TheVariants as answer
 use Rattle.py_objects.specs.Objects.{Obj, Name, HasPayload, as_object, AllFit, IfThere, IsException, IsTraceback}
 use Rattle.py_objects.specs.Edits.{Kept, objects_of, IsAsBefore}
-use Rattle.py_objects.specs.Growth.{Grows, GrowsPlainly, IsGrown}
+use Rattle.py_objects.specs.Growth.{GrowsPlainly, IsGrown}
 use Rattle.py_objects.proofs.ChangesLemmas.{exception_now}
 use Rattle.py_objects.proofs.GrowthLemmas.{payload_grown, plainly_grows, grows_plainly_refl}
-use Rattle.py_objects.proofs.GrownLemmas.{grown_refl}
 use Rattle.py_objects.proofs.Slots.{there}
 use Rattle.py_exceptions.specs.declared.ctor.Instantiate.{Instantiate}
 use Rattle.py_exceptions.specs.declared.ctor.Instantiate.TheVariants as comes
@@ -30,23 +23,17 @@ use Rattle.py_exceptions.specs.Making.{IsNewCalled, IsNewException}
 use Rattle.py_exceptions.specs.Memory.{UnlessNoMemory}
 use Rattle.py_exceptions.specs.Normalizing.{Normalizes}
 use Rattle.py_exceptions.specs.Tracebacks.{traceback_object}
-use Rattle.py_exceptions.proofs.ClassesLemmas.{classes_grown}
 use Rattle.py_exceptions.proofs.TypeNamesLemmas.{has_type_name}
-use Rattle.py_answers.specs.Answers.{Reply, Is, Makes, Fails, IsTypeName}
+use Rattle.py_answers.specs.Answers.{Reply, Is, Makes, Fails}
 use Rattle.py_answers.specs.Readable.{ChangeUnread, IsReadable}
-use Rattle.py_answers.specs.Replying.{IsRead}
 use Rattle.py_answers.proofs.GivingLemmas.{called_given}
-use Rattle.py_answers.proofs.ReadableLemmas.{change_unread, changes_grown}
-use Rattle.py_answers.proofs.ReadingLemmas.{one_payload, said_of_made}
+use Rattle.py_answers.proofs.ReadingLemmas.{one_payload}
 use Rattle.py_answers.proofs.ThrownLemmas.{normalized_as_made}
-use Rattle.py_run.specs.declared.drive.Drive.{Drive}
-use Rattle.py_run.specs.declared.drive.Drive.TheVariants.{Close}
 use Rattle.py_run.specs.declared.drive.Makings.{Makings}
 use Rattle.py_run.specs.Normalized.{NormalizesTo, formed, not_traceback, traceback_as}
 use Rattle.py_vm.specs.declared.normalizing.Formed.{Formed}
 use Rattle.py_vm.specs.declared.normalizing.Formed.TheVariants as form
-use Rattle.py_vm.specs.Courses.{RepliesRaise, RepliesValue}
-use Rattle.py_vm.specs.Normalizing.{makings_numbers, IsFormOf, IsNotTraceback, IsRefusal, IsTracebackOf}
+use Rattle.py_vm.specs.Normalizing.{IsFormOf, IsRefusal, IsTracebackOf}
 use Rattle.py_vm.proofs.CallsLemmas.{itself_given, raise_given}
 use Rattle.py_vm.proofs.ThrowingLemmas.{class_called, thrown_there}
 

@@ -19,6 +19,7 @@ use Rattle.py_vm.specs.declared.generators.KeptGenerator.{KeptGenerator}
 use Rattle.py_vm.specs.Codes.{Checked}
 use Rattle.py_vm.specs.Stands.{AreEach, AreKept, IsFresh, IsKept, IsLeft, KeepsIn, Plays}
 use Rattle.py_vm.proofs.PlaysLemmas.{setting_in}
+use Rattle.py_objects.proofs.FrameEntriesLemmas.{frame_stays}
 
 -- these codes keep those, and these objects are more
 module _ (codes : Checked) (list : List Annotated) (stay : (i : ℕ) (c : Annotated) → slice_get codes.codes i ≡ Some c → slice_get list i ≡ Some c) (globals : Obj) (objects objects' : List Payload) (events : List Event)
@@ -36,6 +37,7 @@ module _ (codes : Checked) (list : List Annotated) (stay : (i : ℕ) (c : Annota
     is_function = payload_grown objects objects' _ _ grows p.is_function;
     placed = p.placed;
     entry = payload_grown objects objects' _ _ grows p.entry;
+    made_with = frame_stays objects objects' p.at _ grows p.made_with;
     scoped = p.scoped;
     code = p.code;
     is_code = stay p.body.code p.code p.is_code;

@@ -17,9 +17,9 @@ use Rattle.py_objects.specs.declared.event.ResumeHow.{ResumeHow}
 use Rattle.py_objects.specs.declared.event.ResumeHow.TheVariants as how
 use Rattle.py_objects.specs.Objects.{Obj, IsFunction}
 use Rattle.py_objects.specs.Edits.{Kept}
-use Rattle.py_objects.specs.Growth.{with_object, IsGrown}
+use Rattle.py_objects.specs.Growth.{with_object, IsGrown, IsLonger}
 use Rattle.py_objects.specs.Scopes.{scope_of}
-use Rattle.py_objects.proofs.GrownLemmas.{grown_refl, grown_trans, added_grown, objects_grow}
+use Rattle.py_objects.proofs.GrownLemmas.{added_grown, objects_grow, frame_longer, grown_longer, longer_refl, longer_trans}
 use Rattle.py_exceptions.specs.Classes.{HaveClasses}
 use Rattle.py_exceptions.proofs.ClassesLemmas.{classes_grown}
 use Rattle.py_exceptions.specs.Slots.{Slots}
@@ -54,6 +54,10 @@ use Rattle.py_vm.specs.declared.stage.Stage.{Stage}
 use Rattle.py_vm.specs.declared.stage.Stage.TheVariants as stage
 use Rattle.py_vm.specs.declared.raises.KeptRaise.{KeptRaise}
 use Rattle.py_vm.specs.declared.machinery.Core.{Core}
+use Rattle.py_vm.specs.declared.calls.Standing.{Standing}
+use Rattle.py_vm.specs.declared.world.World.{World}
+use Rattle.py_vm.specs.Worlds.{setting_in, GrowsTo, IsCourseFrom}
+use Rattle.py_vm.specs.Holds.{AreRunnable}
 use Rattle.py_vm.specs.Codes.{Checked}
 use Rattle.py_vm.specs.Courses.{EntersBy, IsCourse, IsReplied, IsResumption, NamesThere, TakesThrows}
 use Rattle.py_vm.specs.Generators.{changed_at, entered_at, generator_asked, is_close, kept_at, without_activation, IsRunningNow}
@@ -65,10 +69,14 @@ use Rattle.py_vm.specs.Turns.{
   AnsweredOne,
   AreReady,
   CanFinish,
+  CanFollow,
+  CanReply,
   CanTell,
   Comes_on,
   CreatedOne,
   Finished,
+  FirstAsks,
+  FollowedOne,
   Halts,
   HasOwnSlot,
   HoldsIn,
@@ -99,20 +107,24 @@ use Rattle.py_vm.proofs.QuestionsLemmas.{opened_call}
 use Rattle.py_vm.proofs.LeavingLemmas.{finished_call, finished_generator, replies_at, some_question}
 
 -- what leaves a machine's events, codes and globals halts, where it got no more than objects
-pub halts_with : (m m' : Core) → m'.events ≡ m.events → IsGrown m.store m'.store → m'.codes ≡ m.codes → m'.globals ≡ m.globals → m'.entered ≡ m.entered → m'.failed ≡ m.failed → m'.state ≡ m.state → Halts m m'
+pub halts_with : (m m' : Core) → m'.events ≡ m.events → IsLonger m.world.store m'.world.store → m'.world.codes ≡ m.world.codes → m'.globals ≡ m.globals → m'.entered ≡ m.entered → m'.failed ≡ m.failed → m'.state ≡ m.state → Halts m m'
 halts_with m m' events grown codes globals entered failed state = record { events = events; kept = record { grows = grown; codes = codes; globals = globals; entered = entered; failed = failed; state = state } }
 
+-- a machine of a longer store halts
+longer_halts : (m : Core) (store : Kept) → IsLonger m.world.store store → Halts m (record m { world = record m.world { store = store } })
+longer_halts m store longer = halts_with m (record m { world = record m.world { store = store } }) refl longer refl refl refl refl refl
+
 -- a machine that got no more than objects, generators, frames, callers and what is in its slots halts
-pub grew_halts : (m : Core) (store : Kept) (generators : List KeptGenerator) (frames : List FrameRef) (callers : List Halted) (slots : Slots) (stage : Stage) → IsGrown m.store store
-    → Halts m (record m { store = store; generators = generators; frames = frames; callers = callers; slots = slots; stage = stage })
-grew_halts m store generators frames callers slots stage grown = halts_with m (record m { store = store; generators = generators; frames = frames; callers = callers; slots = slots; stage = stage }) refl grown refl refl refl refl refl
+pub grew_halts : (m : Core) (store : Kept) (generators : List KeptGenerator) (frames : List FrameRef) (callers : List Halted) (slots : Slots) (stage : Stage) → IsGrown m.world.store store
+    → Halts m (record m { world = record m.world { store = store; generators = generators }; frames = frames; callers = callers; slots = slots; stage = stage })
+grew_halts m store generators frames callers slots stage grown = halts_with m (record m { world = record m.world { store = store; generators = generators }; frames = frames; callers = callers; slots = slots; stage = stage }) refl (grown_longer m.world.store store grown) refl refl refl refl refl
 
 -- so does one that halts in a call behind another one
 pub halts_trans : (m n m' : Core) → Halts m n → Halts n m' → Halts m m'
 halts_trans m n m' first later = record {
   events = later.events ∙ first.events;
   kept = record {
-    grows = grown_trans m.store n.store m'.store first.kept.grows later.kept.grows;
+    grows = longer_trans m.world.store n.world.store m'.world.store first.kept.grows later.kept.grows;
     codes = later.kept.codes ∙ first.kept.codes;
     globals = later.kept.globals ∙ first.kept.globals;
     entered = later.kept.entered ∙ first.kept.entered;
@@ -121,49 +133,45 @@ halts_trans m n m' first later = record {
   };
 }
 
-pub halted_on : (m m' : Core) (store : Kept) (generators : List KeptGenerator) (frames : List FrameRef) (callers : List Halted) (slots : Slots) (stage : Stage) → IsGrown m.store store
-    → Halts (record m { store = store; generators = generators; frames = frames; callers = callers; slots = slots; stage = stage }) m' → Halts m m'
+pub halted_on : (m m' : Core) (store : Kept) (generators : List KeptGenerator) (frames : List FrameRef) (callers : List Halted) (slots : Slots) (stage : Stage) → IsGrown m.world.store store
+    → Halts (record m { world = record m.world { store = store; generators = generators }; frames = frames; callers = callers; slots = slots; stage = stage }) m' → Halts m m'
 halted_on m m' store generators frames callers slots stage grown halts =
-    halts_trans m (record m { store = store; generators = generators; frames = frames; callers = callers; slots = slots; stage = stage }) m' (grew_halts m store generators frames callers slots stage grown) halts
+    halts_trans m (record m { world = record m.world { store = store; generators = generators }; frames = frames; callers = callers; slots = slots; stage = stage }) m' (grew_halts m store generators frames callers slots stage grown) halts
 
 -- so does one that noted a raise
 pub noted_halts : (m n : Core) (h : Halted) (w : Answer) → NotedOne m h w n → Halts m n
-noted_halts m n h w (raises, noted, same) = subst (Halts m) (sym same) (halts_with m (record m { raises = raises }) refl (grown_refl m.store) refl refl refl refl refl)
+noted_halts m n h w (raises, noted, same) = subst (Halts m) (sym same) (halts_with m (record m { raises = raises }) refl (longer_refl m.world.store) refl refl refl refl refl)
 
 -- and one that told an exit a traceback
-pub traced_halts : (m n : Core) (e t : Obj) → AreThere m.store.made m.raises → IsTracedBy m e (raise_at m.raises e) t n → Halts m n
+pub traced_halts : (m n : Core) (e t : Obj) → AreThere m.world.store.made m.raises → IsTracedBy m e (raise_at m.raises e) t n → Halts m n
 traced_halts m n e t there traced =
     subst (Halts m) (sym (traced_same m n e t (raise_at m.raises e) traced))
-    (halts_with m (record m { store = n.store; raises = n.raises }) refl (traced_grows m n e t there traced) refl refl refl refl refl)
+    (halts_with m (record m { world = record m.world { store = n.world.store }; raises = n.raises }) refl (grown_longer m.world.store n.world.store (traced_grows m n e t there traced)) refl refl refl refl refl)
 
-pub told_halts : (m n : Core) (q told_so : Request) → AreThere m.store.made m.raises → ToldOne m q told_so n → Halts m n
-told_halts m n (request.Exit x c e t) told_so there (inl (none, is, same)) = subst (Halts m) (sym same) (halts_with m m refl (grown_refl m.store) refl refl refl refl refl)
+pub told_halts : (m n : Core) (q told_so : Request) → AreThere m.world.store.made m.raises → ToldOne m q told_so n → Halts m n
+told_halts m n (request.Exit x c e t) told_so there (inl (none, is, same)) = subst (Halts m) (sym same) (halts_with m m refl (longer_refl m.world.store) refl refl refl refl refl)
 told_halts m n (request.Exit x c e t) told_so there (inr (exception, (u, is, traced))) = traced_halts m n e u there traced
-told_halts m n q told_so there tells = subst (Halts m) (sym tells.1) (halts_with m m refl (grown_refl m.store) refl refl refl refl refl)
+told_halts m n q told_so there tells = subst (Halts m) (sym tells.1) (halts_with m m refl (longer_refl m.world.store) refl refl refl refl refl)
 
 -- a step that asks can be told
-pub can_tell : (m : Core) (store : Kept) (slots : Slots) (s : FrameStep) (at : ℕ) → IsReadable m.store → AreThere m.store.made m.raises → IsGrown m.store store → TellsBelow (length store.made) (own_of_step (told at s))
-    → CanTell (record m { store = store; slots = slots }) s
+pub can_tell : (m : Core) (store : Kept) (slots : Slots) (s : FrameStep) (at : ℕ) → IsReadable m.world.store → AreThere m.world.store.made m.raises → IsGrown m.world.store store → TellsBelow (length store.made) (own_of_step (told at s))
+    → CanTell (record m { world = record m.world { store = store }; slots = slots }) s
 can_tell m store slots (step.Ask q own) at readable there grown below =
-    (readable_on m.store store grown readable, below_behind _ _ _ below.0, there_grown m.store.made store.made m.raises (objects_grow m.store store grown) there)
+    (readable_on m.world.store store (grown_longer m.world.store store grown) readable, below_behind _ _ _ below.0, there_grown m.world.store.made store.made m.raises (objects_grow m.world.store store grown) there)
 can_tell m store slots step.Round at readable there grown below = tt
 can_tell m store slots (step.Yield v) at readable there grown below = tt
 can_tell m store slots (step.Return v) at readable there grown below = tt
 can_tell m store slots (step.Raise e) at readable there grown below = tt
 can_tell m store slots step.NoMemory at readable there grown below = tt
 
--- a frame's object is growth
-frame_grown : (s : Kept) (place : ℕ) → IsGrown s (with_object s (payload.Frame place))
-frame_grown s place = added_grown s (with_object s (payload.Frame place)) (payload.Frame place) refl refl (λ fit. tt) (λ fit. tt)
-
 -- where only a frame's object was made
-pub object_halts : (m : Core) (store : Kept) (place : ℕ) → store ≡ with_object m.store (payload.Frame place) → Halts m (record m { store = store })
-object_halts m store place added = grew_halts m store m.generators m.frames m.callers m.slots m.stage (subst (IsGrown m.store) (sym added) (frame_grown m.store place))
+pub object_halts : (m : Core) (store : Kept) (place : ℕ) → store ≡ with_object m.world.store (payload.Frame place) → Halts m (record m { world = record m.world { store = store } })
+object_halts m store place added = longer_halts m store (subst (IsLonger m.world.store) (sym added) (frame_longer m.world.store place))
 
 -- an activation that was made, and couldn't be told
 pub fresh_halts : (m n : Core) (act : ℕ) (f : Obj) (vs : List Obj) (r : Running) (events : List Event) → IsFreshFor m act f vs r n → events ≡ n.events → Halts m (record n { events = events })
 fresh_halts m n act f vs r events (b, has, c, is_code, unbegun, is) same =
-    subst (λ l. Halts m (record n { events = l })) (sym same) (subst (Halts m) (sym is) (grew_halts m (with_object m.store (payload.Frame b.code)) m.generators m.frames m.callers m.slots m.stage (frame_grown m.store b.code)))
+    subst (λ l. Halts m (record n { events = l })) (sym same) (subst (Halts m) (sym is) (longer_halts m (with_object m.world.store (payload.Frame b.code)) (frame_longer m.world.store b.code)))
 
 -- an activation that was made and told
 pub made_one : (m n : Core) (f : Obj) (vs : List Obj) (r : Running) (events : List Event) → IsFreshFor m (m.made + 1) f vs r n → events ≡ n.events ++ event.Make (m.made + 1) f vs ∷ []
@@ -226,33 +234,33 @@ replied_there old new reply (made.Stops v) x = x.1
 replied_there old new reply made.Closes x = tt
 
 -- the course that was made for a request, where it stands
-module _ (m : Core) (store : Kept) (list : List KeptGenerator) (at : Setting) (q : Request) (x : MadeCourse) (stands : at ≡ setting_at m) (made : IsCourse at m.store store m.generators list q x) where
-  there : (y : MadeCourse) → x ≡ y → IsCourse (setting_at m) m.store store m.generators list q y
-  there y is = subst (IsCourse (setting_at m) m.store store m.generators list q) is (subst (λ s. IsCourse s m.store store m.generators list q x) stands made)
+module _ (m : Core) (store : Kept) (list : List KeptGenerator) (at : Setting) (q : Request) (x : MadeCourse) (stands : at ≡ setting_at m) (made : IsCourse at m.world.store store m.world.generators list q x) where
+  there : (y : MadeCourse) → x ≡ y → IsCourse (setting_at m) m.world.store store m.world.generators list q y
+  there y is = subst (IsCourse (setting_at m) m.world.store store m.world.generators list q) is (subst (λ s. IsCourse s m.world.store store m.world.generators list q x) stands made)
 
   -- it says a reply
-  pub course_said : (w : MadeReply) → x ≡ course.Says w → IsGrown m.store store → IsSaid m q store list w
+  pub course_said : (w : MadeReply) → x ≡ course.Says w → IsGrown m.world.store store → IsSaid m q store list w
   course_said w is grown =
-      let said : IsCourse (setting_at m) m.store store m.generators list q (course.Says w) = there (course.Says w) is in
+      let said : IsCourse (setting_at m) m.world.store store m.world.generators list q (course.Says w) = there (course.Says w) is in
       record { reply = said.0; says = said.1; grown = grown; replied = said.2; shuts = said.3 }
 
   -- which names objects
   pub course_names : (w : MadeReply) → x ≡ course.Says w → NamesThere store.made w
   course_names w is =
-      let said : IsCourse (setting_at m) m.store store m.generators list q (course.Says w) = there (course.Says w) is in
-      replied_there m.store.made store.made said.0 w said.2
+      let said : IsCourse (setting_at m) m.world.store store m.world.generators list q (course.Says w) = there (course.Says w) is in
+      replied_there m.world.store.made store.made said.0 w said.2
 
   -- or enters a function, and no object is new
-  pub course_opened : (f : Obj) (vs : List Obj) → x ≡ course.Enters f vs → IsOpened m q f vs × (store ≡ m.store) × (list ≡ m.generators)
+  pub course_opened : (f : Obj) (vs : List Obj) → x ≡ course.Enters f vs → IsOpened m q f vs × (store ≡ m.world.store) × (list ≡ m.world.generators)
   course_opened f vs is = there (course.Enters f vs) is
 
   pub course_callee : (f : Obj) (vs : List Obj) → x ≡ course.Enters f vs → IsFunction store.made f
   course_callee f vs is =
       let opened = course_opened f vs is in
-      subst (λ (s : Kept). IsFunction s.made f) (sym opened.1) (opened_call (setting_at m) m.store.made q f vs opened.0).1
+      subst (λ (s : Kept). IsFunction s.made f) (sym opened.1) (opened_call (setting_at m) m.world.store.made q f vs opened.0).1
 
   -- or enters a generator
-  pub course_resumes : (g : Obj) (h : ResumeHow) → x ≡ course.Resumes g h → IsResumption (setting_at m) m.store.made store.made m.generators list q g h
+  pub course_resumes : (g : Obj) (h : ResumeHow) → x ≡ course.Resumes g h → IsResumption (setting_at m) m.world.store.made store.made m.world.generators list q g h
   course_resumes g h is = there (course.Resumes g h) is
 
 -- a generator that is ready to be entered has its activation
@@ -279,20 +287,20 @@ entered_holds at old new q x (how.Send v) (comes, waits, low) holds = holds_as L
 entered_holds at old new q x (how.Throw e) (raise, comes, thrown, takes) holds = throws_hold x.generator.mode x takes holds
 
 -- so it can be resumed behind its entry
-module _ (m : Core) (q : Request) (store : Kept) (list : List KeptGenerator) (g : Obj) (h : ResumeHow) (ready : AreReady m.store.made m.generators)
-    (resumes : IsResumption (setting_at m) m.store.made store.made m.generators list q g h) where
+module _ (m : Core) (q : Request) (store : Kept) (list : List KeptGenerator) (g : Obj) (h : ResumeHow) (ready : AreReady m.world.store.made m.world.generators)
+    (resumes : IsResumption (setting_at m) m.world.store.made store.made m.world.generators list q g h) where
   entered_there : kept_at list g ≡ Some (entered_at (is_close q) resumes.kept)
-  entered_there = ap (λ l. kept_at l g) resumes.changes ∙ kept_changed g (entered_at (is_close q)) (λ x. refl) m.generators resumes.kept resumes.is_kept
+  entered_there = ap (λ l. kept_at l g) resumes.changes ∙ kept_changed g (entered_at (is_close q)) (λ x. refl) m.world.generators resumes.kept resumes.is_kept
 
   pub resumable : IsResumable list g
   resumable = (
     entered_at (is_close q) resumes.kept,
     entered_there,
-    entered_holds (setting_at m) m.store.made store.made q resumes.kept h resumes.enters (ready_one m.store.made m.generators g resumes.kept ready resumes.is_kept),
+    entered_holds (setting_at m) m.world.store.made store.made q resumes.kept h resumes.enters (ready_one m.world.store.made m.world.generators g resumes.kept ready resumes.is_kept),
   )
 
   -- and that enters it
-  pub entering_by : (x : KeptGenerator) (s : Suspended) → kept_at list g ≡ Some x → x.suspended ≡ Some s → IsGrown m.store store → IsEntering m q store (changed_at g without_activation list) s h
+  pub entering_by : (x : KeptGenerator) (s : Suspended) → kept_at list g ≡ Some x → x.suspended ≡ Some s → IsGrown m.world.store store → IsEntering m q store (changed_at g without_activation list) s h
   entering_by x s here waits grown =
       let same : entered_at (is_close q) resumes.kept ≡ x = same_Some _ _ (sym entered_there ∙ here) in
       record {
@@ -309,20 +317,68 @@ module _ (m : Core) (q : Request) (store : Kept) (list : List KeptGenerator) (g 
 -- what a question comes to, whose answer these callers wait for
 module _ (m : Core) (q : Request) (store : Kept) (list : List KeptGenerator) (hs : List Halted) where
   -- it is answered at once
-  pub says_on : (w : MadeReply) (a : Option DriveAnswer) (m' : Core) → IsSaid m q store list w → Replies (record m { store = store; generators = list; callers = hs }) w hs a m' → Comes_on m q hs a m'
+  pub says_on : (w : MadeReply) (a : Option DriveAnswer) (m' : Core) → IsSaid m q store list w → Replies (record m { world = record m.world { store = store; generators = list }; callers = hs }) w hs a m' → Comes_on m q hs a m'
   says_on w a m' said replies = inl (store, list, w, said, replies)
 
   -- or an activation is made
-  pub enters_on : (f : Obj) (vs : List Obj) (m' : Core) → IsOpened m q f vs × (store ≡ m.store) × (list ≡ m.generators) → MadeOne (record m { store = store; generators = list; callers = hs }) f vs m'
+  pub enters_on : (f : Obj) (vs : List Obj) (m' : Core) → IsOpened m q f vs × (store ≡ m.world.store) × (list ≡ m.world.generators) → MadeOne (record m { world = record m.world { store = store; generators = list }; callers = hs }) f vs m'
       → Comes_on m q hs None m'
   enters_on f vs m' (opened, same, still) made =
-      inr (inl (f, vs, refl, opened, subst (λ l. MadeOne (record m { generators = l; callers = hs }) f vs m') still (subst (λ s. MadeOne (record m { store = s; generators = list; callers = hs }) f vs m') same made)))
+      inr (inl (f, vs, refl, opened, subst (λ l. MadeOne (record m { world = record m.world { generators = l }; callers = hs }) f vs m') still (subst (λ s. MadeOne (record m { world = record m.world { store = s; generators = list }; callers = hs }) f vs m') same made)))
 
   -- or entered
-  pub resumes_on : (g : Obj) (h : ResumeHow) (m' : Core) → AreReady m.store.made m.generators → IsResumption (setting_at m) m.store.made store.made m.generators list q g h → IsGrown m.store store
-      → ResumedOne (record m { store = store; generators = list; callers = hs }) g h m' → Comes_on m q hs None m'
+  pub resumes_on : (g : Obj) (h : ResumeHow) (m' : Core) → AreReady m.world.store.made m.world.generators → IsResumption (setting_at m) m.world.store.made store.made m.world.generators list q g h → IsGrown m.world.store store
+      → ResumedOne (record m { world = record m.world { store = store; generators = list }; callers = hs }) g h m' → Comes_on m q hs None m'
   resumes_on g h m' ready resumes grown (x, here, s, waits, is) =
       inr (inr (store, changed_at g without_activation list, s, h, refl, entering_by m q store list g h ready resumes x s here waits grown, is))
+
+-- a machine with this world and these callers
+abbrev pub with_world : Core → World → List Halted → Core
+with_world m w hs = record m { world = w; callers = hs }
+
+-- where more objects came, it halts
+pub world_halts : (m : Core) (w : World) (hs : List Halted) → GrowsTo m.world w → Halts m (with_world m w hs)
+world_halts m w hs grows = subst (λ (x : World). Halts m (with_world m x hs)) (sym grows.others) (grew_halts m w.store w.generators m.frames hs m.slots m.stage grows.grows)
+
+-- a course that was made for a question, whose answer these callers wait for
+module _ (m : Core) (w : World) (at : Standing) (q : Request) (hs : List Halted) (c : MadeCourse) (grows : GrowsTo m.world w) (stands : setting_in m.world at ≡ setting_at m)
+    (made : IsCourseFrom m.world w at q c) (can : CanReply m) where
+  -- it can be followed
+  pub can_follow : FirstAsks m.world.codes m.events hs → CanFollow (with_world m w hs) c
+  can_follow asks = subst (λ (x : World). CanFollow (with_world m x hs) c) (sym grows.others) (by c refl)
+    where
+      by : (y : MadeCourse) → c ≡ y → CanFollow (with_world m (record m.world { store = w.store; generators = w.generators }) hs) y
+      by (course.Says r) is = (
+        classes_grown m.world.zoo m.world.store.made w.store.made (objects_grow m.world.store w.store grows.grows) can.stored.classes,
+        course_names m w.store w.generators (setting_in m.world at) q c stands made r is,
+        asks,
+      )
+      by (course.Enters f vs) is =
+          let opened = course_opened m w.store w.generators (setting_in m.world at) q c stands made f vs is in (
+            readable_on m.world.store w.store (grown_longer m.world.store w.store grows.grows) can.stored.readable,
+            subst (λ (s : Kept). AreRunnable m.world.codes s.made) (sym opened.1) can.runnable,
+            course_callee m w.store w.generators (setting_in m.world at) q c stands made f vs is,
+          )
+      by (course.Resumes g h) is =
+          resumable m q w.store w.generators g h can.generators (course_resumes m w.store w.generators (setting_in m.world at) q c stands made g h is)
+
+  -- and what that makes of the machine is what the question comes to
+  pub followed_on : (a : Option DriveAnswer) (m' : Core) → FollowedOne (with_world m w hs) c m' a → Comes_on m q hs a m'
+  followed_on a m' followed = by c refl (subst (λ (x : World). FollowedOne (with_world m x hs) c m' a) grows.others followed)
+    where
+      by : (y : MadeCourse) → c ≡ y → FollowedOne (with_world m (record m.world { store = w.store; generators = w.generators }) hs) y m' a → Comes_on m q hs a m'
+      by (course.Says r) is replies =
+          says_on m q w.store w.generators hs r a m' (course_said m w.store w.generators (setting_in m.world at) q c stands made r is grows.grows) replies
+      by (course.Enters f vs) is (none, one) =
+          subst (λ (b : Option DriveAnswer). Comes_on m q hs b m') (sym none)
+          (enters_on m q w.store w.generators hs f vs m' (course_opened m w.store w.generators (setting_in m.world at) q c stands made f vs is) one)
+      by (course.Resumes g h) is (none, one) =
+          subst (λ (b : Option DriveAnswer). Comes_on m q hs b m') (sym none)
+          (resumes_on m q w.store w.generators hs g h m' can.generators (course_resumes m w.store w.generators (setting_in m.world at) q c stands made g h is) grows.grows one)
+
+-- what halts after a call that halts
+pub follows_halt : (m m' : Core) (w : World) (hs : List Halted) → GrowsTo m.world w → Halts (with_world m w hs) m' → Halts m m'
+follows_halt m m' w hs grows halts = halts_trans m (with_world m w hs) m' (world_halts m w hs grows) halts
 
 -- what an activation asked that waits
 module _ (m : Core) (h : Halted) (n : ℕ) (q : Request) (own : Option PyBaseExceptionRef) (at : ℕ) (e : Event) (found : Some e ≡ slice_get m.events h.place) (is : e ≡ event.Ask n q own at) where
@@ -350,7 +406,7 @@ module _ (m : Core) (s : Stage) where
     list,
     w,
     record { reply = said.reply; says = said.says; grown = said.grown; replied = said.replied; shuts = said.shuts },
-    replies_at m s (record m { store = store; generators = list; callers = hs }) w hs a m' replies,
+    replies_at m s (record m { world = record m.world { store = store; generators = list }; callers = hs }) w hs a m' replies,
   )
   comes_on_at q hs a m' (inr (inl x)) = inr (inl x)
   comes_on_at q hs a m' (inr (inr (store, list, t, h, none, entering, is))) =
@@ -380,23 +436,23 @@ stepped_at m s r step.NoMemory m' is = is
 
 pub went_on_at : (m : Core) (s : Stage) (r : Running) (m' : Core) → WentOn (record m { stage = s }) r m' → WentOn m r m'
 went_on_at m s r m' (store, grown, x, f, told, stepped) =
-    (store, grown, x, f, told, stepped_at (record m { store = store; slots = slice_set m.slots 0 f.state.slot }) s (record r { frame = f }) x m' stepped)
+    (store, grown, x, f, told, stepped_at (record m { world = record m.world { store = store }; slots = slice_set m.slots 0 f.state.slot }) s (record r { frame = f }) x m' stepped)
 
 -- ---- what comes behind a machine that settled, or made a generator
 
 -- it still can reply
-still_replies : (m : Core) (store : Kept) (list : List KeptGenerator) (n : Core) → n ≡ record m { store = store; generators = list } → IsGrown m.store store → m.done ≤ length m.events
-    → HaveClasses m.zoo m.store.made → (n.done ≤ length n.events) × HaveClasses n.zoo n.store.made
+still_replies : (m : Core) (store : Kept) (list : List KeptGenerator) (n : Core) → n ≡ record m { world = record m.world { store = store; generators = list } } → IsGrown m.world.store store → m.done ≤ length m.events
+    → HaveClasses m.world.zoo m.world.store.made → (n.done ≤ length n.events) × HaveClasses n.world.zoo n.world.store.made
 still_replies m store list n same grown done classes =
-    subst (λ (k : Core). (k.done ≤ length k.events) × HaveClasses k.zoo k.store.made) (sym same) (done, classes_grown m.zoo m.store.made store.made (objects_grow m.store store grown) classes)
+    subst (λ (k : Core). (k.done ≤ length k.events) × HaveClasses k.world.zoo k.world.store.made) (sym same) (done, classes_grown m.world.zoo m.world.store.made store.made (objects_grow m.world.store store grown) classes)
 
 -- and has no more than objects
-still_halts : (m : Core) (store : Kept) (list : List KeptGenerator) (n : Core) → n ≡ record m { store = store; generators = list } → IsGrown m.store store → Halts m n
+still_halts : (m : Core) (store : Kept) (list : List KeptGenerator) (n : Core) → n ≡ record m { world = record m.world { store = store; generators = list } } → IsGrown m.world.store store → Halts m n
 still_halts m store list n same grown = subst (Halts m) (sym same) (grew_halts m store list m.frames m.callers m.slots m.stage grown)
 
 -- a generator settled
 module _ (m n : Core) (g : Obj) (s : Suspended) (how : CoroEnd) (w : MadeReply) (settles : SettledOne m g s how w n) where
-  pub settled_replies : m.done ≤ length m.events → HaveClasses m.zoo m.store.made → (n.done ≤ length n.events) × HaveClasses n.zoo n.store.made
+  pub settled_replies : m.done ≤ length m.events → HaveClasses m.world.zoo m.world.store.made → (n.done ≤ length n.events) × HaveClasses n.world.zoo n.world.store.made
   settled_replies done classes =
       let (store, list, (x, here, body, has, a, finishes, grown, changes, replied), same) = settles in
       still_replies m store list n same grown done classes
@@ -408,28 +464,28 @@ module _ (m n : Core) (g : Obj) (s : Suspended) (how : CoroEnd) (w : MadeReply) 
 
 -- a generator was made
 module _ (m n : Core) (r : Running) (f : Obj) (kind : CoroKind) (g : Obj) (creates : CreatedOne m r f kind g n) where
-  created_grown : (store : Kept) (x : KeptGenerator) → IsCreated m r f kind x store → IsGrown m.store store
-  created_grown store x created = added_grown m.store store (payload.Generator _) created.added refl (λ fit. tt) (λ fit. tt)
+  created_grown : (store : Kept) (x : KeptGenerator) → IsCreated m r f kind x store → IsGrown m.world.store store
+  created_grown store x created = added_grown m.world.store store (payload.Generator _) created.added refl refl (λ fit. tt) (λ fit. tt)
 
-  pub created_replies : m.done ≤ length m.events → HaveClasses m.zoo m.store.made → (n.done ≤ length n.events) × HaveClasses n.zoo n.store.made
-  created_replies done classes = let (x, store, created, is, same) = creates in still_replies m store (m.generators ++ x ∷ []) n same (created_grown store x created) done classes
+  pub created_replies : m.done ≤ length m.events → HaveClasses m.world.zoo m.world.store.made → (n.done ≤ length n.events) × HaveClasses n.world.zoo n.world.store.made
+  created_replies done classes = let (x, store, created, is, same) = creates in still_replies m store (m.world.generators ++ x ∷ []) n same (created_grown store x created) done classes
 
   pub created_halts : Halts m n
-  created_halts = let (x, store, created, is, same) = creates in still_halts m store (m.generators ++ x ∷ []) n same (created_grown store x created)
+  created_halts = let (x, store, created, is, same) = creates in still_halts m store (m.world.generators ++ x ∷ []) n same (created_grown store x created)
 
 -- the generator that the open question asks runs
 pub entered_runs : (m : Core) (d : Drive) (how : CoroEnd) (o : Option Obj) (g : Obj) → CanFinish m d how → ((q : Request) → Questioned m.events d m.callers q → o ≡ generator_asked q) → o ≡ Some g
-    → IsRunningNow m.generators g × IsGenerator m.store.made g
-entered_runs m d how o g (stored, ending, runs, asks) entered is = let (q, asked) = some_question m.codes m.events d m.callers asks in runs q asked g (sym (entered q asked) ∙ is)
+    → IsRunningNow m.world.generators g × IsGenerator m.world.store.made g
+entered_runs m d how o g (stored, ending, runs, asks) entered is = let (q, asked) = some_question m.world.codes m.events d m.callers asks in runs q asked g (sym (entered q asked) ∙ is)
 
 -- what finishes a call or a generator, whichever the open question asks
 module _ (m : Core) (d : Drive) (s : Suspended) (how : CoroEnd) (o : Option Obj) (can : CanFinish m d how) (entered : (q : Request) → Questioned m.events d m.callers q → o ≡ generator_asked q) where
   pub call_finished : (a : Option DriveAnswer) (m' : Core) → o ≡ None → Replies m (passed how) m.callers a m' → Finished m d s how a m'
   call_finished a m' none replies =
-      let (q, asked) = some_question m.codes m.events d m.callers can.3 in
+      let (q, asked) = some_question m.world.codes m.events d m.callers can.3 in
       finished_call m d s how q asked a m' (sym none ∙ entered q asked) replies
 
   pub generator_finished : (g : Obj) (w : MadeReply) (n : Core) (a : Option DriveAnswer) (m' : Core) → o ≡ Some g → SettledOne m g s how w n → Replies n w n.callers a m' → Finished m d s how a m'
   generator_finished g w n a m' is settles replies =
-      let (q, asked) = some_question m.codes m.events d m.callers can.3 in
+      let (q, asked) = some_question m.world.codes m.events d m.callers can.3 in
       finished_generator m d s how q asked g w n a m' (sym is ∙ entered q asked) settles replies

@@ -182,94 +182,94 @@ module _ (objects objects' : List Payload) (events : List Event) (e : Event) (li
 -- ---- the traceback that an exit is told
 
 -- a machine with a traceback more, or as it was
-traced_grown : (m m' : Core) (v t : Obj) (found : Option KeptRaise) → raise_at m.raises v ≡ found → AreThere m.store.made m.raises → IsTracedBy m v found t m' → IsGrown m.store m'.store
-traced_grown m m' v t None here there (none, is) = subst (λ (n : Core). IsGrown m.store n.store) (sym is) (grown_refl m.store)
+traced_grown : (m m' : Core) (v t : Obj) (found : Option KeptRaise) → raise_at m.raises v ≡ found → AreThere m.world.store.made m.raises → IsTracedBy m v found t m' → IsGrown m.world.store m'.world.store
+traced_grown m m' v t None here there (none, is) = subst (λ (n : Core). IsGrown m.world.store n.world.store) (sym is) (grown_refl m.world.store)
 traced_grown m m' v t (Some x) here there traced = by x.traceback traced
   where
-    by : (k : Option Obj) → IsTracedAs m v x k t m' → IsGrown m.store m'.store
-    by None (number, is) = entry_grows m.store m'.store None x.frame x.lasti x.lineno tt (there v x here).frame (ap (λ (n : Core). n.store) is)
-    by (Some known) (same, is) = subst (λ (n : Core). IsGrown m.store n.store) (sym is) (grown_refl m.store)
+    by : (k : Option Obj) → IsTracedAs m v x k t m' → IsGrown m.world.store m'.world.store
+    by None (number, is) = entry_grows m.world.store m'.world.store None x.frame x.lasti x.lineno tt (there v x here).frame (ap (λ (n : Core). n.world.store) is)
+    by (Some known) (same, is) = subst (λ (n : Core). IsGrown m.world.store n.world.store) (sym is) (grown_refl m.world.store)
 
-pub traced_grows : (m m' : Core) (v t : Obj) → AreThere m.store.made m.raises → IsTracedBy m v (raise_at m.raises v) t m' → IsGrown m.store m'.store
+pub traced_grows : (m m' : Core) (v t : Obj) → AreThere m.world.store.made m.raises → IsTracedBy m v (raise_at m.raises v) t m' → IsGrown m.world.store m'.world.store
 traced_grows m m' v t there traced = traced_grown m m' v t (raise_at m.raises v) refl there traced
 
 -- all else of it stays
-pub traced_same : (m m' : Core) (v t : Obj) (found : Option KeptRaise) → IsTracedBy m v found t m' → m' ≡ record m { store = m'.store; raises = m'.raises }
-traced_same m m' v t None (none, is) = is ∙ sym (ap (λ (n : Core). let y : Core = record m { store = n.store; raises = n.raises } in y) is)
+pub traced_same : (m m' : Core) (v t : Obj) (found : Option KeptRaise) → IsTracedBy m v found t m' → m' ≡ record m { world = record m.world { store = m'.world.store }; raises = m'.raises }
+traced_same m m' v t None (none, is) = is ∙ sym (ap (λ (n : Core). let y : Core = record m { world = record m.world { store = n.world.store }; raises = n.raises } in y) is)
 traced_same m m' v t (Some x) traced = by x.traceback traced
   where
-    by : (k : Option Obj) → IsTracedAs m v x k t m' → m' ≡ record m { store = m'.store; raises = m'.raises }
-    by None (number, is) = is ∙ sym (ap (λ (n : Core). let y : Core = record m { store = n.store; raises = n.raises } in y) is)
-    by (Some known) (same, is) = is ∙ sym (ap (λ (n : Core). let y : Core = record m { store = n.store; raises = n.raises } in y) is)
+    by : (k : Option Obj) → IsTracedAs m v x k t m' → m' ≡ record m { world = record m.world { store = m'.world.store }; raises = m'.raises }
+    by None (number, is) = is ∙ sym (ap (λ (n : Core). let y : Core = record m { world = record m.world { store = n.world.store }; raises = n.raises } in y) is)
+    by (Some known) (same, is) = is ∙ sym (ap (λ (n : Core). let y : Core = record m { world = record m.world { store = n.world.store }; raises = n.raises } in y) is)
 
 -- a new traceback is one
-new_traceback : (m m' : Core) (v t : Obj) (x : KeptRaise) → IsTraced m v x t m' → IsTraceback m'.store.made t
+new_traceback : (m m' : Core) (v t : Obj) (x : KeptRaise) → IsTraced m v x t m' → IsTraceback m'.world.store.made t
 new_traceback m m' v t x (number, is) =
     let entry : Payload = traceback_entry None x.frame x.lasti x.lineno in
-    (_, subst (λ (n : Core). HasPayload n.store.made t entry) (sym is) (subst (λ o. HasPayload (m.store.made ++ entry ∷ []) o entry) (same_object _ t (sym number)) (newest m.store.made entry)))
+    (_, subst (λ (n : Core). HasPayload n.world.store.made t entry) (sym is) (subst (λ o. HasPayload (m.world.store.made ++ entry ∷ []) o entry) (same_object _ t (sym number)) (newest m.world.store.made entry)))
 
 -- it is a None or a traceback
-pub traced_there : (m m' : Core) (v t : Obj) → AreThere m.store.made m.raises → IsTracedBy m v (raise_at m.raises v) t m' → HasPayload m'.store.made t payload.None ⊎ IsTraceback m'.store.made t
+pub traced_there : (m m' : Core) (v t : Obj) → AreThere m.world.store.made m.raises → IsTracedBy m v (raise_at m.raises v) t m' → HasPayload m'.world.store.made t payload.None ⊎ IsTraceback m'.world.store.made t
 traced_there m m' v t there traced = by (raise_at m.raises v) refl traced
   where
-    by : (found : Option KeptRaise) → raise_at m.raises v ≡ found → IsTracedBy m v found t m' → HasPayload m'.store.made t payload.None ⊎ IsTraceback m'.store.made t
-    by None here (none, is) = inl (subst (λ (n : Core). HasPayload n.store.made t payload.None) (sym is) none)
+    by : (found : Option KeptRaise) → raise_at m.raises v ≡ found → IsTracedBy m v found t m' → HasPayload m'.world.store.made t payload.None ⊎ IsTraceback m'.world.store.made t
+    by None here (none, is) = inl (subst (λ (n : Core). HasPayload n.world.store.made t payload.None) (sym is) none)
     by (Some x) here traced = known_as x.traceback (there v x here).traceback traced
       where
-        known_as : (k : Option Obj) → IfThere (IsTraceback m.store.made) k → IsTracedAs m v x k t m' → HasPayload m'.store.made t payload.None ⊎ IsTraceback m'.store.made t
+        known_as : (k : Option Obj) → IfThere (IsTraceback m.world.store.made) k → IsTracedAs m v x k t m' → HasPayload m'.world.store.made t payload.None ⊎ IsTraceback m'.world.store.made t
         known_as None known traced = inr (new_traceback m m' v t x traced)
-        known_as (Some u) known (same, is) = inr (subst (λ (n : Core). IsTraceback n.store.made t) (sym is) (subst (IsTraceback m.store.made) (sym same) known))
+        known_as (Some u) known (same, is) = inr (subst (λ (n : Core). IsTraceback n.world.store.made t) (sym is) (subst (IsTraceback m.world.store.made) (sym same) known))
 
 -- it is that of the last raise
-pub traced_told : (m m' : Core) (v t : Obj) (events : List Event) → AreNamed m.store.made events → AreRaised m.store.made events m.raises → IsTracedBy m v (raise_at m.raises v) t m'
-    → IsToldOf m'.store.made events (raise_of v (raises_of events)) t
+pub traced_told : (m m' : Core) (v t : Obj) (events : List Event) → AreNamed m.world.store.made events → AreRaised m.world.store.made events m.raises → IsTracedBy m v (raise_at m.raises v) t m'
+    → IsToldOf m'.world.store.made events (raise_of v (raises_of events)) t
 traced_told m m' v t events named raised traced = by (raise_at m.raises v) refl (raise_of v (raises_of events)) (raised.are v) traced
   where
-    known_as : (x : KeptRaise) (k : Option Obj) → raise_at m.raises v ≡ Some x → IsTracedAs m v x k t m' → IsTracebackOf m'.store.made events k t
+    known_as : (x : KeptRaise) (k : Option Obj) → raise_at m.raises v ≡ Some x → IsTracedAs m v x k t m' → IsTracebackOf m'.world.store.made events k t
     known_as x None here (number, is) =
-        let grown : IsGrown m.store m'.store = entry_grows m.store m'.store None x.frame x.lasti x.lineno tt (raised.there v x here).frame (ap (λ (n : Core). n.store) is) in
-        (past_is_new m.store.made m'.store.made events t.number grown.objects named (omega (arith, number)), new_traceback m m' v t x (number, is))
+        let grown : IsGrown m.world.store m'.world.store = entry_grows m.world.store m'.world.store None x.frame x.lasti x.lineno tt (raised.there v x here).frame (ap (λ (n : Core). n.world.store) is) in
+        (past_is_new m.world.store.made m'.world.store.made events t.number grown.objects named (omega (arith, number)), new_traceback m m' v t x (number, is))
     known_as x (Some known) here (same, is) = same
 
     by : (found : Option KeptRaise) → raise_at m.raises v ≡ found → (last : Option Raise) → option_map (λ (x : KeptRaise). x.traceback) (raise_at m.raises v) ≡ option_map (λ (x : Raise). x.traceback) last
-        → IsTracedBy m v found t m' → IsToldOf m'.store.made events last t
-    by None here None same (none, is) = subst (λ (n : Core). HasPayload n.store.made t payload.None) (sym is) none
+        → IsTracedBy m v found t m' → IsToldOf m'.world.store.made events last t
+    by None here None same (none, is) = subst (λ (n : Core). HasPayload n.world.store.made t payload.None) (sym is) none
     by None here (Some y) same traced = absurd (let clash = sym (ap (option_map (λ (x : KeptRaise). x.traceback)) here) ∙ same in cc clash)
     by (Some x) here None same traced = absurd (let clash = sym (ap (option_map (λ (x : KeptRaise). x.traceback)) here) ∙ same in cc clash)
     by (Some x) here (Some y) same traced =
         let both : Some x.traceback ≡ Some y.traceback = sym (ap (option_map (λ (x : KeptRaise). x.traceback)) here) ∙ same in
         let one : x.traceback ≡ y.traceback = cc both in
-        subst (λ k. IsTracebackOf m'.store.made events k t) one (known_as x x.traceback here traced)
+        subst (λ k. IsTracebackOf m'.world.store.made events k t) one (known_as x x.traceback here traced)
 
 -- the raises behind the question of an exit that was told it
-pub raised_traced : (m m' : Core) (v t : Obj) (events : List Event) (e : Event) → AreRaised m.store.made events m.raises → IsTracedBy m v (raise_at m.raises v) t m'
-    → raises_after (state_after start events) (raises_of events) e ≡ with_traceback v t (raises_of events) → AreRaised m'.store.made (events ++ e ∷ []) m'.raises
+pub raised_traced : (m m' : Core) (v t : Obj) (events : List Event) (e : Event) → AreRaised m.world.store.made events m.raises → IsTracedBy m v (raise_at m.raises v) t m'
+    → raises_after (state_after start events) (raises_of events) e ≡ with_traceback v t (raises_of events) → AreRaised m'.world.store.made (events ++ e ∷ []) m'.raises
 raised_traced m m' v t events e raised traced told = by (raise_at m.raises v) refl traced
   where
-    grows : Grows m.store.made m'.store.made
-    grows = objects_grow m.store m'.store (traced_grows m m' v t raised.there traced)
+    grows : Grows m.world.store.made m'.world.store.made
+    grows = objects_grow m.world.store m'.world.store (traced_grows m m' v t raised.there traced)
 
     -- the same raises
     same_raises : (found : Option KeptRaise) → raise_at m.raises v ≡ found → option_map (λ (x : KeptRaise). x.traceback) found ≡ told_of t (option_map (λ (x : KeptRaise). x.traceback) found) → m'.raises ≡ m.raises
-        → AreRaised m'.store.made (events ++ e ∷ []) m'.raises
-    same_raises found here tells is = raised_told m.store.made m'.store.made events e m.raises grows raised m'.raises v t told
+        → AreRaised m'.world.store.made (events ++ e ∷ []) m'.raises
+    same_raises found here tells is = raised_told m.world.store.made m'.world.store.made events e m.raises grows raised m'.raises v t told
         (λ u same. ap (λ l. traceback_at l u) is ∙ ap (traceback_at m.raises) (same_object u v same)
         ∙ ap (option_map (λ (x : KeptRaise). x.traceback)) here ∙ tells ∙ sym (ap (told_of t) (ap (traceback_at m.raises) (same_object u v same) ∙ ap (option_map (λ (x : KeptRaise). x.traceback)) here)))
-        (λ u other. ap (λ l. traceback_at l u) is) (subst (AreThere m'.store.made) (sym is) (there_grown m.store.made m'.store.made m.raises grows raised.there))
+        (λ u other. ap (λ l. traceback_at l u) is) (subst (AreThere m'.world.store.made) (sym is) (there_grown m.world.store.made m'.world.store.made m.raises grows raised.there))
 
-    known_as : (x : KeptRaise) (k : Option Obj) → x.traceback ≡ k → raise_at m.raises v ≡ Some x → IsTracedAs m v x k t m' → AreRaised m'.store.made (events ++ e ∷ []) m'.raises
+    known_as : (x : KeptRaise) (k : Option Obj) → x.traceback ≡ k → raise_at m.raises v ≡ Some x → IsTracedAs m v x k t m' → AreRaised m'.world.store.made (events ++ e ∷ []) m'.raises
     known_as x None is_k here (number, is) =
         let y : KeptRaise = record x { traceback = Some t } in
         let list : m'.raises ≡ insert_entry nat_eq m.raises v.number y = ap (λ (n : Core). n.raises) is in
-        let x_there = raise_there m.store.made m'.store.made v x grows (raised.there v x here) in
-        raised_told m.store.made m'.store.made events e m.raises grows raised m'.raises v t told
+        let x_there = raise_there m.world.store.made m'.world.store.made v x grows (raised.there v x here) in
+        raised_told m.world.store.made m'.world.store.made events e m.raises grows raised m'.raises v t told
         (λ u same. ap (λ l. traceback_at l u) list ∙ ap (option_map (λ (z : KeptRaise). z.traceback)) (at_inserted m.raises v.number y u same)
         ∙ sym (ap (told_of t) (ap (traceback_at m.raises) (same_object u v same) ∙ ap (option_map (λ (z : KeptRaise). z.traceback)) here)))
         (λ u other. ap (λ l. traceback_at l u) list ∙ ap (option_map (λ (z : KeptRaise). z.traceback)) (at_others m.raises v.number y u other))
-        (subst (AreThere m'.store.made) (sym list) (there_inserted m'.store.made m.raises v y
-        (record { exception = x_there.exception; frame = x_there.frame; traceback = new_traceback m m' v t x (number, is) }) (there_grown m.store.made m'.store.made m.raises grows raised.there)))
+        (subst (AreThere m'.world.store.made) (sym list) (there_inserted m'.world.store.made m.raises v y
+        (record { exception = x_there.exception; frame = x_there.frame; traceback = new_traceback m m' v t x (number, is) }) (there_grown m.world.store.made m'.world.store.made m.raises grows raised.there)))
     known_as x (Some known) is_k here (same, is) = same_raises (Some x) here (ap Some (is_k ∙ ap Some (sym same))) (ap (λ (n : Core). n.raises) is)
 
-    by : (found : Option KeptRaise) → raise_at m.raises v ≡ found → IsTracedBy m v found t m' → AreRaised m'.store.made (events ++ e ∷ []) m'.raises
+    by : (found : Option KeptRaise) → raise_at m.raises v ≡ found → IsTracedBy m v found t m' → AreRaised m'.world.store.made (events ++ e ∷ []) m'.raises
     by None here (none, is) = same_raises None here refl (ap (λ (n : Core). n.raises) is)
     by (Some x) here traced = known_as x x.traceback refl here traced

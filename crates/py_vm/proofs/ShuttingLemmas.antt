@@ -43,16 +43,16 @@ modes_alike (x ∷ xs) g f h z here same = found (eqb x.object.number g.number) 
 -- what an answer at once makes of generators, and of their modes
 pub record IsShutting (m : Core) (q : Request) (list : List KeptGenerator) : Type 0 where
   pub change : (store : Kept) (e : Event) → IsChange m Anyone store e list
-  pub modes : closed_by (Some q) (modes_of m.generators) ≡ modes_of list
+  pub modes : closed_by (Some q) (modes_of m.world.generators) ≡ modes_of list
 
 -- nothing
-stays : (m : Core) (q : Request) → closed_by (Some q) (modes_of m.generators) ≡ modes_of m.generators → IsShutting m q m.generators
+stays : (m : Core) (q : Request) → closed_by (Some q) (modes_of m.world.generators) ≡ modes_of m.world.generators → IsShutting m q m.world.generators
 stays m q modes = record { change = λ store e. no_change m store e; modes = modes }
 
 -- which is so unless it is a close
-other_stays : (m : Core) (q : Request) (reply : Reply) → ((g : Obj) → q ≡ request.Close g → ⊥) → IsShutting m q (shut_if (closed_of q reply) m.generators)
+other_stays : (m : Core) (q : Request) (reply : Reply) → ((g : Obj) → q ≡ request.Close g → ⊥) → IsShutting m q (shut_if (closed_of q reply) m.world.generators)
 other_stays m (request.Close g) reply other = absurd (other g refl)
-other_stays m q reply other = subst (λ o. IsShutting m q (shut_if o m.generators)) (sym (none q other)) (stays m q (answers_keep q (modes_of m.generators) (λ g x is here fresh. other g is)))
+other_stays m q reply other = subst (λ o. IsShutting m q (shut_if o m.world.generators)) (sym (none q other)) (stays m q (answers_keep q (modes_of m.world.generators) (λ g x is here fresh. other g is)))
   where
     none : (q : Request) → ((g : Obj) → q ≡ request.Close g → ⊥) → closed_of q reply ≡ None
     none (request.Close g) other = absurd (other g refl)
@@ -65,16 +65,16 @@ close_or_other _ = inr (λ g is. absurd (cc is))
 
 module _ (m : Core) (g : Obj) (reply : Reply) where
   -- where none is found
-  nowhere_stays : kept_at m.generators g ≡ None → IsShutting m (request.Close g) (shut_if (closed_if reply g) m.generators)
+  nowhere_stays : kept_at m.world.generators g ≡ None → IsShutting m (request.Close g) (shut_if (closed_if reply g) m.world.generators)
   nowhere_stays none = shut_at (closed_if reply g) which
     where
-      unseen : generator_at (modes_of m.generators) g ≡ None
-      unseen = seen_at m.generators g ∙ ap (option_map seen_as) none
+      unseen : generator_at (modes_of m.world.generators) g ≡ None
+      unseen = seen_at m.world.generators g ∙ ap (option_map seen_as) none
 
-      kept : closed_by (Some (request.Close g)) (modes_of m.generators) ≡ modes_of m.generators
-      kept = answers_keep (request.Close g) (modes_of m.generators) (λ h x is here fresh.
+      kept : closed_by (Some (request.Close g)) (modes_of m.world.generators) ≡ modes_of m.world.generators
+      kept = answers_keep (request.Close g) (modes_of m.world.generators) (λ h x is here fresh.
           let same : g ≡ h = cc is in
-          let there : generator_at (modes_of m.generators) g ≡ Some x = subst (λ o. generator_at (modes_of m.generators) o ≡ Some x) (sym same) here in
+          let there : generator_at (modes_of m.world.generators) g ≡ Some x = subst (λ o. generator_at (modes_of m.world.generators) o ≡ Some x) (sym same) here in
           absurd (let clash : None ≡ Some x = sym unseen ∙ there in cc clash))
 
       which : (closed_if reply g ≡ None) ⊎ (closed_if reply g ≡ Some g)
@@ -84,33 +84,33 @@ module _ (m : Core) (g : Obj) (reply : Reply) where
           of_reply Closes = inr refl
           of_reply _ = inl refl
 
-      shut_at : (o : Option Obj) → (o ≡ None) ⊎ (o ≡ Some g) → IsShutting m (request.Close g) (shut_if o m.generators)
-      shut_at o (inl is) = subst (λ o. IsShutting m (request.Close g) (shut_if o m.generators)) (sym is) (stays m (request.Close g) kept)
-      shut_at o (inr is) = subst (λ o. IsShutting m (request.Close g) (shut_if o m.generators)) (sym is) (subst (IsShutting m (request.Close g)) (sym (kept_nowhere g shut (λ x. refl) m.generators none)) (stays m (request.Close g) kept))
+      shut_at : (o : Option Obj) → (o ≡ None) ⊎ (o ≡ Some g) → IsShutting m (request.Close g) (shut_if o m.world.generators)
+      shut_at o (inl is) = subst (λ o. IsShutting m (request.Close g) (shut_if o m.world.generators)) (sym is) (stays m (request.Close g) kept)
+      shut_at o (inr is) = subst (λ o. IsShutting m (request.Close g) (shut_if o m.world.generators)) (sym is) (subst (IsShutting m (request.Close g)) (sym (kept_nowhere g shut (λ x. refl) m.world.generators none)) (stays m (request.Close g) kept))
 
-  module _ (x : KeptGenerator) (here : kept_at m.generators g ≡ Some x) where
-    seen : generator_at (modes_of m.generators) g ≡ Some (seen_as x)
-    seen = seen_at m.generators g ∙ ap (option_map seen_as) here
+  module _ (x : KeptGenerator) (here : kept_at m.world.generators g ≡ Some x) where
+    seen : generator_at (modes_of m.world.generators) g ≡ Some (seen_as x)
+    seen = seen_at m.world.generators g ∙ ap (option_map seen_as) here
 
     -- one that is closed then, by a mode that this comes to
-    shuts : (mode : Mode) → x.generator.mode ≡ mode → unentered mode ≡ Closed → IsStill mode → reply ≡ Closes → IsShutting m (request.Close g) (shut_if (closed_if reply g) m.generators)
-    shuts mode is over still says = subst (λ r. IsShutting m (request.Close g) (shut_if (closed_if r g) m.generators)) (sym says) (record {
+    shuts : (mode : Mode) → x.generator.mode ≡ mode → unentered mode ≡ Closed → IsStill mode → reply ≡ Closes → IsShutting m (request.Close g) (shut_if (closed_if reply g) m.world.generators)
+    shuts mode is over still says = subst (λ r. IsShutting m (request.Close g) (shut_if (closed_if r g) m.world.generators)) (sym says) (record {
       change = λ store e. shut_change m store e g x here (subst IsStill (sym is) still);
-      modes = modes_alike (modes_of m.generators) g unentered (λ k. Closed) (seen_as x) seen (ap unentered is ∙ over)
-          ∙ sym (modes_changed g shut (λ y. refl) (λ k. Closed) (λ y. refl) (λ y. refl) m.generators);
+      modes = modes_alike (modes_of m.world.generators) g unentered (λ k. Closed) (seen_as x) seen (ap unentered is ∙ over)
+          ∙ sym (modes_changed g shut (λ y. refl) (λ k. Closed) (λ y. refl) (λ y. refl) m.world.generators);
     })
 
     -- one that stays
-    refuses : (mode : Mode) → x.generator.mode ≡ mode → (mode ≡ Fresh → ⊥) → closed_if reply g ≡ None → IsShutting m (request.Close g) (shut_if (closed_if reply g) m.generators)
-    refuses mode is fresh none = subst (λ o. IsShutting m (request.Close g) (shut_if o m.generators)) (sym none) (stays m (request.Close g) (answers_keep (request.Close g) (modes_of m.generators) (λ h y same found first.
+    refuses : (mode : Mode) → x.generator.mode ≡ mode → (mode ≡ Fresh → ⊥) → closed_if reply g ≡ None → IsShutting m (request.Close g) (shut_if (closed_if reply g) m.world.generators)
+    refuses mode is fresh none = subst (λ o. IsShutting m (request.Close g) (shut_if o m.world.generators)) (sym none) (stays m (request.Close g) (answers_keep (request.Close g) (modes_of m.world.generators) (λ h y same found first.
         let objects : g ≡ h = cc same in
-        let both : Some (seen_as x) ≡ Some y = sym seen ∙ subst (λ o. generator_at (modes_of m.generators) o ≡ Some y) (sym objects) found in
+        let both : Some (seen_as x) ≡ Some y = sym seen ∙ subst (λ o. generator_at (modes_of m.world.generators) o ≡ Some y) (sym objects) found in
         let one : seen_as x ≡ y = cc both in
         fresh (sym is ∙ ap (λ (z : Generator). z.mode) one ∙ first))))
 
     -- by what the close comes to
     by_mode : (mode : Mode) → x.generator.mode ≡ mode → (kind : CoroKind) (depth : ℕ) → Says reply ≡ course_by (word_of kind) x.act (Throws x.act (BuiltIn GeneratorExit [])) (closed mode depth)
-        → IsShutting m (request.Close g) (shut_if (closed_if reply g) m.generators)
+        → IsShutting m (request.Close g) (shut_if (closed_if reply g) m.world.generators)
     by_mode Fresh is kind depth says = shuts Fresh is refl tt (let same : reply ≡ Closes = cc says in same)
     by_mode Closed is kind depth says = shuts Closed is refl tt (let same : reply ≡ Closes = cc says in same)
     by_mode Entered is kind depth says = refuses Entered is (λ no. absurd (cc no)) (let same : reply ≡ _ = said_is _ _ says in ap (λ r. closed_if r g) same)
@@ -123,26 +123,26 @@ module _ (m : Core) (g : Obj) (reply : Reply) where
         said_is r s is = cc is
 
         deep : (b : Bool) → Says reply ≡ course_by (word_of kind) x.act (Throws x.act (BuiltIn GeneratorExit [])) (if b then Refuses refusal.TooDeep else Exits)
-            → IsShutting m (request.Close g) (shut_if (closed_if reply g) m.generators)
+            → IsShutting m (request.Close g) (shut_if (closed_if reply g) m.world.generators)
         deep true says = refuses Left is (λ no. absurd (cc no)) (ap (λ r. closed_if r g) (said_is _ _ says))
         deep false says = absurd (cc says)
 
 -- what an answer at once to any question makes of them
-pub said_change : (m : Core) (made : ℕ) (q : Request) (reply : Reply) → AreEach m.codes m.globals m.store.made m.events made m.generators → ComesTo (setting_at m) m.store.made q (Says reply)
-    → IsShutting m q (shut_if (closed_of q reply) m.generators)
+pub said_change : (m : Core) (made : ℕ) (q : Request) (reply : Reply) → AreEach m.world.codes m.globals m.world.store.made m.events made m.world.generators → ComesTo (setting_at m) m.world.store.made q (Says reply)
+    → IsShutting m q (shut_if (closed_of q reply) m.world.generators)
 said_change m made q reply each comes = elim (close_or_other q) [
   | inr other ↦ other_stays m q reply other
-  | inl (g, is) ↦ subst (λ r. IsShutting m r (shut_if (closed_of r reply) m.generators)) (sym is) (closes g (kept_at m.generators g) refl (subst (λ r. ComesTo (setting_at m) m.store.made r (Says reply)) is comes))
+  | inl (g, is) ↦ subst (λ r. IsShutting m r (shut_if (closed_of r reply) m.world.generators)) (sym is) (closes g (kept_at m.world.generators g) refl (subst (λ r. ComesTo (setting_at m) m.world.store.made r (Says reply)) is comes))
 ]
   where
-    closes : (g : Obj) (o : Option KeptGenerator) → kept_at m.generators g ≡ o → ComesTo (setting_at m) m.store.made (request.Close g) (Says reply) → IsShutting m (request.Close g) (shut_if (closed_if reply g) m.generators)
+    closes : (g : Obj) (o : Option KeptGenerator) → kept_at m.world.generators g ≡ o → ComesTo (setting_at m) m.world.store.made (request.Close g) (Says reply) → IsShutting m (request.Close g) (shut_if (closed_if reply g) m.world.generators)
     closes g None none comes = nowhere_stays m g reply none
     closes g (Some x) here comes =
-        let k = each_at m.codes m.globals m.store.made m.events made m.generators g x here each in
-        let number : x.object.number ≡ g.number = number_is (kept_object m.generators g x here) in
-        let has : HasPayload m.store.made g (payload.Generator k.body) = subst (λ (o : Obj). HasPayload m.store.made o (payload.Generator k.body)) (ap (λ n. let o : Obj = record { number = n } in o) number) k.entry in
-        let (kind, y, kept, says) = close_comes (setting_at m) m.store.made g k.body (Says reply) has comes in
-        let one : y ≡ seen_as x = kept.kept ∙ ap (kept_or_closed g) (seen_at m.generators g ∙ ap (option_map seen_as) here) in
+        let k = each_at m.world.codes m.globals m.world.store.made m.events made m.world.generators g x here each in
+        let number : x.object.number ≡ g.number = number_is (kept_object m.world.generators g x here) in
+        let has : HasPayload m.world.store.made g (payload.Generator k.body) = subst (λ (o : Obj). HasPayload m.world.store.made o (payload.Generator k.body)) (ap (λ n. let o : Obj = record { number = n } in o) number) k.entry in
+        let (kind, y, kept, says) = close_comes (setting_at m) m.world.store.made g k.body (Says reply) has comes in
+        let one : y ≡ seen_as x = kept.kept ∙ ap (kept_or_closed g) (seen_at m.world.generators g ∙ ap (option_map seen_as) here) in
         by_mode m g reply x here x.generator.mode refl kind (setting_at m).depth (subst (λ (z : Generator). Says reply ≡ course_by (word_of kind) z.act (Throws z.act (BuiltIn GeneratorExit [])) (closed z.mode (setting_at m).depth)) one says)
       where
         number_is : {n k : ℕ} → eqb n k ≡ true → n ≡ k

@@ -61,27 +61,27 @@ unit_exits : (found : Option CodeUnit) (x c e t u : Obj) → UnitAsks found (req
 unit_exits None x c e t u may = may
 unit_exits (Some unit) x c e t u may = exit_asked unit.op unit.arg x c e t u may
 
-module _ (m : Core) (d : Drive) (r : Running) (store : Kept) (k : Keeps m d (stage.Going r)) (grown : IsGrown m.store store) (own : Option PyBaseExceptionRef) (f : Framed) where
+module _ (m : Core) (d : Drive) (r : Running) (store : Kept) (k : Keeps m d (stage.Going r)) (grown : IsGrown m.world.store store) (own : Option PyBaseExceptionRef) (f : Framed) where
   -- the machine then
   abbrev went_on : Core
-  went_on = record m { store = store; slots = slice_set m.slots 0 f.state.slot }
+  went_on = record m { world = record m.world { store = store }; slots = slice_set m.slots 0 f.state.slot }
 
-  grows : Grows m.store.made store.made
-  grows = objects_grow m.store store grown
+  grows : Grows m.world.store.made store.made
+  grows = objects_grow m.world.store store grown
 
   -- a step that asks for an exit may as well tell it another traceback, among more objects
-  retold : (x c e t u : Obj) (taken : IsToldStep m.codes store.made r (step.Ask (request.Exit x c e t) own) f) (objects : List Payload) → Grows store.made objects → u.number < length objects
-      → Runs objects (setting_of m.codes.names taken.code r.frame) r.frame.state (Asks (f.state.last - 1) (request.Exit x c e u) own ∷ []) f.state
-      → IsToldStep m.codes objects r (step.Ask (request.Exit x c e u) own) f
+  retold : (x c e t u : Obj) (taken : IsToldStep m.world.codes store.made r (step.Ask (request.Exit x c e t) own) f) (objects : List Payload) → Grows store.made objects → u.number < length objects
+      → Runs objects (setting_of m.world.codes.names taken.code r.frame) r.frame.state (Asks (f.state.last - 1) (request.Exit x c e u) own ∷ []) f.state
+      → IsToldStep m.world.codes objects r (step.Ask (request.Exit x c e u) own) f
   retold x c e t u taken objects grows low run = record {
     code = taken.code;
     is_code = taken.is_code;
-    extends = λ first before earlier. run_joined objects (setting_of m.codes.names taken.code r.frame) first r.frame.state f.state before (Asks (f.state.last - 1) (request.Exit x c e u) own ∷ []) earlier run;
+    extends = λ first before earlier. run_joined objects (setting_of m.world.codes.names taken.code r.frame) first r.frame.state f.state before (Asks (f.state.last - 1) (request.Exit x c e u) own ∷ []) earlier run;
     may = (unit_exits (slice_get taken.code.code.code.instructions.items (f.state.last - 1)) x c e t u taken.may.0, tt);
     below = (below_told own taken.below.0, tt);
     wants = taken.wants;
     own = taken.own;
-    running = running_grown store.made objects m.codes.names taken.code f grows taken.running;
+    running = running_grown store.made objects m.world.codes.names taken.code f grows taken.running;
     same = taken.same;
   }
     where
@@ -96,59 +96,59 @@ module _ (m : Core) (d : Drive) (r : Running) (store : Kept) (k : Keeps m d (sta
           (more.0, (more.1.0, (more.1.1.0, (more.1.1.1.0, (low, tt)))))
 
   -- what its run tells
-  exits : (x c e t : Obj) (taken : IsToldStep m.codes store.made r (step.Ask (request.Exit x c e t) own) f) → (o : Option PyBaseExceptionRef) × IsExit store.made o c e t
+  exits : (x c e t : Obj) (taken : IsToldStep m.world.codes store.made r (step.Ask (request.Exit x c e t) own) f) → (o : Option PyBaseExceptionRef) × IsExit store.made o c e t
       × ((objects : List Payload) (u : Obj) → Grows store.made objects → IsExit objects o c e u
-      → Runs objects (setting_of m.codes.names taken.code r.frame) r.frame.state (Asks (f.state.last - 1) (request.Exit x c e u) own ∷ []) f.state)
+      → Runs objects (setting_of m.world.codes.names taken.code r.frame) r.frame.state (Asks (f.state.last - 1) (request.Exit x c e u) own ∷ []) f.state)
   exits x c e t taken =
-      exit_told store.made (setting_of m.codes.names taken.code r.frame) r.frame.state f.state x c e t own (f.state.last - 1) taken.may.0 (taken.extends r.frame.state [] still)
+      exit_told store.made (setting_of m.world.codes.names taken.code r.frame) r.frame.state f.state x c e t own (f.state.last - 1) taken.may.0 (taken.extends r.frame.state [] still)
 
   -- an exit is told of no exception: by three None
-  untold_law : (x c e t : Obj) → IsToldStep m.codes store.made r (step.Ask (request.Exit x c e t) own) f → (IsException store.made e → ⊥) → Turns m d (stage.Going r) None (asked_by went_on (record r { frame = f }) (request.Exit x c e t) own)
+  untold_law : (x c e t : Obj) → IsToldStep m.world.codes store.made r (step.Ask (request.Exit x c e t) own) f → (IsException store.made e → ⊥) → Turns m d (stage.Going r) None (asked_by went_on (record r { frame = f }) (request.Exit x c e t) own)
   untold_law x c e t taken none =
       let (o, is_exit, others) = exits x c e t taken in
       asked_law m d r store k grown (request.Exit x c e t) own f m.raises taken (tells o is_exit)
-      (raised_untold m.store.made store.made m.events (event.Ask r.act (request.Exit x c e t) own (f.state.last - 1)) m.raises grows k.raised e t refl
-      (λ was. none (let (body, has) = was in (body, payload_grown m.store.made store.made e _ grows has))))
+      (raised_untold m.world.store.made store.made m.events (event.Ask r.act (request.Exit x c e t) own (f.state.last - 1)) m.raises grows k.raised e t refl
+      (λ was. none (let (body, has) = was in (body, payload_grown m.world.store.made store.made e _ grows has))))
     where
       tells : (o : Option PyBaseExceptionRef) → IsExit store.made o c e t → Tells store.made m.events (raises_of m.events) (request.Exit x c e t)
       tells None is_exit = inl is_exit
       tells (Some exc) (is, (body, has, class), low, traceback) = absurd (none (body, has))
 
   -- or of one, with the traceback of its last raise
-  traced_law : (x c e t u : Obj) (n : Core) → IsToldStep m.codes store.made r (step.Ask (request.Exit x c e t) own) f → IsException store.made e → IsTracedBy went_on e (raise_at m.raises e) u n
+  traced_law : (x c e t u : Obj) (n : Core) → IsToldStep m.world.codes store.made r (step.Ask (request.Exit x c e t) own) f → IsException store.made e → IsTracedBy went_on e (raise_at m.raises e) u n
       → Turns m d (stage.Going r) None (asked_by n (record r { frame = f }) (request.Exit x c e u) own)
   traced_law x c e t u n taken exception traced =
-      let there = there_grown m.store.made store.made m.raises grows k.raised.there in
-      let more : IsGrown store n.store = traced_grows went_on n e u there traced in
-      let grows_on : Grows store.made n.store.made = objects_grow store n.store more in
+      let there = there_grown m.world.store.made store.made m.raises grows k.raised.there in
+      let more : IsGrown store n.world.store = traced_grows went_on n e u there traced in
+      let grows_on : Grows store.made n.world.store.made = objects_grow store n.world.store more in
       let (o, is_exit, others) = exits x c e t taken in
       let one = traced_there went_on n e u there traced in
-      let exit : IsExit n.store.made o c e u = exit_of o is_exit one grows_on in
-      let low : u.number < length n.store.made = elim one [
-        | inl none ↦ slice_get_within n.store.made u.number _ none
-        | inr is ↦ slice_get_within n.store.made u.number _ is.1
+      let exit : IsExit n.world.store.made o c e u = exit_of o is_exit one grows_on in
+      let low : u.number < length n.world.store.made = elim one [
+        | inl none ↦ slice_get_within n.world.store.made u.number _ none
+        | inr is ↦ slice_get_within n.world.store.made u.number _ is.1
       ] in
       subst (λ (y : Core). Turns m d (stage.Going r) None (asked_by y (record r { frame = f }) (request.Exit x c e u) own)) (sym (traced_same went_on n e u (raise_at m.raises e) traced))
-      (asked_law m d r n.store k (grown_trans m.store store n.store grown more) (request.Exit x c e u) own f n.raises (retold x c e t u taken n.store.made grows_on low (others n.store.made u grows_on exit)) (tells o exit)
+      (asked_law m d r n.world.store k (grown_trans m.world.store store n.world.store grown more) (request.Exit x c e u) own f n.raises (retold x c e t u taken n.world.store.made grows_on low (others n.world.store.made u grows_on exit)) (tells o exit)
       (raised_traced went_on n e u m.events asks raised_then traced refl))
     where
       asks : Event
       asks = event.Ask r.act (request.Exit x c e u) own (f.state.last - 1)
 
       raised_then : AreRaised store.made m.events m.raises
-      raised_then = record { are = k.raised.are; there = there_grown m.store.made store.made m.raises grows k.raised.there }
+      raised_then = record { are = k.raised.are; there = there_grown m.world.store.made store.made m.raises grows k.raised.there }
 
-      exit_of : (o : Option PyBaseExceptionRef) → IsExit store.made o c e t → HasPayload n.store.made u payload.None ⊎ IsTraceback n.store.made u → Grows store.made n.store.made → IsExit n.store.made o c e u
+      exit_of : (o : Option PyBaseExceptionRef) → IsExit store.made o c e t → HasPayload n.world.store.made u payload.None ⊎ IsTraceback n.world.store.made u → Grows store.made n.world.store.made → IsExit n.world.store.made o c e u
       exit_of None (class, none, traceback) one grows_on = absurd (none_or_exception store.made e none exception)
       exit_of (Some exc) (is, (body, has, class), low, traceback) one grows_on =
-          (is, (body, payload_grown store.made n.store.made e _ grows_on has, class), omega (arith, low, length_grown store.made n.store.made grows_on), one)
+          (is, (body, payload_grown store.made n.world.store.made e _ grows_on has, class), omega (arith, low, length_grown store.made n.world.store.made grows_on), one)
 
-      tells : (o : Option PyBaseExceptionRef) → IsExit n.store.made o c e u → Tells n.store.made m.events (raises_of m.events) (request.Exit x c e u)
-      tells None (class, none, traceback) = absurd (none_or_exception n.store.made e none (let (body, has) = exception in (body, payload_grown store.made n.store.made e _ (objects_grow store n.store (traced_grows went_on n e u (there_grown m.store.made store.made m.raises grows k.raised.there) traced)) has)))
+      tells : (o : Option PyBaseExceptionRef) → IsExit n.world.store.made o c e u → Tells n.world.store.made m.events (raises_of m.events) (request.Exit x c e u)
+      tells None (class, none, traceback) = absurd (none_or_exception n.world.store.made e none (let (body, has) = exception in (body, payload_grown store.made n.world.store.made e _ (objects_grow store n.world.store (traced_grows went_on n e u (there_grown m.world.store.made store.made m.raises grows k.raised.there) traced)) has)))
       tells (Some exc) (is, (body, has, class), low, traceback) =
-          inr (body, has, class, traced_told went_on n e u m.events (named_still m.store.made store.made m.events grows (grown.objects.fit k.stored.readable.fit) k.told.named) raised_then traced)
+          inr (body, has, class, traced_told went_on n e u m.events (named_still m.world.store.made store.made m.events grows (grown.objects.fit k.stored.readable.fit) k.told.named) raised_then traced)
 
-  pub told_law : (q : Request) → IsToldStep m.codes store.made r (step.Ask q own) f → (told_so : Request) (n : Core) → ToldOne went_on q told_so n
+  pub told_law : (q : Request) → IsToldStep m.world.codes store.made r (step.Ask q own) f → (told_so : Request) (n : Core) → ToldOne went_on q told_so n
       → Turns m d (stage.Going r) None (asked_by n (record r { frame = f }) told_so own)
   told_law (request.Exit x c e t) taken told_so n (inl (none, is, same)) =
       subst (λ q. Turns m d (stage.Going r) None (asked_by n (record r { frame = f }) q own)) (sym is)
@@ -161,8 +161,8 @@ module _ (m : Core) (d : Drive) (r : Running) (store : Kept) (k : Keeps m d (sta
       (asked_law m d r store k grown q own f m.raises taken tt (still_raised m d (stage.Going r) store (event.Ask r.act q own (f.state.last - 1)) k grown refl)))
 
 -- it goes on by its step
-pub stepped_law : (m : Core) (d : Drive) (r : Running) (store : Kept) (k : Keeps m d (stage.Going r)) (grown : IsGrown m.store store) (s : FrameStep) (f : Framed) (m' : Core) → IsToldStep m.codes store.made r s f
-    → IsStepped (record m { store = store; slots = slice_set m.slots 0 f.state.slot }) (record r { frame = f }) s m' → Turns m d (stage.Going r) None m'
+pub stepped_law : (m : Core) (d : Drive) (r : Running) (store : Kept) (k : Keeps m d (stage.Going r)) (grown : IsGrown m.world.store store) (s : FrameStep) (f : Framed) (m' : Core) → IsToldStep m.world.codes store.made r s f
+    → IsStepped (record m { world = record m.world { store = store }; slots = slice_set m.slots 0 f.state.slot }) (record r { frame = f }) s m' → Turns m d (stage.Going r) None m'
 stepped_law m d r store k grown (step.Return v) f m' taken is =
     subst (Turns m d (stage.Going r) None) (sym is) (ended_law m d r store k grown (step.Return v) f (ending.Return v) refl taken taken.extends taken.wants taken.below.0.0 taken.below.0 tt)
 stepped_law m d r store k grown (step.Raise v) f m' taken is =

@@ -57,35 +57,35 @@ use Rattle.py_vm.proofs.FinishingLemmas.{Asker, asker, calling_none, created_law
 -- ---- an open question comes on
 
 -- what is said is as who asked wants it
-said_fits : (m : Core) (d : Drive) (s : Stage) (store : Kept) (reply : Reply) (hs : List Halted) (asked_by : AskedBy m d hs) (q : Request) → Keeps m d s → IsTheirs m d hs asked_by q → IsGrown m.store store
-    → ComesTo (setting_at m) m.store.made q (Says reply) → FitsWho m d store reply hs asked_by
+said_fits : (m : Core) (d : Drive) (s : Stage) (store : Kept) (reply : Reply) (hs : List Halted) (asked_by : AskedBy m d hs) (q : Request) → Keeps m d s → IsTheirs m d hs asked_by q → IsGrown m.world.store store
+    → ComesTo (setting_at m) m.world.store.made q (Says reply) → FitsWho m d store reply hs asked_by
 said_fits m d s store reply [] alone q k theirs grown says = tt
 said_fits m d s store reply (h ∷ hs) waits q k theirs grown says = λ store' a more gives.
-    let all : IsGrown m.store store' = grown_trans m.store store store' grown more in
+    let all : IsGrown m.world.store store' = grown_trans m.world.store store store' grown more in
     let slots : m.slots ≡ slots_in (h ∷ hs) = waits.slots in
     let halted : AreHalted m (h ∷ hs) = asked_halted m d (h ∷ hs) waits in
-    let there : RaisedThere m.store.made (topmost m.slots) = subst (λ l. RaisedThere m.store.made (topmost l)) (sym slots) (topmost_holds m (RaisedThere m.store.made) (slots_in (h ∷ hs)) tt (slots_there m (h ∷ hs) halted)) in
-    let there_then : RaisedThere store'.made (topmost m.slots) = raised_grown m.store.made store'.made (topmost m.slots) (objects_grow m.store store' all) there in
-    let comes : ComesTo (setting_at m) store'.made q (Says reply) = comes_to_grows (setting_at m) m.store.made store'.made q (Says reply) all.objects says in
+    let there : RaisedThere m.world.store.made (topmost m.slots) = subst (λ l. RaisedThere m.world.store.made (topmost l)) (sym slots) (topmost_holds m (RaisedThere m.world.store.made) (slots_in (h ∷ hs)) tt (slots_there m (h ∷ hs) halted)) in
+    let there_then : RaisedThere store'.made (topmost m.slots) = raised_grown m.world.store.made store'.made (topmost m.slots) (objects_grow m.world.store store' all) there in
+    let comes : ComesTo (setting_at m) store'.made q (Says reply) = comes_to_grows (setting_at m) m.world.store.made store'.made q (Says reply) all.objects says in
     subst (λ r. IsAnswer store'.made (wanted r) (got_of a)) (sym theirs)
     (said_wanted (setting_at m) store'.made m.events q reply (got_of a) there_then gives.raises (gives.gives m.events k.told.named) comes)
 
 module _ (m : Core) (d : Drive) (s : Stage) (hs : List Halted) (q : Request) (k : Keeps m d s) (opened : IsOpen m d q) (asked_by : AskedBy m d hs) (theirs : IsTheirs m d hs asked_by q) (none : hs ≡ [] → m.callers ≡ []) where
   -- it is answered at once
-  said_law : (store : Kept) (list : List KeptGenerator) (w : MadeReply) → IsSaid m q store list w → (a : Option DriveAnswer) (m' : Core) → Replies (record m { store = store; generators = list; callers = hs }) w hs a m' → Turns m d s a m'
+  said_law : (store : Kept) (list : List KeptGenerator) (w : MadeReply) → IsSaid m q store list w → (a : Option DriveAnswer) (m' : Core) → Replies (record m { world = record m.world { store = store; generators = list }; callers = hs }) w hs a m' → Turns m d s a m'
   said_law store list w said a m' replies =
       let shuts = said_change m m.made q said.reply k.kept.each said.says in
       replies_law m d s hs store list said.reply w a m' Anyone k said.grown asked_by (said_fits m d s store said.reply hs asked_by q k theirs said.grown said.says)
-      (λ objects more asked next. answered_grows (plan_of m.codes asked) store.made objects (past_at m) said.reply more (said_answers m d q store said.reply opened said.grown said.says asked next)) said.replied
+      (λ objects more asked next. answered_grows (plan_of m.world.codes asked) store.made objects (past_at m) said.reply more (said_answers m d q store said.reply opened said.grown said.says asked next)) said.replied
       (λ store' e grown mine more. subst (IsChange m Anyone store' e) (sym said.shuts) (shuts.change store' e)) (all_others hs) (fold (shuts.modes ∙ ap modes_of (sym said.shuts))) none replies
     where
-      fold : closed_by (Some q) (modes_of m.generators) ≡ modes_of list → IsFold m d (MayBe w) list
+      fold : closed_by (Some q) (modes_of m.world.generators) ≡ modes_of list → IsFold m d (MayBe w) list
       fold same asked v next may =
           let st = state_after start m.events in
-          ap (λ phase. answered (question (plan_of m.codes asked) st) phase (length st.made) v (modes_of m.generators)) opened.phase
-          ∙ ap (λ o. closed_by o (modes_of m.generators)) (opened.asks asked next) ∙ same
+          ap (λ phase. answered (question (plan_of m.world.codes asked) st) phase (length st.made) v (modes_of m.world.generators)) opened.phase
+          ∙ ap (λ o. closed_by o (modes_of m.world.generators)) (opened.asks asked next) ∙ same
 
-  pub comes_law : AllBelow (length m.store.made) (request_numbers q) → (a : Option DriveAnswer) (m' : Core) → Comes_on m q hs a m' → Turns m d s a m'
+  pub comes_law : AllBelow (length m.world.store.made) (request_numbers q) → (a : Option DriveAnswer) (m' : Core) → Comes_on m q hs a m' → Turns m d s a m'
   comes_law low a m' (inl (store, list, w, said, replies)) = said_law store list w said a m' replies
   comes_law low a m' (inr (inl (f, vs, no_answer, enters, makes))) = subst (λ x. Turns m d s x m') (sym no_answer) (made_law m d s hs q f vs m' k opened enters low asked_by theirs makes)
   comes_law low a m' (inr (inr (store, list, x, h, no_answer, entering, is))) =
@@ -101,7 +101,7 @@ started_law m d r f a m' (Some kind) is k (x, store, new, replies) = created_law
 -- what an activation asked that waits comes to
 answered_law : (m : Core) (d : Drive) (h : Halted) (a : Option DriveAnswer) (m' : Core) → Keeps m d (stage.Waiting h) → AnsweredOne m h a m' → Turns m d (stage.Waiting h) a m'
 answered_law m d h a m' k (n, q, own, at, entry, comes) =
-    let x : IsHalted m.codes m.globals m.store.made m.events h (first_slot h.running.kind m.callers) = k.at_stage.0 in
+    let x : IsHalted m.world.codes m.globals m.world.store.made m.events h (first_slot h.running.kind m.callers) = k.at_stage.0 in
     let both : Some (event.Ask n q own at) ≡ Some (event.Ask x.question.act x.question.request x.question.own x.question.at) = sym entry ∙ x.question.entry in
     let same : q ≡ x.question.request = cc both in
     comes_law m d (stage.Waiting h) (h ∷ m.callers) x.question.request k (body_open m d h k x) (record {
@@ -115,13 +115,13 @@ answered_law m d h a m' k (n, q, own, at, entry, comes) =
       slots = k.nested.slots;
     }) refl (λ is. absurd (cc is)) x.question.below a m' (subst (λ r. Comes_on m r (h ∷ m.callers) a m') same comes)
 
-pub turned_law : (m : Core) (d : Drive) (s : Stage) (a : Option DriveAnswer) (m' : Core) → Keeps m d s → IsCallable m.store.made d → Turned m d s a m' → Turns m d s a m'
+pub turned_law : (m : Core) (d : Drive) (s : Stage) (a : Option DriveAnswer) (m' : Core) → Keeps m d s → IsCallable m.world.store.made d → Turned m d s a m' → Turns m d s a m'
 turned_law m d stage.Idle a m' k callable turned = absurd turned
 turned_law m d stage.Begins a m' k callable (no_answer, is) = subst (λ x. Turns m d stage.Begins x m') (sym no_answer) (subst (Turns m d stage.Begins None) (sym is) (begun_law m d k))
 turned_law m d stage.Asking a m' k callable comes =
     let none : m.callers ≡ [] = k.at_stage in
     comes_law m d stage.Asking [] (request_of d) k (drive_open m d k) (record { stack = k.follows.stack ∙ ap (caller_acts m.events) none; frames = k.nested.frames ∙ ap caller_frames none; slots = k.nested.slots ∙ ap slots_in none }) refl (λ is. none)
-    (drive_below (length m.store.made) d callable) a m' comes
+    (drive_below (length m.world.store.made) d callable) a m' comes
 turned_law m d (stage.Made r f) a m' k callable started = started_law m d r f a m' r.kind refl k started
 turned_law m d (stage.Going r) a m' k callable (no_answer, (store, grown, step, f, told, stepped)) =
     subst (λ x. Turns m d (stage.Going r) x m') (sym no_answer) (stepped_law m d r store k grown step f m' told stepped)
@@ -147,8 +147,8 @@ can_reply : (m : Core) (d : Drive) (s : Stage) (hs : List Halted) → Keeps m d 
 can_reply m d s hs k slots halted = record {
   stored = k.stored;
   runnable = k.runnable;
-  handled = subst (λ l. AllBelow (length m.store.made) (number_if (topmost l))) (sym slots) (topmost_holds m (λ x. AllBelow (length m.store.made) (number_if x)) (slots_in hs) tt (slots_low m hs halted));
-  generators = are_ready m.codes m.globals m.store.made m.events m.made m.generators k.kept.each;
+  handled = subst (λ l. AllBelow (length m.world.store.made) (number_if (topmost l))) (sym slots) (topmost_holds m (λ x. AllBelow (length m.world.store.made) (number_if x)) (slots_in hs) tt (slots_low m hs halted));
+  generators = are_ready m.world.codes m.globals m.world.store.made m.events m.made m.world.generators k.kept.each;
 }
 
 -- where an activation goes on, the slot on top is its frame's, over another one where it is its own
@@ -163,39 +163,39 @@ own_over m (Some kind) slot hs =
     omega (arith, long)
 
 -- the generator that was entered is one, and runs
-entered_runs : (m : Core) (d : Drive) (s : Suspended) → AreEach m.codes m.globals m.store.made m.events m.made m.generators → (asks : Asker m d m.callers s.running.kind s.running.act) → (g : Obj) → generator_asked asks.q ≡ Some g
-    → IsRunningNow m.generators g × IsGenerator m.store.made g
+entered_runs : (m : Core) (d : Drive) (s : Suspended) → AreEach m.world.codes m.globals m.world.store.made m.events m.made m.world.generators → (asks : Asker m d m.callers s.running.kind s.running.act) → (g : Obj) → generator_asked asks.q ≡ Some g
+    → IsRunningNow m.world.generators g × IsGenerator m.world.store.made g
 entered_runs m d s each asks g is = by_kind s.running.kind asks.entered
   where
-    number_is : (x : KeptGenerator) → kept_at m.generators g ≡ Some x → x.object.number ≡ g.number
+    number_is : (x : KeptGenerator) → kept_at m.world.generators g ≡ Some x → x.object.number ≡ g.number
     number_is x here = elim (eqb_tells x.object.number g.number) [
       | inl equal ↦ equal.1
-      | inr differs ↦ absurd (let clash = sym (kept_object m.generators g x here) ∙ differs.0 in cc clash)
+      | inr differs ↦ absurd (let clash = sym (kept_object m.world.generators g x here) ∙ differs.0 in cc clash)
     ]
 
-    by_kind : (kind : Option CoroKind) → HasEntered m.generators asks.q kind s.running.act → IsRunningNow m.generators g × IsGenerator m.store.made g
+    by_kind : (kind : Option CoroKind) → HasEntered m.world.generators asks.q kind s.running.act → IsRunningNow m.world.generators g × IsGenerator m.world.store.made g
     by_kind None calls = absurd (let clash : None ≡ Some g = sym (calling_none asks.q calls) ∙ is in cc clash)
     by_kind (Some kind) enters =
         let both : Some enters.object ≡ Some g = sym enters.asks ∙ is in
         let same : enters.object ≡ g = cc both in
-        let here : kept_at m.generators g ≡ Some enters.kept = subst (λ o. kept_at m.generators o ≡ Some enters.kept) same enters.is_kept in
-        let x : IsKeptAs m.codes m.globals m.store.made m.events m.made enters.kept = each_at m.codes m.globals m.store.made m.events m.made m.generators g enters.kept here each in
+        let here : kept_at m.world.generators g ≡ Some enters.kept = subst (λ o. kept_at m.world.generators o ≡ Some enters.kept) same enters.is_kept in
+        let x : IsKeptAs m.world.codes m.globals m.world.store.made m.events m.made enters.kept = each_at m.world.codes m.globals m.world.store.made m.events m.made m.world.generators g enters.kept here each in
         let object : enters.kept.object ≡ g = ap (λ n. let o : Obj = record { number = n } in o) (number_is enters.kept here) in
-        ((enters.kept, here, enters.runs), (x.body, subst (λ o. HasPayload m.store.made o (payload.Generator x.body)) object x.entry))
+        ((enters.kept, here, enters.runs), (x.body, subst (λ o. HasPayload m.world.store.made o (payload.Generator x.body)) object x.entry))
 
 -- an activation that waits stands at a unit of its code
-can_note : (m : Core) (h : Halted) (slot : Option PyBaseExceptionRef) → IsHalted m.codes m.globals m.store.made m.events h slot → CanNote m.codes h
-can_note m h slot x = record { code = x.plays.code; is_code = ap (slice_get m.codes.codes) x.plays.placed ∙ x.plays.is_code; within = x.plays.running.within }
+can_note : (m : Core) (h : Halted) (slot : Option PyBaseExceptionRef) → IsHalted m.world.codes m.globals m.world.store.made m.events h slot → CanNote m.world.codes h
+can_note m h slot x = record { code = x.plays.code; is_code = ap (slice_get m.world.codes.codes) x.plays.placed ∙ x.plays.is_code; within = x.plays.running.within }
 
 -- the innermost of those that wait asked something
-first_asks : (m : Core) (hs : List Halted) → AreHalted m hs → FirstAsks m.codes m.events hs
+first_asks : (m : Core) (hs : List Halted) → AreHalted m hs → FirstAsks m.world.codes m.events hs
 first_asks m [] halted = tt
 first_asks m (h ∷ hs) halted =
     let q = halted.0.question in
     ((q.act, q.request, q.own, q.at, q.entry), can_note m h (first_slot h.running.kind hs) halted.0)
 
 -- a machine that keeps its invariant is ready for its turn
-pub ready_law : (m : Core) (d : Drive) (s : Stage) → Keeps m d s → IsBusy s → IsCallable m.store.made d → IsReady m d s
+pub ready_law : (m : Core) (d : Drive) (s : Stage) → Keeps m d s → IsBusy s → IsCallable m.world.store.made d → IsReady m d s
 ready_law m d stage.Idle k busy callable = absurd busy
 ready_law m d stage.Begins k busy callable = done_counted m d stage.Begins k
 ready_law m d stage.Asking k busy callable =
@@ -204,14 +204,14 @@ ready_law m d stage.Asking k busy callable =
 ready_law m d (stage.Made r f) k busy callable =
     let p = k.at_stage.0.plays in (
       done_counted m d (stage.Made r f) k,
-      (p.body, subst (λ o. HasPayload m.store.made o (payload.Function p.body)) k.at_stage.1 p.is_function),
-      can_reply m d (stage.Made r f) m.callers k k.nested.slots (inside_halted m m.generators d None r.act m.callers k.at_stage.5),
-      first_asks m m.callers (inside_halted m m.generators d None r.act m.callers k.at_stage.5),
+      (p.body, subst (λ o. HasPayload m.world.store.made o (payload.Function p.body)) k.at_stage.1 p.is_function),
+      can_reply m d (stage.Made r f) m.callers k k.nested.slots (inside_halted m m.world.generators d None r.act m.callers k.at_stage.5),
+      first_asks m m.callers (inside_halted m m.world.generators d None r.act m.callers k.at_stage.5),
     )
 ready_law m d (stage.Going r) k busy callable =
-    let going : IsGoing m.codes m.globals m.store.made m.events r (first_slot r.kind m.callers) = k.at_stage.0 in
+    let going : IsGoing m.world.codes m.globals m.world.store.made m.events r (first_slot r.kind m.callers) = k.at_stage.0 in
     let p = going.plays in
-    let is_code : slice_get m.codes.codes r.frame.code ≡ Some p.code = ap (slice_get m.codes.codes) p.placed ∙ p.is_code in (
+    let is_code : slice_get m.world.codes.codes r.frame.code ≡ Some p.code = ap (slice_get m.world.codes.codes) p.placed ∙ p.is_code in (
       record {
         code = p.code;
         is_code = is_code;
@@ -228,13 +228,13 @@ ready_law m d (stage.Going r) k busy callable =
 ready_law m d (stage.Waiting h) k busy callable = (
   done_counted m d (stage.Waiting h) k,
   made_counted m d (stage.Waiting h) k,
-  can_reply m d (stage.Waiting h) (h ∷ m.callers) k k.nested.slots (k.at_stage.0, inside_halted m m.generators d h.running.kind h.running.act m.callers k.at_stage.1.inside),
+  can_reply m d (stage.Waiting h) (h ∷ m.callers) k k.nested.slots (k.at_stage.0, inside_halted m m.world.generators d h.running.kind h.running.act m.callers k.at_stage.1.inside),
   k.at_stage.0.question,
   can_note m h (first_slot h.running.kind m.callers) k.at_stage.0,
 )
 ready_law m d (stage.Due s how) k busy callable =
     let asks : Asker m d m.callers s.running.kind s.running.act = asker m d s.running.kind s.running.act m.callers k.follows.stack k.nested.frames k.nested.slots k.nested.apart k.at_stage.2.inside in
-    let halted : AreHalted m m.callers = inside_halted m m.generators d s.running.kind s.running.act m.callers k.at_stage.2.inside in (
+    let halted : AreHalted m m.callers = inside_halted m m.world.generators d s.running.kind s.running.act m.callers k.at_stage.2.inside in (
       done_counted m d (stage.Due s how) k,
       (k.stored, k.at_stage.0, (λ q questioned g is. entered_runs m d s k.kept.each asks g (ap generator_asked (sym (asks.is q questioned)) ∙ is)), first_asks m m.callers halted),
     )

@@ -20,7 +20,7 @@ use Rattle.py_answers.specs.Answers.{Reply, Fails, IsTypeName}
 use Rattle.py_answers.specs.Readable.{IsReadable}
 use Rattle.py_run.specs.declared.drive.Makings.{Makings}
 use Rattle.py_run.specs.Normalized.{NormalizesTo, not_traceback, traceback_as}
-use Rattle.py_run.specs.Run.{Forms as FormsOf, Posed}
+use Rattle.py_run.specs.Run.{Forms as MakesOf, Posed}
 use Rattle.py_run.specs.Coming.{EachTells, Comes}
 use Rattle.py_run.specs.Past.{past_behind}
 use Rattle.py_vm.specs.declared.fault.VmFault.{VmFault}
@@ -32,6 +32,7 @@ use Rattle.py_vm.specs.Codes.{plain_codes}
 use Rattle.py_vm.specs.Courses.{RepliesRaise, RepliesValue}
 use Rattle.py_vm.specs.Machine.{Machine, done_of, past_of, plan_of}
 use Rattle.py_vm.specs.RowsOf.{RowsOf}
+use Rattle.py_objects.specs.FrameEntries.{frames_in}
 
 -- what an exception is made of
 abbrev pub makings_of : (thrown value traceback : Obj) → Makings
@@ -43,7 +44,7 @@ makings_numbers x = x.thrown.number ∷ x.value.number ∷ x.traceback.number �
 
 -- a drive that has an exception made of these behind so many enters
 abbrev pub forming : ℕ → Makings → Posed
-forming entered x = record { pose = FormsOf x; entered = entered }
+forming entered x = record { pose = MakesOf x; entered = entered }
 
 -- what such a drive adds to a machine's journal, whatever comes of it: these events, a part of each run of drives in which it is the next one, by
 -- which the machine is what the run says
@@ -83,7 +84,15 @@ Forms m x turns (Err fault.NoMemory) m' =
     (part : List Event) × (length part < turns) × AddsForming x part m m' × (m'.failed ≡ true) × (m'.changes ≡ m.changes) × (done_of m' ≡ done_of m)
 Forms m x turns (Err fault.Failed) m' = ⊥
 
+-- the same of these three
+abbrev pub FormsOf : Machine → (thrown value traceback : Obj) → ℕ → Result PyBaseExceptionRef VmFault → Machine → Type 0
+FormsOf m thrown value traceback turns result m' = Forms m (makings_of thrown value traceback) turns result m'
+
 -- ---- what the functions inside the crate promise each other
+
+-- the drive is told
+abbrev pub forming_by : Core → Core
+forming_by m = record m { events = m.events ++ event.Drive (m.done + 1) ∷ [] }
 
 -- an object is this traceback, or None where there is none, or neither
 abbrev pub IsTracebackOf : List Payload → Obj → Option (Option PyTracebackRef) → Type 0
@@ -121,10 +130,10 @@ told_by m f = record m { events = m.events ++ event.Result (m.done + 1) (answer_
 
 -- what is needed of a machine whose drive has begun
 pub record CanForm (m : Core) (x : Makings) : Type 0 where
-  pub readable : IsReadable m.store
-  pub classes : HaveClasses m.zoo m.store.made
-  pub below : AllBelow (length m.store.made) (makings_numbers x)
-  pub marked : m.store.mark ≤ length m.events
+  pub readable : IsReadable m.world.store
+  pub classes : HaveClasses m.world.zoo m.world.store.made
+  pub below : AllBelow (length m.world.store.made) (makings_numbers x)
+  pub marked : m.world.store.mark ≤ length m.events
 
 -- the changes that come of it
 abbrev pub changes_by : ℕ → Formed → List Change
@@ -140,9 +149,9 @@ pub record IsGiven (old : Kept) (e : PyBaseExceptionRef) (t : Option PyTraceback
 -- a machine whose drive has its result
 abbrev pub FormedOne : Core → Makings → Formed → Core → Type 0
 FormedOne m x f m' =
-    (store : Kept) × GrowsPlainly m.store.made store.made × IsFormOf m.store.made store.made x f × (store.changes ≡ m.store.changes ++ changes_by (length m.events) f)
-    × (store.mark ≡ length m.events) × (m' ≡ told_by (record m { store = store }) f)
+    (store : Kept) × GrowsPlainly m.world.store.made store.made × (frames_in store.made ≡ frames_in m.world.store.made) × IsFormOf m.world.store.made store.made x f × (store.changes ≡ m.world.store.changes ++ changes_by (length m.events) f)
+    × (store.mark ≡ length m.events) × (m' ≡ told_by (record m { world = record m.world { store = store } }) f)
 
 -- one whose memory ran out before that: more objects may be there
 abbrev pub Stopped : Core → Core → Type 0
-Stopped m m' = (store : Kept) × GrowsPlainly m.store.made store.made × (store.changes ≡ m.store.changes) × (m' ≡ record m { store = store })
+Stopped m m' = (store : Kept) × GrowsPlainly m.world.store.made store.made × (store.changes ≡ m.world.store.changes) × (m' ≡ record m { world = record m.world { store = store } })

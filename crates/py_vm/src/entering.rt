@@ -14,7 +14,7 @@ use crate::stage::{Running, Stage, Suspended};
 use py_answers::entry;
 use py_code::{NoMemory, PyCode};
 use py_coro::Coro;
-use py_frame::{Frame, Input, OwnStack, positional};
+use py_frame::{Frame, FrameConstructor, Input, OwnStack, positional};
 use py_objects::{
     CoroBody, CoroKind, DriveAnswer, Event, FrameRef, ObjList, Payload, PyObjectRef, ResumeHow,
     Scope,
@@ -25,9 +25,9 @@ impl Core {
     /// An activation of the function is made.
     pub(crate) fn make(&mut self, function: PyObjectRef, args: ObjList) -> Result<(), NoMemory>
         requires counted { self.old.made ≤ length self.old.events }
-        requires readable { IsReadable self.old.store }
-        requires runnable { AreRunnable self.old.codes self.old.store.made }
-        requires callee { IsFunction self.old.store.made function }
+        requires readable { IsReadable self.old.world.store }
+        requires runnable { AreRunnable self.old.world.codes self.old.world.store.made }
+        requires callee { IsFunction self.old.world.store.made function }
         ensures ok { OnOk result (MadeOne self.old function args self.new) }
         ensures err { OnErr result (Halts self.old self.new) }
     {
@@ -53,8 +53,8 @@ impl Core {
     ) -> Result<Option<DriveAnswer>, NoMemory>
         requires done { self.old.done ≤ length self.old.events }
         requires can { CanReply self.old }
-        requires function { IsFunction self.old.store.made function }
-        requires first { FirstAsks self.old.codes self.old.events self.old.callers }
+        requires function { IsFunction self.old.world.store.made function }
+        requires first { FirstAsks self.old.world.codes self.old.events self.old.callers }
         ensures ok { IfOk result (StartedOne self.old running function self.new) }
         ensures err { OnErr result (Halts self.old self.new) }
     {
@@ -96,25 +96,25 @@ impl Core {
         kind: CoroKind,
     ) -> Result<PyObjectRef, NoMemory>
         requires can { CanReply self.old }
-        requires function { IsFunction self.old.store.made function }
+        requires function { IsFunction self.old.world.store.made function }
         ensures ok { IfOk result (CreatesOne self.old running function kind self.new) }
         ensures err { OnErr result (Halts self.old self.new) }
     {
-        let Payload::Function(body) = entry(&self.store, function) else {
+        let Payload::Function(body) = entry(&self.world.store, function) else {
             unreachable!();
         };
-        let Some(code) = self.codes.get(body.code) else {
+        let Some(code) = self.world.codes.get(body.code) else {
             unreachable!();
         };
         let act = running.act;
         let generator = Coro::new(running.frame.entry(), code.code().co_name(), kind);
-        let name = body.name.copy(self.alloc)?;
-        let object = self.store.add(Payload::Generator(CoroBody {
+        let name = body.name.copy(self.world.alloc)?;
+        let object = self.world.store.add(Payload::Generator(CoroBody {
             activation: act,
             name,
             kind,
         }))?;
-        self.generators.push(KeptGenerator {
+        self.world.generators.push(KeptGenerator {
             object,
             act,
             generator,
@@ -126,13 +126,13 @@ impl Core {
         Ok(object)
     }
 
-    /// The activation of the generator that an object is is entered like this, over a slot of its own.
+    /// The activation of this object's generator is entered like this, over a slot of its own.
     pub(crate) fn resume(&mut self, object: PyObjectRef, how: ResumeHow) -> Result<(), NoMemory>
-        requires { IsResumable self.old.generators object }
+        requires { IsResumable self.old.world.generators object }
         ensures ok { OnOk result (ResumedOne self.old object how self.new) }
         ensures err { OnErr result (Halts self.old self.new) }
     {
-        let Some(suspended) = self.generators.take(object) else {
+        let Some(suspended) = self.world.generators.take(object) else {
             unreachable!();
         };
         let Suspended { running, slot } = suspended;
@@ -155,38 +155,41 @@ impl Core {
         function: PyObjectRef,
         args: &ObjList,
     ) -> Result<Running, NoMemory>
-        requires readable { IsReadable self.old.store }
-        requires runnable { AreRunnable self.old.codes self.old.store.made }
-        requires callee { IsFunction self.old.store.made function }
+        requires readable { IsReadable self.old.world.store }
+        requires runnable { AreRunnable self.old.world.codes self.old.world.store.made }
+        requires callee { IsFunction self.old.world.store.made function }
         ensures ok { IfOk result (MakesFresh self.old act function args.now self.new) }
         ensures err { OnErr result (Halts self.old self.new) }
     {
-        let Payload::Function(body) = entry(&self.store, function) else {
+        let Payload::Function(body) = entry(&self.world.store, function) else {
             unreachable!();
         };
         let number = body.code;
-        let Some(code) = self.codes.get(number) else {
+        let Some(code) = self.world.codes.get(number) else {
             unreachable!();
         };
-        let object = self.store.add(Payload::Frame(number as u64))?;
+        let object = self.world.store.add(Payload::Frame(number as u64))?;
         let entry = FrameRef {
             number: object.number,
         };
         let scope = Scope::new(None, self.globals);
-        let closure = no_cells(self.alloc, code.code(), self.store.none())?;
-        let stack = OwnStack::new(self.alloc, code.code().co_stacksize() as usize)?;
-        let mut frame = Frame::new(
-            self.alloc,
-            &mut self.store,
-            code,
+        let closure = no_cells(self.world.alloc, code.code(), self.world.store.none())?;
+        let stack = OwnStack::new(self.world.alloc, code.code().co_stacksize() as usize)?;
+        let constructor = FrameConstructor {
             number,
             entry,
             scope,
             closure,
+        };
+        let mut frame = Frame::new(
+            self.world.alloc,
+            &mut self.world.store,
+            code,
+            constructor,
             stack,
         )?;
-        let locals = positional(self.alloc, code, args)?;
-        frame.fill(&mut self.store, code, locals);
+        let locals = positional(self.world.alloc, code, args)?;
+        frame.fill(&mut self.world.store, code, locals);
         Ok(Running {
             act,
             frame,

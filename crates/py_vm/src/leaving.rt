@@ -10,7 +10,6 @@ ghost use Rattle.py_vm.specs.Turns.{left_of, own_slot, passed, popped, CanFinish
 use crate::frames::FrameList;
 use crate::machinery::Core;
 use crate::reply::Reply;
-use crate::sending::generator_kind;
 use crate::stage::{Running, Stage, Suspended};
 use py_code::NoMemory;
 use py_coro::{CoroAnswer, CoroEnd, converted, ignored};
@@ -25,7 +24,10 @@ impl Core {
         requires { HasOwnSlot running.kind self.old.slots }
         ensures { self.new ≡ left_of self.old running how }
     {
-        let mut frames = mem::replace(&mut self.frames, FrameList::new(self.alloc)).into_vec();
+        let mut frames = mem::replace(
+            &mut self.frames,
+            FrameList::new(self.world.alloc),
+        ).into_vec();
         frames.pop();
         self.frames = FrameList::of(frames);
         let slot = self.pop_slot(running.kind);
@@ -67,7 +69,7 @@ impl Core {
 
     /// The generator that the open question has entered, if it has entered one.
     fn generator_entered(&self, drive: &Drive) -> Option<PyObjectRef>
-        requires { FirstAsks self.now.codes self.now.events self.now.callers }
+        requires { FirstAsks self.now.world.codes self.now.events self.now.callers }
         ensures { EntersAs self.now drive.now result }
     {
         let Some(halted) = self.callers.last() else {
@@ -88,26 +90,35 @@ impl Core {
         how: CoroEnd,
     ) -> Result<Reply, NoMemory>
         requires stored { IsStored self.old }
-        requires ending { IsEnding self.old.store.made how }
-        requires runs { IsRunningNow self.old.generators object }
-        requires generator { IsGenerator self.old.store.made object }
+        requires ending { IsEnding self.old.world.store.made how }
+        requires runs { IsRunningNow self.old.world.generators object }
+        requires generator { IsGenerator self.old.world.store.made object }
         ensures ok { IfOk result (λ reply. SettledOne self.old object left how reply self.new) }
         ensures err { OnErr result (Halts self.old self.new) }
     {
-        let kind = generator_kind(&self.store, object);
-        match self.generators.finish(object, &self.store, left, how) {
+        let kind = self.world.generator_kind(object);
+        match self
+            .world
+            .generators
+            .finish(object, &self.world.store, left, how)
+        {
             CoroAnswer::Value(value) => Ok(Reply::Yields(value)),
             CoroAnswer::Stop(value) => Ok(Reply::Stops(value)),
             CoroAnswer::Closed => Ok(Reply::Closes),
             CoroAnswer::Raise(exception) => Ok(Reply::Passed(exception)),
             CoroAnswer::Convert(cause, stop) => {
-                let fault = converted(self.alloc, kind, stop)?;
-                let exception = new_exception_from(&mut self.store, &self.zoo, &fault, cause)?;
+                let fault = converted(self.world.alloc, kind, stop)?;
+                let exception = new_exception_from(
+                    &mut self.world.store,
+                    &self.world.zoo,
+                    &fault,
+                    cause,
+                )?;
                 Ok(Reply::Fresh(exception))
             }
             CoroAnswer::Ignored => {
-                let fault = ignored(self.alloc, kind)?;
-                let exception = new_exception(&mut self.store, &self.zoo, &fault)?;
+                let fault = ignored(self.world.alloc, kind)?;
+                let exception = new_exception(&mut self.world.store, &self.world.zoo, &fault)?;
                 Ok(Reply::Fresh(exception))
             }
         }

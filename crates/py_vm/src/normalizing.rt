@@ -1,15 +1,14 @@
 //! Exceptions that a host has made of an exception or a class of exceptions, by drives of their own, which enter nothing.
 
-ghost use Rattle.std.specs.Prelude.{◌≡◌, ◌≤◌, ◌<◌, ◌+◌, ◌++◌, ◌∷◌, [], true, false, length, Err, IfOk, OnOk, OnErr};
+ghost use Rattle.std.specs.Prelude.{◌≡◌, ◌≤◌, ◌<◌, true, false, length, Err, IfOk, OnOk, OnErr};
 ghost use Rattle.py_objects.specs.Objects.{as_object, AllBelow, IfThere, IsException, IsTraceback};
 ghost use Rattle.py_objects.specs.Edits.{objects_of};
 ghost use Rattle.py_exceptions.specs.Tracebacks.{traceback_object};
 ghost use Rattle.py_objects.specs.Growth.{IsGrown};
 ghost use Rattle.py_exceptions.specs.Classes.{HaveClasses};
 ghost use Rattle.py_answers.specs.Readable.{IsReadable};
-ghost use Rattle.py_vm.specs.Normalizing.{makings_numbers, makings_of, told_by, answer_of, outcome_of, CanForm, Forms, FormedOne, IsFormOf, IsGiven, IsNotTraceback, IsRefusal, IsTracebackOf, Stopped};
+ghost use Rattle.py_vm.specs.Normalizing.{answer_of, forming_by, makings_numbers, makings_of, outcome_of, told_by, CanForm, FormsOf, FormedOne, IsFormOf, IsGiven, IsNotTraceback, IsRefusal, IsTracebackOf, Stopped};
 ghost use Rattle.py_vm.specs.declared.fault.VmFault.TheVariants.{Failed, OutOfTurns};
-ghost use Rattle.py_objects.specs.declared.event.Event.TheVariants.{Drive as DriveEvent};
 
 use crate::fault::{PyResult, VmFault};
 use crate::machinery::Core;
@@ -49,7 +48,7 @@ impl VirtualMachine {
         // A machine that has failed adds nothing.
         ensures failed { self.old.failed ≡ true → (result ≡ Err Failed) × (self.new ≡ self.old) }
         // What any other comes to is one drive.
-        ensures forms { self.old.failed ≡ false → Forms self.old (makings_of ty val tb) turns result self.new }
+        ensures forms { self.old.failed ≡ false → FormsOf self.old ty val tb turns result self.new }
     {
         let core: &mut Core = &mut self.core;
         core.check()?;
@@ -87,7 +86,7 @@ impl Core {
     /// The drive begins.
     fn begin_forming(&mut self) -> Result<(), NoMemory>
         requires { self.old.done ≤ length self.old.events }
-        ensures ok { OnOk result (self.new ≡ record self.old { events = self.old.events ++ DriveEvent (self.old.done + 1) ∷ [] }) }
+        ensures ok { OnOk result (self.new ≡ forming_by self.old) }
         ensures err { OnErr result (self.new ≡ self.old) }
     {
         // A list's length has 63 bits, so the count of drives doesn't pass its end.
@@ -105,12 +104,17 @@ impl Core {
         ensures ok { IfOk result (λ formed. FormedOne self.old makings formed self.new) }
         ensures err { OnErr result (Stopped self.old self.new) }
     {
-        self.store.mark(self.events.len() as u64);
-        self.store.reserve_changes(1)?;
-        let formed = form_exception(self.alloc, &mut self.store, &self.zoo, makings)?;
+        self.world.store.mark(self.events.len() as u64);
+        self.world.store.reserve_changes(1)?;
+        let formed = form_exception(
+            self.world.alloc,
+            &mut self.world.store,
+            &self.world.zoo,
+            makings,
+        )?;
         self.tell(formed)?;
         match formed {
-            Formed::Made(exception, traceback) => give(&mut self.store, exception, traceback),
+            Formed::Made(exception, traceback) => give(&mut self.world.store, exception, traceback),
             Formed::Raised(_) => {}
         }
         Ok(formed)

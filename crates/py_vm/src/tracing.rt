@@ -22,7 +22,7 @@ impl Core {
     /// Notes what an answer raises in the body that gets it (Python Language Reference, 7.8), and where that is.
     pub(crate) fn note(&mut self, halted: &Halted, answer: Answer) -> Result<(), NoMemory>
         requires asked { AsksAt self.old.events halted.now.place }
-        requires can { CanNote self.old.codes halted.now }
+        requires can { CanNote self.old.world.codes halted.now }
         ensures ok { OnOk result (NotedOne self.old halted.now answer self.new) }
         ensures err { OnErr result (Halts self.old self.new) }
     {
@@ -33,7 +33,7 @@ impl Core {
             return Ok(());
         };
         let frame = &halted.running.frame;
-        let Some(code) = self.codes.get(frame.f_code()) else {
+        let Some(code) = self.world.codes.get(frame.f_code()) else {
             unreachable!();
         };
         let raise = KeptRaise {
@@ -49,9 +49,9 @@ impl Core {
     /// A question as it is told. An exit is told the traceback of an exception's last raise (Python Language Reference, 3.3.9): whose it is depends on
     /// what happened, of which a frame knows its own part alone.
     pub(crate) fn told(&mut self, request: Request) -> Result<Request, NoMemory>
-        requires readable { IsReadable self.old.store }
-        requires below { AllBelow (length self.old.store.made) (request_numbers request) }
-        requires raises { AreThere self.old.store.made self.old.raises }
+        requires readable { IsReadable self.old.world.store }
+        requires below { AllBelow (length self.old.world.store.made) (request_numbers request) }
+        requires raises { AreThere self.old.world.store.made self.old.raises }
         ensures ok { IfOk result (λ told. ToldOne self.old request told self.new) }
         ensures err { OnErr result (Halts self.old self.new) }
     {
@@ -59,7 +59,7 @@ impl Core {
             return Ok(request);
         };
         let (exit, class, exception) = (*exit, *class, *exception);
-        if !matches!(entry(&self.store, exception), Payload::Exception(_)) {
+        if !matches!(entry(&self.world.store, exception), Payload::Exception(_)) {
             return Ok(request);
         }
         let traceback = self.traceback(exception)?;
@@ -68,12 +68,12 @@ impl Core {
 
     /// The traceback of an exception's last raise, which is new where no exit was told it yet. None where it was never raised in a body.
     fn traceback(&mut self, exception: PyObjectRef) -> Result<PyObjectRef, NoMemory>
-        requires { AreThere self.old.store.made self.old.raises }
+        requires { AreThere self.old.world.store.made self.old.raises }
         ensures ok { IfOk result (IsLastTraced self.old exception self.new) }
         ensures err { OnErr result (Halts self.old self.new) }
     {
         let Some(raise) = self.raises.get(exception) else {
-            return Ok(self.store.none());
+            return Ok(self.world.store.none());
         };
         match raise.traceback {
             Some(traceback) => Ok(traceback),
@@ -87,7 +87,7 @@ impl Core {
         exception: PyObjectRef,
         raise: KeptRaise,
     ) -> Result<PyObjectRef, NoMemory>
-        requires { IsFrame self.old.store.made raise.frame }
+        requires { IsFrame self.old.world.store.made raise.frame }
         ensures ok { IfOk result (λ object. IsTraced self.old exception raise object self.new) }
         ensures err { OnErr result (Halts self.old self.new) }
     {
@@ -97,7 +97,7 @@ impl Core {
             lineno,
             traceback: _,
         } = raise;
-        let entry = PyTraceback::new(&mut self.store, None, frame, lasti, lineno)?;
+        let entry = PyTraceback::new(&mut self.world.store, None, frame, lasti, lineno)?;
         let traceback = PyObjectRef {
             number: entry.number,
         };

@@ -10,19 +10,19 @@ use Rattle.py_vm.proofs.machinery.Core.create.Goals as goal
 
 pub unreachable-requires-in_default-get : goal.unreachable-requires-in_default-get
 unreachable-requires-in_default-get c =
-    code_not_none c.args.self.now.codes c.args.self.now.store.made c.args.function c.in-Function.body c.requires.can.runnable
-    (function_read c.args.self.now.store.made c.args.function c.entry.result.now c.in-Function.body c.entry.ensures c.in-Function.is) (sym (rw c.in_default-get.is at c.get.ensures))
+    code_not_none c.args.self.now.world.codes c.args.self.now.world.store.made c.args.function c.in-Function.body c.requires.can.runnable
+    (function_read c.args.self.now.world.store.made c.args.function c.entry.result.now c.in-Function.body c.entry.ensures c.in-Function.is) (sym (rw c.in_default-get.is at c.get.ensures))
 
 pub returns-in_err-object-clause-err : goal.returns-in_err-object-clause-err
 returns-in_err-object-clause-err c =
     let m : Core = c.args.self.now in
-    erred _ _ (grew_halts m c.add.new.self m.generators m.frames m.callers m.slots m.stage (still_grown m.store c.add.new.self c.in_err-object.ensures.err))
+    erred _ _ (grew_halts m c.add.new.self m.world.generators m.frames m.callers m.slots m.stage (still_grown m.world.store c.add.new.self c.in_err-object.ensures.err))
 
 pub push-requires : goal.push-requires
-push-requires c = record { other = new_not_kept c.args.self.now.store.made c.args.self.now.generators c.in_ok-object.object c.requires.can.generators c.in_ok-object.ensures.number }
+push-requires c = record { other = new_not_kept c.args.self.now.world.store.made c.args.self.now.world.generators c.in_ok-object.object c.requires.can.generators c.in_ok-object.ensures.number }
 
 pub returns-in_err-push-clause-err : goal.returns-in_err-push-clause-err
 returns-in_err-push-clause-err c =
     let m : Core = c.args.self.now in
     erred _ _ (grew_halts m c.add.new.self c.push.new.self m.frames m.callers m.slots m.stage
-    (added_grown m.store c.add.new.self (payload.Generator _) c.in_ok-object.ensures.added refl (λ fit. tt) (λ fit. tt)))
+    (added_grown m.world.store c.add.new.self (payload.Generator _) c.in_ok-object.ensures.added refl refl (λ fit. tt) (λ fit. tt)))

@@ -18,11 +18,11 @@ returns-in_ok-got-in-Some-clause-ok c =
 pub returns-in_err-note-in-Some-clause-err : goal.returns-in_err-note-in-Some-clause-err
 returns-in_err-note-in-Some-clause-err c =
     let m : Core = c.args.self.now in
-    erred _ _ (halted_on m c.note.new.self c.answer.new.store m.generators m.frames c.pop.new.self m.slots m.stage c.in_ok-answer-in-Some.ensures.grows c.in_err-note-in-Some.ensures.err)
+    erred _ _ (halted_on m c.note.new.self c.answer.new.store m.world.generators m.frames c.pop.new.self m.slots m.stage c.in_ok-answer-in-Some.ensures.grows c.in_err-note-in-Some.ensures.err)
 
 pub returns-in_err-got-in-Some-clause-err : goal.returns-in_err-got-in-Some-clause-err
 returns-in_err-got-in-Some-clause-err c =
     let m : Core = c.args.self.now in
-    let popped : Core = record m { store = c.answer.new.store; callers = c.pop.new.self } in
-    erred _ _ (halted_on m c.got.new.self c.answer.new.store m.generators m.frames c.pop.new.self m.slots m.stage c.in_ok-answer-in-Some.ensures.grows
+    let popped : Core = record m { world = record m.world { store = c.answer.new.store }; callers = c.pop.new.self } in
+    erred _ _ (halted_on m c.got.new.self c.answer.new.store m.world.generators m.frames c.pop.new.self m.slots m.stage c.in_ok-answer-in-Some.ensures.grows
     (halts_trans popped c.note.new.self c.got.new.self (noted_halts popped c.note.new.self c.in-Some.halted c.in_ok-answer-in-Some.answer c.in_ok-note-in-Some.ensures.ok) c.in_err-got-in-Some.ensures.err))

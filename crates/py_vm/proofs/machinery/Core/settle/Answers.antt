@@ -4,7 +4,7 @@ use Rattle.py_vm.proofs.LeavingLemmas.{answers_there, ending_read, settled_at_on
 use Rattle.py_vm.proofs.machinery.Core.settle.Goals as goal
 
 pub finish-requires-clause-read : goal.finish-requires-clause-read
-finish-requires-clause-read c = ending_read c.args.self.now.store.made c.args.how c.requires.ending
+finish-requires-clause-read c = ending_read c.args.self.now.world.store.made c.args.how c.requires.ending
 
 pub returns-in-Value-clause-ok : goal.returns-in-Value-clause-ok
 returns-in-Value-clause-ok c = rw c.in-Value.is at (settled_at_once c.args.self.now c.args.object c.args.left c.args.how c.requires.runs c.requires.generator c.requires.ending c.finish.result c.finish.ensures.answer c.finish.new.self c.finish.ensures.left (made.Yields c.in-Value.value)) refl

@@ -8,4 +8,4 @@ pub returns : goal.returns
 returns c =
     let m : Core = c.self.inside.core.value in
     let idle = c.self.invariant (rw (← c.self.view_is) at c.requires.works) in
-    rw (← c.self.view_is) (c.get.ensures ∙ ap (λ (k : Core). value_of c.args.name.now k.declarations) c.deref.ensures ∙ (kept_idle m idle).stored.names_are c.args.name.now)
+    rw (← c.self.view_is) (c.get.ensures ∙ ap (λ (k : Core). value_of c.args.name.now k.world.declarations) c.deref.ensures ∙ (kept_idle m idle).stored.names_are c.args.name.now)

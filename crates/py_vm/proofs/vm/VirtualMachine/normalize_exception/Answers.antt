@@ -1,4 +1,4 @@
-use Rattle.std.proofs.Common.{◌≡◌, ◌<◌, ◌≤◌, ◌∷◌, [], true, false, sym, ap, ◌∙◌, subst, length, arith, Err}
+use Rattle.std.proofs.Common.{◌≡◌, ◌<◌, ◌≤◌, true, sym, ap, ◌∙◌, subst, length, arith, Err}
 use Rattle.std.specs.Prelude.{Result}
 use Rattle.py_objects.specs.declared.refs.PyBaseExceptionRef.{PyBaseExceptionRef}
 use Rattle.py_run.specs.declared.drive.Makings.{Makings}
@@ -6,7 +6,7 @@ use Rattle.py_vm.specs.declared.fault.VmFault.{VmFault}
 use Rattle.py_vm.specs.declared.fault.VmFault.TheVariants as fault
 use Rattle.py_vm.specs.declared.machinery.Core.{Core}
 use Rattle.py_vm.specs.Machine.{Machine}
-use Rattle.py_vm.specs.Normalizing.{makings_numbers, makings_of, CanForm, Forms, FormedOne, Stopped}
+use Rattle.py_vm.specs.Normalizing.{makings_of, CanForm, Forms, FormedOne, Stopped}
 use Rattle.py_vm.specs.Stands.{IsIdle, Stands, seen}
 use Rattle.py_vm.proofs.FormingLemmas.{can_form, done_more, done_within, formed_forms, no_memory, no_turns, one_turn, stands_behind, stopped}
 use Rattle.py_vm.proofs.vm.VirtualMachine.normalize_exception.Goals as goal

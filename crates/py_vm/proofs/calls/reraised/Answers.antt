@@ -1,5 +1,0 @@
-use Rattle.py_vm.proofs.CallsLemmas.{itself_given}
-use Rattle.py_vm.proofs.calls.reraised.Goals as goal
-
-pub returns-in-Some-clause-given : goal.returns-in-Some-clause-given
-returns-in-Some-clause-given c = rw c.in-Some.is (itself_given c.args.store.now.made _ (rw c.in-Some.is at c.requires.handled).0)
