@@ -1,29 +1,33 @@
--- The objects at an event, by those in front of it and the changes that come due.
-use Rattle.std.proofs.Common.{◌≡◌, ℕ, false, List, [], ◌∷◌, refl, ap, arith}
-use Rattle.std.specs.Prelude.{filter, nat_eq, nat_le, nat_lt}
-use Rattle.std.specs.List.{list_any}
-use Rattle.std.proofs.lemmas.Bool.{or_parts}
+-- The objects at an event by the changes that are left, and the text with one event more.
+use Rattle.std.proofs.Common.{◌≡◌, ◌<◌, ◌+◌, ◌∷◌, ◌++◌, ℕ, List, ap, sym, subst, drop, length, get_or, ◌∙◌, arith}
+use Rattle.std.proofs.lemmas.List.{append_assoc, drop_more}
 use Rattle.py_objects.specs.declared.edit.Change.{Change}
+use Rattle.py_objects.specs.declared.event.Event.{Event}
 use Rattle.py_objects.specs.declared.payload.Payload.{Payload}
-use Rattle.py_objects.specs.Edits.{changed_by, store_at}
-use Rattle.py_script.specs.Writing.{store_before}
+use Rattle.py_objects.specs.Edits.{store_at}
+use Rattle.py_objects.specs.Due.{later}
+use Rattle.py_objects.proofs.DueLemmas.{order_later, store_on}
+use Rattle.py_meaning.specs.Text.{event_text, text_from}
+use Rattle.py_script.specs.Writing.{AreLeft}
 
-apart : (a k : ℕ) → nat_eq a k ≡ false → nat_lt a k ≡ nat_le a k
-apart a k other = grind arith
+module _ (made now : List Payload) (cs left : List Change) (k : ℕ) (before : AreLeft made now cs left k) where
+  -- at the event the changes that are due have been made
+  pub due_made : store_at made cs k ≡ store_at now left k
+  due_made = before.at k (search arith)
 
--- where none comes due, those of earlier events are those up to this one
-none_due : (k : ℕ) (cs : List Change) → list_any (λ c. nat_eq c.after k) cs ≡ false → filter (λ c. nat_lt c.after k) cs ≡ filter (λ c. nat_le c.after k) cs
-none_due k [] none = refl
-none_due k (c ∷ cs) none =
-    let each = or_parts (nat_eq c.after k) (list_any (λ d. nat_eq d.after k) cs) none in
-    rw (apart c.after k each.0, none_due k cs each.1) refl
+  -- and those that are left are of later events
+  pub left_on : AreLeft made (store_at now left k) cs (later k left) (k + 1)
+  left_on = record {
+    order = order_later k left before.order;
+    at = λ j le. before.at j (omega (arith, le)) ∙ store_on now k j left before.order (omega (arith, le));
+  }
 
-pub store_stays : (made : List Payload) (cs : List Change) (k : ℕ) → list_any (λ c. nat_eq c.after k) cs ≡ false → store_before made cs k ≡ store_at made cs k
-store_stays made cs k none = ap (changed_by made) (none_due k cs none)
-
-none_lower : (a : ℕ) → nat_lt a 0 ≡ false
-none_lower a = grind arith
-
-pub none_before : (made : List Payload) (cs : List Change) → store_before made cs 0 ≡ made
-none_before made [] = refl
-none_before made (c ∷ cs) = rw (none_lower c.after) (none_before made cs)
+-- the text with that of one event more
+pub text_more : (made now : List Payload) (cs : List Change) (k : ℕ) (events items : List Event) (e : Event) (out longer whole : List ℕ)
+    → items ≡ events → k < length items → e ≡ get_or items k e → now ≡ store_at made cs k → longer ≡ out ++ event_text now e
+    → out ++ text_from made cs k (drop k events) ≡ whole → longer ++ text_from made cs (k + 1) (drop (k + 1) events) ≡ whole
+text_more made now cs k events items e out longer whole same low is told more text =
+    let next : e ∷ drop (k + 1) events ≡ drop k events =
+    subst (λ (es : List Event). e ∷ drop (k + 1) es ≡ drop k es) same (ap (λ d. d ∷ drop (k + 1) items) is ∙ sym (drop_more items k e low)) in
+    rw (more, told, append_assoc out (event_text (store_at made cs k) e) (text_from made cs (k + 1) (drop (k + 1) events)))
+    (ap (λ es. out ++ text_from made cs k es) next ∙ text)

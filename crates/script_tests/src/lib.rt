@@ -2,6 +2,10 @@
 #![tactic(auto)]
 
 #[cfg(test)]
+mod running;
+#[cfg(test)]
 mod scripts;
 #[cfg(test)]
 mod tracebacks;
+#[cfg(test)]
+mod units;

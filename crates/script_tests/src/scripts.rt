@@ -31,8 +31,9 @@ fn object(number: u64) -> PyObjectRef {
     PyObjectRef { number }
 }
 
-/// A dict that is returned twice, and is given a key between the two.
-fn journal_with_a_change(alloc: Global) -> Result<Journal, NoMemory> {
+/// A dict that is returned twice, and is given a key between the two. A second change, which changes nothing, is of the event
+/// of this number.
+fn journal_with_changes(alloc: Global, second: u64) -> Result<Journal, NoMemory> {
     let mut events = EventList::new(alloc);
     for drive in [1, 2] {
         let answer = DriveAnswer::Returns(object(1));
@@ -49,7 +50,7 @@ fn journal_with_a_change(alloc: Global) -> Result<Journal, NoMemory> {
     })?;
     // A number has no keys.
     changes.push(Change {
-        after: 1,
+        after: second,
         object: object(0),
         edit: Edit::Drop(object(0)),
     })?;
@@ -64,8 +65,11 @@ fn journal_with_a_change(alloc: Global) -> Result<Journal, NoMemory> {
 #[test]
 fn a_text_shows_objects_as_they_were(rt: HostRuntime) -> Result<(), Fail> {
     let alloc = rt.alloc();
-    let text = journal_text(alloc, &journal_with_a_change(alloc)?)?;
     let lines = b"1 returns {}\n2 returns {7: 7}\n";
-    assert_eq!(rt; text.as_slice(), lines.as_slice());
+    // In the order of their events, and not.
+    for second in [1, 0] {
+        let text = journal_text(alloc, &journal_with_changes(alloc, second)?)?;
+        assert_eq!(rt; text.as_slice(), lines.as_slice());
+    }
     Ok(())
 }

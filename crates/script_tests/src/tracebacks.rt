@@ -1,9 +1,8 @@
 //! The tracebacks that exits are told, as the journal of a script has them: no script tells two of them apart.
 
+use crate::running::journal_of;
 use py_code::NoMemory;
 use py_objects::{Event, Payload, PyObjectRef, Request};
-use py_outside::SourceMemory;
-use py_script::{SinkMemory, run_script};
 use std::alloc::Global;
 use std::test::Fail;
 
@@ -24,15 +23,7 @@ fn told_by(event: &Event) -> Option<PyObjectRef> {
 
 /// Of each traceback that an exit of the script is told: whether it is the one before, and the line that it names.
 fn tracebacks_told(alloc: Global) -> Result<Vec<(bool, u32)>, NoMemory> {
-    let mut bytes = Vec::new(alloc);
-    for byte in SCRIPT {
-        bytes.push(*byte)?;
-    }
-    let mut source = SourceMemory::new(bytes, Vec::new(alloc), 1000);
-    let mut sink = SinkMemory::new(alloc, Vec::new(alloc), 1000, 1000)?;
-    let Ok(journal) = run_script(alloc, &mut source, &mut sink, 1000) else {
-        return Err(NoMemory);
-    };
+    let journal = journal_of(alloc, SCRIPT)?;
     let mut told = Vec::new(alloc);
     let mut last = None;
     for event in journal.events.as_slice() {
