@@ -12,7 +12,7 @@ use Rattle.py_objects.specs.Edits.{Kept, changed_by, objects_of}
 use Rattle.py_objects.specs.Scopes.{scope_of}
 use Rattle.py_objects.specs.Objects.{Obj, IsException, IsTraceback, number_if, AllBelow}
 use Rattle.py_objects.specs.Growth.{Grows, GrowsPlainly}
-use Rattle.py_exceptions.specs.Slots.{Slots, top_of}
+use Rattle.py_stack.specs.Slots.{Slots, top_of}
 use Rattle.py_check.specs.declared.annotated.Annotated.{Annotated}
 use Rattle.py_check.specs.Depths.{deepest}
 use Rattle.py_check.specs.Typing.{IsTyped}

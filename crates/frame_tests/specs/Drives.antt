@@ -3,7 +3,7 @@ use Rattle.std.specs.Prelude.{List, Bool}
 use Rattle.std.specs.List.{list_all}
 use Rattle.py_objects.specs.declared.payload.Payload.{Payload}
 use Rattle.py_objects.specs.Growth.{Grows}
-use Rattle.py_exceptions.specs.Slots.{Slots, top_of}
+use Rattle.py_stack.specs.Slots.{Slots, top_of}
 use Rattle.py_frame.specs.Added.{ClassesAreThere}
 use Rattle.py_frame.specs.Frames.{Framed, NamedCode}
 use Rattle.py_frame.specs.Running.{IsRunning, SlotFits}

@@ -6,8 +6,6 @@ pub mod TypeNamesLemmas
 pub mod RaisableLemmas
 -- the objects that new exceptions add
 pub mod MakingLemmas
--- the topmost exception of slots
-pub mod SlotsLemmas
 -- what is shown with commas between, and the part of a path after its last /
 mod PathLemmas
 mod ReprLemmas

@@ -26,7 +26,5 @@ pub mod Instantiating
 pub mod Normalizing
 -- what is said where memory may run out
 pub mod Memory
--- the slots of handled exceptions
-pub mod Slots
 -- what the functions of the crate need of an exception
 pub mod Parts

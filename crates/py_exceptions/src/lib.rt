@@ -1,5 +1,5 @@
 //! Exceptions: the built-in classes among the objects of a run, what derives from them, what may be raised, new exceptions, their arguments
-//! and tracebacks, and the slots of those that are handled.
+//! and tracebacks.
 #![tactic(auto)]
 
 mod attributes;
@@ -10,7 +10,6 @@ mod making;
 mod quoted;
 mod reading;
 mod repr;
-mod stack;
 mod str_of;
 mod texts;
 mod tracebacks;
@@ -22,8 +21,8 @@ pub use ctor::{CtorFault, ExceptionCtor, Instantiate, is_instance, normalized};
 pub use kinds::is_gen_exit;
 pub use making::{make_exception, new_exception, new_exception_from};
 pub use py_outside::{Sink, SinkMemory, StdSink, WriteFailed};
+pub use py_stack::ExceptionStack;
 pub use repr::payload_at;
-pub use stack::ExceptionStack;
 pub use texts::{push_raised, push_whole_repr};
 pub use tracebacks::{PyTraceback, split_exception};
 pub use type_names::type_name;

@@ -14,7 +14,7 @@ use Rattle.py_rows.specs.RunOfRows.{Runs}
 use Rattle.py_rows.specs.Standing.{IsOf, IsStanding}
 use Rattle.py_rows.specs.Fitting.{FitsAt}
 use Rattle.py_rows.specs.Sound.{IsSound}
-use Rattle.py_exceptions.specs.Slots.{Slots, top_of}
+use Rattle.py_stack.specs.Slots.{Slots, top_of}
 use Rattle.py_frame.specs.declared.input.Input.{Input}
 use Rattle.py_frame.specs.declared.input.FrameStep.{FrameStep}
 use Rattle.py_frame.specs.Frames.{Framed, NamedCode, setting, setting_of, handed}

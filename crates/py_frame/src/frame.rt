@@ -2,7 +2,7 @@
 
 ghost use Rattle.std.specs.Prelude.{ℕ, ◌≡◌, ◌≤◌, [], length, slice_set, Some, IfOk};
 ghost use Rattle.py_objects.specs.Growth.{GrowsPlainly};
-ghost use Rattle.py_exceptions.specs.Slots.{top_of};
+ghost use Rattle.py_stack.specs.Slots.{top_of};
 ghost use Rattle.py_check.specs.Depths.{deepest};
 ghost use Rattle.py_rows.specs.Below.{HearsBelow, TellsBelow};
 ghost use Rattle.py_rows.specs.declared.expect.Expect.TheVariants as expect;
@@ -20,10 +20,9 @@ use crate::input::{FrameStep, Input};
 use crate::scene::Scene;
 use py_check::CheckedCode;
 use py_code::{NoMemory, OpArgState};
-use py_exceptions::ExceptionStack;
 use py_objects::{FrameRef, ObjList, PyBaseExceptionRef, PyObjectRef, Scope, Store};
 use py_rows::Expect;
-use py_stack::ValueStack;
+use py_stack::{ExceptionStack, ValueStack};
 use std::alloc::Global;
 use std::marker::Model;
 

@@ -31,5 +31,5 @@ pub use filled::{Filled, positional};
 pub use frame::{Frame, FrameConstructor};
 pub use input::{Answer, FrameStep, Input};
 pub use py_rows::{Expect, Wanted};
-pub use py_stack::{OwnStack, ValueStack};
+pub use py_stack::{ExceptionStack, OwnStack, ValueStack};
 pub use scene::Scene;

@@ -24,6 +24,13 @@ use Rattle.py_script.specs.Compiled.{AreCompiled}
 use Rattle.py_script.proofs.Declarations.{signed_by_body}
 use Rattle.py_script.proofs.Made.{HasTold, activation_tells}
 
+-- two entries at one place are one
+one_body : (b b' : FunctionBody) → Some (payload.Function b) ≡ Some (payload.Function b') → b ≡ b'
+one_body b b' is = cc is
+
+one_code : (c c' : PyCode) → Some c ≡ Some c' → c ≡ c'
+one_code c c' is = cc is
+
 -- an activation that was made has its tree's trace where its code's rows tell it
 traced : (trees : List Tree) (globals : Obj) (objects : List Payload) (codes : Codes) (act : Activation) (own : List Own) → AreCompiled trees codes → IsBound (map signature_of trees) objects act
     → HasTold own → RowsOf codes globals objects act.function act.args own → Traces trees globals objects act.function act.args own
@@ -31,13 +38,11 @@ traced trees globals objects codes act own compiled bound told (b, has, c, is, c
   where
     go : (t : Tree) × (slice_get trees bound.body.code ≡ Some t) × (bound.signature.params ≡ t.params) → Traces trees globals objects act.function act.args own
     go (t, at, params) =
-        let same_entry : Some (payload.Function b) ≡ Some (payload.Function bound.body) = sym has ∙ bound.is_function in
-        let inside : payload.Function b ≡ payload.Function bound.body = cc same_entry in
-        let same_body : b ≡ bound.body = cc inside in
+        let same_body : b ≡ bound.body = one_body b bound.body (sym has ∙ bound.is_function) in
         let place : b.code ≡ bound.body.code = ap (λ (x : FunctionBody). x.code) same_body in
         let (k, k_at, k_fits) = compiled.fit bound.body.code t at in
-        let same_code : Some k ≡ Some c = sym k_at ∙ ap (slice_get codes.codes) (sym place) ∙ is in
-        let (notes, fits) = subst (λ (x : PyCode). (notes : List Note) × Fits codes.names (record { code = x; notes = notes }) t) (let e : k ≡ c = cc same_code in e) k_fits in
+        let same_code : k ≡ c = one_code k c (sym k_at ∙ ap (slice_get codes.codes) (sym place) ∙ is) in
+        let (notes, fits) = subst (λ (x : PyCode). (notes : List Note) × Fits codes.names (record { code = x; notes = notes }) t) same_code k_fits in
         let arity : length act.args ≡ length t.params = bound.binds ∙ ap length params in
         let whole : IsTrace (located c objects globals) t act.args (Makes ∷ us) = fits.traces codes.names globals closure objects slot act.args us s ([], sym (append-nil codes.names)) arity run in
         let split : IsTrace (located c objects globals) t act.args ((told.front ∷ told.behind) ++ []) =

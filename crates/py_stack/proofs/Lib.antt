@@ -1,1 +1,3 @@
 pub mod StacksLemmas
+-- the topmost exception of slots
+pub mod SlotsLemmas

@@ -17,7 +17,7 @@ use Rattle.py_objects.specs.Own.{Gets, whose}
 use Rattle.py_objects.specs.Edits.{Kept}
 use Rattle.py_objects.proofs.GrowthLemmas.{below_more, grows_plainly_refl, length_grown, payload_grown}
 use Rattle.py_objects.proofs.GrownLemmas.{objects_grow, grown_trans, grown_longer}
-use Rattle.py_exceptions.specs.Slots.{Slots, top_of}
+use Rattle.py_stack.specs.Slots.{Slots, top_of}
 use Rattle.py_rows.specs.declared.expect.Expect.{Expect}
 use Rattle.py_rows.specs.RunOfRows.{Runs, started}
 use Rattle.py_rows.specs.Answers.{wanted, IsAnswer}

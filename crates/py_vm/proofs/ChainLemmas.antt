@@ -14,7 +14,7 @@ use Rattle.py_objects.specs.Own.{whose}
 use Rattle.py_objects.proofs.GrowthLemmas.{payload_grown, slice_get_grown, below_more, length_grown}
 use Rattle.py_check.specs.declared.note.Kind.TheVariants as kind
 use Rattle.py_coro.specs.Modes.{Mode, Fresh, Suspended as Left, Running as Entered, Closed}
-use Rattle.py_exceptions.specs.Slots.{Slots, topmost, top_of}
+use Rattle.py_stack.specs.Slots.{Slots, topmost, top_of}
 use Rattle.py_rows.specs.declared.expect.Expect.{Expect}
 use Rattle.py_rows.specs.Answers.{wanted}
 use Rattle.py_rows.specs.Fitting.{FitsAt, FitsBut}

@@ -21,7 +21,7 @@ use Rattle.py_objects.proofs.GrowthLemmas.{below_more, length_grown, plainly_gro
 use Rattle.py_objects.proofs.GrownLemmas.{objects_grow, grown_refl, grown_longer, longer_refl}
 use Rattle.py_coro.specs.Modes.{Mode, Fresh, Suspended as Left, Running as Entered, Closed}
 use Rattle.py_coro.specs.Coros.{entered}
-use Rattle.py_exceptions.specs.Slots.{Slots, top_of}
+use Rattle.py_stack.specs.Slots.{Slots, top_of}
 use Rattle.py_rows.specs.declared.expect.Expect.{Expect}
 use Rattle.py_rows.specs.declared.expect.Expect.TheVariants as expect
 use Rattle.py_rows.specs.Answers.{HasKind}

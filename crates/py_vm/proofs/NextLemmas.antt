@@ -11,7 +11,7 @@ use Rattle.py_objects.specs.Edits.{Kept}
 use Rattle.py_objects.specs.Growth.{IsGrown, IsLonger}
 use Rattle.py_objects.specs.Own.{whose}
 use Rattle.py_objects.proofs.GrownLemmas.{objects_grow}
-use Rattle.py_exceptions.specs.Slots.{Slots, topmost, top_of}
+use Rattle.py_stack.specs.Slots.{Slots, topmost, top_of}
 use Rattle.py_rows.specs.declared.expect.Expect.{Expect}
 use Rattle.py_rows.specs.declared.expect.Expect.TheVariants as expect
 use Rattle.py_frame.specs.Steps.{slot_taken}

@@ -19,10 +19,10 @@ use Rattle.py_objects.specs.Objects.{Obj, IsFunction}
 use Rattle.py_objects.specs.Edits.{Kept}
 use Rattle.py_objects.specs.Growth.{with_object, IsGrown, IsLonger}
 use Rattle.py_objects.specs.Scopes.{scope_of}
-use Rattle.py_objects.proofs.GrownLemmas.{added_grown, objects_grow, frame_longer, grown_longer, longer_refl, longer_trans}
+use Rattle.py_objects.proofs.GrownLemmas.{added_grown, objects_grow, frame_longer, grown_longer, grown_refl, longer_refl, longer_trans}
 use Rattle.py_exceptions.specs.Classes.{HaveClasses}
 use Rattle.py_exceptions.proofs.ClassesLemmas.{classes_grown}
-use Rattle.py_exceptions.specs.Slots.{Slots}
+use Rattle.py_stack.specs.Slots.{Slots}
 use Rattle.py_check.specs.declared.annotated.Annotated.{Annotated}
 use Rattle.py_rows.specs.Below.{TellsBelow}
 use Rattle.py_rows.specs.Laws.{AllMayTell}
@@ -110,6 +110,10 @@ use Rattle.py_vm.proofs.LeavingLemmas.{finished_call, finished_generator, replie
 pub halts_with : (m m' : Core) → m'.events ≡ m.events → IsLonger m.world.store m'.world.store → m'.world.codes ≡ m.world.codes → m'.globals ≡ m.globals → m'.entered ≡ m.entered → m'.failed ≡ m.failed → m'.state ≡ m.state → Halts m m'
 halts_with m m' events grown codes globals entered failed state = record { events = events; kept = record { grows = grown; codes = codes; globals = globals; entered = entered; failed = failed; state = state } }
 
+-- a machine that was left as it is halts
+pub halts_refl : (m : Core) → Halts m m
+halts_refl m = halts_with m m refl (longer_refl m.world.store) refl refl refl refl refl
+
 -- a machine of a longer store halts
 longer_halts : (m : Core) (store : Kept) → IsLonger m.world.store store → Halts m (record m { world = record m.world { store = store } })
 longer_halts m store longer = halts_with m (record m { world = record m.world { store = store } }) refl longer refl refl refl refl refl
@@ -133,6 +137,17 @@ halts_trans m n m' first later = record {
   };
 }
 
+-- and one whose next stage was set, whatever became of its frames and slots, where no event came
+pub staged_halts : (m k n : Core) (s : Stage) (frames : List FrameRef) (slots : Slots) (events : List Event) → Halts m k → n ≡ record k { stage = s } → events ≡ n.events
+    → Halts m (record n { events = events; frames = frames; slots = slots })
+staged_halts m k n s frames slots events halts staged same =
+    let there : Halts m (record k { stage = s; frames = frames; slots = slots }) = halts_trans m k _ halts (grew_halts k k.world.store k.world.generators frames k.callers slots s (grown_refl k.world.store)) in
+    subst (λ l. Halts m (record n { events = l; frames = frames; slots = slots })) (sym same) (subst (λ (x : Core). Halts m (record x { frames = frames; slots = slots })) (sym staged) there)
+
+-- so does one whose next stage was set, and whose event couldn't be pushed
+pub untold_halts : (m n : Core) (s : Stage) (events : List Event) → n ≡ record m { stage = s } → events ≡ n.events → Halts m (record n { events = events })
+untold_halts m n s events staged same = staged_halts m m n s n.frames n.slots events (halts_refl m) staged same
+
 pub halted_on : (m m' : Core) (store : Kept) (generators : List KeptGenerator) (frames : List FrameRef) (callers : List Halted) (slots : Slots) (stage : Stage) → IsGrown m.world.store store
     → Halts (record m { world = record m.world { store = store; generators = generators }; frames = frames; callers = callers; slots = slots; stage = stage }) m' → Halts m m'
 halted_on m m' store generators frames callers slots stage grown halts =
@@ -149,9 +164,9 @@ traced_halts m n e t there traced =
     (halts_with m (record m { world = record m.world { store = n.world.store }; raises = n.raises }) refl (grown_longer m.world.store n.world.store (traced_grows m n e t there traced)) refl refl refl refl refl)
 
 pub told_halts : (m n : Core) (q told_so : Request) → AreThere m.world.store.made m.raises → ToldOne m q told_so n → Halts m n
-told_halts m n (request.Exit x c e t) told_so there (inl (none, is, same)) = subst (Halts m) (sym same) (halts_with m m refl (longer_refl m.world.store) refl refl refl refl refl)
+told_halts m n (request.Exit x c e t) told_so there (inl (none, is, same)) = subst (Halts m) (sym same) (halts_refl m)
 told_halts m n (request.Exit x c e t) told_so there (inr (exception, (u, is, traced))) = traced_halts m n e u there traced
-told_halts m n q told_so there tells = subst (Halts m) (sym tells.1) (halts_with m m refl (longer_refl m.world.store) refl refl refl refl refl)
+told_halts m n q told_so there tells = subst (Halts m) (sym tells.1) (halts_refl m)
 
 -- a step that asks can be told
 pub can_tell : (m : Core) (store : Kept) (slots : Slots) (s : FrameStep) (at : ℕ) → IsReadable m.world.store → AreThere m.world.store.made m.raises → IsGrown m.world.store store → TellsBelow (length store.made) (own_of_step (told at s))
@@ -168,17 +183,20 @@ can_tell m store slots step.NoMemory at readable there grown below = tt
 pub object_halts : (m : Core) (store : Kept) (place : ℕ) → store ≡ with_object m.world.store (payload.Frame place) → Halts m (record m { world = record m.world { store = store } })
 object_halts m store place added = longer_halts m store (subst (IsLonger m.world.store) (sym added) (frame_longer m.world.store place))
 
--- an activation that was made, and couldn't be told
-pub fresh_halts : (m n : Core) (act : ℕ) (f : Obj) (vs : List Obj) (r : Running) (events : List Event) → IsFreshFor m act f vs r n → events ≡ n.events → Halts m (record n { events = events })
-fresh_halts m n act f vs r events (b, has, c, is_code, unbegun, is) same =
-    subst (λ l. Halts m (record n { events = l })) (sym same) (subst (Halts m) (sym is) (longer_halts m (with_object m.world.store (payload.Frame b.code)) (frame_longer m.world.store b.code)))
+-- an activation that was made, and whose making couldn't be told
+pub fresh_halts : (m n k : Core) (s : Stage) (act : ℕ) (f : Obj) (vs : List Obj) (r : Running) (events : List Event) → IsFreshFor m act f vs r n → k ≡ record n { stage = s } → events ≡ k.events
+    → Halts m (record k { events = events })
+fresh_halts m n k s act f vs r events (b, has, c, is_code, unbegun, is) staged same =
+    let made : Halts m n = subst (Halts m) (sym is) (longer_halts m (with_object m.world.store (payload.Frame b.code)) (frame_longer m.world.store b.code)) in
+    staged_halts m n k s k.frames k.slots events made staged same
 
 -- an activation that was made and told
-pub made_one : (m n : Core) (f : Obj) (vs : List Obj) (r : Running) (events : List Event) → IsFreshFor m (m.made + 1) f vs r n → events ≡ n.events ++ event.Make (m.made + 1) f vs ∷ []
-    → MadeOne m f vs (record n { events = events; made = m.made + 1; stage = stage.Made r f })
-made_one m n f vs r events (b, has, c, is_code, unbegun, is) added =
-    let built : Core → Core = λ x. record x { events = x.events ++ event.Make (m.made + 1) f vs ∷ []; made = m.made + 1; stage = stage.Made r f } in
-    (b, has, c, is_code, r, unbegun, ap (λ l. let x : Core = record n { events = l; made = m.made + 1; stage = stage.Made r f } in x) added ∙ ap built is)
+pub made_one : (m n k : Core) (f : Obj) (vs : List Obj) (r : Running) (events : List Event) → IsFreshFor m (m.made + 1) f vs r n → k ≡ record n { stage = stage.Made r f }
+    → events ≡ k.events ++ event.Make (m.made + 1) f vs ∷ [] → MadeOne m f vs (record k { events = events; made = m.made + 1 })
+made_one m n k f vs r events (b, has, c, is_code, unbegun, is) staged added =
+    let told : Core → Core = λ x. record x { events = x.events ++ event.Make (m.made + 1) f vs ∷ []; made = m.made + 1 } in
+    let built : Core → Core = λ x. told (record x { stage = stage.Made r f }) in
+    (b, has, c, is_code, r, unbegun, ap (λ l. let x : Core = record k { events = l; made = m.made + 1 } in x) added ∙ ap told staged ∙ ap built is)
 
 -- a frame that was made for a function and filled with its arguments
 pub fresh_filled : (m : Core) (act number : ℕ) (entry : FrameRef) (code : Annotated) (vs closure : List Obj) (scope : Scope) (room block_room : ℕ) (locals : List (Option Obj)) (frame full : Framed) (kind : Option CoroKind)

@@ -12,7 +12,7 @@ use Rattle.py_objects.specs.declared.event.ResumeHow.TheVariants as how
 use Rattle.py_objects.specs.Objects.{Obj, IsFunction, numbers, request_numbers, AllBelow}
 use Rattle.py_objects.specs.Growth.{IsGrown, GrowsPlainly}
 use Rattle.py_objects.specs.Edits.{Kept}
-use Rattle.py_exceptions.specs.Slots.{topmost}
+use Rattle.py_stack.specs.Slots.{topmost}
 use Rattle.py_answers.specs.Answers.{Reply}
 use Rattle.py_coro.specs.declared.coro.CoroEnd.{CoroEnd}
 use Rattle.py_run.specs.declared.drive.Drive.{Drive}

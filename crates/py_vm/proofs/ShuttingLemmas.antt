@@ -21,7 +21,7 @@ use Rattle.py_run.proofs.GeneratorsLemmas.{answers_keep}
 use Rattle.py_vm.specs.declared.generators.KeptGenerator.{KeptGenerator}
 use Rattle.py_vm.specs.declared.machinery.Core.{Core}
 use Rattle.py_vm.specs.Courses.{closed_if, closed_of, shut_if}
-use Rattle.py_vm.specs.Generators.{kept_at, modes_of, seen_as, shut}
+use Rattle.py_vm.specs.Generators.{is_close, kept_at, modes_of, seen_as, shut}
 use Rattle.py_vm.specs.Turns.{setting_at}
 use Rattle.py_vm.proofs.KeptLemmas.{kept_nowhere, kept_object, modes_changed, seen_at}
 use Rattle.py_vm.proofs.ChainLemmas.{Anyone}
@@ -58,10 +58,13 @@ other_stays m q reply other = subst (λ o. IsShutting m q (shut_if o m.world.gen
     none (request.Close g) other = absurd (other g refl)
     none _ other = refl
 
--- whether a request is a close
+-- whether a request is a close; the clash of all others is said once, and not again for each
 close_or_other : (q : Request) → ((g : Obj) × (q ≡ request.Close g)) ⊎ ((g : Obj) → q ≡ request.Close g → ⊥)
 close_or_other (request.Close g) = inl (g, refl)
-close_or_other _ = inr (λ g is. absurd (cc is))
+close_or_other _ = inr (λ g is. no_close (ap is_close is))
+  where
+    no_close : false ≡ true → ⊥
+    no_close is = absurd (cc is)
 
 module _ (m : Core) (g : Obj) (reply : Reply) where
   -- where none is found

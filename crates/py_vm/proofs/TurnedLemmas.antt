@@ -15,7 +15,7 @@ use Rattle.py_objects.specs.Objects.{Obj, HasPayload, number_if, request_numbers
 use Rattle.py_objects.specs.Growth.{IsGrown}
 use Rattle.py_objects.specs.Edits.{Kept}
 use Rattle.py_objects.proofs.GrownLemmas.{objects_grow, grown_trans}
-use Rattle.py_exceptions.specs.Slots.{Slots, topmost, top_of}
+use Rattle.py_stack.specs.Slots.{Slots, topmost, top_of}
 use Rattle.py_coro.specs.Modes.{Mode, Fresh, Suspended as Left, Running as Entered, Closed}
 use Rattle.py_rows.specs.Answers.{IsAnswer, wanted}
 use Rattle.py_rows.specs.Laws.{RaisedThere}

@@ -35,13 +35,13 @@ impl Core {
         let _events = self.events.as_slice().len();
         let act = self.made + 1;
         let running = self.fresh(act, function, &args)?;
+        self.set_stage(Stage::Made(running, function));
         self.events.push(Event::Make {
             act,
             function,
             args,
         })?;
         self.made = act;
-        self.stage = Stage::Made(running, function);
         Ok(())
     }
 
@@ -75,16 +75,18 @@ impl Core {
         ensures ok { OnOk result (self.new ≡ entered_by self.old running) }
         ensures err { OnErr result (Halts self.old self.new) }
     {
-        self.frames.push(running.frame.entry())?;
-        self.events.push(Event::Resume {
-            act: running.act,
-            how: ResumeHow::Start,
-        })?;
+        let act = running.act;
+        let entry = running.frame.entry();
         let mut going = running;
         going
             .frame
             .hear(self.slots.current_exception(), Input::Start);
-        self.stage = Stage::Going(going);
+        self.set_stage(Stage::Going(going));
+        self.frames.push(entry)?;
+        self.events.push(Event::Resume {
+            act,
+            how: ResumeHow::Start,
+        })?;
         Ok(())
     }
 
@@ -136,15 +138,14 @@ impl Core {
             unreachable!();
         };
         let Suspended { running, slot } = suspended;
-        self.frames.push(running.frame.entry())?;
-        self.slots.push_exception(slot)?;
-        self.events.push(Event::Resume {
-            act: running.act,
-            how,
-        })?;
+        let act = running.act;
+        let entry = running.frame.entry();
         let mut going = running;
         going.frame.hear(slot, input_of(how));
-        self.stage = Stage::Going(going);
+        self.set_stage(Stage::Going(going));
+        self.frames.push(entry)?;
+        self.slots.push_exception(slot)?;
+        self.events.push(Event::Resume { act, how })?;
         Ok(())
     }
 
@@ -173,6 +174,8 @@ impl Core {
             number: object.number,
         };
         let scope = Scope::new(None, self.globals);
+        // Before the frame is made, which would else be dropped where memory runs out here.
+        let locals = positional(self.world.alloc, code, args)?;
         let closure = no_cells(self.world.alloc, code.code(), self.world.store.none())?;
         let stack = OwnStack::new(self.world.alloc, code.code().co_stacksize() as usize)?;
         let constructor = FrameConstructor {
@@ -188,7 +191,6 @@ impl Core {
             constructor,
             stack,
         )?;
-        let locals = positional(self.world.alloc, code, args)?;
         frame.fill(&mut self.world.store, code, locals);
         Ok(Running {
             act,

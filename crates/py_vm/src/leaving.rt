@@ -31,7 +31,7 @@ impl Core {
         frames.pop();
         self.frames = FrameList::of(frames);
         let slot = self.pop_slot(running.kind);
-        self.stage = Stage::Due(Suspended { running, slot }, how);
+        self.set_stage(Stage::Due(Suspended { running, slot }, how));
     }
 
     /// Takes off the slot of an activation of this kind, if that has its own.

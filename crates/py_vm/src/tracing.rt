@@ -17,6 +17,7 @@ use py_code::NoMemory;
 use py_exceptions::PyTraceback;
 use py_frame::Answer;
 use py_objects::{Event, Payload, PyObjectRef, Request};
+use std::mem;
 
 impl Core {
     /// Notes what an answer raises in the body that gets it (Python Language Reference, 7.8), and where that is.
@@ -46,8 +47,8 @@ impl Core {
         Ok(())
     }
 
-    /// A question as it is told. An exit is told the traceback of an exception's last raise (Python Language Reference, 3.3.9): whose it is depends on
-    /// what happened, of which a frame knows its own part alone.
+    /// A question as it is told. An exit is told the traceback of an exception's last raise (Python Language Reference, 3.3.9): whose it is
+    /// depends on what happened, of which a frame knows its own part alone.
     pub(crate) fn told(&mut self, request: Request) -> Result<Request, NoMemory>
         requires readable { IsReadable self.old.world.store }
         requires below { AllBelow (length self.old.world.store.made) (request_numbers request) }
@@ -62,6 +63,8 @@ impl Core {
         if !matches!(entry(&self.world.store, exception), Payload::Exception(_)) {
             return Ok(request);
         }
+        // Let go of here, in one step, and not at each way out of what follows.
+        mem::drop(request);
         let traceback = self.traceback(exception)?;
         Ok(Request::Exit(exit, class, exception, traceback))
     }

@@ -1,7 +1,7 @@
 use Rattle.std.proofs.Common.{◌-◌, Some, length, take, arith, length-take}
 use Rattle.std.specs.Prelude.{None}
-use Rattle.py_exceptions.proofs.SlotsLemmas.{ends_in, topmost_last, topmost_lower}
-use Rattle.py_exceptions.proofs.stack.topmost.Goals as goal
+use Rattle.py_stack.proofs.SlotsLemmas.{ends_in, topmost_last, topmost_lower}
+use Rattle.py_stack.proofs.exception_stack.topmost.Goals as goal
 
 pub returns-in-Some : goal.returns-in-Some
 returns-in-Some c =

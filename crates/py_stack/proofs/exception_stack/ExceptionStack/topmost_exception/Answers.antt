@@ -1,7 +1,7 @@
 use Rattle.std.proofs.Common.{◌∷◌, reverse, sym, subst}
-use Rattle.py_exceptions.specs.Slots.{IsTopmost}
-use Rattle.py_exceptions.proofs.SlotsLemmas.{topmost_is, topmost_or}
-use Rattle.py_exceptions.proofs.stack.ExceptionStack.topmost_exception.Goals as goal
+use Rattle.py_stack.specs.Slots.{IsTopmost}
+use Rattle.py_stack.proofs.SlotsLemmas.{topmost_is, topmost_or}
+use Rattle.py_stack.proofs.exception_stack.ExceptionStack.topmost_exception.Goals as goal
 
 pub returns : goal.returns
 returns c =

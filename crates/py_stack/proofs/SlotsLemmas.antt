@@ -5,7 +5,7 @@ use Rattle.std.specs.Option.{option_or}
 use Rattle.std.specs.Prelude.{Option, None}
 use Rattle.std.proofs.lemmas.List.{reverse-append}
 use Rattle.py_objects.specs.declared.refs.PyBaseExceptionRef.{PyBaseExceptionRef}
-use Rattle.py_exceptions.specs.Slots.{Slots, AreEmpty, IsTopmost, topmost}
+use Rattle.py_stack.specs.Slots.{Slots, AreEmpty, IsTopmost, topmost}
 
 -- a slot that is last stands on top
 last_on_top : (slots lower : Slots) (slot : Option PyBaseExceptionRef) → slots ≡ lower ++ slot ∷ [] → reverse slots ≡ slot ∷ reverse lower

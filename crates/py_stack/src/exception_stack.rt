@@ -1,7 +1,7 @@
 //! The slots of handled exceptions.
 
 ghost use Rattle.std.specs.Prelude.{◌≡◌, ◌<◌, [], ◌∷◌, length, slice_get, slice_set, reverse, None, Some, OnOk, OnErr};
-ghost use Rattle.py_exceptions.specs.Slots.{IsTopmost, top_of, topmost};
+ghost use Rattle.py_stack.specs.Slots.{IsTopmost, top_of, topmost};
 
 use py_code::NoMemory;
 use py_objects::PyBaseExceptionRef;
@@ -21,7 +21,7 @@ pub struct ExceptionStack {
 
 impl Model for ExceptionStack {
     ghost use Rattle.std.specs.Prelude.{◌∷◌, reverse};
-    ghost use Rattle.py_exceptions.specs.Slots.{Slots};
+    ghost use Rattle.py_stack.specs.Slots.{Slots};
 
     ghost Value = { Slots };
 

@@ -1,8 +1,8 @@
 use Rattle.std.proofs.Common.{◌≤◌, length, reverse}
 use Rattle.std.specs.Prelude.{Option}
 use Rattle.py_objects.specs.declared.refs.PyBaseExceptionRef.{PyBaseExceptionRef}
-use Rattle.py_exceptions.specs.Slots.{IsTopmost}
-use Rattle.py_exceptions.proofs.stack.topmost.Given as goal
+use Rattle.py_stack.specs.Slots.{IsTopmost}
+use Rattle.py_stack.proofs.exception_stack.topmost.Given as goal
 
 -- the topmost of what is left is that of all
 abbrev pub invariant-slots_left : goal.invariant-slots_left
