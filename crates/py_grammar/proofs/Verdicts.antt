@@ -10,7 +10,7 @@ use Rattle.py_grammar.specs.declared.fault.ParseFault.TheVariants.{Malformed, No
 use Rattle.py_grammar.specs.declared.script.Script.{Script}
 use Rattle.py_grammar.specs.Grammar.{Decl}
 use Rattle.py_grammar.specs.Lines.{lines}
-use Rattle.py_grammar.specs.Script.{Text, Spells, Begins, IsFirstBad, IsLeftOpen, IsBadLine, IsScript, decls_of}
+use Rattle.py_grammar.specs.Script.{Text, Spells, SpellsSome, Begins, IsFirstBad, IsLeftOpen, IsBadLine, IsScript, decls_of}
 use Rattle.py_grammar.specs.Reader.{Open, State, state, start, takes_line, at_end, Verdict, Good, Bad, Goes, WalksTo}
 use Rattle.py_grammar.specs.Reading.{IsAnswerTo}
 use Rattle.py_grammar.proofs.LineReads.{after, after-append, after-one}
@@ -117,8 +117,11 @@ answer_bad bytes (Err (Malformed j)) v k b = inr (ap (λ x. Err (Malformed x)) (
 pub one_tree : (bytes : List ℕ) (s t : Script) → IsScript bytes s → IsScript bytes t → (decls_of s ≡ decls_of t) × (s.drives ≡ t.drives)
 one_tree bytes s t a b = one_spelling (lines bytes) _ _ _ _ a b
 
+pub spelled_not_bad : (bytes : List ℕ) (k : ℕ) → SpellsSome bytes → IsBadLine bytes k → ⊥
+spelled_not_bad bytes k (decls, drives, spelled) bad = script_not_bad (lines bytes) decls drives k spelled bad
+
 pub not_both : (bytes : List ℕ) (s : Script) (k : ℕ) → IsScript bytes s → IsBadLine bytes k → ⊥
-not_both bytes s k a b = script_not_bad (lines bytes) _ _ k a b
+not_both bytes s k script bad = spelled_not_bad bytes k (decls_of s, s.drives, script) bad
 
 pub one_bad_line : (bytes : List ℕ) (j k : ℕ) → IsBadLine bytes j → IsBadLine bytes k → j ≡ k
 one_bad_line bytes j k a b = one_bad (lines bytes) j k a b

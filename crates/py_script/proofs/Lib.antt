@@ -17,6 +17,8 @@ pub mod Answering
 -- which statuses come
 pub mod Statuses
 pub mod Settled
+-- two whole runs have one summary
+pub mod Summarized
 -- which unit a question names
 mod WorkedUnitLemmas
 -- what is written

@@ -6,14 +6,13 @@ use Rattle.py_run.specs.declared.journal.Journal.{Journal}
 use Rattle.py_meaning.specs.Whole.{IsWholeFrom, IsUnfinishedFrom}
 use Rattle.py_outside.specs.Seen.{SourceSeen}
 use Rattle.py_meaning.proofs.ScriptsAgree.{unfinished_runs, shorter, same_text, one_text}
-use Rattle.py_script.specs.declared.words.Command.TheVariants as command
+use Rattle.py_script.specs.declared.words.Command.{Command}
 use Rattle.py_script.specs.declared.fault.ScriptFault.{ScriptFault}
 use Rattle.py_script.specs.declared.fault.ScriptFault.TheVariants as fault
 use Rattle.py_script.specs.declared.fault.CommandResult.{CommandResult}
 use Rattle.py_script.specs.declared.fault.CommandResult.TheVariants as outcome
 use Rattle.py_script.specs.Answered.{IsWholeRun, IsCutRun}
-use Rattle.py_script.specs.Words.{command_in}
-use Rattle.py_script.specs.Causes.{IsAnswer, IsEnding, status_in, HasFewer, IsSettled, RunsSettle, AskedRunsSettle}
+use Rattle.py_script.specs.Causes.{IsAnswer, EndsBy, IsEnding, IsRunEnding, status_in, HasFewer, IsSettled, RunsSettle, AskedRunsSettle}
 use Rattle.py_script.specs.Steps.{result_in}
 use Rattle.py_script.proofs.Statuses.{what_it_held}
 
@@ -70,18 +69,13 @@ module _ (before after : SourceSeen) where
   answer_settles turns (Err fault.TooLong) is bytes left = neither bytes turns fault.TooLong (λ s. cc s) (λ s. cc s) tt
   answer_settles turns (Err (fault.NoMemory j)) is bytes left = neither bytes turns (fault.NoMemory j) (λ s. cc s) (λ s. cc s) tt
 
-  -- words ask for one run
-  asked_so : (words : List (List ℕ)) (n turns : ℕ) (result : CommandResult) → command_in words ≡ command.Run n → command_in words ≡ command.Run turns → RunsSettle before n result
-      → RunsSettle before turns result
-  asked_so words n turns result is asks settles =
-      let both : command.Run n ≡ command.Run turns = sym is ∙ asks in
-      let same : n ≡ turns = cc both in
-      subst (λ (k : ℕ). RunsSettle before k result) same settles
+  run_ending_settles : (turns : ℕ) (result : CommandResult) → IsRunEnding before after turns result → RunsSettle before turns result
+  run_ending_settles turns (outcome.Ran j) is = answer_settles turns (Ok j) is
+  run_ending_settles turns (outcome.Fault f) is = answer_settles turns (Err f) is
+  run_ending_settles turns (outcome.Made summary) is = absurd is
+  run_ending_settles turns outcome.Usage is = absurd is
+  run_ending_settles turns outcome.NoMemory is = absurd is
 
   -- and so they do of a command
   pub ending_settles : (words : List (List ℕ)) (result : CommandResult) → IsEnding before after words result → AskedRunsSettle before words result
-  ending_settles words (outcome.Ran j) is turns asks = asked_so words is.0 turns (outcome.Ran j) is.1 asks (answer_settles is.0 (Ok j) is.2)
-  ending_settles words (outcome.Fault f) is turns asks = asked_so words is.0 turns (outcome.Fault f) is.1 asks (answer_settles is.0 (Err f) is.2)
-  ending_settles words (outcome.Made summary) is turns asks = absurd is
-  ending_settles words outcome.Usage is turns asks = let clash : command.Usage ≡ command.Run turns = sym is.0 ∙ asks in absurd (cc clash)
-  ending_settles words outcome.NoMemory is turns asks = absurd is
+  ending_settles words result is turns asks = run_ending_settles turns result (subst (λ (c : Command). EndsBy c before after result) asks is)

@@ -1,16 +1,20 @@
 -- Which statuses come of a script that a source holds.
-use Rattle.std.proofs.Common.{◌≡◌, ◌<◌, ◌≤◌, ◌^◌, ℕ, List, length, Some, refl, sym, ◌∙◌, subst, arith, inl, inr}
+use Rattle.std.proofs.Common.{◌≡◌, ◌<◌, ◌≤◌, ◌^◌, ℕ, List, length, Some, refl, sym, ap, ◌∙◌, subst, arith, inl, inr}
 use Rattle.std.specs.Prelude.{Option, IfSome, Result, Ok, Err}
 use Rattle.py_grammar.specs.Script.{IsBadLine}
 use Rattle.py_grammar.proofs.Verdicts.{not_both}
 use Rattle.py_run.specs.declared.journal.Journal.{Journal}
+use Rattle.py_script.specs.declared.words.Command.{Command}
 use Rattle.py_script.specs.declared.words.Command.TheVariants as command
 use Rattle.py_script.specs.declared.fault.ScriptFault.{ScriptFault}
 use Rattle.py_script.specs.declared.fault.ScriptFault.TheVariants as fault
 use Rattle.py_script.specs.declared.fault.CommandResult.{CommandResult}
 use Rattle.py_script.specs.declared.fault.CommandResult.TheVariants as outcome
 use Rattle.py_outside.specs.Seen.{SinkSeen, SourceSeen}
-use Rattle.py_script.specs.Causes.{IsAnswer, IsEnding, IsWritten, WasRead, CountsReadFault, CountsWriteFault, RunsScripts, RunsAskedScripts}
+use Rattle.py_make.specs.Made.{made_text}
+use Rattle.py_script.specs.Words.{command_in}
+use Rattle.py_script.specs.Making.{making_in, EndsMade, WritesMade}
+use Rattle.py_script.specs.Causes.{status_in, IsAnswer, EndsBy, IsEnding, IsRunEnding, IsWritten, WasRead, WritesBy, CountsReadFault, CountsWriteFault, ReadsSoundly, RunsScripts, RunsAskedScripts}
 use Rattle.py_script.specs.Steps.{result_in}
 
 -- what was read of a source is what it held
@@ -37,13 +41,16 @@ module _ (before after : SourceSeen) where
   answer_runs turns (Err fault.TooLong) is bytes s left short script = absurd (short_enough before.left bytes left short is.over)
   answer_runs turns (Err (fault.NoMemory j)) is bytes s left short script = inl (inr (inr refl))
 
+  run_ending_runs : (turns : ℕ) (result : CommandResult) → IsRunEnding before after turns result → RunsScripts before result
+  run_ending_runs turns (outcome.Ran j) is = answer_runs turns (Ok j) is
+  run_ending_runs turns (outcome.Fault f) is = answer_runs turns (Err f) is
+  run_ending_runs turns (outcome.Made summary) is = absurd is
+  run_ending_runs turns outcome.Usage is = absurd is
+  run_ending_runs turns outcome.NoMemory is = absurd is
+
   -- and so it is by a command
   pub ending_runs : (words : List (List ℕ)) (result : CommandResult) → IsEnding before after words result → RunsAskedScripts before words result
-  ending_runs words (outcome.Ran j) is turns asks = answer_runs is.0 (Ok j) is.2
-  ending_runs words (outcome.Fault f) is turns asks = answer_runs is.0 (Err f) is.2
-  ending_runs words (outcome.Made summary) is turns asks = absurd is
-  ending_runs words outcome.Usage is turns asks = let clash : command.Usage ≡ command.Run turns = sym is.0 ∙ asks in absurd (cc clash)
-  ending_runs words outcome.NoMemory is turns asks = absurd is
+  ending_runs words result is turns asks = run_ending_runs turns result (subst (λ (c : Command). EndsBy c before after result) asks is)
 
   -- a status of a read fault comes of one
   fault_counts : (turns : ℕ) (f : ScriptFault) → IsAnswer before after turns (Err f) → CountsReadFault before after (outcome.Fault f)
@@ -59,12 +66,29 @@ module _ (before after : SourceSeen) where
   answer_counts turns (Ok j) is status = absurd (cc status)
   answer_counts turns (Err f) is status = fault_counts turns f is status
 
+  run_counts : (turns : ℕ) (result : CommandResult) → IsRunEnding before after turns result → CountsReadFault before after result
+  run_counts turns (outcome.Ran j) is status = absurd (cc status)
+  run_counts turns (outcome.Fault f) is status = fault_counts turns f is status
+  run_counts turns (outcome.Made summary) is status = absurd is
+  run_counts turns outcome.Usage is status = absurd is
+  run_counts turns outcome.NoMemory is status = absurd is
+
+  -- nor is it one where a script was made
+  made_counts : (bytes : List ℕ) (result : CommandResult) → EndsMade bytes (making_in result) → CountsReadFault before after result
+  made_counts bytes (outcome.Ran j) is status = absurd is
+  made_counts bytes (outcome.Fault (fault.WriteFault j)) is status = absurd (cc status)
+  made_counts bytes (outcome.Fault _) is status = absurd is
+  made_counts bytes (outcome.Made summary) is status = absurd (cc status)
+  made_counts bytes outcome.Usage is status = absurd is
+  made_counts bytes outcome.NoMemory is status = absurd (cc status)
+
+  command_counts : (c : Command) (result : CommandResult) → EndsBy c before after result → CountsReadFault before after result
+  command_counts (command.Run turns) result is = run_counts turns result is
+  command_counts (command.Make seed count) result is = made_counts (made_text seed count) result is.1
+  command_counts command.Usage result is = λ status. absurd (let clash : 64 ≡ 5 = sym (ap status_in is.1) ∙ status in omega (arith, clash))
+
   pub ending_counts : (words : List (List ℕ)) (result : CommandResult) → IsEnding before after words result → CountsReadFault before after result
-  ending_counts words (outcome.Ran j) is status = absurd (cc status)
-  ending_counts words (outcome.Fault f) is status = fault_counts is.0 f is.2 status
-  ending_counts words (outcome.Made summary) is status = absurd is
-  ending_counts words outcome.Usage is status = absurd (cc status)
-  ending_counts words outcome.NoMemory is status = absurd is
+  ending_counts words result is = command_counts (command_in words) result is
 
 -- and one of a write fault
 pub written_counts : (before after : SinkSeen) (result : CommandResult) → IsWritten before after result → CountsWriteFault before after result
@@ -82,3 +106,31 @@ written_counts before after (outcome.Fault f) is status = by f is status
 written_counts before after (outcome.Made summary) is status = absurd is
 written_counts before after outcome.Usage is status = absurd (cc status)
 written_counts before after outcome.NoMemory is status = absurd is
+
+-- also where a script was made
+made_written_counts : (before after : SinkSeen) (result : CommandResult) → WritesMade before after (making_in result) → CountsWriteFault before after result
+made_written_counts before after (outcome.Ran j) is status = absurd is
+made_written_counts before after (outcome.Fault (fault.WriteFault j)) is status = is.0
+made_written_counts before after (outcome.Fault _) is status = absurd is
+made_written_counts before after (outcome.Made summary) is status = absurd (cc status)
+made_written_counts before after outcome.Usage is status = absurd is
+made_written_counts before after outcome.NoMemory is status = absurd (cc status)
+
+-- and by a command, whose result this is
+pub command_written_counts : (before after : SourceSeen) (c : Command) (out out' : SinkSeen) (result : CommandResult) → EndsBy c before after result → WritesBy c out out' result
+    → CountsWriteFault out out' result
+command_written_counts before after (command.Run turns) out out' result is written = written_counts out out' result written
+command_written_counts before after (command.Make seed count) out out' result is written = made_written_counts out out' result written
+command_written_counts before after command.Usage out out' result is written = λ status. absurd (let clash : 64 ≡ 6 = sym (ap status_in is.1) ∙ status in omega (arith, clash))
+
+-- a script that was made has no read fault
+pub made_soundly : (seen : SourceSeen) (bytes : List ℕ) (result : CommandResult) → EndsMade bytes (making_in result) → ReadsSoundly seen seen result
+made_soundly seen bytes result is sound = record { same = refl; stays = sound; status = λ five. no_fault bytes result is five }
+  where
+    no_fault : (bytes : List ℕ) (result : CommandResult) → EndsMade bytes (making_in result) → status_in result ≡ 5 → ⊥
+    no_fault bytes (outcome.Ran j) is five = is
+    no_fault bytes (outcome.Fault (fault.WriteFault j)) is five = absurd (cc five)
+    no_fault bytes (outcome.Fault _) is five = absurd is
+    no_fault bytes (outcome.Made summary) is five = absurd (cc five)
+    no_fault bytes outcome.Usage is five = is
+    no_fault bytes outcome.NoMemory is five = absurd (cc five)

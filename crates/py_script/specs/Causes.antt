@@ -8,12 +8,15 @@ use Rattle.py_outside.specs.Transfer.{AppendsAll, AppendsFront}
 use Rattle.py_grammar.specs.declared.script.Script.{Script}
 use Rattle.py_grammar.specs.Script.{IsScript, IsBadLine}
 use Rattle.py_run.specs.declared.journal.Journal.{Journal}
+use Rattle.py_make.specs.Made.{made_text}
+use Rattle.py_script.specs.declared.words.Command.{Command}
 use Rattle.py_script.specs.declared.words.Command.TheVariants as command
 use Rattle.py_script.specs.declared.fault.ScriptFault.{ScriptFault}
 use Rattle.py_script.specs.declared.fault.ScriptFault.TheVariants as fault
 use Rattle.py_script.specs.declared.fault.CommandResult.{CommandResult}
 use Rattle.py_script.specs.declared.fault.CommandResult.TheVariants as outcome
 use Rattle.py_script.specs.Words.{command_in}
+use Rattle.py_script.specs.Making.{making_in, EndsMade, WritesMade, WritesMadeSurely}
 use Rattle.py_meaning.specs.Whole.{IsRunFrom, IsWholeFrom, IsUnfinishedFrom}
 use Rattle.py_script.specs.Answered.{IsEmpty, IsPartOfRun, IsWholeRun, IsCutRun}
 use Rattle.py_meaning.specs.Text.{text_of}
@@ -99,13 +102,28 @@ HasNote before after result = AppendsAll before after (note_in result)
 abbrev pub IsNoted : SinkSeen → SinkSeen → CommandResult → Type 0
 IsNoted before after result = HasNote before after result ⊎ Rose before.faults after.faults
 
--- when a command answers what it does, by what was read of the source; words that ask for nothing read nothing
+-- what a run of at most so many turns ends as
+abbrev pub IsRunEnding : SourceSeen → SourceSeen → ℕ → CommandResult → Type 0
+IsRunEnding before after turns (outcome.Ran j) = IsAnswer before after turns (Ok j)
+IsRunEnding before after turns (outcome.Fault f) = IsAnswer before after turns (Err f)
+IsRunEnding before after turns (outcome.Made summary) = ⊥
+IsRunEnding before after turns outcome.Usage = ⊥
+IsRunEnding before after turns outcome.NoMemory = ⊥
+
+-- what a command ends as, by what was read of the source: only a run reads anything
+abbrev pub EndsBy : Command → SourceSeen → SourceSeen → CommandResult → Type 0
+EndsBy (command.Run turns) before after result = IsRunEnding before after turns result
+EndsBy (command.Make seed count) before after result = (after ≡ before) × EndsMade (made_text seed count) (making_in result)
+EndsBy command.Usage before after result = (after ≡ before) × (result ≡ outcome.Usage)
+
 abbrev pub IsEnding : SourceSeen → SourceSeen → List (List ℕ) → CommandResult → Type 0
-IsEnding before after words (outcome.Ran j) = (turns : ℕ) × (command_in words ≡ command.Run turns) × IsAnswer before after turns (Ok j)
-IsEnding before after words (outcome.Fault f) = (turns : ℕ) × (command_in words ≡ command.Run turns) × IsAnswer before after turns (Err f)
-IsEnding before after words (outcome.Made summary) = ⊥
-IsEnding before after words outcome.Usage = (command_in words ≡ command.Usage) × (after.left ≡ before.left)
-IsEnding before after words outcome.NoMemory = ⊥
+IsEnding before after words result = EndsBy (command_in words) before after result
+
+-- what a command writes
+abbrev pub WritesBy : Command → SinkSeen → SinkSeen → CommandResult → Type 0
+WritesBy (command.Run turns) before after result = IsWritten before after result
+WritesBy (command.Make seed count) before after result = WritesMade before after (making_in result)
+WritesBy command.Usage before after result = Keeps before.taken after.taken
 
 -- no read fault is counted, the status isn't that of one, and the source is sound
 pub record MeetsNoReadFault (before after : SourceSeen) (result : CommandResult) : Type 0 where
@@ -131,6 +149,12 @@ WritesSurely before after (outcome.Fault (fault.NoMemory j)) = after.faults ≡ 
 WritesSurely before after (outcome.Made summary) = after.faults ≡ before.faults
 WritesSurely before after outcome.Usage = after.faults ≡ before.faults
 WritesSurely before after outcome.NoMemory = after.faults ≡ before.faults
+
+-- what a command does over such a sink
+abbrev pub SurelyBy : Command → SinkSeen → SinkSeen → CommandResult → Type 0
+SurelyBy (command.Run turns) before after result = WritesSurely before after result
+SurelyBy (command.Make seed count) before after result = WritesMadeSurely before after (making_in result)
+SurelyBy command.Usage before after result = after.faults ≡ before.faults
 
 -- a status that stands for a fault comes only where one was counted: 5 of the source, 6 of the sink
 abbrev pub CountsReadFault : SourceSeen → SourceSeen → CommandResult → Type 0

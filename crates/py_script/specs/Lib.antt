@@ -4,6 +4,8 @@ pub mod Session
 pub mod Driving
 -- what the words ask for
 pub mod Words
+-- what comes of making a script from a seed
+pub mod Making
 -- which journals are handed back, and when each answer of the top call comes
 pub mod Compiled
 pub mod Answered

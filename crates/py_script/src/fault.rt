@@ -1,5 +1,6 @@
 //! What a run of a script, and a whole command, come to.
 
+use py_make::Summary;
 use py_vm::Journal;
 use thiserror::Error;
 
@@ -44,24 +45,12 @@ pub enum CommandResult {
     Ran(Journal),
     /// It didn't.
     Fault(ScriptFault),
-    /// A script was made and run.
+    /// A script was made from a seed and run, and the line of this is written.
     Made(Summary),
     /// The words ask for nothing.
     Usage,
     /// Memory ran out while a script was made.
     NoMemory,
-}
-
-/// What the drives of a made script came to, by their answers.
-#[derive(Clone, Copy, Debug, PartialEq, Eq)]
-pub struct Summary {
-    pub drives: u64,
-    pub events: u64,
-    pub returns: u64,
-    pub yields: u64,
-    pub stops: u64,
-    pub closes: u64,
-    pub raises: u64,
 }
 
 /// How a command ended: the status that the program ends with, and what it stands for.

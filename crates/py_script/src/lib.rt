@@ -6,6 +6,7 @@ mod declaring;
 mod fault;
 mod journal;
 mod loading;
+mod making;
 mod notes;
 mod read;
 mod session;
@@ -16,13 +17,14 @@ mod worked_unit;
 mod write;
 
 pub use command::{run_command, run_script};
-pub use fault::{CommandResult, Ended, LoadFault, ScriptFault, Summary};
+pub use fault::{CommandResult, Ended, LoadFault, ScriptFault};
 pub use journal::journal_text;
 pub use loading::load_script;
 pub use py_grammar::{
     DeclList, Declaration, DriveAtom, DriveAtomList, DriveLine, DriveList, ParseFault, Script,
     parse_script,
 };
+pub use py_make::{MOST_GROUPS, Summary, make_script};
 pub use py_outside::{
     LIMIT, ReadFailed, Sink, SinkMemory, Source, SourceMemory, StdSink, StdSource, WriteFailed,
     write_bytes,

@@ -1,11 +1,12 @@
 //! The words of a command line, and what they ask for.
 
 ghost use Rattle.std.specs.Prelude.{◌≡◌, [], ◌∷◌, ◌++◌, length, slice_get, option_copied, OnOk, OnErr};
-ghost use Rattle.py_lines.specs.Words.{short_number as turns_spelled};
-ghost use Rattle.py_script.specs.Words.{run_of, command_in};
+ghost use Rattle.py_lines.specs.Words.{short_number as spelled};
+ghost use Rattle.py_script.specs.Words.{command_in, made_of, run_of, HasFewGroups};
 
 use py_code::NoMemory;
 use py_lines::short_number;
+use py_make::MOST_GROUPS;
 use std::alloc::Global;
 use std::marker::Model;
 
@@ -68,13 +69,15 @@ impl Words {
 pub enum Command {
     /// `run`: a run of at most so many turns.
     Run { turns: u64 },
+    /// `make`: the script of a seed, with so many groups of drives, and its run.
+    Make { seed: u64, count: u64 },
     /// Nothing that is known.
     Usage,
 }
 
 /// The command of `run` with its turns.
 fn run_with(turns: &str) -> Command
-    ensures { result ≡ run_of (turns_spelled turns.now) }
+    ensures { result ≡ run_of (spelled turns.now) }
 {
     match short_number(turns.as_bytes()) {
         Some(turns) => Command::Run { turns },
@@ -82,16 +85,28 @@ fn run_with(turns: &str) -> Command
     }
 }
 
-/// What words ask for: `run` alone is a run of 1,000,000 turns, and `run T` one of T turns.
-pub fn command_of(words: &Words) -> Command
-    ensures { result ≡ command_in words.now }
+/// The command of `make` with its seed and its count, which is at most `MOST_GROUPS`.
+fn make_with(seed: &str, count: &str) -> Command
+    ensures { result ≡ made_of (spelled seed.now) (spelled count.now) }
 {
-    if words.len() > 2 {
-        return Command::Usage;
+    match (
+        short_number(seed.as_bytes()),
+        short_number(count.as_bytes()),
+    ) {
+        (Some(seed), Some(count)) if count <= MOST_GROUPS => Command::Make { seed, count },
+        _ => Command::Usage,
     }
-    match (words.get(0), words.get(1)) {
-        (Some(word), None) if word == "run" => Command::Run { turns: 1_000_000 },
-        (Some(word), Some(turns)) if word == "run" => run_with(turns),
+}
+
+/// What words ask for: `run` alone is a run of 1,000,000 turns, and `run T` one of T turns; `make SEED COUNT` makes a script.
+pub fn command_of(words: &Words) -> Command
+    ensures command { result ≡ command_in words.now }
+    ensures few { HasFewGroups result }
+{
+    match (words.len(), words.get(0), words.get(1), words.get(2)) {
+        (1, Some(word), _, _) if word == "run" => Command::Run { turns: 1_000_000 },
+        (2, Some(word), Some(turns), _) if word == "run" => run_with(turns),
+        (3, Some(word), Some(seed), Some(count)) if word == "make" => make_with(seed, count),
         _ => Command::Usage,
     }
 }

@@ -5,7 +5,7 @@ use py_objects::{
     Change, ChangeList, DriveAnswer, Edit, Event, EventList, PairList, Payload, PayloadList,
     PyObjectRef,
 };
-use py_script::{Command, Journal, Words, command_of, journal_text};
+use py_script::{Command, Journal, Words, command_of, journal_text, make_script};
 use std::alloc::Global;
 use std::test::Fail;
 
@@ -24,6 +24,32 @@ fn words_ask_for_a_run(rt: HostRuntime) -> Result<(), Fail> {
     assert_eq!(rt; turns, Command::Run { turns: 12 });
     let none = command_of(&words_of(alloc, &["run", "1 2"])?);
     assert_eq!(rt; none, Command::Usage);
+    Ok(())
+}
+
+#[test]
+fn words_ask_for_a_made_script(rt: HostRuntime) -> Result<(), Fail> {
+    let alloc = rt.alloc();
+    let most = command_of(&words_of(alloc, &["make", "7", "10000"])?);
+    assert_eq!(rt;
+        most,
+        Command::Make {
+            seed: 7,
+            count: 10_000
+        }
+    );
+    let more = command_of(&words_of(alloc, &["make", "7", "10001"])?);
+    assert_eq!(rt; more, Command::Usage);
+    Ok(())
+}
+
+#[test]
+fn a_made_script_is_declarations_and_groups_of_drives(rt: HostRuntime) -> Result<(), Fail> {
+    let none = make_script(rt.alloc(), 0, 0)?;
+    let one = make_script(rt.alloc(), 0, 1)?;
+    assert!(rt; none.starts_with(b"class Fault Exception\ndef enter\n"));
+    assert!(rt; one.starts_with(none.as_slice()));
+    assert_eq!(rt; &one[none.len()..], b"call work 470\n");
     Ok(())
 }
 
