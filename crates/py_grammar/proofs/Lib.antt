@@ -6,7 +6,7 @@ pub mod Tables
 mod Stacks
 mod Clauses
 -- the reader against the grammar
-mod LineReads
+pub mod LineReads
 mod Whole
 mod Sound
 mod Begun

@@ -1,15 +1,14 @@
 -- What decimal digits mean in a line.
-use Rattle.std.proofs.Common.{◌≡◌, ◌⊎◌, ◌<◌, ◌≤◌, ◌+◌, ◌-◌, ◌*◌, ◌/◌, ◌%◌, ◌^◌, ◌∙◌, ◌++◌, ◌∷◌, [], List, ℕ, zero, suc, Bool, true, false, Some, inl, inr, length, length-append, refl, sym, ap, subst, arith}
+use Rattle.std.proofs.Common.{◌≡◌, ◌<◌, ◌≤◌, ◌+◌, ◌-◌, ◌*◌, ◌/◌, ◌%◌, ◌^◌, ◌∙◌, ◌++◌, ◌∷◌, [], List, ℕ, zero, suc, Bool, true, false, Some, inl, inr, length, length-append, refl, sym, ap, subst, arith}
 use Rattle.std.specs.Prelude.{Option, None, map, option_map, pos, neg_ℤ, decimal, if◌then◌else◌, ◌==◌, ◌&&◌, ◌||◌, nat_le, bytes_eq}
 use Rattle.std.specs.List.{find, fold, list_all}
-use Rattle.std.proofs.lemmas.Bool.{cases_lt, le-leb}
-use Rattle.std.proofs.lemmas.Bool.Decides.{eqb_tells, leb_tells}
+use Rattle.std.proofs.lemmas.Bool.{and_from, and_left, and_parts, cases_lt, cond-false, cond-true, false_from_ne_true, le-leb, leb-true, lt-leb, ne_eqb, or_from}
 use Rattle.std.proofs.lemmas.Fmt.{decimal_digit, decimal_step}
 use Rattle.std.proofs.lemmas.List.Sums.{fold-append}
 use Rattle.std.proofs.lemmas.Slice.Eq.{bytes_eq-Decides}
 use Rattle.py_code.specs.Range.{in_range}
 use Rattle.py_lines.specs.declared.keyword.Keyword.{Keyword}
-use Rattle.py_lines.specs.Keywords.{all_keywords, keyword_of, keyword_text}
+use Rattle.py_lines.specs.Keywords.{all_keywords, keyword_text}
 use Rattle.py_lines.specs.Meaning.{Drive, Key, Meaning, Number, Text, Unknown, Word, literal_meaning, meaning, meant}
 use Rattle.py_lines.specs.Tokens.{Cut, Inside, Word as Spelled, cut, cut_from, is_blank, is_mark, is_quote, longer, started, tokens_of}
 use Rattle.py_lines.specs.Words.{are_digits, digits_number, is_digit, is_spelled_as_name, drive_number, number_of, passing, quoted_text, starts_name, value_of}
@@ -59,47 +58,23 @@ digits_of n small = digits_below (suc n) n (omega arith) small
 -- ---- a digit is no other byte
 
 module _ (b : ℕ) (digit : IsDigit b) where
-  is_no : (k : ℕ) → (b ≡ k → ⊥) → (b == k) ≡ false
-  is_no k other = elim (eqb_tells b k) [
-    | inl same ↦ absurd (other same.1)
-    | inr differs ↦ differs.0
-  ]
-
-  is_not_from : (k : ℕ) → b < k → nat_le k b ≡ false
-  is_not_from k low = elim (leb_tells k b) [
-    | inl above ↦ absurd (omega (arith, above.1))
-    | inr below ↦ below.0
-  ]
-
-  or_false : (x y : Bool) → x ≡ false → y ≡ false → (x || y) ≡ false
-  or_false true y is also = is
-  or_false false y is also = also
-
-  and_false : (x y : Bool) → x ≡ false → (x && y) ≡ false
-  and_false true y is = absurd (cc is)
-  and_false false y is = refl
-
   pub no_blank : is_blank b ≡ false
-  no_blank = or_false _ _ (is_no 32 (λ is. omega (arith, digit.low, is))) (is_no 9 (λ is. omega (arith, digit.low, is)))
+  no_blank = or_from _ _ (ne_eqb b 32 (λ is. omega (arith, digit.low, is))) (ne_eqb b 9 (λ is. omega (arith, digit.low, is)))
 
   pub no_mark : is_mark b ≡ false
-  no_mark = or_false _ _ (or_false _ _ (is_no 40 (λ is. omega (arith, digit.low, is))) (is_no 41 (λ is. omega (arith, digit.low, is)))) (is_no 61 (λ is. omega (arith, digit.high, is)))
+  no_mark = or_from _ _ (or_from _ _ (ne_eqb b 40 (λ is. omega (arith, digit.low, is))) (ne_eqb b 41 (λ is. omega (arith, digit.low, is)))) (ne_eqb b 61 (λ is. omega (arith, digit.high, is)))
 
   pub no_quote : is_quote b ≡ false
-  no_quote = is_no 39 (λ is. omega (arith, digit.low, is))
+  no_quote = ne_eqb b 39 (λ is. omega (arith, digit.low, is))
 
   pub no_minus : (b == 45) ≡ false
-  no_minus = is_no 45 (λ is. omega (arith, digit.low, is))
+  no_minus = ne_eqb b 45 (λ is. omega (arith, digit.low, is))
 
   pub no_letter : starts_name b ≡ false
-  no_letter = or_false _ _ (or_false _ _ (and_false _ _ (is_not_from 65 (omega (arith, digit.high)))) (and_false _ _ (is_not_from 97 (omega (arith, digit.high))))) (is_no 95 (λ is. omega (arith, digit.high, is)))
+  no_letter = or_from _ _ (or_from _ _ (and_left _ _ (lt-leb 65 b (omega (arith, digit.high)))) (and_left _ _ (lt-leb 97 b (omega (arith, digit.high))))) (ne_eqb b 95 (λ is. omega (arith, digit.high, is)))
 
   pub passes : is_digit b ≡ true
-  passes = both (nat_le 48 b) (nat_le b 57) (le-leb 48 b digit.low) (le-leb b 57 digit.high)
-    where
-      both : (x y : Bool) → x ≡ true → y ≡ true → (x && y) ≡ true
-      both true y is also = also
-      both false y is also = is
+  passes = and_from (nat_le 48 b) (nat_le b 57) (le-leb 48 b digit.low) (le-leb b 57 digit.high)
 
 -- ---- digits are one token
 
@@ -139,54 +114,28 @@ begin_above (k ∷ ks) = begins_above k && begin_above ks
 module _ (b : ℕ) (bs : List ℕ) (digit : IsDigit b) where
   -- so digits are none of them
   no_keyword : (k : Keyword) → begins_above k ≡ true → bytes_eq (b ∷ bs) (keyword_text k) ≡ false
-  no_keyword k above = differs (bytes_eq (b ∷ bs) (keyword_text k)) (λ is. no (ap first_byte ((bytes_eq-Decides (b ∷ bs) (keyword_text k)).0 is)))
+  no_keyword k above = false_from_ne_true (bytes_eq (b ∷ bs) (keyword_text k)) (λ is. no (ap first_byte ((bytes_eq-Decides (b ∷ bs) (keyword_text k)).0 is)))
     where
       no : b ≡ first_byte (keyword_text k) → ⊥
-      no is = elim (leb_tells 58 (first_byte (keyword_text k))) [
-        | inl more ↦ omega (arith, more.1, digit.high, is)
-        | inr less ↦ absurd (let clash : true ≡ false = sym above ∙ less.0 in cc clash)
-      ]
-
-      differs : (x : Bool) → (x ≡ true → ⊥) → x ≡ false
-      differs true no = absurd (no refl)
-      differs false no = refl
+      no is = omega (arith, leb-true 58 (first_byte (keyword_text k)) above, digit.high, is)
 
   none_found : (ks : List Keyword) → begin_above ks ≡ true → find (λ k. bytes_eq (b ∷ bs) (keyword_text k)) ks ≡ None
   none_found [] above = refl
   none_found (k ∷ ks) above =
-      let (first, rest) = split (begins_above k) (begin_above ks) above in
-      passed (bytes_eq (b ∷ bs) (keyword_text k)) (find (λ k. bytes_eq (b ∷ bs) (keyword_text k)) ks) (no_keyword k first) (none_found ks rest)
-    where
-      split : (x y : Bool) → (x && y) ≡ true → (x ≡ true) × (y ≡ true)
-      split true y is = (refl, is)
-      split false y is = absurd (cc is)
-
-      passed : (x : Bool) (o : Option Keyword) → x ≡ false → o ≡ None → (if x then Some k else o) ≡ None
-      passed true o is none = absurd (cc is)
-      passed false o is none = none
+      let (first, rest) = and_parts (begins_above k) (begin_above ks) above in
+      cond-false (bytes_eq (b ∷ bs) (keyword_text k)) (Some k) (find (λ k. bytes_eq (b ∷ bs) (keyword_text k)) ks) (no_keyword k first) ∙ none_found ks rest
 
   no_name : is_spelled_as_name (b ∷ bs) ≡ false
-  no_name = and_false b digit (starts_name b) _ (no_letter b digit)
+  no_name = and_left (starts_name b) _ (no_letter b digit)
 
 all_pass : (ds : List ℕ) → AreDigits ds → list_all is_digit ds ≡ true
 all_pass [] digits = refl
-all_pass (b ∷ bs) (digit, digits) = both (is_digit b) (list_all is_digit bs) (passes b digit) (all_pass bs digits)
-  where
-    both : (x y : Bool) → x ≡ true → y ≡ true → (x && y) ≡ true
-    both true y is also = also
-    both false y is also = is
+all_pass (b ∷ bs) (digit, digits) = and_from (is_digit b) (list_all is_digit bs) (passes b digit) (all_pass bs digits)
 
 -- digits are taken for the number
 counted : (ds : List ℕ) (n : ℕ) → AreDigitsOf ds n → digits_number ds ≡ Some n
-counted ds n are = taken (are_digits ds) (both (nat_le 1 (length ds)) (list_all is_digit ds) (le-leb 1 (length ds) are.some) (all_pass ds are.digits)) ∙ ap Some are.value
-  where
-    both : (x y : Bool) → x ≡ true → y ≡ true → (x && y) ≡ true
-    both true y is also = also
-    both false y is also = is
-
-    taken : (x : Bool) → x ≡ true → (if x then Some (value_of ds) else None) ≡ Some (value_of ds)
-    taken true is = refl
-    taken false is = absurd (cc is)
+counted ds n are =
+    cond-true (are_digits ds) (Some (value_of ds)) None (and_from (nat_le 1 (length ds)) (list_all is_digit ds) (le-leb 1 (length ds) are.some) (all_pass ds are.digits)) ∙ ap Some are.value
 
 small_in_range : (n : ℕ) → n < 2 ^ 64 → in_range (pos n) ≡ true
 small_in_range n small = le-leb n (2 ^ 127 - 1) (omega arith)
@@ -195,11 +144,7 @@ number_spelled : (b : ℕ) (bs : List ℕ) (n : ℕ) → n < 2 ^ 64 → IsDigit 
 number_spelled b bs n small digit are =
     ap (λ (x : Bool). passing in_range (if x then option_map (λ m. neg_ℤ (pos m)) (digits_number bs) else option_map pos (digits_number (b ∷ bs)))) (no_minus b digit)
     ∙ ap (λ (o : Option ℕ). passing in_range (option_map pos o)) (counted (b ∷ bs) n are)
-    ∙ taken (in_range (pos n)) (small_in_range n small)
-  where
-    taken : (x : Bool) → x ≡ true → (if x then Some (pos n) else None) ≡ Some (pos n)
-    taken true is = refl
-    taken false is = absurd (cc is)
+    ∙ cond-true (in_range (pos n)) (Some (pos n)) None (small_in_range n small)
 
 -- the tokens of digits mean the number
 pub digits_mean : (ds : List ℕ) (n : ℕ) → n < 2 ^ 64 → AreDigitsOf ds n → map meaning (tokens_of ds) ≡ Number (pos n) ∷ []

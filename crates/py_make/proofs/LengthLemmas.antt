@@ -1,8 +1,8 @@
 -- Each text that is made is short.
-use Rattle.std.proofs.Common.{◌≡◌, ◌<◌, ◌≤◌, ◌+◌, ◌*◌, ◌%◌, ◌^◌, ◌++◌, ◌∷◌, [], List, ℕ, zero, suc, Bool, true, false, length, length-append, refl, arith}
+use Rattle.std.proofs.Common.{◌<◌, ◌≤◌, ◌+◌, ◌*◌, ◌%◌, ◌^◌, ◌++◌, List, ℕ, zero, suc, Bool, true, false, length, length-append, arith}
 use Rattle.std.specs.Prelude.{decimal, codes, if◌then◌else◌, ◌==◌}
 use Rattle.std.proofs.lemmas.Fmt.{length-decimal-le}
-use Rattle.py_make.specs.Made.{declarations, drawn, drives_of, group, groups, made_text, most_groups, next_state}
+use Rattle.py_make.specs.Made.{count_text, declarations, drawn, drives_of, group, groups, next_state, work_text}
 use Rattle.py_make.specs.Laws.{AreShort}
 use Rattle.py_make.proofs.GroupLemmas.{few_more}
 
@@ -14,8 +14,7 @@ few_digits n small = length-decimal-le 20 n (omega arith) (omega (arith, small))
 within : (ds rest : List ℕ) (most : ℕ) → length ds ≤ 20 → length rest ≤ most → length (ds ++ rest) ≤ 20 + most
 within ds rest most few low = omega (arith, few, low, length-append ds rest)
 
-group_short : (x : Bool) (v n : ℕ) → v < 2 ^ 64 → n < 2 ^ 64
-    → length (if x then codes "call work " ++ (decimal v ++ codes "\n") else codes "call count " ++ (decimal v ++ (codes "\nnext " ++ (decimal n ++ (codes "\nclose " ++ (decimal n ++ codes "\n")))))) ≤ 90
+group_short : (x : Bool) (v n : ℕ) → v < 2 ^ 64 → n < 2 ^ 64 → length (if x then work_text v else count_text v n) ≤ 90
 group_short true v n low small = let one : length (decimal v ++ codes "\n") ≤ 21 = within (decimal v) (codes "\n") 1 (few_digits v low) (omega arith) in omega (arith, one)
 group_short false v n low small =
     let last : length (decimal n ++ codes "\n") ≤ 21 = within (decimal n) (codes "\n") 1 (few_digits n small) (omega arith) in

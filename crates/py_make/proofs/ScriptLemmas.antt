@@ -1,15 +1,14 @@
 -- Each text that is made is a script.
-use Rattle.std.proofs.Common.{◌≡◌, ◌<◌, ◌≤◌, ◌+◌, ◌*◌, ◌/◌, ◌%◌, ◌^◌, ◌∙◌, ◌++◌, ◌∷◌, [], List, ℕ, zero, suc, Bool, true, false, Some, inl, inr, length, refl, sym, ap, subst, append_assoc, append-nil, arith}
-use Rattle.std.specs.Prelude.{Option, None, pos, map, option_map, decimal, codes, not, if◌then◌else◌, ◌==◌, ◌&&◌, nat_le, nat_lt}
+use Rattle.std.proofs.Common.{◌≡◌, ◌<◌, ◌≤◌, ◌+◌, ◌*◌, ◌%◌, ◌^◌, ◌∙◌, ◌++◌, ◌∷◌, [], List, ℕ, zero, suc, Bool, true, false, Some, refl, sym, ap, subst, append_assoc, append-nil, arith}
+use Rattle.std.specs.Prelude.{None, pos, map, option_map, decimal, codes, not, if◌then◌else◌, ◌==◌, ◌&&◌, nat_le}
 use Rattle.std.specs.List.{AllZip}
-use Rattle.std.proofs.lemmas.Bool.{le-leb, lt-ltb}
-use Rattle.std.proofs.lemmas.Bool.Decides.{eqb_tells}
+use Rattle.std.proofs.lemmas.Bool.{and_from, cond-true, le-leb, lt-ltb, ne_eqb, not_from_false}
 use Rattle.py_tree.specs.declared.body.BodyKind.{BodyKind}
 use Rattle.py_tree.specs.declared.body.BodyKind.TheVariants as body
 use Rattle.py_tree.specs.declared.expr.Atom.TheVariants as atom
 use Rattle.py_tree.specs.declared.expr.Expr.TheVariants as expr
 use Rattle.py_tree.specs.declared.expr.Operation.TheVariants as operation
-use Rattle.py_tree.specs.Tree.{Assign, Do, Show, Return, Raise, Break, If, IfElse, While, TryExcept, TryFinally, With, Suite, nothing, first, no_more, clause, Tree}
+use Rattle.py_tree.specs.Tree.{Assign, Do, Show, Return, Raise, Break, If, IfElse, While, TryExcept, TryFinally, With, Suite, nothing, first, no_more, clause}
 use Rattle.py_lines.specs.declared.drive.DriveAtom.TheVariants as argument
 use Rattle.py_lines.specs.declared.drive.DriveLine.{DriveLine}
 use Rattle.py_lines.specs.declared.drive.DriveLine.TheVariants as drive
@@ -22,11 +21,12 @@ use Rattle.py_lines.specs.Reading.{IsReadAs, meanings}
 use Rattle.py_lines.specs.Words.{is_short}
 use Rattle.py_grammar.specs.Lines.{at_lf, in_first, lines}
 use Rattle.py_grammar.specs.Rules.{Declared, OfClass, OfFunction, OfManager}
-use Rattle.py_grammar.specs.Grammar.{ClassDecl, ManagerDecl, FunctionDecl, Item, Declares, Drives, Row, WellItems, decls_in, drives_in, declared_as, items_rows, row}
-use Rattle.py_grammar.specs.Script.{Text, SpellsSome, rows_from}
-use Rattle.py_make.specs.Made.{declarations, drawn, drives_of, group, groups, made_text, most_groups, next_state}
+use Rattle.py_grammar.specs.Grammar.{ClassDecl, ManagerDecl, FunctionDecl, Item, Declares, Drives, Row, WellItems, decls_in, drives_in, items_rows, row}
+use Rattle.py_grammar.specs.Script.{Text, rows_from}
+use Rattle.py_grammar.proofs.LineReads.{read_append}
+use Rattle.py_make.specs.Made.{count_text, declarations, drawn, drives_of, group, groups, made_text, next_state, work_text}
 use Rattle.py_make.specs.Laws.{AreScripts}
-use Rattle.py_make.proofs.DecimalLemmas.{AreDigits, AreDigitsOf, IsDigit, digits_mean, digits_of}
+use Rattle.py_make.proofs.DecimalLemmas.{AreDigits, digits_mean, digits_of}
 use Rattle.py_make.proofs.GroupLemmas.{few_more}
 
 -- ---- a line of a text
@@ -39,18 +39,10 @@ are_plain (b ∷ bs) = not (b == 10) && not (b == 13) && are_plain bs
 -- digits are such
 digits_plain : (ds : List ℕ) → AreDigits ds → are_plain ds ≡ true
 digits_plain [] digits = refl
-digits_plain (b ∷ bs) (digit, digits) = passed (b == 10) (b == 13) (are_plain bs) (other 10 (omega (arith, digit.low))) (other 13 (omega (arith, digit.low))) (digits_plain bs digits)
-  where
-    other : (k : ℕ) → k < b → (b == k) ≡ false
-    other k less = elim (eqb_tells b k) [
-      | inl same ↦ absurd (omega (arith, less, same.1))
-      | inr differs ↦ differs.0
-    ]
-
-    passed : (x y z : Bool) → x ≡ false → y ≡ false → z ≡ true → (not x && not y && z) ≡ true
-    passed true y z is also rest = absurd (cc is)
-    passed false true z is also rest = absurd (cc also)
-    passed false false z is also rest = rest
+digits_plain (b ∷ bs) (digit, digits) =
+    let no_lf : (b == 10) ≡ false = ne_eqb b 10 (λ is. omega (arith, digit.low, is)) in
+    let no_cr : (b == 13) ≡ false = ne_eqb b 13 (λ is. omega (arith, digit.low, is)) in
+    and_from _ _ (and_from _ _ (not_from_false _ no_lf) (not_from_false _ no_cr)) (digits_plain bs digits)
 
 -- a line is what stands before its LF
 first_line : (w rest : List ℕ) → are_plain w ≡ true → lines (w ++ 10 ∷ rest) ≡ w ∷ lines rest
@@ -69,16 +61,9 @@ abbrev drives_read : List DriveLine → List LineRead
 drives_read [] = []
 drives_read (d ∷ ds) = Said (line.Drive d) ∷ drives_read ds
 
--- two lists of lines, one after the other
-zip_append : (ls ms : Text) (rs qs : List LineRead) → AllZip IsReadAs ls rs → AllZip IsReadAs ms qs → AllZip IsReadAs (ls ++ ms) (rs ++ qs)
-zip_append [] ms [] qs front back = back
-zip_append [] ms (r ∷ rs) qs front back = absurd front
-zip_append (l ∷ ls) ms [] qs front back = absurd front
-zip_append (l ∷ ls) ms (r ∷ rs) qs front back = (front.0, zip_append ls ms rs qs front.1 back)
-
-read_append : (ds es : List DriveLine) → drives_read (ds ++ es) ≡ drives_read ds ++ drives_read es
-read_append [] es = refl
-read_append (d ∷ ds) es = ap (λ (rs : List LineRead). Said (line.Drive d) ∷ rs) (read_append ds es)
+drives_read_append : (ds es : List DriveLine) → drives_read (ds ++ es) ≡ drives_read ds ++ drives_read es
+drives_read_append [] es = refl
+drives_read_append (d ∷ ds) es = ap (λ (rs : List LineRead). Said (line.Drive d) ∷ rs) (drives_read_append ds es)
 
 -- a text has lines of its own, which are read as these drives
 abbrev Prints : List ℕ → List DriveLine → Type 0
@@ -93,7 +78,7 @@ prints_both t u ds es front back rest =
     let (ms, cut2, read2) = back rest in (
       ls ++ ms,
       ap lines (append_assoc t u rest) ∙ cut ∙ ap (λ (l : Text). ls ++ l) cut2 ∙ sym (append_assoc ls ms (lines rest)),
-      subst (AllZip IsReadAs (ls ++ ms)) (sym (read_append ds es)) (zip_append ls ms (drives_read ds) (drives_read es) read read2),
+      subst (AllZip IsReadAs (ls ++ ms)) (sym (drives_read_append ds es)) (read_append ls ms (drives_read ds) (drives_read es) read read2),
     )
 
 -- ---- the drives of a group
@@ -109,11 +94,7 @@ abbrev drives_at : (r n : ℕ) → List DriveLine
 drives_at r n = drives_by (r % 2 == 0) (r % 1000) n
 
 short_token : (n : ℕ) → n < 2 ^ 64 → number_token n ≡ Number (pos n)
-short_token n small = taken (is_short n) (lt-ltb n (2 ^ 64) small)
-  where
-    taken : (x : Bool) → x ≡ true → (if x then Number (pos n) else Beyond n) ≡ Number (pos n)
-    taken true is = refl
-    taken false is = absurd (cc is)
+short_token n small = cond-true (is_short n) (Number (pos n)) (Beyond n) (lt-ltb n (2 ^ 64) small)
 
 module _ (n : ℕ) (small : n < 2 ^ 64) where
   plain_decimal : are_plain (decimal n) ≡ true
@@ -136,16 +117,11 @@ module _ (n : ℕ) (small : n < 2 ^ 64) where
   prints_close = one_line (codes "close " ++ decimal n) (drive.Close n) plain_decimal
       (ap (λ (ms : List Meaning). Word (codes "close") ∷ ms) (means_number ∙ ap (λ (m : Meaning). m ∷ []) (sym (short_token n small))))
 
-abbrev work_text : ℕ → List ℕ
-work_text v = codes "call work " ++ (decimal v ++ codes "\n")
-
-abbrev count_text : ℕ → ℕ → List ℕ
-count_text v n = codes "call count " ++ (decimal v ++ (codes "\nnext " ++ (decimal n ++ (codes "\nclose " ++ (decimal n ++ codes "\n")))))
-
--- three lines, one after another
+-- a line of these words and digits, with its LF
 abbrev ended : List ℕ → List ℕ → List ℕ
 ended words digits = (words ++ digits) ++ 10 ∷ []
 
+-- three such lines are the text of an odd group
 three_lines : (a b : List ℕ) → ended (codes "call count ") a ++ (ended (codes "next ") b ++ ended (codes "close ") b)
     ≡ codes "call count " ++ (a ++ (codes "\nnext " ++ (b ++ (codes "\nclose " ++ (b ++ codes "\n")))))
 three_lines a b =
@@ -242,11 +218,7 @@ rows_of_drives k [] = refl
 rows_of_drives k (d ∷ ds) = ap (option_map (λ (rs : List Row). row k (line.Drive d) ∷ rs)) (rows_of_drives (suc k) ds)
 
 numbered : (made k : ℕ) → 1 ≤ k → k ≤ made → (nat_le 1 k && nat_le k made) ≡ true
-numbered made k low high = both (nat_le 1 k) (nat_le k made) (le-leb 1 k low) (le-leb k made high)
-  where
-    both : (x y : Bool) → x ≡ true → y ≡ true → (x && y) ≡ true
-    both true y is also = also
-    both false y is also = is
+numbered made k low high = and_from (nat_le 1 k) (nat_le k made) (le-leb 1 k low) (le-leb k made high)
 
 group_well : (x : Bool) (v made : ℕ) (more : List DriveLine) → WellItems names_before (made + (if x then 1 else 3)) (driven more)
     → WellItems names_before made (driven (drives_by x v (suc made) ++ more))
@@ -280,7 +252,7 @@ are_scripts seed count low =
       record {
         items = items;
         reads = reads_before ++ drives_read ds;
-        read = subst (λ (t : Text). AllZip IsReadAs t (reads_before ++ drives_read ds)) (sym whole) (zip_append lines_before ls reads_before (drives_read ds) read_before read);
+        read = subst (λ (t : Text). AllZip IsReadAs t (reads_before ++ drives_read ds)) (sym whole) (read_append lines_before ls reads_before (drives_read ds) read_before read);
         spelled = rw (rows_of_drives 37 ds) refl;
         well = (refl, ((refl, (refl, tt)), ((refl, (refl, tt)), (refl, ((refl, (refl, ((refl, (tt, (((refl, ((refl, (refl, tt)), (refl, tt))), tt), ((refl, tt), tt)))), tt))), ((refl, (refl, ((refl, ((refl, ((refl, tt), (refl, tt))), (refl, ((refl, (tt, (refl, tt))), tt)))), tt))), groups_well count s 0))))));
         declared = refl;

@@ -1,4 +1,4 @@
--- What is so of each text that is made from a seed.
+-- What is so of each text that is made from a seed, with at most 10,000 groups.
 use Rattle.std.specs.Prelude.{ℕ, ◌≤◌, ◌^◌, length}
 use Rattle.py_grammar.specs.Script.{SpellsSome}
 use Rattle.py_make.specs.Made.{made_text, most_groups}

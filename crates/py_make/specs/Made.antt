@@ -19,16 +19,21 @@ declarations =
 abbrev pub next_state : ℕ → ℕ
 next_state s = (s * 1664525 + 1013904223) % 2 ^ 32
 
--- the number that is drawn from a state
+-- the number that is drawn from a state: its high 16 bits
 abbrev pub drawn : ℕ → ℕ
 drawn s = s / 65536
 
--- a group of a number, whose call is the drive of this number: an even one calls `work`; an odd one calls `count`, has the generator that this gives
--- go on once, and closes it
+-- the text of an even group, and of an odd one, whose first drive has this number
+abbrev pub work_text : (v : ℕ) → List ℕ
+work_text v = codes "call work " ++ (decimal v ++ codes "\n")
+
+abbrev pub count_text : (v drive : ℕ) → List ℕ
+count_text v n = codes "call count " ++ (decimal v ++ (codes "\nnext " ++ (decimal n ++ (codes "\nclose " ++ (decimal n ++ codes "\n")))))
+
+-- the group of r, whose first drive has this number: a call of `work` where r is even; where it is odd a call of `count`, and a next and a close of the
+-- generator that this gives
 abbrev pub group : (r drive : ℕ) → List ℕ
-group r drive =
-    if r % 2 == 0 then codes "call work " ++ (decimal (r % 1000) ++ codes "\n")
-    else codes "call count " ++ (decimal (r % 1000) ++ (codes "\nnext " ++ (decimal drive ++ (codes "\nclose " ++ (decimal drive ++ codes "\n")))))
+group r drive = if r % 2 == 0 then work_text (r % 1000) else count_text (r % 1000) drive
 
 -- how many drives it has
 abbrev pub drives_of : (r : ℕ) → ℕ

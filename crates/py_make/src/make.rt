@@ -10,8 +10,43 @@ use std::alloc::Global;
 pub const MOST_GROUPS: u64 = 10_000;
 
 /// What each script declares.
-const DECLARATIONS: &str =
-    "class Fault Exception\ndef enter\nshow 'open'\nend\ndef exit t v b\nshow 'close'\nend\nmanager scope enter exit\ndef work a\nc = (lt a 500)\ntry\nwith scope\nif c\nraise Fault\nend\nreturn a\nend\nexcept Fault as e\nreturn e\nend\nend\ngen count n\ni = 0\nwhile True\ntry\ndo (yield i)\nfinally\ni = (add i 1)\nend\nc = (lt i n)\nif c\nelse\nbreak\nend\nend\nend\n";
+const DECLARATIONS: &str = "class Fault Exception
+def enter
+show 'open'
+end
+def exit t v b
+show 'close'
+end
+manager scope enter exit
+def work a
+c = (lt a 500)
+try
+with scope
+if c
+raise Fault
+end
+return a
+end
+except Fault as e
+return e
+end
+end
+gen count n
+i = 0
+while True
+try
+do (yield i)
+finally
+i = (add i 1)
+end
+c = (lt i n)
+if c
+else
+break
+end
+end
+end
+";
 
 /// The state of the generator of numbers after one step.
 fn next_state(state: u64) -> u64
@@ -22,21 +57,21 @@ fn next_state(state: u64) -> u64
     (state * 1664525 + 1013904223) % (1 << 32)
 }
 
-/// The number that is drawn from a state.
+/// The number that is drawn from a state: its high 16 bits, since the low ones soon repeat.
 fn drawn(state: u64) -> u64
     ensures { result ≡ drawn state }
 {
     state / 65536
 }
 
-/// How many drives the group of a number has.
+/// How many drives the group of a number has. In 128 bits, since a text may have 2^64 groups.
 fn drives_of(number: u64) -> u128
     ensures { result ≡ drives_of number }
 {
     if number % 2 == 0 { 1 } else { 3 }
 }
 
-/// Puts after the text the group of a number, whose call is the drive of this number.
+/// Appends the group of a number; its first drive is the one with the number `drive`.
 fn push_group(text: &mut String, number: u64, drive: u128) -> Result<(), NoMemory>
     ensures { OnOk result (string_bytes text.new ≡ string_bytes text.old ++ group number drive) }
 {
@@ -49,7 +84,8 @@ fn push_group(text: &mut String, number: u64, drive: u128) -> Result<(), NoMemor
     Ok(())
 }
 
-/// The text of the script that is made from a seed, with so many groups of drives.
+/// The text of the script that is made from a seed, with so many groups of drives. `parse_script` takes it where these
+/// are at most `MOST_GROUPS`.
 pub fn make_script(alloc: Global, seed: u64, count: u64) -> Result<Vec<u8>, NoMemory>
     ensures { IfOk result (λ bytes. bytes.items ≡ made_text seed count) }
 {

@@ -12,7 +12,7 @@ use Rattle.py_script.specs.declared.fault.ScriptFault.TheVariants as fault
 use Rattle.py_script.specs.declared.fault.CommandResult.{CommandResult}
 use Rattle.py_script.specs.declared.fault.CommandResult.TheVariants as outcome
 use Rattle.py_script.specs.Answered.{IsWholeRun, IsCutRun}
-use Rattle.py_script.specs.Causes.{IsAnswer, EndsBy, IsEnding, IsRunEnding, status_in, HasFewer, IsSettled, RunsSettle, AskedRunsSettle}
+use Rattle.py_script.specs.Causes.{IsAnswer, CommandEnds, IsEnding, IsRunEnding, status_in, HasFewer, IsSettled, RunsSettle, AskedRunsSettle}
 use Rattle.py_script.specs.Steps.{result_in}
 use Rattle.py_script.proofs.Statuses.{what_it_held}
 
@@ -78,4 +78,4 @@ module _ (before after : SourceSeen) where
 
   -- and so they do of a command
   pub ending_settles : (words : List (List ℕ)) (result : CommandResult) → IsEnding before after words result → AskedRunsSettle before words result
-  ending_settles words result is turns asks = run_ending_settles turns result (subst (λ (c : Command). EndsBy c before after result) asks is)
+  ending_settles words result is turns asks = run_ending_settles turns result (subst (λ (c : Command). CommandEnds c before after result) asks is)

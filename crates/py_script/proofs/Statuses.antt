@@ -14,7 +14,7 @@ use Rattle.py_outside.specs.Seen.{SinkSeen, SourceSeen}
 use Rattle.py_make.specs.Made.{made_text}
 use Rattle.py_script.specs.Words.{command_in}
 use Rattle.py_script.specs.Making.{making_in, EndsMade, WritesMade}
-use Rattle.py_script.specs.Causes.{status_in, IsAnswer, EndsBy, IsEnding, IsRunEnding, IsWritten, WasRead, WritesBy, CountsReadFault, CountsWriteFault, ReadsSoundly, RunsScripts, RunsAskedScripts}
+use Rattle.py_script.specs.Causes.{status_in, IsAnswer, CommandEnds, IsEnding, IsRunEnding, IsWritten, WasRead, CommandWrites, CountsReadFault, CountsWriteFault, RunsScripts, RunsAskedScripts}
 use Rattle.py_script.specs.Steps.{result_in}
 
 -- what was read of a source is what it held
@@ -50,7 +50,7 @@ module _ (before after : SourceSeen) where
 
   -- and so it is by a command
   pub ending_runs : (words : List (List ℕ)) (result : CommandResult) → IsEnding before after words result → RunsAskedScripts before words result
-  ending_runs words result is turns asks = run_ending_runs turns result (subst (λ (c : Command). EndsBy c before after result) asks is)
+  ending_runs words result is turns asks = run_ending_runs turns result (subst (λ (c : Command). CommandEnds c before after result) asks is)
 
   -- a status of a read fault comes of one
   fault_counts : (turns : ℕ) (f : ScriptFault) → IsAnswer before after turns (Err f) → CountsReadFault before after (outcome.Fault f)
@@ -82,7 +82,7 @@ module _ (before after : SourceSeen) where
   made_counts bytes outcome.Usage is status = absurd is
   made_counts bytes outcome.NoMemory is status = absurd (cc status)
 
-  command_counts : (c : Command) (result : CommandResult) → EndsBy c before after result → CountsReadFault before after result
+  command_counts : (c : Command) (result : CommandResult) → CommandEnds c before after result → CountsReadFault before after result
   command_counts (command.Run turns) result is = run_counts turns result is
   command_counts (command.Make seed count) result is = made_counts (made_text seed count) result is.1
   command_counts command.Usage result is = λ status. absurd (let clash : 64 ≡ 5 = sym (ap status_in is.1) ∙ status in omega (arith, clash))
@@ -117,20 +117,8 @@ made_written_counts before after outcome.Usage is status = absurd is
 made_written_counts before after outcome.NoMemory is status = absurd (cc status)
 
 -- and by a command, whose result this is
-pub command_written_counts : (before after : SourceSeen) (c : Command) (out out' : SinkSeen) (result : CommandResult) → EndsBy c before after result → WritesBy c out out' result
+pub command_written_counts : (before after : SourceSeen) (c : Command) (out out' : SinkSeen) (result : CommandResult) → CommandEnds c before after result → CommandWrites c out out' result
     → CountsWriteFault out out' result
 command_written_counts before after (command.Run turns) out out' result is written = written_counts out out' result written
 command_written_counts before after (command.Make seed count) out out' result is written = made_written_counts out out' result written
 command_written_counts before after command.Usage out out' result is written = λ status. absurd (let clash : 64 ≡ 6 = sym (ap status_in is.1) ∙ status in omega (arith, clash))
-
--- a script that was made has no read fault
-pub made_soundly : (seen : SourceSeen) (bytes : List ℕ) (result : CommandResult) → EndsMade bytes (making_in result) → ReadsSoundly seen seen result
-made_soundly seen bytes result is sound = record { same = refl; stays = sound; status = λ five. no_fault bytes result is five }
-  where
-    no_fault : (bytes : List ℕ) (result : CommandResult) → EndsMade bytes (making_in result) → status_in result ≡ 5 → ⊥
-    no_fault bytes (outcome.Ran j) is five = is
-    no_fault bytes (outcome.Fault (fault.WriteFault j)) is five = absurd (cc five)
-    no_fault bytes (outcome.Fault _) is five = absurd is
-    no_fault bytes (outcome.Made summary) is five = absurd (cc five)
-    no_fault bytes outcome.Usage is five = is
-    no_fault bytes outcome.NoMemory is five = absurd (cc five)

@@ -1,7 +1,7 @@
 -- Two whole runs of one script have one summary.
-use Rattle.std.proofs.Common.{◌≡◌, ◌∙◌, ◌+◌, ℕ, List, [], ◌∷◌, suc, Some, length, refl, sym, ap, subst, arith}
+use Rattle.std.proofs.Common.{◌≡◌, ◌∙◌, ◌+◌, ℕ, List, [], ◌∷◌, Some, length, refl, sym, ap, subst, arith}
 use Rattle.std.specs.Prelude.{Bool, Option, None, cond}
-use Rattle.std.specs.List.{count_by, fold}
+use Rattle.std.specs.List.{fold}
 use Rattle.py_objects.specs.declared.event.Event.{Event}
 use Rattle.py_objects.specs.declared.event.Event.TheVariants as event
 use Rattle.py_objects.specs.declared.event.DriveAnswer.{DriveAnswer}
@@ -11,10 +11,9 @@ use Rattle.py_determined.specs.Events.{SameEvent, SameEvents, SameResult}
 use Rattle.py_run.specs.declared.journal.Journal.{Journal}
 use Rattle.py_make.specs.declared.summary.Tally.{Tally}
 use Rattle.py_make.specs.declared.summary.Tally.TheVariants as tally
-use Rattle.py_make.specs.declared.summary.Summary.{Summary}
 use Rattle.py_make.specs.Summaries.{count, counts, counts_result, summary_of}
 use Rattle.py_meaning.specs.Whole.{IsWholeFrom}
-use Rattle.py_script.specs.Making.{Making, Summed, Unwritten, OutOfMemory, EndsMade, IsOfRun, IsWholeBy}
+use Rattle.py_script.specs.Making.{Making, Summed, Unwritten, OutOfMemory, EndsMade, IsEndOfRun, IsWholeBy}
 use Rattle.py_meaning.proofs.ScriptsAgree.{as_long, runs_agree_from}
 
 -- what is so of each tally
@@ -82,7 +81,7 @@ one_summary bytes j j' (s, is, run, done) (t, is', run', done') =
     same_summary _ j.events j'.events (as_long bytes j j' (s, is, run, done) (t, is', run', done')) (runs_agree_from bytes j j' (s, is, run) (t, is', run')).0
 
 -- a whole run was summed up, or its line couldn't be written
-pub made_ends : (bytes : List ℕ) (j : Journal) (m : Option Making) → IsWholeBy bytes j → IsOfRun j m → EndsMade bytes m
+pub made_ends : (bytes : List ℕ) (j : Journal) (m : Option Making) → IsWholeBy bytes j → IsEndOfRun j m → EndsMade bytes m
 made_ends bytes j None whole of_run = of_run
 made_ends bytes j (Some (Summed summary)) (s, is, run, done, codes) of_run = record { some = (j, (s, is, run, done)); each = λ k other. of_run ∙ one_summary bytes j k (s, is, run, done) other }
 made_ends bytes j (Some (Unwritten k)) whole of_run = subst (IsWholeBy bytes) (sym of_run) whole

@@ -47,7 +47,7 @@ IsAnswer before after turns (Err (fault.Refused code at)) = ⊥
 IsAnswer before after turns (Err (fault.OutOfTurns j)) = WasRead before after (λ bytes. IsCutRun bytes turns j)
 IsAnswer before after turns (Err (fault.NoMemory j)) = IsEmpty j ⊎ WasRead before after (λ bytes. IsPartOfRun bytes turns j)
 
--- what is written of each result: the text of the journal, and nothing where there is none; a failed write has written a front of it
+-- what a run writes of each result: the text of the journal, and nothing where there is none; a failed write has written a front of it
 abbrev pub IsWritten : SinkSeen → SinkSeen → CommandResult → Type 0
 IsWritten before after (outcome.Ran j) = AppendsAll before after (text_of j)
 IsWritten before after (outcome.Fault (fault.Malformed line)) = Keeps before.taken after.taken
@@ -58,7 +58,7 @@ IsWritten before after (outcome.Fault (fault.WriteFault j)) = Rose before.faults
 IsWritten before after (outcome.Fault fault.TooLong) = Keeps before.taken after.taken
 IsWritten before after (outcome.Fault (fault.NoMemory j)) = Keeps before.taken after.taken
 IsWritten before after (outcome.Made summary) = ⊥
-IsWritten before after outcome.Usage = Keeps before.taken after.taken
+IsWritten before after outcome.Usage = ⊥
 IsWritten before after outcome.NoMemory = ⊥
 
 -- the text that a result stands for, which is written where its status is 0 or 4
@@ -111,19 +111,22 @@ IsRunEnding before after turns outcome.Usage = ⊥
 IsRunEnding before after turns outcome.NoMemory = ⊥
 
 -- what a command ends as, by what was read of the source: only a run reads anything
-abbrev pub EndsBy : Command → SourceSeen → SourceSeen → CommandResult → Type 0
-EndsBy (command.Run turns) before after result = IsRunEnding before after turns result
-EndsBy (command.Make seed count) before after result = (after ≡ before) × EndsMade (made_text seed count) (making_in result)
-EndsBy command.Usage before after result = (after ≡ before) × (result ≡ outcome.Usage)
+abbrev pub CommandEnds : Command → SourceSeen → SourceSeen → CommandResult → Type 0
+CommandEnds (command.Run turns) before after result = IsRunEnding before after turns result
+CommandEnds (command.Make seed count) before after result = (after ≡ before) × EndsMade (made_text seed count) (making_in result)
+CommandEnds command.Usage before after result = (after ≡ before) × (result ≡ outcome.Usage)
 
 abbrev pub IsEnding : SourceSeen → SourceSeen → List (List ℕ) → CommandResult → Type 0
-IsEnding before after words result = EndsBy (command_in words) before after result
+IsEnding before after words result = CommandEnds (command_in words) before after result
 
 -- what a command writes
-abbrev pub WritesBy : Command → SinkSeen → SinkSeen → CommandResult → Type 0
-WritesBy (command.Run turns) before after result = IsWritten before after result
-WritesBy (command.Make seed count) before after result = WritesMade before after (making_in result)
-WritesBy command.Usage before after result = Keeps before.taken after.taken
+abbrev pub CommandWrites : Command → SinkSeen → SinkSeen → CommandResult → Type 0
+CommandWrites (command.Run turns) before after result = IsWritten before after result
+CommandWrites (command.Make seed count) before after result = WritesMade before after (making_in result)
+CommandWrites command.Usage before after result = Keeps before.taken after.taken
+
+abbrev pub WritesAsked : SinkSeen → SinkSeen → List (List ℕ) → CommandResult → Type 0
+WritesAsked before after words result = CommandWrites (command_in words) before after result
 
 -- no read fault is counted, the status isn't that of one, and the source is sound
 pub record MeetsNoReadFault (before after : SourceSeen) (result : CommandResult) : Type 0 where
@@ -135,7 +138,7 @@ pub record MeetsNoReadFault (before after : SourceSeen) (result : CommandResult)
 abbrev pub ReadsSoundly : SourceSeen → SourceSeen → CommandResult → Type 0
 ReadsSoundly before after result = IsTrue before.is_sound → MeetsNoReadFault before after result
 
--- over a sink that takes so many bytes for sure: a write fault is answered only where the text is longer, and none is counted where it isn't or where
+-- what a run does over a sink that takes so many bytes for sure: a write fault is answered only where the text is longer, and none is counted where it isn't or where
 -- nothing is written
 abbrev pub WritesSurely : SinkSeen → SinkSeen → CommandResult → Type 0
 WritesSurely before after (outcome.Ran j) = length (text_of j) ≤ before.sure → after.faults ≡ before.faults
@@ -146,15 +149,18 @@ WritesSurely before after (outcome.Fault fault.ReadFault) = after.faults ≡ bef
 WritesSurely before after (outcome.Fault (fault.WriteFault j)) = before.sure < length (text_of j)
 WritesSurely before after (outcome.Fault fault.TooLong) = after.faults ≡ before.faults
 WritesSurely before after (outcome.Fault (fault.NoMemory j)) = after.faults ≡ before.faults
-WritesSurely before after (outcome.Made summary) = after.faults ≡ before.faults
-WritesSurely before after outcome.Usage = after.faults ≡ before.faults
-WritesSurely before after outcome.NoMemory = after.faults ≡ before.faults
+WritesSurely before after (outcome.Made summary) = ⊥
+WritesSurely before after outcome.Usage = ⊥
+WritesSurely before after outcome.NoMemory = ⊥
 
 -- what a command does over such a sink
-abbrev pub SurelyBy : Command → SinkSeen → SinkSeen → CommandResult → Type 0
-SurelyBy (command.Run turns) before after result = WritesSurely before after result
-SurelyBy (command.Make seed count) before after result = WritesMadeSurely before after (making_in result)
-SurelyBy command.Usage before after result = after.faults ≡ before.faults
+abbrev pub CommandWritesSurely : Command → SinkSeen → SinkSeen → CommandResult → Type 0
+CommandWritesSurely (command.Run turns) before after result = WritesSurely before after result
+CommandWritesSurely (command.Make seed count) before after result = WritesMadeSurely before after (making_in result)
+CommandWritesSurely command.Usage before after result = after.faults ≡ before.faults
+
+abbrev pub WritesAskedSurely : SinkSeen → SinkSeen → List (List ℕ) → CommandResult → Type 0
+WritesAskedSurely before after words result = CommandWritesSurely (command_in words) before after result
 
 -- a status that stands for a fault comes only where one was counted: 5 of the source, 6 of the sink
 abbrev pub CountsReadFault : SourceSeen → SourceSeen → CommandResult → Type 0

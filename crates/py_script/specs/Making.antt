@@ -15,7 +15,7 @@ use Rattle.py_script.specs.declared.fault.CommandResult.{CommandResult}
 use Rattle.py_script.specs.declared.fault.CommandResult.TheVariants as outcome
 use Rattle.py_script.specs.Compiled.{RunsItsCodes}
 
--- the ends of a script that was made: its summary was written, or that failed after this run, or memory ran out
+-- how the run of a made script ends: its summary was written; the write failed, and this is its journal; or memory ran out
 pub data Making : Type 0 where
   Summed : Summary → Making
   Unwritten : Journal → Making
@@ -37,7 +37,7 @@ pub record IsSummaryOf (bytes : List ℕ) (summary : Summary) : Type 0 where
   pub some : (j : Journal) × IsWholeFrom bytes j
   pub each : (j : Journal) → IsWholeFrom bytes j → summary ≡ summary_of j.events
 
--- how the script that the bytes are may end that was made
+-- what each end says of the text that was made
 abbrev pub EndsMade : List ℕ → Option Making → Type 0
 EndsMade bytes None = ⊥
 EndsMade bytes (Some (Summed summary)) = IsSummaryOf bytes summary
@@ -45,14 +45,14 @@ EndsMade bytes (Some (Unwritten j)) = IsWholeBy bytes j
 EndsMade bytes (Some OutOfMemory) = Unit {0}
 
 -- the line of a run
-abbrev pub line_of : Journal → List ℕ
-line_of j = summary_text (summary_of j.events)
+abbrev pub summary_line : Journal → List ℕ
+summary_line j = summary_text (summary_of j.events)
 
 -- what is written then: the line of the summary, or a front of it where a write failed, or nothing
 abbrev pub WritesMade : SinkSeen → SinkSeen → Option Making → Type 0
 WritesMade before after None = ⊥
 WritesMade before after (Some (Summed summary)) = AppendsAll before after (summary_text summary)
-WritesMade before after (Some (Unwritten j)) = Rose before.faults after.faults × AppendsFront before after (line_of j)
+WritesMade before after (Some (Unwritten j)) = Rose before.faults after.faults × AppendsFront before after (summary_line j)
 WritesMade before after (Some OutOfMemory) = Keeps before.taken after.taken
 
 -- over a sink that takes so many bytes for sure: a write fails only where the line is longer, and no fault is counted where it isn't, or where nothing is
@@ -60,12 +60,12 @@ WritesMade before after (Some OutOfMemory) = Keeps before.taken after.taken
 abbrev pub WritesMadeSurely : SinkSeen → SinkSeen → Option Making → Type 0
 WritesMadeSurely before after None = ⊥
 WritesMadeSurely before after (Some (Summed summary)) = length (summary_text summary) ≤ before.sure → after.faults ≡ before.faults
-WritesMadeSurely before after (Some (Unwritten j)) = before.sure < length (line_of j)
+WritesMadeSurely before after (Some (Unwritten j)) = before.sure < length (summary_line j)
 WritesMadeSurely before after (Some OutOfMemory) = after.faults ≡ before.faults
 
--- a run was summed up, or its line couldn't be written, or made
-abbrev pub IsOfRun : Journal → Option Making → Type 0
-IsOfRun j None = ⊥
-IsOfRun j (Some (Summed summary)) = summary ≡ summary_of j.events
-IsOfRun j (Some (Unwritten k)) = k ≡ j
-IsOfRun j (Some OutOfMemory) = Unit {0}
+-- the end is that of this run: its summary, or its journal where the write failed
+abbrev pub IsEndOfRun : Journal → Option Making → Type 0
+IsEndOfRun j None = ⊥
+IsEndOfRun j (Some (Summed summary)) = summary ≡ summary_of j.events
+IsEndOfRun j (Some (Unwritten k)) = k ≡ j
+IsEndOfRun j (Some OutOfMemory) = Unit {0}

@@ -1,9 +1,8 @@
 //! The top call: reads a script, runs it, and writes the text of its journal.
 
 ghost use Rattle.std.specs.Prelude.{◌≡◌, ◌+◌, ◌≤◌, ◌^◌};
-ghost use Rattle.py_script.specs.Causes.{IsAnswer, IsEnding, IsNoted, IsWritten, CountsReadFault, CountsWriteFault, ReadsSoundly, SurelyBy, WritesBy, WritesSurely, RunsScripts, RunsAskedScripts, RunsSettle, AskedRunsSettle, status_in};
+ghost use Rattle.py_script.specs.Causes.{IsAnswer, IsEnding, IsNoted, IsWritten, CountsReadFault, CountsWriteFault, ReadsSoundly, WritesAsked, WritesAskedSurely, WritesSurely, RunsScripts, RunsAskedScripts, RunsSettle, AskedRunsSettle, status_in};
 ghost use Rattle.py_script.specs.Steps.{result_in};
-ghost use Rattle.py_script.specs.Words.{command_in};
 
 use crate::fault::{CommandResult, Ended, ScriptFault};
 use crate::making::make;
@@ -92,7 +91,7 @@ fn status_of_fault(fault: &ScriptFault) -> u8
     }
 }
 
-/// What the words come to. Only a run reads anything, and for words that ask for nothing nothing is written.
+/// What the words come to. Only `run` reads, and words that ask for nothing write nothing.
 fn result_of<S: Source, K: Sink>(
     alloc: Global,
     words: &Words,
@@ -100,9 +99,9 @@ fn result_of<S: Source, K: Sink>(
     sink: &mut K,
 ) -> CommandResult
     ensures ending { IsEnding (S.seen source.old) (S.seen source.new) words.now result }
-    ensures written { WritesBy (command_in words.now) (K.seen sink.old) (K.seen sink.new) result }
+    ensures written { WritesAsked (K.seen sink.old) (K.seen sink.new) words.now result }
     ensures sound { ReadsSoundly (S.seen source.old) (S.seen source.new) result }
-    ensures sure { SurelyBy (command_in words.now) (K.seen sink.old) (K.seen sink.new) result }
+    ensures sure { WritesAskedSurely (K.seen sink.old) (K.seen sink.new) words.now result }
     ensures reads { (S.seen source.new).reads ≤ (S.seen source.old).reads + (2 ^ 20 + 1) }
 {
     match command_of(words) {
@@ -126,13 +125,13 @@ pub fn run_command<S: Source, K: Sink, N: Sink>(
     ensures status { result.status ≡ status_in result.result }
     // What was read for the result, what was written of it, and what was noted.
     ensures ending { IsEnding (S.seen source.old) (S.seen source.new) words.now result.result }
-    ensures written { WritesBy (command_in words.now) (K.seen sink.old) (K.seen sink.new) result.result }
+    ensures written { WritesAsked (K.seen sink.old) (K.seen sink.new) words.now result.result }
     ensures note { IsNoted (N.seen notes.old) (N.seen notes.new) result.result }
     // No fault without a cause, and none of a source that is sound or of a sink that is sure.
     ensures read_fault { CountsReadFault (S.seen source.old) (S.seen source.new) result.result }
     ensures write_fault { CountsWriteFault (K.seen sink.old) (K.seen sink.new) result.result }
     ensures sound { ReadsSoundly (S.seen source.old) (S.seen source.new) result.result }
-    ensures sure { SurelyBy (command_in words.now) (K.seen sink.old) (K.seen sink.new) result.result }
+    ensures sure { WritesAskedSurely (K.seen sink.old) (K.seen sink.new) words.now result.result }
     // A script is run where the words ask for it, and what its runs settle is answered.
     ensures complete { RunsAskedScripts (S.seen source.old) words.now result.result }
     ensures settled { AskedRunsSettle (S.seen source.old) words.now result.result }

@@ -45,7 +45,7 @@ pub enum CommandResult {
     Ran(Journal),
     /// It didn't.
     Fault(ScriptFault),
-    /// A script was made from a seed and run, and the line of this is written.
+    /// A script was made from a seed and run, and the line of its summary is written.
     Made(Summary),
     /// The words ask for nothing.
     Usage,

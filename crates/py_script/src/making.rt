@@ -2,7 +2,7 @@
 
 ghost use Rattle.std.specs.Prelude.{◌≤◌, IfOk};
 ghost use Rattle.py_make.specs.Made.{made_text, most_groups};
-ghost use Rattle.py_script.specs.Making.{making_in, EndsMade, IsOfRun, IsWholeBy, WritesMade, WritesMadeSurely};
+ghost use Rattle.py_script.specs.Making.{making_in, EndsMade, IsEndOfRun, IsWholeBy, WritesMade, WritesMadeSurely};
 
 use crate::fault::{CommandResult, ScriptFault};
 use crate::session::run_drives;
@@ -39,7 +39,7 @@ fn run_made(alloc: Global, seed: u64, count: u64) -> Result<Journal, NoMemory>
         Err(ParseFault::NoMemory) => return Err(NoMemory),
     };
     let (journal, ran) = run_drives(alloc, &script, u64::MAX);
-    // A list's length has 63 bits, so so many turns are never spent.
+    // For the prover: a list's length has 63 bits, so the turns are never spent.
     let _events = journal.events.as_slice().len();
     match ran {
         Ok(()) => Ok(journal),
@@ -53,7 +53,7 @@ fn run_made(alloc: Global, seed: u64, count: u64) -> Result<Journal, NoMemory>
 
 /// Writes the line of a whole run, which is made whole before its first byte is written.
 fn write_summary<K: Sink>(alloc: Global, sink: &mut K, journal: Journal) -> CommandResult
-    ensures run { IsOfRun journal (making_in result) }
+    ensures run { IsEndOfRun journal (making_in result) }
     ensures written { WritesMade (K.seen sink.old) (K.seen sink.new) (making_in result) }
     ensures sure { WritesMadeSurely (K.seen sink.old) (K.seen sink.new) (making_in result) }
 {

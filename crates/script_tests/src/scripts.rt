@@ -46,10 +46,13 @@ fn words_ask_for_a_made_script(rt: HostRuntime) -> Result<(), Fail> {
 #[test]
 fn a_made_script_is_declarations_and_groups_of_drives(rt: HostRuntime) -> Result<(), Fail> {
     let none = make_script(rt.alloc(), 0, 0)?;
-    let one = make_script(rt.alloc(), 0, 1)?;
+    let four = make_script(rt.alloc(), 0, 4)?;
     assert!(rt; none.starts_with(b"class Fault Exception\ndef enter\n"));
-    assert!(rt; one.starts_with(none.as_slice()));
-    assert_eq!(rt; &one[none.len()..], b"call work 470\n");
+    let drives = b"call work 470\ncall work 256\ncall work 708\ncall count 769\nnext 4\nclose 4\n";
+    assert_eq!(rt;
+        four.as_slice().strip_prefix(none.as_slice()),
+        Some(drives.as_slice())
+    );
     Ok(())
 }
 

@@ -1,6 +1,6 @@
 use Rattle.std.proofs.Common.{ap, subst, sym, ◌≡◌, ◌∙◌, ◌++◌, ◌+◌, ◌-◌, ◌≤◌, ◌*◌, ℕ}
 use Rattle.std.specs.Prelude.{string_bytes}
-use Rattle.py_make.specs.Made.{drawn, drives_of, group, groups, made_text, next_state}
+use Rattle.py_make.specs.Made.{drawn, drives_of, group, made_text, next_state}
 use Rattle.py_make.proofs.GroupLemmas.{drives_few, made_on}
 use Rattle.py_make.proofs.make.make_script.Goals as goal
 
