@@ -4,7 +4,10 @@ ghost use Rattle.std.specs.Prelude.{◌≡◌, IfOk};
 ghost use Rattle.py_tree.specs.Compilable.{IsCompilable};
 ghost use Rattle.py_tree.specs.Views.{tree_of};
 
-use py_body::{Atom, Body, BodyKind, Operation, ParamList, Stmt, StmtForm, StmtList, compile_body};
+use py_body::{
+    Atom, Body, BodyKind, Expr, ExprList, Operator, ParamList, Stmt, StmtForm, StmtList,
+    compile_body,
+};
 use py_code::{CodeFlags, Instruction, Names, NoMemory, PyCode, text_of};
 use std::alloc::Global;
 use std::process::Abort;
@@ -29,10 +32,14 @@ fn driving(alloc: Global) -> Result<Body, NoMemory>
     ensures { IfOk result (λ body. IsCompilable (tree_of body)) }
 {
     let mut suite = StmtList::new(alloc);
-    suite.push(line(2, StmtForm::Do(Operation::Yield(Atom::Int(1)))))?;
-    suite.push(line(3, StmtForm::Do(Operation::Send(Atom::None, Atom::Int(2)))))?;
-    suite.push(line(4, StmtForm::Do(Operation::Throw(Atom::None, Atom::Int(3)))))?;
-    suite.push(line(5, StmtForm::Do(Operation::Close(Atom::None))))?;
+    let yielded = ExprList::one(alloc, Expr::Atom(Atom::Int(1)))?;
+    suite.push(line(2, StmtForm::Do(Operator::Yield, yielded)))?;
+    let sent = ExprList::two(alloc, Expr::Atom(Atom::None), Expr::Atom(Atom::Int(2)))?;
+    suite.push(line(3, StmtForm::Do(Operator::Send, sent)))?;
+    let thrown = ExprList::two(alloc, Expr::Atom(Atom::None), Expr::Atom(Atom::Int(3)))?;
+    suite.push(line(4, StmtForm::Do(Operator::Throw, thrown)))?;
+    let closed = ExprList::one(alloc, Expr::Atom(Atom::None))?;
+    suite.push(line(5, StmtForm::Do(Operator::Close, closed)))?;
     Ok(Body {
         kind: BodyKind::Generator,
         name: text_of(alloc, b"g")?,

@@ -3,8 +3,6 @@ use Rattle.std.proofs.Common.{◌≡◌, ℕ, zero, suc, Bool, true, false, List
 use Rattle.std.specs.Prelude.{Option}
 use Rattle.py_code.specs.declared.literal.BuiltinFn.{BuiltinFn}
 use Rattle.py_code.specs.declared.literal.BuiltinFn.TheVariants as builtin
-use Rattle.py_code.specs.declared.operator.BinaryOperator.TheVariants as binary
-use Rattle.py_code.specs.declared.operator.ComparisonOperator.TheVariants as comparison
 use Rattle.py_objects.specs.declared.refs.PyBaseExceptionRef.{PyBaseExceptionRef}
 use Rattle.py_objects.specs.declared.payload.Payload.{Payload}
 use Rattle.py_objects.specs.declared.payload.Payload.TheVariants as payload
@@ -20,14 +18,13 @@ use Rattle.py_objects.specs.Own.{Own, Makes, Resumes, Ends}
 use Rattle.py_objects.specs.Telling.{Given, Failed, Stopped, AfterValue, IsLiteral, Rounded}
 use Rattle.py_tree.specs.declared.expr.Atom.{Atom}
 use Rattle.py_tree.specs.declared.expr.Atom.TheVariants as atom
-use Rattle.py_tree.specs.declared.expr.Expr.{Expr}
-use Rattle.py_tree.specs.declared.expr.Expr.TheVariants as expr
-use Rattle.py_tree.specs.declared.expr.Operation.{Operation}
-use Rattle.py_tree.specs.declared.expr.Operation.TheVariants as operation
-use Rattle.py_tree.specs.Tree.{Name, Form, Assign, Do, Show, Return, Raise, Reraise, Break, Continue, Pass, If, IfElse, While, TryExcept, TryFinally, With as WithForm, Suite, nothing, first, Clauses, no_more, clause, Tree}
+use Rattle.py_tree.specs.declared.expr.Operator.{Operator}
+use Rattle.py_tree.specs.declared.expr.Operator.TheVariants as operator
+use Rattle.py_tree.specs.Operators.{Way, Asks_one, Asks_two, Calls_it, Yields_it, way_of}
+use Rattle.py_tree.specs.Tree.{Name, Expr, Leaf, Operate, Exprs, no_operands, operand, Form, Assign, Do, Show, Return, Raise, Reraise, Break, Continue, Pass, If, IfElse, While, TryExcept, TryFinally, With as WithForm, Suite, nothing, first, Clauses, no_more, clause, Tree}
 use Rattle.py_tree.specs.Binding.{Env, find_local, set_local, bind, locals_of}
 use Rattle.py_tree.specs.Scene.{Scene}
-use Rattle.py_tree.specs.Outcome.{Outcome, Normal, Breaks, Continues, Returns, Raises, Cut, Handled, After, Runner, With, Use, By_truth, Requests, throws, Named, Loads, LoadsAll, RequestsTwo, Calls, Operates, Evaluates, Tests, Chooses, On_normal, On_turn, On_raise, behind, Behind_finally, On_finally, Finally, Forgets, Handles, Loops, Leaves, LeavesBy, On_exit, Manages, Reraises, Runs, RunsSuite, Tries}
+use Rattle.py_tree.specs.Outcome.{Outcome, Normal, Breaks, Continues, Returns, Raises, Cut, Handled, After, Runner, With, Use, By_truth, Requests, Named, Loads, Calls, Finishes, Evaluates, EvaluatesAll, Tests, Chooses, On_normal, On_turn, On_raise, behind, Behind_finally, On_finally, Finally, Forgets, Handles, Loops, Leaves, LeavesBy, On_exit, Manages, Reraises, Runs, RunsSuite, Tries}
 use Rattle.py_tree.specs.Trace.{Ended, EndsBy, Entered, IsBegun, IsTrace}
 use Rattle.py_agreement.specs.Agreement.{Relation, SameException, SameMaybe, SameHandled, SameAll, SameRequest, SameHow, SameEnding, Agree, SameEnv, has_literal, IsFaithful}
 use Rattle.py_agreement.proofs.AgreementLemmas.{Agreeing, left_ends, right_ends, both_tell, cut_agree, ValuesAgree, asked_agree, yielded_agree, rounded_agree, find_same, set_same, bind_same, begun_same}
@@ -84,6 +81,24 @@ module _ (S : Relation) where
   call_same p q f g vs ws e same_f same_vs =
       or_call_same f g vs ws _ _ same_f same_vs
       (subst (λ (b : Option BuiltinFn). SameMaybe (SameRequest S) (own_request (builtin_of p) vs) (own_request b ws)) e (own_same (builtin_of p) vs ws same_vs))
+
+  -- ---- operators
+
+  -- of related objects an operator asks the same
+  abbrev Respects : Way → Type 0
+  Respects (Asks_one r) = (v w : Obj) → S v w → SameRequest S (r v) (r w)
+  Respects (Asks_two r) = (v w x y : Obj) → S v w → S x y → SameRequest S (r v x) (r w y)
+  Respects way = Unit {0}
+
+  respects : (o : Operator) → Respects (way_of o)
+  respects operator.Add = λ v w x y s t. (refl, s, t)
+  respects operator.Sub = λ v w x y s t. (refl, s, t)
+  respects operator.Lt = λ v w x y s t. (refl, s, t)
+  respects operator.Eq = λ v w x y s t. (refl, s, t)
+  respects operator.Send = λ v w x y s t. (s, t)
+  respects operator.Throw = λ v w x y s t. (s, t, tt, tt)
+  respects operator.Close = λ v w s. s
+  respects o = tt
 
   -- ---- outcomes
 
@@ -210,55 +225,48 @@ module _ (S : Relation) where
     loads_agree line env env' h h' (atom.Str s) K K' same_env same_h agree = literals_agree (payload.Str s) K K' refl agree
     loads_agree line env env' h h' (atom.Name x) K K' same_env same_h agree = named_agree line (find_local x env) (find_local x env') x h h' K K' (find_same S x env env' same_env) same_h agree
 
-    all_agree : (line : ℕ) (env env' : Env) (h h' : Handled) (atoms : List Atom) (K K' : AfterValue) (next next' : List Obj → ℕ → List Own → Type 0) → SameEnv S env env' → SameHandled S h h' → ValuesAgree S K K'
-        → ((vs ws : List Obj) → SameAll S vs ws → Agreeing S (next vs) (next' ws))
-        → Agreeing S (λ i ts. LoadsAll scene line env h atoms i ts K next) (λ j us. LoadsAll scene' line env' h' atoms j us K' next')
-    all_agree line env env' h h' [] K K' next next' same_env same_h agree on = on [] [] tt
-    all_agree line env env' h h' (a ∷ atoms) K K' next next' same_env same_h agree on =
-        loads_agree line env env' h h' a _ _ same_env same_h
-        (with_agree K K' _ _ agree
-        (λ v w s. all_agree line env env' h h' atoms K K' (λ vs. next (v ∷ vs)) (λ ws. next' (w ∷ ws)) same_env same_h agree (λ vs ws same_vs. on (v ∷ vs) (w ∷ ws) (s, same_vs))))
-
-    two_agree : (line : ℕ) (env env' : Env) (h h' : Handled) (a b : Atom) (r : Obj → Obj → Request) (K K' : AfterValue) → ((v v' w w' : Obj) → S v v' → S w w' → SameRequest S (r v w) (r v' w'))
-        → SameEnv S env env' → SameHandled S h h' → ValuesAgree S K K' → Agreeing S (λ i ts. RequestsTwo scene line env h a b r i ts K) (λ j us. RequestsTwo scene' line env' h' a b r j us K')
-    two_agree line env env' h h' a b r K K' same same_env same_h agree =
-        loads_agree line env env' h h' a _ _ same_env same_h
-        (with_agree K K' _ _ agree
-        (λ v v' same_v. loads_agree line env env' h h' b _ _ same_env same_h
-        (with_agree K K' _ _ agree (λ w w' same_w. requests_agree line (r v w) (r v' w') h h' K K' (same v v' w w' same_v same_w) same_h agree))))
-
     calls_agree : (line : ℕ) (f g : Obj) (vs ws : List Obj) (h h' : Handled) (K K' : AfterValue) → S f g → SameAll S vs ws → SameHandled S h h' → ValuesAgree S K K'
         → Agreeing S (λ i ts. Calls scene line f vs h i ts K) (λ j us. Calls scene' line g ws h' j us K')
     calls_agree line f g vs ws h h' K K' same_f same_vs same_h agree =
         cut_agree S _ _ _ _
         (λ i j ts us (p, has, a) (q, has', b). requests_agree line _ _ h h' K K' (call_same p q f g vs ws (faithful.builtins f g p q same_f has has') same_f same_vs) same_h agree i j ts us a b)
 
-    operates_agree : (line : ℕ) (env env' : Env) (h h' : Handled) (o : Operation) (K K' : AfterValue) → SameEnv S env env' → SameHandled S h h' → ValuesAgree S K K'
-        → Agreeing S (λ i ts. Operates scene line env h o i ts K) (λ j us. Operates scene' line env' h' o j us K')
-    operates_agree line env env' h h' (operation.Add a b) K K' same_env same_h agree = two_agree line env env' h h' a b (request.Binary binary.Add) K K' (λ v v' w w' same_v same_w. (refl, same_v, same_w)) same_env same_h agree
-    operates_agree line env env' h h' (operation.Sub a b) K K' same_env same_h agree = two_agree line env env' h h' a b (request.Binary binary.Subtract) K K' (λ v v' w w' same_v same_w. (refl, same_v, same_w)) same_env same_h agree
-    operates_agree line env env' h h' (operation.Lt a b) K K' same_env same_h agree = two_agree line env env' h h' a b (request.Compare comparison.Less) K K' (λ v v' w w' same_v same_w. (refl, same_v, same_w)) same_env same_h agree
-    operates_agree line env env' h h' (operation.Eq a b) K K' same_env same_h agree = two_agree line env env' h h' a b (request.Compare comparison.Equal) K K' (λ v v' w w' same_v same_w. (refl, same_v, same_w)) same_env same_h agree
-    operates_agree line env env' h h' (operation.Send a b) K K' same_env same_h agree = two_agree line env env' h h' a b request.Send K K' (λ v v' w w' same_v same_w. (same_v, same_w)) same_env same_h agree
-    operates_agree line env env' h h' (operation.Throw a b) K K' same_env same_h agree = two_agree line env env' h h' a b throws K K' (λ v v' w w' same_v same_w. (same_v, same_w, tt, tt)) same_env same_h agree
-    operates_agree line env env' h h' (operation.Close a) K K' same_env same_h agree =
-        loads_agree line env env' h h' a _ _ same_env same_h (with_agree K K' _ _ agree (λ g g' s. requests_agree line (request.Close g) (request.Close g') h h' K K' s same_h agree))
-    operates_agree line env env' h h' (operation.Yield a) K K' same_env same_h agree =
-        loads_agree line env env' h h' a _ _ same_env same_h (with_agree K K' _ _ agree (λ v w s. yielded_agree S (λ at. scene.is_of at line) (λ at. scene'.is_of at line) v w K K' s agree))
-    operates_agree line env env' h h' (operation.Call f atoms) K K' same_env same_h agree =
-        loads_agree line env env' h h' f _ _ same_env same_h
-        (with_agree K K' _ _ agree
-        (λ g g' s. all_agree line env env' h h' atoms K K' _ _ same_env same_h agree (λ vs ws same_vs. calls_agree line g g' vs ws h h' K K' s same_vs same_h agree)))
+    finishes_agree : (way : Way) → Respects way → (line : ℕ) (vs ws : List Obj) (h h' : Handled) (K K' : AfterValue) → SameAll S vs ws → SameHandled S h h' → ValuesAgree S K K'
+        → Agreeing S (λ i ts. Finishes scene line way vs h i ts K) (λ j us. Finishes scene' line way ws h' j us K')
+    finishes_agree (Asks_one r) is line (v ∷ []) (w ∷ []) h h' K K' s same_h agree = requests_agree line (r v) (r w) h h' K K' (is v w s.0) same_h agree
+    finishes_agree (Asks_two r) is line (v ∷ x ∷ []) (w ∷ y ∷ []) h h' K K' s same_h agree = requests_agree line (r v x) (r w y) h h' K K' (is v w x y s.0 s.1.0) same_h agree
+    finishes_agree Calls_it is line (f ∷ vs) (g ∷ ws) h h' K K' s same_h agree = calls_agree line f g vs ws h h' K K' s.0 s.1 same_h agree
+    finishes_agree Yields_it is line (v ∷ []) (w ∷ []) h h' K K' s same_h agree = yielded_agree S (λ at. scene.is_of at line) (λ at. scene'.is_of at line) v w K K' s.0 agree
+    finishes_agree (Asks_one r) is line (v ∷ []) [] h h' K K' s same_h agree = absurd s
+    finishes_agree (Asks_one r) is line (v ∷ []) (w ∷ y ∷ ws) h h' K K' s same_h agree = absurd s.1
+    finishes_agree (Asks_two r) is line (v ∷ x ∷ []) [] h h' K K' s same_h agree = absurd s
+    finishes_agree (Asks_two r) is line (v ∷ x ∷ []) (w ∷ []) h h' K K' s same_h agree = absurd s.1
+    finishes_agree (Asks_two r) is line (v ∷ x ∷ []) (w ∷ y ∷ z ∷ ws) h h' K K' s same_h agree = absurd s.1.1
+    finishes_agree Calls_it is line (f ∷ vs) [] h h' K K' s same_h agree = absurd s
+    finishes_agree Yields_it is line (v ∷ []) [] h h' K K' s same_h agree = absurd s
+    finishes_agree Yields_it is line (v ∷ []) (w ∷ y ∷ ws) h h' K K' s same_h agree = absurd s.1
+    finishes_agree way is line vs ws h h' K K' s same_h agree = λ i j ts us told told'. left_ends S ts us told.0
 
-    evaluates_agree : (line : ℕ) (env env' : Env) (h h' : Handled) (e : Expr) (K K' : AfterValue) → SameEnv S env env' → SameHandled S h h' → ValuesAgree S K K'
-        → Agreeing S (λ i ts. Evaluates scene line env h e i ts K) (λ j us. Evaluates scene' line env' h' e j us K')
-    evaluates_agree line env env' h h' (expr.Atom a) K K' same_env same_h agree = loads_agree line env env' h h' a K K' same_env same_h agree
-    evaluates_agree line env env' h h' (expr.Operation o) K K' same_env same_h agree = operates_agree line env env' h h' o K K' same_env same_h agree
+    mutual
+      evaluates_agree : (e : Expr) (line : ℕ) (env env' : Env) (h h' : Handled) (K K' : AfterValue) → SameEnv S env env' → SameHandled S h h' → ValuesAgree S K K'
+          → Agreeing S (λ i ts. Evaluates scene line env h e i ts K) (λ j us. Evaluates scene' line env' h' e j us K')
+      evaluates_agree (Leaf a) line env env' h h' K K' same_env same_h agree = loads_agree line env env' h h' a K K' same_env same_h agree
+      evaluates_agree (Operate o es) line env env' h h' K K' same_env same_h agree =
+          all_agree es line env env' h h' K K' _ _ same_env same_h agree (λ vs ws same_vs. finishes_agree (way_of o) (respects o) line vs ws h h' K K' same_vs same_h agree)
 
-    -- a statement's atom, and what is asked for it: a value is taken, and what comes in its place is the statement's end
-    taken_agree : (line : ℕ) (env env' : Env) (h h' : Handled) (a : Atom) (K K' : After) (next next' : Obj → ℕ → List Own → Type 0) → SameEnv S env env' → SameHandled S h h' → EndsAgree K K'
-        → ((v w : Obj) → S v w → Agreeing S (next v) (next' w)) → Agreeing S (λ i ts. Loads scene line env h a i ts (Use env K next)) (λ j us. Loads scene' line env' h' a j us (Use env' K' next'))
-    taken_agree line env env' h h' a K K' next next' same_env same_h agree on = loads_agree line env env' h h' a _ _ same_env same_h (use_agree env env' K K' next next' same_env agree on)
+      all_agree : (es : Exprs) (line : ℕ) (env env' : Env) (h h' : Handled) (K K' : AfterValue) (next next' : List Obj → ℕ → List Own → Type 0) → SameEnv S env env' → SameHandled S h h' → ValuesAgree S K K'
+          → ((vs ws : List Obj) → SameAll S vs ws → Agreeing S (next vs) (next' ws))
+          → Agreeing S (λ i ts. EvaluatesAll scene line env h es i ts K next) (λ j us. EvaluatesAll scene' line env' h' es j us K' next')
+      all_agree no_operands line env env' h h' K K' next next' same_env same_h agree on = on [] [] tt
+      all_agree (operand e es) line env env' h h' K K' next next' same_env same_h agree on =
+          evaluates_agree e line env env' h h' _ _ same_env same_h
+          (with_agree K K' _ _ agree
+          (λ v w s. all_agree es line env env' h h' K K' (λ vs. next (v ∷ vs)) (λ ws. next' (w ∷ ws)) same_env same_h agree (λ vs ws same_vs. on (v ∷ vs) (w ∷ ws) (s, same_vs))))
+
+    -- a statement's expression, and what is asked for it: a value is taken, and what comes in its place is the statement's end
+    taken_agree : (line : ℕ) (env env' : Env) (h h' : Handled) (a : Expr) (K K' : After) (next next' : Obj → ℕ → List Own → Type 0) → SameEnv S env env' → SameHandled S h h' → EndsAgree K K'
+        → ((v w : Obj) → S v w → Agreeing S (next v) (next' w)) → Agreeing S (λ i ts. Evaluates scene line env h a i ts (Use env K next)) (λ j us. Evaluates scene' line env' h' a j us (Use env' K' next'))
+    taken_agree line env env' h h' a K K' next next' same_env same_h agree on = evaluates_agree a line env env' h h' _ _ same_env same_h (use_agree env env' K K' next next' same_env agree on)
 
     answer_agree : (line : ℕ) (env env' : Env) (h h' : Handled) (r r' : Request) (K K' : After) (next next' : Obj → ℕ → List Own → Type 0) → SameRequest S r r' → SameEnv S env env' → SameHandled S h h' → EndsAgree K K'
         → ((v w : Obj) → S v w → Agreeing S (next v) (next' w)) → Agreeing S (λ i ts. Requests scene line r h i ts (Use env K next)) (λ j us. Requests scene' line r' h' j us (Use env' K' next'))
@@ -270,7 +278,7 @@ module _ (S : Relation) where
         answer_agree line env env' h h' (request.Truth v) (request.Truth w) K K' _ _ s same_env same_h agree
         (λ x y same_x i j ts us (b, has, a) (c, has', d). on b c (faithful.truths x y b c same_x has has') i j ts us a d)
 
-    chooses_agree : (line : ℕ) (env env' : Env) (h h' : Handled) (a : Atom) (K K' : After) (next next' : Bool → ℕ → List Own → Type 0) → SameEnv S env env' → SameHandled S h h' → EndsAgree K K'
+    chooses_agree : (line : ℕ) (env env' : Env) (h h' : Handled) (a : Expr) (K K' : After) (next next' : Bool → ℕ → List Own → Type 0) → SameEnv S env env' → SameHandled S h h' → EndsAgree K K'
         → ((b c : Bool) → b ≡ c → Agreeing S (next b) (next' c)) → Agreeing S (λ i ts. Chooses scene line env h a i ts K next) (λ j us. Chooses scene' line env' h' a j us K' next')
     chooses_agree line env env' h h' a K K' next next' same_env same_h agree on =
         taken_agree line env env' h h' a K K' _ _ same_env same_h agree (λ v w s. tests_agree line env env' h h' v w K K' next next' s same_env same_h agree on)
@@ -278,13 +286,13 @@ module _ (S : Relation) where
     -- ---- statements
 
     -- a round of a loop, the test, and where it is true what agrees
-    rounds_agree : (line : ℕ) (a : Atom) (env env' : Env) (h h' : Handled) (K K' : After) (P Q : ℕ → List Own → Type 0) → SameEnv S env env' → SameHandled S h h' → EndsAgree K K' → Agreeing S P Q
+    rounds_agree : (line : ℕ) (a : Expr) (env env' : Env) (h h' : Handled) (K K' : After) (P Q : ℕ → List Own → Type 0) → SameEnv S env env' → SameHandled S h h' → EndsAgree K K' → Agreeing S P Q
         → Agreeing S (λ i ts. Rounded ts (K env Cut i []) (λ mid. Chooses scene line env h a i mid K (λ b k left. By_truth b (P k left) (K env Normal k left))))
         (λ j us. Rounded us (K' env' Cut j []) (λ mid. Chooses scene' line env' h' a j mid K' (λ b k left. By_truth b (Q k left) (K' env' Normal k left))))
     rounds_agree line a env env' h h' K K' P Q same_env same_h agree turns =
         rounded_agree S _ _ _ _ (chooses_agree line env env' h h' a K K' _ _ same_env same_h agree (λ b c e. by_truth_agree b c _ _ _ _ e turns (agree env env' Normal Normal same_env tt)))
 
-    loops_agree : (line : ℕ) (a : Atom) (body body' : Runner) → RunnersAgree body body' → (n m : ℕ) → RunnersAgree (Loops scene line a body n) (Loops scene' line a body' m)
+    loops_agree : (line : ℕ) (a : Expr) (body body' : Runner) → RunnersAgree body body' → (n m : ℕ) → RunnersAgree (Loops scene line a body n) (Loops scene' line a body' m)
     loops_agree line a body body' runs zero zero env env' h h' K K' same_env same_h agree = rounds_agree line a env env' h h' K K' _ _ same_env same_h agree (λ i j ts us never told. absurd never)
     loops_agree line a body body' runs zero (suc m) env env' h h' K K' same_env same_h agree = rounds_agree line a env env' h h' K K' _ _ same_env same_h agree (λ i j ts us never told. absurd never)
     loops_agree line a body body' runs (suc n) zero env env' h h' K K' same_env same_h agree = rounds_agree line a env env' h h' K K' _ _ same_env same_h agree (λ i j ts us told never. absurd never)
@@ -336,9 +344,9 @@ module _ (S : Relation) where
     mutual
       runs_agree : (f : Form) (line : ℕ) → RunnersAgree (Runs scene line f) (Runs scene' line f)
       runs_agree (Assign x e) line env env' h h' K K' same_env same_h agree =
-          evaluates_agree line env env' h h' e _ _ same_env same_h
+          evaluates_agree e line env env' h h' _ _ same_env same_h
           (use_agree env env' K K' _ _ same_env agree (λ v w s. agree (set_local x (Some v) env) (set_local x (Some w) env') Normal Normal (set_same S x (Some v) (Some w) env env' s same_env) tt))
-      runs_agree (Do o) line env env' h h' K K' same_env same_h agree = operates_agree line env env' h h' o _ _ same_env same_h (use_agree env env' K K' _ _ same_env agree (λ v w s. agree env env' Normal Normal same_env tt))
+      runs_agree (Do o es) line env env' h h' K K' same_env same_h agree = evaluates_agree (Operate o es) line env env' h h' _ _ same_env same_h (use_agree env env' K K' _ _ same_env agree (λ v w s. agree env env' Normal Normal same_env tt))
       runs_agree (Show a) line env env' h h' K K' same_env same_h agree =
           taken_agree line env env' h h' a K K' _ _ same_env same_h agree
           (λ v w s. answer_agree line env env' h h' (request.Show v) (request.Show w) K K' _ _ s same_env same_h agree (λ u u' same_u. agree env env' Normal Normal same_env tt))
@@ -375,7 +383,7 @@ module _ (S : Relation) where
       tries_agree : (cs : Clauses) (line : ℕ) (e f : PyBaseExceptionRef) → SameException S e f → RunnersAgree (Tries scene line cs e) (Tries scene' line cs f)
       tries_agree no_more line e f same env env' h h' K K' same_env same_h agree = reraises_agree line env env' h h' K K' same_env same_h agree
       tries_agree (clause n c x s rest) line e f same env env' h h' K K' same_env same_h agree =
-          taken_agree n env env' h h' (atom.Name c) K K' _ _ same_env same_h agree
+          taken_agree n env env' h h' (Leaf (atom.Name c)) K K' _ _ same_env same_h agree
           (λ v v' same_v. answer_agree n env env' h h' (request.Match (as_object e) v) (request.Match (as_object f) v') K K' _ _ (same, same_v) same_env same_h agree
           (λ w w' same_w. tests_agree n env env' h h' w w' K K' _ _ same_w same_env same_h agree
           (λ b d matched. by_truth_agree b d _ _ _ _ matched

@@ -2,12 +2,11 @@
 use Rattle.std.proofs.Common.{◌≡◌, ◌<◌, ◌≤◌, ◌+◌, ◌%◌, ◌^◌, ℕ, zero, suc, refl, sym, ap, ◌∙◌, subst, arith}
 use Rattle.py_code.specs.declared.instruction.Instruction.{Instruction}
 use Rattle.py_code.specs.declared.instruction.Instruction.TheVariants as op
-use Rattle.py_tree.specs.declared.expr.Atom.{Atom}
-use Rattle.py_tree.specs.Tree.{Form, If, IfElse, Pass, While, Suite, nothing, first}
+use Rattle.py_tree.specs.Tree.{Expr, Form, If, IfElse, Pass, While, Suite, nothing, first}
 use Rattle.py_tree.specs.Suites.{add}
-use Rattle.py_laid.specs.Code.{Parts, Labels, Scope, on, over, in_loop, Stands, LaidAtom, LaidForm, LaidSuite}
-use Rattle.py_body.specs.Sizes.{size_form, size_rounds, size_suite}
-use Rattle.py_body.specs.Emitting.{Draft, end_of, weights_of, HasRoom, AroundFits, EmitsAtom, EmitsBranch, EmitsForm, EmitsJump, EmitsPlain, EmitsSuite}
+use Rattle.py_laid.specs.Code.{Parts, Labels, Scope, on, over, in_loop, Stands, LaidExpr, LaidForm, LaidSuite}
+use Rattle.py_body.specs.Sizes.{size_expr, size_form, size_rounds, size_suite}
+use Rattle.py_body.specs.Emitting.{Draft, end_of, weights_of, HasRoom, AroundFits, EmitsExpr, EmitsBranch, EmitsForm, EmitsJump, EmitsPlain, EmitsSuite}
 use Rattle.py_body.proofs.Binding.{placed_add}
 use Rattle.py_body.proofs.Trees.{size_add}
 use Rattle.py_body.proofs.EmittingLemmas.{emits_as, emits_none, emits_then}
@@ -55,9 +54,9 @@ pass_emits labels d scope line = emits_as (emits_none {d = d} {A = λ whole at n
 
 -- ---- branches
 
-pub branch_emits : {a b c d : Draft} {i : Instruction} (scope : Scope) (line : ℕ) (x : Atom) (s : Suite) (behind : ℕ)
+pub branch_emits : {a b c d : Draft} {i : Instruction} (scope : Scope) (line : ℕ) (x : Expr) (s : Suite) (behind : ℕ)
     → behind ≡ (end_of a + size_form (weights_of a) (If x s)) % 2 ^ 32
-    → EmitsAtom a b scope line x → EmitsJump b.labels b c (over 1 scope) line i behind → EmitsSuite c.labels c d scope s → EmitsBranch a.labels a d scope line x i s
+    → EmitsExpr a b scope line x → EmitsJump b.labels b c (over 1 scope) line i behind → EmitsSuite c.labels c d scope s → EmitsBranch a.labels a d scope line x i s
 branch_emits {a} {b} {c} {d} {i} scope line x s behind cut one two three =
     let two_here : EmitsJump a.labels b c (over 1 scope) line i behind = subst (λ (l : ℕ). EmitsJump l b c (over 1 scope) line i behind) one.labels two in
     let three_here : EmitsSuite a.labels c d scope s = subst (λ (l : ℕ). EmitsSuite l c d scope s) (two.labels ∙ one.labels) three in
@@ -67,10 +66,10 @@ branch_emits {a} {b} {c} {d} {i} scope line x s behind cut one two three =
     label_fits {d = d} behind (end_of a + size_form (weights_of a) (If x s)) (end_of d) a.labels room (three.labels ∙ two.labels ∙ one.labels) cut (omega (arith, begins_is, next_is)) (omega arith) in
     (asks, begins, load, subst (λ (n : ℕ). Stands whole (on scope) line asks i n begins) fits.0 (test fits.1), suite around placed))
 
-pub if_else_emits : {a b c d e f : Draft} (scope : Scope) (line : ℕ) (x : Atom) (s t : Suite) (second behind : ℕ)
-    → second ≡ (end_of a + ((weights_of a).index + (weights_of a).jump + size_suite (weights_of a) s + (weights_of a).jump)) % 2 ^ 32
+pub if_else_emits : {a b c d e f : Draft} (scope : Scope) (line : ℕ) (x : Expr) (s t : Suite) (second behind : ℕ)
+    → second ≡ (end_of a + (size_expr (weights_of a) x + (weights_of a).jump + size_suite (weights_of a) s + (weights_of a).jump)) % 2 ^ 32
     → behind ≡ (end_of a + size_form (weights_of a) (IfElse x s t)) % 2 ^ 32
-    → EmitsAtom a b scope line x → EmitsJump b.labels b c (over 1 scope) line op.JumpIfFalse second → EmitsSuite c.labels c d scope s → EmitsJump d.labels d e scope line op.Jump behind
+    → EmitsExpr a b scope line x → EmitsJump b.labels b c (over 1 scope) line op.JumpIfFalse second → EmitsSuite c.labels c d scope s → EmitsJump d.labels d e scope line op.Jump behind
     → EmitsSuite e.labels e f scope t
     → EmitsForm a.labels a f scope line (IfElse x s t)
 if_else_emits {a} {b} {c} {d} {e} {f} scope line x s t second behind cut_second cut_behind one two three four five =
@@ -100,14 +99,14 @@ if_else_emits {a} {b} {c} {d} {e} {f} scope line x s t second behind cut_second 
 -- ---- loops
 
 -- the code of a loop behind its set-up, inside of a scope
-abbrev Rounds : Parts → ℕ → Atom → Suite → (tests asks begins repeats ends next : ℕ) → Scope → Type 0
+abbrev Rounds : Parts → ℕ → Expr → Suite → (tests asks begins repeats ends next : ℕ) → Scope → Type 0
 Rounds whole line x s tests asks begins repeats ends next inner =
-    LaidAtom whole inner line x tests asks × Stands whole (on inner) line asks op.JumpIfFalse ends begins × LaidSuite whole inner s begins repeats
+    LaidExpr whole inner line x tests asks × Stands whole (on inner) line asks op.JumpIfFalse ends begins × LaidSuite whole inner s begins repeats
     × Stands whole inner line repeats op.Jump tests ends × Stands whole inner line ends op.PopBlock 0 next
 
-pub while_emits : {a b c d e f g : Draft} (scope inner : Scope) (line : ℕ) (x : Atom) (s : Suite) (labels : Labels) (end : ℕ) → inner ≡ in_loop labels scope
-    → labels.again ≡ (end_of a + (weights_of a).plain) % 2 ^ 32 → labels.stop ≡ (end_of a + size_form (weights_of a) (While x s)) % 2 ^ 32 → end ≡ (end_of a + size_rounds (weights_of a) s) % 2 ^ 32
-    → EmitsPlain a b scope line op.SetupLoop 0 → EmitsAtom b c inner line x → EmitsJump c.labels c d (over 1 inner) line op.JumpIfFalse end → EmitsSuite d.labels d e inner s
+pub while_emits : {a b c d e f g : Draft} (scope inner : Scope) (line : ℕ) (x : Expr) (s : Suite) (labels : Labels) (end : ℕ) → inner ≡ in_loop labels scope
+    → labels.again ≡ (end_of a + (weights_of a).plain) % 2 ^ 32 → labels.stop ≡ (end_of a + size_form (weights_of a) (While x s)) % 2 ^ 32 → end ≡ (end_of a + size_rounds (weights_of a) x s) % 2 ^ 32
+    → EmitsPlain a b scope line op.SetupLoop 0 → EmitsExpr b c inner line x → EmitsJump c.labels c d (over 1 inner) line op.JumpIfFalse end → EmitsSuite d.labels d e inner s
     → EmitsJump e.labels e f inner line op.Jump labels.again → EmitsPlain f g inner line op.PopBlock 0 → EmitsForm a.labels a g scope line (While x s)
 while_emits {a} {b} {c} {d} {e} {f} {g} scope inner line x s labels end inner_is cut_again cut_stop cut_end one two three four five six =
     let to_c = two.labels ∙ one.labels in

@@ -30,7 +30,7 @@ length-bound_if names (Some x) = length-bound names x
 
 mutual
   length-bound_in : (f : Form) (names : List Name) → length (bound_in names f) ≤ length names + statements_in f
-  length-bound_in (Assign x e) names = length-bound names x
+  length-bound_in (Assign x e) names = omega (arith, length-bound names x)
   length-bound_in (If a s) names = let inside = length-bound_by s names in omega (arith, inside)
   length-bound_in (IfElse a s t) names =
       let one = length-bound_by s names in

@@ -2,14 +2,12 @@
 use Rattle.std.proofs.Common.{◌≡◌, ◌<◌, ◌≤◌, ◌+◌, ◌*◌, ◌^◌, ℕ, zero, suc, Bool, false, length, ap, sym, ◌∙◌, subst, arith}
 use Rattle.std.specs.Prelude.{Option, Some, None}
 use Rattle.py_tree.specs.declared.body.BodyKind.{BodyKind}
-use Rattle.py_tree.specs.declared.expr.Expr.{Expr}
-use Rattle.py_tree.specs.declared.expr.Expr.TheVariants as expr
-use Rattle.py_tree.specs.declared.expr.Operation.{Operation}
-use Rattle.py_tree.specs.declared.expr.Operation.TheVariants as operation
-use Rattle.py_tree.specs.Tree.{Name, Form, Assign, Do, Show, Return, Raise, Reraise, Break, Continue, Pass, If, IfElse, While, TryExcept, TryFinally, With, Suite, nothing, first, Clauses, no_more, clause}
+use Rattle.py_code.specs.declared.literal.BuiltinFn.{BuiltinFn}
+use Rattle.py_laid.specs.Operators.{coding_of, callee_of}
+use Rattle.py_tree.specs.Tree.{Name, Expr, Leaf, Operate, Exprs, no_operands, operand, Form, Assign, Do, Show, Return, Raise, Reraise, Break, Continue, Pass, If, IfElse, While, TryExcept, TryFinally, With, Suite, nothing, first, Clauses, no_more, clause}
 use Rattle.py_body.specs.declared.sizes.Weights.{Weights}
-use Rattle.py_tree.specs.Compilable.{ExprFits, OperationFits, FormFits, SuiteFits, ClausesFit, statements, statements_in, statements_under}
-use Rattle.py_body.specs.Sizes.{weights, most_units, size_body, size_clause, size_clauses, size_expr, size_form, size_operation, size_suite, size_with}
+use Rattle.py_tree.specs.Compilable.{FormFits, SuiteFits, ClausesFit, parts, all_parts, statements, statements_in, statements_under}
+use Rattle.py_body.specs.Sizes.{weights, most_units, size_body, size_callee, size_clause, size_clauses, size_expr, size_exprs, size_form, size_suite, size_with}
 
 -- an instruction takes few units
 pub record AreFew (w : Weights) : Type 0 where
@@ -17,59 +15,54 @@ pub record AreFew (w : Weights) : Type 0 where
   pub index : w.index ≤ 4
   pub plain : w.plain ≤ 1
 
--- the loads of the arguments of a call
-times_few : (n m : ℕ) → n ≤ 255 → m ≤ 4 → n * m ≤ 1020
-times_few n zero few low = omega (arith, few)
-times_few n (suc zero) few low = omega (arith, few)
-times_few n (suc (suc zero)) few low = omega (arith, few)
-times_few n (suc (suc (suc zero))) few low = omega (arith, few)
-times_few n (suc (suc (suc (suc zero)))) few low = omega (arith, few)
-times_few n (suc (suc (suc (suc (suc m))))) few low = absurd (omega (arith, low))
+-- an atom takes at most four units, and an operator five of its own
+callee_size : (w : Weights) → AreFew w → (fn : Option BuiltinFn) → size_callee w fn ≤ 4
+callee_size w few None = omega arith
+callee_size w few (Some fn) = few.index
 
--- an operation is at most a call with 255 arguments
-operation_size : (kind : BodyKind) (w : Weights) → AreFew w → (o : Operation) → OperationFits kind o → size_operation w o ≤ 1025
-operation_size kind w few (operation.Add a b) fits = omega (arith, few.index, few.plain)
-operation_size kind w few (operation.Sub a b) fits = omega (arith, few.index, few.plain)
-operation_size kind w few (operation.Lt a b) fits = omega (arith, few.index, few.plain)
-operation_size kind w few (operation.Eq a b) fits = omega (arith, few.index, few.plain)
-operation_size kind w few (operation.Send a b) fits = omega (arith, few.index, few.plain)
-operation_size kind w few (operation.Throw a b) fits = omega (arith, few.index, few.plain)
-operation_size kind w few (operation.Close a) fits = omega (arith, few.index, few.plain)
-operation_size kind w few (operation.Yield a) fits = omega (arith, few.index, few.plain)
-operation_size kind w few (operation.Call f atoms) fits = let loads = times_few (length atoms) w.index fits few.index in omega (arith, few.index, few.plain, loads)
+mutual
+  expr_size : (w : Weights) → AreFew w → (e : Expr) → size_expr w e ≤ 40 * parts e
+  expr_size w few (Leaf a) = omega (arith, few.index)
+  expr_size w few (Operate o es) = omega (arith, callee_size w few (callee_of (coding_of o)), exprs_size w few es, few.plain)
 
-expr_size : (kind : BodyKind) (w : Weights) → AreFew w → (e : Expr) → ExprFits kind e → size_expr w e ≤ 1025
-expr_size kind w few (expr.Atom a) fits = omega (arith, few.index)
-expr_size kind w few (expr.Operation o) fits = operation_size kind w few o fits
+  exprs_size : (w : Weights) → AreFew w → (es : Exprs) → size_exprs w es ≤ 40 * all_parts es
+  exprs_size w few no_operands = omega arith
+  exprs_size w few (operand e es) = omega (arith, expr_size w few e, exprs_size w few es)
+
+-- an expression that stands in a statement
+pub expr_most : (w : Weights) (labels others : ℕ) (e : Expr) → w ≡ weights labels others → labels ≤ 3 → others ≤ 3 → parts e ≤ 1048576 → size_expr w e ≤ most_units
+expr_most w labels others e is low_labels low_others few =
+    let most = expr_size (weights labels others) (record { jump = omega (arith, low_labels); index = omega (arith, low_others); plain = omega arith }) e in
+    subst (λ (v : Weights). size_expr v e ≤ most_units) (sym is) (omega (arith, most, few))
 
 -- a clause without its suite
-clause_size : (w : Weights) → AreFew w → (x : Option Name) (body : ℕ) → size_clause w x body ≤ body + 1032
+clause_size : (w : Weights) → AreFew w → (x : Option Name) (body : ℕ) → size_clause w x body ≤ body + 40
 clause_size w few None body = omega (arith, few.jump, few.index, few.plain)
 clause_size w few (Some x) body = omega (arith, few.jump, few.index, few.plain)
 
 -- a with without its suite
-with_size : (w : Weights) → AreFew w → (x : Option Name) (body : ℕ) → size_with w x body ≤ body + 1032
-with_size w few None body = omega (arith, few.jump, few.index, few.plain)
-with_size w few (Some x) body = omega (arith, few.jump, few.index, few.plain)
+with_size : (w : Weights) → AreFew w → (a : Expr) (x : Option Name) (body : ℕ) → size_with w a x body ≤ size_expr w a + body + 40
+with_size w few a None body = omega (arith, few.jump, few.index, few.plain)
+with_size w few a (Some x) body = omega (arith, few.jump, few.index, few.plain)
 
 mutual
-  -- a statement takes at most 1032 units of its own
-  form_size : (kind : BodyKind) (w : Weights) → AreFew w → (in_loop : Bool) (f : Form) → FormFits kind in_loop f → size_form w f ≤ 1032 * statements_in f
-  form_size kind w few in_loop (Assign x e) fits = let value = expr_size kind w few e fits in omega (arith, few.index, value)
-  form_size kind w few in_loop (Do o) fits = let value = operation_size kind w few o fits in omega (arith, few.plain, value)
-  form_size kind w few in_loop (Show a) fits = omega (arith, few.index, few.plain)
-  form_size kind w few in_loop (Return a) fits = omega (arith, few.index, few.plain)
-  form_size kind w few in_loop (Raise a) fits = omega (arith, few.index, few.plain)
+  -- a statement takes at most 40 units of its own
+  form_size : (kind : BodyKind) (w : Weights) → AreFew w → (in_loop : Bool) (f : Form) → FormFits kind in_loop f → size_form w f ≤ 40 * statements_in f
+  form_size kind w few in_loop (Assign x e) fits = let value = expr_size w few e in omega (arith, few.index, value)
+  form_size kind w few in_loop (Do o es) fits = let value = expr_size w few (Operate o es) in omega (arith, few.plain, value)
+  form_size kind w few in_loop (Show a) fits = omega (arith, expr_size w few a, few.plain)
+  form_size kind w few in_loop (Return a) fits = omega (arith, expr_size w few a, few.plain)
+  form_size kind w few in_loop (Raise a) fits = omega (arith, expr_size w few a, few.plain)
   form_size kind w few in_loop Reraise fits = omega (arith, few.plain)
   form_size kind w few in_loop Break fits = omega (arith, few.jump)
   form_size kind w few in_loop Continue fits = omega (arith, few.jump)
   form_size kind w few in_loop Pass fits = omega arith
-  form_size kind w few in_loop (If a s) fits = let body = suite_size kind w few in_loop s fits in omega (arith, few.jump, few.index, body)
+  form_size kind w few in_loop (If a s) fits = let body = suite_size kind w few in_loop s fits.1 in omega (arith, few.jump, expr_size w few a, body)
   form_size kind w few in_loop (IfElse a s t) fits =
-      let body = suite_size kind w few in_loop s fits.0 in
-      let other = suite_size kind w few in_loop t fits.1 in
-      omega (arith, few.jump, few.index, body, other)
-  form_size kind w few in_loop (While a s) fits = let body = suite_size kind w few _ s fits in omega (arith, few.jump, few.index, few.plain, body)
+      let body = suite_size kind w few in_loop s fits.1 in
+      let other = suite_size kind w few in_loop t fits.2 in
+      omega (arith, few.jump, expr_size w few a, body, other)
+  form_size kind w few in_loop (While a s) fits = let body = suite_size kind w few _ s fits.1 in omega (arith, few.jump, expr_size w few a, few.plain, body)
   form_size kind w few in_loop (TryExcept s cs) fits =
       let body = suite_size kind w few in_loop s fits.0 in
       let clauses = clauses_size kind w few in_loop cs fits.1 in
@@ -79,18 +72,18 @@ mutual
       let last = suite_size kind w few in_loop t fits.1 in
       omega (arith, few.jump, few.plain, body, last)
   form_size kind w few in_loop (With a x s) fits =
-      let body = suite_size kind w few in_loop s fits in
-      let whole = with_size w few x (size_suite w s) in
-      omega (arith, body, whole)
+      let body = suite_size kind w few in_loop s fits.1 in
+      let whole = with_size w few a x (size_suite w s) in
+      omega (arith, body, whole, expr_size w few a)
 
-  pub suite_size : (kind : BodyKind) (w : Weights) → AreFew w → (in_loop : Bool) (s : Suite) → SuiteFits kind in_loop s → size_suite w s ≤ 1032 * statements s
+  pub suite_size : (kind : BodyKind) (w : Weights) → AreFew w → (in_loop : Bool) (s : Suite) → SuiteFits kind in_loop s → size_suite w s ≤ 40 * statements s
   suite_size kind w few in_loop nothing fits = omega arith
   suite_size kind w few in_loop (first n f more) fits =
       let one = form_size kind w few in_loop f fits.0 in
       let rest = suite_size kind w few in_loop more fits.1 in
       omega (arith, one, rest)
 
-  pub clauses_size : (kind : BodyKind) (w : Weights) → AreFew w → (in_loop : Bool) (cs : Clauses) → ClausesFit kind in_loop cs → size_clauses w cs ≤ 1032 * statements_under cs
+  pub clauses_size : (kind : BodyKind) (w : Weights) → AreFew w → (in_loop : Bool) (cs : Clauses) → ClausesFit kind in_loop cs → size_clauses w cs ≤ 40 * statements_under cs
   clauses_size kind w few in_loop no_more fits = omega arith
   clauses_size kind w few in_loop (clause n c x s more) fits =
       let body = suite_size kind w few in_loop s fits.0 in

@@ -17,21 +17,19 @@ use Rattle.py_code.specs.declared.operator.TestOperator.TheVariants as test
 use Rattle.py_code.specs.Numbers.{test_number}
 use Rattle.py_tree.specs.declared.expr.Atom.{Atom}
 use Rattle.py_tree.specs.declared.expr.Atom.TheVariants as atom
-use Rattle.py_tree.specs.declared.expr.Expr.{Expr}
-use Rattle.py_tree.specs.declared.expr.Operation.{Operation}
-use Rattle.py_tree.specs.Tree.{Name, Form, Assign, If, IfElse, While, TryExcept, TryFinally, With, Suite, nothing, first}
+use Rattle.py_tree.specs.Tree.{Name, Expr, Exprs, Form, Assign, If, IfElse, While, TryExcept, TryFinally, With, Suite, nothing, first}
 use Rattle.py_tree.specs.Tree.{Clauses, no_more, clause, Tree}
 use Rattle.py_tree.specs.Suites.{joined_clauses}
 use Rattle.py_tree.specs.Binding.{bound, locals_of}
 use Rattle.py_tree.specs.Compilable.{FormFits, SuiteFits, ClausesFit}
 use Rattle.py_laid.specs.Fits.{Continues}
-use Rattle.py_laid.specs.Code.{Parts, Labels, Around, Scope, note_of, place, Stands, StandsConst, StandsLocal, LaidAtom, LaidTaken, LaidAtoms, LaidTwo, LaidDriven, LaidOperation, LaidExpr, LaidTarget}
+use Rattle.py_laid.specs.Code.{Parts, Labels, Around, Scope, note_of, place, Stands, StandsConst, StandsLocal, LaidAtom, LaidCallee, LaidExpr, LaidExprs, LaidTaken, LaidTarget}
 use Rattle.py_laid.specs.Code.{LaidForget, LaidHandler, LaidBranch, LaidForm, LaidSuite, LaidClauses, LaidBody, on, in_try, before_finally, entry}
 use Rattle.py_body.specs.declared.sizes.Weights.{Weights}
 use Rattle.py_body.specs.declared.scope.Labels.{Labels as OwnLabels}
 use Rattle.py_body.specs.declared.scope.Scope.{Scope as OwnScope}
 use Rattle.py_body.specs.declared.emitter.Emitter.{Emitter}
-use Rattle.py_body.specs.Sizes.{weights, counted, size_two, size_driven, size_operation, size_expr, size_target, size_form, size_suite, size_clauses, size_forget, size_clause, size_handler}
+use Rattle.py_body.specs.Sizes.{weights, counted, size_callee, size_expr, size_exprs, size_target, size_form, size_suite, size_clauses, size_forget, size_clause, size_handler}
 use Rattle.py_body.specs.Sizes.{size_match, size_opening, size_tried, size_body, size_managed}
 
 -- ---- scopes
@@ -190,23 +188,17 @@ EmitsLocal old new scope line i x = Emits old new (λ w. w.index) (λ whole at n
 abbrev pub EmitsAtom : Draft → Draft → Scope → ℕ → Atom → Type 0
 EmitsAtom old new scope line a = Emits old new (λ w. w.index) (λ whole at next. LaidAtom whole scope line a at next)
 
-abbrev pub EmitsTaken : Draft → Draft → Scope → ℕ → Atom → Instruction → ℕ → Type 0
-EmitsTaken old new scope line a i arg = Emits old new (λ w. w.index + w.plain) (λ whole at next. LaidTaken whole scope line a i arg at next)
-
-abbrev pub EmitsAtoms : Draft → Draft → Scope → ℕ → List Atom → Type 0
-EmitsAtoms old new scope line atoms = Emits old new (λ w. length atoms * w.index) (λ whole at next. LaidAtoms whole scope line atoms at next)
-
-abbrev pub EmitsTwo : Draft → Draft → Scope → ℕ → Atom → Atom → Instruction → ℕ → Type 0
-EmitsTwo old new scope line a b i arg = Emits old new size_two (λ whole at next. LaidTwo whole scope line a b i arg at next)
-
-abbrev pub EmitsDriven : Draft → Draft → Scope → ℕ → BuiltinFn → Atom → Atom → Type 0
-EmitsDriven old new scope line fn a b = Emits old new size_driven (λ whole at next. LaidDriven whole scope line fn a b at next)
-
-abbrev pub EmitsOperation : Draft → Draft → Scope → ℕ → Operation → Type 0
-EmitsOperation old new scope line o = Emits old new (λ w. size_operation w o) (λ whole at next. LaidOperation whole scope line o at next)
+abbrev pub EmitsCallee : Draft → Draft → Scope → ℕ → Option BuiltinFn → Type 0
+EmitsCallee old new scope line fn = Emits old new (λ w. size_callee w fn) (λ whole at next. LaidCallee whole fn scope line at next)
 
 abbrev pub EmitsExpr : Draft → Draft → Scope → ℕ → Expr → Type 0
 EmitsExpr old new scope line e = Emits old new (λ w. size_expr w e) (λ whole at next. LaidExpr whole scope line e at next)
+
+abbrev pub EmitsExprs : Draft → Draft → Scope → ℕ → Exprs → Type 0
+EmitsExprs old new scope line es = Emits old new (λ w. size_exprs w es) (λ whole at next. LaidExprs whole scope line es at next)
+
+abbrev pub EmitsTaken : Draft → Draft → Scope → ℕ → Expr → Instruction → ℕ → Type 0
+EmitsTaken old new scope line e i arg = Emits old new (λ w. size_expr w e + w.plain) (λ whole at next. LaidTaken whole scope line e i arg at next)
 
 -- the name that there may be has a place among these
 abbrev pub TargetPlaced : List Name → Option Name → Type 0
@@ -246,10 +238,10 @@ abbrev pub EmitsForm : ℕ → Draft → Draft → Scope → ℕ → Form → Ty
 EmitsForm labels old new scope line f =
     Emits old new (λ w. size_form w f) (λ whole at next. AroundFits labels scope.around → FormPlaced whole.vars f → LaidForm whole scope line f at next)
 
--- a suite over which a jump leads, by the value of an atom
-abbrev pub EmitsBranch : ℕ → Draft → Draft → Scope → ℕ → Atom → Instruction → Suite → Type 0
+-- a suite over which a jump leads, by the value of an expression
+abbrev pub EmitsBranch : ℕ → Draft → Draft → Scope → ℕ → Expr → Instruction → Suite → Type 0
 EmitsBranch labels old new scope line x i s =
-    Emits old new (λ w. w.index + w.jump + size_suite w s)
+    Emits old new (λ w. size_expr w x + w.jump + size_suite w s)
     (λ whole at next. AroundFits labels scope.around → SuitePlaced whole.vars s → LaidBranch whole scope line x i (λ begins to. LaidSuite whole scope s begins to) at next)
 
 abbrev pub EmitsSuite : ℕ → Draft → Draft → Scope → Suite → Type 0
@@ -264,9 +256,9 @@ module _ (parts : Parts) where
       × Stands parts (before_finally handler scope) line leaves op.PopBlock 0 enters × Stands parts scope line enters op.EnterFinally 0 next
 
   -- a with up to its exit, which stands at the handler
-  abbrev pub LaidManaged : Scope → ℕ → Atom → Option Name → Suite → ℕ → ℕ → ℕ → Type 0
+  abbrev pub LaidManaged : Scope → ℕ → Expr → Option Name → Suite → ℕ → ℕ → ℕ → Type 0
   LaidManaged scope line a x s handler at next =
-      (sets : ℕ) × (binds : ℕ) × (begins : ℕ) × (leaves : ℕ) × (enters : ℕ) × LaidAtom parts scope line a at sets × Stands parts (on scope) line sets op.SetupWith handler binds
+      (sets : ℕ) × (binds : ℕ) × (begins : ℕ) × (leaves : ℕ) × (enters : ℕ) × LaidExpr parts scope line a at sets × Stands parts (on scope) line sets op.SetupWith handler binds
       × LaidTarget parts (before_finally handler (on scope)) line x binds begins × LaidSuite parts (before_finally handler (on scope)) s begins leaves
       × Stands parts (before_finally handler (on scope)) line leaves op.PopBlock 0 enters × Stands parts (on scope) line enters op.EnterFinally 0 next
 
@@ -288,9 +280,9 @@ EmitsOpening labels old new scope line s handler =
     Emits old new (λ w. size_opening w (size_suite w s))
     (λ whole at next. handler < 256 ^ suc labels → AroundFits labels scope.around → SuitePlaced whole.vars s → LaidOpening whole scope line s handler at next)
 
-abbrev pub EmitsManaged : ℕ → Draft → Draft → Scope → ℕ → Atom → Option Name → Suite → ℕ → Type 0
+abbrev pub EmitsManaged : ℕ → Draft → Draft → Scope → ℕ → Expr → Option Name → Suite → ℕ → Type 0
 EmitsManaged labels old new scope line a x s handler =
-    Emits old new (λ w. size_managed w x (size_suite w s))
+    Emits old new (λ w. size_managed w a x (size_suite w s))
     (λ whole at next. handler < 256 ^ suc labels → AroundFits labels scope.around → TargetPlaced whole.vars x → SuitePlaced whole.vars s → LaidManaged whole scope line a x s handler at next)
 
 abbrev pub EmitsTried : ℕ → Draft → Draft → Scope → ℕ → Suite → ℕ → ℕ → Type 0

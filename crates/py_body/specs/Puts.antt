@@ -1,23 +1,19 @@
 -- What is emitted, said of emitters and scopes as the program has them: what there was, what there is and where that stands come first.
-use Rattle.std.specs.Prelude.{ℕ, ◌+◌, ◌%◌, ◌^◌, ◌≡◌, Bool, Option, Some, List, ◌∷◌}
+use Rattle.std.specs.Prelude.{ℕ, ◌+◌, ◌*◌, ◌%◌, ◌^◌, ◌≤◌, ◌≡◌, Bool, Option, Some, List, ◌∷◌}
 use Rattle.py_code.specs.declared.instruction.Instruction.{Instruction}
 use Rattle.py_code.specs.declared.literal.Literal.{Literal}
 use Rattle.py_code.specs.declared.literal.BuiltinFn.{BuiltinFn}
 use Rattle.py_check.specs.declared.note.BlockNote.{BlockNote}
 use Rattle.py_tree.specs.declared.body.BodyKind.{BodyKind}
 use Rattle.py_tree.specs.declared.expr.Atom.{Atom}
-use Rattle.py_tree.specs.declared.expr.Expr.{Expr}
-use Rattle.py_tree.specs.declared.expr.Operation.{Operation}
-use Rattle.py_tree.specs.declared.expr.Operation.TheVariants as operation
-use Rattle.py_tree.specs.Tree.{Name, Form, IfElse, While, TryExcept, TryFinally, With}
-use Rattle.py_tree.specs.Compilable.{SuiteFits, statements, statements_under}
-use Rattle.py_laid.specs.Code.{Scope, in_loop, note_of, over}
+use Rattle.py_tree.specs.Tree.{Name, Expr, Exprs, Form, IfElse, While, TryExcept, TryFinally, With}
+use Rattle.py_tree.specs.ExprViews.{expr_of}
+use Rattle.py_tree.specs.Compilable.{deep, deepest, operands, SuiteFits, statements, statements_under}
+use Rattle.py_laid.specs.Code.{Scope, in_loop, note_of, over, under}
 use Rattle.py_check.specs.declared.note.Note.{Note}
 use Rattle.py_code.specs.declared.instruction.Instruction.TheVariants as op
-use Rattle.py_code.specs.declared.operator.BinaryOperator.{BinaryOperator}
-use Rattle.py_code.specs.declared.operator.ComparisonOperator.{ComparisonOperator}
 use Rattle.py_code.specs.declared.operator.RaiseKind.{RaiseKind}
-use Rattle.py_code.specs.Numbers.{binary_number, comparison_number, raise_number}
+use Rattle.py_code.specs.Numbers.{raise_number}
 use Rattle.py_code.specs.declared.unit.CodeUnit.{CodeUnit}
 use Rattle.py_tree.specs.declared.stmt.StmtList.{StmtList}
 use Rattle.py_tree.specs.declared.stmt.ClauseList.{ClauseList}
@@ -32,8 +28,8 @@ use Rattle.py_body.specs.declared.scope.Site.{Site}
 use Rattle.py_body.specs.declared.managers.Managed.{Managed}
 use Rattle.py_body.specs.declared.emitter.Emitter.{Emitter}
 use Rattle.py_body.specs.declared.emitter.Spelled.{Spelled}
-use Rattle.py_body.specs.Emitting.{around_of, draft_of, end_of, labels_of, scope_of, weights_of, put, EmitsBody, EmitsAtom, EmitsAtoms, EmitsBranch, EmitsClauses, EmitsConst, EmitsDriven, EmitsExpr, EmitsForget, EmitsForm, EmitsHandler}
-use Rattle.py_body.specs.Emitting.{EmitsJump, EmitsLocal, EmitsManaged, EmitsMatch, EmitsOpening, EmitsOperation, EmitsPlain, EmitsSuite, EmitsTaken, EmitsTarget, EmitsTried, EmitsTwo}
+use Rattle.py_body.specs.Emitting.{around_of, draft_of, end_of, labels_of, scope_of, weights_of, put, EmitsBody, EmitsAtom, EmitsBranch, EmitsCallee, EmitsClauses, EmitsConst, EmitsExpr, EmitsExprs, EmitsForget, EmitsForm, EmitsHandler}
+use Rattle.py_body.specs.Emitting.{EmitsJump, EmitsLocal, EmitsManaged, EmitsMatch, EmitsOpening, EmitsPlain, EmitsSuite, EmitsTaken, EmitsTarget, EmitsTried}
 
 -- ---- scopes and labels
 
@@ -57,18 +53,18 @@ label_behind e size = (end_of (draft_of e) + size (weights_of (draft_of e))) % 2
 abbrev pub finally_label : Emitter → StmtList → ℕ
 finally_label e s = label_behind e (λ w. size_opening w (size_suite w (suite_of s)))
 
-abbrev pub exit_label : Emitter → Option Name → StmtList → ℕ
-exit_label e x s = label_behind e (λ w. size_managed w x (size_suite w (suite_of s)))
+abbrev pub exit_label : Emitter → Expr → Option Name → StmtList → ℕ
+exit_label e a x s = label_behind e (λ w. size_managed w a x (size_suite w (suite_of s)))
 
 abbrev pub clause_label : Emitter → Option Name → StmtList → ℕ
 clause_label e x s = label_behind e (λ w. size_clause w x (size_suite w (suite_of s)))
 
--- the labels of a loop of this atom and suite that begins there: behind its end, and where its test has failed
-abbrev pub stop_label : Emitter → Atom → StmtList → ℕ
+-- the labels of a loop of this test and suite that begins there: behind its end, and where its test has failed
+abbrev pub stop_label : Emitter → Expr → StmtList → ℕ
 stop_label e a s = label_behind e (λ w. size_form w (While a (suite_of s)))
 
-abbrev pub failed_label : Emitter → StmtList → ℕ
-failed_label e s = label_behind e (λ w. size_rounds w (suite_of s))
+abbrev pub failed_label : Emitter → Expr → StmtList → ℕ
+failed_label e a s = label_behind e (λ w. size_rounds w a (suite_of s))
 
 -- the scope inside of a loop there
 abbrev pub loop_at : Site → OwnLabels → Scope
@@ -120,44 +116,36 @@ PutsConst old new at above i literal = EmitsConst (draft_of old) (draft_of new) 
 abbrev pub PutsLocal : Emitter → Emitter → Site → ℕ → Instruction → Name → Type 0
 PutsLocal old new at above i x = EmitsLocal (draft_of old) (draft_of new) (over above (scope_at at)) at.line i x
 
--- the load of an atom, and of atoms one behind another
+-- the load of an atom, and of a function of the machine's own that an operator may call
 abbrev pub PutsAtom : Emitter → Emitter → Site → ℕ → Atom → Type 0
 PutsAtom old new at above a = EmitsAtom (draft_of old) (draft_of new) (over above (scope_at at)) at.line a
 
-abbrev pub PutsAtoms : Emitter → Emitter → Site → ℕ → List Atom → Type 0
-PutsAtoms old new at above atoms = EmitsAtoms (draft_of old) (draft_of new) (over above (scope_at at)) at.line atoms
+abbrev pub PutsCallee : Emitter → Emitter → Site → ℕ → Option BuiltinFn → Type 0
+PutsCallee old new at above fn = EmitsCallee (draft_of old) (draft_of new) (over above (scope_at at)) at.line fn
+
+-- so many values lie above the scope's where such a function is loaded above others
+abbrev pub CountsCallee : Site → ℕ → Option BuiltinFn → ℕ → Type 0
+CountsCallee at above callee n = (over n (scope_at at) ≡ under callee (over above (scope_at at))) × (n ≤ above + 1)
 
 -- ---- expressions
 
--- an instruction behind the atom that it takes, and behind two
-abbrev pub PutsTaken : Emitter → Emitter → Site → Atom → Instruction → ℕ → Type 0
-PutsTaken old new at a i arg = EmitsTaken (draft_of old) (draft_of new) (scope_at at) at.line a i arg
+-- a stack has room for an expression above so many values, and for operands
+abbrev pub HoldsExpr : Site → ℕ → Expr → Type 0
+HoldsExpr at above e = at.scope.now.depth + above + 257 * deep e ≤ 65000
 
-abbrev pub PutsTwo : Emitter → Emitter → Site → Atom → Atom → Instruction → ℕ → Type 0
-PutsTwo old new at a b i arg = EmitsTwo (draft_of old) (draft_of new) (scope_at at) at.line a b i arg
+abbrev pub HoldsOperands : Site → ℕ → Exprs → Type 0
+HoldsOperands at above es = at.scope.now.depth + above + operands es + 257 * deepest es ≤ 65000
 
--- the operation or the comparison of two atoms
-abbrev pub PutsBinary : Emitter → Emitter → Site → BinaryOperator → Atom → Atom → Type 0
-PutsBinary old new at o a b = PutsTwo old new at a b op.BinaryOperation (binary_number o)
+abbrev pub PutsExpr : Emitter → Emitter → Site → ℕ → Expr → Type 0
+PutsExpr old new at above e = EmitsExpr (draft_of old) (draft_of new) (over above (scope_at at)) at.line e
 
-abbrev pub PutsComparison : Emitter → Emitter → Site → ComparisonOperator → Atom → Atom → Type 0
-PutsComparison old new at o a b = PutsTwo old new at a b op.CompareOperation (comparison_number o)
+-- operands one behind another
+abbrev pub PutsExprs : Emitter → Emitter → Site → ℕ → Exprs → Type 0
+PutsExprs old new at above es = EmitsExprs (draft_of old) (draft_of new) (over above (scope_at at)) at.line es
 
--- the call of a function of the machine's own
-abbrev pub PutsDriven : Emitter → Emitter → Site → BuiltinFn → Atom → Atom → Type 0
-PutsDriven old new at fn a b = EmitsDriven (draft_of old) (draft_of new) (scope_at at) at.line fn a b
-
-abbrev pub PutsOperation : Emitter → Emitter → Site → Operation → Type 0
-PutsOperation old new at o = EmitsOperation (draft_of old) (draft_of new) (scope_at at) at.line o
-
-abbrev pub PutsCall : Emitter → Emitter → Site → Atom → List Atom → Type 0
-PutsCall old new at f atoms = PutsOperation old new at (operation.Call f atoms)
-
-abbrev pub PutsClose : Emitter → Emitter → Site → Atom → Type 0
-PutsClose old new at a = PutsOperation old new at (operation.Close a)
-
-abbrev pub PutsExpr : Emitter → Emitter → Site → Expr → Type 0
-PutsExpr old new at e = EmitsExpr (draft_of old) (draft_of new) (scope_at at) at.line e
+-- an instruction behind the expression that it takes
+abbrev pub PutsTaken : Emitter → Emitter → Site → Expr → Instruction → ℕ → Type 0
+PutsTaken old new at e i arg = EmitsTaken (draft_of old) (draft_of new) (scope_at at) at.line e i arg
 
 -- ---- statements
 
@@ -169,10 +157,10 @@ abbrev pub PutsForm : Emitter → Emitter → Site → Form → Type 0
 PutsForm old new at f = EmitsForm old.labels (draft_of old) (draft_of new) (scope_at at) at.line f
 
 -- those with two suites, a loop, tries and managers
-abbrev pub PutsIfElse : Emitter → Emitter → Site → Atom → StmtList → StmtList → Type 0
+abbrev pub PutsIfElse : Emitter → Emitter → Site → Expr → StmtList → StmtList → Type 0
 PutsIfElse old new at a s t = PutsForm old new at (IfElse a (suite_of s) (suite_of t))
 
-abbrev pub PutsWhile : Emitter → Emitter → Site → Atom → StmtList → Type 0
+abbrev pub PutsWhile : Emitter → Emitter → Site → Expr → StmtList → Type 0
 PutsWhile old new at a s = PutsForm old new at (While a (suite_of s))
 
 abbrev pub PutsTryFinally : Emitter → Emitter → Site → StmtList → StmtList → Type 0
@@ -181,15 +169,15 @@ PutsTryFinally old new at s t = PutsForm old new at (TryFinally (suite_of s) (su
 abbrev pub PutsTryExcept : Emitter → Emitter → Site → StmtList → ClauseList → Type 0
 PutsTryExcept old new at s cs = PutsForm old new at (TryExcept (suite_of s) (clauses_of cs))
 
-abbrev pub PutsWith : Emitter → Emitter → Site → Atom → Option Name → StmtList → Type 0
+abbrev pub PutsWith : Emitter → Emitter → Site → Expr → Option Name → StmtList → Type 0
 PutsWith old new at a x s = PutsForm old new at (With a x (suite_of s))
 
 -- statements, each of which has its own line
 abbrev pub PutsSuite : Emitter → Emitter → OwnScope → StmtList → Type 0
 PutsSuite old new scope s = EmitsSuite old.labels (draft_of old) (draft_of new) (scope_of scope) (suite_of s)
 
--- a suite over which a jump leads, by the value of an atom
-abbrev pub PutsBranch : Emitter → Emitter → Site → Atom → Instruction → StmtList → Type 0
+-- a suite over which a jump leads, by the value of an expression
+abbrev pub PutsBranch : Emitter → Emitter → Site → Expr → Instruction → StmtList → Type 0
 PutsBranch old new at a i s = EmitsBranch old.labels (draft_of old) (draft_of new) (scope_at at) at.line a i (suite_of s)
 
 -- ---- tries and managers
@@ -200,7 +188,7 @@ PutsOpening old new at s handler = EmitsOpening old.labels (draft_of old) (draft
 
 -- a with up to its exit, which is at a label
 abbrev pub PutsManaged : Emitter → Emitter → Site → Managed → StmtList → Type 0
-PutsManaged old new at m s = EmitsManaged old.labels (draft_of old) (draft_of new) (scope_at at) at.line m.atom.now m.target.now (suite_of s) m.handler
+PutsManaged old new at m s = EmitsManaged old.labels (draft_of old) (draft_of new) (scope_at at) at.line (expr_of m.expr.now) m.target.now (suite_of s) m.handler
 
 -- the body of a try with clauses at a label, from which another is jumped to
 abbrev pub PutsTried : Emitter → Emitter → Site → StmtList → ℕ → ℕ → Type 0

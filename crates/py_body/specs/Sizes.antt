@@ -1,11 +1,9 @@
 -- How many units the code of each form takes, where it is known how many an instruction takes: sums over the tree. With other
 -- numbers they say how many instructions of a kind there are.
-use Rattle.std.specs.Prelude.{ℕ, suc, ◌+◌, ◌*◌, Option, Some, None, length}
-use Rattle.py_tree.specs.declared.expr.Expr.{Expr}
-use Rattle.py_tree.specs.declared.expr.Expr.TheVariants as expr
-use Rattle.py_tree.specs.declared.expr.Operation.{Operation}
-use Rattle.py_tree.specs.declared.expr.Operation.TheVariants as operation
-use Rattle.py_tree.specs.Tree.{Name, Form, Assign, Do, Show, Return, Raise, Reraise, Break, Continue, Pass, If, IfElse, While, TryExcept, TryFinally, With, Suite, nothing, first, Clauses, no_more, clause}
+use Rattle.std.specs.Prelude.{ℕ, suc, ◌+◌, Option, Some, None}
+use Rattle.py_code.specs.declared.literal.BuiltinFn.{BuiltinFn}
+use Rattle.py_laid.specs.Operators.{coding_of, callee_of}
+use Rattle.py_tree.specs.Tree.{Name, Expr, Leaf, Operate, Exprs, no_operands, operand, Form, Assign, Do, Show, Return, Raise, Reraise, Break, Continue, Pass, If, IfElse, While, TryExcept, TryFinally, With, Suite, nothing, first, Clauses, no_more, clause}
 use Rattle.py_body.specs.declared.sizes.Weights.{Weights}
 
 -- where labels have so many prefixes and indices so many
@@ -16,28 +14,19 @@ weights labels others = record { jump = suc labels; index = suc others; plain = 
 abbrev pub counted : Weights
 counted = record { jump = 0; index = 1; plain = 0 }
 
--- two atoms, and the unit that takes them
-abbrev pub size_two : Weights → ℕ
-size_two w = w.index + w.index + w.plain
+-- the function of the machine's own that an operator may call
+abbrev pub size_callee : Weights → Option BuiltinFn → ℕ
+size_callee w None = 0
+size_callee w (Some fn) = w.index
 
--- a function of the machine's own, two atoms, and its call with them
-abbrev pub size_driven : Weights → ℕ
-size_driven w = w.index + w.index + w.index + w.plain
+abbrev mutual
+  pub size_expr : Weights → Expr → ℕ
+  size_expr w (Leaf a) = w.index
+  size_expr w (Operate o es) = size_callee w (callee_of (coding_of o)) + size_exprs w es + w.plain
 
-abbrev pub size_operation : Weights → Operation → ℕ
-size_operation w (operation.Add a b) = size_two w
-size_operation w (operation.Sub a b) = size_two w
-size_operation w (operation.Lt a b) = size_two w
-size_operation w (operation.Eq a b) = size_two w
-size_operation w (operation.Send a b) = size_driven w
-size_operation w (operation.Throw a b) = size_driven w
-size_operation w (operation.Close a) = w.index + w.index + w.plain
-size_operation w (operation.Yield a) = w.index + w.plain
-size_operation w (operation.Call f atoms) = w.index + length atoms * w.index + w.plain
-
-abbrev pub size_expr : Weights → Expr → ℕ
-size_expr w (expr.Atom a) = w.index
-size_expr w (expr.Operation o) = size_operation w o
+  pub size_exprs : Weights → Exprs → ℕ
+  size_exprs w no_operands = 0
+  size_exprs w (operand e es) = size_expr w e + size_exprs w es
 
 -- where a value goes
 abbrev pub size_target : Weights → Option Name → ℕ
@@ -56,13 +45,17 @@ size_finally w body final = size_opening w body + final + w.plain
 abbrev pub size_forget : Weights → ℕ
 size_forget w = w.index + w.index + w.index
 
--- a with up to its exit, by the size of its body
-abbrev pub size_managed : Weights → Option Name → ℕ → ℕ
-size_managed w x body = w.index + w.jump + size_target w x + body + w.plain + w.plain
+-- a with whose manager's expression has so many units, and whose suite so many
+abbrev pub size_around : Weights → (value : ℕ) → Option Name → (body : ℕ) → ℕ
+size_around w value x body = value + w.jump + size_target w x + body + w.plain + w.plain + w.plain + w.plain
+
+-- a with up to its exit, by its expression and the size of its body
+abbrev pub size_managed : Weights → Expr → Option Name → ℕ → ℕ
+size_managed w a x body = size_expr w a + w.jump + size_target w x + body + w.plain + w.plain
 
 -- and all of it
-abbrev pub size_with : Weights → Option Name → ℕ → ℕ
-size_with w x body = size_managed w x body + w.plain + w.plain
+abbrev pub size_with : Weights → Expr → Option Name → ℕ → ℕ
+size_with w a x body = size_managed w a x body + w.plain + w.plain
 
 -- the suite of a clause, by its size
 abbrev pub size_handler : Weights → Option Name → ℕ → ℕ
@@ -80,20 +73,20 @@ size_clause w x body = size_match w x + size_handler w x body + w.plain + w.jump
 abbrev mutual
   pub size_form : Weights → Form → ℕ
   size_form w (Assign x e) = size_expr w e + w.index
-  size_form w (Do o) = size_operation w o + w.plain
-  size_form w (Show a) = w.index + w.plain
-  size_form w (Return a) = w.index + w.plain
-  size_form w (Raise a) = w.index + w.plain
+  size_form w (Do o es) = size_expr w (Operate o es) + w.plain
+  size_form w (Show a) = size_expr w a + w.plain
+  size_form w (Return a) = size_expr w a + w.plain
+  size_form w (Raise a) = size_expr w a + w.plain
   size_form w Reraise = w.plain
   size_form w Break = w.jump
   size_form w Continue = w.jump
   size_form w Pass = 0
-  size_form w (If a s) = w.index + w.jump + size_suite w s
-  size_form w (IfElse a s t) = w.index + w.jump + size_suite w s + w.jump + size_suite w t
-  size_form w (While a s) = w.plain + w.index + w.jump + size_suite w s + w.jump + w.plain
+  size_form w (If a s) = size_expr w a + w.jump + size_suite w s
+  size_form w (IfElse a s t) = size_expr w a + w.jump + size_suite w s + w.jump + size_suite w t
+  size_form w (While a s) = w.plain + size_expr w a + w.jump + size_suite w s + w.jump + w.plain
   size_form w (TryExcept s cs) = w.jump + size_suite w s + w.plain + w.jump + size_clauses w cs + w.plain
   size_form w (TryFinally s t) = size_finally w (size_suite w s) (size_suite w t)
-  size_form w (With a x s) = size_with w x (size_suite w s)
+  size_form w (With a x s) = size_with w a x (size_suite w s)
 
   pub size_suite : Weights → Suite → ℕ
   size_suite w nothing = 0
@@ -108,13 +101,13 @@ abbrev pub size_tried : Weights → Suite → ℕ
 size_tried w s = w.jump + size_suite w s + w.plain + w.jump
 
 -- a loop up to where it is left
-abbrev pub size_rounds : Weights → Suite → ℕ
-size_rounds w s = w.plain + w.index + w.jump + size_suite w s + w.jump
+abbrev pub size_rounds : Weights → Expr → Suite → ℕ
+size_rounds w a s = w.plain + size_expr w a + w.jump + size_suite w s + w.jump
 
 -- a whole body, with the return at its end
 abbrev pub size_body : Weights → Suite → ℕ
 size_body w s = size_suite w s + w.index
 
--- no body that can be compiled has more units than this: a statement takes at most 1032
+-- no body that can be compiled has more units than this: a statement, a clause, an atom and an operator take at most 40
 abbrev pub most_units : ℕ
-most_units = 1082130432
+most_units = 41943040

@@ -226,7 +226,7 @@ fn size_with(labels: u32, others: u32, suite: &StmtList) -> u32
     requires fits { (kind : BodyKind) × SuiteFits kind false (suite_of suite.now) }
     requires low { (labels ≤ 3) × (others ≤ 3) }
     ensures size { result ≡ size_body (weights labels others) (suite_of suite.now) }
-    ensures most { result ≤ 1082130436 }
+    ensures most { result ≤ 41943044 }
 {
     let weights = Weights {
         jump: labels + 1,

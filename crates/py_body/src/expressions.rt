@@ -1,15 +1,18 @@
 //! The code of expressions.
 
-ghost use Rattle.std.specs.Prelude.{◌≡◌, ◌+◌, ◌≤◌, length, false, OnOk};
+ghost use Rattle.std.specs.Prelude.{◌≡◌, ◌+◌, ◌≤◌, false, IfOk, OnOk};
 ghost use Rattle.py_check.specs.Constants.{has_code};
 ghost use Rattle.py_code.specs.declared.instruction.Instruction.TheVariants.{LoadConst};
-ghost use Rattle.py_tree.specs.Compilable.{ExprFits, OperationFits};
-ghost use Rattle.py_body.specs.Puts.{PutsConst, PutsAtom, PutsAtoms, PutsBinary, PutsComparison, PutsCall, PutsDriven, PutsClose, PutsOperation, PutsExpr};
+ghost use Rattle.py_tree.specs.Tree.{Operate};
+ghost use Rattle.py_tree.specs.ExprViews.{expr_of, exprs_of};
+ghost use Rattle.py_tree.specs.Compilable.{AllFit, EachFits};
+ghost use Rattle.py_body.specs.Puts.{CountsCallee, HoldsExpr, HoldsOperands, PutsAtom, PutsCallee, PutsConst, PutsExpr, PutsExprs};
 
 use crate::emitter::Emitter;
 use crate::scope::Site;
-use py_code::{BinaryOperator, BuiltinFn, ComparisonOperator, Instruction, Literal, NoMemory};
-use py_tree::{Atom, AtomList, Expr, Operation};
+use py_code::{BuiltinFn, Instruction, Literal, NoMemory};
+use py_laid::{argument_of, callee_of, coding_of, instruction_of};
+use py_tree::{Atom, Expr, ExprList, Operator};
 
 impl Emitter {
     /// Adds the load of an atom.
@@ -42,149 +45,87 @@ impl Emitter {
         self.put_const(Instruction::LoadConst, literal, at, above)
     }
 
-    /// Adds the loads of atoms in order, behind one value.
-    fn compile_atoms(&mut self, atoms: &AtomList, at: &Site<'_>) -> Result<(), NoMemory>
-        requires few { length atoms.now ≤ 255 }
+    /// Adds the load of the function of the machine's own that an operator may call, and says how many values lie above then.
+    fn put_callee(
+        &mut self,
+        callee: Option<BuiltinFn>,
+        at: &Site<'_>,
+        above: u32,
+    ) -> Result<u32, NoMemory>
         requires low { self.old.others ≤ 3 }
-        requires depth { at.now.scope.now.depth ≤ 1000 }
-        ensures code { OnOk result (PutsAtoms self.old self.new at.now 1 atoms.now) }
+        requires depth { at.now.scope.now.depth + above ≤ 65535 }
+        ensures code { OnOk result (PutsCallee self.old self.new at.now above callee) }
+        ensures above { IfOk result (CountsCallee at.now above callee) }
         ensures widths { (self.new.labels ≡ self.old.labels) × (self.new.others ≡ self.old.others) }
     {
-        let mut above = 1;
-        for atom in atoms.as_slice() {
-            self.compile_atom(atom, at, above)?;
-            above += 1;
+        match callee {
+            None => Ok(above),
+            Some(function) => {
+                self.load_literal(Literal::Builtin(function), at, above)?;
+                Ok(above + 1)
+            }
+        }
+    }
+
+    /// Adds operands in order, above so many values.
+    #[cycle(express)]
+    fn compile_operands(
+        &mut self,
+        operands: &ExprList,
+        at: &Site<'_>,
+        above: u32,
+    ) -> Result<(), NoMemory>
+        requires fits { AllFit at.now.scope.now.kind (exprs_of operands.now) }
+        requires low { self.old.others ≤ 3 }
+        requires depth { HoldsOperands at.now above (exprs_of operands.now) }
+        ensures code { OnOk result (PutsExprs self.old self.new at.now above (exprs_of operands.now)) }
+        ensures widths { (self.new.labels ≡ self.old.labels) × (self.new.others ≡ self.old.others) }
+    {
+        let mut now = above;
+        for operand in operands.as_slice() {
+            self.compile_expr(operand, at, now)?;
+            now += 1;
         }
         Ok(())
     }
 
-    /// Adds two atoms, and the binary operation that takes them.
-    fn compile_binary(
-        &mut self,
-        operator: BinaryOperator,
-        left: &Atom,
-        right: &Atom,
-        at: &Site<'_>,
-    ) -> Result<(), NoMemory>
-        requires low { self.old.others ≤ 3 }
-        requires depth { at.now.scope.now.depth ≤ 1000 }
-        ensures code { OnOk result (PutsBinary self.old self.new at.now operator left.now right.now) }
-        ensures widths { (self.new.labels ≡ self.old.labels) × (self.new.others ≡ self.old.others) }
-    {
-        self.compile_atom(left, at, 0)?;
-        self.compile_atom(right, at, 1)?;
-        self.put_plain(Instruction::BinaryOperation, operator.into(), at, 2)?;
-        Ok(())
-    }
-
-    /// Adds two atoms, and their comparison.
-    fn compile_comparison(
-        &mut self,
-        operator: ComparisonOperator,
-        left: &Atom,
-        right: &Atom,
-        at: &Site<'_>,
-    ) -> Result<(), NoMemory>
-        requires low { self.old.others ≤ 3 }
-        requires depth { at.now.scope.now.depth ≤ 1000 }
-        ensures code { OnOk result (PutsComparison self.old self.new at.now operator left.now right.now) }
-        ensures widths { (self.new.labels ≡ self.old.labels) × (self.new.others ≡ self.old.others) }
-    {
-        self.compile_atom(left, at, 0)?;
-        self.compile_atom(right, at, 1)?;
-        self.put_plain(Instruction::CompareOperation, operator.into(), at, 2)?;
-        Ok(())
-    }
-
-    /// Adds the call of a callee with arguments.
-    fn compile_call(
-        &mut self,
-        callee: &Atom,
-        atoms: &AtomList,
-        at: &Site<'_>,
-    ) -> Result<(), NoMemory>
-        requires few { length atoms.now ≤ 255 }
-        requires low { self.old.others ≤ 3 }
-        requires depth { at.now.scope.now.depth ≤ 1000 }
-        ensures code { OnOk result (PutsCall self.old self.new at.now callee.now atoms.now) }
-        ensures widths { (self.new.labels ≡ self.old.labels) × (self.new.others ≡ self.old.others) }
-    {
-        self.compile_atom(callee, at, 0)?;
-        self.compile_atoms(atoms, at)?;
-        let count = atoms.len() as u32;
-        self.put_plain(Instruction::CallFunctionPositional, count, at, count + 1)?;
-        Ok(())
-    }
-
-    /// Adds the call of a function of the machine's own with two atoms.
-    fn compile_driven(
-        &mut self,
-        function: BuiltinFn,
-        left: &Atom,
-        right: &Atom,
-        at: &Site<'_>,
-    ) -> Result<(), NoMemory>
-        requires low { self.old.others ≤ 3 }
-        requires depth { at.now.scope.now.depth ≤ 1000 }
-        ensures code { OnOk result (PutsDriven self.old self.new at.now function left.now right.now) }
-        ensures widths { (self.new.labels ≡ self.old.labels) × (self.new.others ≡ self.old.others) }
-    {
-        self.load_literal(Literal::Builtin(function), at, 0)?;
-        self.compile_atom(left, at, 1)?;
-        self.compile_atom(right, at, 2)?;
-        self.put_plain(Instruction::CallFunctionPositional, 2, at, 3)?;
-        Ok(())
-    }
-
-    /// Adds the call that closes a generator.
-    fn compile_close(&mut self, atom: &Atom, at: &Site<'_>) -> Result<(), NoMemory>
-        requires low { self.old.others ≤ 3 }
-        requires depth { at.now.scope.now.depth ≤ 1000 }
-        ensures code { OnOk result (PutsClose self.old self.new at.now atom.now) }
-        ensures widths { (self.new.labels ≡ self.old.labels) × (self.new.others ≡ self.old.others) }
-    {
-        self.load_literal(Literal::Builtin(BuiltinFn::Close), at, 0)?;
-        self.compile_atom(atom, at, 1)?;
-        self.put_plain(Instruction::CallFunctionPositional, 1, at, 2)?;
-        Ok(())
-    }
-
-    /// Adds an operator with its operands.
+    /// Adds an operator with its operands, above so many values.
+    #[cycle(express)]
     pub fn compile_operation(
         &mut self,
-        operation: &Operation,
+        operator: Operator,
+        operands: &ExprList,
         at: &Site<'_>,
+        above: u32,
     ) -> Result<(), NoMemory>
-        requires fits { OperationFits at.now.scope.now.kind operation.now }
+        requires fits { EachFits at.now.scope.now.kind (Operate operator (exprs_of operands.now)) }
         requires low { self.old.others ≤ 3 }
-        requires depth { at.now.scope.now.depth ≤ 1000 }
-        ensures code { OnOk result (PutsOperation self.old self.new at.now operation.now) }
+        requires depth { HoldsExpr at.now above (Operate operator (exprs_of operands.now)) }
+        ensures code { OnOk result (PutsExpr self.old self.new at.now above (Operate operator (exprs_of operands.now))) }
         ensures widths { (self.new.labels ≡ self.old.labels) × (self.new.others ≡ self.old.others) }
     {
-        match operation {
-            Operation::Add(a, b) => self.compile_binary(BinaryOperator::Add, a, b, at),
-            Operation::Sub(a, b) => self.compile_binary(BinaryOperator::Subtract, a, b, at),
-            Operation::Lt(a, b) => self.compile_comparison(ComparisonOperator::Less, a, b, at),
-            Operation::Eq(a, b) => self.compile_comparison(ComparisonOperator::Equal, a, b, at),
-            Operation::Send(a, b) => self.compile_driven(BuiltinFn::Send, a, b, at),
-            Operation::Throw(a, b) => self.compile_driven(BuiltinFn::Throw, a, b, at),
-            Operation::Close(atom) => self.compile_close(atom, at),
-            Operation::Yield(atom) => { self.compile_taken(atom, Instruction::YieldValue, 0, at) }
-            Operation::Call(callee, atoms) => self.compile_call(callee, atoms, at),
-        }
+        let coding = coding_of(operator);
+        let under = self.put_callee(callee_of(coding), at, above)?;
+        self.compile_operands(operands, at, under)?;
+        let count = operands.as_slice().len() as u32;
+        let arg = argument_of(coding, count);
+        self.put_plain(instruction_of(coding), arg, at, under + count)
     }
 
-    /// Adds an expression.
-    pub fn compile_expr(&mut self, expr: &Expr, at: &Site<'_>) -> Result<(), NoMemory>
-        requires fits { ExprFits at.now.scope.now.kind expr.now }
+    /// Adds an expression, above so many values.
+    #[cycle(express)]
+    pub fn compile_expr(&mut self, expr: &Expr, at: &Site<'_>, above: u32) -> Result<(), NoMemory>
+        requires fits { EachFits at.now.scope.now.kind (expr_of expr.now) }
         requires low { self.old.others ≤ 3 }
-        requires depth { at.now.scope.now.depth ≤ 1000 }
-        ensures code { OnOk result (PutsExpr self.old self.new at.now expr.now) }
+        requires depth { HoldsExpr at.now above (expr_of expr.now) }
+        ensures code { OnOk result (PutsExpr self.old self.new at.now above (expr_of expr.now)) }
         ensures widths { (self.new.labels ≡ self.old.labels) × (self.new.others ≡ self.old.others) }
     {
         match expr {
-            Expr::Atom(atom) => self.compile_atom(atom, at, 0),
-            Expr::Operation(operation) => self.compile_operation(operation, at),
+            Expr::Atom(atom) => self.compile_atom(atom, at, above),
+            Expr::Operation(operator, operands) => {
+                self.compile_operation(*operator, operands, at, above)
+            }
         }
     }
 }

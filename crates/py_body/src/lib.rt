@@ -15,6 +15,6 @@ mod statements;
 
 pub use compile::{AnnotatedList, compile_body};
 pub use py_tree::{
-    Atom, AtomList, Body, BodyKind, Clause, ClauseList, Expr, Operation, ParamList, Stmt, StmtForm,
+    Atom, Body, BodyKind, Clause, ClauseList, Expr, ExprList, Operator, ParamList, Stmt, StmtForm,
     StmtList,
 };

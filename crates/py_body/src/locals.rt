@@ -58,20 +58,20 @@ fn bind_form(names: &mut NameSet, form: &StmtForm) -> Result<(), NoMemory>
 {
     match form {
         StmtForm::Assign(name, _expr) => bind(names, name),
-        StmtForm::Do(_operation) => Ok(()),
-        StmtForm::Show(_atom) => Ok(()),
-        StmtForm::Return(_atom) => Ok(()),
-        StmtForm::Raise(_atom) => Ok(()),
+        StmtForm::Do(_operator, _operands) => Ok(()),
+        StmtForm::Show(_expr) => Ok(()),
+        StmtForm::Return(_expr) => Ok(()),
+        StmtForm::Raise(_expr) => Ok(()),
         StmtForm::Reraise => Ok(()),
         StmtForm::Break => Ok(()),
         StmtForm::Continue => Ok(()),
         StmtForm::Pass => Ok(()),
-        StmtForm::If(_atom, suite) => bind_suite(names, suite),
-        StmtForm::IfElse(_atom, suite, other) => bind_both(names, suite, other),
-        StmtForm::While(_atom, suite) => bind_suite(names, suite),
+        StmtForm::If(_expr, suite) => bind_suite(names, suite),
+        StmtForm::IfElse(_expr, suite, other) => bind_both(names, suite, other),
+        StmtForm::While(_expr, suite) => bind_suite(names, suite),
         StmtForm::TryExcept(suite, clauses) => bind_tried(names, suite, clauses),
         StmtForm::TryFinally(suite, last) => bind_both(names, suite, last),
-        StmtForm::With(_atom, target, suite) => bind_managed(names, target, suite),
+        StmtForm::With(_expr, target, suite) => bind_managed(names, target, suite),
     }
 }
 

@@ -1,11 +1,14 @@
 //! Sizes: how many units the code of each form takes, where it is known how many an instruction takes.
 
-ghost use Rattle.std.specs.Prelude.{◌≡◌, ◌≤◌};
+ghost use Rattle.std.specs.Prelude.{◌≡◌, ◌+◌, ◌≤◌};
+ghost use Rattle.py_tree.specs.Tree.{Operate};
+ghost use Rattle.py_tree.specs.ExprViews.{expr_of, exprs_of};
 ghost use Rattle.py_tree.specs.Views.{clauses_of, form_of, suite_of};
-ghost use Rattle.py_body.specs.Sizes.{most_units, size_clause, size_clauses, size_expr, size_finally, size_form, size_handler, size_operation, size_suite, size_target, size_with};
+ghost use Rattle.py_body.specs.Sizes.{most_units, size_around, size_clause, size_callee, size_clauses, size_expr, size_exprs, size_finally, size_form, size_handler, size_suite, size_target};
 
-use py_code::PyText;
-use py_tree::{Clause, ClauseList, Expr, Operation, StmtForm, StmtList};
+use py_code::{BuiltinFn, PyText};
+use py_laid::{callee_of, coding_of};
+use py_tree::{ClauseList, Expr, ExprList, Operator, StmtForm, StmtList};
 
 /// How many units an instruction takes, by its operand.
 #[derive(Clone, Copy, Debug, PartialEq, Eq)]
@@ -41,21 +44,28 @@ fn size_of_form(weights: Weights, form: &StmtForm) -> u32
     let Weights { jump, index, plain } = weights;
     match form {
         StmtForm::Assign(_name, expr) => size_of_expr(weights, expr) + index,
-        StmtForm::Do(operation) => size_of_operation(weights, operation) + plain,
-        StmtForm::Show(_atom) => index + plain,
-        StmtForm::Return(_atom) => index + plain,
-        StmtForm::Raise(_atom) => index + plain,
+        StmtForm::Do(operator, operands) => {
+            size_of_operation(weights, *operator, operands) + plain
+        },
+        StmtForm::Show(expr) => size_of_expr(weights, expr) + plain,
+        StmtForm::Return(expr) => size_of_expr(weights, expr) + plain,
+        StmtForm::Raise(expr) => size_of_expr(weights, expr) + plain,
         StmtForm::Reraise => plain,
         StmtForm::Break => jump,
         StmtForm::Continue => jump,
         StmtForm::Pass => 0,
-        StmtForm::If(_atom, suite) => index + jump + size_of_suite(weights, suite),
-        StmtForm::IfElse(_atom, suite, other) => {
+        StmtForm::If(expr, suite) => {
+            let value = size_of_expr(weights, expr);
+            value + jump + size_of_suite(weights, suite)
+        },
+        StmtForm::IfElse(expr, suite, other) => {
+            let value = size_of_expr(weights, expr);
             let first = size_of_suite(weights, suite);
-            index + jump + first + jump + size_of_suite(weights, other)
+            value + jump + first + jump + size_of_suite(weights, other)
         }
-        StmtForm::While(_atom, suite) => {
-            plain + index + jump + size_of_suite(weights, suite) + jump + plain
+        StmtForm::While(expr, suite) => {
+            let value = size_of_expr(weights, expr);
+            plain + value + jump + size_of_suite(weights, suite) + jump + plain
         }
         StmtForm::TryExcept(suite, clauses) => {
             let body = size_of_suite(weights, suite);
@@ -65,9 +75,10 @@ fn size_of_form(weights: Weights, form: &StmtForm) -> u32
             let body = size_of_suite(weights, suite);
             size_of_finally(weights, body, size_of_suite(weights, last))
         }
-        StmtForm::With(_atom, target, suite) => {
+        StmtForm::With(expr, target, suite) => {
+            let value = size_of_expr(weights, expr);
             let body = size_of_suite(weights, suite);
-            size_of_with(weights, target, body)
+            size_of_with(weights, value, target, body)
         }
     }
 }
@@ -131,44 +142,58 @@ fn size_of_finally(weights: Weights, body: u32, last: u32) -> u32
 }
 
 /// The size of a with whose suite has this one.
-fn size_of_with(weights: Weights, target: &Option<PyText>, body: u32) -> u32
-    requires { size_with weights target.now body ≤ most_units }
-    ensures { result ≡ size_with weights target.now body }
+fn size_of_with(weights: Weights, value: u32, target: &Option<PyText>, body: u32) -> u32
+    requires { size_around weights value target.now body ≤ most_units }
+    ensures { result ≡ size_around weights value target.now body }
 {
-    let Weights { jump, index, plain } = weights;
+    let Weights { jump, plain, .. } = weights;
     let binds = size_of_target(weights, target);
-    index + jump + binds + body + plain + plain + plain + plain
+    value + jump + binds + body + plain + plain + plain + plain
+}
+
+/// The size of the function of the machine's own that an operator may call.
+fn size_of_callee(weights: Weights, callee: Option<BuiltinFn>) -> u32
+    ensures { result ≡ size_callee weights callee }
+{
+    match callee {
+        None => 0,
+        Some(_function) => weights.index,
+    }
 }
 
 /// The size of an expression.
-fn size_of_expr(weights: Weights, expr: &Expr) -> u32
-    requires { size_expr weights expr.now ≤ most_units }
-    ensures { result ≡ size_expr weights expr.now }
+#[cycle(measure)]
+pub fn size_of_expr(weights: Weights, expr: &Expr) -> u32
+    requires { size_expr weights (expr_of expr.now) ≤ most_units }
+    ensures size { result ≡ size_expr weights (expr_of expr.now) }
+    ensures most { result ≤ most_units }
 {
     match expr {
         Expr::Atom(_atom) => weights.index,
-        Expr::Operation(operation) => size_of_operation(weights, operation),
+        Expr::Operation(operator, operands) => size_of_operation(weights, *operator, operands),
     }
 }
 
 /// The size of an operator with its operands.
-fn size_of_operation(weights: Weights, operation: &Operation) -> u32
-    requires { size_operation weights operation.now ≤ most_units }
-    ensures { result ≡ size_operation weights operation.now }
+#[cycle(measure)]
+pub fn size_of_operation(weights: Weights, operator: Operator, operands: &ExprList) -> u32
+    requires { size_expr weights (Operate operator (exprs_of operands.now)) ≤ most_units }
+    ensures size { result ≡ size_expr weights (Operate operator (exprs_of operands.now)) }
+    ensures most { result ≤ most_units }
 {
-    let Weights { index, plain, .. } = weights;
-    match operation {
-        Operation::Add(_a, _b) => index + index + plain,
-        Operation::Sub(_a, _b) => index + index + plain,
-        Operation::Lt(_a, _b) => index + index + plain,
-        Operation::Eq(_a, _b) => index + index + plain,
-        Operation::Send(_a, _b) => index + index + index + plain,
-        Operation::Throw(_a, _b) => index + index + index + plain,
-        Operation::Close(_atom) => index + index + plain,
-        Operation::Yield(_atom) => index + plain,
-        Operation::Call(_callee, atoms) => {
-            let loads = atoms.len() as u64 * u64::from(index);
-            index + loads as u32 + plain
-        }
+    let callee = size_of_callee(weights, callee_of(coding_of(operator)));
+    callee + size_of_exprs(weights, operands) + weights.plain
+}
+
+/// The size of operands.
+#[cycle(measure)]
+fn size_of_exprs(weights: Weights, exprs: &ExprList) -> u32
+    requires { size_exprs weights (exprs_of exprs.now) ≤ most_units }
+    ensures size { result ≡ size_exprs weights (exprs_of exprs.now) }
+{
+    let mut size = 0;
+    for expr in exprs.as_slice() {
+        size += size_of_expr(weights, expr);
     }
+    size
 }

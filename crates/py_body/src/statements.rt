@@ -2,15 +2,16 @@
 
 ghost use Rattle.std.specs.Prelude.{◌≡◌, ◌+◌, ◌≤◌, ◌<◌, false, true, OnOk};
 ghost use Rattle.py_code.specs.Units.{is_prefix};
-ghost use Rattle.py_tree.specs.Tree.{Assign, Break, Continue, Do, Reraise};
-ghost use Rattle.py_tree.specs.Compilable.{ExprFits, OperationFits};
+ghost use Rattle.py_tree.specs.Tree.{Assign, Break, Continue, Do, Operate, Reraise};
+ghost use Rattle.py_tree.specs.ExprViews.{expr_of, exprs_of};
+ghost use Rattle.py_tree.specs.Compilable.{ExprFits};
 ghost use Rattle.py_body.specs.Emitting.{is_inside};
 ghost use Rattle.py_body.specs.Puts.{scope_at, PutsTaken, PutsRaise, PutsForm};
 
 use crate::emitter::Emitter;
 use crate::scope::Site;
 use py_code::{Instruction, NoMemory, PyText, RaiseKind};
-use py_tree::{Atom, Expr, Operation};
+use py_tree::{Expr, ExprList, Operator};
 
 impl Emitter {
     /// Adds `x = e`.
@@ -20,46 +21,52 @@ impl Emitter {
         expr: &Expr,
         at: &Site<'_>,
     ) -> Result<(), NoMemory>
-        requires fits { ExprFits at.now.scope.now.kind expr.now }
+        requires fits { ExprFits at.now.scope.now.kind (expr_of expr.now) }
         requires low { (self.old.labels ≤ 3) × (self.old.others ≤ 3) }
         requires depth { at.now.scope.now.depth ≤ 1000 }
-        ensures code { OnOk result (PutsForm self.old self.new at.now (Assign name.now expr.now)) }
+        ensures code { OnOk result (PutsForm self.old self.new at.now (Assign name.now (expr_of expr.now))) }
         ensures widths { (self.new.labels ≡ self.old.labels) × (self.new.others ≡ self.old.others) }
     {
-        self.compile_expr(expr, at)?;
+        self.compile_expr(expr, at, 0)?;
         self.put_local(Instruction::StoreFast, name, at, 1)?;
         Ok(())
     }
 
-    /// Adds `do (op a ..)`.
-    pub fn compile_do(&mut self, operation: &Operation, at: &Site<'_>) -> Result<(), NoMemory>
-        requires fits { OperationFits at.now.scope.now.kind operation.now }
+    /// Adds `do (op e ..)`.
+    pub fn compile_do(
+        &mut self,
+        operator: Operator,
+        operands: &ExprList,
+        at: &Site<'_>,
+    ) -> Result<(), NoMemory>
+        requires fits { ExprFits at.now.scope.now.kind (Operate operator (exprs_of operands.now)) }
         requires low { (self.old.labels ≤ 3) × (self.old.others ≤ 3) }
         requires depth { at.now.scope.now.depth ≤ 1000 }
-        ensures code { OnOk result (PutsForm self.old self.new at.now (Do operation.now)) }
+        ensures code { OnOk result (PutsForm self.old self.new at.now (Do operator (exprs_of operands.now))) }
         ensures widths { (self.new.labels ≡ self.old.labels) × (self.new.others ≡ self.old.others) }
     {
-        self.compile_operation(operation, at)?;
+        self.compile_operation(operator, operands, at, 0)?;
         self.put_plain(Instruction::Pop, 0, at, 1)?;
         Ok(())
     }
 
-    /// Adds an atom, and the instruction that takes it.
+    /// Adds an expression, and the instruction that takes it.
     pub fn compile_taken(
         &mut self,
-        atom: &Atom,
+        expr: &Expr,
         op: Instruction,
         arg: u32,
         at: &Site<'_>,
     ) -> Result<(), NoMemory>
         requires plain { is_prefix op ≡ false }
         requires small { arg < 256 }
+        requires fits { ExprFits at.now.scope.now.kind (expr_of expr.now) }
         requires low { self.old.others ≤ 3 }
         requires depth { at.now.scope.now.depth ≤ 1000 }
-        ensures code { OnOk result (PutsTaken self.old self.new at.now atom.now op arg) }
+        ensures code { OnOk result (PutsTaken self.old self.new at.now (expr_of expr.now) op arg) }
         ensures widths { (self.new.labels ≡ self.old.labels) × (self.new.others ≡ self.old.others) }
     {
-        self.compile_atom(atom, at, 0)?;
+        self.compile_expr(expr, at, 0)?;
         self.put_plain(op, arg, at, 1)?;
         Ok(())
     }

@@ -6,10 +6,8 @@ use Rattle.py_lines.specs.declared.drive.DriveLine.{DriveLine}
 use Rattle.py_lines.specs.declared.head.Turn.{Turn}
 use Rattle.py_lines.specs.declared.head.Turn.TheVariants as turn
 use Rattle.py_lines.specs.declared.header.Header.TheVariants as header
-use Rattle.py_lines.specs.declared.line.Line.{Line}
-use Rattle.py_lines.specs.declared.line.Line.TheVariants as line
-use Rattle.py_lines.specs.declared.line.LineRead.{LineRead}
-use Rattle.py_lines.specs.declared.line.LineRead.TheVariants.{Blank, Said, Malformed}
+use Rattle.py_lines.specs.Line.{Line, LineRead, Blank, Said, Malformed}
+use Rattle.py_lines.specs.Line as line
 use Rattle.py_lines.specs.Reading.{IsReadAs}
 use Rattle.py_grammar.specs.Grammar.{Row, row, Decl, FunctionDecl, kept_number, items_rows, drives_in}
 use Rattle.py_grammar.specs.Lines.{lines}
@@ -146,7 +144,7 @@ begins_finally front b = (finally_line ++ 10 ∷ b.0, b.1, b.2, subst (λ t. Spe
 been_end : (bs : List Block) (front : Text) (ts : List Decl) (ds : List DriveLine) (o : Open) → o.blocks ≡ bs → Been front (state ts ds (Some o))
     → BeenTo (front ++ end_line ∷ []) (option_map (closes ts ds) (closed o bs))
 been_end bs front ts ds o e b =
-    subst (λ x. BeenTo (front ++ end_line ∷ []) (option_map (closes ts ds) (closed o x))) e (one_line front (state ts ds (Some o)) end_line (Said line.End) refl b)
+    subst (λ x. BeenTo (front ++ end_line ∷ []) (option_map (closes ts ds) (closed o x))) e (one_line front (state ts ds (Some o)) end_line (Said line.End) (refl, tt) b)
 
 -- behind a finally, where the innermost block is a try
 been_finally : (c : Block) (bs : List Block) (front : Text) (ts : List Decl) (ds : List DriveLine) (o : Open) → o.blocks ≡ c ∷ bs → c.began ≡ in_try
@@ -154,7 +152,7 @@ been_finally : (c : Block) (bs : List Block) (front : Text) (ts : List Decl) (ds
 been_finally c bs front ts ds o e is b =
     subst (λ g. BeenTo (front ++ finally_line ∷ []) (still_inside ts ds (option_map (turned_to o c bs) (finally_behind g o.done)))) is
     (subst (λ x. BeenTo (front ++ finally_line ∷ []) (still_inside ts ds (turned o (after 1 front) turn.Finally x))) e
-    (one_line front (state ts ds (Some o)) finally_line (Said (line.Turns turn.Finally)) refl b))
+    (one_line front (state ts ds (Some o)) finally_line (Said (line.Turns turn.Finally)) (refl, tt) b))
 
 -- each block may end but a try that has neither a clause nor a finally
 ends : (g : Began) (s : Suite) → ((f : Form) × (ended g s ≡ Some f)) ⊎ (g ≡ in_try)

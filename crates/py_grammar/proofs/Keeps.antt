@@ -5,31 +5,32 @@ use Rattle.std.proofs.lemmas.List.Elements.{All-nil, All-cons}
 use Rattle.std.proofs.lemmas.List.Kept.{AllPairs-cons}
 use Rattle.std.proofs.lemmas.List.Quantifiers.{all_pairs_push}
 use Rattle.std.proofs.lemmas.List.Folds.{Any-from_list_any, list_any-append}
-use Rattle.std.proofs.lemmas.Bool.{leb-true, ltb-true, and_parts, not-true, or_parts, or_left}
+use Rattle.std.proofs.lemmas.Bool.{eqb-true, leb-true, ltb-true, and_parts, not-true, or_parts, or_left}
 use Rattle.std.proofs.lemmas.Slice.Eq.{bytes_eq-Decides}
-use Rattle.std.specs.Prelude.{All, Any, Option, None, bytes_eq, nat_le}
+use Rattle.std.specs.Prelude.{All, Any, Option, None, ◌==◌, bytes_eq, nat_le, nat_lt}
 use Rattle.std.specs.List.{list_any, list_all}
 use Rattle.py_tree.specs.declared.body.BodyKind.{BodyKind}
 use Rattle.py_tree.specs.declared.body.BodyKind.TheVariants as body
-use Rattle.py_tree.specs.declared.expr.Expr.{Expr}
-use Rattle.py_tree.specs.declared.expr.Expr.TheVariants as expr
-use Rattle.py_tree.specs.declared.expr.Operation.{Operation}
-use Rattle.py_tree.specs.declared.expr.Operation.TheVariants as operation
-use Rattle.py_tree.specs.Tree.{Name, Form, Assign, Do, Break, Continue, If, IfElse, While, TryExcept, TryFinally, With, Suite, nothing, first, Clauses, no_more, clause, Tree}
-use Rattle.py_tree.specs.Compilable.{IsCompilable, OperationFits, ExprFits, FormFits, SuiteFits, ClausesFit, FormNests, SuiteNests, ClausesNest, statements}
+use Rattle.py_tree.specs.Operators.{Way, Asks_one, Asks_two, Calls_it, Yields_it, way_of}
+use Rattle.py_tree.specs.Tree.{Name, Expr, Leaf, Operate, Exprs, no_operands, operand, Form, Assign, Do, Show, Return, Raise, Break, Continue, If, IfElse, While, TryExcept, TryFinally, With, Suite, nothing, first, Clauses, no_more, clause, Tree}
+use Rattle.py_tree.specs.Compilable.{IsCompilable, OperandsFit, EachFits, AllFit, ExprFits, operands, FormFits, SuiteFits, ClausesFit, FormNests, SuiteNests, ClausesNest, statements}
 use Rattle.py_lines.specs.declared.drive.DriveAtom.{DriveAtom}
 use Rattle.py_lines.specs.declared.drive.DriveAtom.TheVariants as argument
 use Rattle.py_lines.specs.declared.drive.DriveLine.{DriveLine}
 use Rattle.py_lines.specs.declared.drive.DriveLine.TheVariants as drive
-use Rattle.py_lines.specs.declared.head.Head.TheVariants as head
+use Rattle.py_lines.specs.Statements as said
+use Rattle.py_lines.specs.Statements.{Head}
 use Rattle.py_grammar.specs.declared.rules.Inside.{Inside}
 use Rattle.py_grammar.specs.declared.script.Script.{Script}
-use Rattle.py_grammar.specs.Rules.{Declared, is_among, all_differ, declares, declares_callable, is_callable, is_class, is_base, is_new, is_builtin_class, may_declare, may_manage, numbers_drive, is_drivable, is_thrown, may_drive, may_yield, may_operate, may_compute, body_of, within}
-use Rattle.py_grammar.specs.Grammar.{Decl, ClassDecl, ManagerDecl, FunctionDecl, decl_name, decl_kind, Item, Declares, Drives, declared_as, decl_rows, WellForm, WellSuite, WellClauses, WellDecl, WellItems, items_rows, decls_in, drives_in}
+use Rattle.py_grammar.specs.Rules.{Declared, is_among, all_differ, declares, declares_callable, is_callable, is_class, is_base, is_new, is_builtin_class, may_declare, may_manage, numbers_drive, is_drivable, is_thrown, may_drive, may_yield, may_operate, may_compute, may_compute_all, may_begin, may_open, body_of, within}
+use Rattle.py_grammar.specs.Grammar.{Decl, ClassDecl, ManagerDecl, FunctionDecl, decl_name, decl_kind, Item, Declares, Drives, declared_as, form_rows, suite_rows, clauses_rows, end_row, else_row, finally_row, decl_rows, WellForm, WellSuite, WellClauses, WellDecl, WellItems, items_rows, decls_in, drives_in}
 use Rattle.py_grammar.specs.Script.{IsScript, decls_of}
 use Rattle.py_grammar.specs.Tables.{names_of}
 use Rattle.py_grammar.specs.WellFormed.{AreDistinct, IsFunctionNamed, IsClassNamed, IsFunction, IsClass, IsKnown, IsWellDeclared, NumbersDrive, IsDrivable, IsThrowable, IsWellDriven, AreWellDriven, AreWellFormed, IsWellFormed}
-use Rattle.py_grammar.proofs.Short.{tree_size, script_size}
+use Rattle.py_lines.specs.Reading.{ExprIsLow}
+use Rattle.py_grammar.specs.Lines.{lines}
+use Rattle.py_grammar.proofs.Low.{AreLow, low_parts, rows_low}
+use Rattle.py_grammar.proofs.Short.{decl_size, script_size, size_append, size_of}
 use Rattle.py_grammar.proofs.Tables.{declares-names}
 use Rattle.py_grammar.proofs.Whole.{well_behind_one}
 
@@ -63,53 +64,81 @@ yield_keeps : (k : BodyKind) → may_yield k ≡ true → k ≡ body.Generator
 yield_keeps body.Function w = cc w
 yield_keeps body.Generator w = refl
 
--- and calls have few arguments
-operation_keeps : (k : BodyKind) (o : Operation) → may_operate k o ≡ true → OperationFits k o
-operation_keeps k (operation.Yield a) w = yield_keeps k w
-operation_keeps k (operation.Call f args) w = leb-true (length args) 255 w
-operation_keeps k o w = tt
+-- and each operator has its operands
+operands_keep : (k : BodyKind) (way : Way) (es : Exprs) → may_operate k way (operands es) ≡ true → OperandsFit k way es
+operands_keep k (Asks_one r) es w = eqb-true (operands es) 1 w
+operands_keep k (Asks_two r) es w = eqb-true (operands es) 2 w
+operands_keep k Calls_it es w = let parts = and_parts (nat_le 1 (operands es)) (nat_le (operands es) 256) w in (leb-true 1 (operands es) parts.0, leb-true (operands es) 256 parts.1)
+operands_keep k Yields_it es w = let parts = and_parts (may_yield k) (operands es == 1) w in (yield_keeps k parts.0, eqb-true (operands es) 1 parts.1)
 
-expr_keeps : (k : BodyKind) (e : Expr) → may_compute k e ≡ true → ExprFits k e
-expr_keeps k (expr.Atom a) w = tt
-expr_keeps k (expr.Operation o) w = operation_keeps k o w
+mutual
+  each_keeps : (k : BodyKind) (e : Expr) → may_compute k e ≡ true → EachFits k e
+  each_keeps k (Leaf a) w = tt
+  each_keeps k (Operate o es) w =
+      let parts = and_parts (may_operate k (way_of o) (operands es)) (may_compute_all k es) w in
+      (operands_keep k (way_of o) es parts.0, all_keep k es parts.1)
+
+  all_keep : (k : BodyKind) (es : Exprs) → may_compute_all k es ≡ true → AllFit k es
+  all_keep k no_operands w = tt
+  all_keep k (operand e es) w = let parts = and_parts (may_compute k e) (may_compute_all k es) w in (each_keeps k e parts.0, all_keep k es parts.1)
+
+expr_keeps : (k : BodyKind) (e : Expr) → may_compute k e ≡ true → ExprIsLow e → ExprFits k e
+expr_keeps k e w low = (each_keeps k e w, low)
+
+-- what a line computes that opens a block
+opening_keeps : (i : Inside) (h : Head) (e : Expr) → may_begin i.kind h ≡ may_compute i.kind e → may_open i h ≡ true → ExprIsLow e → ExprFits i.kind e
+opening_keeps i h e is w low = expr_keeps i.kind e (sym is ∙ (and_parts (nat_lt i.blocks 64) (may_begin i.kind h) w).1) low
 
 -- statements can be compiled where they stand
 mutual
-  form_keeps : (i : Inside) (f : Form) → WellForm i f → FormFits i.kind i.in_loop f
-  form_keeps i (Assign x e) w = expr_keeps i.kind e w
-  form_keeps i (Do o) w = operation_keeps i.kind o w
-  form_keeps i Break w = w
-  form_keeps i Continue w = w
-  form_keeps i (If a s) w = suite_keeps (within i (head.If a)) s w.1
-  form_keeps i (IfElse a s t) w = (suite_keeps (within i (head.If a)) s w.1.0, suite_keeps (within i (head.If a)) t w.1.1)
-  form_keeps i (While a s) w = suite_keeps (within i (head.While a)) s w.1
-  form_keeps i (TryExcept s cs) w = (suite_keeps (within i head.Try) s w.1.1.0, clauses_keep (within i head.Try) cs w.1.1.1)
-  form_keeps i (TryFinally s t) w = (suite_keeps (within i head.Try) s w.1.0, suite_keeps (within i head.Try) t w.1.1)
-  form_keeps i (With a x s) w = suite_keeps (within i (head.With a x)) s w.1
-  form_keeps i f w = tt
+  form_keeps : (i : Inside) (n : ℕ) (f : Form) → WellForm i f → AreLow (form_rows n f) → FormFits i.kind i.in_loop f
+  form_keeps i n (Assign x e) w low = expr_keeps i.kind e w low.0
+  form_keeps i n (Do o es) w low = expr_keeps i.kind (Operate o es) w low.0
+  form_keeps i n (Show e) w low = expr_keeps i.kind e w low.0
+  form_keeps i n (Return e) w low = expr_keeps i.kind e w low.0
+  form_keeps i n (Raise e) w low = expr_keeps i.kind e w low.0
+  form_keeps i n Break w low = w
+  form_keeps i n Continue w low = w
+  form_keeps i n (If a s) w low = (opening_keeps i (said.If a) a refl w.0 low.0, suite_keeps (within i (said.If a)) s w.1 (low_parts (suite_rows s) _ low.1).0)
+  form_keeps i n (IfElse a s t) w low =
+      let (first_low, others) = low_parts (suite_rows s) (else_row ∷ (suite_rows t ++ end_row ∷ [])) low.1 in
+      (opening_keeps i (said.If a) a refl w.0 low.0, suite_keeps (within i (said.If a)) s w.1.0 first_low, suite_keeps (within i (said.If a)) t w.1.1 (low_parts (suite_rows t) _ others.1).0)
+  form_keeps i n (While a s) w low =
+      (opening_keeps i (said.While a) a refl w.0 low.0, suite_keeps (within i (said.While a)) s w.1 (low_parts (suite_rows s) _ low.1).0)
+  form_keeps i n (TryExcept s cs) w low =
+      let (first_low, others) = low_parts (suite_rows s) (clauses_rows cs ++ end_row ∷ []) low.1 in
+      (suite_keeps (within i said.Try) s w.1.1.0 first_low, clauses_keep (within i said.Try) cs w.1.1.1 (low_parts (clauses_rows cs) _ others).0)
+  form_keeps i n (TryFinally s t) w low =
+      let (first_low, others) = low_parts (suite_rows s) (finally_row ∷ (suite_rows t ++ end_row ∷ [])) low.1 in
+      (suite_keeps (within i said.Try) s w.1.0 first_low, suite_keeps (within i said.Try) t w.1.1 (low_parts (suite_rows t) _ others.1).0)
+  form_keeps i n (With a x s) w low =
+      (opening_keeps i (said.With a x) a refl w.0 low.0, suite_keeps (within i (said.With a x)) s w.1 (low_parts (suite_rows s) _ low.1).0)
+  form_keeps i n f w low = tt
 
-  suite_keeps : (i : Inside) (s : Suite) → WellSuite i s → SuiteFits i.kind i.in_loop s
-  suite_keeps i nothing w = tt
-  suite_keeps i (first n f more) w = (form_keeps i f w.0, suite_keeps i more w.1)
+  suite_keeps : (i : Inside) (s : Suite) → WellSuite i s → AreLow (suite_rows s) → SuiteFits i.kind i.in_loop s
+  suite_keeps i nothing w low = tt
+  suite_keeps i (first n f more) w low = let (here, rest) = low_parts (form_rows n f) (suite_rows more) low in (form_keeps i n f w.0 here, suite_keeps i more w.1 rest)
 
-  clauses_keep : (i : Inside) (cs : Clauses) → WellClauses i cs → ClausesFit i.kind i.in_loop cs
-  clauses_keep i no_more w = tt
-  clauses_keep i (clause n c x s more) w = (suite_keeps i s w.0, clauses_keep i more w.1)
+  clauses_keep : (i : Inside) (cs : Clauses) → WellClauses i cs → AreLow (clauses_rows cs) → ClausesFit i.kind i.in_loop cs
+  clauses_keep i no_more w low = tt
+  clauses_keep i (clause n c x s more) w low =
+      let (here, rest) = low_parts (suite_rows s) (clauses_rows more) low.1 in
+      (suite_keeps i s w.0 here, clauses_keep i more w.1 rest)
 
 -- withs stand in one another as blocks do, of which at least so many are open
 mutual
   form_nests : (i : Inside) (n : ℕ) (f : Form) → n ≤ i.blocks → WellForm i f → FormNests n f
-  form_nests i n (If a s) low w = suite_nests (within i (head.If a)) n s (omega (arith, low)) w.1
+  form_nests i n (If a s) low w = suite_nests (within i (said.If a)) n s (omega (arith, low)) w.1
   form_nests i n (IfElse a s t) low w =
-      (suite_nests (within i (head.If a)) n s (omega (arith, low)) w.1.0, suite_nests (within i (head.If a)) n t (omega (arith, low)) w.1.1)
-  form_nests i n (While a s) low w = suite_nests (within i (head.While a)) n s (omega (arith, low)) w.1
+      (suite_nests (within i (said.If a)) n s (omega (arith, low)) w.1.0, suite_nests (within i (said.If a)) n t (omega (arith, low)) w.1.1)
+  form_nests i n (While a s) low w = suite_nests (within i (said.While a)) n s (omega (arith, low)) w.1
   form_nests i n (TryExcept s cs) low w =
-      (suite_nests (within i head.Try) n s (omega (arith, low)) w.1.1.0, clauses_nest (within i head.Try) n cs (omega (arith, low)) w.1.1.1)
+      (suite_nests (within i said.Try) n s (omega (arith, low)) w.1.1.0, clauses_nest (within i said.Try) n cs (omega (arith, low)) w.1.1.1)
   form_nests i n (TryFinally s t) low w =
-      (suite_nests (within i head.Try) n s (omega (arith, low)) w.1.0, suite_nests (within i head.Try) n t (omega (arith, low)) w.1.1)
+      (suite_nests (within i said.Try) n s (omega (arith, low)) w.1.0, suite_nests (within i said.Try) n t (omega (arith, low)) w.1.1)
   form_nests i n (With a x s) low w =
-      let open_blocks : i.blocks < 64 = ltb-true i.blocks 64 w.0 in
-      (omega (arith, low, open_blocks), suite_nests (within i (head.With a x)) (suc n) s (omega (arith, low)) w.1)
+      let open_blocks : i.blocks < 64 = ltb-true i.blocks 64 (and_parts (nat_lt i.blocks 64) (may_begin i.kind (said.With a x)) w.0).0 in
+      (omega (arith, low, open_blocks), suite_nests (within i (said.With a x)) (suc n) s (omega (arith, low)) w.1)
   form_nests i n f low w = tt
 
   suite_nests : (i : Inside) (n : ℕ) (s : Suite) → n ≤ i.blocks → WellSuite i s → SuiteNests n s
@@ -121,9 +150,9 @@ mutual
   clauses_nest i n (clause k c x s more) low w = (suite_nests i n s low w.0, clauses_nest i n more low w.1)
 
 -- a function, behind these declarations
-function_keeps : (ds : List Declared) (t : Tree) → may_declare ds t.name t.params ≡ true → WellSuite (body_of t.kind) t.suite
+function_keeps : (ds : List Declared) (t : Tree) → may_declare ds t.name t.params ≡ true → WellSuite (body_of t.kind) t.suite → AreLow (suite_rows t.suite)
     → statements t.suite ≤ 1048576 → (is_builtin_class t.name ≡ false) × IsCompilable t
-function_keeps ds t h w short =
+function_keeps ds t h w low short =
     let new : Bool = not (declares t.name ds) in
     let free : Bool = not (is_builtin_class t.name) in
     let differ : Bool = all_differ t.params in
@@ -133,7 +162,7 @@ function_keeps ds t h w short =
       record {
         distinct = distinct_by_test t.params (and_parts (new && free) differ front).1;
         few = leb-true (length t.params) 255 (and_parts (new && free && differ) few h).1;
-        fits = suite_keeps (body_of t.kind) t.suite w;
+        fits = suite_keeps (body_of t.kind) t.suite w low;
         short = short;
         nests = suite_nests (body_of t.kind) 0 t.suite (omega arith) w;
       },
@@ -308,42 +337,43 @@ script_driven bytes s is =
 -- ---- declarations
 
 -- a declaration behind these
-decl_keeps : (ds : List Decl) (d : Decl) → WellDecl (map declared_as ds) d → length (decl_rows d) ≤ 1048576 → IsWellDeclared ds d
-decl_keeps ds (ClassDecl c b) w short =
+decl_keeps : (ds : List Decl) (d : Decl) → WellDecl (map declared_as ds) d → AreLow (decl_rows d) → size_of (decl_rows d) ≤ 1048576 → IsWellDeclared ds d
+decl_keeps ds (ClassDecl c b) w low short =
     let parts = and_parts (is_new (map declared_as ds) c) (is_base (map declared_as ds) b) w in
     record { no_class = (new_name ds c parts.0).1; founded = subst (λ x. IsClass x b) (append-nil ds) (class_by_test b ds [] parts.1) }
-decl_keeps ds (ManagerDecl m e x) w short =
+decl_keeps ds (ManagerDecl m e x) w low short =
     let parts = managed_new ds m e x w in
     record {
       no_class = (new_name ds m parts.0).1;
       founded = (subst (λ q. IsFunction q e) (append-nil ds) (function_by_test e ds [] parts.1), subst (λ q. IsFunction q x) (append-nil ds) (function_by_test x ds [] parts.2));
     }
-decl_keeps ds (FunctionDecl t) w short =
-    let size = tree_size t [] w.1 in
-    let all = length-append (decl_rows (FunctionDecl t)) [] in
-    let k = function_keeps (map declared_as ds) t w.0 w.1 (omega (arith, size, all, short)) in
+decl_keeps ds (FunctionDecl t) w low short =
+    let size = decl_size t in
+    let k = function_keeps (map declared_as ds) t w.0 w.1 (low_parts (suite_rows t.suite) (end_row ∷ []) low.1).0 (omega (arith, size, short)) in
     record { no_class = k.0; founded = k.1 }
 
 -- each declaration of the items, behind those in front of it
-decls_keep : (is : List Item) (ds : List Decl) (made : ℕ) → WellItems (map declared_as ds) made is → length (items_rows is) ≤ 1048576 → (i : ℕ) (d : Decl)
+decls_keep : (is : List Item) (ds : List Decl) (made : ℕ) → WellItems (map declared_as ds) made is → AreLow (items_rows is) → size_of (items_rows is) ≤ 1048576 → (i : ℕ) (d : Decl)
     → slice_get (decls_in is) i ≡ Some d → IsWellDeclared (ds ++ take i (decls_in is)) d
-decls_keep [] ds made w short i d at = cc at
-decls_keep (Declares e ∷ is) ds made w short zero d at =
+decls_keep [] ds made w low short i d at = cc at
+decls_keep (Declares e ∷ is) ds made w low short zero d at =
     let same : e ≡ d = cc at in
-    let all = length-append (decl_rows e) (items_rows is) in
-    subst (IsWellDeclared (ds ++ [])) same (subst (λ x. IsWellDeclared x e) (sym (append-nil ds)) (decl_keeps ds e w.0 (omega (arith, all, short))))
-decls_keep (Declares e ∷ is) ds made w short (suc i) d at =
-    let all = length-append (decl_rows e) (items_rows is) in
+    let all = size_append (decl_rows e) (items_rows is) in
+    subst (IsWellDeclared (ds ++ [])) same
+    (subst (λ x. IsWellDeclared x e) (sym (append-nil ds)) (decl_keeps ds e w.0 (low_parts (decl_rows e) (items_rows is) low).0 (omega (arith, all, short))))
+decls_keep (Declares e ∷ is) ds made w low short (suc i) d at =
+    let all = size_append (decl_rows e) (items_rows is) in
     subst (λ x. IsWellDeclared x d) (append_assoc ds (e ∷ []) (take i (decls_in is)))
-    (decls_keep is (ds ++ e ∷ []) made (well_behind_one ds e made is w.1) (omega (arith, all, short)) i d at)
-decls_keep (Drives e ∷ is) ds made w short i d at = decls_keep is ds (suc made) w.1 (omega (arith, short)) i d at
+    (decls_keep is (ds ++ e ∷ []) made (well_behind_one ds e made is w.1) (low_parts (decl_rows e) (items_rows is) low).1 (omega (arith, all, short)) i d at)
+decls_keep (Drives e ∷ is) ds made w low short i d at = decls_keep is ds (suc made) w.1 low.1 (omega (arith, short)) i d at
 
 -- each script keeps all of that
 pub script_keeps : (bytes : List ℕ) (s : Script) → length bytes ≤ 1048576 → IsScript bytes s → IsWellFormed s
 script_keeps bytes s few is =
     let size = script_size bytes s is in
+    let low = rows_low 1 (lines bytes) is.reads (items_rows is.items) is.read is.spelled in
     let w : AreWellFormed (decls_in is.items) (drives_in is.items) = record {
-      declared = λ i d at. decls_keep is.items [] 0 is.well (omega (arith, size, few)) i d at;
+      declared = λ i d at. decls_keep is.items [] 0 is.well low (omega (arith, size, few)) i d at;
       distinct = names_keep is.items [] 0 is.well (distinct_by_test [] refl);
       driven = driven_from_none is.items is.well;
     } in

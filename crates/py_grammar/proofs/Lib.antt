@@ -3,6 +3,7 @@ mod Cuts
 -- what tables of names have
 pub mod Tables
 -- the program's reader by the definitions'
+mod Computing
 mod Stacks
 mod Clauses
 -- the reader against the grammar
@@ -11,6 +12,7 @@ mod Whole
 mod Sound
 mod Begun
 -- what every script keeps
+mod Low
 mod Short
 pub mod Keeps
 -- the text of a script

@@ -1,8 +1,7 @@
 -- Texts by how their lines read, and the rows of what they read as.
 use Rattle.std.proofs.Common.{◌≡◌, ℕ, suc, List, [], ◌∷◌, ◌++◌, length, Option, Some, None, refl, ap, ◌∙◌}
 use Rattle.std.specs.List.{AllZip}
-use Rattle.py_lines.specs.declared.line.LineRead.{LineRead}
-use Rattle.py_lines.specs.declared.line.LineRead.TheVariants.{Blank, Said, Malformed}
+use Rattle.py_lines.specs.Line.{LineRead, Blank, Said, Malformed}
 use Rattle.py_lines.specs.Reading.{IsReadAs}
 use Rattle.py_lines.proofs.Readings.{one_way}
 use Rattle.py_grammar.specs.Grammar.{Row}

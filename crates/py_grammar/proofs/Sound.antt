@@ -5,15 +5,13 @@ use Rattle.py_tree.specs.declared.body.BodyKind.{BodyKind}
 use Rattle.py_tree.specs.Tree.{Name, Form, Suite, nothing, first, Clauses, no_more, clause}
 use Rattle.py_tree.specs.Suites.{joined, add, joined_clauses, with_clause}
 use Rattle.py_lines.specs.declared.drive.DriveLine.{DriveLine}
-use Rattle.py_lines.specs.declared.head.Head.{Head}
-use Rattle.py_lines.specs.declared.head.Head.TheVariants as head
 use Rattle.py_lines.specs.declared.head.Turn.{Turn}
 use Rattle.py_lines.specs.declared.head.Turn.TheVariants as turn
 use Rattle.py_lines.specs.declared.header.Header.TheVariants as header
-use Rattle.py_lines.specs.declared.line.Line.{Line}
-use Rattle.py_lines.specs.declared.line.Line.TheVariants as line
-use Rattle.py_lines.specs.declared.plain.Plain.{Plain}
-use Rattle.py_lines.specs.declared.plain.Plain.TheVariants as plain
+use Rattle.py_lines.specs.Line.{Line}
+use Rattle.py_lines.specs.Line as line
+use Rattle.py_lines.specs.Statements.{Plain, Head}
+use Rattle.py_lines.specs.Statements as said
 use Rattle.py_grammar.specs.declared.rules.Inside.{Inside}
 use Rattle.py_grammar.specs.Rules.{Declared, may_declare, body_of, within, may_hold, may_open}
 use Rattle.py_grammar.specs.Grammar.{Row, row, Decl, ClassDecl, ManagerDecl, FunctionDecl, Item, Declares, Drives, declared_as, plain_rows, head_row, except_row, suite_rows, form_rows, clauses_rows, end_row, else_row, finally_row, decl_rows, item_rows, items_rows, decls_in, drives_in, HasClause, WellForm, WellSuite, WellClauses, WellDecl, WellItems}
@@ -23,13 +21,13 @@ use Rattle.py_grammar.specs.Reader.{Began, in_if, in_else, in_while, in_try, in_
 
 -- the rows of an open block up to those of its last suite
 abbrev pub began_rows : ℕ → Began → List Row
-began_rows n (in_if a) = head_row n (head.If a) ∷ []
-began_rows n (in_else a s) = head_row n (head.If a) ∷ (suite_rows s ++ else_row ∷ [])
-began_rows n (in_while a) = head_row n (head.While a) ∷ []
-began_rows n in_try = head_row n head.Try ∷ []
-began_rows n (in_except s cs m c x) = head_row n head.Try ∷ (suite_rows s ++ (clauses_rows cs ++ except_row m c x ∷ []))
-began_rows n (in_finally s) = head_row n head.Try ∷ (suite_rows s ++ finally_row ∷ [])
-began_rows n (in_with a x) = head_row n (head.With a x) ∷ []
+began_rows n (in_if a) = head_row n (said.If a) ∷ []
+began_rows n (in_else a s) = head_row n (said.If a) ∷ (suite_rows s ++ else_row ∷ [])
+began_rows n (in_while a) = head_row n (said.While a) ∷ []
+began_rows n in_try = head_row n said.Try ∷ []
+began_rows n (in_except s cs m c x) = head_row n said.Try ∷ (suite_rows s ++ (clauses_rows cs ++ except_row m c x ∷ []))
+began_rows n (in_finally s) = head_row n said.Try ∷ (suite_rows s ++ finally_row ∷ [])
+began_rows n (in_with a x) = head_row n (said.With a x) ∷ []
 
 -- the rows of open blocks, the innermost first
 abbrev pub blocks_rows : List Block → List Row
@@ -46,13 +44,13 @@ open_rows o = behind_header o (blocks_rows o.blocks ++ suite_rows o.done)
 
 -- an open block keeps the rules where it stands
 abbrev pub WellBegan : Inside → Began → Type 0
-WellBegan i (in_if a) = may_open i ≡ true
-WellBegan i (in_else a s) = (may_open i ≡ true) × WellSuite (within i (head.If a)) s
-WellBegan i (in_while a) = may_open i ≡ true
-WellBegan i in_try = may_open i ≡ true
-WellBegan i (in_except s cs m c x) = (may_open i ≡ true) × (WellSuite (within i head.Try) s × WellClauses (within i head.Try) cs)
-WellBegan i (in_finally s) = (may_open i ≡ true) × WellSuite (within i head.Try) s
-WellBegan i (in_with a x) = may_open i ≡ true
+WellBegan i (in_if a) = may_open i (said.If a) ≡ true
+WellBegan i (in_else a s) = (may_open i (said.If a) ≡ true) × WellSuite (within i (said.If a)) s
+WellBegan i (in_while a) = may_open i (said.While a) ≡ true
+WellBegan i in_try = may_open i said.Try ≡ true
+WellBegan i (in_except s cs m c x) = (may_open i said.Try ≡ true) × (WellSuite (within i said.Try) s × WellClauses (within i said.Try) cs)
+WellBegan i (in_finally s) = (may_open i said.Try ≡ true) × WellSuite (within i said.Try) s
+WellBegan i (in_with a x) = may_open i (said.With a x) ≡ true
 
 abbrev pub WellBlocks : BodyKind → List Block → Type 0
 WellBlocks k [] = Unit {0}
@@ -70,12 +68,12 @@ WellOpen ts o = (may_declare (map declared_as ts) o.name o.params ≡ true) × W
 
 -- a plain line is the row of its statement
 plain_lays : (i : Inside) (n : ℕ) (p : Plain) → may_hold i p ≡ true → (form_rows n (plain_form p) ≡ plain_rows n p) × WellForm i (plain_form p)
-plain_lays i n plain.Pass w = (refl, w)
+plain_lays i n said.Pass w = (refl, w)
 plain_lays i n p w = (refl, w)
 
 -- a line that opens a block is the row of its beginning
-head_lays : (i : Inside) (n : ℕ) (h : Head) → may_open i ≡ true → (began_rows n (began h) ≡ head_row n h ∷ []) × WellBegan i (began h)
-head_lays i n (head.If a) w = (refl, w)
+head_lays : (i : Inside) (n : ℕ) (h : Head) → may_open i h ≡ true → (began_rows n (began h) ≡ head_row n h ∷ []) × WellBegan i (began h)
+head_lays i n (said.If a) w = (refl, w)
 head_lays i n h w = (refl, w)
 
 -- the rows and the rules of clauses with one more behind them
@@ -114,7 +112,7 @@ turn_lays : (i : Inside) (n : ℕ) (t : Turn) (g : Began) (s : Suite) → WellBe
 turn_lays i n turn.Else (in_if a) s v w = ((λ m. refl), (v, w))
 turn_lays i n (turn.Except c x) in_try s v w = ((λ m. refl), (v, (w, tt)))
 turn_lays i n (turn.Except c x) (in_except t cs k d y) s v w =
-    ((λ m. ap (λ r. head_row m head.Try ∷ r) (clause_laid t cs k d y s (except_row n c x))), (v.0, (v.1.0, well_with_clause (within i head.Try) cs k d y s v.1.1 w)))
+    ((λ m. ap (λ r. head_row m said.Try ∷ r) (clause_laid t cs k d y s (except_row n c x))), (v.0, (v.1.0, well_with_clause (within i said.Try) cs k d y s v.1.1 w)))
 turn_lays i n turn.Finally in_try s v w = ((λ m. refl), (v, w))
 turn_lays i n t g s v w = tt
 
@@ -125,15 +123,15 @@ Ends i g s (Some f) = ((n : ℕ) → form_rows n f ≡ began_rows n g ++ (suite_
 
 end_lays : (i : Inside) (g : Began) (s : Suite) → WellBegan i g → WellSuite (within i (opener g)) s → Ends i g s (ended g s)
 end_lays i (in_if a) s v w = ((λ n. refl), (v, w))
-end_lays i (in_else a t) s v w = ((λ n. ap (λ x. head_row n (head.If a) ∷ x) (sym (append_assoc (suite_rows t) (else_row ∷ []) (suite_rows s ++ end_row ∷ [])))), (v.0, (v.1, w)))
+end_lays i (in_else a t) s v w = ((λ n. ap (λ x. head_row n (said.If a) ∷ x) (sym (append_assoc (suite_rows t) (else_row ∷ []) (suite_rows s ++ end_row ∷ [])))), (v.0, (v.1, w)))
 end_lays i (in_while a) s v w = ((λ n. refl), (v, w))
 end_lays i in_try s v w = tt
 end_lays i (in_except t cs m c x) s v w = (
-  (λ n. ap (λ r. head_row n head.Try ∷ r) (clause_laid t cs m c x s end_row)),
-  (v.0, (has_with_clause cs m c x s, (v.1.0, well_with_clause (within i head.Try) cs m c x s v.1.1 w))),
+  (λ n. ap (λ r. head_row n said.Try ∷ r) (clause_laid t cs m c x s end_row)),
+  (v.0, (has_with_clause cs m c x s, (v.1.0, well_with_clause (within i said.Try) cs m c x s v.1.1 w))),
 )
 end_lays i (in_with a x) s v w = ((λ n. refl), (v, w))
-end_lays i (in_finally t) s v w = ((λ n. ap (λ x. head_row n head.Try ∷ x) (sym (append_assoc (suite_rows t) (finally_row ∷ []) (suite_rows s ++ end_row ∷ [])))), (v.0, (v.1, w)))
+end_lays i (in_finally t) s v w = ((λ n. ap (λ x. head_row n said.Try ∷ x) (sym (append_assoc (suite_rows t) (finally_row ∷ []) (suite_rows s ++ end_row ∷ [])))), (v.0, (v.1, w)))
 
 -- ---- lines of a body
 
@@ -171,7 +169,7 @@ grows_by ts o n f r e w v = (
 )
 
 -- and by a block that is opened
-grows_deeper : (ts : List Decl) (o : Open) (n : ℕ) (h : Head) → WellOpen ts o → may_open (inside o) ≡ true → Grows ts o (head_row n h) (Some (deeper o n h))
+grows_deeper : (ts : List Decl) (o : Open) (n : ℕ) (h : Head) → WellOpen ts o → may_open (inside o) h ≡ true → Grows ts o (head_row n h) (Some (deeper o n h))
 grows_deeper ts o n h w v =
     let lays = head_lays (inside o) n h v in (
       ap (λ x. behind_header o ((blocks_rows o.blocks ++ (suite_rows o.done ++ x)) ++ [])) lays.0

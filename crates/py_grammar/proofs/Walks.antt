@@ -2,7 +2,7 @@
 use Rattle.std.proofs.Common.{◌≡◌, ℕ, suc, List, [], ◌∷◌, Option, Some, None, refl, subst}
 use Rattle.std.specs.declared.result.Result.{Result}
 use Rattle.std.specs.declared.result.Result.TheVariants.{Ok, Err}
-use Rattle.py_lines.specs.declared.line.LineRead.{LineRead}
+use Rattle.py_lines.specs.Line.{LineRead}
 use Rattle.py_lines.specs.Laws.{ReadsSomeWay}
 use Rattle.py_lines.specs.Reading.{IsReadAs}
 use Rattle.py_grammar.specs.declared.fault.ParseFault.{ParseFault}

@@ -5,10 +5,8 @@ use Rattle.py_tree.specs.declared.body.BodyKind.{BodyKind}
 use Rattle.py_tree.specs.Tree.{Name, Form, Assign, Do, Show, Return, Raise, Reraise, Break, Continue, Pass, If, IfElse, While, TryExcept, TryFinally, With, Suite, nothing, first, Clauses, no_more, clause}
 use Rattle.py_tree.specs.Suites.{joined, add, joined_clauses, with_clause}
 use Rattle.py_lines.specs.declared.drive.DriveLine.{DriveLine}
-use Rattle.py_lines.specs.declared.head.Head.{Head}
-use Rattle.py_lines.specs.declared.head.Head.TheVariants as head
-use Rattle.py_lines.specs.declared.plain.Plain.{Plain}
-use Rattle.py_lines.specs.declared.plain.Plain.TheVariants as plain
+use Rattle.py_lines.specs.Statements.{Plain, Head}
+use Rattle.py_lines.specs.Statements as said
 use Rattle.py_grammar.specs.Rules.{may_drive, within, may_hold, may_open}
 use Rattle.py_grammar.specs.Grammar.{Row, Decl, ClassDecl, ManagerDecl, FunctionDecl, Item, Declares, Drives, declared_as, plain_rows, head_row, suite_rows, form_rows, clauses_rows, end_row, else_row, finally_row, items_rows, decls_in, drives_in, WellForm, WellSuite, WellClauses, WellItems}
 use Rattle.py_grammar.specs.Reader.{Began, in_if, in_else, in_while, in_try, in_except, in_finally, in_with, began, Block, State, state, inside_of, plain_form, accept}
@@ -53,7 +51,7 @@ module _ (ts : List Decl) (ds : List DriveLine) (line : ℕ) (k : BodyKind) (nam
       → run (body_at bs done) (plain_rows n p ++ rest) ≡ run (body_at bs (add done n (plain_form p))) rest
   plain_read p n bs done rest w = rw w refl
 
-  head_read : (h : Head) (n : ℕ) (bs : List Block) (done : Suite) (rest : List Row) → may_open (inside_of k bs) ≡ true
+  head_read : (h : Head) (n : ℕ) (bs : List Block) (done : Suite) (rest : List Row) → may_open (inside_of k bs) h ≡ true
       → run (body_at bs done) (head_row n h ∷ rest) ≡ run (body_at (block done n (began h) ∷ bs) nothing) rest
   head_read h n bs done rest w = rw w refl
 
@@ -74,43 +72,43 @@ module _ (ts : List Decl) (ds : List DriveLine) (line : ℕ) (k : BodyKind) (nam
   mutual
     form_read : (f : Form) (n : ℕ) (bs : List Block) (done : Suite) (rest : List Row) → WellForm (inside_of k bs) f
         → run (body_at bs done) (form_rows n f ++ rest) ≡ run (body_at bs (add done n f)) rest
-    form_read (Assign x e) n bs done rest w = plain_read (plain.Assign x e) n bs done rest w
-    form_read (Do o) n bs done rest w = plain_read (plain.Do o) n bs done rest w
-    form_read (Show a) n bs done rest w = plain_read (plain.Show a) n bs done rest w
-    form_read (Return a) n bs done rest w = plain_read (plain.Return a) n bs done rest w
-    form_read (Raise a) n bs done rest w = plain_read (plain.Raise a) n bs done rest w
-    form_read Reraise n bs done rest w = plain_read plain.Reraise n bs done rest w
-    form_read Break n bs done rest w = plain_read plain.Break n bs done rest w
-    form_read Continue n bs done rest w = plain_read plain.Continue n bs done rest w
-    form_read Pass n bs done rest w = plain_read plain.Pass n bs done rest w
+    form_read (Assign x e) n bs done rest w = plain_read (said.Assign x e) n bs done rest w
+    form_read (Do o es) n bs done rest w = plain_read (said.Do o es) n bs done rest w
+    form_read (Show a) n bs done rest w = plain_read (said.Show a) n bs done rest w
+    form_read (Return a) n bs done rest w = plain_read (said.Return a) n bs done rest w
+    form_read (Raise a) n bs done rest w = plain_read (said.Raise a) n bs done rest w
+    form_read Reraise n bs done rest w = plain_read said.Reraise n bs done rest w
+    form_read Break n bs done rest w = plain_read said.Break n bs done rest w
+    form_read Continue n bs done rest w = plain_read said.Continue n bs done rest w
+    form_read Pass n bs done rest w = plain_read said.Pass n bs done rest w
     form_read (If a s) n bs done rest w =
         let b : Block = block done n (in_if a) in
-        head_read (head.If a) n bs done ((suite_rows s ++ end_row ∷ []) ++ rest) w.0 ∙ suite_then b bs s (end_row ∷ []) rest (λ rows. suite_read s (b ∷ bs) nothing rows w.1)
+        head_read (said.If a) n bs done ((suite_rows s ++ end_row ∷ []) ++ rest) w.0 ∙ suite_then b bs s (end_row ∷ []) rest (λ rows. suite_read s (b ∷ bs) nothing rows w.1)
     form_read (IfElse a s t) n bs done rest w =
         let b : Block = block done n (in_if a) in
         let c : Block = block done n (in_else a s) in
         let behind : List Row = else_row ∷ (suite_rows t ++ end_row ∷ []) in
-        head_read (head.If a) n bs done ((suite_rows s ++ behind) ++ rest) w.0 ∙ suite_then b bs s behind rest (λ rows. suite_read s (b ∷ bs) nothing rows w.1.0)
+        head_read (said.If a) n bs done ((suite_rows s ++ behind) ++ rest) w.0 ∙ suite_then b bs s behind rest (λ rows. suite_read s (b ∷ bs) nothing rows w.1.0)
         ∙ suite_then c bs t (end_row ∷ []) rest (λ rows. suite_read t (c ∷ bs) nothing rows w.1.1)
     form_read (While a s) n bs done rest w =
         let b : Block = block done n (in_while a) in
-        head_read (head.While a) n bs done ((suite_rows s ++ end_row ∷ []) ++ rest) w.0 ∙ suite_then b bs s (end_row ∷ []) rest (λ rows. suite_read s (b ∷ bs) nothing rows w.1)
+        head_read (said.While a) n bs done ((suite_rows s ++ end_row ∷ []) ++ rest) w.0 ∙ suite_then b bs s (end_row ∷ []) rest (λ rows. suite_read s (b ∷ bs) nothing rows w.1)
     form_read (TryExcept s no_more) n bs done rest w = absurd w.1.0
     form_read (TryExcept s (clause m c x t more)) n bs done rest w =
         let b : Block = block done n in_try in
         let behind : List Row = clauses_rows (clause m c x t more) ++ end_row ∷ [] in
-        head_read head.Try n bs done ((suite_rows s ++ behind) ++ rest) w.0 ∙ suite_then b bs s behind rest (λ rows. suite_read s (b ∷ bs) nothing rows w.1.1.0)
+        head_read said.Try n bs done ((suite_rows s ++ behind) ++ rest) w.0 ∙ suite_then b bs s behind rest (λ rows. suite_read s (b ∷ bs) nothing rows w.1.1.0)
         ∙ clause_read t (block done n (in_except s no_more m c x)) bs more rest (λ rows. suite_read t (block done n (in_except s no_more m c x) ∷ bs) nothing rows w.1.1.1.0)
         ∙ clauses_read more s no_more m c x t n bs done rest w.1.1.1.1
     form_read (TryFinally s t) n bs done rest w =
         let b : Block = block done n in_try in
         let c : Block = block done n (in_finally s) in
         let behind : List Row = finally_row ∷ (suite_rows t ++ end_row ∷ []) in
-        head_read head.Try n bs done ((suite_rows s ++ behind) ++ rest) w.0 ∙ suite_then b bs s behind rest (λ rows. suite_read s (b ∷ bs) nothing rows w.1.0)
+        head_read said.Try n bs done ((suite_rows s ++ behind) ++ rest) w.0 ∙ suite_then b bs s behind rest (λ rows. suite_read s (b ∷ bs) nothing rows w.1.0)
         ∙ suite_then c bs t (end_row ∷ []) rest (λ rows. suite_read t (c ∷ bs) nothing rows w.1.1)
     form_read (With a x s) n bs done rest w =
         let b : Block = block done n (in_with a x) in
-        head_read (head.With a x) n bs done ((suite_rows s ++ end_row ∷ []) ++ rest) w.0 ∙ suite_then b bs s (end_row ∷ []) rest (λ rows. suite_read s (b ∷ bs) nothing rows w.1)
+        head_read (said.With a x) n bs done ((suite_rows s ++ end_row ∷ []) ++ rest) w.0 ∙ suite_then b bs s (end_row ∷ []) rest (λ rows. suite_read s (b ∷ bs) nothing rows w.1)
 
     pub suite_read : (s : Suite) (bs : List Block) (done : Suite) (rest : List Row) → WellSuite (inside_of k bs) s
         → run (body_at bs done) (suite_rows s ++ rest) ≡ run (body_at bs (joined done s)) rest
@@ -122,7 +120,7 @@ module _ (ts : List Decl) (ds : List DriveLine) (line : ℕ) (k : BodyKind) (nam
 
     -- the clauses behind the suite of a clause, and the end of their try
     clauses_read : (cs : Clauses) (s : Suite) (before : Clauses) (m : ℕ) (c : Name) (x : Option Name) (t : Suite) (n : ℕ) (bs : List Block) (done : Suite) (rest : List Row)
-        → WellClauses (within (inside_of k bs) head.Try) cs
+        → WellClauses (within (inside_of k bs) said.Try) cs
         → run (body_at (block done n (in_except s before m c x) ∷ bs) t) ((clauses_rows cs ++ end_row ∷ []) ++ rest)
         ≡ run (body_at bs (add done n (TryExcept s (joined_clauses (with_clause before m c x t) cs)))) rest
     clauses_read no_more s before m c x t n bs done rest w =

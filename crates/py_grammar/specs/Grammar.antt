@@ -2,14 +2,12 @@
 use Rattle.std.specs.Prelude.{◌≡◌, ℕ, suc, List, [], ◌∷◌, ◌++◌, Option, true}
 use Rattle.py_tree.specs.Tree.{Name, Form, Assign, Do, Show, Return, Raise, Reraise, Break, Continue, Pass, If, IfElse, While, TryExcept, TryFinally, With, Suite, nothing, first, Clauses, no_more, clause, Tree}
 use Rattle.py_lines.specs.declared.drive.DriveLine.{DriveLine}
-use Rattle.py_lines.specs.declared.head.Head.{Head}
-use Rattle.py_lines.specs.declared.head.Head.TheVariants as head
 use Rattle.py_lines.specs.declared.head.Turn.TheVariants as turn
 use Rattle.py_lines.specs.declared.header.Header.TheVariants as header
-use Rattle.py_lines.specs.declared.line.Line.{Line}
-use Rattle.py_lines.specs.declared.line.Line.TheVariants as line
-use Rattle.py_lines.specs.declared.plain.Plain.{Plain}
-use Rattle.py_lines.specs.declared.plain.Plain.TheVariants as plain
+use Rattle.py_lines.specs.Line.{Line}
+use Rattle.py_lines.specs.Line as line
+use Rattle.py_lines.specs.Statements.{Plain, Head}
+use Rattle.py_lines.specs.Statements as said
 use Rattle.py_grammar.specs.declared.rules.Inside.{Inside}
 use Rattle.py_grammar.specs.Rules.{Kind, OfClass, OfManager, OfFunction, Declared, may_declare, may_derive, may_drive, may_manage, body_of, within, may_hold, may_open}
 
@@ -91,21 +89,21 @@ except_row n c x = row n (line.Turns (turn.Except c x))
 abbrev mutual
   -- the rows of a statement
   pub form_rows : ℕ → Form → List Row
-  form_rows n (Assign x e) = plain_rows n (plain.Assign x e)
-  form_rows n (Do o) = plain_rows n (plain.Do o)
-  form_rows n (Show a) = plain_rows n (plain.Show a)
-  form_rows n (Return a) = plain_rows n (plain.Return a)
-  form_rows n (Raise a) = plain_rows n (plain.Raise a)
-  form_rows n Reraise = plain_rows n plain.Reraise
-  form_rows n Break = plain_rows n plain.Break
-  form_rows n Continue = plain_rows n plain.Continue
-  form_rows n Pass = plain_rows n plain.Pass
-  form_rows n (If a s) = head_row n (head.If a) ∷ (suite_rows s ++ end_row ∷ [])
-  form_rows n (IfElse a s t) = head_row n (head.If a) ∷ (suite_rows s ++ else_row ∷ (suite_rows t ++ end_row ∷ []))
-  form_rows n (While a s) = head_row n (head.While a) ∷ (suite_rows s ++ end_row ∷ [])
-  form_rows n (TryExcept s cs) = head_row n head.Try ∷ (suite_rows s ++ (clauses_rows cs ++ end_row ∷ []))
-  form_rows n (TryFinally s t) = head_row n head.Try ∷ (suite_rows s ++ finally_row ∷ (suite_rows t ++ end_row ∷ []))
-  form_rows n (With a x s) = head_row n (head.With a x) ∷ (suite_rows s ++ end_row ∷ [])
+  form_rows n (Assign x e) = plain_rows n (said.Assign x e)
+  form_rows n (Do o es) = plain_rows n (said.Do o es)
+  form_rows n (Show a) = plain_rows n (said.Show a)
+  form_rows n (Return a) = plain_rows n (said.Return a)
+  form_rows n (Raise a) = plain_rows n (said.Raise a)
+  form_rows n Reraise = plain_rows n said.Reraise
+  form_rows n Break = plain_rows n said.Break
+  form_rows n Continue = plain_rows n said.Continue
+  form_rows n Pass = plain_rows n said.Pass
+  form_rows n (If a s) = head_row n (said.If a) ∷ (suite_rows s ++ end_row ∷ [])
+  form_rows n (IfElse a s t) = head_row n (said.If a) ∷ (suite_rows s ++ else_row ∷ (suite_rows t ++ end_row ∷ []))
+  form_rows n (While a s) = head_row n (said.While a) ∷ (suite_rows s ++ end_row ∷ [])
+  form_rows n (TryExcept s cs) = head_row n said.Try ∷ (suite_rows s ++ (clauses_rows cs ++ end_row ∷ []))
+  form_rows n (TryFinally s t) = head_row n said.Try ∷ (suite_rows s ++ finally_row ∷ (suite_rows t ++ end_row ∷ []))
+  form_rows n (With a x s) = head_row n (said.With a x) ∷ (suite_rows s ++ end_row ∷ [])
 
   pub suite_rows : Suite → List Row
   suite_rows nothing = []
@@ -149,21 +147,21 @@ HasClause (clause n c x s more) = Unit {0}
 abbrev mutual
   -- a statement keeps the rules where it stands; a try has a clause or a finally
   pub WellForm : Inside → Form → Type 0
-  WellForm i (Assign x e) = may_hold i (plain.Assign x e) ≡ true
-  WellForm i (Do o) = may_hold i (plain.Do o) ≡ true
-  WellForm i (Show a) = may_hold i (plain.Show a) ≡ true
-  WellForm i (Return a) = may_hold i (plain.Return a) ≡ true
-  WellForm i (Raise a) = may_hold i (plain.Raise a) ≡ true
-  WellForm i Reraise = may_hold i plain.Reraise ≡ true
-  WellForm i Break = may_hold i plain.Break ≡ true
-  WellForm i Continue = may_hold i plain.Continue ≡ true
-  WellForm i Pass = may_hold i plain.Pass ≡ true
-  WellForm i (If a s) = (may_open i ≡ true) × WellSuite (within i (head.If a)) s
-  WellForm i (IfElse a s t) = (may_open i ≡ true) × (WellSuite (within i (head.If a)) s × WellSuite (within i (head.If a)) t)
-  WellForm i (While a s) = (may_open i ≡ true) × WellSuite (within i (head.While a)) s
-  WellForm i (TryExcept s cs) = (may_open i ≡ true) × (HasClause cs × (WellSuite (within i head.Try) s × WellClauses (within i head.Try) cs))
-  WellForm i (TryFinally s t) = (may_open i ≡ true) × (WellSuite (within i head.Try) s × WellSuite (within i head.Try) t)
-  WellForm i (With a x s) = (may_open i ≡ true) × WellSuite (within i (head.With a x)) s
+  WellForm i (Assign x e) = may_hold i (said.Assign x e) ≡ true
+  WellForm i (Do o es) = may_hold i (said.Do o es) ≡ true
+  WellForm i (Show a) = may_hold i (said.Show a) ≡ true
+  WellForm i (Return a) = may_hold i (said.Return a) ≡ true
+  WellForm i (Raise a) = may_hold i (said.Raise a) ≡ true
+  WellForm i Reraise = may_hold i said.Reraise ≡ true
+  WellForm i Break = may_hold i said.Break ≡ true
+  WellForm i Continue = may_hold i said.Continue ≡ true
+  WellForm i Pass = may_hold i said.Pass ≡ true
+  WellForm i (If a s) = (may_open i (said.If a) ≡ true) × WellSuite (within i (said.If a)) s
+  WellForm i (IfElse a s t) = (may_open i (said.If a) ≡ true) × (WellSuite (within i (said.If a)) s × WellSuite (within i (said.If a)) t)
+  WellForm i (While a s) = (may_open i (said.While a) ≡ true) × WellSuite (within i (said.While a)) s
+  WellForm i (TryExcept s cs) = (may_open i said.Try ≡ true) × (HasClause cs × (WellSuite (within i said.Try) s × WellClauses (within i said.Try) cs))
+  WellForm i (TryFinally s t) = (may_open i said.Try ≡ true) × (WellSuite (within i said.Try) s × WellSuite (within i said.Try) t)
+  WellForm i (With a x s) = (may_open i (said.With a x) ≡ true) × WellSuite (within i (said.With a x)) s
 
   -- so do statements in order
   pub WellSuite : Inside → Suite → Type 0

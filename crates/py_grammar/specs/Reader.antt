@@ -1,22 +1,17 @@
 -- A reader of lines, by what it has read.
 use Rattle.std.specs.Prelude.{◌≡◌, ℕ, suc, List, [], ◌∷◌, ◌++◌, length, Option, Some, None, option_map, map, Bool, true, false}
 use Rattle.py_tree.specs.declared.body.BodyKind.{BodyKind}
-use Rattle.py_tree.specs.declared.expr.Atom.{Atom}
-use Rattle.py_tree.specs.Tree.{Name, Form, Assign, Do, Show, Return, Raise, Reraise, Break, Continue, Pass, If, IfElse, While, TryExcept, TryFinally, With, Suite, nothing, Clauses, no_more, Tree}
+use Rattle.py_tree.specs.Tree.{Name, Expr, Form, Assign, Do, Show, Return, Raise, Reraise, Break, Continue, Pass, If, IfElse, While, TryExcept, TryFinally, With, Suite, nothing, Clauses, no_more, Tree}
 use Rattle.py_tree.specs.Suites.{add, with_clause}
 use Rattle.py_lines.specs.declared.drive.DriveLine.{DriveLine}
-use Rattle.py_lines.specs.declared.head.Head.{Head}
-use Rattle.py_lines.specs.declared.head.Head.TheVariants as head
 use Rattle.py_lines.specs.declared.head.Turn.{Turn}
 use Rattle.py_lines.specs.declared.head.Turn.TheVariants as turn
 use Rattle.py_lines.specs.declared.header.Header.{Header}
 use Rattle.py_lines.specs.declared.header.Header.TheVariants as header
-use Rattle.py_lines.specs.declared.line.Line.{Line}
-use Rattle.py_lines.specs.declared.line.Line.TheVariants as line
-use Rattle.py_lines.specs.declared.line.LineRead.{LineRead}
-use Rattle.py_lines.specs.declared.line.LineRead.TheVariants.{Blank, Said, Malformed}
-use Rattle.py_lines.specs.declared.plain.Plain.{Plain}
-use Rattle.py_lines.specs.declared.plain.Plain.TheVariants as plain
+use Rattle.py_lines.specs.Line.{Line, LineRead, Blank, Said, Malformed}
+use Rattle.py_lines.specs.Line as line
+use Rattle.py_lines.specs.Statements.{Plain, Head}
+use Rattle.py_lines.specs.Statements as said
 use Rattle.py_lines.specs.Reading.{IsReadAs}
 use Rattle.py_grammar.specs.declared.rules.Inside.{Inside}
 use Rattle.py_grammar.specs.Grammar.{Decl, ClassDecl, ManagerDecl, FunctionDecl, declared_as}
@@ -28,28 +23,28 @@ use Rattle.py_grammar.specs.Script.{Text}
 -- how an open block began: behind an else, with the suite of its if; behind an except, with the suite of its try, the clauses before it,
 -- and its line, its class and the name that it binds; behind a finally, with the suite of its try; with the name that a `with` binds
 pub data Began : Type 0 where
-  in_if in_while : Atom → Began
-  in_else : Atom → Suite → Began
+  in_if in_while : Expr → Began
+  in_else : Expr → Suite → Began
   in_try : Began
   in_except : Suite → Clauses → ℕ → Name → Option Name → Began
   in_finally : Suite → Began
-  in_with : Atom → Option Name → Began
+  in_with : Expr → Option Name → Began
 
 abbrev pub began : Head → Began
-began (head.If a) = in_if a
-began (head.While a) = in_while a
-began head.Try = in_try
-began (head.With a x) = in_with a x
+began (said.If a) = in_if a
+began (said.While a) = in_while a
+began said.Try = in_try
+began (said.With a x) = in_with a x
 
 -- the line that opened it
 abbrev pub opener : Began → Head
-opener (in_if a) = head.If a
-opener (in_else a s) = head.If a
-opener (in_while a) = head.While a
-opener in_try = head.Try
-opener (in_except s cs n c x) = head.Try
-opener (in_finally s) = head.Try
-opener (in_with a x) = head.With a x
+opener (in_if a) = said.If a
+opener (in_else a s) = said.If a
+opener (in_while a) = said.While a
+opener in_try = said.Try
+opener (in_except s cs n c x) = said.Try
+opener (in_finally s) = said.Try
+opener (in_with a x) = said.With a x
 
 -- an open block: the statements before it in the block around it, its line and how it began
 pub record Block : Type 0 where
@@ -85,15 +80,15 @@ only_if false x = None
 
 -- the statement that a plain line is
 abbrev pub plain_form : Plain → Form
-plain_form (plain.Assign x e) = Assign x e
-plain_form (plain.Do o) = Do o
-plain_form (plain.Show a) = Show a
-plain_form (plain.Return a) = Return a
-plain_form (plain.Raise a) = Raise a
-plain_form plain.Reraise = Reraise
-plain_form plain.Break = Break
-plain_form plain.Continue = Continue
-plain_form plain.Pass = Pass
+plain_form (said.Assign x e) = Assign x e
+plain_form (said.Do o es) = Do o es
+plain_form (said.Show a) = Show a
+plain_form (said.Return a) = Return a
+plain_form (said.Raise a) = Raise a
+plain_form said.Reraise = Reraise
+plain_form said.Break = Break
+plain_form said.Continue = Continue
+plain_form said.Pass = Pass
 
 -- one more statement
 abbrev pub grown : Open → ℕ → Form → Open
@@ -137,7 +132,7 @@ turned o n t (b ∷ bs) = option_map (turned_to o b bs) (turned_by n t b.began o
 abbrev pub goes_on : Open → ℕ → Line → Option Open
 goes_on o n line.End = None
 goes_on o n (line.Plain p) = only_if (may_hold (inside o) p) (grown o n (plain_form p))
-goes_on o n (line.Opens h) = only_if (may_open (inside o)) (deeper o n h)
+goes_on o n (line.Opens h) = only_if (may_open (inside o) h) (deeper o n h)
 goes_on o n (line.Turns t) = turned o n t o.blocks
 goes_on o n (line.Header h) = None
 goes_on o n (line.Drive d) = None

@@ -6,12 +6,12 @@ use Rattle.py_tree.specs.declared.stmt.ClauseList.{ClauseList}
 use Rattle.py_tree.specs.declared.stmt.StmtList.{StmtList}
 use Rattle.py_tree.specs.declared.stmt.StmtForm.{StmtForm}
 use Rattle.py_tree.specs.Suites.{with_clause}
+use Rattle.py_tree.specs.ExprViews.{expr_of}
 use Rattle.py_tree.specs.Views.{clauses_of, form_of, suite_of}
 use Rattle.py_lines.specs.declared.head.Turn.{Turn}
 use Rattle.py_lines.specs.declared.header.Header.{Header}
 use Rattle.py_lines.specs.declared.header.Header.TheVariants.{Def}
-use Rattle.py_lines.specs.declared.line.Line.{Line}
-use Rattle.py_lines.specs.declared.line.LineRead.{LineRead}
+use Rattle.py_lines.specs.Line.{Line, LineRead}
 use Rattle.py_lines.specs.Reading.{IsReadAs}
 use Rattle.py_grammar.specs.declared.fault.ParseFault.{ParseFault}
 use Rattle.py_grammar.specs.declared.fault.ParseFault.TheVariants.{Malformed, NoMemory}
@@ -30,13 +30,13 @@ use Rattle.py_grammar.specs.Reader.{Began, in_if, in_else, in_while, in_try, in_
 
 -- how an open block began
 abbrev pub began_of : BlockHead → Began
-began_of (block.If a) = in_if a
-began_of (block.Else a s) = in_else a (suite_of s)
-began_of (block.While a) = in_while a
+began_of (block.If e) = in_if (expr_of e)
+began_of (block.Else e s) = in_else (expr_of e) (suite_of s)
+began_of (block.While e) = in_while (expr_of e)
 began_of block.Try = in_try
 began_of (block.Except s cs h) = in_except (suite_of s) (clauses_of cs) h.line h.class h.target
 began_of (block.Finally s) = in_finally (suite_of s)
-began_of (block.With a x) = in_with a x
+began_of (block.With e x) = in_with (expr_of e) x
 
 -- an open block, and the body that is open
 abbrev pub block_of : OpenBlock → Block

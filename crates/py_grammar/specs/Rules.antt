@@ -1,22 +1,18 @@
 -- The rules on lines that look at what stands around them, each a test.
-use Rattle.std.specs.Prelude.{ℕ, suc, List, [], ◌∷◌, length, Bool, Option, Some, None, true, false, ◌&&◌, ◌||◌, not, nat_le, nat_lt, bytes_eq, map}
+use Rattle.std.specs.Prelude.{ℕ, suc, List, [], ◌∷◌, length, Bool, Option, Some, None, true, false, ◌==◌, ◌&&◌, ◌||◌, not, nat_le, nat_lt, bytes_eq, map}
 use Rattle.std.specs.List.{list_any, list_all}
 use Rattle.py_objects.specs.ErrorKinds.{error_kinds, name_of}
 use Rattle.py_tree.specs.declared.body.BodyKind.{BodyKind}
 use Rattle.py_tree.specs.declared.body.BodyKind.TheVariants as body
-use Rattle.py_tree.specs.declared.expr.Expr.{Expr}
-use Rattle.py_tree.specs.declared.expr.Expr.TheVariants as expr
-use Rattle.py_tree.specs.declared.expr.Operation.{Operation}
-use Rattle.py_tree.specs.declared.expr.Operation.TheVariants as operation
-use Rattle.py_tree.specs.Tree.{Name}
+use Rattle.py_tree.specs.Tree.{Name, Expr, Leaf, Operate, Exprs, no_operands, operand}
+use Rattle.py_tree.specs.Operators.{Way, Asks_one, Asks_two, Calls_it, Yields_it, way_of}
+use Rattle.py_tree.specs.Compilable.{operands}
 use Rattle.py_lines.specs.declared.drive.DriveAtom.{DriveAtom}
 use Rattle.py_lines.specs.declared.drive.DriveAtom.TheVariants as argument
 use Rattle.py_lines.specs.declared.drive.DriveLine.{DriveLine}
 use Rattle.py_lines.specs.declared.drive.DriveLine.TheVariants as drive
-use Rattle.py_lines.specs.declared.head.Head.{Head}
-use Rattle.py_lines.specs.declared.head.Head.TheVariants as head
-use Rattle.py_lines.specs.declared.plain.Plain.{Plain}
-use Rattle.py_lines.specs.declared.plain.Plain.TheVariants as plain
+use Rattle.py_lines.specs.Statements.{Plain, Head}
+use Rattle.py_lines.specs.Statements as said
 use Rattle.py_grammar.specs.declared.rules.Inside.{Inside}
 
 -- ---- what was declared before
@@ -116,21 +112,22 @@ abbrev pub may_yield : BodyKind → Bool
 may_yield body.Function = false
 may_yield body.Generator = true
 
--- whether an operation may stand in a body of this kind: a call has at most 255 arguments
-abbrev pub may_operate : BodyKind → Operation → Bool
-may_operate k (operation.Add a b) = true
-may_operate k (operation.Sub a b) = true
-may_operate k (operation.Lt a b) = true
-may_operate k (operation.Eq a b) = true
-may_operate k (operation.Send a b) = true
-may_operate k (operation.Throw a b) = true
-may_operate k (operation.Close a) = true
-may_operate k (operation.Yield a) = may_yield k
-may_operate k (operation.Call f atoms) = nat_le (length atoms) 255
+-- whether so many operands may be handled like this in a body of this kind: a call has a callee and at most 255 arguments
+abbrev pub may_operate : BodyKind → Way → ℕ → Bool
+may_operate k (Asks_one r) n = n == 1
+may_operate k (Asks_two r) n = n == 2
+may_operate k Calls_it n = nat_le 1 n && nat_le n 256
+may_operate k Yields_it n = may_yield k && n == 1
 
-abbrev pub may_compute : BodyKind → Expr → Bool
-may_compute k (expr.Atom a) = true
-may_compute k (expr.Operation o) = may_operate k o
+abbrev mutual
+  -- whether an expression may stand there: each of its operators has its operands
+  pub may_compute : BodyKind → Expr → Bool
+  may_compute k (Leaf a) = true
+  may_compute k (Operate o es) = may_operate k (way_of o) (operands es) && may_compute_all k es
+
+  pub may_compute_all : BodyKind → Exprs → Bool
+  may_compute_all k no_operands = true
+  may_compute_all k (operand e es) = may_compute k e && may_compute_all k es
 
 -- ---- where it stands
 
@@ -139,10 +136,10 @@ abbrev pub body_of : BodyKind → Inside
 body_of k = record { kind = k; blocks = 1; in_loop = false }
 
 abbrev pub is_loop : Head → Bool
-is_loop (head.If a) = false
-is_loop (head.While a) = true
-is_loop head.Try = false
-is_loop (head.With a x) = false
+is_loop (said.If e) = false
+is_loop (said.While e) = true
+is_loop said.Try = false
+is_loop (said.With e x) = false
 
 -- where those of a block stand that is opened by this line
 abbrev pub within : Inside → Head → Inside
@@ -150,16 +147,23 @@ within i h = record { kind = i.kind; blocks = suc i.blocks; in_loop = is_loop h 
 
 -- whether a plain statement may stand somewhere
 abbrev pub may_hold : Inside → Plain → Bool
-may_hold i (plain.Assign x e) = may_compute i.kind e
-may_hold i (plain.Do o) = may_operate i.kind o
-may_hold i (plain.Show a) = true
-may_hold i (plain.Return a) = true
-may_hold i (plain.Raise a) = true
-may_hold i plain.Reraise = true
-may_hold i plain.Break = i.in_loop
-may_hold i plain.Continue = i.in_loop
-may_hold i plain.Pass = true
+may_hold i (said.Assign x e) = may_compute i.kind e
+may_hold i (said.Do o es) = may_compute i.kind (Operate o es)
+may_hold i (said.Show e) = may_compute i.kind e
+may_hold i (said.Return e) = may_compute i.kind e
+may_hold i (said.Raise e) = may_compute i.kind e
+may_hold i said.Reraise = true
+may_hold i said.Break = i.in_loop
+may_hold i said.Continue = i.in_loop
+may_hold i said.Pass = true
 
--- whether a block may be opened there: at most 64 are open at once, the body among them
-abbrev pub may_open : Inside → Bool
-may_open i = nat_lt i.blocks 64
+-- whether what this line computes may stand in a body of this kind
+abbrev pub may_begin : BodyKind → Head → Bool
+may_begin k (said.If e) = may_compute k e
+may_begin k (said.While e) = may_compute k e
+may_begin k said.Try = true
+may_begin k (said.With e x) = may_compute k e
+
+-- whether it may open a block there: at most 64 are open at once, the body among them
+abbrev pub may_open : Inside → Head → Bool
+may_open i h = nat_lt i.blocks 64 && may_begin i.kind h

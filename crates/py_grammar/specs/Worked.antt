@@ -2,7 +2,7 @@
 use Rattle.std.specs.Prelude.{◌≡◌, List, [], ◌∷◌, Some, None, false, codes}
 use Rattle.py_tree.specs.declared.body.BodyKind.TheVariants as body
 use Rattle.py_tree.specs.declared.expr.Atom.TheVariants as atom
-use Rattle.py_tree.specs.Tree.{With, nothing, first}
+use Rattle.py_tree.specs.Tree.{Leaf, With, nothing, first}
 use Rattle.py_lines.specs.declared.drive.DriveAtom.TheVariants as argument
 use Rattle.py_lines.specs.declared.drive.DriveLine.{DriveLine}
 use Rattle.py_lines.specs.declared.drive.DriveLine.TheVariants as drive
@@ -20,7 +20,7 @@ small_decls = ClassDecl (codes "C") (codes "KeyError")
     ∷ FunctionDecl (record { kind = body.Function; name = codes "e"; params = codes "a" ∷ codes "b" ∷ codes "c" ∷ []; suite = nothing; line = 2 })
     ∷ ManagerDecl (codes "m") (codes "e") (codes "e")
     ∷ ClassDecl (codes "D") (codes "C")
-    ∷ FunctionDecl (record { kind = body.Generator; name = codes "f"; params = []; suite = first 7 (With (atom.Name (codes "m")) (Some (codes "x")) nothing) nothing; line = 6 })
+    ∷ FunctionDecl (record { kind = body.Generator; name = codes "f"; params = []; suite = first 7 (With (Leaf (atom.Name (codes "m"))) (Some (codes "x")) nothing) nothing; line = 6 })
     ∷ []
 
 abbrev pub small_drives : List DriveLine

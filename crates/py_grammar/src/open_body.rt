@@ -4,7 +4,8 @@
 ghost use Rattle.std.specs.Prelude.{◌≡◌, IfOk, option_map};
 ghost use Rattle.std.specs.List.{list_any};
 ghost use Rattle.py_tree.specs.Views.{form_of, suite_of, tree_of};
-ghost use Rattle.py_lines.specs.declared.line.Line.TheVariants.{Plain as PlainLine, Opens as OpensLine, Turns as TurnsLine};
+ghost use Rattle.py_lines.specs.Views.{head_of, plain_of};
+ghost use Rattle.py_lines.specs.Line.{Plain as PlainLine, Opens as OpensLine, Turns as TurnsLine};
 ghost use Rattle.py_grammar.specs.Rules.{is_loop as is_loop_head};
 ghost use Rattle.py_grammar.specs.Reader.{began, else_behind, ended, finally_behind, function_of, inside as is_inside, opened, opener, plain_form};
 ghost use Rattle.py_grammar.specs.Reading.{began_of, open_of, AddsClause, Closes, EndsAs, GoesOn, TurnsAs, TurnsToExcept};
@@ -12,27 +13,27 @@ ghost use Rattle.py_grammar.specs.Reading.{began_of, open_of, AddsClause, Closes
 use crate::rules::{Inside, may_hold, may_open};
 use py_code::{NoMemory, PyText};
 use py_lines::{Head, Plain, Turn};
-use py_tree::{Atom, Body, BodyKind, Clause, ClauseList, ParamList, Stmt, StmtForm, StmtList};
+use py_tree::{Body, BodyKind, Clause, ClauseList, Expr, ParamList, Stmt, StmtForm, StmtList};
 use std::alloc::Global;
 use std::mem;
 
 /// How an open block began.
 #[derive(Drop)]
 pub enum BlockHead {
-    /// `if a`, without an `else` so far.
-    If(Atom),
-    /// `if a`, its suite and `else`.
-    Else(Atom, StmtList),
-    /// `while a`.
-    While(Atom),
+    /// `if e`, without an `else` so far.
+    If(Expr),
+    /// `if e`, its suite and `else`.
+    Else(Expr, StmtList),
+    /// `while e`.
+    While(Expr),
     /// `try`, without a clause or a `finally` so far.
     Try,
     /// `try`, its suite, the clauses before the last one, and how that began.
     Except(StmtList, ClauseList, ClauseHead),
     /// `try`, its suite and `finally`.
     Finally(StmtList),
-    /// `with a` or `with a as x`.
-    With(Atom, Option<PyText>),
+    /// `with e` or `with e as x`.
+    With(Expr, Option<PyText>),
 }
 
 /// `except C` or `except C as x`, with its line.
@@ -84,14 +85,14 @@ pub enum Ended {
 
 /// The statement that a plain line is.
 fn statement_of(plain: Plain) -> StmtForm
-    ensures { form_of result ≡ plain_form plain }
+    ensures { form_of result ≡ plain_form (plain_of plain) }
 {
     match plain {
         Plain::Assign(target, value) => StmtForm::Assign(target, value),
-        Plain::Do(operation) => StmtForm::Do(operation),
-        Plain::Show(atom) => StmtForm::Show(atom),
-        Plain::Return(atom) => StmtForm::Return(atom),
-        Plain::Raise(atom) => StmtForm::Raise(atom),
+        Plain::Do(operator, operands) => StmtForm::Do(operator, operands),
+        Plain::Show(expr) => StmtForm::Show(expr),
+        Plain::Return(expr) => StmtForm::Return(expr),
+        Plain::Raise(expr) => StmtForm::Raise(expr),
         Plain::Reraise => StmtForm::Reraise,
         Plain::Break => StmtForm::Break,
         Plain::Continue => StmtForm::Continue,
@@ -125,11 +126,11 @@ fn with_clause(
 impl BlockHead {
     /// How a block begins with the line that opens it.
     fn of(head: Head) -> BlockHead
-        ensures { began_of result ≡ began head }
+        ensures { began_of result ≡ began (head_of head) }
     {
         match head {
-            Head::If(atom) => BlockHead::If(atom),
-            Head::While(atom) => BlockHead::While(atom),
+            Head::If(expr) => BlockHead::If(expr),
+            Head::While(expr) => BlockHead::While(expr),
             Head::Try => BlockHead::Try,
             Head::With(manager, target) => BlockHead::With(manager, target),
         }
@@ -155,7 +156,7 @@ impl BlockHead {
         ensures { option_map began_of result ≡ else_behind (began_of self) (suite_of suite) }
     {
         match self {
-            BlockHead::If(atom) => Some(BlockHead::Else(atom, suite)),
+            BlockHead::If(expr) => Some(BlockHead::Else(expr, suite)),
             _ => {
                 mem::drop(self);
                 None
@@ -231,9 +232,9 @@ impl BlockHead {
         ensures { IfOk result (EndsAs self suite) }
     {
         match self {
-            BlockHead::If(atom) => Ok(Some(StmtForm::If(atom, suite))),
-            BlockHead::Else(atom, first) => Ok(Some(StmtForm::IfElse(atom, first, suite))),
-            BlockHead::While(atom) => Ok(Some(StmtForm::While(atom, suite))),
+            BlockHead::If(expr) => Ok(Some(StmtForm::If(expr, suite))),
+            BlockHead::Else(expr, first) => Ok(Some(StmtForm::IfElse(expr, first, suite))),
+            BlockHead::While(expr) => Ok(Some(StmtForm::While(expr, suite))),
             BlockHead::Try => Ok(None),
             BlockHead::Except(first, clauses, last) => {
                 let clauses = with_clause(clauses, last, suite)?;
@@ -282,7 +283,7 @@ impl OpenBody {
 
     /// Takes one more plain statement, where it is allowed.
     pub fn hold(&mut self, number: u32, plain: Plain) -> Result<bool, NoMemory>
-        ensures taken { IfOk result (GoesOn self.old self.new number (PlainLine plain)) }
+        ensures taken { IfOk result (GoesOn self.old self.new number (PlainLine (plain_of plain))) }
         ensures name { self.new.name ≡ self.old.name }
     {
         if !may_hold(self.inside(), &plain) {
@@ -297,10 +298,10 @@ impl OpenBody {
     /// Opens one more block, where it is allowed.
     #[tactic(auto, using(crate::proofs::Stacks::stack_push))]
     pub fn open(&mut self, alloc: Global, number: u32, head: Head) -> Result<bool, NoMemory>
-        ensures taken { IfOk result (GoesOn self.old self.new number (OpensLine head)) }
+        ensures taken { IfOk result (GoesOn self.old self.new number (OpensLine (head_of head))) }
         ensures name { self.new.name ≡ self.old.name }
     {
-        if !may_open(self.inside()) {
+        if !may_open(self.inside(), &head) {
             mem::drop(head);
             return Ok(false);
         }

@@ -2,7 +2,8 @@
 
 ghost use Rattle.std.specs.Prelude.{◌≡◌, [], IfOk, OnOk, None};
 ghost use Rattle.py_lines.specs.declared.header.Header.TheVariants.{Class as ClassHeader, Manager as ManagerHeader};
-ghost use Rattle.py_lines.specs.declared.line.Line.TheVariants.{Drive as DrivenLine, End as EndLine, Header as HeaderLine, Opens as OpensLine, Plain as PlainLine, Turns as TurnsLine};
+ghost use Rattle.py_lines.specs.Views.{head_of, line_of, plain_of};
+ghost use Rattle.py_lines.specs.Line.{Drive as DrivenLine, End as EndLine, Header as HeaderLine, Opens as OpensLine, Plain as PlainLine, Turns as TurnsLine};
 ghost use Rattle.py_grammar.specs.Reader.{start};
 ghost use Rattle.py_grammar.specs.Reading.{header_of, state_of, ComesTo, IsDeclared, IsHeaded, IsTaken};
 ghost use Rattle.py_grammar.specs.Tables.{TableIsKept};
@@ -85,7 +86,7 @@ impl Reader {
     /// Takes a plain line, where a body is open and it may stand there.
     fn hold(&mut self, number: u32, plain: Plain) -> Result<bool, NoMemory>
         requires { TableIsKept self.old }
-        ensures taken { IfOk result (IsTaken self.old self.new number (PlainLine plain)) }
+        ensures taken { IfOk result (IsTaken self.old self.new number (PlainLine (plain_of plain))) }
         ensures kept { OnOk result (TableIsKept self.new) }
     {
         match &mut self.inside {
@@ -100,7 +101,7 @@ impl Reader {
     /// Takes a line that opens a block, likewise.
     fn open_block(&mut self, alloc: Global, number: u32, head: Head) -> Result<bool, NoMemory>
         requires { TableIsKept self.old }
-        ensures taken { IfOk result (IsTaken self.old self.new number (OpensLine head)) }
+        ensures taken { IfOk result (IsTaken self.old self.new number (OpensLine (head_of head))) }
         ensures kept { OnOk result (TableIsKept self.new) }
     {
         match &mut self.inside {
@@ -227,7 +228,7 @@ impl Reader {
     /// read stands for nothing.
     pub fn push_line(&mut self, alloc: Global, number: u32, line: Line) -> Result<bool, NoMemory>
         requires { TableIsKept self.old }
-        ensures taken { IfOk result (IsTaken self.old self.new number line) }
+        ensures taken { IfOk result (IsTaken self.old self.new number (line_of line)) }
         ensures kept { OnOk result (TableIsKept self.new) }
     {
         match line {

@@ -3,18 +3,22 @@
 ghost use Rattle.std.specs.Prelude.{◌≡◌, length, bytes_eq, map, None};
 ghost use Rattle.std.specs.List.{list_any, list_all};
 ghost use Rattle.py_objects.specs.ErrorKinds.{name_of};
+ghost use Rattle.py_tree.specs.Tree.{Operate};
+ghost use Rattle.py_tree.specs.ExprViews.{expr_of, exprs_of};
+ghost use Rattle.py_tree.specs.Operators.{way_of};
+ghost use Rattle.py_lines.specs.Views.{head_of, plain_of};
 ghost use Rattle.py_grammar.specs.Grammar.{declared_as};
 ghost use Rattle.py_grammar.specs.Script.{decls_of};
 ghost use Rattle.py_grammar.specs.Rules.{is_among as is_among_names, all_differ as do_all_differ, is_builtin_class as is_builtin};
-ghost use Rattle.py_grammar.specs.Rules.{may_compute as may_be_computed, may_drive as may_be_driven, may_hold as may_be_held, may_open as may_be_opened, may_operate as may_be_operated, may_yield as may_be_yielded_in, numbers_drive as numbers_a_drive};
+ghost use Rattle.py_grammar.specs.Rules.{may_begin as may_be_begun, may_compute as may_be_computed, may_compute_all as all_may_be_computed, may_drive as may_be_driven, may_hold as may_be_held, may_open as may_be_opened, may_operate as may_be_operated, may_yield as may_be_yielded_in, numbers_drive as numbers_a_drive};
 ghost use Rattle.py_grammar.specs.Tables.{is_base_by, is_drivable_by, is_new_by, is_thrown_by, may_derive_by, may_drive_by, may_head, may_manage_by, table_of};
 
 use crate::script::Script;
 use crate::table::Table;
 use py_code::{NameSet, PyText, same_text};
-use py_lines::{DriveAtom, DriveLine, Plain};
+use py_lines::{DriveAtom, DriveLine, Head, Plain};
 use py_objects::ErrorKind;
-use py_tree::{BodyKind, Expr, Operation, ParamList};
+use py_tree::{BodyKind, Expr, ExprList, Operator, ParamList};
 
 /// How many blocks may be open at once, the body among them.
 const MOST_BLOCKS: usize = 64;
@@ -178,38 +182,61 @@ fn may_yield(kind: BodyKind) -> bool
     }
 }
 
-/// Whether an operation may stand in a body of this kind.
-fn may_operate(kind: BodyKind, operation: &Operation) -> bool
-    ensures { result ≡ may_be_operated kind operation.now }
+/// Whether an operator may have so many operands in a body of this kind: a call has a callee and at most 255 arguments.
+fn may_operate(kind: BodyKind, operator: Operator, operands: usize) -> bool
+    ensures { result ≡ may_be_operated kind (way_of operator) operands }
 {
-    match operation {
-        Operation::Add(_, _) | Operation::Sub(_, _) | Operation::Lt(_, _) | Operation::Eq(_, _) =>
-            true,
-        Operation::Send(_, _) | Operation::Throw(_, _) | Operation::Close(_) => true,
-        Operation::Yield(_) => may_yield(kind),
-        Operation::Call(_, args) => args.len() <= 255,
+    match operator {
+        Operator::Add | Operator::Sub | Operator::Lt | Operator::Eq => operands == 2,
+        Operator::Send | Operator::Throw => operands == 2,
+        Operator::Close => operands == 1,
+        Operator::Yield => may_yield(kind) && operands == 1,
+        Operator::Call => 1 <= operands && operands <= 256,
     }
 }
 
-fn may_compute(kind: BodyKind, value: &Expr) -> bool
-    ensures { result ≡ may_be_computed kind value.now }
+/// Whether an expression may stand in a body of this kind.
+#[cycle(compute)]
+fn may_compute(kind: BodyKind, expr: &Expr) -> bool
+    ensures { result ≡ may_be_computed kind (expr_of expr.now) }
 {
-    match value {
+    match expr {
         Expr::Atom(_) => true,
-        Expr::Operation(operation) => may_operate(kind, operation),
+        Expr::Operation(operator, operands) => may_apply(kind, *operator, operands),
     }
+}
+
+/// Whether an operator with these operands may.
+#[cycle(compute)]
+fn may_apply(kind: BodyKind, operator: Operator, operands: &ExprList) -> bool
+    ensures { result ≡ may_be_computed kind (Operate operator (exprs_of operands.now)) }
+{
+    may_operate(kind, operator, operands.as_slice().len()) && may_compute_all(kind, operands)
+}
+
+/// Whether each of these expressions may.
+#[cycle(compute)]
+fn may_compute_all(kind: BodyKind, exprs: &ExprList) -> bool
+    ensures { result ≡ all_may_be_computed kind (exprs_of exprs.now) }
+{
+    for expr in exprs.as_slice() {
+        if !may_compute(kind, expr) {
+            return false;
+        }
+    }
+    true
 }
 
 /// Whether a plain statement may stand there.
 pub fn may_hold(inside: Inside, plain: &Plain) -> bool
-    ensures { result ≡ may_be_held inside plain.now }
+    ensures { result ≡ may_be_held inside (plain_of plain.now) }
 {
     match plain {
-        Plain::Assign(_, value) => may_compute(inside.kind, value),
-        Plain::Do(operation) => may_operate(inside.kind, operation),
-        Plain::Show(_) => true,
-        Plain::Return(_) => true,
-        Plain::Raise(_) => true,
+        Plain::Assign(_, expr) => may_compute(inside.kind, expr),
+        Plain::Do(operator, operands) => may_apply(inside.kind, *operator, operands),
+        Plain::Show(expr) => may_compute(inside.kind, expr),
+        Plain::Return(expr) => may_compute(inside.kind, expr),
+        Plain::Raise(expr) => may_compute(inside.kind, expr),
         Plain::Reraise => true,
         Plain::Break => inside.in_loop,
         Plain::Continue => inside.in_loop,
@@ -217,9 +244,21 @@ pub fn may_hold(inside: Inside, plain: &Plain) -> bool
     }
 }
 
-/// Whether a block may be opened there.
-pub fn may_open(inside: Inside) -> bool
-    ensures { result ≡ may_be_opened inside }
+/// Whether what this line computes may stand in a body of this kind.
+fn may_begin(kind: BodyKind, head: &Head) -> bool
+    ensures { result ≡ may_be_begun kind (head_of head.now) }
 {
-    inside.blocks < MOST_BLOCKS
+    match head {
+        Head::If(expr) => may_compute(kind, expr),
+        Head::While(expr) => may_compute(kind, expr),
+        Head::Try => true,
+        Head::With(expr, _) => may_compute(kind, expr),
+    }
+}
+
+/// Whether this line may open a block there.
+pub fn may_open(inside: Inside, head: &Head) -> bool
+    ensures { result ≡ may_be_opened inside (head_of head.now) }
+{
+    inside.blocks < MOST_BLOCKS && may_begin(inside.kind, head)
 }

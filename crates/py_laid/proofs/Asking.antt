@@ -233,22 +233,22 @@ module _ (ex : Execution) where
             later v m i us less (subst (λ (b : ℕ). From ex m b b (behind v) c.blocks now us) is_next goes))
 
       -- a unit that yields the value on top goes on behind it with what it is sent
-      pub yields_run : {scope : Scope} {line at to : ℕ} → Stands (parts_of ex) scope line at YieldValue 0 to → (v : Obj) (last n event : ℕ) (ts : List Own)
-          → n ≤ c.limit → c.low ≤ at → to ≤ c.high → From ex n at last (v ∷ c.base) c.blocks now ts → ((u : Obj) (i : ℕ) → V (Given u) i [])
-          → ((u : Obj) (m i : ℕ) (us : List Own) → m < n → From ex m to to (u ∷ c.base) c.blocks now us → V (Given u) i us)
+      pub yields_run : {scope : Scope} {line at to : ℕ} → Stands (parts_of ex) scope line at YieldValue 0 to → (v : Obj) (extra : List Obj) (last n event : ℕ) (ts : List Own)
+          → n ≤ c.limit → c.low ≤ at → to ≤ c.high → From ex n at last (v ∷ extra ++ c.base) c.blocks now ts → ((u : Obj) (i : ℕ) → V (Given u) i [])
+          → ((u : Obj) (m i : ℕ) (us : List Own) → m < n → From ex m to to (u ∷ extra ++ c.base) c.blocks now us → V (Given u) i us)
           → Suspends (scene_of ex) line v event ts V
-      yields_run {line = line} {to = to} stands v last n event ts most low high run stops later =
-          stands_run ex stands (λ k p b. Plainly (Tells (Yields k v) (waiting expect.Resume (begun k p c.base c.blocks now)))) (v ∷ c.base) c.blocks now last n ts (λ k p. refl) run
+      yields_run {line = line} {to = to} stands v extra last n event ts most low high run stops later =
+          stands_run ex stands (λ k p b. Plainly (Tells (Yields k v) (waiting expect.Resume (begun k p (extra ++ c.base) c.blocks now)))) (v ∷ extra ++ c.base) c.blocks now last n ts (λ k p. refl) run
           (λ none. inl (none, passes.stopped event))
           (λ k p m from is_next less has_op of_line left.
-          let (mid, is, waits) = step_left ex m (Tells (Yields k v) (waiting expect.Resume (begun k p c.base c.blocks now))) ts left in
+          let (mid, is, waits) = step_left ex m (Tells (Yields k v) (waiting expect.Resume (begun k p (extra ++ c.base) c.blocks now))) ts left in
           inr (
             k,
             mid,
             of_line,
             is,
-            resumed_run YieldValue 0 k p (want.Of kind.Any) [] n most (omega (arith, low, from)) (omega (arith, high, is_next)) has_op (λ u i value. stops u i)
+            resumed_run YieldValue 0 k p (want.Of kind.Any) extra n most (omega (arith, low, from)) (omega (arith, high, is_next)) has_op (λ u i value. stops u i)
                 (λ u j i us fewer value answer.
-                let goes = step_left ex j (Goes (running (suc k) (suc k) 0 (u ∷ c.base) c.blocks now)) us answer in
-                later u j i us fewer (subst (λ (b : ℕ). From ex j b b (u ∷ c.base) c.blocks now us) is_next goes)) refl m event mid less waits,
+                let goes = step_left ex j (Goes (running (suc k) (suc k) 0 (u ∷ extra ++ c.base) c.blocks now)) us answer in
+                later u j i us fewer (subst (λ (b : ℕ). From ex j b b (u ∷ extra ++ c.base) c.blocks now us) is_next goes)) refl m event mid less waits,
           ))

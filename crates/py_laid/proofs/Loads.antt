@@ -25,12 +25,11 @@ use Rattle.py_tree.specs.declared.expr.Atom.TheVariants as atom
 use Rattle.py_tree.specs.Tree.{Name}
 use Rattle.py_tree.specs.Binding.{Env, find_local}
 use Rattle.py_tree.specs.Scene.{Scene}
-use Rattle.py_tree.specs.Outcome.{Cut, Handled, Use, Named, Loads, Tests, Chooses}
-use Rattle.py_laid.specs.Code.{Around, Scope, on, place, Stands, StandsConst, StandsLocal, LaidName, LaidAtom}
+use Rattle.py_tree.specs.Outcome.{Handled, Named, Loads, Tests}
+use Rattle.py_laid.specs.Code.{Around, Scope, place, Stands, StandsConst, StandsLocal, LaidName, LaidAtom}
 use Rattle.py_laid.specs.Naming.{NamesAll}
 use Rattle.py_laid.proofs.Env.{env_of, find_local-free, find_local-bound}
 use Rattle.py_laid.proofs.Decoding.{Now, running, begun, Execution, setting_of, From, Left, Behind, parts_of, scene_of, stands_run, steps_run}
-use Rattle.py_laid.proofs.Places.{stands_bound, atom_bound}
 use Rattle.py_laid.proofs.Lands.{Context, PassesOn, use_passes, ahead}
 use Rattle.py_laid.proofs.Asking.{asked_run, asked_once_run}
 
@@ -176,17 +175,3 @@ module _ (ex : Execution) where
           (λ w k p j i rest from is_next fewer value left.
           let (done, (b, has, is), step) = subst (λ (move : Move). Left ex j move rest) (tests label w (begun k p (extra ++ c.base) c.blocks now)).1 left in
           (b, has, decided (stays b) k p j i rest is_next (omega (arith, fewer, less)) (subst (λ (s : Step). Behind ex j s rest) (sym is) step)))
-
-    -- an atom is loaded and tested
-    pub chooses_run : {op : Instruction} (stays : Bool → Bool) → TestsBy ex op stays → (next : Bool → ℕ → List Own → Type 0) (inside label n : ℕ) → n ≤ c.limit → inside ≤ label → inside ≤ c.high → ((b : Bool) (i : ℕ) → next b i [])
-        → ((last m i : ℕ) (us : List Own) → m < n → From ex m inside last c.base c.blocks now us → next true i us)
-        → ((last m i : ℕ) (us : List Own) → m < n → From ex m label last c.base c.blocks now us → next false i us)
-        → (scope : Scope) (line : ℕ) (a : Atom) (at last asks event : ℕ) (ts : List Own) → c.low ≤ at → LaidAtom (parts_of ex) scope line a at asks
-        → Stands (parts_of ex) (on scope) line asks op label inside
-        → From ex n at last c.base c.blocks now ts → Chooses (scene_of ex) line env h a event ts c.K (λ b. next (stays b))
-    chooses_run stays tests next inside label n most forward high stops is_true is_false scope line a at last asks event ts low laid stands run =
-        let before : at < asks = atom_bound (parts_of ex) scope line a at asks laid in
-        let after : asks < inside = stands_bound (parts_of ex) stands in
-        atom_run (Use env c.K (λ v i mid. Tests (scene_of ex) line env h v i mid c.K (λ b. next (stays b)))) (use_passes ex c env _) scope line at asks [] last n event ts most low (omega (arith, after, high)) run
-        (λ v i. inl (refl, c.lands.pauses env Cut i tt))
-        (λ v m i us less more. tests_run next inside label [] n most forward high stops is_true is_false stays tests stands v asks m i us (omega (arith, less)) (omega (arith, low, before)) more) a laid

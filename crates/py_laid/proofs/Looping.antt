@@ -12,22 +12,22 @@ use Rattle.py_rows.specs.declared.block.UnwindReason.TheVariants as reason
 use Rattle.py_rows.specs.States.{Goes, Tells, Plainly, jumps}
 use Rattle.py_rows.specs.Handled.{handled_in}
 use Rattle.py_rows.specs.Unwinding.{unwind}
-use Rattle.py_tree.specs.declared.expr.Atom.{Atom}
-use Rattle.py_tree.specs.Tree.{While, Suite}
+use Rattle.py_tree.specs.Tree.{Expr, While, Suite}
 use Rattle.py_tree.specs.Binding.{Env}
 use Rattle.py_tree.specs.Outcome.{Outcome, Normal, Breaks, Continues, Returns, Raises, Cut, Handled, After, Runner, By_truth, On_turn, Loops, Runs, RunsSuite}
-use Rattle.py_laid.specs.Code.{Around, Labels, Scope, on, in_loop, Stands, LaidAtom, LaidForm, LaidSuite}
+use Rattle.py_laid.specs.Code.{Around, Labels, Scope, on, in_loop, Stands, LaidExpr, LaidForm, LaidSuite}
 use Rattle.py_laid.proofs.Env.{env_of}
 use Rattle.py_laid.proofs.Decoding.{Now, running, begun, Execution, Behind, From, TellsFrom, parts_of, scene_of, steps_run, silent_run}
-use Rattle.py_laid.proofs.Places.{stands_bound, atom_bound, suite_bound}
+use Rattle.py_laid.proofs.Places.{stands_bound, expr_bound, suite_bound}
 use Rattle.py_laid.proofs.Lands.{Context, RunsFrom, Pauses, May, Targets, Bare, outcome_of, bottom-under, passes, ahead, back}
-use Rattle.py_laid.proofs.Loads.{true_stays, chooses_run}
+use Rattle.py_laid.proofs.Loads.{true_stays}
+use Rattle.py_laid.proofs.Operating.{chooses_run}
 use Rattle.py_laid.proofs.Units.{chosen_cut, cut_loop, suite_pauses}
 
 module _ (ex : Execution) where
   -- a loop whose suite runs as it should, inside of others
-  module _ (around : Around) (c : Context ex around) (scope : Scope) (line tests asks begins repeats ends to : ℕ) (a : Atom) (body : Runner)
-      (loads : LaidAtom (parts_of ex) (in_loop (record { stop = to; again = tests }) scope) line a tests asks)
+  module _ (around : Around) (c : Context ex around) (scope : Scope) (line tests asks begins repeats ends to : ℕ) (a : Expr) (body : Runner)
+      (loads : LaidExpr (parts_of ex) (in_loop (record { stop = to; again = tests }) scope) line a tests asks)
       (choice : Stands (parts_of ex) (on (in_loop (record { stop = to; again = tests }) scope)) line asks op.JumpIfFalse ends begins)
       (repeat : Stands (parts_of ex) (in_loop (record { stop = to; again = tests }) scope) line repeats op.Jump tests ends)
       (pops : Stands (parts_of ex) (in_loop (record { stop = to; again = tests }) scope) line ends op.PopBlock 0 to)
@@ -35,7 +35,7 @@ module _ (ex : Execution) where
       (runs : RunsFrom ex (Some (record { stop = to; again = tests })) begins repeats body)
       (later : TellsFrom ex to c.base c.blocks c.limit (λ env. c.K env Normal)) where
     first : tests < asks
-    first = atom_bound (parts_of ex) (in_loop (record { stop = to; again = tests }) scope) line a tests asks loads
+    first = expr_bound (parts_of ex) a (in_loop (record { stop = to; again = tests }) scope) line tests asks loads
 
     enters : asks < begins
     enters = stands_bound (parts_of ex) choice
@@ -170,7 +170,7 @@ module _ (ex : Execution) where
         inr (at, ts, refl, chosen)
 
   -- the whole loop
-  pub while_run : (scope : Scope) (line at to : ℕ) (a : Atom) (s : Suite)
+  pub while_run : (scope : Scope) (line at to : ℕ) (a : Expr) (s : Suite)
       → ((labels : Labels) (begins repeats : ℕ) → LaidSuite (parts_of ex) (in_loop labels scope) s begins repeats → RunsFrom ex (Some labels) begins repeats (RunsSuite (scene_of ex) s))
       → LaidForm (parts_of ex) scope line (While a s) at to → RunsFrom ex scope.around at to (Runs (scene_of ex) line (While a s))
   while_run scope line at to a s runs (tests, asks, begins, repeats, ends, sets, loads, choice, suite, repeat, pops) c low high later now last m event ts most same run =

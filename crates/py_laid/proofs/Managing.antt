@@ -30,19 +30,18 @@ use Rattle.py_rows.specs.Answers.{IsAnswer}
 use Rattle.py_rows.specs.Rows.{asks, raised_by, takes_off, where_there, finishes, unit_move}
 use Rattle.py_rows.specs.Receiving.{entered as entered_at, asks_again, passes_if}
 use Rattle.py_rows.specs.RunOfRows.{IsExit}
-use Rattle.py_tree.specs.declared.expr.Atom.{Atom}
-use Rattle.py_tree.specs.Tree.{Name}
+use Rattle.py_tree.specs.Tree.{Name, Expr}
 use Rattle.py_tree.specs.Binding.{Env, bind}
 use Rattle.py_tree.specs.Scene.{Scene}
-use Rattle.py_tree.specs.Outcome.{Outcome, Normal, Breaks, Continues, Returns, Raises, Cut, Handled, Runner, Use, Loads, Requests, Tests, By_truth, Leaves, LeavesBy, On_exit, Manages}
-use Rattle.py_laid.specs.Code.{Around, Scope, on, before_finally, in_finally, Stands, LaidAtom, LaidTarget, LaidWith}
+use Rattle.py_tree.specs.Outcome.{Outcome, Normal, Breaks, Continues, Returns, Raises, Cut, Handled, Runner, Use, Evaluates, Requests, Tests, By_truth, Leaves, LeavesBy, On_exit, Manages}
+use Rattle.py_laid.specs.Code.{Around, Scope, on, before_finally, in_finally, Stands, LaidExpr, LaidTarget, LaidWith}
 use Rattle.py_laid.specs.Fits.{is_line}
 use Rattle.py_laid.proofs.Env.{env_of}
 use Rattle.py_laid.proofs.Decoding.{Now, running, begun, Execution, setting_of, Told, From, Left, Behind, TellsFrom, parts_of, scene_of, step_left, silent_run}
-use Rattle.py_laid.proofs.Places.{stands_bound, atom_bound, target_bound}
+use Rattle.py_laid.proofs.Places.{stands_bound, expr_bound, target_bound}
 use Rattle.py_laid.proofs.Lands.{Context, RunsFrom, Pauses, May, Targets, Bare, outcome_of, targets_may, bottom-under, use_passes, ahead}
 use Rattle.py_laid.proofs.Asking.{heard, exits_run, asked_run, asked_over_run}
-use Rattle.py_laid.proofs.Loads.{atom_run}
+use Rattle.py_laid.proofs.Operating.{expr_run}
 use Rattle.py_laid.proofs.Units.{target_run, leaves_run, raised_run}
 use Rattle.py_laid.proofs.Trying.{TargetsIf, outcome_if}
 
@@ -351,14 +350,14 @@ module _ (ex : Execution) where
         inr (number, g, mid, is ∙ ap (λ (y : Own). y ∷ mid) is_got, raises_run g n number mid (omega (arith, less)) answer (subst (λ (y : Expect). Told ex n (waiting y asker) mid) is_heard run))
 
   -- a with, whose body runs as it should
-  module _ (around : Around) (scope : Scope) (line at to : ℕ) (a : Atom) (x : Option Name) (body : Runner) (paused : Pauses ex body) (sets binds begins leaves enters handler ends : ℕ)
-      (load : LaidAtom (parts_of ex) scope line a at sets) (set_up : Stands (parts_of ex) (on scope) line sets op.SetupWith handler binds)
+  module _ (around : Around) (scope : Scope) (line at to : ℕ) (a : Expr) (x : Option Name) (body : Runner) (paused : Pauses ex body) (sets binds begins leaves enters handler ends : ℕ)
+      (load : LaidExpr (parts_of ex) scope line a at sets) (set_up : Stands (parts_of ex) (on scope) line sets op.SetupWith handler binds)
       (binding : LaidTarget (parts_of ex) (before_finally handler (on scope)) line x binds begins) (order : begins ≤ leaves) (runs : RunsFrom ex around begins leaves body)
       (pops : Stands (parts_of ex) (before_finally handler (on scope)) line leaves op.PopBlock 0 enters) (enter : Stands (parts_of ex) (on scope) line enters op.EnterFinally 0 handler)
       (starts : Stands (parts_of ex) (in_finally (on scope)) line handler op.WithCleanupStart 0 ends) (done : Stands (parts_of ex) (on (in_finally (on scope))) line ends op.WithCleanupFinish 0 to)
       (c : Context ex around) (low : c.low ≤ at) (high : to ≤ c.high) (later : TellsFrom ex to c.base c.blocks c.limit (λ env. c.K env Normal)) where
     loads : at < sets
-    loads = atom_bound (parts_of ex) scope line a at sets load
+    loads = expr_bound (parts_of ex) a scope line at sets load
 
     sets_up : sets < binds
     sets_up = stands_bound (parts_of ex) set_up
@@ -412,13 +411,13 @@ module _ (ex : Execution) where
           no_exit_run c now same m k p (omega (arith, low, loads, from)) (omega (arith, is_next, high, binds_it, order, popped, entered_it, starts_it, ends_it)) n event mid less run,
         )
 
-    pub managed_run : TellsFrom ex at c.base c.blocks c.limit (λ env event ts. Loads (scene_of ex) line env handled_now a event ts
+    pub managed_run : TellsFrom ex at c.base c.blocks c.limit (λ env event ts. Evaluates (scene_of ex) line env handled_now a event ts
         (Use env c.K (λ m i mid. Requests (scene_of ex) line (request.Enter m) handled_now i mid (Use env c.K (λ v j rest. Manages (scene_of ex) line m x v body env handled_now j rest c.K)))))
     managed_run now last n event ts most same run =
         let env : Env = env_of ex.vars now.locals in
-        atom_run ex c now same
+        expr_run ex c now same line a
         (Use env c.K (λ m i mid. Requests (scene_of ex) line (request.Enter m) handled_now i mid (Use env c.K (λ v j rest. Manages (scene_of ex) line m x v body env handled_now j rest c.K))))
-        (use_passes ex c env _) scope line at sets [] last n event ts most low (omega (arith, high, sets_up, binds_it, order, popped, entered_it, starts_it, ends_it)) run
+        (use_passes ex c env _) scope at sets [] last n event ts most low (omega (arith, high, sets_up, binds_it, order, popped, entered_it, starts_it, ends_it)) load run
         (λ m i. inl (refl, c.lands.pauses env Cut i tt))
         (λ m j i us less more.
         asked_run ex c now same (Use env c.K (λ v l rest. Manages (scene_of ex) line m x v body env handled_now l rest c.K)) (use_passes ex c env _) set_up (request.Enter m) (m ∷ c.base) (m ∷ []) sets j i us
@@ -431,12 +430,12 @@ module _ (ex : Execution) where
           subst (λ (t : Bool). By_truth t (body (bind x v env) handled_now l rest (On_exit (scene_of ex) line m handled_now c.K)) (Requests (scene_of ex) line (request.NoExit m) handled_now l rest (Use env c.K (λ u i2 mid. ⊥))))
               (sym is)
               (entry_run m v now k p g l rest from is_next (omega (arith, fewer, less, most)) same q b is (subst (λ (s : Step). Behind ex g s rest) (sym same_step) step)),
-        ))) a load
+        )))
 
-  pub with_run : (around : Around) (scope : Scope) (line at to : ℕ) (a : Atom) (x : Option Name) (body : Runner) (B : Scope → ℕ → ℕ → Type 0)
+  pub with_run : (around : Around) (scope : Scope) (line at to : ℕ) (a : Expr) (x : Option Name) (body : Runner) (B : Scope → ℕ → ℕ → Type 0)
       → ((within : Scope) (from upto : ℕ) → B within from upto → from ≤ upto) → Pauses ex body
       → ((handler from upto : ℕ) → B (before_finally handler (on scope)) from upto → RunsFrom ex around from upto body) → LaidWith (parts_of ex) scope line a x B at to
-      → RunsFrom ex around at to (λ env h event ts K. Loads (scene_of ex) line env h a event ts
+      → RunsFrom ex around at to (λ env h event ts K. Evaluates (scene_of ex) line env h a event ts
       (Use env K (λ m i mid. Requests (scene_of ex) line (request.Enter m) h i mid (Use env K (λ v j rest. Manages (scene_of ex) line m x v body env h j rest K)))))
   with_run around scope line at to a x body B order paused runs (sets, binds, begins, leaves, enters, handler, ends, load, set_up, binding, suite, pops, enter, starts, done) c low high later =
       managed_run around scope line at to a x body paused sets binds begins leaves enters handler ends load set_up binding (order (before_finally handler (on scope)) begins leaves suite)

@@ -4,16 +4,14 @@ use Rattle.std.proofs.Common.{◌≡◌, ◌+◌, ◌<◌, ◌≤◌, ℕ, List,
 use Rattle.std.specs.Prelude.{Option, None}
 use Rattle.py_code.specs.declared.code.Decoded.{Decoded}
 use Rattle.py_code.specs.declared.instruction.Instruction.{Instruction}
+use Rattle.py_code.specs.declared.literal.BuiltinFn.{BuiltinFn}
 use Rattle.py_code.specs.declared.unit.CodeUnit.{CodeUnit}
 use Rattle.py_code.specs.Units.{decoded_from, is_prefix, with_byte}
 use Rattle.py_tree.specs.declared.expr.Atom.{Atom}
 use Rattle.py_tree.specs.declared.expr.Atom.TheVariants as atom
-use Rattle.py_tree.specs.declared.expr.Expr.{Expr}
-use Rattle.py_tree.specs.declared.expr.Expr.TheVariants as expr
-use Rattle.py_tree.specs.declared.expr.Operation.{Operation}
-use Rattle.py_tree.specs.declared.expr.Operation.TheVariants as operation
-use Rattle.py_tree.specs.Tree.{Name, Form, Assign, Do, Show, Return, Raise, Reraise, Break, Continue, Pass, If, IfElse, While, TryExcept, TryFinally, With, Suite, nothing, first, Clauses, no_more, clause}
-use Rattle.py_laid.specs.Code.{Parts, Around, Scope, on, in_loop, in_try, in_clauses, in_finally, before_finally, Stands, LaidName, LaidAtom, LaidAtoms, LaidTwo, LaidOperation}
+use Rattle.py_laid.specs.Operators.{coding_of, callee_of}
+use Rattle.py_tree.specs.Tree.{Name, Expr, Leaf, Operate, Exprs, no_operands, operand, Form, Assign, Do, Show, Return, Raise, Reraise, Break, Continue, Pass, If, IfElse, While, TryExcept, TryFinally, With, Suite, nothing, first, Clauses, no_more, clause}
+use Rattle.py_laid.specs.Code.{Parts, Around, Scope, on, under, in_loop, in_try, in_clauses, in_finally, before_finally, Stands, LaidName, LaidAtom, LaidCallee, LaidExprs}
 use Rattle.py_laid.specs.Code.{LaidExpr, LaidTarget, LaidBreak, LaidContinue, LaidForget, LaidFinally, LaidWith, LaidHandler, LaidForm, LaidSuite, LaidClauses}
 use Rattle.py_laid.proofs.UnitLemmas.{decoded_is}
 
@@ -45,29 +43,19 @@ module _ (parts : Parts) where
   atom_bound scope line (atom.Str s) at next laid = stands_bound laid.1
   atom_bound scope line (atom.Name x) at next laid = name_bound _ scope line x at next laid
 
-  pub atoms_bound : (scope : Scope) (line : ℕ) (atoms : List Atom) (at next : ℕ) → LaidAtoms parts scope line atoms at next → at ≤ next
-  atoms_bound scope line [] at next laid = omega (arith, laid)
-  atoms_bound scope line (a ∷ atoms) at next (mid, one, rest) = omega (arith, atom_bound scope line a at mid one, atoms_bound (on scope) line atoms mid next rest)
+  callee_bound : (fn : Option BuiltinFn) (scope : Scope) (line at next : ℕ) → LaidCallee parts fn scope line at next → at ≤ next
+  callee_bound None scope line at next is = omega (arith, is)
+  callee_bound (Some fn) scope line at next (i, stands, here) = omega (arith, stands_bound stands)
 
-  two_bound : (scope : Scope) (line : ℕ) (a b : Atom) (op : Instruction) (arg at next : ℕ) → LaidTwo parts scope line a b op arg at next → at < next
-  two_bound scope line a b op arg at next (mid, asks, one, two, stands) = omega (arith, atom_bound scope line a at mid one, atom_bound (on scope) line b mid asks two, stands_bound stands)
+  mutual
+    pub expr_bound : (e : Expr) (scope : Scope) (line at next : ℕ) → LaidExpr parts scope line e at next → at < next
+    expr_bound (Leaf a) scope line at next laid = atom_bound scope line a at next laid
+    expr_bound (Operate o es) scope line at next (begins, asks, fits, callee, all, stands) =
+        omega (arith, callee_bound (callee_of (coding_of o)) scope line at begins callee, exprs_bound es (under (callee_of (coding_of o)) scope) line begins asks all, stands_bound stands)
 
-  pub operation_bound : (scope : Scope) (line : ℕ) (o : Operation) (at next : ℕ) → LaidOperation parts scope line o at next → at < next
-  operation_bound scope line (operation.Add a b) at next laid = two_bound scope line a b _ _ at next laid
-  operation_bound scope line (operation.Sub a b) at next laid = two_bound scope line a b _ _ at next laid
-  operation_bound scope line (operation.Lt a b) at next laid = two_bound scope line a b _ _ at next laid
-  operation_bound scope line (operation.Eq a b) at next laid = two_bound scope line a b _ _ at next laid
-  operation_bound scope line (operation.Send a b) at next (begins, loads, laid) = omega (arith, stands_bound loads.1, two_bound (on scope) line a b _ _ begins next laid)
-  operation_bound scope line (operation.Throw a b) at next (begins, loads, laid) = omega (arith, stands_bound loads.1, two_bound (on scope) line a b _ _ begins next laid)
-  operation_bound scope line (operation.Close a) at next (begins, loads, (asks, one, stands)) =
-      omega (arith, stands_bound loads.1, atom_bound (on scope) line a begins asks one, stands_bound stands)
-  operation_bound scope line (operation.Yield a) at next (generator, (asks, one, stands)) = omega (arith, atom_bound scope line a at asks one, stands_bound stands)
-  operation_bound scope line (operation.Call f atoms) at next (mid, asks, one, rest, stands) =
-      omega (arith, atom_bound scope line f at mid one, atoms_bound (on scope) line atoms mid asks rest, stands_bound stands)
-
-  pub expr_bound : (scope : Scope) (line : ℕ) (e : Expr) (at next : ℕ) → LaidExpr parts scope line e at next → at < next
-  expr_bound scope line (expr.Atom a) at next laid = atom_bound scope line a at next laid
-  expr_bound scope line (expr.Operation o) at next laid = operation_bound scope line o at next laid
+    pub exprs_bound : (es : Exprs) (scope : Scope) (line at next : ℕ) → LaidExprs parts scope line es at next → at ≤ next
+    exprs_bound no_operands scope line at next is = omega (arith, is)
+    exprs_bound (operand e es) scope line at next (mid, one, rest) = omega (arith, expr_bound e scope line at mid one, exprs_bound es (on scope) line mid next rest)
 
   -- ---- statements
 
@@ -108,12 +96,12 @@ module _ (parts : Parts) where
       (λ within from to forget. let low = forget_bound within line x from to forget in omega (arith, low)) laid
 
   -- the places of a with
-  with_bound : (scope : Scope) (line : ℕ) (a : Atom) (x : Option Name) (body : Scope → ℕ → ℕ → Type 0) (at next : ℕ) → ((within : Scope) (from to : ℕ) → body within from to → from ≤ to)
+  with_bound : (scope : Scope) (line : ℕ) (a : Expr) (x : Option Name) (body : Scope → ℕ → ℕ → Type 0) (at next : ℕ) → ((within : Scope) (from to : ℕ) → body within from to → from ≤ to)
       → LaidWith parts scope line a x body at next → at ≤ next
   with_bound scope line a x body at next inner (sets, binds, begins, leaves, enters, handler, ends, load, set_up, bind, suite, pops, enter, starts, finishes) =
       omega (
         arith,
-        atom_bound scope line a at sets load,
+        expr_bound a scope line at sets load,
         stands_bound set_up,
         target_bound (before_finally handler (on scope)) line x binds begins bind,
         inner (before_finally handler (on scope)) begins leaves suite,
@@ -126,23 +114,23 @@ module _ (parts : Parts) where
   mutual
     -- statements, and suites and clauses
     pub form_bound : (scope : Scope) (f : Form) (line at next : ℕ) → LaidForm parts scope line f at next → at ≤ next
-    form_bound scope (Assign x e) line at next (stores, loads, stands) = omega (arith, expr_bound scope line e at stores loads, target_bound scope line (Some x) stores next stands)
-    form_bound scope (Do o) line at next (drops, loads, stands) = omega (arith, operation_bound scope line o at drops loads, target_bound scope line None drops next stands)
-    form_bound scope (Show a) line at next (asks, loads, stands) = omega (arith, atom_bound scope line a at asks loads, stands_bound stands)
-    form_bound scope (Return a) line at next (asks, loads, stands) = omega (arith, atom_bound scope line a at asks loads, stands_bound stands)
-    form_bound scope (Raise a) line at next (asks, loads, stands) = omega (arith, atom_bound scope line a at asks loads, stands_bound stands)
+    form_bound scope (Assign x e) line at next (stores, loads, stands) = omega (arith, expr_bound e scope line at stores loads, target_bound scope line (Some x) stores next stands)
+    form_bound scope (Do o es) line at next (drops, loads, stands) = omega (arith, expr_bound (Operate o es) scope line at drops loads, target_bound scope line None drops next stands)
+    form_bound scope (Show a) line at next (asks, loads, stands) = omega (arith, expr_bound a scope line at asks loads, stands_bound stands)
+    form_bound scope (Return a) line at next (asks, loads, stands) = omega (arith, expr_bound a scope line at asks loads, stands_bound stands)
+    form_bound scope (Raise a) line at next (asks, loads, stands) = omega (arith, expr_bound a scope line at asks loads, stands_bound stands)
     form_bound scope Reraise line at next laid = let low = stands_bound laid in omega (arith, low)
     form_bound scope Break line at next laid = let low = break_bound scope scope.around line at next laid in omega (arith, low)
     form_bound scope Continue line at next laid = let low = continue_bound scope scope.around line at next laid in omega (arith, low)
     form_bound scope Pass line at next same = omega (arith, same)
-    form_bound scope (If a s) line at next (asks, begins, loads, jumps, suite) = omega (arith, atom_bound scope line a at asks loads, stands_bound jumps, suite_bound scope s begins next suite)
+    form_bound scope (If a s) line at next (asks, begins, loads, jumps, suite) = omega (arith, expr_bound a scope line at asks loads, stands_bound jumps, suite_bound scope s begins next suite)
     form_bound scope (IfElse a s t) line at next (asks, begins, leaves, other, loads, jumps, suite, leave, rest) =
-        omega (arith, atom_bound scope line a at asks loads, stands_bound jumps, suite_bound scope s begins leaves suite, stands_bound leave, suite_bound scope t other next rest)
+        omega (arith, expr_bound a scope line at asks loads, stands_bound jumps, suite_bound scope s begins leaves suite, stands_bound leave, suite_bound scope t other next rest)
     form_bound scope (While a s) line at next (tests, asks, begins, repeats, ends, sets, loads, jumps, suite, repeat, pops) =
         omega (
           arith,
           stands_bound sets,
-          atom_bound (in_loop (record { stop = next; again = tests }) scope) line a tests asks loads,
+          expr_bound a (in_loop (record { stop = next; again = tests }) scope) line tests asks loads,
           stands_bound jumps,
           suite_bound (in_loop (record { stop = next; again = tests }) scope) s begins repeats suite,
           stands_bound repeat,

@@ -10,20 +10,18 @@ use Rattle.py_rows.specs.declared.block.UnwindReason.{UnwindReason}
 use Rattle.py_rows.specs.declared.block.UnwindReason.TheVariants as reason
 use Rattle.py_rows.specs.Handled.{handled_in}
 use Rattle.py_rows.specs.Unwinding.{unwinds}
-use Rattle.py_tree.specs.declared.expr.Atom.{Atom}
-use Rattle.py_tree.specs.declared.expr.Expr.{Expr}
-use Rattle.py_tree.specs.declared.expr.Operation.{Operation}
-use Rattle.py_tree.specs.Tree.{Name, Form, Assign, Do, Show, Return, Raise, Reraise, Break, Continue, Pass, IfElse, Suite, nothing, first}
+use Rattle.py_tree.specs.declared.expr.Operator.{Operator}
+use Rattle.py_tree.specs.Tree.{Name, Expr, Operate, Exprs, Form, Assign, Do, Show, Return, Raise, Reraise, Break, Continue, Pass, IfElse, Suite, nothing, first}
 use Rattle.py_tree.specs.Binding.{Env, set_local}
-use Rattle.py_tree.specs.Outcome.{Outcome, Normal, Breaks, Continues, Returns, Raises, Cut, Runner, Use, Loads, Requests, By_truth, Chooses, On_normal, Runs, RunsSuite}
+use Rattle.py_tree.specs.Outcome.{Outcome, Normal, Breaks, Continues, Returns, Raises, Cut, Runner, Use, Evaluates, Requests, By_truth, Chooses, On_normal, Runs, RunsSuite}
 use Rattle.py_laid.specs.Code.{Around, Scope, on, Stands, LaidTaken, LaidBreak, LaidContinue, LaidBranch, LaidForm, LaidSuite}
 use Rattle.py_laid.proofs.Env.{env_of}
 use Rattle.py_laid.proofs.Decoding.{begun, Execution, From, TellsFrom, parts_of, scene_of, step_left}
-use Rattle.py_laid.proofs.Places.{stands_bound, atom_bound, target_bound, suite_bound}
+use Rattle.py_laid.proofs.Places.{stands_bound, expr_bound, target_bound, suite_bound}
 use Rattle.py_laid.proofs.Lands.{Context, RunsFrom, May, outcome_of, use_passes}
 use Rattle.py_laid.proofs.Asking.{asked_run, asked_once_run}
-use Rattle.py_laid.proofs.Loads.{TestsBy, true_stays, atom_run, chooses_run}
-use Rattle.py_laid.proofs.Operating.{operation_run, expr_run}
+use Rattle.py_laid.proofs.Loads.{TestsBy, true_stays}
+use Rattle.py_laid.proofs.Operating.{expr_run, chooses_run}
 use Rattle.py_laid.proofs.Units.{chosen_cut, suite_pauses, target_run, jump_run, leaves_run, raised_run, reraises_run}
 
 module _ (ex : Execution) (scope : Scope) where
@@ -31,50 +29,50 @@ module _ (ex : Execution) (scope : Scope) where
   assign_run line at to x e (stores, loads, binds) c low high later now last m event ts most same run =
       let after : stores < to = target_bound (parts_of ex) scope line (Some x) stores to binds in
       let env : Env = env_of ex.vars now.locals in
-      expr_run ex c now same line (Use env c.K (λ v. c.K (set_local x (Some v) env) Normal)) (use_passes ex c env _) scope at last stores m event ts most low (omega (arith, high, after)) run
+      expr_run ex c now same line e (Use env c.K (λ v. c.K (set_local x (Some v) env) Normal)) (use_passes ex c env _) scope at stores [] last m event ts most low (omega (arith, high, after)) loads run
       (λ v i. c.lands.pauses (set_local x (Some v) env) Normal i tt)
       (λ v j i us less more.
       target_run ex scope line stores to (Some x) binds v c.base c.blocks now c.limit (λ env1. c.K env1 Normal) (λ env1 l. c.lands.pauses env1 Normal l tt) later stores j i us
-      (omega (arith, less, most)) same more) e loads
+      (omega (arith, less, most)) same more)
 
-  pub do_run : (line at to : ℕ) (o : Operation) → LaidForm (parts_of ex) scope line (Do o) at to → RunsFrom ex scope.around at to (Runs (scene_of ex) line (Do o))
-  do_run line at to o (drops, loads, pops) c low high later now last m event ts most same run =
+  pub do_run : (line at to : ℕ) (o : Operator) (es : Exprs) → LaidForm (parts_of ex) scope line (Do o es) at to → RunsFrom ex scope.around at to (Runs (scene_of ex) line (Do o es))
+  do_run line at to o es (drops, loads, pops) c low high later now last m event ts most same run =
       let after : drops < to = target_bound (parts_of ex) scope line None drops to pops in
       let env : Env = env_of ex.vars now.locals in
-      operation_run ex c now same line (Use env c.K (λ v. c.K env Normal)) (use_passes ex c env _) scope at last drops m event ts most low (omega (arith, high, after)) run
+      expr_run ex c now same line (Operate o es) (Use env c.K (λ v. c.K env Normal)) (use_passes ex c env _) scope at drops [] last m event ts most low (omega (arith, high, after)) loads run
       (λ v i. c.lands.pauses env Normal i tt)
       (λ v j i us less more.
       target_run ex scope line drops to None pops v c.base c.blocks now c.limit (λ env1. c.K env1 Normal) (λ env1 l. c.lands.pauses env1 Normal l tt) later drops j i us
-      (omega (arith, less, most)) same more) o loads
+      (omega (arith, less, most)) same more)
 
-  -- an atom, then the unit that takes it: V says what that tells, and may be cut at its front
-  taken_run : (line at to : ℕ) (a : Atom) {op : Instruction} {arg : ℕ} (V : Obj → Runner) → LaidTaken (parts_of ex) scope line a op arg at to
+  -- an expression, then the unit that takes it: V says what that tells, and may be cut at its front
+  taken_run : (line at to : ℕ) (a : Expr) {op : Instruction} {arg : ℕ} (V : Obj → Runner) → LaidTaken (parts_of ex) scope line a op arg at to
       → ((c : Context ex scope.around) (env : Env) (v : Obj) (event : ℕ) → V v env (handled_in None c.blocks) event [] c.K)
       → ((asks : ℕ) (v : Obj) → Stands (parts_of ex) (on scope) line asks op arg to → (c : Context ex scope.around) → c.low ≤ asks → to ≤ c.high
       → TellsFrom ex to c.base c.blocks c.limit (λ env. c.K env Normal)
       → TellsFrom ex asks (v ∷ c.base) c.blocks c.limit (λ env event ts. V v env (handled_in None c.blocks) event ts c.K))
-      → RunsFrom ex scope.around at to (λ env h event ts K. Loads (scene_of ex) line env h a event ts (Use env K (λ v i mid. V v env h i mid K)))
+      → RunsFrom ex scope.around at to (λ env h event ts K. Evaluates (scene_of ex) line env h a event ts (Use env K (λ v i mid. V v env h i mid K)))
   taken_run line at to a V (asks, loads, stands) stops unit c low high later now last m event ts most same run =
-      let before : at < asks = atom_bound (parts_of ex) scope line a at asks loads in
+      let before : at < asks = expr_bound (parts_of ex) a scope line at asks loads in
       let after : asks < to = stands_bound (parts_of ex) stands in
       let env : Env = env_of ex.vars now.locals in
-      atom_run ex c now same (Use env c.K (λ v i mid. V v env (handled_in None c.blocks) i mid c.K)) (use_passes ex c env _) scope line at asks [] last m event ts most low (omega (arith, high, after)) run
-      (stops c env) (λ v j i us less more. unit asks v stands c (omega (arith, low, before)) high later now asks j i us (omega (arith, less, most)) same more) a loads
+      expr_run ex c now same line a (Use env c.K (λ v i mid. V v env (handled_in None c.blocks) i mid c.K)) (use_passes ex c env _) scope at asks [] last m event ts most low (omega (arith, high, after)) loads run
+      (stops c env) (λ v j i us less more. unit asks v stands c (omega (arith, low, before)) high later now asks j i us (omega (arith, less, most)) same more)
 
-  pub show_run : (line at to : ℕ) (a : Atom) → LaidForm (parts_of ex) scope line (Show a) at to → RunsFrom ex scope.around at to (Runs (scene_of ex) line (Show a))
+  pub show_run : (line at to : ℕ) (a : Expr) → LaidForm (parts_of ex) scope line (Show a) at to → RunsFrom ex scope.around at to (Runs (scene_of ex) line (Show a))
   show_run line at to a laid =
       taken_run line at to a (λ v env h event ts K. Requests (scene_of ex) line (Shows v) h event ts (Use env K (λ u. K env Normal))) laid (λ c env v event. inl (refl, c.lands.pauses env Cut event tt))
       (λ asks v stands c low high later now last m event ts most same run.
       asked_once_run ex c now same _ (use_passes ex c (env_of ex.vars now.locals) _) stands (Shows v) (v ∷ c.base) [] last m event ts most low high (λ k p. refl) run (λ u. c.base) (λ k p u. refl)
       (λ u i. c.lands.pauses _ Normal i tt) (λ u j i us less done. later now to j i us (omega (arith, less, most)) same done))
 
-  pub return_run : (line at to : ℕ) (a : Atom) → LaidForm (parts_of ex) scope line (Return a) at to → RunsFrom ex scope.around at to (Runs (scene_of ex) line (Return a))
+  pub return_run : (line at to : ℕ) (a : Expr) → LaidForm (parts_of ex) scope line (Return a) at to → RunsFrom ex scope.around at to (Runs (scene_of ex) line (Return a))
   return_run line at to a laid =
       taken_run line at to a (λ v env h event ts K. K env (Returns v) event ts) laid (λ c env v event. c.lands.pauses env (Returns v) event tt)
       (λ asks v stands c low high later now last m event ts most same run.
       leaves_run ex c now now stands (reason.Returning v) (v ∷ c.base) c.blocks last m event ts tt most low high same (λ k p. refl) run)
 
-  pub raise_run : (line at to : ℕ) (a : Atom) → LaidForm (parts_of ex) scope line (Raise a) at to → RunsFrom ex scope.around at to (Runs (scene_of ex) line (Raise a))
+  pub raise_run : (line at to : ℕ) (a : Expr) → LaidForm (parts_of ex) scope line (Raise a) at to → RunsFrom ex scope.around at to (Runs (scene_of ex) line (Raise a))
   raise_run line at to a laid =
       taken_run line at to a (λ v env h event ts K. Requests (scene_of ex) line (Raisable v) h event ts (Use env K (λ w. K env (Raises (as_exception w))))) laid
       (λ c env v event. inl (refl, c.lands.pauses env Cut event tt))
@@ -93,13 +91,13 @@ module _ (ex : Execution) (scope : Scope) where
 
   -- ---- suites
 
-  -- a suite that is jumped over, unless `stays` says otherwise of the truth of the atom
-  pub branch_run : {op : Instruction} (stays : Bool → Bool) → TestsBy ex op stays → (line at to : ℕ) (a : Atom) (s : Suite)
+  -- a suite that is jumped over, unless `stays` says otherwise of the truth of the value
+  pub branch_run : {op : Instruction} (stays : Bool → Bool) → TestsBy ex op stays → (line at to : ℕ) (a : Expr) (s : Suite)
       → ((begins : ℕ) → LaidSuite (parts_of ex) scope s begins to → RunsFrom ex scope.around begins to (RunsSuite (scene_of ex) s))
       → LaidBranch (parts_of ex) scope line a op (λ begins next. LaidSuite (parts_of ex) scope s begins next) at to → RunsFrom ex scope.around at to
       (λ env h event ts K. Chooses (scene_of ex) line env h a event ts K (λ b i mid. By_truth (stays b) (RunsSuite (scene_of ex) s env h i mid K) (K env Normal i mid)))
   branch_run stays tests line at to a s runs (asks, begins, loads, jumps, suite) c low high later now last m event ts most same run =
-      let before : at < asks = atom_bound (parts_of ex) scope line a at asks loads in
+      let before : at < asks = expr_bound (parts_of ex) a scope line at asks loads in
       let after : asks < begins = stands_bound (parts_of ex) jumps in
       let order : begins ≤ to = suite_bound (parts_of ex) scope s begins to suite in
       let env : Env = env_of ex.vars now.locals in
@@ -111,12 +109,12 @@ module _ (ex : Execution) (scope : Scope) where
       (λ l j i us less more. later now l j i us (omega (arith, less, most)) same more)
       scope line a at last asks event ts low loads jumps run
 
-  pub if_else_run : (line at to : ℕ) (a : Atom) (s t : Suite)
+  pub if_else_run : (line at to : ℕ) (a : Expr) (s t : Suite)
       → ((begins leaves : ℕ) → LaidSuite (parts_of ex) scope s begins leaves → RunsFrom ex scope.around begins leaves (RunsSuite (scene_of ex) s))
       → ((other : ℕ) → LaidSuite (parts_of ex) scope t other to → RunsFrom ex scope.around other to (RunsSuite (scene_of ex) t))
       → LaidForm (parts_of ex) scope line (IfElse a s t) at to → RunsFrom ex scope.around at to (Runs (scene_of ex) line (IfElse a s t))
   if_else_run line at to a s t runs others (asks, begins, leaves, other, loads, jumps, suite, leave, rest) c low high later now last m event ts most same run =
-      let before : at < asks = atom_bound (parts_of ex) scope line a at asks loads in
+      let before : at < asks = expr_bound (parts_of ex) a scope line at asks loads in
       let after : asks < begins = stands_bound (parts_of ex) jumps in
       let order : begins ≤ leaves = suite_bound (parts_of ex) scope s begins leaves suite in
       let over : leaves < other = stands_bound (parts_of ex) leave in

@@ -20,7 +20,7 @@ module _ (ex : Execution) where
   mutual
     form_run : (f : Form) (scope : Scope) (line at to : ℕ) → LaidForm (parts_of ex) scope line f at to → RunsFrom ex scope.around at to (Runs (scene_of ex) line f)
     form_run (Assign x e) scope line at to laid = assign_run ex scope line at to x e laid
-    form_run (Do o) scope line at to laid = do_run ex scope line at to o laid
+    form_run (Do o es) scope line at to laid = do_run ex scope line at to o es laid
     form_run (Show a) scope line at to laid = show_run ex scope line at to a laid
     form_run (Return a) scope line at to laid = return_run ex scope line at to a laid
     form_run (Raise a) scope line at to laid = raise_run ex scope line at to a laid

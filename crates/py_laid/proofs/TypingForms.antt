@@ -9,14 +9,13 @@ use Rattle.py_check.specs.declared.note.Kind.TheVariants.{Any}
 use Rattle.py_check.specs.declared.note.BlockNote.TheVariants as block
 use Rattle.py_check.specs.Landing.{top_level}
 use Rattle.py_check.specs.Taking.{may_move}
-use Rattle.py_tree.specs.declared.expr.Atom.{Atom}
 use Rattle.py_tree.specs.declared.expr.Atom.TheVariants as atom
-use Rattle.py_tree.specs.Tree.{Name, Form, Assign, Do, Show, Return, Raise, Reraise, Break, Continue, Pass, If, IfElse, While, TryExcept, TryFinally, With, Suite, nothing, first, Clauses, no_more, clause}
+use Rattle.py_tree.specs.Tree.{Name, Expr, Operate, Form, Assign, Do, Show, Return, Raise, Reraise, Break, Continue, Pass, If, IfElse, While, TryExcept, TryFinally, With, Suite, nothing, first, Clauses, no_more, clause}
 use Rattle.py_laid.specs.Code.{Scope, on, in_loop, in_try, in_clauses, before_finally, in_finally, place, Stands, LaidTaken, LaidForget, LaidFinally, LaidWith, LaidHandler, LaidBranch, LaidForm, LaidSuite, LaidClauses}
 use Rattle.py_laid.proofs.NoteLemmas.{kinds_of, length-kinds_of, top_level-low}
 use Rattle.py_laid.proofs.TypingUnits.{Noted, parts_of, Free, In, Safe, safe_on, Asks, keeps_then}
 use Rattle.py_laid.proofs.TypingLoads.{Typed, joined, typed_by, nothing_typed, unit_typed, goes_as, takes_one, taken_on, has_local, answer_typed}
-use Rattle.py_laid.proofs.TypingLoads.{JumpsBy, none_typed, atom_typed, operation_typed, expr_typed, target_typed, test_typed, jump_typed}
+use Rattle.py_laid.proofs.TypingLoads.{JumpsBy, none_typed, atom_typed, expr_typed, target_typed, test_typed, jump_typed}
 use Rattle.py_laid.proofs.TypingBlocks.{Fine, fine_managed, fine_finally, fine_clauses, fine_try, fine_guarded, fine_loop}
 use Rattle.py_laid.proofs.TypingBlocks.{loop_opens, block_opens, with_opens, cleanup_starts, cleanup_ends, finally_begins, block_closes, finally_ends, break_typed, continue_typed}
 
@@ -89,11 +88,11 @@ module _ (code : Noted) where
       finally_typed scope line suite (λ within handler ends. LaidForget (parts_of code) within line x handler ends) at next inner (forget_typed line x) laid free
 
   -- a with keeps them if its body does
-  with_typed : (scope : Scope) (line : ℕ) (a : Atom) (x : Option Name) (body : Scope → ℕ → ℕ → Type 0) (at next : ℕ) → Types body → LaidWith (parts_of code) scope line a x body at next → Free code at
+  with_typed : (scope : Scope) (line : ℕ) (a : Expr) (x : Option Name) (body : Scope → ℕ → ℕ → Type 0) (at next : ℕ) → Types body → LaidWith (parts_of code) scope line a x body at next → Free code at
       → Typed code (Fine code scope) scope scope at next
   with_typed scope line a x body at next inner (sets, binds, begins, leaves, enters, handler, ends, load, set_up, bind, suite, pops, enter, starts, finishes) free =
       let under : Scope = on scope in
-      let front = atom_typed code scope line a at sets load free in
+      let front = expr_typed code a scope line at sets load free in
       let opened = with_opens code scope line sets handler binds set_up front.free in
       let bound = target_typed code (before_finally handler under) line x binds begins bind opened.free in
       let within = inner (before_finally handler under) begins leaves suite bound.free in
@@ -123,19 +122,19 @@ module _ (code : Noted) where
       }
 
   -- an atom, and the unit that takes it
-  taken_typed : (scope : Scope) (line : ℕ) (a : Atom) (i : Instruction) (arg at next : ℕ) → ((safe : Safe code scope) → In code scope next → Asks code (on scope) (safe_on code scope safe) i arg next)
+  taken_typed : (scope : Scope) (line : ℕ) (a : Expr) (i : Instruction) (arg at next : ℕ) → ((safe : Safe code scope) → In code scope next → Asks code (on scope) (safe_on code scope safe) i arg next)
       → LaidTaken (parts_of code) scope line a i arg at next → Free code at → Typed code (Fine code scope) scope scope at next
   taken_typed scope line a i arg at next takes (asks, laid, stands) free =
-      let front = atom_typed code scope line a at asks laid free in
+      let front = expr_typed code a scope line at asks laid free in
       fine_typed scope scope scope at next
       (joined code (Safe code scope) scope (on scope) scope at asks next front (unit_typed code (Safe code scope) (on scope) scope line asks arg next i stands front.free (safe_on code scope) takes))
 
   -- a suite that is jumped over
-  branch_typed : (scope : Scope) (line : ℕ) (a : Atom) (i : Instruction) → JumpsBy code i → (suite : ℕ → ℕ → Type 0) (at next : ℕ)
+  branch_typed : (scope : Scope) (line : ℕ) (a : Expr) (i : Instruction) → JumpsBy code i → (suite : ℕ → ℕ → Type 0) (at next : ℕ)
       → ((begins : ℕ) → suite begins next → Free code begins → Typed code (Fine code scope) scope scope begins next)
       → LaidBranch (parts_of code) scope line a i suite at next → Free code at → Typed code (Fine code scope) scope scope at next
   branch_typed scope line a i same suite at next inner (asks, begins, laid, test, stands) free =
-      let front = atom_typed code scope line a at asks laid free in
+      let front = expr_typed code a scope line at asks laid free in
       let tested = test_typed code i same scope line asks next begins test front.free in
       let body = inner begins stands tested.free in
       record {
@@ -152,10 +151,10 @@ module _ (code : Noted) where
     -- a statement
     pub form_typed : (f : Form) (scope : Scope) (line at next : ℕ) → LaidForm (parts_of code) scope line f at next → Free code at → Typed code (Fine code scope) scope scope at next
     form_typed (Assign x e) scope line at next (stores, laid, store) free =
-        let front = expr_typed code scope line e at stores laid free in
+        let front = expr_typed code e scope line at stores laid free in
         fine_typed scope scope scope at next (joined code (Safe code scope) scope (on scope) scope at stores next front (target_typed code scope line (Some x) stores next store front.free))
-    form_typed (Do o) scope line at next (drops, laid, pop) free =
-        let front = operation_typed code scope line o at drops laid free in
+    form_typed (Do o es) scope line at next (drops, laid, pop) free =
+        let front = expr_typed code (Operate o es) scope line at drops laid free in
         fine_typed scope scope scope at next (joined code (Safe code scope) scope (on scope) scope at drops next front (target_typed code scope line None drops next pop front.free))
     form_typed (Show a) scope line at next laid free = taken_typed scope line a op.PrintExpr 0 at next (λ safe there k is_next. and_from _ _ refl (taken_on code scope safe k next is_next there)) laid free
     form_typed (Return a) scope line at next laid free = taken_typed scope line a op.ReturnValue 0 at next (λ safe there k is_next. takes_one code scope safe (λ rest. true) refl) laid free
@@ -168,7 +167,7 @@ module _ (code : Noted) where
         branch_typed scope line a op.JumpIfFalse (λ k to kinds blocks. refl) (λ begins to. LaidSuite (parts_of code) scope s begins to) at next
         (λ begins suite free1. suite_typed s scope begins next suite free1) laid free
     form_typed (IfElse a s t) scope line at next (asks, begins, leaves, other, laid, test, suite, leave, second) free =
-        let front = atom_typed code scope line a at asks laid free in
+        let front = expr_typed code a scope line at asks laid free in
         let tested = test_typed code op.JumpIfFalse (λ k to kinds blocks. refl) scope line asks other begins test front.free in
         let body = suite_typed s scope begins leaves suite tested.free in
         let left = jump_typed code scope scope line leaves next other leave body.free in
@@ -187,7 +186,7 @@ module _ (code : Noted) where
     form_typed (While a s) scope line at next (tests, asks, begins, repeats, ends, sets, laid, test, suite, repeat, pops) free =
         let within : Scope = in_loop (record { stop = next; again = tests }) scope in
         let opened = loop_opens code scope (record { stop = next; again = tests }) line at tests sets free in
-        let front = atom_typed code within line a tests asks laid opened.free in
+        let front = expr_typed code a within line tests asks laid opened.free in
         let tested = test_typed code op.JumpIfFalse (λ k to kinds blocks. refl) within line asks ends begins test front.free in
         let body = suite_typed s within begins repeats suite tested.free in
         let back = jump_typed code within within line repeats tests ends repeat body.free in

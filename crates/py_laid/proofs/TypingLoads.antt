@@ -10,10 +10,10 @@ use Rattle.py_code.specs.declared.instruction.Instruction.{Instruction}
 use Rattle.py_code.specs.declared.instruction.Instruction.TheVariants as op
 use Rattle.py_code.specs.declared.literal.Literal.{Literal, None as NoneLiteral, Bool as BoolLiteral, Int as IntLiteral, Str as StrLiteral, Builtin as BuiltinLiteral}
 use Rattle.py_code.specs.declared.literal.BuiltinFn.{BuiltinFn}
-use Rattle.py_code.specs.declared.literal.BuiltinFn.TheVariants as builtin
 use Rattle.py_check.specs.declared.note.Kind.{Kind}
 use Rattle.py_check.specs.declared.note.Kind.TheVariants.{Any}
 use Rattle.py_check.specs.declared.note.BlockNote.{BlockNote}
+use Rattle.py_check.specs.Sheet.{Sheet}
 use Rattle.py_check.specs.Constants.{is_loaded, kind_of, loads}
 use Rattle.py_check.specs.Landing.{goes_on, jumps, top_level}
 use Rattle.py_check.specs.Effects.{Effect, gives, effect, has_operand}
@@ -22,12 +22,13 @@ use Rattle.py_check.specs.Typing.{keeps_own, keeps_by, keeps_op}
 use Rattle.py_tree.specs.declared.body.BodyKind.TheVariants.{Generator}
 use Rattle.py_tree.specs.declared.expr.Atom.{Atom}
 use Rattle.py_tree.specs.declared.expr.Atom.TheVariants as atom
-use Rattle.py_tree.specs.declared.expr.Expr.{Expr}
-use Rattle.py_tree.specs.declared.expr.Expr.TheVariants as expr
-use Rattle.py_tree.specs.declared.expr.Operation.{Operation}
-use Rattle.py_tree.specs.declared.expr.Operation.TheVariants as operation
-use Rattle.py_tree.specs.Tree.{Name}
-use Rattle.py_laid.specs.Code.{Scope, on, over, place, Stands, StandsConst, LaidName, LaidAtom, LaidAtoms, LaidTwo, LaidDriven, LaidOperation, LaidExpr, LaidTarget}
+use Rattle.py_tree.specs.declared.expr.Operator.{Operator}
+use Rattle.py_tree.specs.declared.expr.Operator.TheVariants as operator
+use Rattle.py_tree.specs.Operators.{Way, Asks_one, Asks_two, Calls_it, Yields_it, way_of}
+use Rattle.py_tree.specs.Compilable.{OperandsFit, operands}
+use Rattle.py_laid.specs.Operators.{Coding, By, Driven, Called, Yielded, coding_of, callee_of, instruction_of, argument_of}
+use Rattle.py_tree.specs.Tree.{Name, Expr, Leaf, Operate, Exprs, no_operands, operand}
+use Rattle.py_laid.specs.Code.{Scope, on, over, under, place, Stands, StandsConst, LaidName, LaidAtom, LaidCallee, LaidExpr, LaidExprs, LaidTarget}
 use Rattle.py_laid.proofs.NoteLemmas.{kinds_of, length-kinds_of, takes-Any, top_level-low}
 use Rattle.py_laid.proofs.TypingUnits.{Noted, parts_of, Free, In, Safe, safe_on, Keeps, keeps_none, keeps_then, goes, jumps_to, Asks, stands_free, stands_in, stands_kept}
 
@@ -38,6 +39,38 @@ raised n scope = record scope { depth = n + scope.depth }
 over-raised : (n : ℕ) (scope : Scope) → over n scope ≡ raised n scope
 over-raised zero scope = let same : scope.depth ≡ 0 + scope.depth = omega arith in ap (λ (depth : ℕ). record scope { depth = depth }) same
 over-raised (suc n) scope = let same : n + suc scope.depth ≡ suc n + scope.depth = omega arith in over-raised n (on scope) ∙ ap (λ (depth : ℕ). record scope { depth = depth }) same
+
+-- ---- operators by the rules
+
+-- a function of the machine's own may be a constant
+abbrev IsOwn : Option BuiltinFn → Type 0
+IsOwn None = Unit {0}
+IsOwn (Some fn) = is_loaded (BuiltinLiteral fn) ≡ true
+
+own_callee : (o : Operator) → IsOwn (callee_of (coding_of o))
+own_callee operator.Send = refl
+own_callee operator.Throw = refl
+own_callee operator.Close = refl
+own_callee o = tt
+
+-- a unit takes as many values as its operator
+abbrev TakesSo : ℕ → Instruction → ℕ → Type 0
+TakesSo n i arg = (sheet : Sheet) → (effect i arg ≡ gives n) × (has_operand sheet i arg ≡ true)
+
+abbrev IsTypedSo : Way → Coding → Type 0
+IsTypedSo (Asks_one r) (By i arg) = TakesSo 1 i arg
+IsTypedSo (Asks_two r) (By i arg) = TakesSo 2 i arg
+IsTypedSo way (Driven fn) = Unit {0}
+IsTypedSo Calls_it Called = Unit {0}
+IsTypedSo Yields_it Yielded = Unit {0}
+IsTypedSo way coding = ⊥
+
+is_typed_so : (o : Operator) → IsTypedSo (way_of o) (coding_of o)
+is_typed_so operator.Add = λ sheet. (refl, refl)
+is_typed_so operator.Sub = λ sheet. (refl, refl)
+is_typed_so operator.Lt = λ sheet. (refl, refl)
+is_typed_so operator.Eq = λ sheet. (refl, refl)
+is_typed_so o = tt
 
 module _ (code : Noted) where
   -- code from one place to another: no prefix stands in front of what follows, control comes to it where it may come to what
@@ -165,31 +198,6 @@ module _ (code : Noted) where
   atom_typed scope line (atom.Str s) at next laid free = const_typed scope line at next (StrLiteral s) refl laid free
   atom_typed scope line (atom.Name x) at next laid free = name_typed (list_any (bytes_eq x) code.vars) scope line x at next laid free
 
-  -- the same on top of another value
-  atom_typed_on : (scope : Scope) (line : ℕ) (a : Atom) (at next : ℕ) → LaidAtom (parts_of code) (on scope) line a at next → Free code at → Typed (Safe code scope) (on scope) (on (on scope)) at next
-  atom_typed_on scope line a at next laid free =
-      typed_by (Safe code (on scope)) (Safe code scope) (on scope) (on (on scope)) at next (safe_on code scope) (atom_typed (on scope) line a at next laid free)
-
-  -- atoms in order
-  atoms_typed : (atoms : List Atom) (scope : Scope) (line at next : ℕ) → LaidAtoms (parts_of code) scope line atoms at next → Free code at
-      → Typed (Safe code scope) scope (over (length atoms) scope) at next
-  atoms_typed [] scope line at next is_at free = nothing_typed (Safe code scope) scope at next is_at free
-  atoms_typed (a ∷ atoms) scope line at next (mid, one, rest) free =
-      let front = atom_typed scope line a at mid one free in
-      joined (Safe code scope) scope (on scope) (over (length atoms) (on scope)) at mid next front
-      (typed_by (Safe code (on scope)) (Safe code scope) (on scope) (over (length atoms) (on scope)) mid next (safe_on code scope) (atoms_typed atoms (on scope) line mid next rest front.free))
-
-  -- ---- operations
-
-  -- two atoms, and the unit that takes them
-  two_typed : (scope : Scope) (line : ℕ) (a b : Atom) (i : Instruction) (arg at next : ℕ) → effect i arg ≡ gives 2 → has_operand code.sheet i arg ≡ true
-      → LaidTwo (parts_of code) scope line a b i arg at next → Free code at → Typed (Safe code scope) scope (on scope) at next
-  two_typed scope line a b i arg at next is there (mid, asks, one, other, stands) free =
-      let front = atom_typed scope line a at mid one free in
-      let second = atom_typed_on scope line b mid asks other front.free in
-      joined (Safe code scope) scope (on scope) (on scope) at mid next front
-      (joined (Safe code scope) (on scope) (on (on scope)) (on scope) mid asks next second (answer_typed scope 2 line asks arg next i is there stands second.free))
-
   -- the value on top is yielded, and what is sent is pushed
   yield_typed : (scope : Scope) (line at next : ℕ) → scope.kind ≡ Generator → Stands (parts_of code) (on scope) line at op.YieldValue 0 next → Free code at
       → Typed (Safe code scope) (on scope) (on scope) at next
@@ -199,43 +207,59 @@ module _ (code : Noted) where
       (takes_one scope safe (λ rest. goes_on code.sheet (k + 1) (Any ∷ rest) scope.blocks)
       (goes_as (on scope) (safe_on code scope safe) (Any ∷ kinds_of scope) k next is_next there (ap suc (length-kinds_of scope)))))
 
-  -- the call of a function of the machine's own with two atoms
-  driven_typed : (scope : Scope) (line : ℕ) (fn : BuiltinFn) (a b : Atom) (at next : ℕ) → is_loaded (BuiltinLiteral fn) ≡ true → LaidDriven (parts_of code) scope line fn a b at next → Free code at
-      → Typed (Safe code scope) scope (on scope) at next
-  driven_typed scope line fn a b at next loaded (begins, callee, (mid, asks, one, other, stands)) free =
-      let front = const_typed scope line at begins (BuiltinLiteral fn) loaded callee free in
-      let second = atom_typed_on scope line a begins mid one front.free in
-      let third = typed_by (Safe code (on scope)) (Safe code scope) (on (on scope)) (on (on (on scope))) mid asks (safe_on code scope) (atom_typed_on (on scope) line b mid asks other second.free) in
-      joined (Safe code scope) scope (on scope) (on scope) at begins next front
-      (joined (Safe code scope) (on scope) (on (on scope)) (on scope) begins mid next second
-      (joined (Safe code scope) (on (on scope)) (on (on (on scope))) (on scope) mid asks next third (call_typed scope 2 line asks next stands third.free)))
+  -- ---- operators
 
-  pub operation_typed : (scope : Scope) (line : ℕ) (o : Operation) (at next : ℕ) → LaidOperation (parts_of code) scope line o at next → Free code at → Typed (Safe code scope) scope (on scope) at next
-  operation_typed scope line (operation.Add a b) at next laid free = two_typed scope line a b op.BinaryOperation _ at next refl refl laid free
-  operation_typed scope line (operation.Sub a b) at next laid free = two_typed scope line a b op.BinaryOperation _ at next refl refl laid free
-  operation_typed scope line (operation.Lt a b) at next laid free = two_typed scope line a b op.CompareOperation _ at next refl refl laid free
-  operation_typed scope line (operation.Eq a b) at next laid free = two_typed scope line a b op.CompareOperation _ at next refl refl laid free
-  operation_typed scope line (operation.Send a b) at next laid free = driven_typed scope line builtin.Send a b at next refl laid free
-  operation_typed scope line (operation.Throw a b) at next laid free = driven_typed scope line builtin.Throw a b at next refl laid free
-  operation_typed scope line (operation.Close a) at next (begins, callee, (asks, one, stands)) free =
-      let front = const_typed scope line at begins (BuiltinLiteral builtin.Close) refl callee free in
-      let second = atom_typed_on scope line a begins asks one front.free in
-      joined (Safe code scope) scope (on scope) (on scope) at begins next front
-      (joined (Safe code scope) (on scope) (on (on scope)) (on scope) begins asks next second (call_typed scope 1 line asks next stands second.free))
-  operation_typed scope line (operation.Yield a) at next (generator, (asks, loads, stands)) free =
-      let front = atom_typed scope line a at asks loads free in
-      joined (Safe code scope) scope (on scope) (on scope) at asks next front (yield_typed scope line asks next generator stands front.free)
-  operation_typed scope line (operation.Call f atoms) at next (mid, asks, callee, loads_all, stands) free =
-      let front = atom_typed scope line f at mid callee free in
-      let behind : Scope = over (length atoms) (on scope) in
-      let args = typed_by (Safe code (on scope)) (Safe code scope) (on scope) behind mid asks (safe_on code scope) (atoms_typed atoms (on scope) line mid asks loads_all front.free) in
-      joined (Safe code scope) scope (on scope) (on scope) at mid next front
-      (joined (Safe code scope) (on scope) behind (on scope) mid asks next args
-      (call_typed scope (length atoms) line asks next stands args.free))
+  -- the function that an operator may call lies under its operands
+  callee_typed : (fn : Option BuiltinFn) → IsOwn fn → (scope : Scope) (line at next : ℕ) → LaidCallee (parts_of code) fn scope line at next → Free code at
+      → Typed (Safe code scope) scope (under fn scope) at next
+  callee_typed None own scope line at next is_at free = nothing_typed (Safe code scope) scope at next is_at free
+  callee_typed (Some fn) own scope line at next callee free = const_typed scope line at next (BuiltinLiteral fn) own callee free
 
-  pub expr_typed : (scope : Scope) (line : ℕ) (e : Expr) (at next : ℕ) → LaidExpr (parts_of code) scope line e at next → Free code at → Typed (Safe code scope) scope (on scope) at next
-  expr_typed scope line (expr.Atom a) at next laid free = atom_typed scope line a at next laid free
-  expr_typed scope line (expr.Operation o) at next laid free = operation_typed scope line o at next laid free
+  under_safe : (fn : Option BuiltinFn) (scope : Scope) → Safe code scope → Safe code (under fn scope)
+  under_safe None scope safe = safe
+  under_safe (Some fn) scope safe = safe_on code scope safe
+
+  -- a call with its callee
+  called_typed : (n : ℕ) → 1 ≤ n → (scope : Scope) (line at next : ℕ) → Stands (parts_of code) (over n scope) line at op.CallFunctionPositional (argument_of Called n) next → Free code at
+      → Typed (Safe code scope) (over n scope) (on scope) at next
+  called_typed zero some scope line at next stands free = absurd (omega (arith, some))
+  called_typed (suc n) some scope line at next stands free = call_typed scope n line at next stands free
+
+  -- the unit of an operator takes its operands, and what lies under them, and pushes the answer
+  coding_typed : (way : Way) (coding : Coding) → IsTypedSo way coding → (scope : Scope) (es : Exprs) (line at next : ℕ) → OperandsFit scope.kind way es
+      → Stands (parts_of code) (over (operands es) (under (callee_of coding) scope)) line at (instruction_of coding) (argument_of coding (operands es)) next → Free code at
+      → Typed (Safe code scope) (over (operands es) (under (callee_of coding) scope)) (on scope) at next
+  coding_typed (Asks_one r) (By i arg) is scope es line at next fits stands free =
+      subst (λ (n : ℕ). Typed (Safe code scope) (over n scope) (on scope) at next) (sym fits)
+      (answer_typed scope 1 line at arg next i (is code.sheet).0 (is code.sheet).1 (subst (λ (n : ℕ). Stands (parts_of code) (over n scope) line at i arg next) fits stands) free)
+  coding_typed (Asks_two r) (By i arg) is scope es line at next fits stands free =
+      subst (λ (n : ℕ). Typed (Safe code scope) (over n scope) (on scope) at next) (sym fits)
+      (answer_typed scope 2 line at arg next i (is code.sheet).0 (is code.sheet).1 (subst (λ (n : ℕ). Stands (parts_of code) (over n scope) line at i arg next) fits stands) free)
+  coding_typed way (Driven fn) is scope es line at next fits stands free = call_typed scope (operands es) line at next stands free
+  coding_typed Calls_it Called is scope es line at next fits stands free = called_typed (operands es) fits.0 scope line at next stands free
+  coding_typed Yields_it Yielded is scope es line at next fits stands free =
+      subst (λ (n : ℕ). Typed (Safe code scope) (over n scope) (on scope) at next) (sym fits.1)
+      (yield_typed scope line at next fits.0 (subst (λ (n : ℕ). Stands (parts_of code) (over n scope) line at op.YieldValue 0 next) fits.1 stands) free)
+  coding_typed way coding is scope es line at next fits stands free = absurd is
+
+  mutual
+    pub expr_typed : (e : Expr) (scope : Scope) (line at next : ℕ) → LaidExpr (parts_of code) scope line e at next → Free code at → Typed (Safe code scope) scope (on scope) at next
+    expr_typed (Leaf a) scope line at next laid free = atom_typed scope line a at next laid free
+    expr_typed (Operate o es) scope line at next (begins, asks, fits, callee, all, stands) free =
+        let fn : Option BuiltinFn = callee_of (coding_of o) in
+        let front = callee_typed fn (own_callee o) scope line at begins callee free in
+        let args = typed_by (Safe code (under fn scope)) (Safe code scope) (under fn scope) (over (operands es) (under fn scope)) begins asks (under_safe fn scope)
+        (exprs_typed es (under fn scope) line begins asks all front.free) in
+        joined (Safe code scope) scope (under fn scope) (on scope) at begins next front
+        (joined (Safe code scope) (under fn scope) (over (operands es) (under fn scope)) (on scope) begins asks next args
+        (coding_typed (way_of o) (coding_of o) (is_typed_so o) scope es line asks next fits stands args.free))
+
+    exprs_typed : (es : Exprs) (scope : Scope) (line at next : ℕ) → LaidExprs (parts_of code) scope line es at next → Free code at → Typed (Safe code scope) scope (over (operands es) scope) at next
+    exprs_typed no_operands scope line at next is_at free = nothing_typed (Safe code scope) scope at next is_at free
+    exprs_typed (operand e es) scope line at next (mid, one, rest) free =
+        let front = expr_typed e scope line at mid one free in
+        joined (Safe code scope) scope (on scope) (over (operands es) (on scope)) at mid next front
+        (typed_by (Safe code (on scope)) (Safe code scope) (on scope) (over (operands es) (on scope)) mid next (safe_on code scope) (exprs_typed es (on scope) line mid next rest front.free))
 
   -- ---- what is done with a value
 

@@ -21,9 +21,8 @@ use Rattle.py_rows.specs.Handled.{handled_in}
 use Rattle.py_rows.specs.Unwinding.{unwinds}
 use Rattle.py_rows.specs.Asked.{name_of_local}
 use Rattle.py_rows.specs.Rows.{act, delete_fast}
-use Rattle.py_tree.specs.declared.expr.Atom.{Atom}
 use Rattle.py_tree.specs.declared.expr.Atom.TheVariants as atom
-use Rattle.py_tree.specs.Tree.{Name, Suite, nothing, first, Clauses, no_more, clause}
+use Rattle.py_tree.specs.Tree.{Name, Expr, Suite, nothing, first, Clauses, no_more, clause}
 use Rattle.py_tree.specs.Binding.{Env, set_local, bind}
 use Rattle.py_tree.specs.Scene.{Scene}
 use Rattle.py_tree.specs.Outcome.{Normal, Raises, Cut, Handled, After, Use, Runner, By_truth, Loops, Forgets, Handles, Reraises, RunsSuite, Tries}
@@ -42,7 +41,7 @@ chosen_cut P Q one other true = one
 chosen_cut P Q one other false = other
 
 -- a loop may be cut at its front
-pub cut_loop : (scene : Scene) (line : ℕ) (a : Atom) (body : Runner) (n : ℕ) (env : Env) (h : Handled) (event : ℕ) (ts : List Own) (K : After)
+pub cut_loop : (scene : Scene) (line : ℕ) (a : Expr) (body : Runner) (n : ℕ) (env : Env) (h : Handled) (event : ℕ) (ts : List Own) (K : After)
     → K env Cut event [] → ts ≡ [] → Loops scene line a body n env h event ts K
 cut_loop scene line a body zero env h event ts K cut none = inl (none, cut)
 cut_loop scene line a body (suc n) env h event ts K cut none = inl (none, cut)

@@ -7,6 +7,7 @@ use Rattle.std.proofs.lemmas.Bool.{cases_lt}
 use Rattle.std.proofs.lemmas.Option.{slice_get_within}
 use Rattle.py_code.specs.declared.instruction.Instruction.{Instruction}
 use Rattle.py_code.specs.declared.instruction.Instruction.TheVariants as instruction
+use Rattle.py_code.specs.declared.literal.BuiltinFn.{BuiltinFn}
 use Rattle.py_code.specs.declared.operator.RaiseKind.TheVariants as raise
 use Rattle.py_code.specs.declared.unit.CodeUnit.{CodeUnit}
 use Rattle.py_code.specs.Operators.{test_operators}
@@ -15,13 +16,13 @@ use Rattle.py_rows.specs.Questions.{raise_of}
 use Rattle.py_rows.proofs.AskingLemmas.{same_raise}
 use Rattle.py_tree.specs.declared.expr.Atom.{Atom}
 use Rattle.py_tree.specs.declared.expr.Atom.TheVariants as atom
-use Rattle.py_tree.specs.declared.expr.Expr.{Expr}
-use Rattle.py_tree.specs.declared.expr.Expr.TheVariants as expr
-use Rattle.py_tree.specs.declared.expr.Operation.{Operation}
-use Rattle.py_tree.specs.declared.expr.Operation.TheVariants as operation
-use Rattle.py_tree.specs.Tree.{Name, Form, Assign, Do, Show, Return, Raise, Reraise, Break, Continue, Pass, If, IfElse, While, TryExcept, TryFinally, With, Suite, nothing, first, Clauses, no_more, clause, Tree}
+use Rattle.py_tree.specs.declared.expr.Operator.{Operator}
+use Rattle.py_tree.specs.declared.expr.Operator.TheVariants as operator
+use Rattle.py_tree.specs.Compilable.{operands}
+use Rattle.py_laid.specs.Operators.{coding_of, callee_of, instruction_of, argument_of}
+use Rattle.py_tree.specs.Tree.{Name, Expr, Leaf, Operate, Exprs, no_operands, operand, Form, Assign, Do, Show, Return, Raise, Reraise, Break, Continue, Pass, If, IfElse, While, TryExcept, TryFinally, With, Suite, nothing, first, Clauses, no_more, clause, Tree}
 use Rattle.py_tree.specs.Binding.{locals_of}
-use Rattle.py_laid.specs.Code.{Parts, Around, Scope, on, over, in_loop, in_try, in_clauses, before_finally, in_finally, Stands, LaidName, LaidAtom, LaidAtoms, LaidTaken, LaidTwo, LaidOperation, LaidExpr, LaidTarget}
+use Rattle.py_laid.specs.Code.{Parts, Around, Scope, on, over, under, in_loop, in_try, in_clauses, before_finally, in_finally, Stands, LaidName, LaidAtom, LaidCallee, LaidExpr, LaidExprs, LaidTaken, LaidTarget}
 use Rattle.py_laid.specs.Code.{LaidBreak, LaidContinue, LaidForget, LaidFinally, LaidWith, LaidHandler, LaidForm, LaidSuite, LaidClauses, LaidBody, parts_with}
 use Rattle.py_laid.specs.Instructions.{is_compiled_raise, test_of, is_compiled_test, is_compiled}
 use Rattle.py_laid.specs.Laws.{LaidCodeIsCompiled}
@@ -97,35 +98,29 @@ module _ (parts : Parts) where
   atom_uses scope line (atom.Str s) at next (i, stands, here) = stands_uses scope line at i next _ stands refl
   atom_uses scope line (atom.Name x) at next laid = name_uses (list_any (bytes_eq x) parts.vars) scope line x at next laid
 
-  atoms_uses : (scope : Scope) (line : ℕ) (atoms : List Atom) (at next : ℕ) → LaidAtoms parts scope line atoms at next → Uses at next
-  atoms_uses scope line [] at next is_at = uses_none at next is_at
-  atoms_uses scope line (a ∷ atoms) at next (mid, one, rest) = uses_then at mid next (atom_uses scope line a at mid one) (atoms_uses (on scope) line atoms mid next rest)
+  callee_uses : (fn : Option BuiltinFn) (scope : Scope) (line at next : ℕ) → LaidCallee parts fn scope line at next → Uses at next
+  callee_uses None scope line at next is_at = uses_none at next is_at
+  callee_uses (Some fn) scope line at next (i, stands, here) = stands_uses scope line at i next _ stands refl
 
-  -- an atom, and the unit that takes it
-  taken_uses : (scope : Scope) (line : ℕ) (a : Atom) (op : Instruction) (arg at next : ℕ) → is_compiled op arg ≡ true → LaidTaken parts scope line a op arg at next → Uses at next
-  taken_uses scope line a op arg at next used (asks, laid, stands) = uses_then at asks next (atom_uses scope line a at asks laid) (stands_uses (on scope) line asks arg next op stands used)
+  -- the unit of an operator
+  operator_uses : (o : Operator) (n : ℕ) → is_compiled (instruction_of (coding_of o)) (argument_of (coding_of o) n) ≡ true
+  operator_uses operator.Send n = refl
+  operator_uses o n = refl
 
-  two_uses : (scope : Scope) (line : ℕ) (a b : Atom) (op : Instruction) (arg at next : ℕ) → is_compiled op arg ≡ true → LaidTwo parts scope line a b op arg at next → Uses at next
-  two_uses scope line a b op arg at next used (mid, asks, one, other, stands) =
-      uses_then at mid next (atom_uses scope line a at mid one)
-      (uses_then mid asks next (atom_uses (on scope) line b mid asks other) (stands_uses _ line asks arg next op stands used))
+  mutual
+    expr_uses : (e : Expr) (scope : Scope) (line at next : ℕ) → LaidExpr parts scope line e at next → Uses at next
+    expr_uses (Leaf a) scope line at next laid = atom_uses scope line a at next laid
+    expr_uses (Operate o es) scope line at next (begins, asks, fits, callee, all, stands) =
+        uses_then at begins next (callee_uses (callee_of (coding_of o)) scope line at begins callee)
+        (uses_then begins asks next (exprs_uses es (under (callee_of (coding_of o)) scope) line begins asks all) (stands_uses _ line asks _ next _ stands (operator_uses o (operands es))))
 
-  operation_uses : (scope : Scope) (line : ℕ) (o : Operation) (at next : ℕ) → LaidOperation parts scope line o at next → Uses at next
-  operation_uses scope line (operation.Add a b) at next laid = two_uses scope line a b _ _ at next refl laid
-  operation_uses scope line (operation.Sub a b) at next laid = two_uses scope line a b _ _ at next refl laid
-  operation_uses scope line (operation.Lt a b) at next laid = two_uses scope line a b _ _ at next refl laid
-  operation_uses scope line (operation.Eq a b) at next laid = two_uses scope line a b _ _ at next refl laid
-  operation_uses scope line (operation.Send a b) at next (begins, (i, loads, here), laid) = uses_then at begins next (stands_uses scope line at i begins _ loads refl) (two_uses _ line a b _ _ begins next refl laid)
-  operation_uses scope line (operation.Throw a b) at next (begins, (i, loads, here), laid) = uses_then at begins next (stands_uses scope line at i begins _ loads refl) (two_uses _ line a b _ _ begins next refl laid)
-  operation_uses scope line (operation.Close a) at next (begins, (i, loads, here), laid) = uses_then at begins next (stands_uses scope line at i begins _ loads refl) (taken_uses _ line a _ _ begins next refl laid)
-  operation_uses scope line (operation.Yield a) at next (generator, laid) = taken_uses scope line a _ _ at next refl laid
-  operation_uses scope line (operation.Call f atoms) at next (mid, asks, callee, args, stands) =
-      uses_then at mid next (atom_uses scope line f at mid callee)
-      (uses_then mid asks next (atoms_uses (on scope) line atoms mid asks args) (stands_uses _ line asks _ next _ stands refl))
+    exprs_uses : (es : Exprs) (scope : Scope) (line at next : ℕ) → LaidExprs parts scope line es at next → Uses at next
+    exprs_uses no_operands scope line at next is_at = uses_none at next is_at
+    exprs_uses (operand e es) scope line at next (mid, one, rest) = uses_then at mid next (expr_uses e scope line at mid one) (exprs_uses es (on scope) line mid next rest)
 
-  expr_uses : (scope : Scope) (line : ℕ) (e : Expr) (at next : ℕ) → LaidExpr parts scope line e at next → Uses at next
-  expr_uses scope line (expr.Atom a) at next laid = atom_uses scope line a at next laid
-  expr_uses scope line (expr.Operation o) at next laid = operation_uses scope line o at next laid
+  -- an expression, and the unit that takes it
+  taken_uses : (scope : Scope) (line : ℕ) (e : Expr) (op : Instruction) (arg at next : ℕ) → is_compiled op arg ≡ true → LaidTaken parts scope line e op arg at next → Uses at next
+  taken_uses scope line e op arg at next used (asks, laid, stands) = uses_then at asks next (expr_uses e scope line at asks laid) (stands_uses (on scope) line asks arg next op stands used)
 
   -- ---- statements
 
@@ -166,11 +161,11 @@ module _ (parts : Parts) where
       finally_uses scope line suite (λ within handler ends. LaidForget parts within line x handler ends) at next used (λ within from to. forget_uses within line x from to) laid
 
   -- a with, where the code of its body is such
-  with_uses : (scope : Scope) (line : ℕ) (a : Atom) (x : Option Name) (body : Scope → ℕ → ℕ → Type 0) (at next : ℕ)
+  with_uses : (scope : Scope) (line : ℕ) (a : Expr) (x : Option Name) (body : Scope → ℕ → ℕ → Type 0) (at next : ℕ)
       → ((within : Scope) (from to : ℕ) → body within from to → Uses from to) → LaidWith parts scope line a x body at next → Uses at next
   with_uses scope line a x body at next used (sets, binds, begins, leaves, enters, handler, ends, load, set_up, bind, suite, pops, enter, starts, finishes) =
       let within : Scope = before_finally handler (on scope) in
-      uses_then at sets next (atom_uses scope line a at sets load)
+      uses_then at sets next (expr_uses a scope line at sets load)
       (uses_then sets binds next (stands_uses (on scope) line sets handler binds _ set_up refl)
       (uses_then binds begins next (target_uses within line x binds begins bind)
       (uses_then begins leaves next (used within begins leaves suite)
@@ -181,8 +176,8 @@ module _ (parts : Parts) where
   mutual
     form_uses : (f : Form) (scope : Scope) (line at next : ℕ) → LaidForm parts scope line f at next → Uses at next
     form_uses (Assign x e) scope line at next (stores, laid, store) =
-        uses_then at stores next (expr_uses scope line e at stores laid) (target_uses scope line (Some x) stores next store)
-    form_uses (Do o) scope line at next (drops, laid, pop) = uses_then at drops next (operation_uses scope line o at drops laid) (target_uses scope line None drops next pop)
+        uses_then at stores next (expr_uses e scope line at stores laid) (target_uses scope line (Some x) stores next store)
+    form_uses (Do o es) scope line at next (drops, laid, pop) = uses_then at drops next (expr_uses (Operate o es) scope line at drops laid) (target_uses scope line None drops next pop)
     form_uses (Show a) scope line at next laid = taken_uses scope line a _ 0 at next refl laid
     form_uses (Return a) scope line at next laid = taken_uses scope line a _ 0 at next refl laid
     form_uses (Raise a) scope line at next laid = taken_uses scope line a _ _ at next refl laid

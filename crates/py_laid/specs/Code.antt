@@ -6,13 +6,10 @@ use Rattle.py_code.specs.declared.instruction.Instruction.{Instruction}
 use Rattle.py_code.specs.declared.instruction.Instruction.TheVariants as op
 use Rattle.py_code.specs.declared.literal.Literal.{Literal, None as NoneLiteral, Bool as BoolLiteral, Int as IntLiteral, Str as StrLiteral, Builtin as BuiltinLiteral}
 use Rattle.py_code.specs.declared.literal.BuiltinFn.{BuiltinFn}
-use Rattle.py_code.specs.declared.literal.BuiltinFn.TheVariants as builtin
-use Rattle.py_code.specs.declared.operator.BinaryOperator.TheVariants as binary
-use Rattle.py_code.specs.declared.operator.ComparisonOperator.TheVariants as comparison
 use Rattle.py_code.specs.declared.operator.TestOperator.TheVariants as test
 use Rattle.py_code.specs.declared.operator.RaiseKind.TheVariants as kind
 use Rattle.py_code.specs.Literals.{literals_of}
-use Rattle.py_code.specs.Numbers.{binary_number, comparison_number, test_number, raise_number}
+use Rattle.py_code.specs.Numbers.{test_number, raise_number}
 use Rattle.py_code.specs.Units.{decoded_from}
 use Rattle.py_check.specs.declared.annotated.Annotated.{Annotated}
 use Rattle.py_check.specs.declared.note.Kind.{Kind}
@@ -30,11 +27,10 @@ use Rattle.py_tree.specs.declared.body.BodyKind.{BodyKind}
 use Rattle.py_tree.specs.declared.body.BodyKind.TheVariants.{Function, Generator}
 use Rattle.py_tree.specs.declared.expr.Atom.{Atom}
 use Rattle.py_tree.specs.declared.expr.Atom.TheVariants as atom
-use Rattle.py_tree.specs.declared.expr.Expr.{Expr}
-use Rattle.py_tree.specs.declared.expr.Expr.TheVariants as expr
-use Rattle.py_tree.specs.declared.expr.Operation.{Operation}
-use Rattle.py_tree.specs.declared.expr.Operation.TheVariants as operation
-use Rattle.py_tree.specs.Tree.{Name, Form, Assign, Do, Show, Return, Raise, Reraise, Break, Continue, Pass, If, IfElse, While, TryExcept, TryFinally, With, Suite, nothing, first}
+use Rattle.py_tree.specs.Operators.{way_of}
+use Rattle.py_tree.specs.Compilable.{OperandsFit, operands}
+use Rattle.py_laid.specs.Operators.{coding_of, callee_of, instruction_of, argument_of}
+use Rattle.py_tree.specs.Tree.{Name, Expr, Leaf, Operate, Exprs, no_operands, operand, Form, Assign, Do, Show, Return, Raise, Reraise, Break, Continue, Pass, If, IfElse, While, TryExcept, TryFinally, With, Suite, nothing, first}
 use Rattle.py_tree.specs.Tree.{Clauses, no_more, clause, Tree, seen_as}
 use Rattle.py_tree.specs.Binding.{locals_of}
 
@@ -73,6 +69,11 @@ on scope = record scope { depth = suc scope.depth }
 abbrev pub over : ℕ → Scope → Scope
 over zero scope = scope
 over (suc n) scope = over n (on scope)
+
+-- with the function that may stand under operands
+abbrev pub under : Option BuiltinFn → Scope → Scope
+under None scope = scope
+under (Some fn) scope = on scope
 
 -- inside of a block
 abbrev pub inside : BlockNote → Scope → Scope
@@ -154,44 +155,27 @@ module _ (parts : Parts) where
   LaidAtom scope line (atom.Str s) at next = StandsConst scope line at op.LoadConst (StrLiteral s) next
   LaidAtom scope line (atom.Name x) at next = LaidName (list_any (bytes_eq x) parts.vars) scope line x at next
 
-  -- the loads of atoms in order
-  abbrev pub LaidAtoms : Scope → ℕ → List Atom → ℕ → ℕ → Type 0
-  LaidAtoms scope line [] at next = next ≡ at
-  LaidAtoms scope line (a ∷ atoms) at next = (mid : ℕ) × LaidAtom scope line a at mid × LaidAtoms (on scope) line atoms mid next
+  -- the function of the machine's own that an operator may call
+  abbrev pub LaidCallee : Option BuiltinFn → Scope → ℕ → ℕ → ℕ → Type 0
+  LaidCallee None scope line at next = next ≡ at
+  LaidCallee (Some fn) scope line at next = StandsConst scope line at op.LoadConst (BuiltinLiteral fn) next
 
-  -- an atom, and the unit that takes it
-  abbrev pub LaidTaken : Scope → ℕ → Atom → Instruction → ℕ → ℕ → ℕ → Type 0
-  LaidTaken scope line a i arg at next = (asks : ℕ) × LaidAtom scope line a at asks × Stands (on scope) line asks i arg next
+  abbrev mutual
+    -- the value of an expression: an atom's load, or the operands in order, and the unit that takes them
+    pub LaidExpr : Scope → ℕ → Expr → ℕ → ℕ → Type 0
+    LaidExpr scope line (Leaf a) at next = LaidAtom scope line a at next
+    LaidExpr scope line (Operate o es) at next =
+        (begins : ℕ) × (asks : ℕ) × OperandsFit scope.kind (way_of o) es × LaidCallee (callee_of (coding_of o)) scope line at begins
+        × LaidExprs (under (callee_of (coding_of o)) scope) line es begins asks
+        × Stands (over (operands es) (under (callee_of (coding_of o)) scope)) line asks (instruction_of (coding_of o)) (argument_of (coding_of o) (operands es)) next
 
-  -- two atoms, and the unit that takes them
-  abbrev pub LaidTwo : Scope → ℕ → Atom → Atom → Instruction → ℕ → ℕ → ℕ → Type 0
-  LaidTwo scope line a b i arg at next =
-      (mid : ℕ) × (asks : ℕ) × LaidAtom scope line a at mid × LaidAtom (on scope) line b mid asks × Stands (on (on scope)) line asks i arg next
+    pub LaidExprs : Scope → ℕ → Exprs → ℕ → ℕ → Type 0
+    LaidExprs scope line no_operands at next = next ≡ at
+    LaidExprs scope line (operand e es) at next = (mid : ℕ) × LaidExpr scope line e at mid × LaidExprs (on scope) line es mid next
 
-  -- a function of the machine's own, two atoms, and its call with them
-  abbrev pub LaidDriven : Scope → ℕ → BuiltinFn → Atom → Atom → ℕ → ℕ → Type 0
-  LaidDriven scope line fn a b at next =
-      (begins : ℕ) × StandsConst scope line at op.LoadConst (BuiltinLiteral fn) begins × LaidTwo (on scope) line a b op.CallFunctionPositional 2 begins next
-
-  -- the operands in order, and the unit that asks, or that yields, which stands in generators alone
-  abbrev pub LaidOperation : Scope → ℕ → Operation → ℕ → ℕ → Type 0
-  LaidOperation scope line (operation.Add a b) at next = LaidTwo scope line a b op.BinaryOperation (binary_number binary.Add) at next
-  LaidOperation scope line (operation.Sub a b) at next = LaidTwo scope line a b op.BinaryOperation (binary_number binary.Subtract) at next
-  LaidOperation scope line (operation.Lt a b) at next = LaidTwo scope line a b op.CompareOperation (comparison_number comparison.Less) at next
-  LaidOperation scope line (operation.Eq a b) at next = LaidTwo scope line a b op.CompareOperation (comparison_number comparison.Equal) at next
-  LaidOperation scope line (operation.Send a b) at next = LaidDriven scope line builtin.Send a b at next
-  LaidOperation scope line (operation.Throw a b) at next = LaidDriven scope line builtin.Throw a b at next
-  LaidOperation scope line (operation.Close a) at next =
-      (begins : ℕ) × StandsConst scope line at op.LoadConst (BuiltinLiteral builtin.Close) begins × LaidTaken (on scope) line a op.CallFunctionPositional 1 begins next
-  LaidOperation scope line (operation.Yield a) at next = (scope.kind ≡ Generator) × LaidTaken scope line a op.YieldValue 0 at next
-  LaidOperation scope line (operation.Call f atoms) at next =
-      (mid : ℕ) × (asks : ℕ) × LaidAtom scope line f at mid × LaidAtoms (on scope) line atoms mid asks
-      × Stands (over (length atoms) (on scope)) line asks op.CallFunctionPositional (length atoms) next
-
-  -- an atom, or an operation
-  abbrev pub LaidExpr : Scope → ℕ → Expr → ℕ → ℕ → Type 0
-  LaidExpr scope line (expr.Atom a) at next = LaidAtom scope line a at next
-  LaidExpr scope line (expr.Operation o) at next = LaidOperation scope line o at next
+  -- an expression, and the unit that takes it
+  abbrev pub LaidTaken : Scope → ℕ → Expr → Instruction → ℕ → ℕ → ℕ → Type 0
+  LaidTaken scope line e i arg at next = (asks : ℕ) × LaidExpr scope line e at asks × Stands (on scope) line asks i arg next
 
   -- ---- statements
 
@@ -224,9 +208,9 @@ module _ (parts : Parts) where
 
   -- a with of this line, whose manager is its exit too, and stays under the block of the body: `body` says, by a scope, from which place to which the
   -- code of the body stands
-  abbrev pub LaidWith : Scope → ℕ → Atom → Option Name → (Scope → ℕ → ℕ → Type 0) → ℕ → ℕ → Type 0
+  abbrev pub LaidWith : Scope → ℕ → Expr → Option Name → (Scope → ℕ → ℕ → Type 0) → ℕ → ℕ → Type 0
   LaidWith scope line a x body at next =
-      (sets : ℕ) × (binds : ℕ) × (begins : ℕ) × (leaves : ℕ) × (enters : ℕ) × (handler : ℕ) × (ends : ℕ) × LaidAtom scope line a at sets
+      (sets : ℕ) × (binds : ℕ) × (begins : ℕ) × (leaves : ℕ) × (enters : ℕ) × (handler : ℕ) × (ends : ℕ) × LaidExpr scope line a at sets
       × Stands (on scope) line sets op.SetupWith handler binds × LaidTarget (before_finally handler (on scope)) line x binds begins
       × body (before_finally handler (on scope)) begins leaves × Stands (before_finally handler (on scope)) line leaves op.PopBlock 0 enters
       × Stands (on scope) line enters op.EnterFinally 0 handler × Stands (in_finally (on scope)) line handler op.WithCleanupStart 0 ends
@@ -237,16 +221,16 @@ module _ (parts : Parts) where
   LaidHandler scope line None suite at next = suite scope at next
   LaidHandler scope line (Some x) suite at next = LaidFinally scope line suite (λ within handler ends. LaidForget within line x handler ends) at next
 
-  -- a suite over which a jump leads, by the value of an atom: `suite` says from which place to which its code stands
-  abbrev pub LaidBranch : Scope → ℕ → Atom → Instruction → (ℕ → ℕ → Type 0) → ℕ → ℕ → Type 0
+  -- a suite over which a jump leads, by the value of an expression: `suite` says from which place to which its code stands
+  abbrev pub LaidBranch : Scope → ℕ → Expr → Instruction → (ℕ → ℕ → Type 0) → ℕ → ℕ → Type 0
   LaidBranch scope line a i suite at next =
-      (asks : ℕ) × (begins : ℕ) × LaidAtom scope line a at asks × Stands (on scope) line asks i next begins × suite begins next
+      (asks : ℕ) × (begins : ℕ) × LaidExpr scope line a at asks × Stands (on scope) line asks i next begins × suite begins next
 
   abbrev mutual
     -- the code of a statement of this line
     pub LaidForm : Scope → ℕ → Form → ℕ → ℕ → Type 0
     LaidForm scope line (Assign x e) at next = (stores : ℕ) × LaidExpr scope line e at stores × LaidTarget scope line (Some x) stores next
-    LaidForm scope line (Do o) at next = (drops : ℕ) × LaidOperation scope line o at drops × LaidTarget scope line None drops next
+    LaidForm scope line (Do o es) at next = (drops : ℕ) × LaidExpr scope line (Operate o es) at drops × LaidTarget scope line None drops next
     LaidForm scope line (Show a) at next = LaidTaken scope line a op.PrintExpr 0 at next
     LaidForm scope line (Return a) at next = LaidTaken scope line a op.ReturnValue 0 at next
     LaidForm scope line (Raise a) at next = LaidTaken scope line a op.Raise (raise_number kind.Raise) at next
@@ -254,16 +238,16 @@ module _ (parts : Parts) where
     LaidForm scope line Break at next = LaidBreak scope scope.around line at next
     LaidForm scope line Continue at next = LaidContinue scope scope.around line at next
     LaidForm scope line Pass at next = next ≡ at
-    -- the suite is jumped over where the atom is false
+    -- the suite is jumped over where the value is false
     LaidForm scope line (If a s) at next = LaidBranch scope line a op.JumpIfFalse (λ begins to. LaidSuite scope s begins to) at next
     -- the second suite is jumped to where it is false, and jumped over behind the first
     LaidForm scope line (IfElse a s t) at next =
-        (asks : ℕ) × (begins : ℕ) × (leaves : ℕ) × (other : ℕ) × LaidAtom scope line a at asks × Stands (on scope) line asks op.JumpIfFalse other begins
+        (asks : ℕ) × (begins : ℕ) × (leaves : ℕ) × (other : ℕ) × LaidExpr scope line a at asks × Stands (on scope) line asks op.JumpIfFalse other begins
         × LaidSuite scope s begins leaves × Stands scope line leaves op.Jump next other × LaidSuite scope t other next
     -- the test stands behind the set-up, and is jumped back to from the end of the suite
     LaidForm scope line (While a s) at next =
         (tests : ℕ) × (asks : ℕ) × (begins : ℕ) × (repeats : ℕ) × (ends : ℕ) × Stands scope line at op.SetupLoop 0 tests
-        × LaidAtom (in_loop (record { stop = next; again = tests }) scope) line a tests asks
+        × LaidExpr (in_loop (record { stop = next; again = tests }) scope) line a tests asks
         × Stands (on (in_loop (record { stop = next; again = tests }) scope)) line asks op.JumpIfFalse ends begins
         × LaidSuite (in_loop (record { stop = next; again = tests }) scope) s begins repeats
         × Stands (in_loop (record { stop = next; again = tests }) scope) line repeats op.Jump tests ends

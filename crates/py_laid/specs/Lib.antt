@@ -1,5 +1,7 @@
 -- code that does what a body does
 pub mod Fits
+-- which units operators are
+pub mod Operators
 -- where the code of each form stands, with its notes
 pub mod Code
 -- which instructions the code of a body has

@@ -4,18 +4,16 @@ use Rattle.std.specs.Prelude.{Option}
 use Rattle.py_tree.specs.declared.body.BodyKind.TheVariants as body
 use Rattle.py_lines.specs.declared.drive.DriveLine.{DriveLine}
 use Rattle.py_lines.specs.declared.drive.DriveLine.TheVariants as drive_line
-use Rattle.py_lines.specs.declared.head.Head.{Head}
-use Rattle.py_lines.specs.declared.head.Head.TheVariants as head
 use Rattle.py_lines.specs.declared.head.Turn.{Turn}
 use Rattle.py_lines.specs.declared.head.Turn.TheVariants as turn
 use Rattle.py_lines.specs.declared.header.Header.{Header}
 use Rattle.py_lines.specs.declared.header.Header.TheVariants as header
 use Rattle.py_lines.specs.declared.keyword.Keyword.{Keyword}
 use Rattle.py_lines.specs.declared.keyword.Keyword.TheVariants as keyword
-use Rattle.py_lines.specs.declared.line.Line.{Line}
-use Rattle.py_lines.specs.declared.line.Line.TheVariants as line
-use Rattle.py_lines.specs.declared.plain.Plain.{Plain}
-use Rattle.py_lines.specs.declared.plain.Plain.TheVariants as plain
+use Rattle.py_lines.specs.Line.{Line}
+use Rattle.py_lines.specs.Line as line
+use Rattle.py_lines.specs.Statements.{Plain, Head}
+use Rattle.py_lines.specs.Statements as said
 use Rattle.py_lines.specs.Meaning.{Meaning, Equals, Key, Word}
 use Rattle.py_lines.specs.Printing.{drive_token, number_token, plain_tokens, head_tokens, turn_tokens, header_tokens, thrown_tokens, drive_tokens, line_tokens}
 use Rattle.py_lines.specs.Words.{is_short}
@@ -61,11 +59,11 @@ line_class (line.Header h) = Headers
 line_class (line.Drive d) = Drives
 
 plain_class : (p : Plain) → tokens_class (plain_tokens p) ≡ Some Plains
-plain_class plain.Pass = refl
+plain_class said.Pass = refl
 plain_class p = refl
 
 head_class : (h : Head) → tokens_class (head_tokens h) ≡ Some Opens
-head_class (head.If a) = refl
+head_class (said.If a) = refl
 head_class h = refl
 
 turn_class : (t : Turn) → tokens_class (turn_tokens t) ≡ Some Turns

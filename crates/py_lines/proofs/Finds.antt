@@ -1,32 +1,38 @@
 -- What is not found among tokens, from what is not found among those behind the first.
-use Rattle.std.proofs.Common.{◌≡◌, ◌≢◌, ℕ, List, [], ◌∷◌, None, true, false, map, refl, subst}
+use Rattle.std.proofs.Common.{◌≡◌, ◌≢◌, ℕ, List, [], ◌∷◌, None, true, false, map, refl, sym, ◌∙◌, subst}
 use Rattle.std.specs.Prelude.{Option, codes}
 use Rattle.py_tree.specs.declared.body.BodyKind.{BodyKind}
 use Rattle.py_tree.specs.declared.body.BodyKind.TheVariants as body
-use Rattle.py_tree.specs.Tree.{Name}
+use Rattle.py_tree.specs.Tree.{Name, Operate}
+use Rattle.py_tree.specs.declared.expr.Expr.{Expr as OwnExpr}
 use Rattle.py_tree.specs.declared.expr.Atom.{Atom}
 use Rattle.py_tree.specs.declared.expr.Atom.TheVariants as atom
 use Rattle.py_lines.specs.declared.drive.DriveAtom.{DriveAtom}
 use Rattle.py_lines.specs.declared.drive.DriveAtom.TheVariants as drive
 use Rattle.py_lines.specs.declared.drive.DriveLine.{DriveLine}
 use Rattle.py_lines.specs.declared.drive.DriveLine.TheVariants as drive_line
-use Rattle.py_lines.specs.declared.head.Head.{Head}
-use Rattle.py_lines.specs.declared.head.Head.TheVariants as head
+use Rattle.py_lines.specs.Statements as said
 use Rattle.py_lines.specs.declared.head.Turn.{Turn}
 use Rattle.py_lines.specs.declared.head.Turn.TheVariants as turn
 use Rattle.py_lines.specs.declared.header.Header.{Header}
 use Rattle.py_lines.specs.declared.header.Header.TheVariants as header
 use Rattle.py_lines.specs.declared.keyword.Keyword.TheVariants as keyword
-use Rattle.py_lines.specs.declared.line.Line.{Line}
-use Rattle.py_lines.specs.declared.line.Line.TheVariants as line
+use Rattle.py_lines.specs.Line.{Line}
+use Rattle.py_lines.specs.Line as line
 use Rattle.py_lines.specs.declared.meaning.Sense.{Sense}
 use Rattle.py_lines.specs.declared.meaning.Sense.TheVariants as sense
-use Rattle.py_lines.specs.declared.plain.Plain.{Plain}
-use Rattle.py_lines.specs.Finding.{Prints}
+use Rattle.py_lines.specs.Statements.{Plain, Head}
+use Rattle.py_lines.specs.Finding.{Prints, Shows, ShowsExpr, ShowsTarget}
+use Rattle.py_lines.specs.Reading.{HeadIsLow, LineIsLow, PlainIsLow}
 use Rattle.py_lines.specs.Meaning.{Meaning, Key, Word, Drive}
 use Rattle.py_lines.specs.Senses.{meaning_of}
 use Rattle.py_lines.specs.Printing.{atom_token, drive_token, number_token, plain_tokens, head_tokens, target_tokens, turn_tokens, body_keyword, header_tokens, thrown_tokens, drive_tokens, line_tokens}
+use Rattle.py_lines.proofs.Expressions.{no_open}
 use Rattle.py_lines.proofs.OneToOne.{other_word}
+
+-- where nothing was found, none that may be found prints these
+pub none_shows : {X Y T : Type 0} (view : Y → X) (May : X → Type 0) (printing : X → T) (ts : T) (r : Option Y) → r ≡ None → Shows view May printing ts r → (x : X) → May x → ts ≢ printing x
+none_shows view May printing ts r is found = subst (Shows view May printing ts) is found
 
 -- where nothing was found, no finding prints these
 pub none_prints : {X T : Type 0} (printing : X → T) (ts : T) (r : Option X) → r ≡ None → Prints printing ts r → (x : X) → ts ≢ printing x
@@ -57,10 +63,10 @@ no_manager ts r is found (header.Def body.Function f ps) e = cc
 no_manager ts r is found (header.Def body.Generator f ps) e = cc
 no_manager ts r is found h e = cc
 
--- a `with` has an atom, and behind it nothing or `as` and a name
-pub no_with : (ts : List Meaning) (r : Option (Atom × Option Name)) → r ≡ None → Prints (λ p. atom_token p.0 ∷ target_tokens p.1) ts r → (h : Head) → Key keyword.With ∷ ts ≢ head_tokens h
-no_with ts r is found (head.With a x) e = none_prints (λ p. atom_token p.0 ∷ target_tokens p.1) ts r is found (a, x) (cc)
-no_with ts r is found h e = cc
+-- a `with` has an expression, and behind it nothing or `as` and a name
+pub no_with : (ts : List Meaning) (r : Option (OwnExpr × Option Name)) → r ≡ None → ShowsTarget ts r → (h : Head) → HeadIsLow h → Key keyword.With ∷ ts ≢ head_tokens h
+no_with ts r is found (said.With a x) low e = (subst (ShowsTarget ts) is found) (a, x) low (cc)
+no_with ts r is found h low e = cc
 
 -- an `except` has a class, and behind it nothing or `as` and a name
 pub no_except : (ts : List Meaning) (r : Option (Name × Option Name)) → r ≡ None → Prints (λ p. Word p.0 ∷ target_tokens p.1) ts r → (t : Turn) → Key keyword.Except ∷ ts ≢ turn_tokens t
@@ -98,11 +104,23 @@ no_drive (sense.Drive k) other n e = absurd (other k refl)
 no_drive s other n e = cc
 
 -- a line is of one of the classes
-pub no_line : (ts : List Meaning) → ((p : Plain) → ts ≢ plain_tokens p) → ((h : Head) → ts ≢ head_tokens h) → ((t : Turn) → ts ≢ turn_tokens t) → ((h : Header) → ts ≢ header_tokens h)
-    → ((d : DriveLine) → ts ≢ drive_tokens d) → (ts ≢ Key keyword.End ∷ []) → (l : Line) → ts ≢ line_tokens l
-no_line ts plain head turn header drive end line.End = end
-no_line ts plain head turn header drive end (line.Plain p) = plain p
-no_line ts plain head turn header drive end (line.Opens h) = head h
-no_line ts plain head turn header drive end (line.Turns t) = turn t
-no_line ts plain head turn header drive end (line.Header h) = header h
-no_line ts plain head turn header drive end (line.Drive d) = drive d
+pub no_line : (ts : List Meaning) → ((p : Plain) → PlainIsLow p → ts ≢ plain_tokens p) → ((h : Head) → HeadIsLow h → ts ≢ head_tokens h) → ((t : Turn) → ts ≢ turn_tokens t) → ((h : Header) → ts ≢ header_tokens h)
+    → ((d : DriveLine) → ts ≢ drive_tokens d) → (ts ≢ Key keyword.End ∷ []) → (l : Line) → LineIsLow l → ts ≢ line_tokens l
+no_line ts plain head turn header drive end line.End low = end
+no_line ts plain head turn header drive end (line.Plain p) low = plain p low
+no_line ts plain head turn header drive end (line.Opens h) low = head h low
+no_line ts plain head turn header drive end (line.Turns t) low = turn t
+no_line ts plain head turn header drive end (line.Header h) low = header h
+no_line ts plain head turn header drive end (line.Drive d) low = drive d
+
+behind_do : (ts us : List Meaning) → Key keyword.Do ∷ ts ≡ Key keyword.Do ∷ us → ts ≡ us
+behind_do ts us e = cc
+
+-- a `do` has an operation, and no atom
+pub no_do : (ts : List Meaning) (r : Option OwnExpr) → r ≡ None → ShowsExpr ts r → (p : Plain) → PlainIsLow p → Key keyword.Do ∷ ts ≢ plain_tokens p
+no_do ts r is found (said.Do o es) low e = (subst (ShowsExpr ts) is found) (Operate o es) low (cc)
+no_do ts r is found p low e = cc
+
+pub no_do_atom : (ts : List Meaning) (a : Atom) → ts ≡ atom_token a ∷ [] → (p : Plain) → PlainIsLow p → Key keyword.Do ∷ ts ≢ plain_tokens p
+no_do_atom ts a is (said.Do o es) low e = no_open a [] _ (sym is ∙ behind_do ts _ e)
+no_do_atom ts a is p low e = cc

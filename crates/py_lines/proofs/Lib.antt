@@ -1,14 +1,18 @@
 -- how a line is cut into tokens, and what words spell
 mod Lexing
+pub mod Few
 mod Numbers
 mod Texts
 mod Comments
 -- what readers find, and what they don't
 mod Counts
-mod Finds
 mod Finders
+mod OneAtom
+mod Expressions
+mod Fronts
+mod Searching
+mod Finds
 mod Eachs
-mod Operations
 -- lines by their tokens
 mod Classes
 mod OneToOne

@@ -1,57 +1,27 @@
 -- That no two lines print the same tokens, class by class.
-use Rattle.std.proofs.Common.{◌≡◌, ◌≢◌, ℕ, List, [], ◌∷◌, true, false, refl, sym, ap, ◌∙◌, map, bytes_eq, Some, None, arith}
+use Rattle.std.proofs.Common.{◌≡◌, ◌≢◌, ℕ, List, [], ◌∷◌, true, false, refl, sym, ap, ◌∙◌, map, bytes_eq, Some, None}
 use Rattle.std.specs.Prelude.{Option}
-use Rattle.std.proofs.lemmas.List.{append_cancel_right}
 use Rattle.std.proofs.lemmas.Slice.Eq.{bytes_eq-Decides}
-use Rattle.py_tree.specs.declared.expr.Atom.{Atom}
-use Rattle.py_tree.specs.declared.expr.Atom.TheVariants as atom
-use Rattle.py_tree.specs.declared.expr.Expr.{Expr}
-use Rattle.py_tree.specs.declared.expr.Expr.TheVariants as expr
-use Rattle.py_tree.specs.declared.expr.Operation.{Operation}
-use Rattle.py_tree.specs.declared.expr.Operation.TheVariants as operation
 use Rattle.py_tree.specs.declared.body.BodyKind.TheVariants as body
-use Rattle.py_tree.specs.Tree.{Name}
+use Rattle.py_tree.specs.Tree.{Name, Expr, Operate}
 use Rattle.py_lines.specs.declared.drive.DriveAtom.{DriveAtom}
 use Rattle.py_lines.specs.declared.drive.DriveAtom.TheVariants as drive
 use Rattle.py_lines.specs.declared.drive.DriveLine.{DriveLine}
 use Rattle.py_lines.specs.declared.drive.DriveLine.TheVariants as drive_line
-use Rattle.py_lines.specs.declared.head.Head.{Head}
-use Rattle.py_lines.specs.declared.head.Head.TheVariants as head
 use Rattle.py_lines.specs.declared.head.Turn.{Turn}
 use Rattle.py_lines.specs.declared.head.Turn.TheVariants as turn
 use Rattle.py_lines.specs.declared.header.Header.{Header}
 use Rattle.py_lines.specs.declared.header.Header.TheVariants as header
 use Rattle.py_lines.specs.declared.keyword.Keyword.TheVariants as keyword
-use Rattle.py_lines.specs.declared.line.Line.{Line}
-use Rattle.py_lines.specs.declared.line.Line.TheVariants as line
-use Rattle.py_lines.specs.declared.plain.Plain.{Plain}
-use Rattle.py_lines.specs.declared.plain.Plain.TheVariants as plain
-use Rattle.py_lines.specs.Meaning.{Meaning, Close, Key, Word, Number, Text, Drive}
-use Rattle.py_lines.specs.Printing.{atom_token, drive_token, operation_tokens, in_parentheses, expr_tokens, plain_tokens, head_tokens, target_tokens, turn_tokens, header_tokens, thrown_tokens, drive_tokens, line_tokens}
+use Rattle.py_lines.specs.Line.{Line}
+use Rattle.py_lines.specs.Line as line
+use Rattle.py_lines.specs.Statements.{Plain, Head}
+use Rattle.py_lines.specs.Statements as said
+use Rattle.py_lines.specs.Meaning.{Meaning, Key, Word, Number, Text, Drive}
+use Rattle.py_lines.specs.Printing.{drive_token, expr_tokens, plain_tokens, head_tokens, target_tokens, turn_tokens, header_tokens, thrown_tokens, drive_tokens, line_tokens}
 use Rattle.py_lines.proofs.Classes.{line_class, same_class}
 use Rattle.py_lines.proofs.Counts.{same_count}
-
--- the atom that prints a token
-abbrev pub token_atom : Meaning → Option Atom
-token_atom (Key keyword.None) = Some atom.None
-token_atom (Key keyword.True) = Some (atom.Bool true)
-token_atom (Key keyword.False) = Some (atom.Bool false)
-token_atom (Number n) = Some (atom.Int n)
-token_atom (Text s) = Some (atom.Str s)
-token_atom (Word x) = Some (atom.Name x)
-token_atom t = None
-
-pub atom_back : (a : Atom) → token_atom (atom_token a) ≡ Some a
-atom_back (atom.Bool true) = refl
-atom_back (atom.Bool false) = refl
-atom_back a = refl
-
--- a token that is read back as no atom
-pub no_atom : (t : Meaning) → token_atom t ≡ None → (a : Atom) → t ≢ atom_token a
-no_atom t none a e = let h : None ≡ Some a = sym none ∙ ap token_atom e ∙ atom_back a in cc h
-
-same_atom : (a b : Atom) → atom_token a ≡ atom_token b → a ≡ b
-same_atom a b e = let h : Some a ≡ Some b = sym (atom_back a) ∙ ap token_atom e ∙ atom_back b in cc h
+use Rattle.py_lines.proofs.Expressions.{one_expr}
 
 -- the argument of a drive that prints a token
 abbrev pub token_drive : Meaning → Option DriveAtom
@@ -82,9 +52,6 @@ same_all printing same [] (y ∷ ys) e = cc
 same_all printing same (x ∷ xs) [] e = cc
 same_all printing same (x ∷ xs) (y ∷ ys) e = let h : x ≡ y = same x y (cc) in let t : xs ≡ ys = same_all printing same xs ys (cc) in cc
 
-same_atoms : (xs ys : List Atom) → map atom_token xs ≡ map atom_token ys → xs ≡ ys
-same_atoms = same_all atom_token same_atom
-
 same_names : (xs ys : List Name) → map Word xs ≡ map Word ys → xs ≡ ys
 same_names = same_all Word (λ x y e. cc)
 
@@ -92,37 +59,21 @@ same_names = same_all Word (λ x y e. cc)
 pub other_word : (v w : List ℕ) → bytes_eq v w ≡ false → (ts us : List Meaning) → Word v ∷ ts ≢ Word w ∷ us
 other_word v w other ts us e = let same : v ≡ w = cc in let h : false ≡ true = sym other ∙ (bytes_eq-Decides v w).1 same in cc h
 
-same_operation : (o p : Operation) → operation_tokens o ≡ operation_tokens p → o ≡ p
-same_operation (operation.Add a b) (operation.Add c d) e = let h : a ≡ c = same_atom a c (cc) in let k : b ≡ d = same_atom b d (cc) in cc
-same_operation (operation.Sub a b) (operation.Sub c d) e = let h : a ≡ c = same_atom a c (cc) in let k : b ≡ d = same_atom b d (cc) in cc
-same_operation (operation.Lt a b) (operation.Lt c d) e = let h : a ≡ c = same_atom a c (cc) in let k : b ≡ d = same_atom b d (cc) in cc
-same_operation (operation.Eq a b) (operation.Eq c d) e = let h : a ≡ c = same_atom a c (cc) in let k : b ≡ d = same_atom b d (cc) in cc
-same_operation (operation.Send a b) (operation.Send c d) e = let h : a ≡ c = same_atom a c (cc) in let k : b ≡ d = same_atom b d (cc) in cc
-same_operation (operation.Throw a b) (operation.Throw c d) e = let h : a ≡ c = same_atom a c (cc) in let k : b ≡ d = same_atom b d (cc) in cc
-same_operation (operation.Close a) (operation.Close b) e = let h : a ≡ b = same_atom a b (cc) in cc
-same_operation (operation.Yield a) (operation.Yield b) e = let h : a ≡ b = same_atom a b (cc) in cc
-same_operation (operation.Call f xs) (operation.Call g ys) e = let h : f ≡ g = same_atom f g (cc) in let k : xs ≡ ys = same_atoms xs ys (cc) in cc
-same_operation o p e = absurd (other_word _ _ refl _ _ e)
+-- an expression with nothing behind it
+same_expr : (e f : Expr) → expr_tokens e [] ≡ expr_tokens f [] → e ≡ f
+same_expr e f h = (one_expr e f [] [] h).0
 
-same_within : (ts us : List Meaning) → in_parentheses ts ≡ in_parentheses us → ts ≡ us
-same_within ts us e = append_cancel_right ts us (Close ∷ []) (cc)
-
-no_parenthesis : (a : Atom) (ts : List Meaning) → atom_token a ∷ [] ≢ in_parentheses ts
-no_parenthesis a [] e = cc
-no_parenthesis a (t ∷ ts) e = cc
-
-same_expr : (e f : Expr) → expr_tokens e ≡ expr_tokens f → e ≡ f
-same_expr (expr.Atom a) (expr.Atom b) h = let k : a ≡ b = same_atom a b (cc) in cc
-same_expr (expr.Atom a) (expr.Operation p) h = absurd (no_parenthesis a (operation_tokens p) h)
-same_expr (expr.Operation o) (expr.Atom b) h = absurd (no_parenthesis b (operation_tokens o) (sym h))
-same_expr (expr.Operation o) (expr.Operation p) h = ap expr.Operation (same_operation o p (same_within _ _ h))
-
--- a statement of atoms alone needs no line of its own
 same_plain : (p q : Plain) → plain_tokens p ≡ plain_tokens q → p ≡ q
-same_plain (plain.Assign x e) (plain.Assign y f) h = let k : e ≡ f = same_expr e f (cc) in cc
-same_plain (plain.Do o) (plain.Do p) h = ap plain.Do (same_operation o p (same_within _ _ (cc)))
-same_plain p plain.Pass h = cc
-same_plain p q h = grind (arith, same_atom)
+same_plain (said.Assign x e) (said.Assign y f) h = let k : e ≡ f = same_expr e f (cc) in cc
+same_plain (said.Do o es) (said.Do p fs) h = let k : Operate o es ≡ Operate p fs = same_expr (Operate o es) (Operate p fs) (cc) in cc
+same_plain (said.Show e) (said.Show f) h = ap said.Show (same_expr e f (cc))
+same_plain (said.Return e) (said.Return f) h = ap said.Return (same_expr e f (cc))
+same_plain (said.Raise e) (said.Raise f) h = ap said.Raise (same_expr e f (cc))
+same_plain said.Reraise said.Reraise h = refl
+same_plain said.Break said.Break h = refl
+same_plain said.Continue said.Continue h = refl
+same_plain said.Pass said.Pass h = refl
+same_plain p q h = cc
 
 same_target : (x y : Option Name) → target_tokens x ≡ target_tokens y → x ≡ y
 same_target None None e = refl
@@ -131,9 +82,14 @@ same_target (Some x) None e = cc
 same_target (Some x) (Some y) e = cc
 
 same_head : (h k : Head) → head_tokens h ≡ head_tokens k → h ≡ k
-same_head (head.With a x) (head.With b y) e = let h : a ≡ b = same_atom a b (cc) in let k : x ≡ y = same_target x y (cc) in cc
-same_head h (head.If a) e = grind (arith, same_atom)
-same_head h k e = grind (arith, same_atom)
+same_head (said.If e) (said.If f) h = ap said.If (same_expr e f (cc))
+same_head (said.While e) (said.While f) h = ap said.While (same_expr e f (cc))
+same_head (said.With e x) (said.With f y) h =
+    let (k, behind) = one_expr e f (target_tokens x) (target_tokens y) (cc) in
+    let j : x ≡ y = same_target x y behind in
+    cc
+same_head said.Try said.Try e = refl
+same_head h k e = cc
 
 same_turn : (t u : Turn) → turn_tokens t ≡ turn_tokens u → t ≡ u
 same_turn turn.Else turn.Else e = refl

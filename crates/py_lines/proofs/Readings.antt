@@ -3,13 +3,11 @@ use Rattle.std.proofs.Common.{◌≡◌, ◌≢◌, ℕ, List, [], ◌∷◌, Bo
 use Rattle.std.specs.Prelude.{◌==◌, ◌&&◌, Some, None, option_map, if◌then◌else◌, pos}
 use Rattle.std.proofs.lemmas.Bool.{eqb-true}
 use Rattle.py_code.specs.Range.{in_range}
-use Rattle.py_lines.specs.declared.line.Line.{Line}
-use Rattle.py_lines.specs.declared.line.LineRead.{LineRead}
-use Rattle.py_lines.specs.declared.line.LineRead.TheVariants.{Blank, Said, Malformed}
+use Rattle.py_lines.specs.Line.{Line, LineRead, Blank, Said, Malformed}
 use Rattle.py_lines.specs.Comments.{is_comment, is_utf8}
 use Rattle.py_lines.specs.Meaning.{Unknown, word_meaning, meaning}
 use Rattle.py_lines.specs.Printing.{line_tokens}
-use Rattle.py_lines.specs.Reading.{meanings, are_none, says_nothing, IsReadAs}
+use Rattle.py_lines.specs.Reading.{meanings, are_none, says_nothing, IsReadAs, LineIsLow}
 use Rattle.py_lines.specs.Tokens.{Lexeme, is_blank, cut_from, Between, Inside, tokens_of}
 use Rattle.py_lines.specs.Words.{number_of, passing}
 use Rattle.py_lines.proofs.Classes.{no_class, tokens_class}
@@ -53,7 +51,7 @@ no_comment bytes e = no_class (meanings bytes) (comment_unknown bytes e)
 
 -- a comment that is no UTF-8
 pub bad_comment : (bytes : List ℕ) → is_comment bytes ≡ true → false ≡ is_utf8 bytes → IsReadAs bytes Malformed
-bad_comment bytes e bad = (rw e (sym bad), no_comment bytes e)
+bad_comment bytes e bad = (rw e (sym bad), λ l low. no_comment bytes e l)
 
 -- a line that says nothing has the tokens of no line
 blank_says_none : (bytes : List ℕ) → says_nothing bytes ≡ true → (l : Line) → meanings bytes ≢ line_tokens l
@@ -70,20 +68,20 @@ blank_says_none bytes e l same = go (is_comment bytes) refl
 -- no bytes read in two ways
 pub one_way : (bytes : List ℕ) (r s : LineRead) → IsReadAs bytes r → IsReadAs bytes s → r ≡ s
 one_way bytes Blank Blank h k = refl
-one_way bytes Blank (Said m) h k = absurd (blank_says_none bytes h m k)
+one_way bytes Blank (Said m) h k = absurd (blank_says_none bytes h m k.0)
 one_way bytes Blank Malformed h k = let e : true ≡ false = sym h ∙ k.0 in cc e
-one_way bytes (Said l) Blank h k = absurd (blank_says_none bytes k l h)
-one_way bytes (Said l) (Said m) h k = ap Said (same_line l m (sym h ∙ k))
-one_way bytes (Said l) Malformed h k = absurd (k.1 l h)
+one_way bytes (Said l) Blank h k = absurd (blank_says_none bytes k l h.0)
+one_way bytes (Said l) (Said m) h k = ap Said (same_line l m (sym h.0 ∙ k.0))
+one_way bytes (Said l) Malformed h k = absurd (k.1 l h.1 h.0)
 one_way bytes Malformed Blank h k = let e : true ≡ false = sym k ∙ h.0 in cc e
-one_way bytes Malformed (Said m) h k = absurd (h.1 m k)
+one_way bytes Malformed (Said m) h k = absurd (h.1 m k.1 k.0)
 one_way bytes Malformed Malformed h k = refl
 
 -- all bytes read in some way
 pub some_way : (bytes : List ℕ) → (r : LineRead) × IsReadAs bytes r
 some_way bytes = go (says_nothing bytes) refl (find_line (meanings bytes))
   where
-    go : (p : Bool) → says_nothing bytes ≡ p → Finds line_tokens (meanings bytes) → (r : LineRead) × IsReadAs bytes r
+    go : (p : Bool) → says_nothing bytes ≡ p → Finds (λ (z : (l : Line) × LineIsLow l). line_tokens z.0) (meanings bytes) → (r : LineRead) × IsReadAs bytes r
     go true nothing found = (Blank, nothing)
-    go false something (Found l e) = (Said l, e)
-    go false something (Missing none) = (Malformed, (something, none))
+    go false something (Found z e) = (Said z.0, (e, z.1))
+    go false something (Missing none) = (Malformed, (something, λ l low. none (l, low)))

@@ -1,46 +1,37 @@
 -- What line prints some tokens, or that none does, from the same of its parts.
-use Rattle.std.proofs.Common.{◌≡◌, ◌≢◌, ℕ, List, [], ◌∷◌, ◌++◌, Bool, Some, None, true, false, refl, sym, ap, ◌∙◌, bytes_eq, map}
+use Rattle.std.proofs.Common.{◌≡◌, ◌≢◌, ◌*◌, ℕ, List, [], ◌∷◌, Bool, Some, None, true, false, refl, sym, ap, ◌∙◌, bytes_eq, length, map, arith}
 use Rattle.std.specs.Prelude.{codes, pos}
-use Rattle.std.proofs.lemmas.List.{append_cancel_right}
 use Rattle.std.proofs.lemmas.Slice.Eq.{bytes_eq-Decides}
 use Rattle.py_tree.specs.declared.body.BodyKind.{BodyKind}
 use Rattle.py_tree.specs.declared.body.BodyKind.TheVariants as body
-use Rattle.py_tree.specs.declared.expr.Atom.{Atom}
-use Rattle.py_tree.specs.declared.expr.Atom.TheVariants as atom
-use Rattle.py_tree.specs.declared.expr.Expr.TheVariants as expr
-use Rattle.py_tree.specs.declared.expr.Operation.TheVariants as operation
-use Rattle.py_tree.specs.Tree.{Name}
+use Rattle.py_tree.specs.declared.expr.Operator.{Operator}
+use Rattle.py_tree.specs.Tree.{Name, Expr, Leaf, Operate, Exprs}
 use Rattle.py_lines.specs.declared.drive.DriveAtom.TheVariants as drive
 use Rattle.py_lines.specs.declared.drive.DriveLine.TheVariants as drive_line
-use Rattle.py_lines.specs.declared.head.Head.TheVariants as head
 use Rattle.py_lines.specs.declared.head.Turn.TheVariants as turn
 use Rattle.py_lines.specs.declared.header.Header.TheVariants as header
 use Rattle.py_lines.specs.declared.keyword.Keyword.{Keyword}
 use Rattle.py_lines.specs.declared.keyword.Keyword.TheVariants as keyword
-use Rattle.py_lines.specs.declared.line.Line.TheVariants as line
-use Rattle.py_lines.specs.declared.plain.Plain.TheVariants as plain
+use Rattle.py_lines.specs.Line as line
+use Rattle.py_lines.specs.Line.{Line}
+use Rattle.py_lines.specs.Statements as said
+use Rattle.py_lines.specs.Statements.{Plain, Head}
 use Rattle.py_lines.specs.Keywords.{keyword_of, keyword_text}
-use Rattle.py_lines.specs.Meaning.{Meaning, Open, Close, Equals, Key, Word, Number, Text, Drive, Beyond}
+use Rattle.py_lines.specs.Meaning.{Meaning, Equals, Key, Word, Number, Text, Drive, Beyond}
+use Rattle.py_lines.specs.Reading.{ExprIsLow, HeadIsLow, LineIsLow, PlainIsLow}
 use Rattle.py_lines.specs.Words.{is_short}
-use Rattle.py_lines.specs.Printing.{atom_token, drive_token, number_token, operation_tokens, in_parentheses, expr_tokens, plain_tokens, head_tokens, target_tokens, turn_tokens, body_keyword, header_tokens, thrown_tokens, drive_tokens, line_tokens}
-use Rattle.py_lines.proofs.Finders.{Finds, Found, Missing, or_else, find_within, find_behind, find_nothing, find_both, find_lone, find_all}
+use Rattle.py_lines.specs.Printing.{drive_token, number_token, expr_tokens, plain_tokens, head_tokens, target_tokens, turn_tokens, body_keyword, header_tokens, thrown_tokens, drive_tokens, line_tokens}
+use Rattle.py_lines.proofs.Finders.{Finds, Found, Missing, or_else, find_behind, find_nothing, find_both, find_lone, find_all}
 use Rattle.py_lines.proofs.Finds.{no_line}
 use Rattle.py_lines.proofs.Counts.{no_count, no_other, printed}
-use Rattle.py_lines.proofs.OneToOne.{no_atom, no_drive_atom}
+use Rattle.py_lines.proofs.Expressions.{no_open, one_expr}
+use Rattle.py_lines.proofs.OneToOne.{no_drive_atom}
+use Rattle.py_lines.proofs.Searching.{Front, Is, None_is, front}
 
 -- one token: a name, an atom, an argument of a drive, or the number of one
 find_name : (t : Meaning) → Finds Word t
 find_name (Word x) = Found x refl
 find_name t = Missing λ x e. cc
-
-find_atom : (t : Meaning) → Finds atom_token t
-find_atom (Key keyword.None) = Found atom.None refl
-find_atom (Key keyword.True) = Found (atom.Bool true) refl
-find_atom (Key keyword.False) = Found (atom.Bool false) refl
-find_atom (Number n) = Found (atom.Int n) refl
-find_atom (Text s) = Found (atom.Str s) refl
-find_atom (Word x) = Found (atom.Name x) refl
-find_atom t = Missing (no_atom t refl)
 
 find_argument : (t : Meaning) → Finds drive_token t
 find_argument (Key keyword.None) = Found drive.None refl
@@ -94,91 +85,83 @@ behind_key k (Key j ∷ ts) =
     ]
 behind_key k ts = Missing λ us e. cc
 
--- the tokens in front of a parenthesis that closes
-before_close : (ts : List Meaning) → Finds (λ us. us ++ Close ∷ []) ts
-before_close [] = Missing (elim [ [] ↦ λ e. cc | u ∷ us ↦ λ e. cc ])
-before_close (t ∷ ts) = or_else (before_close ts) (λ us e. Found (t ∷ us) (ap (λ vs. t ∷ vs) e)) (last t ts)
-  where
-    last : (t : Meaning) (ts : List Meaning) → ((us : List Meaning) → ts ≢ us ++ Close ∷ []) → Finds (λ us. us ++ Close ∷ []) (t ∷ ts)
-    last Close [] none = Found [] refl
-    last t ts none = Missing (elim [ [] ↦ λ e. cc | u ∷ us ↦ λ e. none us (cc) ])
-
-find_two : (ts : List Meaning) → Finds (λ (z : Atom × Atom). atom_token z.0 ∷ atom_token z.1 ∷ []) ts
-find_two = find_both find_atom (find_lone find_atom)
-
-find_operation : (ts : List Meaning) → Finds operation_tokens ts
-find_operation ts =
-    or_else (find_behind (behind_word (codes "add") ts) find_two) (λ z. Found (operation.Add z.0 z.1)) λ no_add.
-    or_else (find_behind (behind_word (codes "sub") ts) find_two) (λ z. Found (operation.Sub z.0 z.1)) λ no_sub.
-    or_else (find_behind (behind_word (codes "lt") ts) find_two) (λ z. Found (operation.Lt z.0 z.1)) λ no_lt.
-    or_else (find_behind (behind_word (codes "eq") ts) find_two) (λ z. Found (operation.Eq z.0 z.1)) λ no_eq.
-    or_else (find_behind (behind_word (codes "send") ts) find_two) (λ z. Found (operation.Send z.0 z.1)) λ no_send.
-    or_else (find_behind (behind_word (codes "throw") ts) find_two) (λ z. Found (operation.Throw z.0 z.1)) λ no_throw.
-    or_else (find_behind (behind_word (codes "close") ts) (find_lone find_atom)) (λ a. Found (operation.Close a)) λ no_close.
-    or_else (find_behind (behind_word (codes "yield") ts) (find_lone find_atom)) (λ a. Found (operation.Yield a)) λ no_yield.
-    or_else (find_behind (behind_word (codes "call") ts) (find_both find_atom (find_all find_atom))) (λ z. Found (operation.Call z.0 z.1)) λ no_call.
-    Missing (elim [
-      | operation.Add a b ↦ no_add (a, b)
-      | operation.Sub a b ↦ no_sub (a, b)
-      | operation.Lt a b ↦ no_lt (a, b)
-      | operation.Eq a b ↦ no_eq (a, b)
-      | operation.Send a b ↦ no_send (a, b)
-      | operation.Throw a b ↦ no_throw (a, b)
-      | operation.Close a ↦ no_close a
-      | operation.Yield a ↦ no_yield a
-      | operation.Call f args ↦ no_call (f, args)
-    ])
-
-find_parenthesized : (ts : List Meaning) → Finds (λ o. in_parentheses (operation_tokens o)) ts
-find_parenthesized (Open ∷ ts) = find_behind (Found ts refl) (λ us. find_within (λ a b. append_cancel_right a b (Close ∷ [])) (before_close us) find_operation)
-find_parenthesized ts = Missing λ o e. cc
-
-find_expr : (ts : List Meaning) → Finds expr_tokens ts
-find_expr ts =
-    or_else (find_lone find_atom ts) (λ a. Found (expr.Atom a)) λ no_lone.
-    or_else (find_parenthesized ts) (λ o. Found (expr.Operation o)) λ no_operation.
-    Missing (elim [ expr.Atom a ↦ no_lone a | expr.Operation o ↦ no_operation o ])
-
-find_assigned : (ts : List Meaning) → Finds (λ e. Equals ∷ expr_tokens e) ts
-find_assigned (Equals ∷ ts) = find_behind (Found ts refl) find_expr
-find_assigned ts = Missing λ x e. cc
-
-find_plain : (ts : List Meaning) → Finds plain_tokens ts
-find_plain ts =
-    or_else (find_both find_name find_assigned ts) (λ z. Found (plain.Assign z.0 z.1)) λ no_assign.
-    or_else (find_behind (behind_key keyword.Do ts) find_parenthesized) (λ o. Found (plain.Do o)) λ no_do.
-    or_else (find_behind (behind_key keyword.Show ts) (find_lone find_atom)) (λ a. Found (plain.Show a)) λ no_show.
-    or_else (find_behind (behind_key keyword.Return ts) (find_lone find_atom)) (λ a. Found (plain.Return a)) λ no_return.
-    or_else (find_behind (behind_key keyword.Raise ts) (find_lone find_atom)) (λ a. Found (plain.Raise a)) λ no_raise.
-    or_else (find_behind (behind_key keyword.Reraise ts) find_nothing) (λ x. Found plain.Reraise) λ no_reraise.
-    or_else (find_behind (behind_key keyword.Break ts) find_nothing) (λ x. Found plain.Break) λ no_break.
-    or_else (find_behind (behind_key keyword.Continue ts) find_nothing) (λ x. Found plain.Continue) λ no_continue.
-    or_else (find_behind (behind_key keyword.Pass ts) find_nothing) (λ x. Found plain.Pass) λ no_pass.
-    Missing (elim [
-      | plain.Assign x e ↦ no_assign (x, e)
-      | plain.Do o ↦ no_do o
-      | plain.Show a ↦ no_show a
-      | plain.Return a ↦ no_return a
-      | plain.Raise a ↦ no_raise a
-      | plain.Reraise ↦ no_reraise tt
-      | plain.Break ↦ no_break tt
-      | plain.Continue ↦ no_continue tt
-      | plain.Pass ↦ no_pass tt
-    ])
-
 find_target : (ts : List Meaning) → Finds target_tokens ts
 find_target [] = Found None refl
 find_target (t ∷ ts) =
     or_else (find_behind (behind_word (codes "as") (t ∷ ts)) (find_lone find_name)) (λ x. Found (Some x)) λ no_name.
     Missing (elim [ None ↦ λ e. cc | Some x ↦ no_name x ])
 
-find_head : (ts : List Meaning) → Finds head_tokens ts
+-- ---- expressions, and what has some
+
+-- an expression of which lines may have
+abbrev Low : Type 0
+Low = (e : Expr) × ExprIsLow e
+
+-- the same with what the line has behind it
+find_before : {X : Type 0} (behind : X → List Meaning) → ((ts : List Meaning) → Finds behind ts) → (ts : List Meaning) → Finds (λ (z : Low × X). expr_tokens z.0.0 (behind z.1)) ts
+find_before {X = X} behind find ts = by (front (2 * length ts) 64 ts (omega arith))
+  where
+    by : Front 64 ts → Finds (λ (z : Low × X). expr_tokens z.0.0 (behind z.1)) ts
+    by (Is e rest same low) =
+        or_else (find rest) (λ x is. Found ((e, low), x) (same ∙ ap (expr_tokens e) is)) λ none.
+        Missing λ z is. none z.1 (one_expr e z.0.0 rest (behind z.1) (sym same ∙ is)).1
+    by (None_is none) = Missing λ z. none z.0.0 (behind z.1) z.0.1
+
+find_expr : (ts : List Meaning) → Finds (λ (z : Low). expr_tokens z.0 []) ts
+find_expr ts = or_else (find_before (λ x. []) find_nothing ts) (λ z. Found z.0) λ none. Missing λ z. none (z, tt)
+
+-- an operation
+abbrev LowOperation : Type 0
+LowOperation = (o : Operator) × (es : Exprs) × ExprIsLow (Operate o es)
+
+find_operation : (ts : List Meaning) → Finds (λ (z : LowOperation). expr_tokens (Operate z.0 z.1) []) ts
+find_operation ts = or_else (find_expr ts) by λ none. Missing λ z. none (Operate z.0 z.1, z.2)
+  where
+    by : (z : Low) → ts ≡ expr_tokens z.0 [] → Finds (λ (z : LowOperation). expr_tokens (Operate z.0 z.1) []) ts
+    by (Operate o es, low) same = Found (o, es, low) same
+    by (Leaf a, low) same = Missing λ z is. no_open a [] _ (sym same ∙ is)
+
+find_assigned : (ts : List Meaning) → Finds (λ (z : Low). Equals ∷ expr_tokens z.0 []) ts
+find_assigned (Equals ∷ ts) = find_behind (Found ts refl) find_expr
+find_assigned ts = Missing λ x e. cc
+
+find_plain : (ts : List Meaning) → Finds (λ (z : (p : Plain) × PlainIsLow p). plain_tokens z.0) ts
+find_plain ts =
+    or_else (find_both find_name find_assigned ts) (λ z. Found (said.Assign z.0 z.1.0, z.1.1)) λ no_assign.
+    or_else (find_behind (behind_key keyword.Do ts) find_operation) (λ z. Found (said.Do z.0 z.1, z.2)) λ no_do.
+    or_else (find_behind (behind_key keyword.Show ts) find_expr) (λ z. Found (said.Show z.0, z.1)) λ no_show.
+    or_else (find_behind (behind_key keyword.Return ts) find_expr) (λ z. Found (said.Return z.0, z.1)) λ no_return.
+    or_else (find_behind (behind_key keyword.Raise ts) find_expr) (λ z. Found (said.Raise z.0, z.1)) λ no_raise.
+    or_else (find_behind (behind_key keyword.Reraise ts) find_nothing) (λ x. Found (said.Reraise, tt)) λ no_reraise.
+    or_else (find_behind (behind_key keyword.Break ts) find_nothing) (λ x. Found (said.Break, tt)) λ no_break.
+    or_else (find_behind (behind_key keyword.Continue ts) find_nothing) (λ x. Found (said.Continue, tt)) λ no_continue.
+    or_else (find_behind (behind_key keyword.Pass ts) find_nothing) (λ x. Found (said.Pass, tt)) λ no_pass.
+    let none : (p : Plain) → PlainIsLow p → ts ≢ plain_tokens p = elim [
+      | said.Assign x e ↦ λ low. no_assign (x, (e, low))
+      | said.Do o es ↦ λ low. no_do (o, es, low)
+      | said.Show e ↦ λ low. no_show (e, low)
+      | said.Return e ↦ λ low. no_return (e, low)
+      | said.Raise e ↦ λ low. no_raise (e, low)
+      | said.Reraise ↦ λ low. no_reraise tt
+      | said.Break ↦ λ low. no_break tt
+      | said.Continue ↦ λ low. no_continue tt
+      | said.Pass ↦ λ low. no_pass tt
+    ] in
+    Missing λ z. none z.0 z.1
+
+find_head : (ts : List Meaning) → Finds (λ (z : (h : Head) × HeadIsLow h). head_tokens z.0) ts
 find_head ts =
-    or_else (find_behind (behind_key keyword.If ts) (find_lone find_atom)) (λ a. Found (head.If a)) λ no_if.
-    or_else (find_behind (behind_key keyword.While ts) (find_lone find_atom)) (λ a. Found (head.While a)) λ no_while.
-    or_else (find_behind (behind_key keyword.Try ts) find_nothing) (λ x. Found head.Try) λ no_try.
-    or_else (find_behind (behind_key keyword.With ts) (find_both find_atom find_target)) (λ z. Found (head.With z.0 z.1)) λ no_with.
-    Missing (elim [ head.If a ↦ no_if a | head.While a ↦ no_while a | head.Try ↦ no_try tt | head.With a x ↦ no_with (a, x) ])
+    or_else (find_behind (behind_key keyword.If ts) find_expr) (λ z. Found (said.If z.0, z.1)) λ no_if.
+    or_else (find_behind (behind_key keyword.While ts) find_expr) (λ z. Found (said.While z.0, z.1)) λ no_while.
+    or_else (find_behind (behind_key keyword.Try ts) find_nothing) (λ x. Found (said.Try, tt)) λ no_try.
+    or_else (find_behind (behind_key keyword.With ts) (find_before target_tokens find_target)) (λ z. Found (said.With z.0.0 z.1, z.0.1)) λ no_with.
+    let none : (h : Head) → HeadIsLow h → ts ≢ head_tokens h = elim [
+      | said.If e ↦ λ low. no_if (e, low)
+      | said.While e ↦ λ low. no_while (e, low)
+      | said.Try ↦ λ low. no_try tt
+      | said.With e x ↦ λ low. no_with ((e, low), x)
+    ] in
+    Missing λ z. none z.0 z.1
 
 find_turn : (ts : List Meaning) → Finds turn_tokens ts
 find_turn ts =
@@ -222,12 +205,12 @@ find_drive ts =
       | drive_line.Close n ↦ no_close n
     ])
 
-pub find_line : (ts : List Meaning) → Finds line_tokens ts
+pub find_line : (ts : List Meaning) → Finds (λ (z : (l : Line) × LineIsLow l). line_tokens z.0) ts
 find_line ts =
-    or_else (find_plain ts) (λ p. Found (line.Plain p)) λ no_plain.
-    or_else (find_head ts) (λ h. Found (line.Opens h)) λ no_head.
-    or_else (find_turn ts) (λ t. Found (line.Turns t)) λ no_turn.
-    or_else (find_header ts) (λ h. Found (line.Header h)) λ no_header.
-    or_else (find_drive ts) (λ d. Found (line.Drive d)) λ no_drive.
-    or_else (find_behind (behind_key keyword.End ts) find_nothing) (λ x. Found line.End) λ no_end.
-    Missing (no_line ts no_plain no_head no_turn no_header no_drive (no_end tt))
+    or_else (find_plain ts) (λ z. Found (line.Plain z.0, z.1)) λ no_plain.
+    or_else (find_head ts) (λ z. Found (line.Opens z.0, z.1)) λ no_head.
+    or_else (find_turn ts) (λ t. Found (line.Turns t, tt)) λ no_turn.
+    or_else (find_header ts) (λ h. Found (line.Header h, tt)) λ no_header.
+    or_else (find_drive ts) (λ d. Found (line.Drive d, tt)) λ no_drive.
+    or_else (find_behind (behind_key keyword.End ts) find_nothing) (λ x. Found (line.End, tt)) λ no_end.
+    Missing (λ z. no_line ts (λ p low. no_plain (p, low)) (λ h low. no_head (h, low)) no_turn no_header no_drive (no_end tt) z.0 z.1)

@@ -9,33 +9,25 @@ use Rattle.std.proofs.lemmas.Slice.Eq.{bytes_eq-Decides}
 use Rattle.std.proofs.lemmas.Str.{IsUtf8-from_ascii, IsUtf8-from_is_utf8}
 use Rattle.py_tree.specs.declared.expr.Atom.{Atom}
 use Rattle.py_tree.specs.declared.expr.Atom.TheVariants as atom
-use Rattle.py_tree.specs.declared.expr.Expr.{Expr}
-use Rattle.py_tree.specs.declared.expr.Expr.TheVariants as expr
-use Rattle.py_tree.specs.declared.expr.Operation.{Operation}
-use Rattle.py_tree.specs.declared.expr.Operation.TheVariants as operation
-use Rattle.py_tree.specs.Tree.{Name}
+use Rattle.py_tree.specs.Tree.{Name, Expr, Leaf, Operate, Exprs, no_operands, operand}
 use Rattle.py_lines.specs.declared.drive.DriveAtom.{DriveAtom}
 use Rattle.py_lines.specs.declared.drive.DriveAtom.TheVariants as argument
 use Rattle.py_lines.specs.declared.drive.DriveLine.{DriveLine}
 use Rattle.py_lines.specs.declared.drive.DriveLine.TheVariants as drive
-use Rattle.py_lines.specs.declared.head.Head.{Head}
-use Rattle.py_lines.specs.declared.head.Head.TheVariants as head
 use Rattle.py_lines.specs.declared.head.Turn.{Turn}
 use Rattle.py_lines.specs.declared.head.Turn.TheVariants as turn
 use Rattle.py_lines.specs.declared.header.Header.{Header}
 use Rattle.py_lines.specs.declared.header.Header.TheVariants as header
 use Rattle.py_lines.specs.declared.keyword.Keyword.{Keyword}
-use Rattle.py_lines.specs.declared.line.Line.{Line}
-use Rattle.py_lines.specs.declared.line.Line.TheVariants as line
-use Rattle.py_lines.specs.declared.line.LineRead.{LineRead}
-use Rattle.py_lines.specs.declared.line.LineRead.TheVariants.{Blank, Said, Malformed}
-use Rattle.py_lines.specs.declared.plain.Plain.{Plain}
-use Rattle.py_lines.specs.declared.plain.Plain.TheVariants as plain
+use Rattle.py_lines.specs.Line.{Line, LineRead, Blank, Said, Malformed}
+use Rattle.py_lines.specs.Line as line
+use Rattle.py_lines.specs.Statements.{Plain, Head}
+use Rattle.py_lines.specs.Statements as said
 use Rattle.py_code.specs.Range.{in_range}
 use Rattle.py_lines.specs.Comments.{is_comment, is_utf8}
 use Rattle.py_lines.specs.Keywords.{keyword_of, keyword_text, all_keywords}
-use Rattle.py_lines.specs.Meaning.{Meaning, Key, Number, Text, Drive, Unknown, Word as Named, literal_meaning, word_meaning, meaning, meant}
-use Rattle.py_lines.specs.Printing.{atom_token, drive_token, number_token, operation_tokens, in_parentheses, expr_tokens, plain_tokens, target_tokens, head_tokens, turn_tokens, header_tokens, thrown_tokens, drive_tokens, line_tokens}
+use Rattle.py_lines.specs.Meaning.{Meaning, Close as Closes, Key, Number, Text, Drive, Unknown, Word as Named, literal_meaning, word_meaning, meaning, meant}
+use Rattle.py_lines.specs.Printing.{atom_token, drive_token, number_token, expr_tokens, exprs_tokens, plain_tokens, target_tokens, head_tokens, turn_tokens, header_tokens, thrown_tokens, drive_tokens, line_tokens}
 use Rattle.py_lines.specs.Reading.{IsReadAs, are_none}
 use Rattle.py_lines.specs.Tokens.{Lexeme, Word, Open, Close, Equals, is_blank, is_mark, is_quote, mark_of, cut_from, Between, Quoted, Inside, tokens_of, word_end, started, longer}
 use Rattle.py_lines.specs.Words.{between, is_digit, is_short, value_of, starts_name, continues_name, is_spelled_as_name, are_digits, digits_number, passing, signed_number, number_of, short_number, drive_number, stands_in_text, closed_text, quoted_text}
@@ -264,10 +256,6 @@ AllKnown ts = list_all is_known ts ≡ true
 known_and : (t : Meaning) (ts : List Meaning) → is_known t ≡ true → AllKnown ts → AllKnown (t ∷ ts)
 known_and t ts h k = ap (λ b. b && list_all is_known ts) h ∙ k
 
-known_append : (xs ys : List Meaning) → AllKnown xs → AllKnown ys → AllKnown (xs ++ ys)
-known_append [] ys h k = k
-known_append (x ∷ xs) ys h k = let (here, more) = and_parts (is_known x) _ h in known_and x (xs ++ ys) here (known_append xs ys more k)
-
 known_map : {X : Type 0} (f : X → Meaning) → ((x : X) → is_known (f x) ≡ true) → (xs : List X) → AllKnown (map f xs)
 known_map f h [] = refl
 known_map f h (x ∷ xs) = known_and (f x) (map f xs) (h x) (known_map f h xs)
@@ -282,36 +270,21 @@ argument_known (argument.Bool true) = refl
 argument_known (argument.Bool false) = refl
 argument_known _ = refl
 
-one_known : (a : Atom) → AllKnown (atom_token a ∷ [])
-one_known a = known_and (atom_token a) [] (atom_known a) refl
+mutual
+  expr_known : (e : Expr) (behind : List Meaning) → AllKnown behind → AllKnown (expr_tokens e behind)
+  expr_known (Leaf a) behind h = known_and (atom_token a) behind (atom_known a) h
+  expr_known (Operate o es) behind h = exprs_known es (Closes ∷ behind) h
 
-two_known : (a b : Atom) → AllKnown (atom_token a ∷ atom_token b ∷ [])
-two_known a b = known_and (atom_token a) (atom_token b ∷ []) (atom_known a) (one_known b)
-
-operation_known : (o : Operation) → AllKnown (operation_tokens o)
-operation_known (operation.Add a b) = two_known a b
-operation_known (operation.Sub a b) = two_known a b
-operation_known (operation.Lt a b) = two_known a b
-operation_known (operation.Eq a b) = two_known a b
-operation_known (operation.Send a b) = two_known a b
-operation_known (operation.Throw a b) = two_known a b
-operation_known (operation.Close a) = one_known a
-operation_known (operation.Yield a) = one_known a
-operation_known (operation.Call f args) = known_and (atom_token f) (map atom_token args) (atom_known f) (known_map atom_token atom_known args)
-
-enclosed_known : (ts : List Meaning) → AllKnown ts → AllKnown (in_parentheses ts)
-enclosed_known ts h = known_append ts _ h refl
-
-expr_known : (e : Expr) → AllKnown (expr_tokens e)
-expr_known (expr.Atom a) = one_known a
-expr_known (expr.Operation o) = enclosed_known (operation_tokens o) (operation_known o)
+  exprs_known : (es : Exprs) (behind : List Meaning) → AllKnown behind → AllKnown (exprs_tokens es behind)
+  exprs_known no_operands behind h = h
+  exprs_known (operand e es) behind h = expr_known e (exprs_tokens es behind) (exprs_known es behind h)
 
 plain_known : (p : Plain) → AllKnown (plain_tokens p)
-plain_known (plain.Assign x e) = expr_known e
-plain_known (plain.Do o) = enclosed_known (operation_tokens o) (operation_known o)
-plain_known (plain.Show a) = one_known a
-plain_known (plain.Return a) = one_known a
-plain_known (plain.Raise a) = one_known a
+plain_known (said.Assign x e) = expr_known e [] refl
+plain_known (said.Do o es) = expr_known (Operate o es) [] refl
+plain_known (said.Show e) = expr_known e [] refl
+plain_known (said.Return e) = expr_known e [] refl
+plain_known (said.Raise e) = expr_known e [] refl
 plain_known _ = refl
 
 target_known : (x : Option Name) → AllKnown (target_tokens x)
@@ -319,10 +292,10 @@ target_known None = refl
 target_known (Some x) = refl
 
 head_known : (h : Head) → AllKnown (head_tokens h)
-head_known (head.If a) = one_known a
-head_known (head.While a) = one_known a
-head_known head.Try = refl
-head_known (head.With a x) = known_and (atom_token a) (target_tokens x) (atom_known a) (target_known x)
+head_known (said.If e) = expr_known e [] refl
+head_known (said.While e) = expr_known e [] refl
+head_known said.Try = refl
+head_known (said.With e x) = expr_known e (target_tokens x) (target_known x)
 
 turn_known : (t : Turn) → AllKnown (turn_tokens t)
 turn_known turn.Else = refl
@@ -379,7 +352,7 @@ tested bs h = let whole : utf8_valid_len bs ≡ length bs = eqb-true _ _ h in su
 -- each line that is read is UTF-8
 pub line_is_utf8 : (bytes : List ℕ) (read : LineRead) → IsReadAs bytes read → (read ≡ Malformed → ⊥) → IsUtf8 bytes
 line_is_utf8 bytes Malformed is good = absurd (good refl)
-line_is_utf8 bytes (Said l) is good = IsUtf8-from_ascii bytes (lows_ascii bytes (between_lows bytes (lexemes_low (tokens_of bytes) (ap (list_all is_known) is ∙ line_known l))))
+line_is_utf8 bytes (Said l) is good = IsUtf8-from_ascii bytes (lows_ascii bytes (between_lows bytes (lexemes_low (tokens_of bytes) (ap (list_all is_known) is.0 ∙ line_known l))))
 line_is_utf8 bytes Blank is good = go (is_comment bytes) is
   where
     empty : (ts : List Lexeme) → are_none ts ≡ true → LexemesLow ts

@@ -2,9 +2,7 @@
 use Rattle.std.specs.Prelude.{◌≡◌, ◌≢◌, ℕ, List, Some}
 use Rattle.std.specs.Str.{IsUtf8}
 use Rattle.py_lines.specs.declared.keyword.Keyword.{Keyword}
-use Rattle.py_lines.specs.declared.line.Line.{Line}
-use Rattle.py_lines.specs.declared.line.LineRead.{LineRead}
-use Rattle.py_lines.specs.declared.line.LineRead.TheVariants.{Malformed}
+use Rattle.py_lines.specs.Line.{Line, LineRead, Malformed}
 use Rattle.py_lines.specs.Keywords.{keyword_of, keyword_text}
 use Rattle.py_lines.specs.Printing.{line_tokens}
 use Rattle.py_lines.specs.Reading.{IsReadAs}

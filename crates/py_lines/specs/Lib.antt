@@ -1,4 +1,7 @@
 -- what a line says
+pub mod Statements
+pub mod Line
+pub mod Views
 pub mod Reading
 pub mod Printing
 pub mod Meaning

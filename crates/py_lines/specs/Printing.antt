@@ -1,30 +1,26 @@
 -- The tokens that a line prints.
-use Rattle.std.specs.Prelude.{ℕ, List, [], ◌∷◌, ◌++◌, true, false, Option, Some, None, codes, map, pos, if◌then◌else◌}
+use Rattle.std.specs.Prelude.{ℕ, List, [], ◌∷◌, true, false, Option, Some, None, codes, map, pos, if◌then◌else◌}
 use Rattle.py_tree.specs.declared.body.BodyKind.{BodyKind}
 use Rattle.py_tree.specs.declared.body.BodyKind.TheVariants as body
 use Rattle.py_tree.specs.declared.expr.Atom.{Atom}
 use Rattle.py_tree.specs.declared.expr.Atom.TheVariants as atom
-use Rattle.py_tree.specs.declared.expr.Expr.{Expr}
-use Rattle.py_tree.specs.declared.expr.Expr.TheVariants as expr
-use Rattle.py_tree.specs.declared.expr.Operation.{Operation}
-use Rattle.py_tree.specs.declared.expr.Operation.TheVariants as operation
-use Rattle.py_tree.specs.Tree.{Name}
+use Rattle.py_tree.specs.declared.expr.Operator.{Operator}
+use Rattle.py_tree.specs.declared.expr.Operator.TheVariants as operator
+use Rattle.py_tree.specs.Tree.{Name, Expr, Leaf, Operate, Exprs, no_operands, operand}
 use Rattle.py_lines.specs.declared.drive.DriveAtom.{DriveAtom}
 use Rattle.py_lines.specs.declared.drive.DriveAtom.TheVariants as drive
 use Rattle.py_lines.specs.declared.drive.DriveLine.{DriveLine}
 use Rattle.py_lines.specs.declared.drive.DriveLine.TheVariants as drive_line
-use Rattle.py_lines.specs.declared.head.Head.{Head}
-use Rattle.py_lines.specs.declared.head.Head.TheVariants as head
 use Rattle.py_lines.specs.declared.head.Turn.{Turn}
 use Rattle.py_lines.specs.declared.head.Turn.TheVariants as turn
 use Rattle.py_lines.specs.declared.header.Header.{Header}
 use Rattle.py_lines.specs.declared.header.Header.TheVariants as header
 use Rattle.py_lines.specs.declared.keyword.Keyword.{Keyword}
 use Rattle.py_lines.specs.declared.keyword.Keyword.TheVariants as keyword
-use Rattle.py_lines.specs.declared.line.Line.{Line}
-use Rattle.py_lines.specs.declared.line.Line.TheVariants as line
-use Rattle.py_lines.specs.declared.plain.Plain.{Plain}
-use Rattle.py_lines.specs.declared.plain.Plain.TheVariants as plain
+use Rattle.py_lines.specs.Statements.{Plain, Head}
+use Rattle.py_lines.specs.Statements as said
+use Rattle.py_lines.specs.Line.{Line}
+use Rattle.py_lines.specs.Line as line
 use Rattle.py_lines.specs.Meaning.{Meaning, Open, Close, Equals, Key, Word, Number, Text, Drive, Beyond}
 use Rattle.py_lines.specs.Words.{is_short}
 
@@ -51,34 +47,37 @@ drive_token (drive.Drive n) = Drive n
 abbrev pub number_token : ℕ → Meaning
 number_token n = if is_short n then Number (pos n) else Beyond n
 
-abbrev pub operation_tokens : Operation → List Meaning
-operation_tokens (operation.Add a b) = Word (codes "add") ∷ atom_token a ∷ atom_token b ∷ []
-operation_tokens (operation.Sub a b) = Word (codes "sub") ∷ atom_token a ∷ atom_token b ∷ []
-operation_tokens (operation.Lt a b) = Word (codes "lt") ∷ atom_token a ∷ atom_token b ∷ []
-operation_tokens (operation.Eq a b) = Word (codes "eq") ∷ atom_token a ∷ atom_token b ∷ []
-operation_tokens (operation.Send a b) = Word (codes "send") ∷ atom_token a ∷ atom_token b ∷ []
-operation_tokens (operation.Throw a b) = Word (codes "throw") ∷ atom_token a ∷ atom_token b ∷ []
-operation_tokens (operation.Close a) = Word (codes "close") ∷ atom_token a ∷ []
-operation_tokens (operation.Yield a) = Word (codes "yield") ∷ atom_token a ∷ []
-operation_tokens (operation.Call f args) = Word (codes "call") ∷ atom_token f ∷ map atom_token args
+abbrev pub operator_word : Operator → List ℕ
+operator_word operator.Add = codes "add"
+operator_word operator.Sub = codes "sub"
+operator_word operator.Lt = codes "lt"
+operator_word operator.Eq = codes "eq"
+operator_word operator.Send = codes "send"
+operator_word operator.Throw = codes "throw"
+operator_word operator.Close = codes "close"
+operator_word operator.Yield = codes "yield"
+operator_word operator.Call = codes "call"
 
-abbrev pub in_parentheses : List Meaning → List Meaning
-in_parentheses ts = Open ∷ (ts ++ Close ∷ [])
+abbrev mutual
+  -- an expression in front of other tokens
+  pub expr_tokens : Expr → List Meaning → List Meaning
+  expr_tokens (Leaf a) behind = atom_token a ∷ behind
+  expr_tokens (Operate o es) behind = Open ∷ Word (operator_word o) ∷ exprs_tokens es (Close ∷ behind)
 
-abbrev pub expr_tokens : Expr → List Meaning
-expr_tokens (expr.Atom a) = atom_token a ∷ []
-expr_tokens (expr.Operation o) = in_parentheses (operation_tokens o)
+  pub exprs_tokens : Exprs → List Meaning → List Meaning
+  exprs_tokens no_operands behind = behind
+  exprs_tokens (operand e es) behind = expr_tokens e (exprs_tokens es behind)
 
 abbrev pub plain_tokens : Plain → List Meaning
-plain_tokens (plain.Assign x e) = Word x ∷ Equals ∷ expr_tokens e
-plain_tokens (plain.Do o) = Key keyword.Do ∷ in_parentheses (operation_tokens o)
-plain_tokens (plain.Show a) = Key keyword.Show ∷ atom_token a ∷ []
-plain_tokens (plain.Return a) = Key keyword.Return ∷ atom_token a ∷ []
-plain_tokens (plain.Raise a) = Key keyword.Raise ∷ atom_token a ∷ []
-plain_tokens plain.Reraise = Key keyword.Reraise ∷ []
-plain_tokens plain.Break = Key keyword.Break ∷ []
-plain_tokens plain.Continue = Key keyword.Continue ∷ []
-plain_tokens plain.Pass = Key keyword.Pass ∷ []
+plain_tokens (said.Assign x e) = Word x ∷ Equals ∷ expr_tokens e []
+plain_tokens (said.Do o es) = Key keyword.Do ∷ expr_tokens (Operate o es) []
+plain_tokens (said.Show e) = Key keyword.Show ∷ expr_tokens e []
+plain_tokens (said.Return e) = Key keyword.Return ∷ expr_tokens e []
+plain_tokens (said.Raise e) = Key keyword.Raise ∷ expr_tokens e []
+plain_tokens said.Reraise = Key keyword.Reraise ∷ []
+plain_tokens said.Break = Key keyword.Break ∷ []
+plain_tokens said.Continue = Key keyword.Continue ∷ []
+plain_tokens said.Pass = Key keyword.Pass ∷ []
 
 -- the name that a clause or a `with` binds, behind `as`, which is a name too
 abbrev pub target_tokens : Option Name → List Meaning
@@ -86,10 +85,10 @@ target_tokens None = []
 target_tokens (Some x) = Word (codes "as") ∷ Word x ∷ []
 
 abbrev pub head_tokens : Head → List Meaning
-head_tokens (head.If a) = Key keyword.If ∷ atom_token a ∷ []
-head_tokens (head.While a) = Key keyword.While ∷ atom_token a ∷ []
-head_tokens head.Try = Key keyword.Try ∷ []
-head_tokens (head.With a x) = Key keyword.With ∷ atom_token a ∷ target_tokens x
+head_tokens (said.If e) = Key keyword.If ∷ expr_tokens e []
+head_tokens (said.While e) = Key keyword.While ∷ expr_tokens e []
+head_tokens said.Try = Key keyword.Try ∷ []
+head_tokens (said.With e x) = Key keyword.With ∷ expr_tokens e (target_tokens x)
 
 abbrev pub turn_tokens : Turn → List Meaning
 turn_tokens turn.Else = Key keyword.Else ∷ []

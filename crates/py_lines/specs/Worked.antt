@@ -2,21 +2,20 @@
 use Rattle.std.specs.Prelude.{[], ◌∷◌, Some, None, true, codes, pos, neg_ℤ}
 use Rattle.py_tree.specs.declared.body.BodyKind.TheVariants as body
 use Rattle.py_tree.specs.declared.expr.Atom.TheVariants as atom
-use Rattle.py_tree.specs.declared.expr.Expr.TheVariants as expr
-use Rattle.py_tree.specs.declared.expr.Operation.TheVariants as operation
+use Rattle.py_tree.specs.declared.expr.Operator.TheVariants as operator
+use Rattle.py_tree.specs.Tree.{Leaf, Operate, no_operands, operand}
 use Rattle.py_lines.specs.declared.drive.DriveAtom.TheVariants as drive
 use Rattle.py_lines.specs.declared.drive.DriveLine.TheVariants as drive_line
-use Rattle.py_lines.specs.declared.head.Head.TheVariants as head
 use Rattle.py_lines.specs.declared.head.Turn.TheVariants as turn
 use Rattle.py_lines.specs.declared.header.Header.TheVariants as header
-use Rattle.py_lines.specs.declared.line.Line.TheVariants as line
-use Rattle.py_lines.specs.declared.line.LineRead.TheVariants.{Blank, Said, Malformed}
-use Rattle.py_lines.specs.declared.plain.Plain.TheVariants as plain
+use Rattle.py_lines.specs.Line as line
+use Rattle.py_lines.specs.Line.{Blank, Said, Malformed}
+use Rattle.py_lines.specs.Statements as said
 use Rattle.py_lines.specs.Reading.{IsReadAs}
 
 -- in front of `=` an operator's word is a name; a number keeps its sign, and may begin with zeros
 abbrev pub CallIsAName : Type 0
-CallIsAName = IsReadAs (codes "  call=(sub 007 -2) ") (Said (line.Plain (plain.Assign (codes "call") (expr.Operation (operation.Sub (atom.Int (pos 7)) (atom.Int (neg_ℤ (pos 2))))))))
+CallIsAName = IsReadAs (codes "  call=(sub 007 -2) ") (Said (line.Plain (said.Assign (codes "call") (Operate operator.Sub (operand (Leaf (atom.Int (pos 7))) (operand (Leaf (atom.Int (neg_ℤ (pos 2)))) no_operands))))))
 
 -- else `call` begins a drive
 abbrev pub CallIsADrive : Type 0
@@ -31,7 +30,7 @@ abbrev pub YieldIsAName : Type 0
 YieldIsAName = IsReadAs (codes "gen yield next") (Said (line.Header (header.Def body.Generator (codes "yield") (codes "next" ∷ []))))
 
 abbrev pub CloseIsAName : Type 0
-CloseIsAName = IsReadAs (codes "close = (yield close)") (Said (line.Plain (plain.Assign (codes "close") (expr.Operation (operation.Yield (atom.Name (codes "close")))))))
+CloseIsAName = IsReadAs (codes "close = (yield close)") (Said (line.Plain (said.Assign (codes "close") (Operate operator.Yield (operand (Leaf (atom.Name (codes "close"))) no_operands)))))
 
 -- else it begins a drive; the number of a drive may begin with zeros, and whether there is such a drive the grammar says
 abbrev pub ThrowIsADrive : Type 0
@@ -50,11 +49,11 @@ AsIsAName = IsReadAs (codes "except as as as") (Said (line.Turns (turn.Except (c
 
 -- and of a manager
 abbrev pub WithAs : Type 0
-WithAs = IsReadAs (codes "with as as as") (Said (line.Opens (head.With (atom.Name (codes "as")) (Some (codes "as")))))
+WithAs = IsReadAs (codes "with as as as") (Said (line.Opens (said.With (Leaf (atom.Name (codes "as"))) (Some (codes "as")))))
 
--- what stands behind `with` is any atom; whether it is a manager is seen when the line runs
+-- what stands behind `with` is any expression; whether it gives a manager is seen when the line runs
 abbrev pub WithNone : Type 0
-WithNone = IsReadAs (codes "with None") (Said (line.Opens (head.With atom.None None)))
+WithNone = IsReadAs (codes "with None") (Said (line.Opens (said.With (Leaf atom.None) None)))
 
 -- a name stands behind its `as`
 abbrev pub NoNameBehindAs : Type 0
@@ -90,3 +89,20 @@ NoCountBeyond = IsReadAs (codes "next 18446744073709551616") Malformed
 -- blanks alone say nothing
 abbrev pub NothingIsBlank : Type 0
 NothingIsBlank = IsReadAs (codes "  ") Blank
+
+-- an operand is an expression, too
+abbrev pub CallOfSums : Type 0
+CallOfSums =
+    IsReadAs (codes "return (add (call f n) 1)")
+    (Said (line.Plain (said.Return
+    (Operate operator.Add (operand (Operate operator.Call (operand (Leaf (atom.Name (codes "f"))) (operand (Leaf (atom.Name (codes "n"))) no_operands))) (operand (Leaf (atom.Int (pos 1))) no_operands))))))
+
+-- parentheses hold an operator, and close
+abbrev pub NothingInParentheses : Type 0
+NothingInParentheses = IsReadAs (codes "show ()") Malformed
+
+abbrev pub NoCloseAtTheEnd : Type 0
+NoCloseAtTheEnd = IsReadAs (codes "show (add 1 2") Malformed
+
+abbrev pub NoOperatorOfThisName : Type 0
+NoOperatorOfThisName = IsReadAs (codes "show (f 1)") Malformed

@@ -9,7 +9,7 @@ ghost use Rattle.py_lines.specs.Printing.{atom_token};
 use crate::keyword::Keyword;
 use crate::meaning::Sense;
 use py_code::{NoMemory, PyText, text_of};
-use py_tree::{Atom, AtomList, ParamList};
+use py_tree::{Atom, ParamList};
 use std::alloc::Global;
 
 /// The constant that a keyword is.
@@ -54,17 +54,6 @@ pub fn alone<T: Drop>(found: T, tokens: &[Sense<'_>]) -> Option<T>
     if tokens.is_empty() { Some(found) } else { None }
 }
 
-/// The atom that is the only token.
-pub fn lone_atom(alloc: Global, tokens: &[Sense<'_>]) -> Result<Option<Atom>, NoMemory>
-    ensures { IfOk result (Reads (λ a. atom_token a ∷ []) tokens.now) }
-{
-    match tokens {
-        [] => Ok(None),
-        [atom] => atom_of(alloc, atom),
-        [_, _, ..] => Ok(None),
-    }
-}
-
 /// The name that is the only token.
 pub fn lone_name(alloc: Global, tokens: &[Sense<'_>]) -> Result<Option<PyText>, NoMemory>
     ensures { IfOk result (Reads (λ x. Word x ∷ []) tokens.now) }
@@ -74,20 +63,6 @@ pub fn lone_name(alloc: Global, tokens: &[Sense<'_>]) -> Result<Option<PyText>, 
         [name] => name_of(alloc, name),
         [_, _, ..] => Ok(None),
     }
-}
-
-/// The atoms that all the tokens are.
-pub fn atoms_of(alloc: Global, tokens: &[Sense<'_>]) -> Result<Option<AtomList>, NoMemory>
-    ensures { IfOk result (Reads (map atom_token) tokens.now) }
-{
-    let mut atoms = AtomList::new(alloc);
-    for token in tokens {
-        match atom_of(alloc, token)? {
-            Some(atom) => atoms.push(atom)?,
-            None => return Ok(None),
-        }
-    }
-    Ok(Some(atoms))
 }
 
 /// The names that all the tokens are.
@@ -102,41 +77,6 @@ pub fn names_of(alloc: Global, tokens: &[Sense<'_>]) -> Result<Option<ParamList>
         }
     }
     Ok(Some(names))
-}
-
-/// The two atoms that are the only tokens.
-pub fn two_atoms(alloc: Global, tokens: &[Sense<'_>]) -> Result<Option<(Atom, Atom)>, NoMemory>
-    ensures { IfOk result (Reads (λ p. atom_token p.0 ∷ atom_token p.1 ∷ []) tokens.now) }
-{
-    let Some((left, rest)) = tokens.split_first() else {
-        return Ok(None);
-    };
-    let Some(left) = atom_of(alloc, left)? else {
-        return Ok(None);
-    };
-    let Some(right) = lone_atom(alloc, rest)? else {
-        return Ok(None);
-    };
-    Ok(Some((left, right)))
-}
-
-/// An atom, and the atoms behind it.
-pub fn atom_and_atoms(
-    alloc: Global,
-    tokens: &[Sense<'_>],
-) -> Result<Option<(Atom, AtomList)>, NoMemory>
-    ensures { IfOk result (Reads (λ p. atom_token p.0 ∷ map atom_token p.1) tokens.now) }
-{
-    let Some((first, rest)) = tokens.split_first() else {
-        return Ok(None);
-    };
-    let Some(first) = atom_of(alloc, first)? else {
-        return Ok(None);
-    };
-    let Some(atoms) = atoms_of(alloc, rest)? else {
-        return Ok(None);
-    };
-    Ok(Some((first, atoms)))
 }
 
 /// A name, and the names behind it.

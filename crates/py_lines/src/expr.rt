@@ -1,120 +1,160 @@
-//! Operations and expressions, by what the tokens mean that print them.
+//! Expressions, by what the tokens mean that print them.
 
-ghost use Rattle.std.specs.Prelude.{IfOk, codes};
-ghost use Rattle.py_lines.specs.Finding.{Reads, ReadsAfter};
-ghost use Rattle.py_lines.specs.Meaning.{Word};
-ghost use Rattle.py_lines.specs.Printing.{expr_tokens, in_parentheses, operation_tokens};
+ghost use Rattle.std.specs.Prelude.{◌≡◌, ◌≤◌, ◌∷◌, IfOk, drop, length, map};
+ghost use Rattle.py_lines.specs.Finding.{begins_closed, FindsFront, FindsOperands, IsOperator, ShowsExpr};
+ghost use Rattle.py_lines.specs.Meaning.{Open};
+ghost use Rattle.py_lines.specs.Senses.{meaning_of};
 
-use crate::atoms::{atom_and_atoms, lone_atom, two_atoms};
+use crate::atoms::atom_of;
 use crate::meaning::Sense;
 use py_code::NoMemory;
-use py_tree::{Expr, Operation};
+use py_tree::{Expr, ExprList, Operator};
 use std::alloc::Global;
 
-/// The call that the operands of a `call` make.
-fn call_of(alloc: Global, operands: &[Sense<'_>]) -> Result<Option<Operation>, NoMemory>
-    ensures { IfOk result (ReadsAfter (Word (codes "call")) operation_tokens operands.now) }
+/// The most operators that may stand inside of one another.
+const MOST_DEEP: u32 = 64;
+
+/// The operator that a word is.
+fn operator_of(word: &[u8]) -> Option<Operator>
+    ensures { IsOperator word.now result }
 {
-    let Some((callee, args)) = atom_and_atoms(alloc, operands)? else {
-        return Ok(None);
-    };
-    Ok(Some(Operation::Call(callee, args)))
+    if word == b"add".as_slice() {
+        return Some(Operator::Add);
+    }
+    if word == b"sub".as_slice() {
+        return Some(Operator::Sub);
+    }
+    if word == b"lt".as_slice() {
+        return Some(Operator::Lt);
+    }
+    if word == b"eq".as_slice() {
+        return Some(Operator::Eq);
+    }
+    if word == b"send".as_slice() {
+        return Some(Operator::Send);
+    }
+    if word == b"throw".as_slice() {
+        return Some(Operator::Throw);
+    }
+    if word == b"close".as_slice() {
+        return Some(Operator::Close);
+    }
+    if word == b"yield".as_slice() {
+        return Some(Operator::Yield);
+    }
+    if word == b"call".as_slice() {
+        return Some(Operator::Call);
+    }
+    None
 }
 
-/// The closing of a generator that the operand of a `close` names.
-fn close_of(alloc: Global, operands: &[Sense<'_>]) -> Result<Option<Operation>, NoMemory>
-    ensures { IfOk result (ReadsAfter (Word (codes "close")) operation_tokens operands.now) }
+/// The tokens from a place on.
+pub fn from<'a, 'b>(tokens: &'b [Sense<'a>], at: usize) -> &'b [Sense<'a>]
+    requires { at ≤ length tokens.now }
+    ensures { result.now ≡ drop at tokens.now }
 {
-    Ok(lone_atom(alloc, operands)?.map(Operation::Close))
+    &tokens[at..]
 }
 
-/// The yield of what the operand of a `yield` names.
-fn yield_of(alloc: Global, operands: &[Sense<'_>]) -> Result<Option<Operation>, NoMemory>
-    ensures { IfOk result (ReadsAfter (Word (codes "yield")) operation_tokens operands.now) }
+/// Whether a parenthesis that closes stands in front.
+fn closes(tokens: &[Sense<'_>]) -> bool
+    ensures { result ≡ begins_closed (map meaning_of tokens.now) }
 {
-    Ok(lone_atom(alloc, operands)?.map(Operation::Yield))
+    match tokens {
+        [Sense::Close, ..] => true,
+        _ => false,
+    }
 }
 
-/// The operation whose operator is this word, with these tokens behind it.
-fn operation_by(
+/// The expression that stands in front, with at most so many operators inside of one another, and how many tokens it is.
+#[cycle(read)]
+pub fn front_expr(
     alloc: Global,
-    operator: &[u8],
-    operands: &[Sense<'_>],
-) -> Result<Option<Operation>, NoMemory>
-    ensures { IfOk result (ReadsAfter (Word operator.now) operation_tokens operands.now) }
+    tokens: &[Sense<'_>],
+    room: u32,
+) -> Result<Option<(Expr, usize)>, NoMemory>
+    ensures { IfOk result (FindsFront room (map meaning_of tokens.now)) }
 {
-    if operator == b"call".as_slice() {
-        return call_of(alloc, operands);
-    }
-    if operator == b"close".as_slice() {
-        return close_of(alloc, operands);
-    }
-    if operator == b"yield".as_slice() {
-        return yield_of(alloc, operands);
-    }
-    let Some((left, right)) = two_atoms(alloc, operands)? else {
+    let Some((first, behind)) = tokens.split_first() else {
         return Ok(None);
     };
-    if operator == b"add".as_slice() {
-        return Ok(Some(Operation::Add(left, right)));
+    if matches!(first, Sense::Open) {
+        return front_operation(alloc, behind, room);
     }
-    if operator == b"sub".as_slice() {
-        return Ok(Some(Operation::Sub(left, right)));
+    match atom_of(alloc, first)? {
+        Some(atom) => Ok(Some((Expr::Atom(atom), 1))),
+        None => Ok(None),
     }
-    if operator == b"lt".as_slice() {
-        return Ok(Some(Operation::Lt(left, right)));
+}
+
+/// The operation whose opening parenthesis stood in front of these tokens, and how many it is with that.
+#[cycle(read)]
+fn front_operation(
+    alloc: Global,
+    tokens: &[Sense<'_>],
+    room: u32,
+) -> Result<Option<(Expr, usize)>, NoMemory>
+    ensures { IfOk result (FindsFront room (Open ∷ map meaning_of tokens.now)) }
+{
+    if room == 0 {
+        return Ok(None);
     }
-    if operator == b"eq".as_slice() {
-        return Ok(Some(Operation::Eq(left, right)));
-    }
-    if operator == b"send".as_slice() {
-        return Ok(Some(Operation::Send(left, right)));
-    }
-    if operator == b"throw".as_slice() {
-        return Ok(Some(Operation::Throw(left, right)));
+    let Some((first, behind)) = tokens.split_first() else {
+        return Ok(None);
+    };
+    let Sense::Word(word) = first else {
+        return Ok(None);
+    };
+    let Some(operator) = operator_of(word) else {
+        return Ok(None);
+    };
+    let Some((operands, used)) = front_operands(alloc, behind, room - 1)? else {
+        return Ok(None);
+    };
+    Ok(Some((Expr::Operation(operator, operands), used + 2)))
+}
+
+/// The operands in front of a parenthesis that closes, and how many tokens they are with that.
+#[cycle(read)]
+fn front_operands(
+    alloc: Global,
+    tokens: &[Sense<'_>],
+    room: u32,
+) -> Result<Option<(ExprList, usize)>, NoMemory>
+    ensures { IfOk result (FindsOperands room (map meaning_of tokens.now)) }
+{
+    let mut operands = ExprList::new(alloc);
+    let mut at = 0;
+    while at < tokens.len() {
+        let rest = from(tokens, at);
+        if closes(rest) {
+            return Ok(Some((operands, at + 1)));
+        }
+        let Some((operand, used)) = front_expr(alloc, rest, room)? else {
+            return Ok(None);
+        };
+        operands.push(operand)?;
+        at += used;
     }
     Ok(None)
 }
 
-/// The operation that tokens are.
-fn operation_of(alloc: Global, tokens: &[Sense<'_>]) -> Result<Option<Operation>, NoMemory>
-    ensures { IfOk result (Reads operation_tokens tokens.now) }
+/// The expression that stands in front of these tokens, as a line may have it, and how many tokens it is.
+pub fn line_expr(alloc: Global, tokens: &[Sense<'_>]) -> Result<Option<(Expr, usize)>, NoMemory>
+    ensures { IfOk result (FindsFront 64 (map meaning_of tokens.now)) }
 {
-    let Some((first, operands)) = tokens.split_first() else {
-        return Ok(None);
-    };
-    let Sense::Word(operator) = first else {
-        return Ok(None);
-    };
-    operation_by(alloc, operator, operands)
-}
-
-/// The operation that tokens are within parentheses.
-pub fn parenthesized(alloc: Global, tokens: &[Sense<'_>]) -> Result<Option<Operation>, NoMemory>
-    ensures { IfOk result (Reads (λ o. in_parentheses (operation_tokens o)) tokens.now) }
-{
-    let Some((open, behind)) = tokens.split_first() else {
-        return Ok(None);
-    };
-    if !matches!(open, Sense::Open) {
-        return Ok(None);
-    }
-    let Some((close, inner)) = behind.split_last() else {
-        return Ok(None);
-    };
-    if !matches!(close, Sense::Close) {
-        return Ok(None);
-    }
-    operation_of(alloc, inner)
+    front_expr(alloc, tokens, MOST_DEEP)
 }
 
 /// The expression that tokens are.
-pub fn expr_of(alloc: Global, tokens: &[Sense<'_>]) -> Result<Option<Expr>, NoMemory>
-    ensures { IfOk result (Reads expr_tokens tokens.now) }
+pub fn whole_expr(alloc: Global, tokens: &[Sense<'_>]) -> Result<Option<Expr>, NoMemory>
+    ensures { IfOk result (ShowsExpr (map meaning_of tokens.now)) }
 {
-    match tokens {
-        [] => Ok(None),
-        [_] => Ok(lone_atom(alloc, tokens)?.map(Expr::Atom)),
-        [_, _, ..] => Ok(parenthesized(alloc, tokens)?.map(Expr::Operation)),
+    let Some((expr, used)) = line_expr(alloc, tokens)? else {
+        return Ok(None);
+    };
+    if used < tokens.len() {
+        return Ok(None);
     }
+    Ok(Some(expr))
 }

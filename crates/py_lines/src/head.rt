@@ -1,29 +1,31 @@
 //! Lines that open a block, and those that turn it to its next suite.
 
-ghost use Rattle.std.specs.Prelude.{◌∷◌, [], IfOk, codes};
+ghost use Rattle.std.specs.Prelude.{◌∷◌, [], IfOk, codes, map};
 ghost use Rattle.py_lines.specs.declared.keyword.Keyword.TheVariants as keyword;
-ghost use Rattle.py_lines.specs.Finding.{Reads, ReadsAfter};
+ghost use Rattle.py_lines.specs.Finding.{Reads, ReadsAfter, ShowsHead, ShowsTarget};
 ghost use Rattle.py_lines.specs.Meaning.{Key, Word};
-ghost use Rattle.py_lines.specs.Printing.{atom_token, head_tokens, target_tokens, turn_tokens};
+ghost use Rattle.py_lines.specs.Senses.{meaning_of};
+ghost use Rattle.py_lines.specs.Printing.{target_tokens, turn_tokens};
 
-use crate::atoms::{alone, atom_of, lone_atom, lone_name, name_of};
+use crate::atoms::{alone, lone_name, name_of};
+use crate::expr::{from, line_expr, whole_expr};
 use crate::keyword::Keyword;
 use crate::meaning::Sense;
 use py_code::{NoMemory, PyText};
-use py_tree::Atom;
+use py_tree::Expr;
 use std::alloc::Global;
 
 /// A line that opens a block.
 #[derive(Drop)]
 pub enum Head {
-    /// `if a`.
-    If(Atom),
-    /// `while a`.
-    While(Atom),
+    /// `if e`.
+    If(Expr),
+    /// `while e`.
+    While(Expr),
     /// `try`.
     Try,
-    /// `with a` or `with a as x`: the manager, and the name that is bound.
-    With(Atom, Option<PyText>),
+    /// `with e` or `with e as x`: what gives the manager, and the name that is bound.
+    With(Expr, Option<PyText>),
 }
 
 /// A line that ends one suite of an open block, and begins the next.
@@ -39,7 +41,7 @@ pub enum Turn {
 
 /// The line that opens a block and that tokens are.
 pub fn read_head(alloc: Global, tokens: &[Sense<'_>]) -> Result<Option<Head>, NoMemory>
-    ensures { IfOk result (Reads head_tokens tokens.now) }
+    ensures { IfOk result (ShowsHead (map meaning_of tokens.now)) }
 {
     let Some((first, rest)) = tokens.split_first() else {
         return Ok(None);
@@ -48,8 +50,8 @@ pub fn read_head(alloc: Global, tokens: &[Sense<'_>]) -> Result<Option<Head>, No
         return Ok(None);
     };
     match *keyword {
-        Keyword::If => Ok(lone_atom(alloc, rest)?.map(Head::If)),
-        Keyword::While => Ok(lone_atom(alloc, rest)?.map(Head::While)),
+        Keyword::If => Ok(whole_expr(alloc, rest)?.map(Head::If)),
+        Keyword::While => Ok(whole_expr(alloc, rest)?.map(Head::While)),
         Keyword::Try => Ok(alone(Head::Try, rest)),
         Keyword::With => with_of(alloc, rest),
         _ => Ok(None),
@@ -86,30 +88,27 @@ fn target_of(alloc: Global, tokens: &[Sense<'_>]) -> Result<Option<Option<PyText
     }
 }
 
-/// An atom, and the name that a line binds behind it.
-fn atom_and_target(
+/// An expression, and the name that a line binds behind it.
+fn expr_and_target(
     alloc: Global,
     tokens: &[Sense<'_>],
-) -> Result<Option<(Atom, Option<PyText>)>, NoMemory>
-    ensures { IfOk result (Reads (λ p. atom_token p.0 ∷ target_tokens p.1) tokens.now) }
+) -> Result<Option<(Expr, Option<PyText>)>, NoMemory>
+    ensures { IfOk result (ShowsTarget (map meaning_of tokens.now)) }
 {
-    let Some((first, rest)) = tokens.split_first() else {
+    let Some((expr, used)) = line_expr(alloc, tokens)? else {
         return Ok(None);
     };
-    let Some(atom) = atom_of(alloc, first)? else {
+    let Some(target) = target_of(alloc, from(tokens, used))? else {
         return Ok(None);
     };
-    let Some(target) = target_of(alloc, rest)? else {
-        return Ok(None);
-    };
-    Ok(Some((atom, target)))
+    Ok(Some((expr, target)))
 }
 
 /// The line that the tokens behind a `with` make.
 fn with_of(alloc: Global, tokens: &[Sense<'_>]) -> Result<Option<Head>, NoMemory>
-    ensures { IfOk result (ReadsAfter (Key keyword.With) head_tokens tokens.now) }
+    ensures { IfOk result (ShowsHead (Key keyword.With ∷ map meaning_of tokens.now)) }
 {
-    let Some((manager, target)) = atom_and_target(alloc, tokens)? else {
+    let Some((manager, target)) = expr_and_target(alloc, tokens)? else {
         return Ok(None);
     };
     Ok(Some(Head::With(manager, target)))

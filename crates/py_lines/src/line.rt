@@ -3,11 +3,11 @@
 ghost use Rattle.std.specs.Prelude.{◌≡◌, ◌∷◌, [], IfOk, map, true};
 ghost use Rattle.py_lines.specs.declared.keyword.Keyword.TheVariants as keyword;
 ghost use Rattle.py_lines.specs.Comments.{is_comment as is_comment_line};
-ghost use Rattle.py_lines.specs.Finding.{AreReadAs, Reads};
+ghost use Rattle.py_lines.specs.Finding.{AreReadAs, Reads, ShowsLine};
 ghost use Rattle.py_lines.specs.Meaning.{Key};
 ghost use Rattle.py_lines.specs.Senses.{meaning_of};
-ghost use Rattle.py_lines.specs.Printing.{line_tokens};
 ghost use Rattle.py_lines.specs.Reading.{IsReadAs};
+ghost use Rattle.py_lines.specs.Views.{read_of};
 
 use crate::atoms::alone;
 use crate::comment::{is_comment, is_utf8};
@@ -61,7 +61,7 @@ fn read_end(tokens: &[Sense<'_>]) -> Option<()>
 
 /// The line that tokens are.
 fn line_of(alloc: Global, tokens: &[Sense<'_>]) -> Result<Option<Line>, NoMemory>
-    ensures { IfOk result (Reads line_tokens tokens.now) }
+    ensures { IfOk result (ShowsLine (map meaning_of tokens.now)) }
 {
     if let Some(plain) = read_plain(alloc, tokens)? {
         return Ok(Some(Line::Plain(plain)));
@@ -87,7 +87,7 @@ fn line_of(alloc: Global, tokens: &[Sense<'_>]) -> Result<Option<Line>, NoMemory
 /// How a comment reads: its characters have to be UTF-8.
 fn comment_read(bytes: &[u8]) -> LineRead
     requires { is_comment_line bytes.now ≡ true }
-    ensures { IsReadAs bytes.now result }
+    ensures { IsReadAs bytes.now (read_of result) }
 {
     if is_utf8(bytes) {
         LineRead::Blank
@@ -98,7 +98,7 @@ fn comment_read(bytes: &[u8]) -> LineRead
 
 /// How a line that is no comment reads, by its tokens.
 fn tokens_read(alloc: Global, tokens: &[Sense<'_>]) -> Result<LineRead, NoMemory>
-    ensures { IfOk result (AreReadAs (map meaning_of tokens.now)) }
+    ensures { IfOk result (λ read. AreReadAs (map meaning_of tokens.now) (read_of read)) }
 {
     if tokens.is_empty() {
         return Ok(LineRead::Blank);
@@ -111,7 +111,7 @@ fn tokens_read(alloc: Global, tokens: &[Sense<'_>]) -> Result<LineRead, NoMemory
 
 /// How a line of bytes reads.
 pub fn read_line(alloc: Global, bytes: &[u8]) -> Result<LineRead, NoMemory>
-    ensures { IfOk result (IsReadAs bytes.now) }
+    ensures { IfOk result (λ read. IsReadAs bytes.now (read_of read)) }
 {
     if is_comment(bytes) {
         return Ok(comment_read(bytes));

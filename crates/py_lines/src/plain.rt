@@ -1,16 +1,17 @@
 //! Plain statements: lines that open and close nothing.
 
-ghost use Rattle.std.specs.Prelude.{IfOk};
-ghost use Rattle.py_lines.specs.Finding.{Reads, ReadsAfter};
+ghost use Rattle.std.specs.Prelude.{◌∷◌, IfOk, map};
+ghost use Rattle.py_lines.specs.declared.keyword.Keyword.TheVariants as keyword;
+ghost use Rattle.py_lines.specs.Finding.{ShowsPlain};
 ghost use Rattle.py_lines.specs.Meaning.{Key, Word};
-ghost use Rattle.py_lines.specs.Printing.{plain_tokens};
+ghost use Rattle.py_lines.specs.Senses.{meaning_of};
 
-use crate::atoms::{alone, lone_atom};
-use crate::expr::{expr_of, parenthesized};
+use crate::atoms::alone;
+use crate::expr::whole_expr;
 use crate::keyword::Keyword;
 use crate::meaning::Sense;
 use py_code::{NoMemory, PyText, text_of};
-use py_tree::{Atom, Expr, Operation};
+use py_tree::{Expr, ExprList, Operator};
 use std::alloc::Global;
 
 /// A plain statement.
@@ -18,14 +19,14 @@ use std::alloc::Global;
 pub enum Plain {
     /// `x = e`.
     Assign(PyText, Expr),
-    /// `do (op a ..)`.
-    Do(Operation),
-    /// `show a`.
-    Show(Atom),
-    /// `return a`.
-    Return(Atom),
-    /// `raise a`.
-    Raise(Atom),
+    /// `do (op e ..)`.
+    Do(Operator, ExprList),
+    /// `show e`.
+    Show(Expr),
+    /// `return e`.
+    Return(Expr),
+    /// `raise e`.
+    Raise(Expr),
     /// `reraise`.
     Reraise,
     /// `break`.
@@ -38,7 +39,7 @@ pub enum Plain {
 
 /// The plain statement that tokens are.
 pub fn read_plain(alloc: Global, tokens: &[Sense<'_>]) -> Result<Option<Plain>, NoMemory>
-    ensures { IfOk result (Reads plain_tokens tokens.now) }
+    ensures { IfOk result (ShowsPlain (map meaning_of tokens.now)) }
 {
     let Some((first, rest)) = tokens.split_first() else {
         return Ok(None);
@@ -56,18 +57,31 @@ fn read_statement(
     keyword: Keyword,
     rest: &[Sense<'_>],
 ) -> Result<Option<Plain>, NoMemory>
-    ensures { IfOk result (ReadsAfter (Key keyword) plain_tokens rest.now) }
+    ensures { IfOk result (ShowsPlain (Key keyword ∷ map meaning_of rest.now)) }
 {
     match keyword {
-        Keyword::Do => Ok(parenthesized(alloc, rest)?.map(Plain::Do)),
-        Keyword::Show => Ok(lone_atom(alloc, rest)?.map(Plain::Show)),
-        Keyword::Return => Ok(lone_atom(alloc, rest)?.map(Plain::Return)),
-        Keyword::Raise => Ok(lone_atom(alloc, rest)?.map(Plain::Raise)),
+        Keyword::Do => do_of(alloc, rest),
+        Keyword::Show => Ok(whole_expr(alloc, rest)?.map(Plain::Show)),
+        Keyword::Return => Ok(whole_expr(alloc, rest)?.map(Plain::Return)),
+        Keyword::Raise => Ok(whole_expr(alloc, rest)?.map(Plain::Raise)),
         Keyword::Reraise => Ok(alone(Plain::Reraise, rest)),
         Keyword::Break => Ok(alone(Plain::Break, rest)),
         Keyword::Continue => Ok(alone(Plain::Continue, rest)),
         Keyword::Pass => Ok(alone(Plain::Pass, rest)),
         _ => Ok(None),
+    }
+}
+
+/// The statement that a `do` begins with these tokens behind it, which are an operation.
+fn do_of(alloc: Global, rest: &[Sense<'_>]) -> Result<Option<Plain>, NoMemory>
+    ensures { IfOk result (ShowsPlain (Key keyword.Do ∷ map meaning_of rest.now)) }
+{
+    let Some(expr) = whole_expr(alloc, rest)? else {
+        return Ok(None);
+    };
+    match expr {
+        Expr::Operation(operator, operands) => Ok(Some(Plain::Do(operator, operands))),
+        Expr::Atom(_) => Ok(None),
     }
 }
 
@@ -77,7 +91,7 @@ fn read_assignment(
     name: &[u8],
     rest: &[Sense<'_>],
 ) -> Result<Option<Plain>, NoMemory>
-    ensures { IfOk result (ReadsAfter (Word name.now) plain_tokens rest.now) }
+    ensures { IfOk result (ShowsPlain (Word name.now ∷ map meaning_of rest.now)) }
 {
     let Some((equals, value)) = rest.split_first() else {
         return Ok(None);
@@ -86,7 +100,7 @@ fn read_assignment(
         return Ok(None);
     }
     let target = text_of(alloc, name)?;
-    let Some(value) = expr_of(alloc, value)? else {
+    let Some(value) = whole_expr(alloc, value)? else {
         return Ok(None);
     };
     Ok(Some(Plain::Assign(target, value)))

@@ -1,6 +1,6 @@
 //! Small lines, worked by hand.
 
-ghost use Rattle.py_lines.specs.Worked.{AddIsAName, AsIsAName, CallIsADrive, CallIsAName, ClassOfItself, ClassOfNothing, CloseIsAName, KeywordIsNoName, ManagerOfTwo, NextNothing, NoCountBeyond, NoLargeNumber, NoNameBehindAs, NoNumberBelow, NothingBehind, NothingIsBlank, ThrowIsADrive, WithAs, WithNone, YieldIsAName};
+ghost use Rattle.py_lines.specs.Worked.{AddIsAName, AsIsAName, CallIsADrive, CallIsAName, CallOfSums, ClassOfItself, ClassOfNothing, CloseIsAName, KeywordIsNoName, ManagerOfTwo, NextNothing, NoCloseAtTheEnd, NoCountBeyond, NoLargeNumber, NoNameBehindAs, NoNumberBelow, NoOperatorOfThisName, NothingBehind, NothingInParentheses, NothingIsBlank, ThrowIsADrive, WithAs, WithNone, YieldIsAName};
 
 /// States how small lines read, and does nothing.
 pub fn worked_lines()
@@ -24,4 +24,8 @@ pub fn worked_lines()
     ensures nothing_behind { NothingBehind }
     ensures no_large_number { NoLargeNumber }
     ensures nothing_is_blank { NothingIsBlank }
+    ensures call_of_sums { CallOfSums }
+    ensures nothing_in_parentheses { NothingInParentheses }
+    ensures no_close_at_the_end { NoCloseAtTheEnd }
+    ensures no_operator_of_this_name { NoOperatorOfThisName }
 {}

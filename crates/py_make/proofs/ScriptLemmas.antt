@@ -6,15 +6,13 @@ use Rattle.std.proofs.lemmas.Bool.{and_from, cond-true, le-leb, lt-ltb, ne_eqb, 
 use Rattle.py_tree.specs.declared.body.BodyKind.{BodyKind}
 use Rattle.py_tree.specs.declared.body.BodyKind.TheVariants as body
 use Rattle.py_tree.specs.declared.expr.Atom.TheVariants as atom
-use Rattle.py_tree.specs.declared.expr.Expr.TheVariants as expr
-use Rattle.py_tree.specs.declared.expr.Operation.TheVariants as operation
-use Rattle.py_tree.specs.Tree.{Assign, Do, Show, Return, Raise, Break, If, IfElse, While, TryExcept, TryFinally, With, Suite, nothing, first, no_more, clause}
+use Rattle.py_tree.specs.declared.expr.Operator.TheVariants as operator
+use Rattle.py_tree.specs.Tree.{Leaf, Operate, no_operands, operand, Assign, Do, Show, Return, Raise, Break, If, IfElse, While, TryExcept, TryFinally, With, Suite, nothing, first, no_more, clause}
 use Rattle.py_lines.specs.declared.drive.DriveAtom.TheVariants as argument
 use Rattle.py_lines.specs.declared.drive.DriveLine.{DriveLine}
 use Rattle.py_lines.specs.declared.drive.DriveLine.TheVariants as drive
-use Rattle.py_lines.specs.declared.line.Line.TheVariants as line
-use Rattle.py_lines.specs.declared.line.LineRead.{LineRead}
-use Rattle.py_lines.specs.declared.line.LineRead.TheVariants.{Said}
+use Rattle.py_lines.specs.Line as line
+use Rattle.py_lines.specs.Line.{LineRead, Said}
 use Rattle.py_lines.specs.Meaning.{Meaning, Number, Word, Beyond}
 use Rattle.py_lines.specs.Printing.{drive_tokens, number_token}
 use Rattle.py_lines.specs.Reading.{IsReadAs, meanings}
@@ -70,7 +68,7 @@ abbrev Prints : List ℕ → List DriveLine → Type 0
 Prints text ds = (rest : List ℕ) → (ls : Text) × (lines (text ++ rest) ≡ ls ++ lines rest) × AllZip IsReadAs ls (drives_read ds)
 
 one_line : (w : List ℕ) (d : DriveLine) → are_plain w ≡ true → meanings w ≡ drive_tokens d → Prints (w ++ 10 ∷ []) (d ∷ [])
-one_line w d plain means rest = (w ∷ [], ap lines (append_assoc w (10 ∷ []) rest) ∙ first_line w rest plain, (means, tt))
+one_line w d plain means rest = (w ∷ [], ap lines (append_assoc w (10 ∷ []) rest) ∙ first_line w rest plain, ((means, tt), tt))
 
 prints_both : (t u : List ℕ) (ds es : List DriveLine) → Prints t ds → Prints u es → Prints (t ++ u) (ds ++ es)
 prints_both t u ds es front back rest =
@@ -154,22 +152,22 @@ groups_print (suc more) s n low =
 
 abbrev work_suite : Suite
 work_suite =
-    first 10 (Assign (codes "c") (expr.Operation (operation.Lt (atom.Name (codes "a")) (atom.Int (pos 500)))))
+    first 10 (Assign (codes "c") (Operate operator.Lt (operand (Leaf (atom.Name (codes "a"))) (operand (Leaf (atom.Int (pos 500))) no_operands))))
     (first 11 (TryExcept
-    (first 12 (With (atom.Name (codes "scope")) None
-    (first 13 (If (atom.Name (codes "c")) (first 14 (Raise (atom.Name (codes "Fault"))) nothing))
-    (first 16 (Return (atom.Name (codes "a"))) nothing))) nothing)
-    (clause 18 (codes "Fault") (Some (codes "e")) (first 19 (Return (atom.Name (codes "e"))) nothing) no_more)) nothing)
+    (first 12 (With (Leaf (atom.Name (codes "scope"))) None
+    (first 13 (If (Leaf (atom.Name (codes "c"))) (first 14 (Raise (Leaf (atom.Name (codes "Fault")))) nothing))
+    (first 16 (Return (Leaf (atom.Name (codes "a")))) nothing))) nothing)
+    (clause 18 (codes "Fault") (Some (codes "e")) (first 19 (Return (Leaf (atom.Name (codes "e")))) nothing) no_more)) nothing)
 
 abbrev count_suite : Suite
 count_suite =
-    first 23 (Assign (codes "i") (expr.Atom (atom.Int (pos 0))))
-    (first 24 (While (atom.Bool true)
+    first 23 (Assign (codes "i") (Leaf (atom.Int (pos 0))))
+    (first 24 (While (Leaf (atom.Bool true))
     (first 25 (TryFinally
-    (first 26 (Do (operation.Yield (atom.Name (codes "i")))) nothing)
-    (first 28 (Assign (codes "i") (expr.Operation (operation.Add (atom.Name (codes "i")) (atom.Int (pos 1))))) nothing))
-    (first 30 (Assign (codes "c") (expr.Operation (operation.Lt (atom.Name (codes "i")) (atom.Name (codes "n")))))
-    (first 31 (IfElse (atom.Name (codes "c")) nothing (first 33 Break nothing)) nothing)))) nothing)
+    (first 26 (Do operator.Yield (operand (Leaf (atom.Name (codes "i"))) no_operands)) nothing)
+    (first 28 (Assign (codes "i") (Operate operator.Add (operand (Leaf (atom.Name (codes "i"))) (operand (Leaf (atom.Int (pos 1))) no_operands)))) nothing))
+    (first 30 (Assign (codes "c") (Operate operator.Lt (operand (Leaf (atom.Name (codes "i"))) (operand (Leaf (atom.Name (codes "n"))) no_operands))))
+    (first 31 (IfElse (Leaf (atom.Name (codes "c"))) nothing (first 33 Break nothing)) nothing)))) nothing)
 
 abbrev function : BodyKind → List ℕ → List (List ℕ) → Suite → ℕ → Item
 function kind name params suite line = Declares (FunctionDecl (record { kind = kind; name = name; params = params; suite = suite; line = line }))
@@ -178,8 +176,8 @@ function kind name params suite line = Declares (FunctionDecl (record { kind = k
 abbrev declared_before : List Item → List Item
 declared_before more =
     Declares (ClassDecl (codes "Fault") (codes "Exception"))
-    ∷ function body.Function (codes "enter") [] (first 3 (Show (atom.Str (codes "open"))) nothing) 2
-    ∷ function body.Function (codes "exit") (codes "t" ∷ codes "v" ∷ codes "b" ∷ []) (first 6 (Show (atom.Str (codes "close"))) nothing) 5
+    ∷ function body.Function (codes "enter") [] (first 3 (Show (Leaf (atom.Str (codes "open")))) nothing) 2
+    ∷ function body.Function (codes "exit") (codes "t" ∷ codes "v" ∷ codes "b" ∷ []) (first 6 (Show (Leaf (atom.Str (codes "close")))) nothing) 5
     ∷ Declares (ManagerDecl (codes "scope") (codes "enter") (codes "exit"))
     ∷ function body.Function (codes "work") (codes "a" ∷ []) work_suite 9
     ∷ function body.Generator (codes "count") (codes "n" ∷ []) count_suite 22
@@ -201,7 +199,8 @@ lines_after : (rest : List ℕ) → lines (declarations ++ rest) ≡ lines_befor
 lines_after rest = refl
 
 read_before : AllZip IsReadAs lines_before reads_before
-read_before = (refl, (refl, (refl, (refl, (refl, (refl, (refl, (refl, (refl, (refl, (refl, (refl, (refl, (refl, (refl, (refl, (refl, (refl, (refl, (refl, (refl, (refl, (refl, (refl, (refl, (refl, (refl, (refl, (refl, (refl, (refl, (refl, (refl, (refl, (refl, (refl, tt))))))))))))))))))))))))))))))))))))
+read_before =
+    ((refl, tt), ((refl, tt), ((refl, omega arith), ((refl, tt), ((refl, tt), ((refl, omega arith), ((refl, tt), ((refl, tt), ((refl, tt), ((refl, omega arith), ((refl, tt), ((refl, omega arith), ((refl, omega arith), ((refl, omega arith), ((refl, tt), ((refl, omega arith), ((refl, tt), ((refl, tt), ((refl, omega arith), ((refl, tt), ((refl, tt), ((refl, tt), ((refl, omega arith), ((refl, omega arith), ((refl, tt), ((refl, omega arith), ((refl, tt), ((refl, omega arith), ((refl, tt), ((refl, omega arith), ((refl, omega arith), ((refl, tt), ((refl, tt), ((refl, tt), ((refl, tt), ((refl, tt), tt))))))))))))))))))))))))))))))))))))
 
 -- ---- the drives keep the rules
 

@@ -36,8 +36,7 @@ use Rattle.py_tree.specs.Trace.{IsTrace, IsBegun}
 use Rattle.py_lines.specs.declared.drive.DriveAtom.{DriveAtom}
 use Rattle.py_lines.specs.declared.drive.DriveLine.{DriveLine}
 use Rattle.py_lines.specs.declared.drive.DriveLine.TheVariants as drive
-use Rattle.py_lines.specs.declared.line.LineRead.{LineRead}
-use Rattle.py_lines.specs.declared.line.LineRead.TheVariants.{Said}
+use Rattle.py_lines.specs.Line.{LineRead, Said}
 use Rattle.py_grammar.specs.Grammar.{Row, FunctionDecl, Item, items_rows}
 use Rattle.py_answers.specs.Answers.{This, Reply, Passes, Replies, CallsAs, GivesBody, IsRaised, sum, whole}
 use Rattle.py_coro.specs.declared.coro.CoroEnd.{CoroEnd}

@@ -57,7 +57,7 @@ spelled =
     record {
       items = items;
       reads = reads_of items;
-      read = (refl, (refl, (refl, (refl, (refl, (refl, (refl, (refl, (refl, (refl, tt))))))))));
+      read = ((refl, tt), ((refl, omega arith), ((refl, tt), ((refl, tt), ((refl, omega arith), ((refl, omega arith), ((refl, tt), ((refl, tt), ((refl, tt), ((refl, tt), tt))))))))));
       spelled = refl;
       well = ((refl, (refl, tt)), ((refl, (refl, (refl, tt))), (refl, (refl, (refl, tt)))));
       declared = refl;

@@ -1,5 +1,5 @@
 -- What the definitions say of the journal with a finally.
-use Rattle.std.proofs.Common.{◌≡◌, ℕ, List, [], ◌∷◌, ◌++◌, Some, None, refl, ap, inl, inr, lit<, ⊎_elim, ◌∙◌}
+use Rattle.std.proofs.Common.{◌≡◌, ℕ, List, [], ◌∷◌, ◌++◌, Some, None, refl, ap, inl, inr, lit<, ⊎_elim, ◌∙◌, arith}
 use Rattle.std.specs.Prelude.{pos, codes}
 use Rattle.py_objects.specs.declared.payload.Payload.{Payload}
 use Rattle.py_objects.specs.declared.payload.Payload.TheVariants as payload
@@ -12,7 +12,7 @@ use Rattle.py_objects.specs.Objects.{AllFit}
 use Rattle.py_objects.specs.Singletons.{none_object}
 use Rattle.py_objects.specs.Own.{Own, Makes, Resumes, Asks, Gets, own_events, own_from, told_by}
 use Rattle.py_tree.specs.declared.expr.Atom.TheVariants as atom
-use Rattle.py_tree.specs.Tree.{Show, nothing, first}
+use Rattle.py_tree.specs.Tree.{Leaf, Show, nothing, first}
 use Rattle.py_tree.specs.Binding.{start_env}
 use Rattle.py_tree.specs.Outcome.{Raises, On_normal, Behind_finally, RunsSuite}
 use Rattle.py_tree.specs.Scene.{Scene, anywhere}
@@ -39,7 +39,7 @@ spelled =
     record {
       items = items;
       reads = reads_of items;
-      read = (refl, (refl, (refl, (refl, (refl, (refl, (refl, (refl, tt))))))));
+      read = ((refl, tt), ((refl, tt), ((refl, omega arith), ((refl, tt), ((refl, omega arith), ((refl, tt), ((refl, tt), ((refl, tt), tt))))))));
       spelled = refl;
       well = ((refl, ((refl, ((refl, tt), (refl, tt))), tt)), (refl, tt));
       declared = refl;
@@ -110,7 +110,7 @@ text =
 -- what follows the raise: the finally, while the exception is handled
 abbrev Final : Scene → List Own → Type 0
 Final scene ts =
-    RunsSuite scene (first 5 (Show (atom.Int (pos 1))) nothing) (start_env function []) (Some (exception 6)) 4 ts
+    RunsSuite scene (first 5 (Show (Leaf (atom.Int (pos 1)))) nothing) (start_env function []) (Some (exception 6)) 4 ts
     (Behind_finally (On_normal (EndsBy scene) (λ env k us. RunsSuite scene nothing env None k us (EndsBy scene))) (Raises (exception 6)))
 
 behind_raise : (scene : Scene) (ts : List Own) → IsTrace scene function [] (Makes ∷ Resumes 2 Start ∷ Asks 1 (Global (object 2) (codes "z")) None ∷ Gets 4 (got.Raise (exception 6)) ∷ ts) → Final scene ts

@@ -1,5 +1,5 @@
 -- What the definitions say of the journal of a generator.
-use Rattle.std.proofs.Common.{◌≡◌, ℕ, zero, suc, List, [], ◌∷◌, ◌++◌, Some, None, refl, sym, ap, subst, inl, inr, lit<, ⊎_elim, ◌∙◌}
+use Rattle.std.proofs.Common.{◌≡◌, ℕ, zero, suc, List, [], ◌∷◌, ◌++◌, Some, None, refl, sym, ap, subst, inl, inr, lit<, ⊎_elim, ◌∙◌, arith}
 use Rattle.std.proofs.lemmas.Fmt.{decimal_digit}
 use Rattle.std.specs.Prelude.{pos, codes, decimal, slice_get, map}
 use Rattle.py_objects.specs.declared.payload.Payload.TheVariants as payload
@@ -36,7 +36,7 @@ use Rattle.py_meaning.proofs.Journals.{are_globals, are_loaded, are_named, ascii
 pub spelled : Spells (lines script) decls drives
 spelled =
     let items = Declares (FunctionDecl function) ∷ Drives (drive.Call (codes "g") []) ∷ Drives (drive.Next 1) ∷ [] in
-    record { items = items; reads = reads_of items; read = (refl, (refl, (refl, (refl, (refl, tt))))); spelled = refl; well = ((refl, (refl, tt)), (refl, (refl, tt))); declared = refl; driven = refl }
+    record { items = items; reads = reads_of items; read = ((refl, tt), ((refl, omega arith), ((refl, tt), ((refl, tt), ((refl, tt), tt))))); spelled = refl; well = ((refl, (refl, tt)), (refl, (refl, tt))); declared = refl; driven = refl }
 
 all_fit : AllFit objects
 all_fit = fits function own_objects refl (tt, (tt, (tt, tt)))

@@ -32,7 +32,7 @@ use Rattle.py_meaning.proofs.Journals.{RaiseIsTraced, are_globals, are_named, ar
 pub spelled : Spells (lines script) decls drives
 spelled =
     let items = Declares (FunctionDecl function) ∷ Drives (call_of (codes "f") (pos 33) (pos 12)) ∷ [] in
-    record { items = items; reads = reads_of items; read = (refl, (refl, (refl, (refl, (refl, tt))))); spelled = refl; well = ((refl, (refl, (refl, tt))), (refl, tt)); declared = refl; driven = refl }
+    record { items = items; reads = reads_of items; read = ((refl, tt), ((refl, omega arith), ((refl, omega arith), ((refl, tt), ((refl, tt), tt))))); spelled = refl; well = ((refl, (refl, (refl, tt))), (refl, tt)); declared = refl; driven = refl }
 
 sum_fits : AllFit objects
 sum_fits = fits function (payload.Int (pos 33) ∷ payload.Int (pos 12) ∷ payload.Frame 0 ∷ payload.Int (pos 45) ∷ []) refl (tt, (tt, (tt, (tt, tt))))

@@ -1,5 +1,5 @@
 -- What the definitions say of the journals with a loop and with an unknown name.
-use Rattle.std.proofs.Common.{◌≡◌, ℕ, zero, suc, List, [], ◌∷◌, None, Bool, true, false, refl, sym, subst, inl, inr, lit<, ⊎_elim, ◌∙◌, append-nil}
+use Rattle.std.proofs.Common.{◌≡◌, ℕ, zero, suc, List, [], ◌∷◌, None, Bool, true, false, refl, sym, subst, inl, inr, lit<, ⊎_elim, ◌∙◌, append-nil, arith}
 use Rattle.std.specs.Prelude.{codes}
 use Rattle.py_objects.specs.declared.payload.Payload.TheVariants as payload
 use Rattle.py_objects.specs.declared.payload.Payload.{Payload}
@@ -14,7 +14,7 @@ use Rattle.py_objects.specs.Objects.{Obj, Name, HasPayload, AllFit}
 use Rattle.py_objects.specs.Singletons.{none_object}
 use Rattle.py_objects.specs.Own.{Own, Makes, Resumes, Asks, Gets, Rounds, Ends, own_events, own_from, told_by}
 use Rattle.py_tree.specs.declared.expr.Atom.TheVariants as atom
-use Rattle.py_tree.specs.Tree.{Show, nothing, first, Tree}
+use Rattle.py_tree.specs.Tree.{Leaf, Show, nothing, first, Tree}
 use Rattle.py_tree.specs.Scene.{Scene, anywhere}
 use Rattle.py_tree.specs.Outcome.{After, Normal, On_normal, On_turn, Chooses, By_truth, Loops, RunsSuite}
 use Rattle.py_tree.specs.Trace.{IsTrace, EndsBy}
@@ -35,7 +35,7 @@ use Rattle.py_meaning.proofs.OneText.{raise_line}
 pub spelled : Spells (lines script) decls drives
 spelled =
     let items = Declares (FunctionDecl function) ∷ Drives (drive.Call (codes "f") []) ∷ [] in
-    record { items = items; reads = reads_of items; read = (refl, (refl, (refl, (refl, (refl, tt))))); spelled = refl; well = ((refl, ((refl, tt), tt)), (refl, tt)); declared = refl; driven = refl }
+    record { items = items; reads = reads_of items; read = ((refl, tt), ((refl, omega arith), ((refl, tt), ((refl, tt), ((refl, tt), tt))))); spelled = refl; well = ((refl, ((refl, tt), tt)), (refl, tt)); declared = refl; driven = refl }
 
 -- the question of the drive
 abbrev pub call : Posed
@@ -86,18 +86,18 @@ Behind g = On_normal (EndsBy (scene_of g)) (λ env k ts. RunsSuite (scene_of g) 
 
 -- the loop, whose body is begun at most n times, behind the event k
 abbrev Going : Obj → ℕ → ℕ → List Own → Type 0
-Going g n k ts = Loops (scene_of g) 2 (atom.Bool true) (RunsSuite (scene_of g) nothing) n [] None k ts (Behind g)
+Going g n k ts = Loops (scene_of g) 2 (Leaf (atom.Bool true)) (RunsSuite (scene_of g) nothing) n [] None k ts (Behind g)
 
 -- what follows a test of the loop's
 abbrev Tested : Obj → ℕ → Bool → ℕ → List Own → Type 0
 Tested g zero b k ts = By_truth b ⊥ (Behind g [] Normal k ts)
 Tested g (suc n) b k ts =
     By_truth b
-    (RunsSuite (scene_of g) nothing [] None k ts (On_turn (Behind g) (λ env j rest. Loops (scene_of g) 2 (atom.Bool true) (RunsSuite (scene_of g) nothing) n env None j rest (Behind g))))
+    (RunsSuite (scene_of g) nothing [] None k ts (On_turn (Behind g) (λ env j rest. Loops (scene_of g) 2 (Leaf (atom.Bool true)) (RunsSuite (scene_of g) nothing) n env None j rest (Behind g))))
     (Behind g [] Normal k ts)
 
 abbrev Tests : Obj → ℕ → ℕ → List Own → Type 0
-Tests g n k ts = Chooses (scene_of g) 2 [] None (atom.Bool true) k ts (Behind g) (Tested g n)
+Tests g n k ts = Chooses (scene_of g) 2 [] None (Leaf (atom.Bool true)) k ts (Behind g) (Tested g n)
 
 -- the loop goes on by a round, which tests
 goes_round : (g : Obj) (n k : ℕ) (x : Own) (ts : List Own) → Going g n k (x ∷ ts) → (at : ℕ) × (x ≡ Rounds at) × Tests g n k ts
@@ -159,12 +159,12 @@ no_end_where_it_is_true r =
 -- ---- the unknown name
 
 abbrev unknown_function : Tree
-unknown_function = function_of (first 2 (Show (atom.Name (codes "z"))) nothing)
+unknown_function = function_of (first 2 (Show (Leaf (atom.Name (codes "z")))) nothing)
 
 pub unknown_spelled : Spells (lines unknown_script) unknown_decls drives
 unknown_spelled =
     let items = Declares (FunctionDecl unknown_function) ∷ Drives (drive.Call (codes "f") []) ∷ [] in
-    record { items = items; reads = reads_of items; read = (refl, (refl, (refl, (refl, tt)))); spelled = refl; well = ((refl, (refl, tt)), (refl, tt)); declared = refl; driven = refl }
+    record { items = items; reads = reads_of items; read = ((refl, tt), ((refl, omega arith), ((refl, tt), ((refl, tt), tt)))); spelled = refl; well = ((refl, (refl, tt)), (refl, tt)); declared = refl; driven = refl }
 
 -- its objects behind the first ones
 abbrev unknown_own : List Payload

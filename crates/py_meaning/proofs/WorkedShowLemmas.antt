@@ -1,5 +1,5 @@
 -- What the definitions say of the journal with a shown value.
-use Rattle.std.proofs.Common.{◌≡◌, ℕ, List, [], ◌∷◌, Option, Some, None, ◌<◌, refl, sym, subst, inl, inr, lit<, ⊎_elim, ◌∙◌, append-nil, length}
+use Rattle.std.proofs.Common.{◌≡◌, ℕ, List, [], ◌∷◌, Option, Some, None, ◌<◌, refl, sym, subst, inl, inr, lit<, ⊎_elim, ◌∙◌, append-nil, length, arith}
 use Rattle.std.proofs.lemmas.Option.{slice_get_within}
 use Rattle.std.specs.Prelude.{pos, codes}
 use Rattle.py_objects.specs.declared.refs.PyBaseExceptionRef.{PyBaseExceptionRef}
@@ -20,7 +20,7 @@ use Rattle.py_objects.specs.Singletons.{none_object}
 use Rattle.py_objects.specs.Own.{Own, Makes, Resumes, Asks, Gets, Ends, own_events, own_from, told_by}
 use Rattle.py_objects.specs.Telling.{AfterValue, Answers}
 use Rattle.py_tree.specs.declared.expr.Atom.TheVariants as atom
-use Rattle.py_tree.specs.Tree.{Show, nothing, first}
+use Rattle.py_tree.specs.Tree.{Leaf, Show, nothing, first}
 use Rattle.py_tree.specs.Binding.{Env, start_env, set_local}
 use Rattle.py_tree.specs.Outcome.{Normal, Use, On_normal, RunsSuite}
 use Rattle.py_tree.specs.Scene.{Scene, anywhere}
@@ -43,7 +43,7 @@ use Rattle.py_meaning.proofs.OneText.{overflow_line}
 pub spelled : Spells (lines script) decls drives
 spelled =
     let items = Declares (FunctionDecl function) ∷ Drives drive ∷ [] in
-    record { items = items; reads = reads_of items; read = (refl, (refl, (refl, (refl, (refl, tt))))); spelled = refl; well = ((refl, (refl, (refl, tt))), (refl, tt)); declared = refl; driven = refl }
+    record { items = items; reads = reads_of items; read = ((refl, tt), ((refl, omega arith), ((refl, omega arith), ((refl, tt), ((refl, tt), tt))))); spelled = refl; well = ((refl, (refl, (refl, tt))), (refl, tt)); declared = refl; driven = refl }
 
 all_fit : AllFit objects
 all_fit = fits function (payload.Int (pos 33) ∷ payload.Int (pos 12) ∷ payload.Frame 0 ∷ payload.Int (pos 45) ∷ payload.None ∷ []) refl (tt, (tt, (tt, (tt, (tt, tt)))))
@@ -95,7 +95,7 @@ locals v = set_local (codes "x") (Some v) (start_env function (object 3 ∷ obje
 
 -- what follows the sum, and what follows what is shown, behind the event k
 abbrev Shows : Scene → Env → ℕ → List Own → Type 0
-Shows scene env k ts = RunsSuite scene (first 3 (Show (atom.Name (codes "x"))) nothing) env None k ts (EndsBy scene)
+Shows scene env k ts = RunsSuite scene (first 3 (Show (Leaf (atom.Name (codes "x")))) nothing) env None k ts (EndsBy scene)
 
 abbrev Finishes : Scene → Env → ℕ → List Own → Type 0
 Finishes scene env k ts = RunsSuite scene nothing env None k ts (EndsBy scene)

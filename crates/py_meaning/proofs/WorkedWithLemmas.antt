@@ -25,7 +25,7 @@ use Rattle.py_tree.specs.Binding.{bind, start_env}
 use Rattle.py_tree.specs.Outcome.{By_truth, On_exit, On_normal, Requests, RunsSuite, Use}
 use Rattle.py_tree.specs.Scene.{Scene, anywhere}
 use Rattle.py_tree.specs.Trace.{IsTrace, EndsBy}
-use Rattle.py_tree.specs.Tree.{Return, Tree, nothing, first}
+use Rattle.py_tree.specs.Tree.{Leaf, Return, Tree, nothing, first}
 use Rattle.py_grammar.specs.Grammar.{ClassDecl, ManagerDecl, FunctionDecl, Declares, Drives, functions_in}
 use Rattle.py_lines.specs.declared.drive.DriveLine.TheVariants as drive
 use Rattle.py_grammar.specs.Lines.{lines}
@@ -50,7 +50,7 @@ spelled =
     record {
       items = items;
       reads = reads_of items;
-      read = (refl, (refl, (refl, (refl, (refl, (refl, (refl, (refl, (refl, (refl, (refl, (refl, (refl, (refl, tt))))))))))))));
+      read = ((refl, tt), ((refl, omega arith), ((refl, tt), ((refl, tt), ((refl, omega arith), ((refl, tt), ((refl, tt), ((refl, tt), ((refl, tt), ((refl, omega arith), ((refl, omega arith), ((refl, tt), ((refl, tt), ((refl, tt), tt))))))))))))));
       spelled = refl;
       well = ((refl, (refl, tt)), ((refl, (refl, tt)), (refl, (refl, ((refl, ((refl, (refl, tt)), tt)), (refl, tt))))));
       declared = refl;
@@ -242,7 +242,7 @@ told es made r =
 -- what follows the entry: the body, which returns x, and then the exit
 abbrev Body : Scene → List Own → Type 0
 Body scene ts =
-    RunsSuite scene (first 11 (Return (atom.Name (codes "x"))) nothing) (bind (Some (codes "x")) (object 13) (start_env function [])) None 9 ts
+    RunsSuite scene (first 11 (Return (Leaf (atom.Name (codes "x")))) nothing) (bind (Some (codes "x")) (object 13) (start_env function [])) None 9 ts
     (On_exit scene 10 (object 2) None (On_normal (EndsBy scene) (λ env k us. RunsSuite scene nothing env None k us (EndsBy scene))))
 
 -- there is a manager

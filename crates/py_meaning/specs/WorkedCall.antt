@@ -16,9 +16,8 @@ use Rattle.py_objects.specs.declared.event.Event.TheVariants as event
 use Rattle.py_objects.specs.Objects.{Obj, Name, HasPayload}
 use Rattle.py_tree.specs.declared.body.BodyKind.TheVariants.{Function}
 use Rattle.py_tree.specs.declared.expr.Atom.TheVariants as atom
-use Rattle.py_tree.specs.declared.expr.Operation.TheVariants as operation
-use Rattle.py_tree.specs.declared.expr.Expr.TheVariants as expr
-use Rattle.py_tree.specs.Tree.{Tree, Assign, Return, nothing, first}
+use Rattle.py_tree.specs.declared.expr.Operator.TheVariants as operator
+use Rattle.py_tree.specs.Tree.{Leaf, Operate, no_operands, operand, Tree, Assign, Return, nothing, first}
 use Rattle.py_grammar.specs.Grammar.{Decl, FunctionDecl}
 use Rattle.py_lines.specs.declared.drive.DriveAtom.TheVariants as argument
 use Rattle.py_lines.specs.declared.drive.DriveLine.{DriveLine}
@@ -35,7 +34,7 @@ script = codes "def g a b\nreturn a\nend\ndef f\nx = (call g 7 8)\nreturn x\nend
 
 -- def g a b / return a / end
 abbrev pub callee : Tree
-callee = record { kind = Function; name = codes "g"; params = codes "a" ∷ codes "b" ∷ []; suite = first 2 (Return (atom.Name (codes "a"))) nothing; line = 1 }
+callee = record { kind = Function; name = codes "g"; params = codes "a" ∷ codes "b" ∷ []; suite = first 2 (Return (Leaf (atom.Name (codes "a")))) nothing; line = 1 }
 
 -- def f / x = (call g 7 8) / return x / end
 abbrev pub caller : Tree
@@ -44,7 +43,7 @@ caller =
       kind = Function;
       name = codes "f";
       params = [];
-      suite = first 5 (Assign (codes "x") (expr.Operation (operation.Call (atom.Name (codes "g")) (atom.Int (pos 7) ∷ atom.Int (pos 8) ∷ [])))) (first 6 (Return (atom.Name (codes "x"))) nothing);
+      suite = first 5 (Assign (codes "x") (Operate operator.Call (operand (Leaf (atom.Name (codes "g"))) (operand (Leaf (atom.Int (pos 7))) (operand (Leaf (atom.Int (pos 8))) no_operands))))) (first 6 (Return (Leaf (atom.Name (codes "x")))) nothing);
       line = 4;
     }
 

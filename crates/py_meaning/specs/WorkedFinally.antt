@@ -12,7 +12,7 @@ use Rattle.py_objects.specs.declared.event.Event.{Event}
 use Rattle.py_objects.specs.declared.event.Event.TheVariants as event
 use Rattle.py_objects.specs.Singletons.{none_object}
 use Rattle.py_tree.specs.declared.expr.Atom.TheVariants as atom
-use Rattle.py_tree.specs.Tree.{Tree, Show, TryFinally, nothing, first}
+use Rattle.py_tree.specs.Tree.{Leaf, Tree, Show, TryFinally, nothing, first}
 use Rattle.py_grammar.specs.Grammar.{Decl, FunctionDecl}
 use Rattle.py_meaning.specs.Worked.{object, exception}
 use Rattle.py_meaning.specs.WorkedLoop.{function_of, objects_with, raised_objects, entered}
@@ -23,7 +23,7 @@ script = codes "def f\ntry\nshow z\nfinally\nshow 1\nend\nend\ncall f\n"
 
 -- def f / try / show z / finally / show 1 / end / end
 abbrev pub function : Tree
-function = function_of (first 2 (TryFinally (first 3 (Show (atom.Name (codes "z"))) nothing) (first 5 (Show (atom.Int (pos 1))) nothing)) nothing)
+function = function_of (first 2 (TryFinally (first 3 (Show (Leaf (atom.Name (codes "z")))) nothing) (first 5 (Show (Leaf (atom.Int (pos 1)))) nothing)) nothing)
 
 -- what the script declares
 abbrev pub decls : List Decl

@@ -10,8 +10,8 @@ use Rattle.py_objects.specs.declared.event.Event.TheVariants as event
 use Rattle.py_objects.specs.Objects.{Obj}
 use Rattle.py_tree.specs.declared.body.BodyKind.TheVariants.{Generator}
 use Rattle.py_tree.specs.declared.expr.Atom.TheVariants as atom
-use Rattle.py_tree.specs.declared.expr.Operation.TheVariants as operation
-use Rattle.py_tree.specs.Tree.{Tree, Do, nothing, first}
+use Rattle.py_tree.specs.declared.expr.Operator.TheVariants as operator
+use Rattle.py_tree.specs.Tree.{Leaf, no_operands, operand, Tree, Do, nothing, first}
 use Rattle.py_grammar.specs.Grammar.{Decl, FunctionDecl}
 use Rattle.py_lines.specs.declared.drive.DriveLine.{DriveLine}
 use Rattle.py_lines.specs.declared.drive.DriveLine.TheVariants as drive
@@ -24,7 +24,7 @@ script = codes "gen g\ndo (yield 1)\nend\ncall g\nnext 1\n"
 
 -- gen g / do (yield 1) / end
 abbrev pub function : Tree
-function = record { kind = Generator; name = codes "g"; params = []; suite = first 2 (Do (operation.Yield (atom.Int (pos 1)))) nothing; line = 1 }
+function = record { kind = Generator; name = codes "g"; params = []; suite = first 2 (Do operator.Yield (operand (Leaf (atom.Int (pos 1))) no_operands)) nothing; line = 1 }
 
 -- what the script declares
 abbrev pub decls : List Decl

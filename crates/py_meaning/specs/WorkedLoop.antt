@@ -16,7 +16,7 @@ use Rattle.py_objects.specs.Objects.{Obj, Name}
 use Rattle.py_objects.specs.Singletons.{none_object}
 use Rattle.py_tree.specs.declared.body.BodyKind.TheVariants.{Function}
 use Rattle.py_tree.specs.declared.expr.Atom.TheVariants as atom
-use Rattle.py_tree.specs.Tree.{Suite, Show, While, nothing, first, Tree}
+use Rattle.py_tree.specs.Tree.{Leaf, Suite, Show, While, nothing, first, Tree}
 use Rattle.py_grammar.specs.Grammar.{Decl, FunctionDecl}
 use Rattle.py_lines.specs.declared.drive.DriveLine.{DriveLine}
 use Rattle.py_lines.specs.declared.drive.DriveLine.TheVariants as drive
@@ -33,7 +33,7 @@ function_of s = record { kind = Function; name = codes "f"; params = []; suite =
 
 -- def f / while True / end / end
 abbrev pub function : Tree
-function = function_of (first 2 (While (atom.Bool true) nothing) nothing)
+function = function_of (first 2 (While (Leaf (atom.Bool true)) nothing) nothing)
 
 -- what the script declares
 abbrev pub decls : List Decl
@@ -89,7 +89,7 @@ unknown_script = codes "def f\nshow z\nend\ncall f\n"
 
 -- def f / show z / end
 abbrev pub unknown_decls : List Decl
-unknown_decls = FunctionDecl (function_of (first 2 (Show (atom.Name (codes "z"))) nothing)) ∷ []
+unknown_decls = FunctionDecl (function_of (first 2 (Show (Leaf (atom.Name (codes "z")))) nothing)) ∷ []
 
 -- the entry of an exception of a kind with the arguments 5
 abbrev pub unknown_error : ErrorKind → Payload

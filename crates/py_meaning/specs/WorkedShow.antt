@@ -13,9 +13,8 @@ use Rattle.py_objects.specs.Objects.{Obj, HasPayload}
 use Rattle.py_objects.specs.Singletons.{none_object}
 use Rattle.py_tree.specs.declared.body.BodyKind.TheVariants.{Function}
 use Rattle.py_tree.specs.declared.expr.Atom.TheVariants as atom
-use Rattle.py_tree.specs.declared.expr.Operation.TheVariants as operation
-use Rattle.py_tree.specs.declared.expr.Expr.TheVariants as expr
-use Rattle.py_tree.specs.Tree.{Tree, Assign, Show, nothing, first}
+use Rattle.py_tree.specs.declared.expr.Operator.TheVariants as operator
+use Rattle.py_tree.specs.Tree.{Leaf, Operate, no_operands, operand, Tree, Assign, Show, nothing, first}
 use Rattle.py_grammar.specs.Grammar.{Decl, FunctionDecl}
 use Rattle.py_lines.specs.declared.drive.DriveLine.{DriveLine}
 use Rattle.py_meaning.specs.Whole.{IsRunOf}
@@ -32,7 +31,7 @@ function =
       kind = Function;
       name = codes "g";
       params = codes "a" ∷ codes "b" ∷ [];
-      suite = first 2 (Assign (codes "x") (expr.Operation (operation.Add (atom.Name (codes "a")) (atom.Name (codes "b"))))) (first 3 (Show (atom.Name (codes "x"))) nothing);
+      suite = first 2 (Assign (codes "x") (Operate operator.Add (operand (Leaf (atom.Name (codes "a"))) (operand (Leaf (atom.Name (codes "b"))) no_operands)))) (first 3 (Show (Leaf (atom.Name (codes "x")))) nothing);
       line = 1;
     }
 

@@ -17,7 +17,7 @@ use Rattle.py_objects.specs.Singletons.{none_object}
 use Rattle.py_exceptions.specs.Classes.{class_of, mro_of, first_classes}
 use Rattle.py_tree.specs.declared.body.BodyKind.TheVariants.{Function}
 use Rattle.py_tree.specs.declared.expr.Atom.TheVariants as atom
-use Rattle.py_tree.specs.Tree.{Suite, Return, With, nothing, first, Tree}
+use Rattle.py_tree.specs.Tree.{Leaf, Suite, Return, With, nothing, first, Tree}
 use Rattle.py_grammar.specs.Grammar.{Decl, ClassDecl, ManagerDecl, FunctionDecl}
 use Rattle.py_run.specs.First.{first_objects}
 use Rattle.py_meaning.specs.Worked.{object, function_entry}
@@ -32,15 +32,15 @@ function_of name params suite line = record { kind = Function; name = name; para
 
 -- def en / return 7 / end
 abbrev pub enters : Tree
-enters = function_of (codes "en") [] (first 2 (Return (atom.Int (pos 7))) nothing) 1
+enters = function_of (codes "en") [] (first 2 (Return (Leaf (atom.Int (pos 7)))) nothing) 1
 
 -- def ex a b c / return True / end
 abbrev pub exits : Tree
-exits = function_of (codes "ex") (codes "a" ∷ codes "b" ∷ codes "c" ∷ []) (first 5 (Return (atom.Bool true)) nothing) 4
+exits = function_of (codes "ex") (codes "a" ∷ codes "b" ∷ codes "c" ∷ []) (first 5 (Return (Leaf (atom.Bool true))) nothing) 4
 
 -- def f / with m as x / return x / end / end
 abbrev pub function : Tree
-function = function_of (codes "f") [] (first 10 (With (atom.Name (codes "m")) (Some (codes "x")) (first 11 (Return (atom.Name (codes "x"))) nothing)) nothing) 9
+function = function_of (codes "f") [] (first 10 (With (Leaf (atom.Name (codes "m"))) (Some (codes "x")) (first 11 (Return (Leaf (atom.Name (codes "x")))) nothing)) nothing) 9
 
 -- what the script declares
 abbrev pub decls : List Decl

@@ -1,8 +1,6 @@
 -- What a tree may tell goes over to any front of its events, to what follows more weakly, and to a wider scene.
 use Rattle.std.proofs.Common.{◌≡◌, ℕ, zero, suc, Bool, true, false, List, [], ◌∷◌, ◌++◌, Some, None, refl, ap, subst, ◌∙◌, inl, inr}
 use Rattle.std.specs.Prelude.{Option}
-use Rattle.py_code.specs.declared.operator.BinaryOperator.TheVariants as binary
-use Rattle.py_code.specs.declared.operator.ComparisonOperator.TheVariants as comparison
 use Rattle.py_objects.specs.declared.refs.PyBaseExceptionRef.{PyBaseExceptionRef}
 use Rattle.py_objects.specs.declared.payload.Payload.{Payload}
 use Rattle.py_objects.specs.declared.payload.Payload.TheVariants as payload
@@ -19,14 +17,11 @@ use Rattle.py_objects.specs.Own.{Own, Makes, Resumes, Asks, Gets, Rounds, Yields
 use Rattle.py_objects.specs.Telling.{Value, Given, Failed, Stopped, AfterValue, IsLiteral, Answers, Answered, GoesOn, Resumed, Rounded}
 use Rattle.py_tree.specs.declared.expr.Atom.{Atom}
 use Rattle.py_tree.specs.declared.expr.Atom.TheVariants as atom
-use Rattle.py_tree.specs.declared.expr.Expr.{Expr}
-use Rattle.py_tree.specs.declared.expr.Expr.TheVariants as expr
-use Rattle.py_tree.specs.declared.expr.Operation.{Operation}
-use Rattle.py_tree.specs.declared.expr.Operation.TheVariants as operation
-use Rattle.py_tree.specs.Tree.{Name, Form, Assign, Do, Show, Return, Raise, Reraise, Break, Continue, Pass, If, IfElse, While, TryExcept, TryFinally, With as WithForm, Suite, nothing, first, Clauses, no_more, clause, Tree}
+use Rattle.py_tree.specs.Operators.{Way, Asks_one, Asks_two, Calls_it, Yields_it, way_of}
+use Rattle.py_tree.specs.Tree.{Name, Expr, Leaf, Operate, Exprs, no_operands, operand, Form, Assign, Do, Show, Return, Raise, Reraise, Break, Continue, Pass, If, IfElse, While, TryExcept, TryFinally, With as WithForm, Suite, nothing, first, Clauses, no_more, clause, Tree}
 use Rattle.py_tree.specs.Binding.{Env, find_local, set_local, bind}
 use Rattle.py_tree.specs.Scene.{Scene}
-use Rattle.py_tree.specs.Outcome.{Outcome, Normal, Breaks, Continues, Returns, Raises, Cut, Handled, After, Runner, With, Use, By_truth, Requests, Suspends, throws, Named, Loads, LoadsAll, RequestsTwo, Calls, Operates, Evaluates, Tests, Chooses, On_normal, On_turn, On_raise, behind, Behind_finally, On_finally, Finally, Forgets, Handles, Loops, Leaves, LeavesBy, On_exit, Manages, Reraises, Runs, RunsSuite, Tries}
+use Rattle.py_tree.specs.Outcome.{Outcome, Normal, Breaks, Continues, Returns, Raises, Cut, Handled, After, Runner, With, Use, By_truth, Requests, Suspends, Named, Loads, Calls, Finishes, Evaluates, EvaluatesAll, Tests, Chooses, On_normal, On_turn, On_raise, behind, Behind_finally, On_finally, Finally, Forgets, Handles, Loops, Leaves, LeavesBy, On_exit, Manages, Reraises, Runs, RunsSuite, Tries}
 use Rattle.py_tree.specs.Trace.{Ended, EndsBy, Entered, IsBegun, IsTrace}
 use Rattle.py_tree.specs.Laws.{Widens, TracesCarry}
 use Rattle.py_objects.proofs.GrowthLemmas.{payload_grown}
@@ -166,46 +161,34 @@ module _ (scene scene' : Scene) (widens : Widens scene scene') (more : List Own)
   loads_go line env h (atom.Str s) event ts K K' goes cut k = literal_goes (payload.Str s) event ts K K' goes cut k
   loads_go line env h (atom.Name x) event ts K K' goes cut k = named_goes line (find_local x env) x h event ts K K' goes cut k
 
-  all_go : (line : ℕ) (env : Env) (h : Handled) (atoms : List Atom) (event : ℕ) (ts : List Own) (K K' : AfterValue) (next next' : List Obj → ℕ → List Own → Type 0) → ValueGoes more K K' → ((i : ℕ) → K' Stopped i [])
-      → ((vs : List Obj) (i : ℕ) (rest : List Own) → next vs i (rest ++ more) → next' vs i rest) → LoadsAll scene line env h atoms event (ts ++ more) K next → LoadsAll scene' line env h atoms event ts K' next'
-  all_go line env h [] event ts K K' next next' goes cut on k = on [] event ts k
-  all_go line env h (a ∷ atoms) event ts K K' next next' goes cut on k =
-      loads_go line env h a event ts _ _
-      (with_goes more K K' _ _ goes (λ v i rest told. all_go line env h atoms i rest K K' (λ vs. next (v ∷ vs)) (λ vs. next' (v ∷ vs)) goes cut (λ vs. on (v ∷ vs)) told)) (cut event) k
+  -- what an operator does with its values
+  finishes_goes : (way : Way) (line : ℕ) (vs : List Obj) (h : Handled) (event : ℕ) (ts : List Own) (K K' : AfterValue) → ValueGoes more K K' → ((i : ℕ) → K' Stopped i [])
+      → Finishes scene line way vs h event (ts ++ more) K → Finishes scene' line way vs h event ts K'
+  finishes_goes (Asks_one r) line (v ∷ []) h event ts K K' goes cut k = requests_go line (r v) h event ts K K' goes (cut event) k
+  finishes_goes (Asks_two r) line (v ∷ w ∷ []) h event ts K K' goes cut k = requests_go line (r v w) h event ts K K' goes (cut event) k
+  finishes_goes Calls_it line (f ∷ vs) h event ts K K' goes cut k = calls_go line f vs h event ts K K' goes (cut event) k
+  finishes_goes Yields_it line (v ∷ []) h event ts K K' goes cut k = suspends_go line v event ts K K' goes (cut event) k
+  finishes_goes way line vs h event ts K K' goes cut k = (empty_front ts more k.0, cut event)
 
-  two_go : (line : ℕ) (env : Env) (h : Handled) (a b : Atom) (r : Obj → Obj → Request) (event : ℕ) (ts : List Own) (K K' : AfterValue) → ValueGoes more K K' → ((i : ℕ) → K' Stopped i [])
-      → RequestsTwo scene line env h a b r event (ts ++ more) K → RequestsTwo scene' line env h a b r event ts K'
-  two_go line env h a b r event ts K K' goes cut k =
-      loads_go line env h a event ts _ _
-      (with_goes more K K' _ _ goes
-      (λ v i rest told. loads_go line env h b i rest _ _ (with_goes more K K' _ _ goes (λ w j left asked. requests_go line (r v w) h j left K K' goes (cut j) asked)) (cut i) told)) (cut event) k
+  mutual
+    -- the value of an expression
+    evaluates_goes : (e : Expr) (line : ℕ) (env : Env) (h : Handled) (event : ℕ) (ts : List Own) (K K' : AfterValue) → ValueGoes more K K' → ((i : ℕ) → K' Stopped i [])
+        → Evaluates scene line env h e event (ts ++ more) K → Evaluates scene' line env h e event ts K'
+    evaluates_goes (Leaf a) line env h event ts K K' goes cut k = loads_go line env h a event ts K K' goes (cut event) k
+    evaluates_goes (Operate o es) line env h event ts K K' goes cut k =
+        all_go es line env h event ts K K' _ _ goes cut (λ vs i rest told. finishes_goes (way_of o) line vs h i rest K K' goes cut told) k
 
-  operates_goes : (line : ℕ) (env : Env) (h : Handled) (o : Operation) (event : ℕ) (ts : List Own) (K K' : AfterValue) → ValueGoes more K K' → ((i : ℕ) → K' Stopped i [])
-      → Operates scene line env h o event (ts ++ more) K → Operates scene' line env h o event ts K'
-  operates_goes line env h (operation.Add a b) event ts K K' goes cut k = two_go line env h a b (request.Binary binary.Add) event ts K K' goes cut k
-  operates_goes line env h (operation.Sub a b) event ts K K' goes cut k = two_go line env h a b (request.Binary binary.Subtract) event ts K K' goes cut k
-  operates_goes line env h (operation.Lt a b) event ts K K' goes cut k = two_go line env h a b (request.Compare comparison.Less) event ts K K' goes cut k
-  operates_goes line env h (operation.Eq a b) event ts K K' goes cut k = two_go line env h a b (request.Compare comparison.Equal) event ts K K' goes cut k
-  operates_goes line env h (operation.Send a b) event ts K K' goes cut k = two_go line env h a b request.Send event ts K K' goes cut k
-  operates_goes line env h (operation.Throw a b) event ts K K' goes cut k = two_go line env h a b throws event ts K K' goes cut k
-  operates_goes line env h (operation.Close a) event ts K K' goes cut k =
-      loads_go line env h a event ts _ _ (with_goes more K K' _ _ goes (λ g i rest told. requests_go line (request.Close g) h i rest K K' goes (cut i) told)) (cut event) k
-  operates_goes line env h (operation.Yield a) event ts K K' goes cut k =
-      loads_go line env h a event ts _ _ (with_goes more K K' _ _ goes (λ v i rest told. suspends_go line v i rest K K' goes (cut i) told)) (cut event) k
-  operates_goes line env h (operation.Call f atoms) event ts K K' goes cut k =
-      loads_go line env h f event ts _ _
-      (with_goes more K K' _ _ goes
-      (λ g i rest told. all_go line env h atoms i rest K K' _ _ goes cut (λ vs j left asked. calls_go line g vs h j left K K' goes (cut j) asked) told)) (cut event) k
+    all_go : (es : Exprs) (line : ℕ) (env : Env) (h : Handled) (event : ℕ) (ts : List Own) (K K' : AfterValue) (next next' : List Obj → ℕ → List Own → Type 0) → ValueGoes more K K' → ((i : ℕ) → K' Stopped i [])
+        → ((vs : List Obj) (i : ℕ) (rest : List Own) → next vs i (rest ++ more) → next' vs i rest) → EvaluatesAll scene line env h es event (ts ++ more) K next → EvaluatesAll scene' line env h es event ts K' next'
+    all_go no_operands line env h event ts K K' next next' goes cut on k = on [] event ts k
+    all_go (operand e es) line env h event ts K K' next next' goes cut on k =
+        evaluates_goes e line env h event ts _ _
+        (with_goes more K K' _ _ goes (λ v i rest told. all_go es line env h i rest K K' (λ vs. next (v ∷ vs)) (λ vs. next' (v ∷ vs)) goes cut (λ vs. on (v ∷ vs)) told)) cut k
 
-  evaluates_goes : (line : ℕ) (env : Env) (h : Handled) (e : Expr) (event : ℕ) (ts : List Own) (K K' : AfterValue) → ValueGoes more K K' → ((i : ℕ) → K' Stopped i [])
-      → Evaluates scene line env h e event (ts ++ more) K → Evaluates scene' line env h e event ts K'
-  evaluates_goes line env h (expr.Atom a) event ts K K' goes cut k = loads_go line env h a event ts K K' goes (cut event) k
-  evaluates_goes line env h (expr.Operation o) event ts K K' goes cut k = operates_goes line env h o event ts K K' goes cut k
-
-  -- a statement's atom, and what is asked for it: a value is taken, and what comes in its place is the statement's end
-  taken_goes : (line : ℕ) (env : Env) (h : Handled) (a : Atom) (event : ℕ) (ts : List Own) (K K' : After) (next next' : Obj → ℕ → List Own → Type 0) → Carries more K K'
-      → ((v : Obj) (i : ℕ) (rest : List Own) → next v i (rest ++ more) → next' v i rest) → Loads scene line env h a event (ts ++ more) (Use env K next) → Loads scene' line env h a event ts (Use env K' next')
-  taken_goes line env h a event ts K K' next next' carries on k = loads_go line env h a event ts _ _ (use_goes env more K K' _ _ carries.goes on) (carries.cut env event) k
+  -- a statement's expression, and what is asked for it: a value is taken, and what comes in its place is the statement's end
+  taken_goes : (line : ℕ) (env : Env) (h : Handled) (e : Expr) (event : ℕ) (ts : List Own) (K K' : After) (next next' : Obj → ℕ → List Own → Type 0) → Carries more K K'
+      → ((v : Obj) (i : ℕ) (rest : List Own) → next v i (rest ++ more) → next' v i rest) → Evaluates scene line env h e event (ts ++ more) (Use env K next) → Evaluates scene' line env h e event ts (Use env K' next')
+  taken_goes line env h e event ts K K' next next' carries on k = evaluates_goes e line env h event ts _ _ (use_goes env more K K' _ _ carries.goes on) (carries.cut env) k
 
   asked_goes : (line : ℕ) (env : Env) (h : Handled) (r : Request) (event : ℕ) (ts : List Own) (K K' : After) (next next' : Obj → ℕ → List Own → Type 0) → Carries more K K'
       → ((v : Obj) (i : ℕ) (rest : List Own) → next v i (rest ++ more) → next' v i rest) → Requests scene line r h event (ts ++ more) (Use env K next) → Requests scene' line r h event ts (Use env K' next')
@@ -217,7 +200,7 @@ module _ (scene scene' : Scene) (widens : Widens scene scene') (more : List Own)
       asked_goes line env h (request.Truth v) event ts K K' _ _ carries
       (λ w i rest (b, has, told). (b, payload_grown scene.objects scene'.objects w (payload.Bool b) widens.objects has, on b i rest told)) k
 
-  chooses_go : (line : ℕ) (env : Env) (h : Handled) (a : Atom) (event : ℕ) (ts : List Own) (K K' : After) (next next' : Bool → ℕ → List Own → Type 0) → Carries more K K'
+  chooses_go : (line : ℕ) (env : Env) (h : Handled) (a : Expr) (event : ℕ) (ts : List Own) (K K' : After) (next next' : Bool → ℕ → List Own → Type 0) → Carries more K K'
       → ((b : Bool) (i : ℕ) (rest : List Own) → next b i (rest ++ more) → next' b i rest) → Chooses scene line env h a event (ts ++ more) K next → Chooses scene' line env h a event ts K' next'
   chooses_go line env h a event ts K K' next next' carries on k =
       taken_goes line env h a event ts K K' _ _ carries (λ v i rest told. tests_go line env h v i rest K K' next next' carries on told) k
@@ -228,7 +211,7 @@ module _ (scene scene' : Scene) (widens : Widens scene scene') (more : List Own)
   abbrev RunnerGoes : Runner → Runner → Type 1
   RunnerGoes body body' = (env : Env) (h : Handled) (event : ℕ) (ts : List Own) (K K' : After) → Carries more K K' → body env h event (ts ++ more) K → body' env h event ts K'
 
-  loops_go : (line : ℕ) (a : Atom) (body body' : Runner) → RunnerGoes body body' → (n : ℕ) → RunnerGoes (Loops scene line a body n) (Loops scene' line a body' n)
+  loops_go : (line : ℕ) (a : Expr) (body body' : Runner) → RunnerGoes body body' → (n : ℕ) → RunnerGoes (Loops scene line a body n) (Loops scene' line a body' n)
   loops_go line a body body' runs zero env h event ts K K' carries k =
       rounded_goes ts more _ _ _ _ (carries.cut env event)
       (λ mid told. chooses_go line env h a event mid K K' _ _ carries (λ b i rest chosen. by_truth_goes b _ _ _ _ (λ never. never) (carries.goes env Normal i rest) chosen) told) k
@@ -331,9 +314,9 @@ module _ (scene scene' : Scene) (widens : Widens scene scene') (more : List Own)
   mutual
     runs_go : (f : Form) (line : ℕ) → RunnerGoes (Runs scene line f) (Runs scene' line f)
     runs_go (Assign x e) line env h event ts K K' carries k =
-        evaluates_goes line env h e event ts _ _ (use_goes env more K K' _ _ carries.goes (λ v i rest done. carries.goes (set_local x (Some v) env) Normal i rest done)) (carries.cut env) k
-    runs_go (Do o) line env h event ts K K' carries k =
-        operates_goes line env h o event ts _ _ (use_goes env more K K' _ _ carries.goes (λ v i rest done. carries.goes env Normal i rest done)) (carries.cut env) k
+        evaluates_goes e line env h event ts _ _ (use_goes env more K K' _ _ carries.goes (λ v i rest done. carries.goes (set_local x (Some v) env) Normal i rest done)) (carries.cut env) k
+    runs_go (Do o es) line env h event ts K K' carries k =
+        evaluates_goes (Operate o es) line env h event ts _ _ (use_goes env more K K' _ _ carries.goes (λ v i rest done. carries.goes env Normal i rest done)) (carries.cut env) k
     runs_go (Show a) line env h event ts K K' carries k =
         taken_goes line env h a event ts K K' _ _ carries
         (λ v i rest told. asked_goes line env h (request.Show v) i rest K K' _ _ carries (λ u j left done. carries.goes env Normal j left done) told) k
@@ -373,7 +356,7 @@ module _ (scene scene' : Scene) (widens : Widens scene scene') (more : List Own)
     tries_go : (cs : Clauses) (line : ℕ) (e : PyBaseExceptionRef) → RunnerGoes (Tries scene line cs e) (Tries scene' line cs e)
     tries_go no_more line e env h event ts K K' carries k = reraises_go line env h event ts K K' carries k
     tries_go (clause n c x s rest) line e env h event ts K K' carries k =
-        taken_goes n env h (atom.Name c) event ts K K' _ _ carries
+        taken_goes n env h (Leaf (atom.Name c)) event ts K K' _ _ carries
         (λ v i mid told. asked_goes n env h (request.Match (as_object e) v) i mid K K' _ _ carries
         (λ w j mid2 tested. tests_go n env h w j mid2 K K' _ _ carries
         (λ b l mid3 chosen. by_truth_goes b _ _ _ _

@@ -1,4 +1,5 @@
 mod Trees
+pub mod Exprs
 pub mod Carry
 mod WorkedLemmas
 mod WorkedHandlerLemmas

@@ -8,13 +8,12 @@ use Rattle.py_objects.specs.declared.payload.Payload.TheVariants as payload
 use Rattle.py_objects.specs.Objects.{Obj, HasPayload}
 use Rattle.py_objects.specs.Callees.{is_manager}
 use Rattle.py_objects.specs.Telling.{Value, Given, Failed, Stopped, AfterValue}
-use Rattle.py_tree.specs.declared.expr.Atom.{Atom}
-use Rattle.py_tree.specs.Tree.{Name, Suite}
+use Rattle.py_tree.specs.Tree.{Name, Expr, Suite}
 use Rattle.py_tree.specs.Binding.{Env, bind}
 use Rattle.py_tree.specs.Scene.{Scene}
-use Rattle.py_tree.specs.Outcome.{Outcome, Normal, Breaks, Continues, Returns, Raises, Cut, Handled, RunsSuite, Use, By_truth, Requests, Loads, Leaves, LeavesBy, On_exit, Manages}
+use Rattle.py_tree.specs.Outcome.{Outcome, Normal, Breaks, Continues, Returns, Raises, Cut, Handled, RunsSuite, Use, By_truth, Requests, Evaluates, Leaves, LeavesBy, On_exit, Manages}
 use Rattle.py_tree.specs.Endings.{Point, Reaches, Gives, Stops, IsEntered, EntryStops, ExitPasses, ExitDecides, ExitStopsRaise, ExitStops, ExitEnds, ExitIsAsked, ExitGoesOn}
-use Rattle.py_tree.proofs.Reaching.{GivesOne, suite_ends, loads_give, requests_give, leaves_give, leaves_by_gives}
+use Rattle.py_tree.proofs.Reaching.{GivesOne, suite_ends, evaluates_gives, requests_give, leaves_give, leaves_by_gives}
 use Rattle.py_tree.proofs.EndingLemmas.{At, comes, follows}
 
 -- what was told stops the whole, or it gives a value, and the next follows
@@ -109,7 +108,7 @@ module _ (scene : Scene) (line : ℕ) (m : Obj) (h : Handled) (whole : Point) wh
       let (body, comes_to, here) = comes (RunsSuite scene s) (suite_ends scene s) (bind x v env) h i rest (On_exit scene line m h (At whole)) run in
       (body, comes_to, exit_ends body.env body.outcome body.event body.left here)
 
-module _ (scene : Scene) (line : ℕ) (a : Atom) (x : Option Name) (s : Suite) (env : Env) (h : Handled) (event : ℕ) (ts : List Own) (whole : Point) where
+module _ (scene : Scene) (line : ℕ) (a : Expr) (x : Option Name) (s : Suite) (env : Env) (h : Handled) (event : ℕ) (ts : List Own) (whole : Point) where
   -- what a with comes to behind an entry
   abbrev WithEnds : Type 0
   WithEnds =
@@ -140,14 +139,14 @@ module _ (scene : Scene) (line : ℕ) (a : Atom) (x : Option Name) (s : Suite) (
   abbrev Behind_load : Obj → ℕ → List Own → Type 0
   Behind_load m i mid = Requests scene line (request.Enter m) h i mid (Use env (At whole) (Behind_entry m))
 
-  by_entry : (m : Obj) (j : ℕ) (mid : List Own) → Loads scene line env h a event ts (Gives m j mid)
+  by_entry : (m : Obj) (j : ℕ) (mid : List Own) → Evaluates scene line env h a event ts (Gives m j mid)
       → Requests scene line (request.Enter m) h j mid (Stops env whole)
       ⊎ ((v : Obj) × (i : ℕ) × (rest : List Own) × Requests scene line (request.Enter m) h j mid (Gives v i rest) × Behind_entry m v i rest)
       → StopsOrWith
   by_entry m j mid loads (inl stopped) = inl (inr (inl (m, j, mid, loads, stopped)))
   by_entry m j mid loads (inr (v, i, rest, enters, k)) = entered m v i rest (record { loaded = j; behind_atom = mid; loads = loads; enters = enters }) k
 
-  by_load : Loads scene line env h a event ts (Stops env whole) ⊎ ((m : Obj) × (j : ℕ) × (mid : List Own) × Loads scene line env h a event ts (Gives m j mid) × Behind_load m j mid)
+  by_load : Evaluates scene line env h a event ts (Stops env whole) ⊎ ((m : Obj) × (j : ℕ) × (mid : List Own) × Evaluates scene line env h a event ts (Gives m j mid) × Behind_load m j mid)
       → StopsOrWith
   by_load (inl stopped) = inl (inl stopped)
   by_load (inr (m, j, mid, loads, k)) =
@@ -156,7 +155,7 @@ module _ (scene : Scene) (line : ℕ) (a : Atom) (x : Option Name) (s : Suite) (
 pub exit_is_asked : ExitIsAsked
 exit_is_asked scene line a x s env h event ts whole k =
     by_load scene line a x s env h event ts whole
-    (told_once (λ K. Loads scene line env h a event ts K) env whole (Behind_load scene line a x s env h event ts whole) (loads_give scene line env h a event ts _ k))
+    (told_once (λ K. Evaluates scene line env h a event ts K) env whole (Behind_load scene line a x s env h event ts whole) (evaluates_gives scene a line env h event ts _ k))
 
 -- what follows a value that is given
 gives : (Told : AfterValue → Type 0) (v : Obj) (i : ℕ) (rest : List Own) → GivesOne Told (Gives v i rest) → (K : AfterValue) → K (Given v) i rest → Told K
@@ -212,7 +211,7 @@ module _ (scene : Scene) (line : ℕ) (m : Obj) (h : Handled) (whole : Point) wh
 
 pub exit_goes_on : ExitGoesOn
 exit_goes_on scene line a x s env h event ts m v manager i rest body whole is has run ends =
-    gives (λ K. Loads scene line env h a event ts K) m is.loaded is.behind_atom (loads_give scene line env h a event ts _ is.loads)
+    gives (λ K. Evaluates scene line env h a event ts K) m is.loaded is.behind_atom (evaluates_gives scene a line env h event ts _ is.loads)
     (Use env (At whole) (λ m i mid. Requests scene line (request.Enter m) h i mid (Use env (At whole) (λ v j left. Manages scene line m x v (RunsSuite scene s) env h j left (At whole)))))
     (gives (λ K. Requests scene line (request.Enter m) h is.loaded is.behind_atom K) v i rest (requests_give scene line (request.Enter m) h is.loaded is.behind_atom _ is.enters)
     (Use env (At whole) (λ v j left. Manages scene line m x v (RunsSuite scene s) env h j left (At whole)))

@@ -13,7 +13,7 @@ use Rattle.py_objects.specs.Telling.{AfterValue}
 use Rattle.py_tree.specs.declared.expr.Atom.TheVariants as atom
 use Rattle.py_tree.specs.Outcome.{After, Raises, By_truth, Requests, On_normal, On_exit, Manages, RunsSuite}
 use Rattle.py_tree.specs.Trace.{EndsBy, IsTrace}
-use Rattle.py_tree.specs.Tree.{Return, Reraise, With, Suite, nothing, first}
+use Rattle.py_tree.specs.Tree.{Leaf, Return, Reraise, With, Suite, nothing, first}
 use Rattle.py_tree.specs.WorkedHandlers.{none_object}
 use Rattle.py_tree.specs.WorkedManagers.{m_name, manager_object, raised, returns_in_with, raises_in_with, raised_events, SwallowedIsTrace, LeftByReturnIsTrace, NoExitSkipped, NoReturnSwallowed, NoExitSkippedByRaise, NoExitUnhandled, NoRaiseSwallowed}
 use Rattle.py_tree.proofs.WorkedLemmas.{begun}
@@ -146,7 +146,7 @@ either false P Q k f g = g k
 
 -- return None
 abbrev returns : Suite
-returns = first 3 (Return atom.None) nothing
+returns = first 3 (Return (Leaf atom.None)) nothing
 
 -- what follows the whole statement, and what is told behind the entry
 abbrev Behind : Scene → After
@@ -157,7 +157,7 @@ Told body scene m v event ts = Manages scene 2 m None v (RunsSuite scene body) [
 
 -- a with of this body, alone
 abbrev managed : Suite → Suite
-managed body = first 2 (With (atom.Name m_name) None body) nothing
+managed body = first 2 (With (Leaf (atom.Name m_name)) None body) nothing
 
 entered : (body : Suite) (scene : Scene) (k a b : ℕ) (m v : Obj) (behind : List Own)
     → RunsSuite scene (managed body) [] None k

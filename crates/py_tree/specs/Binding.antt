@@ -18,7 +18,7 @@ abbrev mutual
   -- the names that a statement binds, behind others
   pub bound_in : List Name → Form → List Name
   bound_in names (Assign x e) = bound names x
-  bound_in names (Do o) = names
+  bound_in names (Do o es) = names
   bound_in names (Show a) = names
   bound_in names (Return a) = names
   bound_in names (Raise a) = names

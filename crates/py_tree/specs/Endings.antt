@@ -11,13 +11,12 @@ use Rattle.py_objects.specs.Objects.{Obj, HasPayload, as_object}
 use Rattle.py_objects.specs.Callees.{is_manager}
 use Rattle.py_objects.specs.Own.{Own, Resumes}
 use Rattle.py_objects.specs.Telling.{Given, Failed, Stopped, AfterValue}
-use Rattle.py_tree.specs.declared.expr.Atom.{Atom}
 use Rattle.py_tree.specs.declared.expr.Atom.TheVariants as atom
-use Rattle.py_tree.specs.Tree.{Name, Form, TryExcept, TryFinally, With as WithForm, Suite, first, Clauses, no_more, clause, Tree}
+use Rattle.py_tree.specs.Tree.{Name, Expr, Form, TryExcept, TryFinally, With as WithForm, Suite, first, Clauses, no_more, clause, Tree}
 use Rattle.py_tree.specs.Binding.{Env, find_local, bind, start_env}
 use Rattle.py_tree.specs.Scene.{Scene}
 use Rattle.py_tree.specs.Trace.{EndsBy, IsBegun}
-use Rattle.py_tree.specs.Outcome.{Outcome, Normal, Breaks, Continues, Returns, Raises, Cut, Handled, Runner, Handles, By_truth, Requests, Loads, Leaves, LeavesBy, Runs, RunsSuite, Tries}
+use Rattle.py_tree.specs.Outcome.{Outcome, Normal, Breaks, Continues, Returns, Raises, Cut, Handled, Runner, Handles, By_truth, Requests, Loads, Evaluates, Leaves, LeavesBy, Runs, RunsSuite, Tries}
 
 -- a point of a run: the locals, the outcome, the number of the event heard last, and the events that are left
 pub record Point : Type 0 where
@@ -152,10 +151,10 @@ NoClauseRaises = (scene : Scene) (line : ℕ) (e : PyBaseExceptionRef) (env : En
 
 -- the manager m is loaded and entered by a with of this line, and v is its answer; by then the event of this number was heard last, and these
 -- are left
-pub record IsEntered (scene : Scene) (line : ℕ) (a : Atom) (m v : Obj) (env : Env) (h : Handled) (event : ℕ) (ts : List Own) (i : ℕ) (rest : List Own) : Type 0 where
+pub record IsEntered (scene : Scene) (line : ℕ) (a : Expr) (m v : Obj) (env : Env) (h : Handled) (event : ℕ) (ts : List Own) (i : ℕ) (rest : List Own) : Type 0 where
   pub loaded : ℕ
   pub behind_atom : List Own
-  pub loads : Loads scene line env h a event ts (Gives m loaded behind_atom)
+  pub loads : Evaluates scene line env h a event ts (Gives m loaded behind_atom)
   pub enters : Requests scene line (request.Enter m) h loaded behind_atom (Gives v i rest)
 
 -- an exit behind no raise is answered, whatever the answer is, and the body's outcome goes on
@@ -196,10 +195,10 @@ LacksExit scene line m env h event ts whole =
     ⊎ ((p : Payload) × HasPayload scene.objects m p × (is_manager p ≡ false) × Requests scene line (request.NoExit m) h event ts (Stops env whole))
 
 -- a with is stopped in front of its body: at the load of its manager, at its entry, or behind that
-abbrev pub EntryStops : Scene → ℕ → Atom → Env → Handled → ℕ → List Own → Point → Type 0
+abbrev pub EntryStops : Scene → ℕ → Expr → Env → Handled → ℕ → List Own → Point → Type 0
 EntryStops scene line a env h event ts whole =
-    Loads scene line env h a event ts (Stops env whole)
-    ⊎ (((m : Obj) × (i : ℕ) × (mid : List Own) × Loads scene line env h a event ts (Gives m i mid) × Requests scene line (request.Enter m) h i mid (Stops env whole))
+    Evaluates scene line env h a event ts (Stops env whole)
+    ⊎ (((m : Obj) × (i : ℕ) × (mid : List Own) × Evaluates scene line env h a event ts (Gives m i mid) × Requests scene line (request.Enter m) h i mid (Stops env whole))
     ⊎ ((m : Obj) × (v : Obj) × (i : ℕ) × (rest : List Own) × IsEntered scene line a m v env h event ts i rest × LacksExit scene line m env h i rest whole))
 
 -- behind the raise of e the exit stops the with, or the test of its answer does
@@ -217,7 +216,7 @@ ExitStops scene line m h body whole =
 -- a with is stopped in front of its body, or its body runs, with the value bound or dropped, and behind it the exit is asked, and stops the with
 -- or ends it
 abbrev pub ExitIsAsked : Type 0
-ExitIsAsked = (scene : Scene) (line : ℕ) (a : Atom) (x : Option Name) (s : Suite) (env : Env) (h : Handled) (event : ℕ) (ts : List Own) (whole : Point)
+ExitIsAsked = (scene : Scene) (line : ℕ) (a : Expr) (x : Option Name) (s : Suite) (env : Env) (h : Handled) (event : ℕ) (ts : List Own) (whole : Point)
     → Reaches (Runs scene line (WithForm a x s)) env h event ts whole
     → EntryStops scene line a env h event ts whole
     ⊎ ((m : Obj) × (v : Obj) × (i : ℕ) × (rest : List Own) × IsEntered scene line a m v env h event ts i rest
@@ -226,7 +225,7 @@ ExitIsAsked = (scene : Scene) (line : ℕ) (a : Atom) (x : Option Name) (s : Sui
 
 -- and wherever its body may end behind the entry of a manager, and the exit be answered, the with does
 abbrev pub ExitGoesOn : Type 0
-ExitGoesOn = (scene : Scene) (line : ℕ) (a : Atom) (x : Option Name) (s : Suite) (env : Env) (h : Handled) (event : ℕ) (ts : List Own) (m v : Obj) (manager : ManagerBody) (i : ℕ) (rest : List Own) (body whole : Point)
+ExitGoesOn = (scene : Scene) (line : ℕ) (a : Expr) (x : Option Name) (s : Suite) (env : Env) (h : Handled) (event : ℕ) (ts : List Own) (m v : Obj) (manager : ManagerBody) (i : ℕ) (rest : List Own) (body whole : Point)
     → IsEntered scene line a m v env h event ts i rest → HasPayload scene.objects m (payload.Manager manager)
     → Reaches (RunsSuite scene s) (bind x v env) h i rest body → ExitEnds scene line m h body whole
     → Reaches (Runs scene line (WithForm a x s)) env h event ts whole

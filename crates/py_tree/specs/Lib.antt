@@ -1,8 +1,11 @@
 -- bodies as plain trees, and those of the program as such
 pub mod Tree
+pub mod ExprViews
 pub mod Views
 -- the names of a body, and its locals
 pub mod Binding
+-- what operators do with their values
+pub mod Operators
 -- what a tree may tell
 pub mod Scene
 pub mod Outcome

@@ -4,8 +4,6 @@
 -- where nothing is left to tell.
 -- (Python Language Reference, 3.3.9, 4.1, 4.2, 4.3, 6.2.9, 6.3.4, 6.10, 6.16, 7 and 8.1, 8.2, 8.4, 8.5)
 use Rattle.std.specs.Prelude.{ℕ, zero, suc, Bool, true, false, Option, Some, None, List, [], ◌∷◌, ◌≡◌, ◌⊎◌}
-use Rattle.py_code.specs.declared.operator.BinaryOperator.TheVariants as binary
-use Rattle.py_code.specs.declared.operator.ComparisonOperator.TheVariants as comparison
 use Rattle.py_objects.specs.declared.refs.PyBaseExceptionRef.{PyBaseExceptionRef}
 use Rattle.py_objects.specs.declared.payload.Payload.{Payload}
 use Rattle.py_objects.specs.declared.payload.Payload.TheVariants as payload
@@ -18,11 +16,8 @@ use Rattle.py_objects.specs.Callees.{call_request, is_manager}
 use Rattle.py_objects.specs.Telling.{Given, Failed, Stopped, AfterValue, IsLiteral, Asked, Yielded, Rounded}
 use Rattle.py_tree.specs.declared.expr.Atom.{Atom}
 use Rattle.py_tree.specs.declared.expr.Atom.TheVariants as atom
-use Rattle.py_tree.specs.declared.expr.Expr.{Expr}
-use Rattle.py_tree.specs.declared.expr.Expr.TheVariants as expr
-use Rattle.py_tree.specs.declared.expr.Operation.{Operation}
-use Rattle.py_tree.specs.declared.expr.Operation.TheVariants as operation
-use Rattle.py_tree.specs.Tree.{Name, Form, Assign, Do, Show, Return, Raise, Reraise, Break, Continue, Pass, If, IfElse, While, TryExcept, TryFinally, With as WithForm, Suite, nothing, first, Clauses, no_more, clause}
+use Rattle.py_tree.specs.Operators.{Way, Asks_one, Asks_two, Calls_it, Yields_it, way_of}
+use Rattle.py_tree.specs.Tree.{Name, Expr, Leaf, Operate, Exprs, no_operands, operand, Form, Assign, Do, Show, Return, Raise, Reraise, Break, Continue, Pass, If, IfElse, While, TryExcept, TryFinally, With as WithForm, Suite, nothing, first, Clauses, no_more, clause}
 use Rattle.py_tree.specs.Binding.{Env, find_local, set_local, bind}
 use Rattle.py_tree.specs.Scene.{Scene}
 
@@ -59,10 +54,6 @@ Use env K next (Given v) event ts = next v event ts
 Use env K next (Failed e) event ts = K env (Raises e) event ts
 Use env K next Stopped event ts = K env Cut event ts
 
--- the request of a throw into a generator, without a value or a traceback beside what is thrown
-abbrev pub throws : Obj → Obj → Request
-throws g c = request.Throw g c None None
-
 -- what holds by a truth value
 abbrev pub By_truth : Bool → Type 0 → Type 0 → Type 0
 By_truth true P Q = P
@@ -91,45 +82,36 @@ module _ (scene : Scene) where
   Loads line env h (atom.Str s) event ts K = IsLiteral scene.objects (payload.Str s) event ts K
   Loads line env h (atom.Name x) event ts K = Named line (find_local x env) x h event ts K
 
-  -- atoms from the left
-  abbrev pub LoadsAll : ℕ → Env → Handled → List Atom → ℕ → List Own → AfterValue → (List Obj → ℕ → List Own → Type 0) → Type 0
-  LoadsAll line env h [] event ts K next = next [] event ts
-  LoadsAll line env h (a ∷ atoms) event ts K next = Loads line env h a event ts (With K (λ v i mid. LoadsAll line env h atoms i mid K (λ vs. next (v ∷ vs))))
-
-  -- the request of two operands
-  abbrev pub RequestsTwo : ℕ → Env → Handled → Atom → Atom → (Obj → Obj → Request) → ℕ → List Own → AfterValue → Type 0
-  RequestsTwo line env h a b r event ts K = Loads line env h a event ts (With K (λ v i mid. Loads line env h b i mid (With K (λ w j rest. Requests line (r v w) h j rest K))))
-
   -- the request that the call of an object comes to, by its payload
   abbrev pub Calls : ℕ → Obj → List Obj → Handled → ℕ → List Own → AfterValue → Type 0
   Calls line f vs h event ts K = ((ts ≡ []) × K Stopped event []) ⊎ ((p : Payload) × HasPayload scene.objects f p × Requests line (call_request p f vs) h event ts K)
 
-  -- the value of an operation
-  abbrev pub Operates : ℕ → Env → Handled → Operation → ℕ → List Own → AfterValue → Type 0
-  Operates line env h (operation.Add a b) event ts K = RequestsTwo line env h a b (request.Binary binary.Add) event ts K
-  Operates line env h (operation.Sub a b) event ts K = RequestsTwo line env h a b (request.Binary binary.Subtract) event ts K
-  Operates line env h (operation.Lt a b) event ts K = RequestsTwo line env h a b (request.Compare comparison.Less) event ts K
-  Operates line env h (operation.Eq a b) event ts K = RequestsTwo line env h a b (request.Compare comparison.Equal) event ts K
-  Operates line env h (operation.Send a b) event ts K = RequestsTwo line env h a b request.Send event ts K
-  Operates line env h (operation.Throw a b) event ts K = RequestsTwo line env h a b throws event ts K
-  Operates line env h (operation.Close a) event ts K = Loads line env h a event ts (With K (λ g i mid. Requests line (request.Close g) h i mid K))
-  Operates line env h (operation.Yield a) event ts K = Loads line env h a event ts (With K (λ v i mid. Suspends line v i mid K))
-  Operates line env h (operation.Call f atoms) event ts K =
-      Loads line env h f event ts (With K (λ g i mid. LoadsAll line env h atoms i mid K (λ vs j rest. Calls line g vs h j rest K)))
+  -- what an operator does with the values of its operands; where these aren't as many as it takes the telling is cut
+  abbrev pub Finishes : ℕ → Way → List Obj → Handled → ℕ → List Own → AfterValue → Type 0
+  Finishes line (Asks_one r) (v ∷ []) h event ts K = Requests line (r v) h event ts K
+  Finishes line (Asks_two r) (v ∷ w ∷ []) h event ts K = Requests line (r v w) h event ts K
+  Finishes line Calls_it (f ∷ vs) h event ts K = Calls line f vs h event ts K
+  Finishes line Yields_it (v ∷ []) h event ts K = Suspends line v event ts K
+  Finishes line way vs h event ts K = (ts ≡ []) × K Stopped event []
 
-  -- the value of an expression
-  abbrev pub Evaluates : ℕ → Env → Handled → Expr → ℕ → List Own → AfterValue → Type 0
-  Evaluates line env h (expr.Atom a) event ts K = Loads line env h a event ts K
-  Evaluates line env h (expr.Operation o) event ts K = Operates line env h o event ts K
+  abbrev mutual
+    -- the value of an expression: operands from the left, then what the operator does with them
+    pub Evaluates : ℕ → Env → Handled → Expr → ℕ → List Own → AfterValue → Type 0
+    Evaluates line env h (Leaf a) event ts K = Loads line env h a event ts K
+    Evaluates line env h (Operate o es) event ts K = EvaluatesAll line env h es event ts K (λ vs i mid. Finishes line (way_of o) vs h i mid K)
+
+    pub EvaluatesAll : ℕ → Env → Handled → Exprs → ℕ → List Own → AfterValue → (List Obj → ℕ → List Own → Type 0) → Type 0
+    EvaluatesAll line env h no_operands event ts K next = next [] event ts
+    EvaluatesAll line env h (operand e es) event ts K next = Evaluates line env h e event ts (With K (λ v i mid. EvaluatesAll line env h es i mid K (λ vs. next (v ∷ vs))))
 
   -- the truth of an object, which is asked for and answered by a truth value
   abbrev pub Tests : ℕ → Env → Handled → Obj → ℕ → List Own → After → (Bool → ℕ → List Own → Type 0) → Type 0
   Tests line env h v event ts K next =
       Requests line (request.Truth v) h event ts (Use env K (λ w i mid. (b : Bool) × HasPayload scene.objects w (payload.Bool b) × next b i mid))
 
-  -- an atom is loaded and tested
-  abbrev pub Chooses : ℕ → Env → Handled → Atom → ℕ → List Own → After → (Bool → ℕ → List Own → Type 0) → Type 0
-  Chooses line env h a event ts K next = Loads line env h a event ts (Use env K (λ v i mid. Tests line env h v i mid K next))
+  -- an expression is evaluated and tested
+  abbrev pub Chooses : ℕ → Env → Handled → Expr → ℕ → List Own → After → (Bool → ℕ → List Own → Type 0) → Type 0
+  Chooses line env h e event ts K next = Evaluates line env h e event ts (Use env K (λ v i mid. Tests line env h v i mid K next))
 
 -- ---- what follows the parts of a statement
 
@@ -232,7 +214,7 @@ module _ (scene : Scene) where
 
 module _ (scene : Scene) where
   -- a loop whose body is begun at most n times: a round, the test, and where it is true the body and the loop again
-  abbrev pub Loops : ℕ → Atom → Runner → ℕ → Runner
+  abbrev pub Loops : ℕ → Expr → Runner → ℕ → Runner
   Loops line a body zero env h event ts K =
       Rounded ts (K env Cut event []) (λ mid. Chooses scene line env h a event mid K (λ b i left. By_truth b ⊥ (K env Normal i left)))
   Loops line a body (suc n) env h event ts K =
@@ -247,12 +229,12 @@ module _ (scene : Scene) where
     -- a statement of a line
     pub Runs : ℕ → Form → Runner
     Runs line (Assign x e) env h event ts K = Evaluates scene line env h e event ts (Use env K (λ v. K (set_local x (Some v) env) Normal))
-    Runs line (Do o) env h event ts K = Operates scene line env h o event ts (Use env K (λ v. K env Normal))
+    Runs line (Do o es) env h event ts K = Evaluates scene line env h (Operate o es) event ts (Use env K (λ v. K env Normal))
     Runs line (Show a) env h event ts K =
-        Loads scene line env h a event ts (Use env K (λ v i mid. Requests scene line (request.Show v) h i mid (Use env K (λ u. K env Normal))))
-    Runs line (Return a) env h event ts K = Loads scene line env h a event ts (Use env K (λ v. K env (Returns v)))
+        Evaluates scene line env h a event ts (Use env K (λ v i mid. Requests scene line (request.Show v) h i mid (Use env K (λ u. K env Normal))))
+    Runs line (Return a) env h event ts K = Evaluates scene line env h a event ts (Use env K (λ v. K env (Returns v)))
     Runs line (Raise a) env h event ts K =
-        Loads scene line env h a event ts (Use env K (λ v i mid. Requests scene line (request.Raisable v) h i mid (Use env K (λ w. K env (Raises (as_exception w))))))
+        Evaluates scene line env h a event ts (Use env K (λ v i mid. Requests scene line (request.Raisable v) h i mid (Use env K (λ w. K env (Raises (as_exception w))))))
     Runs line Reraise env h event ts K = Reraises line env h event ts K
     Runs line Break env h event ts K = K env Breaks event ts
     Runs line Continue env h event ts K = K env Continues event ts
@@ -265,7 +247,7 @@ module _ (scene : Scene) where
     Runs line (TryExcept s cs) env h event ts K = RunsSuite s env h event ts (On_raise K (λ e env1 i mid. Tries line cs e env1 (Some e) i mid K))
     Runs line (TryFinally s t) env h event ts K = Finally (RunsSuite s) (RunsSuite t) env h event ts K
     Runs line (WithForm a x s) env h event ts K =
-        Loads scene line env h a event ts (Use env K (λ m i mid. Requests scene line (request.Enter m) h i mid (Use env K (λ v j rest. Manages scene line m x v (RunsSuite s) env h j rest K))))
+        Evaluates scene line env h a event ts (Use env K (λ m i mid. Requests scene line (request.Enter m) h i mid (Use env K (λ v j rest. Manages scene line m x v (RunsSuite s) env h j rest K))))
 
     -- statements in order
     pub RunsSuite : Suite → Runner

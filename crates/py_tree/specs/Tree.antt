@@ -6,27 +6,37 @@ pub use Rattle.py_objects.specs.Refs.{Name}
 use Rattle.py_tree.specs.declared.body.BodyKind.{BodyKind}
 use Rattle.py_tree.specs.declared.body.BodyKind.TheVariants.{Function, Generator}
 use Rattle.py_tree.specs.declared.expr.Atom.{Atom}
-use Rattle.py_tree.specs.declared.expr.Expr.{Expr}
-use Rattle.py_tree.specs.declared.expr.Operation.{Operation}
+use Rattle.py_tree.specs.declared.expr.Operator.{Operator}
+
+mutual
+  -- an expression
+  pub data Expr : Type 0 where
+    Leaf : Atom → Expr  -- a
+    Operate : Operator → Exprs → Expr  -- (op e ..)
+
+  -- operands in order
+  pub data Exprs : Type 0 where
+    no_operands : Exprs
+    operand : Expr → Exprs → Exprs
 
 mutual
   -- a statement
   pub data Form : Type 0 where
     Assign : Name → Expr → Form  -- x = e
-    Do : Operation → Form  -- do (op a ..)
-    Show : Atom → Form  -- show a
-    Return : Atom → Form  -- return a
-    Raise : Atom → Form  -- raise a
+    Do : Operator → Exprs → Form  -- do (op e ..)
+    Show : Expr → Form  -- show e
+    Return : Expr → Form  -- return e
+    Raise : Expr → Form  -- raise e
     Reraise : Form  -- reraise
     Break : Form  -- break
     Continue : Form  -- continue
     Pass : Form  -- pass
-    If : Atom → Suite → Form  -- if a
-    IfElse : Atom → Suite → Suite → Form  -- if a, with an else
-    While : Atom → Suite → Form  -- while a
+    If : Expr → Suite → Form  -- if e
+    IfElse : Expr → Suite → Suite → Form  -- if e, with an else
+    While : Expr → Suite → Form  -- while e
     TryExcept : Suite → Clauses → Form  -- try, with clauses
     TryFinally : Suite → Suite → Form  -- try, with a finally
-    With : Atom → Option Name → Suite → Form  -- with a, or with a as x
+    With : Expr → Option Name → Suite → Form  -- with e, or with e as x
 
   -- statements in order, each with its line
   pub data Suite : Type 0 where

@@ -5,26 +5,27 @@ use Rattle.py_tree.specs.declared.stmt.Clause.{Clause'}
 use Rattle.py_tree.specs.declared.stmt.StmtForm.{StmtForm}
 use Rattle.py_tree.specs.declared.stmt.StmtForm.TheVariants as stmt
 use Rattle.py_tree.specs.declared.body.Body.{Body}
+use Rattle.py_tree.specs.ExprViews.{expr_of, exprs_of}
 use Rattle.py_tree.specs.Tree.{Form, Assign, Do, Show, Return, Raise, Reraise, Break, Continue, Pass, If, IfElse, While, TryExcept, TryFinally, With, Suite, nothing, first, Clauses, no_more, clause, Tree}
 
 -- a statement, a list of statements and a list of clauses
 abbrev mutual
   pub form_of : StmtForm → Form
-  form_of (stmt.Assign x e) = Assign x e
-  form_of (stmt.Do o) = Do o
-  form_of (stmt.Show a) = Show a
-  form_of (stmt.Return a) = Return a
-  form_of (stmt.Raise a) = Raise a
+  form_of (stmt.Assign x e) = Assign x (expr_of e)
+  form_of (stmt.Do o es) = Do o (exprs_of es)
+  form_of (stmt.Show e) = Show (expr_of e)
+  form_of (stmt.Return e) = Return (expr_of e)
+  form_of (stmt.Raise e) = Raise (expr_of e)
   form_of stmt.Reraise = Reraise
   form_of stmt.Break = Break
   form_of stmt.Continue = Continue
   form_of stmt.Pass = Pass
-  form_of (stmt.If a s) = If a (suite_of s)
-  form_of (stmt.IfElse a s t) = IfElse a (suite_of s) (suite_of t)
-  form_of (stmt.While a s) = While a (suite_of s)
+  form_of (stmt.If e s) = If (expr_of e) (suite_of s)
+  form_of (stmt.IfElse e s t) = IfElse (expr_of e) (suite_of s) (suite_of t)
+  form_of (stmt.While e s) = While (expr_of e) (suite_of s)
   form_of (stmt.TryExcept s cs) = TryExcept (suite_of s) (clauses_of cs)
   form_of (stmt.TryFinally s t) = TryFinally (suite_of s) (suite_of t)
-  form_of (stmt.With a x s) = With a x (suite_of s)
+  form_of (stmt.With e x s) = With (expr_of e) x (suite_of s)
 
   pub suite_of : StmtList → Suite
   suite_of (StmtList' shape row) = row_suite row

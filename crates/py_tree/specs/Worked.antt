@@ -10,7 +10,7 @@ use Rattle.py_objects.specs.Objects.{Obj, HasPayload, as_object}
 use Rattle.py_objects.specs.Own.{Own, Makes, Resumes, Asks, Gets, Rounds, Ends}
 use Rattle.py_tree.specs.declared.body.BodyKind.TheVariants.{Function}
 use Rattle.py_tree.specs.declared.expr.Atom.TheVariants as atom
-use Rattle.py_tree.specs.Tree.{Name, Return, Show, Raise, Break, Pass, While, TryExcept, TryFinally, Suite, nothing, first, no_more, clause, Tree}
+use Rattle.py_tree.specs.Tree.{Name, Leaf, Return, Show, Raise, Break, Pass, While, TryExcept, TryFinally, Suite, nothing, first, no_more, clause, Tree}
 use Rattle.py_tree.specs.Scene.{Scene, anywhere}
 use Rattle.py_tree.specs.Outcome.{Handled}
 use Rattle.py_tree.specs.Trace.{IsTrace}
@@ -25,7 +25,7 @@ e_name = codes "E"
 
 -- try / return None / finally / show None / end
 abbrev pub shows_behind : Tree
-shows_behind = function (first 2 (TryFinally (first 3 (Return atom.None) nothing) (first 5 (Show atom.None) nothing)) nothing)
+shows_behind = function (first 2 (TryFinally (first 3 (Return (Leaf atom.None)) nothing) (first 5 (Show (Leaf atom.None)) nothing)) nothing)
 
 -- it doesn't return before it has shown
 abbrev pub NoFinallySkipped : Type 0
@@ -39,7 +39,7 @@ ShownIsTrace = (globals u : Obj)
 
 -- while True / try / break / finally / show None / end / end
 abbrev pub breaks_behind : Tree
-breaks_behind = function (first 2 (While (atom.Bool true) (first 3 (TryFinally (first 4 Break nothing) (first 6 (Show atom.None) nothing)) nothing)) nothing)
+breaks_behind = function (first 2 (While (Leaf (atom.Bool true)) (first 3 (TryFinally (first 4 Break nothing) (first 6 (Show (Leaf atom.None)) nothing)) nothing)) nothing)
 
 -- nor does it leave its loop before it has shown
 abbrev pub NoFinallyBrokenOutOf : Type 0
@@ -55,7 +55,7 @@ LeftIsTrace = (globals u : Obj)
 
 -- try / raise E / finally / return None / end
 abbrev pub returns_behind : Tree
-returns_behind = function (first 2 (TryFinally (first 3 (Raise (atom.Name e_name)) nothing) (first 5 (Return atom.None) nothing)) nothing)
+returns_behind = function (first 2 (TryFinally (first 3 (Raise (Leaf (atom.Name e_name))) nothing) (first 5 (Return (Leaf atom.None)) nothing)) nothing)
 
 -- the return takes the place of the exception
 abbrev pub NoExceptionLetOut : Type 0
@@ -73,7 +73,7 @@ ReturnedIsTrace = (globals v w : Obj)
 
 -- try / show None / except E / pass / end / show None
 abbrev pub shows_in_try : Tree
-shows_in_try = function (first 2 (TryExcept (first 3 (Show atom.None) nothing) (clause 4 e_name None (first 5 Pass nothing) no_more)) (first 7 (Show atom.None) nothing))
+shows_in_try = function (first 2 (TryExcept (first 3 (Show (Leaf atom.None)) nothing) (clause 4 e_name None (first 5 Pass nothing) no_more)) (first 7 (Show (Leaf atom.None)) nothing))
 
 -- what it tells where the first show raises e: w is the clause's class, m answers whether it matches, u whether m is true, and the last show asks
 -- while h is handled

@@ -11,9 +11,8 @@ use Rattle.py_objects.specs.Objects.{Obj, HasPayload}
 use Rattle.py_objects.specs.Own.{Makes, Resumes, Asks, Gets, Yields, Ends}
 use Rattle.py_tree.specs.declared.body.BodyKind.TheVariants.{Generator}
 use Rattle.py_tree.specs.declared.expr.Atom.TheVariants as atom
-use Rattle.py_tree.specs.declared.expr.Expr.TheVariants as expr
-use Rattle.py_tree.specs.declared.expr.Operation.TheVariants as operation
-use Rattle.py_tree.specs.Tree.{Name, Assign, Show, Pass, TryExcept, Suite, nothing, first, no_more, clause, Tree}
+use Rattle.py_tree.specs.declared.expr.Operator.TheVariants as operator
+use Rattle.py_tree.specs.Tree.{Name, Leaf, Operate, operand, no_operands, Assign, Show, Pass, TryExcept, Suite, nothing, first, no_more, clause, Tree}
 use Rattle.py_tree.specs.Scene.{Scene, anywhere}
 use Rattle.py_tree.specs.Outcome.{Handled}
 use Rattle.py_tree.specs.Trace.{IsTrace}
@@ -28,7 +27,7 @@ generator s = record { kind = Generator; name = codes "g"; params = []; suite = 
 
 -- x = (yield 1) / show x
 abbrev pub yields_one : Tree
-yields_one = generator (first 2 (Assign x_name (expr.Operation (operation.Yield (atom.Int (pos 1))))) (first 3 (Show (atom.Name x_name)) nothing))
+yields_one = generator (first 2 (Assign x_name (Operate operator.Yield (operand (Leaf (atom.Int (pos 1))) no_operands))) (first 3 (Show (Leaf (atom.Name x_name))) nothing))
 
 -- it yields 1 from its line, and shows what it is sent, where object 0 is None and object 1 is 1
 abbrev pub YieldedIsTrace : Type 0
@@ -48,7 +47,7 @@ NoneGoesOnAlone = (scene : Scene) (k at after : ℕ) (v w : Obj) → IsTrace sce
 
 -- try / show None / except E / pass / end
 abbrev pub guards : Tree
-guards = generator (first 2 (TryExcept (first 3 (Show atom.None) nothing) (clause 4 e_name None (first 5 Pass nothing) no_more)) nothing)
+guards = generator (first 2 (TryExcept (first 3 (Show (Leaf atom.None)) nothing) (clause 4 e_name None (first 5 Pass nothing) no_more)) nothing)
 
 -- what is thrown into a generator that hasn't started ends it
 abbrev pub ThrownInIsTrace : Type 0

@@ -9,7 +9,7 @@ use Rattle.py_objects.specs.declared.event.Ending.TheVariants as ending
 use Rattle.py_objects.specs.Objects.{Obj, HasPayload, as_object}
 use Rattle.py_objects.specs.Own.{Own, Makes, Resumes, Asks, Gets, Ends}
 use Rattle.py_tree.specs.declared.expr.Atom.TheVariants as atom
-use Rattle.py_tree.specs.Tree.{Name, Show, Pass, TryExcept, TryFinally, nothing, first, no_more, clause, Tree}
+use Rattle.py_tree.specs.Tree.{Name, Leaf, Show, Pass, TryExcept, TryFinally, nothing, first, no_more, clause, Tree}
 use Rattle.py_tree.specs.Scene.{Scene}
 use Rattle.py_tree.specs.Trace.{IsTrace}
 use Rattle.py_tree.specs.Worked.{e_name, function}
@@ -25,7 +25,7 @@ none_object = record { number = 0 }
 
 -- try / show None / finally / show None / end
 abbrev pub shows_twice : Tree
-shows_twice = function (first 2 (TryFinally (first 3 (Show atom.None) nothing) (first 5 (Show atom.None) nothing)) nothing)
+shows_twice = function (first 2 (TryFinally (first 3 (Show (Leaf atom.None)) nothing) (first 5 (Show (Leaf atom.None)) nothing)) nothing)
 
 -- a finally that a raise enters handles it, and passes it on
 abbrev pub FinallyHandles : Type 0
@@ -43,7 +43,7 @@ NoFinallyForgets = (scene : Scene) (k at l after : ℕ) (v : Obj) (e : PyBaseExc
 
 -- try / show None / except E / pass / end
 abbrev pub passes_over : Tree
-passes_over = function (first 2 (TryExcept (first 3 (Show atom.None) nothing) (clause 4 e_name None (first 5 Pass nothing) no_more)) nothing)
+passes_over = function (first 2 (TryExcept (first 3 (Show (Leaf atom.None)) nothing) (clause 4 e_name None (first 5 Pass nothing) no_more)) nothing)
 
 -- what it tells where the show raises e and u answers the test, up to where the exception is asked for by a unit at a place
 abbrev pub passed_events : ℕ → Obj → Obj → Obj → Obj → Obj → PyBaseExceptionRef → List Own → List Own
@@ -68,7 +68,7 @@ x_name = codes "x"
 
 -- try / show None / except E as x / pass / end / show x
 abbrev pub forgets : Tree
-forgets = function (first 2 (TryExcept (first 3 (Show atom.None) nothing) (clause 4 e_name (Some x_name) (first 5 Pass nothing) no_more)) (first 7 (Show (atom.Name x_name)) nothing))
+forgets = function (first 2 (TryExcept (first 3 (Show (Leaf atom.None)) nothing) (clause 4 e_name (Some x_name) (first 5 Pass nothing) no_more)) (first 7 (Show (Leaf (atom.Name x_name))) nothing))
 
 -- behind its clause the name is unset, and nothing is handled
 abbrev pub NameIsForgotten : Type 0

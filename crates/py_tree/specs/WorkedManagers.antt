@@ -11,7 +11,7 @@ use Rattle.py_objects.specs.declared.event.Ending.TheVariants as ending
 use Rattle.py_objects.specs.Objects.{Obj, HasPayload, as_object, class_object}
 use Rattle.py_objects.specs.Own.{Own, Makes, Resumes, Asks, Gets, Ends}
 use Rattle.py_tree.specs.declared.expr.Atom.TheVariants as atom
-use Rattle.py_tree.specs.Tree.{Name, Return, Reraise, Show, With, nothing, first, Tree}
+use Rattle.py_tree.specs.Tree.{Name, Leaf, Return, Reraise, Show, With, nothing, first, Tree}
 use Rattle.py_tree.specs.Scene.{Scene}
 use Rattle.py_tree.specs.Trace.{IsTrace}
 use Rattle.py_tree.specs.Worked.{function}
@@ -36,7 +36,7 @@ managing m x globals = record { objects = payload.None ∷ payload.Bool true ∷
 
 -- with M as x / show None / end / show x
 abbrev pub shows_in_with : Tree
-shows_in_with = function (first 2 (With (atom.Name m_name) (Some x_name) (first 3 (Show atom.None) nothing)) (first 5 (Show (atom.Name x_name)) nothing))
+shows_in_with = function (first 2 (With (Leaf (atom.Name m_name)) (Some x_name) (first 3 (Show (Leaf atom.None)) nothing)) (first 5 (Show (Leaf (atom.Name x_name))) nothing))
 
 -- the exit is told the exception, which it handles, and t; its answer is true, so that the function goes on behind the with, where x is
 -- what the manager gave and nothing is handled
@@ -51,7 +51,7 @@ SwallowedIsTrace = (body : ManagerBody) (x : ExceptionBody) (globals v t w u : O
 
 -- with M / return None / end
 abbrev pub returns_in_with : Tree
-returns_in_with = function (first 2 (With (atom.Name m_name) None (first 3 (Return atom.None) nothing)) nothing)
+returns_in_with = function (first 2 (With (Leaf (atom.Name m_name)) None (first 3 (Return (Leaf atom.None)) nothing)) nothing)
 
 -- what it tells up to where the manager is entered
 abbrev pub entered_events : ℕ → ℕ → ℕ → Obj → Obj → Obj → List Own → List Own
@@ -78,7 +78,7 @@ NoReturnSwallowed = (scene : Scene) (k a b c at : ℕ) (m v r s t w : Obj)
 
 -- with M / reraise / end
 abbrev pub raises_in_with : Tree
-raises_in_with = function (first 2 (With (atom.Name m_name) None (first 3 Reraise nothing)) nothing)
+raises_in_with = function (first 2 (With (Leaf (atom.Name m_name)) None (first 3 Reraise nothing)) nothing)
 
 -- what it tells up to where its body raises
 abbrev pub raised_events : ℕ → ℕ → ℕ → ℕ → Obj → Obj → Obj → PyBaseExceptionRef → List Own → List Own

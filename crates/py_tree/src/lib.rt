@@ -8,7 +8,7 @@ mod stmt;
 mod worked;
 
 pub use body::{Body, BodyKind, ParamList};
-pub use expr::{Atom, AtomList, Expr, Operation};
+pub use expr::{Atom, Expr, ExprList, Operator};
 pub use laws::{laws_of_endings, laws_of_traces};
 pub use stmt::{Clause, ClauseList, Stmt, StmtForm, StmtList};
 pub use worked::{worked_handlers, worked_managers, worked_trees, worked_yields};

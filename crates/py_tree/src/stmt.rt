@@ -5,7 +5,7 @@ ghost use Rattle.py_tree.specs.Tree.{no_more, nothing};
 ghost use Rattle.py_tree.specs.Views.{clauses_of, suite_of};
 ghost use Rattle.py_tree.specs.Suites.{clauses_item, clauses_length, handler_of, line_of, list_clauses, list_suite, suite_item, suite_length, clauses_with, suite_with};
 
-use crate::expr::{Atom, Expr, Operation};
+use crate::expr::{Expr, ExprList, Operator};
 use py_code::{NoMemory, PyText};
 use std::alloc::Global;
 
@@ -23,14 +23,14 @@ pub struct Stmt {
 pub enum StmtForm {
     /// `x = e`: a value is bound to a name.
     Assign(PyText, Expr),
-    /// `do (op a ..)`: the operator's value is dropped.
-    Do(Operation),
-    /// `show a`.
-    Show(Atom),
-    /// `return a`.
-    Return(Atom),
-    /// `raise a`.
-    Raise(Atom),
+    /// `do (op e ..)`: the operator's value is dropped.
+    Do(Operator, ExprList),
+    /// `show e`.
+    Show(Expr),
+    /// `return e`.
+    Return(Expr),
+    /// `raise e`.
+    Raise(Expr),
     /// `reraise`: the exception that is handled is raised again.
     Reraise,
     /// `break`: the innermost loop ends.
@@ -39,18 +39,18 @@ pub enum StmtForm {
     Continue,
     /// `pass`, which does nothing.
     Pass,
-    /// `if a`, its suite, `end`.
-    If(Atom, StmtList),
-    /// `if a`, its suite, `else`, the other suite, `end`.
-    IfElse(Atom, StmtList, StmtList),
-    /// `while a`, its suite, `end`.
-    While(Atom, StmtList),
+    /// `if e`, its suite, `end`.
+    If(Expr, StmtList),
+    /// `if e`, its suite, `else`, the other suite, `end`.
+    IfElse(Expr, StmtList, StmtList),
+    /// `while e`, its suite, `end`.
+    While(Expr, StmtList),
     /// `try`, its suite, the clauses, `end`.
     TryExcept(StmtList, ClauseList),
     /// `try`, its suite, `finally`, the other suite, `end`.
     TryFinally(StmtList, StmtList),
-    /// `with a` or `with a as x`, its suite, `end`: the name is what the manager's entry gives, if it has one.
-    With(Atom, Option<PyText>, StmtList),
+    /// `with e` or `with e as x`, its suite, `end`: the name is what the manager's entry gives, if it has one.
+    With(Expr, Option<PyText>, StmtList),
 }
 
 /// `except C` or `except C as x`, and its suite: what a `try` does with an exception of the class.

@@ -2,11 +2,13 @@
 
 ghost use Rattle.std.specs.Prelude.{◌≡◌, ◌≤◌, IfOk, false};
 ghost use Rattle.py_tree.specs.declared.body.BodyKind.TheVariants.{Function, Generator};
-ghost use Rattle.py_tree.specs.Compilable.{IsCompilable, OperationFits, SuiteFits, SuiteNests, statements};
+ghost use Rattle.py_tree.specs.Tree.{Operate};
+ghost use Rattle.py_tree.specs.ExprViews.{expr_of, exprs_of};
+ghost use Rattle.py_tree.specs.Compilable.{IsCompilable, SuiteFits, SuiteNests, statements};
 ghost use Rattle.py_tree.specs.Views.{suite_of, tree_of};
 
 use py_body::{
-    Atom, AtomList, Body, BodyKind, Expr, Operation, ParamList, Stmt, StmtForm, StmtList,
+    Atom, Body, BodyKind, Expr, ExprList, Operator, ParamList, Stmt, StmtForm, StmtList,
 };
 use py_code::{NoMemory, PyText, text_of};
 use std::alloc::Global;
@@ -28,9 +30,10 @@ pub(crate) fn count_down(alloc: Global) -> Result<Body, NoMemory>
 {
     let inner = call_of_less(alloc)?;
     let mut suite = StmtList::new(alloc);
-    suite.push(line(2, StmtForm::Show(name(alloc, b"n")?)))?;
-    suite.push(line(3, StmtForm::If(name(alloc, b"n")?, inner)))?;
-    suite.push(line(7, StmtForm::Return(Atom::Str(text(alloc, b"done")?))))?;
+    suite.push(line(2, StmtForm::Show(Expr::Atom(name(alloc, b"n")?))))?;
+    suite.push(line(3, StmtForm::If(Expr::Atom(name(alloc, b"n")?), inner)))?;
+    let done = Expr::Atom(Atom::Str(text(alloc, b"done")?));
+    suite.push(line(7, StmtForm::Return(done)))?;
     body_of(alloc, BodyKind::Function, b"down", suite)
 }
 
@@ -38,31 +41,25 @@ pub(crate) fn count_down(alloc: Global) -> Result<Body, NoMemory>
 fn call_of_less(alloc: Global) -> Result<StmtList, NoMemory>
     ensures fits { IfOk result (λ suite. SuiteFits Function false (suite_of suite)) }
     ensures nests { IfOk result (λ suite. SuiteNests 0 (suite_of suite)) }
-    ensures counted { IfOk result (λ suite. statements (suite_of suite) ≡ 2) }
+    ensures counted { IfOk result (λ suite. statements (suite_of suite) ≡ 8) }
 {
     let mut suite = StmtList::new(alloc);
+    let operands = ExprList::two(
+        alloc,
+        Expr::Atom(name(alloc, b"n")?),
+        Expr::Atom(Atom::Int(1)),
+    )?;
     suite.push(line(
         4,
-        StmtForm::Assign(text(alloc, b"m")?, Expr::Operation(one_less(alloc)?)),
+        StmtForm::Assign(text(alloc, b"m")?, operation(Operator::Sub, operands)),
     ))?;
-    suite.push(line(5, StmtForm::Do(call_of_down(alloc)?)))?;
+    let operands = ExprList::two(
+        alloc,
+        Expr::Atom(name(alloc, b"down")?),
+        Expr::Atom(name(alloc, b"m")?),
+    )?;
+    suite.push(line(5, StmtForm::Do(Operator::Call, operands)))?;
     Ok(suite)
-}
-
-/// `(sub n 1)`.
-fn one_less(alloc: Global) -> Result<Operation, NoMemory>
-    ensures { IfOk result (λ operation. OperationFits Function operation) }
-{
-    Ok(Operation::Sub(name(alloc, b"n")?, Atom::Int(1)))
-}
-
-/// `(call down m)`.
-fn call_of_down(alloc: Global) -> Result<Operation, NoMemory>
-    ensures { IfOk result (λ operation. OperationFits Function operation) }
-{
-    let mut args = AtomList::new(alloc);
-    args.push(name(alloc, b"m")?)?;
-    Ok(Operation::Call(name(alloc, b"down")?, args))
 }
 
 /// The generator that yields its argument, and then what it is sent:
@@ -77,19 +74,14 @@ pub(crate) fn echo(alloc: Global) -> Result<Body, NoMemory>
     ensures { IfOk result (λ body. IsCompilable (tree_of body)) }
 {
     let mut suite = StmtList::new(alloc);
+    let operands = ExprList::one(alloc, Expr::Atom(name(alloc, b"n")?))?;
     suite.push(line(
         2,
-        StmtForm::Assign(text(alloc, b"x")?, Expr::Operation(yield_of(alloc, b"n")?)),
+        StmtForm::Assign(text(alloc, b"x")?, operation(Operator::Yield, operands)),
     ))?;
-    suite.push(line(3, StmtForm::Do(yield_of(alloc, b"x")?)))?;
+    let operands = ExprList::one(alloc, Expr::Atom(name(alloc, b"x")?))?;
+    suite.push(line(3, StmtForm::Do(Operator::Yield, operands)))?;
     body_of(alloc, BodyKind::Generator, b"echo", suite)
-}
-
-/// `(yield NAME)`.
-fn yield_of(alloc: Global, bytes: &[u8]) -> Result<Operation, NoMemory>
-    ensures { IfOk result (λ operation. OperationFits Generator operation) }
-{
-    Ok(Operation::Yield(name(alloc, bytes)?))
 }
 
 /// A body of this kind and name, whose one parameter is `n` and whose statements are given.
@@ -109,6 +101,13 @@ fn body_of(alloc: Global, kind: BodyKind, name: &[u8], suite: StmtList) -> Resul
         suite,
         line: 1,
     })
+}
+
+/// An operator with its operands.
+fn operation(operator: Operator, operands: ExprList) -> Expr
+    ensures { expr_of result ≡ Operate operator (exprs_of operands) }
+{
+    Expr::Operation(operator, operands)
 }
 
 fn line(line: u32, form: StmtForm) -> Stmt

@@ -1,4 +1,4 @@
-use Rattle.py_lines.proofs.WorkedLemmas.{add_is_a_name, as_is_a_name, call_is_a_drive, call_is_a_name, class_of_itself, class_of_nothing, close_is_a_name, keyword_is_no_name, manager_of_two, next_nothing, no_count_beyond, no_large_number, no_name_behind_as, no_number_below, nothing_behind, nothing_is_blank, throw_is_a_drive, with_as, with_none, yield_is_a_name}
+use Rattle.py_lines.proofs.WorkedLemmas.{add_is_a_name, as_is_a_name, call_is_a_drive, call_is_a_name, call_of_sums, class_of_itself, class_of_nothing, close_is_a_name, keyword_is_no_name, manager_of_two, next_nothing, no_count_beyond, no_large_number, no_name_behind_as, no_number_below, no_close_at_the_end, no_operator_of_this_name, nothing_behind, nothing_in_parentheses, nothing_is_blank, throw_is_a_drive, with_as, with_none, yield_is_a_name}
 use Rattle.py_lines.proofs.worked.worked_lines.Goals as goal
 
 pub returns-clause-call_is_a_name : goal.returns-clause-call_is_a_name
@@ -60,3 +60,15 @@ returns-clause-manager_of_two c = manager_of_two
 
 pub returns-clause-class_of_nothing : goal.returns-clause-class_of_nothing
 returns-clause-class_of_nothing c = class_of_nothing
+
+pub returns-clause-call_of_sums : goal.returns-clause-call_of_sums
+returns-clause-call_of_sums c = call_of_sums
+
+pub returns-clause-nothing_in_parentheses : goal.returns-clause-nothing_in_parentheses
+returns-clause-nothing_in_parentheses c = nothing_in_parentheses
+
+pub returns-clause-no_close_at_the_end : goal.returns-clause-no_close_at_the_end
+returns-clause-no_close_at_the_end c = no_close_at_the_end
+
+pub returns-clause-no_operator_of_this_name : goal.returns-clause-no_operator_of_this_name
+returns-clause-no_operator_of_this_name c = no_operator_of_this_name

@@ -5,14 +5,15 @@ use Rattle.py_code.specs.declared.instruction.Instruction.TheVariants as op
 use Rattle.py_tree.specs.declared.stmt.Clause.{out-Clause}
 use Rattle.py_tree.specs.declared.stmt.StmtForm.{StmtForm}
 use Rattle.py_tree.specs.Tree.{Raise, Return, Show, If, IfElse, Suite, Clauses, TryExcept}
+use Rattle.py_tree.specs.ExprViews.{expr_of}
 use Rattle.py_tree.specs.Views.{clauses_of, form_of, suite_of}
 use Rattle.py_tree.specs.Suites.{list_clauses, list_suite}
 use Rattle.py_laid.specs.Code.{Scope, on, before_finally, in_finally, LaidTaken}
-use Rattle.py_tree.specs.Compilable.{statements, statements_in, statements_under, ClausesNest, FormNests, SuiteNests}
-use Rattle.py_body.specs.Sizes.{size_clauses, size_form, size_suite, size_tried}
+use Rattle.py_tree.specs.Compilable.{parts, statements, statements_in, statements_under, ClausesNest, FormNests, SuiteNests}
+use Rattle.py_body.specs.Sizes.{size_clauses, size_expr, size_form, size_suite, size_tried}
 use Rattle.py_body.specs.Emitting.{draft_of, scope_of, is_inside, end_of, labels_of, EmitsClauses, EmitsSuite, ClausesIn, FormIn, SuiteIn}
 use Rattle.py_body.proofs.Trees.{fits_at, nests_at, statements_at, suite_more}
-use Rattle.py_body.proofs.SizeLemmas.{clauses_most, suite_most}
+use Rattle.py_body.proofs.SizeLemmas.{clauses_most, expr_most, suite_most}
 use Rattle.py_body.proofs.StatementLemmas.{form_taken}
 use Rattle.py_body.proofs.BlockLemmas.{branch_emits, if_else_emits, pass_emits, suite_add, suite_none, while_emits}
 use Rattle.py_body.proofs.ClauseTrees.{clause_fits_at, clause_nests_at, clause_statements_at, clauses_more}
@@ -62,14 +63,14 @@ compile_suite-returns-clause-code t c =
     subst (EmitsSuite c.args.self.now.labels (draft_of c.args.self.now) (draft_of c.loop-stmt.self) (scope_of c.args.scope.now)) all c.loop-stmt.invariant.code
 
 pub compile_form-returns-in-Show-clause-code : goal.compile_form-returns-in-Show-clause-code
-compile_form-returns-in-Show-clause-code t c = rw c.in-Show.is (form_taken _ _ _ _ _ _ (Show c.in-Show.atom) _ _ _ (λ w. refl) (λ whole at next laid. laid) c.compile_taken.ensures.code)
+compile_form-returns-in-Show-clause-code t c = rw c.in-Show.is (form_taken _ _ _ _ _ _ (Show (expr_of c.in-Show.expr)) _ _ _ (λ w. refl) (λ whole at next laid. laid) c.compile_taken.ensures.code)
 
 pub compile_form-returns-in-Return-clause-code : goal.compile_form-returns-in-Return-clause-code
-compile_form-returns-in-Return-clause-code t c = rw c.in-Return.is (form_taken _ _ _ _ _ _ (Return c.in-Return.atom) _ _ _ (λ w. refl) (λ whole at next laid. laid) c.compile_taken-in-Return.ensures.code)
+compile_form-returns-in-Return-clause-code t c = rw c.in-Return.is (form_taken _ _ _ _ _ _ (Return (expr_of c.in-Return.expr)) _ _ _ (λ w. refl) (λ whole at next laid. laid) c.compile_taken-in-Return.ensures.code)
 
 pub compile_form-returns-in-Raise-clause-code : goal.compile_form-returns-in-Raise-clause-code
-compile_form-returns-in-Raise-clause-code t c = rw c.in-Raise.is (form_taken _ _ _ c.args.self.now.labels (scope_of c.args.at.now.scope.now) c.args.at.now.line (Raise c.in-Raise.atom)
-    _ _ _ (λ w. refl) (λ whole at next laid. subst (λ (n : ℕ). LaidTaken whole (scope_of c.args.at.now.scope.now) c.args.at.now.line c.in-Raise.atom op.Raise n at next) c.into.ensures.0 laid) c.compile_taken-in-Raise.ensures.code)
+compile_form-returns-in-Raise-clause-code t c = rw c.in-Raise.is (form_taken _ _ _ c.args.self.now.labels (scope_of c.args.at.now.scope.now) c.args.at.now.line (Raise (expr_of c.in-Raise.expr))
+    _ _ _ (λ w. refl) (λ whole at next laid. subst (λ (n : ℕ). LaidTaken whole (scope_of c.args.at.now.scope.now) c.args.at.now.line (expr_of c.in-Raise.expr) op.Raise n at next) c.into.ensures.0 laid) c.compile_taken-in-Raise.ensures.code)
 
 pub compile_form-returns-in-Pass-clause-code : goal.compile_form-returns-in-Pass-clause-code
 compile_form-returns-in-Pass-clause-code t c = rw c.in-Pass.is (pass_emits c.args.self.now.labels (draft_of c.args.self.now) (scope_of c.args.at.now.scope.now) c.args.at.now.line)
@@ -81,7 +82,7 @@ compile_form-compile_branch-requires t c =
     let is = c.in-If.is in
     let all = ap (λ (f : StmtForm). statements_in (form_of f)) is in
     let smaller : 5 * statements (suite_of c.in-If.suite) + 2 < 5 * statements_in (form_of c.args.form.now) = omega (arith, all) in
-    let few : statements (suite_of c.in-If.suite) ≤ 1048575 = omega (arith, all, c.requires.few) in
+    let few : parts (expr_of c.in-If.expr) + statements (suite_of c.in-If.suite) ≤ 1048575 = omega (arith, all, c.requires.few) in
     let fits = rw is at c.requires.fits in
     let nests = rw is at c.requires.nests in
     search rules
@@ -91,7 +92,7 @@ compile_form-compile_if_else-requires t c =
     let is = c.in-IfElse.is in
     let all = ap (λ (f : StmtForm). statements_in (form_of f)) is in
     let smaller : 5 * (statements (suite_of c.in-IfElse.suite) + statements (suite_of c.in-IfElse.other)) + 2 < 5 * statements_in (form_of c.args.form.now) = omega (arith, all) in
-    let few : statements (suite_of c.in-IfElse.suite) + statements (suite_of c.in-IfElse.other) ≤ 1048575 = omega (arith, all, c.requires.few) in
+    let few : parts (expr_of c.in-IfElse.expr) + statements (suite_of c.in-IfElse.suite) + statements (suite_of c.in-IfElse.other) ≤ 1048575 = omega (arith, all, c.requires.few) in
     let fits = rw is at c.requires.fits in
     let nests = rw is at c.requires.nests in
     search rules
@@ -101,7 +102,7 @@ compile_form-compile_while-requires t c =
     let is = c.in-While.is in
     let all = ap (λ (f : StmtForm). statements_in (form_of f)) is in
     let smaller : 5 * statements (suite_of c.in-While.suite) + 3 < 5 * statements_in (form_of c.args.form.now) = omega (arith, all) in
-    let few : statements (suite_of c.in-While.suite) ≤ 1048575 = omega (arith, all, c.requires.few) in
+    let few : parts (expr_of c.in-While.expr) + statements (suite_of c.in-While.suite) ≤ 1048575 = omega (arith, all, c.requires.few) in
     let fits = rw is at c.requires.fits in
     let nests = rw is at c.requires.nests in
     search rules
@@ -131,7 +132,7 @@ compile_form-compile_with-requires t c =
     let is = c.in-With.is in
     let all = ap (λ (f : StmtForm). statements_in (form_of f)) is in
     let smaller : 5 * statements (suite_of c.in-With.suite) + 3 < 5 * statements_in (form_of c.args.form.now) = omega (arith, all) in
-    let few : statements (suite_of c.in-With.suite) ≤ 1048575 = omega (arith, all, c.requires.few) in
+    let few : parts (expr_of c.in-With.expr) + statements (suite_of c.in-With.suite) ≤ 1048575 = omega (arith, all, c.requires.few) in
     let fits = rw is at c.requires.fits in
     let nests = rw is at c.requires.nests in
     search rules
@@ -152,10 +153,10 @@ compile_branch-returns-clause-code t c =
     let old = draft_of c.args.self.now in
     let suite : Suite = suite_of c.args.suite.now in
     let sizes : c.size_of_suite-size.result ≡ size_suite c.weights-weights.result suite = c.size_of_suite-size.ensures.size in
-    on_ok_weaker c.compile_suite.result (branch_emits (scope_of c.args.at.now.scope.now) c.args.at.now.line c.args.atom.now suite c.label-behind.result
-    (c.label-behind.ensures ∙ (λ k. (end_of old + (c.weights-weights.result.index + c.weights-weights.result.jump + sizes k)) % 2 ^ 32)
-    ∙ (λ k. (end_of old + size_form (c.weights-weights.ensures k) (If c.args.atom.now suite)) % 2 ^ 32))
-    c.in_ok-compile_atom.ensures.code c.in_ok-put_jump.ensures.code) c.compile_suite.ensures.code
+    on_ok_weaker c.compile_suite.result (branch_emits (scope_of c.args.at.now.scope.now) c.args.at.now.line (expr_of c.args.expr.now) suite c.label-behind.result
+    (c.label-behind.ensures ∙ (λ k. (end_of old + (c.size_of_expr-value.ensures.size k + c.weights-weights.result.jump + sizes k)) % 2 ^ 32)
+    ∙ (λ k. (end_of old + size_form (c.weights-weights.ensures k) (If (expr_of c.args.expr.now) suite)) % 2 ^ 32))
+    c.in_ok-compile_expr.ensures.code c.in_ok-put_jump.ensures.code) c.compile_suite.ensures.code
 
 pub compile_if_else-size_of_suite-size-requires : goal.compile_if_else-size_of_suite-size-requires
 compile_if_else-size_of_suite-size-requires t c =
@@ -174,8 +175,8 @@ compile_if_else-compile_suite-requires t c =
     let suite : Suite = suite_of c.args.suite.now in
     let few : statements suite ≤ 1048576 = omega (arith, c.requires.few) in
     let smaller : 5 * statements suite + 1 < 5 * (statements suite + statements (suite_of c.args.other.now)) + 2 = omega arith in
-    let labels : c.put_jump.new.self.labels ≤ 3 = subst (λ (w : ℕ). w ≤ 3) (sym (c.in_ok-put_jump.ensures.widths.0 ∙ c.in_ok-compile_atom.ensures.widths.0)) c.requires.low.0 in
-    let others : c.put_jump.new.self.others ≤ 3 = subst (λ (w : ℕ). w ≤ 3) (sym (c.in_ok-put_jump.ensures.widths.1 ∙ c.in_ok-compile_atom.ensures.widths.1)) c.requires.low.1 in
+    let labels : c.put_jump.new.self.labels ≤ 3 = subst (λ (w : ℕ). w ≤ 3) (sym (c.in_ok-put_jump.ensures.widths.0 ∙ c.in_ok-compile_expr.ensures.widths.0)) c.requires.low.0 in
+    let others : c.put_jump.new.self.others ≤ 3 = subst (λ (w : ℕ). w ≤ 3) (sym (c.in_ok-put_jump.ensures.widths.1 ∙ c.in_ok-compile_expr.ensures.widths.1)) c.requires.low.1 in
     search rules
 
 pub compile_if_else-compile_suite-requires-2 : goal.compile_if_else-compile_suite-requires-2
@@ -184,9 +185,9 @@ compile_if_else-compile_suite-requires-2 t c =
     let few : statements other ≤ 1048576 = omega (arith, c.requires.few) in
     let smaller : 5 * statements other + 1 < 5 * (statements (suite_of c.args.suite.now) + statements other) + 2 = omega arith in
     let labels : c.put_jump-2.new.self.labels ≤ 3 =
-    subst (λ (w : ℕ). w ≤ 3) (sym (c.in_ok-put_jump-2.ensures.widths.0 ∙ c.in_ok-compile_suite.ensures.widths.0 ∙ c.in_ok-put_jump.ensures.widths.0 ∙ c.in_ok-compile_atom.ensures.widths.0)) c.requires.low.0 in
+    subst (λ (w : ℕ). w ≤ 3) (sym (c.in_ok-put_jump-2.ensures.widths.0 ∙ c.in_ok-compile_suite.ensures.widths.0 ∙ c.in_ok-put_jump.ensures.widths.0 ∙ c.in_ok-compile_expr.ensures.widths.0)) c.requires.low.0 in
     let others : c.put_jump-2.new.self.others ≤ 3 =
-    subst (λ (w : ℕ). w ≤ 3) (sym (c.in_ok-put_jump-2.ensures.widths.1 ∙ c.in_ok-compile_suite.ensures.widths.1 ∙ c.in_ok-put_jump.ensures.widths.1 ∙ c.in_ok-compile_atom.ensures.widths.1)) c.requires.low.1 in
+    subst (λ (w : ℕ). w ≤ 3) (sym (c.in_ok-put_jump-2.ensures.widths.1 ∙ c.in_ok-compile_suite.ensures.widths.1 ∙ c.in_ok-put_jump.ensures.widths.1 ∙ c.in_ok-compile_expr.ensures.widths.1)) c.requires.low.1 in
     search rules
 
 pub compile_if_else-returns-clause-code : goal.compile_if_else-returns-clause-code
@@ -197,12 +198,12 @@ compile_if_else-returns-clause-code t c =
     let w = c.weights-weights.result in
     let sizes : c.size_of_suite-size.result ≡ size_suite w suite = c.size_of_suite-size.ensures.size in
     let others : c.size_of_suite-size_other.result ≡ size_suite w other = c.size_of_suite-size_other.ensures.size in
-    on_ok_weaker c.compile_suite-2.result (if_else_emits (scope_of c.args.at.now.scope.now) c.args.at.now.line c.args.atom.now suite other c.label-second.result c.label-behind.result
-    (c.label-second.ensures ∙ (λ k. (end_of old + (w.index + w.jump + sizes k + w.jump)) % 2 ^ 32)
-    ∙ (λ k. (end_of old + ((c.weights-weights.ensures k).index + (c.weights-weights.ensures k).jump + size_suite (c.weights-weights.ensures k) suite + (c.weights-weights.ensures k).jump)) % 2 ^ 32))
-    (c.label-behind.ensures ∙ (λ k. (end_of old + (w.index + w.jump + sizes k + w.jump + others k)) % 2 ^ 32)
-    ∙ (λ k. (end_of old + size_form (c.weights-weights.ensures k) (IfElse c.args.atom.now suite other)) % 2 ^ 32))
-    c.in_ok-compile_atom.ensures.code c.in_ok-put_jump.ensures.code c.in_ok-compile_suite.ensures.code c.in_ok-put_jump-2.ensures.code) c.compile_suite-2.ensures.code
+    on_ok_weaker c.compile_suite-2.result (if_else_emits (scope_of c.args.at.now.scope.now) c.args.at.now.line (expr_of c.args.expr.now) suite other c.label-second.result c.label-behind.result
+    (c.label-second.ensures ∙ (λ k. (end_of old + (c.size_of_expr-value.ensures.size k + w.jump + sizes k + w.jump)) % 2 ^ 32)
+    ∙ (λ k. (end_of old + (size_expr (c.weights-weights.ensures k) (expr_of c.args.expr.now) + (c.weights-weights.ensures k).jump + size_suite (c.weights-weights.ensures k) suite + (c.weights-weights.ensures k).jump)) % 2 ^ 32))
+    (c.label-behind.ensures ∙ (λ k. (end_of old + (c.size_of_expr-value.ensures.size k + w.jump + sizes k + w.jump + others k)) % 2 ^ 32)
+    ∙ (λ k. (end_of old + size_form (c.weights-weights.ensures k) (IfElse (expr_of c.args.expr.now) suite other)) % 2 ^ 32))
+    c.in_ok-compile_expr.ensures.code c.in_ok-put_jump.ensures.code c.in_ok-compile_suite.ensures.code c.in_ok-put_jump-2.ensures.code) c.compile_suite-2.ensures.code
 
 -- ---- loops
 
@@ -219,15 +220,15 @@ compile_rounds-compile_suite-requires t c =
     let fits : SuiteIn (scope_of c.args.rounds.now.inner) suite = subst (λ (i : Scope). SuiteIn i suite) (sym c.requires.inner) c.requires.fits in
     let nests : SuiteNests c.args.rounds.now.inner.depth suite = subst (λ (i : Scope). SuiteNests i.depth suite) (sym c.requires.inner) c.requires.nests in
     let depth : c.args.rounds.now.inner.depth ≤ 1000 = subst (λ (i : Scope). i.depth ≤ 1000) (sym c.requires.inner) c.requires.depth in
-    let labels : c.put_jump.new.self.labels ≤ 3 = subst (λ (w : ℕ). w ≤ 3) (sym (c.in_ok-put_jump.ensures.widths.0 ∙ c.in_ok-compile_atom.ensures.widths.0 ∙ c.in_ok-put_plain.ensures.widths.0)) c.requires.low.0 in
-    let others : c.put_jump.new.self.others ≤ 3 = subst (λ (w : ℕ). w ≤ 3) (sym (c.in_ok-put_jump.ensures.widths.1 ∙ c.in_ok-compile_atom.ensures.widths.1 ∙ c.in_ok-put_plain.ensures.widths.1)) c.requires.low.1 in
+    let labels : c.put_jump.new.self.labels ≤ 3 = subst (λ (w : ℕ). w ≤ 3) (sym (c.in_ok-put_jump.ensures.widths.0 ∙ c.in_ok-compile_expr.ensures.widths.0 ∙ c.in_ok-put_plain.ensures.widths.0)) c.requires.low.0 in
+    let others : c.put_jump.new.self.others ≤ 3 = subst (λ (w : ℕ). w ≤ 3) (sym (c.in_ok-put_jump.ensures.widths.1 ∙ c.in_ok-compile_expr.ensures.widths.1 ∙ c.in_ok-put_plain.ensures.widths.1)) c.requires.low.1 in
     search rules
 
 pub compile_rounds-returns-clause-code : goal.compile_rounds-returns-clause-code
 compile_rounds-returns-clause-code t c =
-    on_ok_weaker c.put_plain-2.result (while_emits (scope_of c.args.at.now.scope.now) (scope_of c.args.rounds.now.inner) c.args.at.now.line c.args.atom.now (suite_of c.args.suite.now) (labels_of c.args.rounds.now.labels) c.args.rounds.now.end c.requires.inner
+    on_ok_weaker c.put_plain-2.result (while_emits (scope_of c.args.at.now.scope.now) (scope_of c.args.rounds.now.inner) c.args.at.now.line (expr_of c.args.expr.now) (suite_of c.args.suite.now) (labels_of c.args.rounds.now.labels) c.args.rounds.now.end c.requires.inner
     c.requires.again c.requires.stop
-    c.requires.end c.in_ok-put_plain.ensures.code c.in_ok-compile_atom.ensures.code c.in_ok-put_jump.ensures.code c.in_ok-compile_suite.ensures.code c.in_ok-put_jump-2.ensures.code) c.put_plain-2.ensures.code
+    c.requires.end c.in_ok-put_plain.ensures.code c.in_ok-compile_expr.ensures.code c.in_ok-put_jump.ensures.code c.in_ok-compile_suite.ensures.code c.in_ok-put_jump-2.ensures.code) c.put_plain-2.ensures.code
 
 -- ---- tries with a finally
 
@@ -284,19 +285,19 @@ compile_managed-compile_suite-requires t c =
     let fits : SuiteIn (scope_of c.in_ok-before.before) suite = subst (λ (i : Scope). SuiteIn i suite) (sym is) c.requires.fits in
     let nests : SuiteNests c.in_ok-before.before.depth suite = subst (λ (i : Scope). SuiteNests i.depth suite) (sym is) c.requires.nests in
     let depth : c.in_ok-before.before.depth ≤ 1000 = omega (arith, ap (λ (i : Scope). i.depth) is, c.requires.room) in
-    let labels : c.put_target.new.self.labels ≤ 3 = subst (λ (w : ℕ). w ≤ 3) (sym (c.in_ok-put_target.ensures.widths.0 ∙ c.in_ok-put_jump.ensures.widths.0 ∙ c.in_ok-compile_atom.ensures.widths.0)) c.requires.low.0 in
-    let others : c.put_target.new.self.others ≤ 3 = subst (λ (w : ℕ). w ≤ 3) (sym (c.in_ok-put_target.ensures.widths.1 ∙ c.in_ok-put_jump.ensures.widths.1 ∙ c.in_ok-compile_atom.ensures.widths.1)) c.requires.low.1 in
+    let labels : c.put_target.new.self.labels ≤ 3 = subst (λ (w : ℕ). w ≤ 3) (sym (c.in_ok-put_target.ensures.widths.0 ∙ c.in_ok-put_jump.ensures.widths.0 ∙ c.in_ok-compile_expr.ensures.widths.0)) c.requires.low.0 in
+    let others : c.put_target.new.self.others ≤ 3 = subst (λ (w : ℕ). w ≤ 3) (sym (c.in_ok-put_target.ensures.widths.1 ∙ c.in_ok-put_jump.ensures.widths.1 ∙ c.in_ok-compile_expr.ensures.widths.1)) c.requires.low.1 in
     search rules
 
 pub compile_managed-returns-clause-code : goal.compile_managed-returns-clause-code
 compile_managed-returns-clause-code t c =
-    on_ok_weaker c.put_plain-2.result (managed_emits (scope_of c.args.at.now.scope.now) (scope_of c.in_ok-before.before) c.args.at.now.line c.args.managed.now.atom.now c.args.managed.now.target.now (suite_of c.args.suite.now) c.args.managed.now.handler
-    (c.in_ok-before.ensures ∙ ap (λ (i : Scope). before_finally c.args.managed.now.handler i) c.requires.inner) c.in_ok-compile_atom.ensures.code c.in_ok-put_jump.ensures.code c.in_ok-put_target.ensures.code
+    on_ok_weaker c.put_plain-2.result (managed_emits (scope_of c.args.at.now.scope.now) (scope_of c.in_ok-before.before) c.args.at.now.line (expr_of c.args.managed.now.expr.now) c.args.managed.now.target.now (suite_of c.args.suite.now) c.args.managed.now.handler
+    (c.in_ok-before.ensures ∙ ap (λ (i : Scope). before_finally c.args.managed.now.handler i) c.requires.inner) c.in_ok-compile_expr.ensures.code c.in_ok-put_jump.ensures.code c.in_ok-put_target.ensures.code
     c.in_ok-compile_suite.ensures.code c.in_ok-put_plain.ensures.code) c.put_plain-2.ensures.code
 
 pub compile_with-returns-clause-code : goal.compile_with-returns-clause-code
 compile_with-returns-clause-code t c =
-    on_ok_weaker c.put_plain-2.result (with_emits (scope_of c.args.at.now.scope.now) (scope_of c.in_ok-within.within) c.args.at.now.line c.args.atom.now c.args.target.now (suite_of c.args.suite.now) c.exit_label-handler.result
+    on_ok_weaker c.put_plain-2.result (with_emits (scope_of c.args.at.now.scope.now) (scope_of c.in_ok-within.within) c.args.at.now.line (expr_of c.args.expr.now) c.args.target.now (suite_of c.args.suite.now) c.exit_label-handler.result
     (c.in_ok-within.ensures ∙ ap (λ (i : Scope). in_finally i) c.in_ok-inner.ensures) c.exit_label-handler.ensures c.in_ok-compile_managed.ensures.code c.in_ok-put_plain.ensures.code) c.put_plain-2.ensures.code
 
 -- ---- tries with clauses
@@ -403,3 +404,15 @@ compile_clauses-returns-clause-code t c =
     let items = c.as_slice-clause-items.result.now in
     let all : list_clauses (take c.loop-clause.clause-index items) ≡ clauses_of c.args.clauses.now = ap list_clauses (take_all c.loop-clause.clause-index items c.loop-clause-test.false) ∙ sym c.as_slice-clause-items.ensures in
     subst (EmitsClauses c.args.self.now.labels (draft_of c.args.self.now) (draft_of c.loop-clause.self) (scope_of c.args.scope.now) c.args.end) all c.loop-clause.invariant.code
+
+pub compile_branch-size_of_expr-value-requires : goal.compile_branch-size_of_expr-value-requires
+compile_branch-size_of_expr-value-requires t c =
+    expr_most c.weights-weights.result c.args.self.now.labels c.args.self.now.others (expr_of c.args.expr.now) c.weights-weights.ensures c.requires.low.0 c.requires.low.1 (omega (arith, c.requires.few))
+
+pub compile_if_else-size_of_expr-value-requires : goal.compile_if_else-size_of_expr-value-requires
+compile_if_else-size_of_expr-value-requires t c =
+    expr_most c.weights-weights.result c.args.self.now.labels c.args.self.now.others (expr_of c.args.expr.now) c.weights-weights.ensures c.requires.low.0 c.requires.low.1 (omega (arith, c.requires.few))
+
+pub compile_while-size_of_expr-value-requires : goal.compile_while-size_of_expr-value-requires
+compile_while-size_of_expr-value-requires t c =
+    expr_most c.weights-weights.result c.args.self.now.labels c.args.self.now.others (expr_of c.args.expr.now) c.weights-weights.ensures c.requires.low.0 c.requires.low.1 (omega (arith, c.requires.few))
