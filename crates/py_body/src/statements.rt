@@ -1,4 +1,4 @@
-//! The code of statements.
+//! The code of statements without suites.
 
 ghost use Rattle.std.specs.Prelude.{◌≡◌, ◌+◌, ◌≤◌, ◌<◌, false, true, OnOk};
 ghost use Rattle.py_code.specs.Units.{is_prefix};

@@ -1,4 +1,4 @@
--- Laid operations and expressions run as those of the tree: their atoms are loaded from the left, and lie on the stack in order
+-- Laid expressions run as those of the tree: operands are evaluated from the left, and their values lie on the stack in order
 -- when the unit asks; what lies below them stays.
 use Rattle.std.proofs.Common.{◌≡◌, ◌<◌, ◌≤◌, ℕ, suc, Bool, List, [], ◌∷◌, ◌++◌, true, false, refl, sym, ap, ◌∙◌, subst, length, take, drop, reverse, arith, le_refl, append_assoc, length-append, inl, inr}
 use Rattle.std.proofs.Math.Seq.{take-append_seam, drop-append_seam}

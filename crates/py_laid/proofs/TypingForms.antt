@@ -121,7 +121,7 @@ module _ (code : Noted) where
             (keeps_then code handler ends next (started.kept fine in_ends) (ended.kept fine there)))))));
       }
 
-  -- an atom, and the unit that takes it
+  -- an expression, and the unit that takes it
   taken_typed : (scope : Scope) (line : ℕ) (a : Expr) (i : Instruction) (arg at next : ℕ) → ((safe : Safe code scope) → In code scope next → Asks code (on scope) (safe_on code scope safe) i arg next)
       → LaidTaken (parts_of code) scope line a i arg at next → Free code at → Typed code (Fine code scope) scope scope at next
   taken_typed scope line a i arg at next takes (asks, laid, stands) free =

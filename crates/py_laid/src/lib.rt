@@ -1,4 +1,5 @@
-//! Laid code: where the code of each form of a tree stands, with its notes; its runs are traces of the tree, and it keeps the typing rules.
+//! Laid code: by which units operators are compiled, and where the code of each form of a tree stands, with its notes.
+//! Its runs are traces of the tree, and it keeps the typing rules.
 #![tactic(auto)]
 
 mod coding;

@@ -87,7 +87,7 @@ pub fn front_expr(
     }
 }
 
-/// The operation whose opening parenthesis stood in front of these tokens, and how many it is with that.
+/// The operation whose opening parenthesis stood in front of these tokens, and how many tokens it is with that.
 #[cycle(read)]
 fn front_operation(
     alloc: Global,

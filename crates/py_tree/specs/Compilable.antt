@@ -1,5 +1,6 @@
--- Which bodies can be compiled: their parameters differ and are few, calls have few arguments, only generators yield, break and continue stand
--- inside of loops, no more withs stand inside of one another than blocks may be open, and there are no more statements than the longest script has.
+-- Which bodies can be compiled: their parameters differ and are few, each operator has its operands and at most 64 stand inside of one another, only
+-- generators yield, break and continue stand inside of loops, no more withs stand inside of one another than blocks may be open, and there are no
+-- more statements, clauses, atoms and operators than the longest script has bytes.
 use Rattle.std.specs.Prelude.{ℕ, suc, ◌+◌, ◌≤◌, ◌<◌, Bool, true, false, ◌≡◌, ◌≢◌, max, length, AllPairs}
 use Rattle.py_tree.specs.declared.body.BodyKind.{BodyKind}
 use Rattle.py_tree.specs.declared.body.BodyKind.TheVariants.{Generator}
@@ -39,6 +40,7 @@ module _ (kind : BodyKind) where
   OperandsFit Calls_it es = (1 ≤ operands es) × (operands es ≤ 256)
   OperandsFit Yields_it es = (kind ≡ Generator) × (operands es ≡ 1)
 
+  -- each operator inside of an expression has the operands that it takes
   abbrev mutual
     pub EachFits : Expr → Type 0
     EachFits (Leaf a) = Unit {0}
@@ -53,7 +55,7 @@ module _ (kind : BodyKind) where
   ExprFits e = EachFits e × (deep e ≤ 64)
 
   abbrev mutual
-    -- each operation of a statement fits, and a break or continue stands inside of a loop, be it the one around the statement
+    -- each expression of a statement fits, and a break or continue stands inside of a loop, be it the one around the statement
     pub FormFits : Bool → Form → Type 0
     FormFits in_loop (Assign x e) = ExprFits e
     FormFits in_loop (Do o es) = ExprFits (Operate o es)

@@ -149,7 +149,7 @@ NoClauseRaises = (scene : Scene) (line : ℕ) (e : PyBaseExceptionRef) (env : En
 
 -- ---- withs
 
--- the manager m is loaded and entered by a with of this line, and v is its answer; by then the event of this number was heard last, and these
+-- the manager m is evaluated and entered by a with of this line, and v is its answer; by then the event of this number was heard last, and these
 -- are left
 pub record IsEntered (scene : Scene) (line : ℕ) (a : Expr) (m v : Obj) (env : Env) (h : Handled) (event : ℕ) (ts : List Own) (i : ℕ) (rest : List Own) : Type 0 where
   pub loaded : ℕ
@@ -194,7 +194,7 @@ LacksExit scene line m env h event ts whole =
     ((ts ≡ []) × (whole ≡ record { env = env; outcome = Cut; event = event; left = [] }))
     ⊎ ((p : Payload) × HasPayload scene.objects m p × (is_manager p ≡ false) × Requests scene line (request.NoExit m) h event ts (Stops env whole))
 
--- a with is stopped in front of its body: at the load of its manager, at its entry, or behind that
+-- a with is stopped in front of its body: at the expression of its manager, at its entry, or behind that
 abbrev pub EntryStops : Scene → ℕ → Expr → Env → Handled → ℕ → List Own → Point → Type 0
 EntryStops scene line a env h event ts whole =
     Evaluates scene line env h a event ts (Stops env whole)

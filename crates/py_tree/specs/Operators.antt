@@ -1,5 +1,5 @@
 -- What operators do with the values of their operands: a line an operator.
-use Rattle.std.specs.Prelude.{ℕ, Option, Some, None, List, [], ◌∷◌}
+use Rattle.std.specs.Prelude.{None}
 use Rattle.py_code.specs.declared.operator.BinaryOperator.TheVariants as binary
 use Rattle.py_code.specs.declared.operator.ComparisonOperator.TheVariants as comparison
 use Rattle.py_objects.specs.declared.request.Request.{Request}
@@ -29,10 +29,3 @@ way_of operator.Throw = Asks_two throws
 way_of operator.Close = Asks_one request.Close
 way_of operator.Yield = Yields_it
 way_of operator.Call = Calls_it
-
--- the operands that a way takes: so many, or, for a call, one and any number behind it
-abbrev pub count_of : Way → Option ℕ
-count_of (Asks_one r) = Some 1
-count_of (Asks_two r) = Some 2
-count_of Calls_it = None
-count_of Yields_it = Some 1

@@ -22,7 +22,7 @@ pub enum Atom {
     Name(PyText),
 }
 
-/// An operator.
+/// An operator (Python Language Reference, 6.2.9, 6.3.4, 6.7 and 6.10).
 #[derive(Clone, Copy, Debug, PartialEq, Eq)]
 pub enum Operator {
     /// `add a b`: the sum of two numbers, or two texts as one.
@@ -51,7 +51,7 @@ pub enum Operator {
 pub enum Expr {
     /// An atom.
     Atom(Atom),
-    /// `(op e ..)`: an operator with its operands, which are evaluated from the left.
+    /// `(op e ..)`: an operator with its operands, which are evaluated from the left (Python Language Reference, 6.16).
     Operation(Operator, ExprList),
 }
 
