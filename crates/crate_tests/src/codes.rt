@@ -1,11 +1,14 @@
 //! Codes, units and operators, as far as they can be worked out by hand and no script shows them.
 
+use bitflags::Flags;
 use py_code::{
     BinaryOperator, CodeFlags, CodeObject, CodeUnit, ComparisonOperator, ConversionFlag,
-    Instruction, Literal, LiteralList, MakeFunctionFlags, NameId, NoMemory, NoOperator, OpArg,
-    OpArgState, PyCode, RaiseKind, TestOperator, UnaryOperator,
+    Instruction, Literal, LiteralList, MakeFunctionFlags, NameId, Names, NoMemory, NoOperator,
+    OpArg, OpArgState, PyCode, RaiseKind, ReplaceArgs, ReplaceFault, TestOperator, UnaryOperator,
+    text_of, utf8_of,
 };
 use std::alloc::Global;
+use std::process::Abort;
 
 /// A code of these units, constants and names of locals, whose numbers all differ.
 fn code_of(
@@ -17,7 +20,7 @@ fn code_of(
     PyCode::new(CodeObject {
         instructions,
         locations: Vec::new(alloc),
-        flags: CodeFlags::new(CodeFlags::NEW_LOCALS | CodeFlags::IS_OPTIMIZED),
+        flags: CodeFlags::NEW_LOCALS | CodeFlags::IS_OPTIMIZED,
         posonlyarg_count: 1,
         arg_count: 2,
         kwonlyarg_count: 3,
@@ -142,8 +145,97 @@ fn a_getter_gives_its_own_field(rt: HostRuntime) -> Result<(), NoMemory> {
     Ok(())
 }
 
+/// The code of a function f in line 1 of a script, which names nothing.
+fn code_of_f(alloc: Global, names: &mut Names) -> Result<PyCode, NoMemory> {
+    let mut code = code_of_locals(alloc)?;
+    code.code.source_path = names.intern("<script>")?;
+    code.code.obj_name = names.intern("f")?;
+    code.code.first_line_number = Some(1);
+    Ok(code)
+}
+
+/// The repr of a code whose number is 0.
+fn repr_of(
+    rt: &impl Abort,
+    alloc: Global,
+    names: &Names,
+    code: &PyCode,
+) -> Result<String, NoMemory> {
+    assert!(rt; code.co_name().index < names.len() && code.co_filename().index < names.len());
+    utf8_of(alloc, &code.repr(alloc, names, 0)?)
+}
+
+#[test]
+fn a_code_is_told_by_its_name_its_file_and_its_line(rt: HostRuntime) -> Result<(), NoMemory> {
+    let alloc = rt.alloc();
+    let mut names = Names::new(alloc);
+    let mut code = code_of_f(alloc, &mut names)?;
+    let text = repr_of(&rt, alloc, &names, &code)?;
+    assert_eq!(rt;
+        text.as_str(),
+        "<code object f at 0 file \"<script>\", line 1>"
+    );
+    code.code.first_line_number = None;
+    let text = repr_of(&rt, alloc, &names, &code)?;
+    assert_eq!(rt;
+        text.as_str(),
+        "<code object f at 0 file \"<script>\", line -1>"
+    );
+    Ok(())
+}
+
+#[test]
+fn a_part_that_is_given_replaces_the_codes_own(rt: HostRuntime) -> Result<(), ReplaceFault> {
+    let alloc = rt.alloc();
+    let mut names = Names::new(alloc);
+    let code = code_of_f(alloc, &mut names)?;
+    let mut locals = LiteralList::new(alloc);
+    locals.push(Literal::Str(text_of(alloc, b"x")?))?;
+    let args = ReplaceArgs {
+        co_name: Some(text_of(alloc, b"h")?),
+        co_firstlineno: Some(0),
+        co_flags: Some(0xffc2),
+        co_varnames: Some(locals),
+        ..ReplaceArgs::new()
+    };
+    let made = code.replace(alloc, &mut names, args)?;
+    let text = repr_of(&rt, alloc, &names, &made)?;
+    assert_eq!(rt;
+        text.as_str(),
+        "<code object h at 0 file \"<script>\", line -1>"
+    );
+    assert_eq!(rt;
+        (made.co_flags(), made.co_nlocals(), names.len()),
+        (2, 1, 4)
+    );
+    assert_eq!(rt; (made.co_argcount(), made.co_stacksize()), (2, 5));
+    assert!(rt; matches!(made.co_consts().get(0), Some(Literal::Bool(true))));
+    Ok(())
+}
+
+#[test]
+fn a_name_that_is_no_text_is_refused(rt: HostRuntime) -> Result<(), NoMemory> {
+    let alloc = rt.alloc();
+    let mut names = Names::new(alloc);
+    let code = code_of_f(alloc, &mut names)?;
+    let mut wanted = LiteralList::new(alloc);
+    wanted.push(Literal::Int(3))?;
+    let args = ReplaceArgs {
+        co_name: Some(text_of(alloc, b"h")?),
+        co_names: Some(wanted),
+        ..ReplaceArgs::new()
+    };
+    match code.replace(alloc, &mut names, args) {
+        Ok(_) => panic!(rt; "a number is no name"),
+        Err(fault) => assert_eq!(rt; fault.to_string(alloc)?.as_str(), "NotText"),
+    }
+    assert_eq!(rt; names.len(), 2);
+    Ok(())
+}
+
 #[test]
 fn a_new_function_has_the_parts_that_its_number_stands_for(rt: HostRuntime) {
     let flags = MakeFunctionFlags::CLOSURE | MakeFunctionFlags::DEFAULTS;
-    assert_eq!(rt; MakeFunctionFlags::new(flags).bits(), 9);
+    assert_eq!(rt; flags.bits(), 9);
+    assert!(rt; MakeFunctionFlags::from_bits(16).is_none());
 }

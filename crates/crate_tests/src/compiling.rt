@@ -99,7 +99,7 @@ fn compare_compiled(
 /// Compares a code with these units, and its flags with a generator's.
 fn compare_units(rt: &impl Abort, code: &PyCode, units: &[(Instruction, u32)]) {
     let wanted = CodeFlags::NEW_LOCALS | CodeFlags::IS_OPTIMIZED | CodeFlags::IS_GENERATOR;
-    assert_eq!(rt; code.co_flags(), wanted);
+    assert_eq!(rt; code.code.flags, wanted);
     for (at, want) in units.iter().enumerate() {
         assert!(rt; is_unit(code, at, *want), "at {at}");
     }

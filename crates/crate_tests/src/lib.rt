@@ -5,6 +5,8 @@
 #[cfg(test)]
 mod bodies;
 #[cfg(test)]
+mod checking;
+#[cfg(test)]
 mod codes;
 #[cfg(test)]
 mod compiling;

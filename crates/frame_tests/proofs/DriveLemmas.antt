@@ -15,7 +15,9 @@ use Rattle.py_objects.specs.Growth.{Grows, GrowsPlainly}
 use Rattle.py_stack.specs.Slots.{Slots, top_of}
 use Rattle.py_check.specs.declared.annotated.Annotated.{Annotated}
 use Rattle.py_check.specs.Depths.{deepest}
+use Rattle.py_check.specs.Sheet.{sheet_of}
 use Rattle.py_check.specs.Typing.{IsTyped}
+use Rattle.py_check.specs.Running.{AllRun}
 use Rattle.py_rows.specs.declared.expect.Expect.{Expect}
 use Rattle.py_rows.specs.declared.expect.Expect.TheVariants as expect
 use Rattle.py_rows.specs.Below.{HearsBelow}
@@ -107,8 +109,9 @@ places names (suc n) some zero id here = first_place names id some here
 places names (suc n) some (suc i) id here = places names n some i id here
 
 -- a table's code is sound
-pub sound : (rows : List Row) (names : List (List ℕ)) (code : Annotated) → IsCodeOf rows code → IsTyped code → 0 < length names → IsSound names code
-sound rows names code of typed some = record { typed = typed; named = record { locals = rw of.varnames (places names 3 some); globals = rw of.names (places names 1 some) } }
+pub sound : (rows : List Row) (names : List (List ℕ)) (code : Annotated) → IsCodeOf rows code → IsTyped [] (sheet_of code) → AllRun (sheet_of code)
+    → 0 < length names → IsSound names code
+sound rows names code of typed runs some = record { shapes = []; typed = typed; runs = runs; named = record { locals = rw of.varnames (places names 3 some); globals = rw of.names (places names 1 some) } }
 
 -- a frame that hasn't begun is driven
 pub driven_first : (objects : List Payload) (scene : NamedCode) (f : Framed) → objects ≡ first_objects → IsRunning objects scene.names scene.code f → f.state.wants ≡ expect.Start → IsDriven objects scene (Some (record { number = 6 }) ∷ []) f

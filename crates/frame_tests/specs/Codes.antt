@@ -1,5 +1,7 @@
 -- Codes as tables.
 use Rattle.std.specs.Prelude.{◌≡◌, Option, Some, None, List, [], ◌∷◌, Bool, ◌&&◌, map, length, replicate}
+use Rattle.py_code.specs.declared.flags.TheConstants.CodeFlags.{NEW_LOCALS, IS_GENERATOR, IS_OPTIMIZED}
+use Rattle.py_code.specs.Flags.{all_of}
 use Rattle.py_code.specs.declared.unit.CodeUnit.{CodeUnit}
 use Rattle.py_code.specs.declared.literal.Literal.{Literal, None as NoneLiteral, Builtin}
 use Rattle.py_code.specs.declared.literal.BuiltinFn.TheVariants.{Send, Throw, Close}
@@ -12,6 +14,7 @@ use Rattle.py_check.specs.declared.annotated.Annotated.{Annotated}
 use Rattle.py_check.specs.WholeCode.{keeps_whole}
 use Rattle.py_check.specs.Sheet.{Sheet, sheet_of}
 use Rattle.py_check.specs.Typing.{keeps_at}
+use Rattle.py_check.specs.Running.{runs_at}
 use Rattle.py_check.proofs.WorkedLemmas.{all_below}
 use Rattle.frame_tests.specs.declared.tables.Open.{Open}
 use Rattle.frame_tests.specs.declared.tables.Open.TheVariants.{Loop, TryExcept, Finally, FinallyHandler, ExceptHandler}
@@ -47,7 +50,7 @@ sheet rows =
       units = map unit_of rows;
       locations = length rows;
       notes = map note_of rows;
-      flags = 35;
+      flags = all_of (NEW_LOCALS ∷ IS_OPTIMIZED ∷ IS_GENERATOR ∷ []);
       posonlyarg_count = 0;
       arg_count = 2;
       kwonlyarg_count = 0;
@@ -57,6 +60,7 @@ sheet rows =
       names = 1;
       varnames = 3;
       cellvars = 0;
+      freevars = 0;
     }
 
 -- a code is a table's: each name is the first of the table of names, and there is nothing of bodies around
@@ -66,6 +70,6 @@ pub record IsCodeOf (rows : List Row) (code : Annotated) : Type 0 where
   pub varnames : code.code.code.varnames.items ≡ replicate 3 (record { index = 0 })
   pub freevars : code.code.code.freevars.items ≡ []
 
--- whether the notes of a table keep the rules
+-- whether the notes of a table keep the rules, and all of its units run so far
 abbrev pub keeps_rules : List Row → Bool
-keeps_rules rows = keeps_whole (sheet rows) && all_below (keeps_at (sheet rows)) (length (sheet rows).units)
+keeps_rules rows = keeps_whole [] (sheet rows) && all_below (keeps_at [] (sheet rows)) (length (sheet rows).units) && all_below (runs_at (sheet rows)) (length (sheet rows).units)

@@ -1,16 +1,19 @@
 //! Codes as tables: what each unit does, and what its note says.
 
-ghost use Rattle.std.specs.Prelude.{◌≡◌, List, IfOk, map, true};
+ghost use Rattle.std.specs.Prelude.{◌≡◌, List, [], IfOk, map, true};
 ghost use Rattle.py_code.specs.Literals.{literals_of};
 ghost use Rattle.py_check.specs.declared.note.Note.{Note as NoteOf};
 ghost use Rattle.py_check.specs.declared.note.Note.TheVariants as note;
+ghost use Rattle.py_check.specs.Sheet.{sheet_of};
 ghost use Rattle.py_check.specs.Typing.{IsTyped};
+ghost use Rattle.py_check.specs.Running.{AllRun};
 ghost use Rattle.frame_tests.specs.Codes.{IsCodeOf, block_of, keeps_rules, note_of, table_constants, unit_of, waiting_of};
 
 use crate::tables::{Open, Row};
+use bitflags::Flags;
 use py_check::{
-    Annotated, BlockList, BlockNote, CheckedCode, Kind, KindList, Note, NoteList, Pending,
-    PendingSet,
+    Annotated, BlockList, BlockNote, CheckFault, CheckedCode, Kind, KindList, Note, NoteList,
+    Pending, PendingSet, Shapes, check_code,
 };
 use py_code::{
     BuiltinFn, CodeFlags, CodeObject, CodeUnit, Instruction, Literal, LiteralList, NameId,
@@ -131,9 +134,9 @@ fn code(alloc: Global, rows: &[Row]) -> Result<PyCode, NoMemory>
     Ok(PyCode::new(CodeObject {
         instructions,
         locations,
-        flags: CodeFlags::new(
-            CodeFlags::NEW_LOCALS | CodeFlags::IS_OPTIMIZED | CodeFlags::IS_GENERATOR,
-        ),
+        flags: CodeFlags::NEW_LOCALS
+            .union(CodeFlags::IS_OPTIMIZED)
+            .union(CodeFlags::IS_GENERATOR),
         posonlyarg_count: 0,
         arg_count: 2,
         kwonlyarg_count: 0,
@@ -163,9 +166,16 @@ fn annotated(alloc: Global, rows: &[Row]) -> Result<Annotated, NoMemory>
 pub fn checked(alloc: Global, rows: &[Row]) -> Result<CheckedCode, NoMemory>
     requires { keeps_rules rows.now ≡ true }
     ensures of { IfOk result (λ code. IsCodeOf rows.now code) }
-    ensures typed { IfOk result (λ code. IsTyped code) }
+    ensures typed { IfOk result (λ code. IsTyped [] (sheet_of code)) }
+    ensures runs { IfOk result (λ code. AllRun (sheet_of code)) }
 {
-    Ok(CheckedCode::of(annotated(alloc, rows)?))
+    let code = annotated(alloc, rows)?;
+    let shapes = Shapes::new(alloc);
+    match check_code(alloc, code, &shapes) {
+        Ok(code) => Ok(code),
+        Err(CheckFault::NoMemory) => Err(NoMemory),
+        Err(CheckFault::Breaks(_)) => unreachable!(),
+    }
 }
 
 /// The sum of the two parameters.

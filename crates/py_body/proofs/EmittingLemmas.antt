@@ -1,5 +1,5 @@
 -- What is emitted piece by piece.
-use Rattle.std.proofs.Common.{◌≡◌, ◌<◌, ◌≤◌, ◌+◌, ◌%◌, ◌^◌, ℕ, suc, List, ◌++◌, true, false, not, Some, refl, sym, ap, ◌∙◌, length, drop, replicate, max, arith, length-append, append_assoc, ⊎_elim}
+use Rattle.std.proofs.Common.{◌≡◌, ◌<◌, ◌≤◌, ◌+◌, ◌%◌, ◌^◌, ℕ, suc, List, ◌++◌, true, false, Some, refl, sym, ap, ◌∙◌, length, drop, replicate, max, arith, length-append, append_assoc, ⊎_elim}
 use Rattle.std.specs.Prelude.{slice_get}
 use Rattle.std.specs.List.{list_all}
 use Rattle.std.proofs.Math.ListN.{length-replicate}
@@ -12,7 +12,7 @@ use Rattle.py_check.specs.declared.note.Kind.TheVariants.{Any}
 use Rattle.py_check.specs.declared.note.BlockNote.{BlockNote}
 use Rattle.py_check.specs.declared.note.Note.{Note}
 use Rattle.py_check.specs.declared.note.Note.TheVariants.{Dead, Live}
-use Rattle.py_check.specs.Constants.{has_code}
+use Rattle.py_check.specs.Constants.{is_earlier}
 use Rattle.py_tree.specs.Tree.{Name}
 use Rattle.py_laid.specs.Fits.{Continues}
 use Rattle.py_laid.specs.Code.{Parts, Scope, Stands, note_of}
@@ -72,7 +72,7 @@ grown constants names d = record d { parts = record d.parts { constants = consta
 
 -- no constant is a code or holds one
 abbrev pub HaveNoCode : List Literal → Type 0
-HaveNoCode literals = list_all (λ literal. not (has_code literal)) literals ≡ true
+HaveNoCode literals = list_all (is_earlier 0) literals ≡ true
 
 -- what holds of an instruction that was put behind such constants and names
 abbrev pub StandsBehind : List Literal → List Name → Draft → ℕ → Instruction → ℕ → Scope → ℕ → Parts → ℕ → ℕ → Type 0

@@ -1,27 +1,25 @@
 -- What is emitted for expressions.
-use Rattle.std.proofs.Common.{◌≡◌, ◌<◌, ◌≤◌, ◌+◌, ◌*◌, ℕ, zero, suc, List, [], ◌∷◌, ◌++◌, refl, sym, ap, ◌∙◌, subst, length, take, get_or, max, arith, length-take, add-one}
-use Rattle.std.specs.Prelude.{Option, Some, None, Result, OnOk}
+use Rattle.std.proofs.Common.{◌≡◌, ◌<◌, ◌≤◌, ◌+◌, ℕ, zero, suc, List, [], ◌∷◌, refl, sym, ap, ◌∙◌, subst, length, take, get_or, arith, length-take}
+use Rattle.std.specs.Prelude.{Option, Result, OnOk}
 use Rattle.std.proofs.lemmas.Result.{on_ok_weaker}
 use Rattle.py_code.specs.declared.instruction.Instruction.{Instruction}
-use Rattle.py_code.specs.declared.instruction.Instruction.TheVariants.{LoadConst}
-use Rattle.py_code.specs.declared.literal.Literal.{Builtin as BuiltinLiteral}
 use Rattle.py_code.specs.declared.literal.BuiltinFn.{BuiltinFn}
 use Rattle.py_tree.specs.declared.body.BodyKind.{BodyKind}
 use Rattle.py_tree.specs.declared.expr.Expr.{Expr as OwnExpr}
 use Rattle.py_tree.specs.declared.expr.Operator.{Operator}
-use Rattle.py_tree.specs.Tree.{Expr, Leaf, Operate, Exprs, no_operands, operand}
+use Rattle.py_tree.specs.Tree.{Expr, Operate, Exprs, no_operands, operand}
 use Rattle.py_tree.specs.ExprViews.{expr_of, list_exprs, with_operand}
 use Rattle.py_tree.specs.declared.expr.Operator.TheVariants as operator
 use Rattle.py_tree.specs.Operators.{Way, Asks_one, Asks_two, Calls_it, Yields_it, way_of}
-use Rattle.py_tree.specs.Compilable.{OperandsFit, EachFits, AllFit, operands, deep, deepest, parts, all_parts}
+use Rattle.py_tree.specs.Compilable.{OperandsFit, EachFits, AllFit, operands, deep, deepest}
 use Rattle.py_tree.proofs.Exprs.{operands_list}
 use Rattle.py_laid.specs.declared.coding.Coding.TheVariants.{Called}
 use Rattle.py_laid.specs.Operators.{coding_of, callee_of, instruction_of, argument_of}
-use Rattle.py_laid.specs.Code.{Parts, Scope, on, over, under, LaidExpr, LaidExprs, Stands}
+use Rattle.py_laid.specs.Code.{Parts, Scope, on, over, under, LaidExpr, LaidExprs}
 use Rattle.py_body.specs.declared.sizes.Weights.{Weights}
 use Rattle.py_body.specs.Sizes.{size_expr, size_exprs}
-use Rattle.py_body.specs.Emitting.{Draft, end_of, EmitsAtom, EmitsCallee, EmitsConst, EmitsExpr, EmitsExprs, EmitsPlain}
-use Rattle.py_body.proofs.EmittingLemmas.{emits_as, emits_none, emits_then}
+use Rattle.py_body.specs.Emitting.{Draft, end_of, EmitsCallee, EmitsExpr, EmitsExprs, EmitsPlain}
+use Rattle.py_body.proofs.EmittingLemmas.{emits_as, emits_then}
 
 -- ---- scopes
 
@@ -40,14 +38,6 @@ pub kind_over : (n : ℕ) (scope : Scope) → scope.kind ≡ (over n scope).kind
 kind_over zero scope = refl
 kind_over (suc n) scope = kind_over n (on scope)
 
--- ---- the function that an operator may call
-
-pub callee_none : (d : Draft) (scope : Scope) (line : ℕ) → EmitsCallee d d scope line None
-callee_none d scope line = emits_none {d = d} (λ whole. refl)
-
-pub callee_some : {a b : Draft} (scope : Scope) (line : ℕ) (fn : BuiltinFn) → EmitsConst a b scope line LoadConst (BuiltinLiteral fn) → EmitsCallee a b scope line (Some fn)
-callee_some scope line fn loads = emits_as loads (λ w. refl) (λ room whole same laid. laid)
-
 -- ---- operands
 
 -- one more operand
@@ -63,9 +53,6 @@ LaidExprs-last : (whole : Parts) (scope : Scope) (line : ℕ) (es : Exprs) (e : 
     → LaidExprs whole scope line (with_operand es e) at next
 LaidExprs-last whole scope line no_operands e at mid next same laid = (next, subst (λ (k : ℕ). LaidExpr whole scope line e k next) same laid, refl)
 LaidExprs-last whole scope line (operand x es) e at mid next (k, one, rest) laid = (k, one, LaidExprs-last whole (on scope) line es e k mid next rest laid)
-
-pub exprs_none : (d : Draft) (scope : Scope) (line : ℕ) → EmitsExprs d d scope line no_operands
-exprs_none d scope line = emits_as (emits_none {d = d} {A = λ whole at next. LaidExprs whole scope line no_operands at next} (λ whole. refl)) (λ w. refl) (λ room whole same laid. laid)
 
 pub exprs_more : {a b c : Draft} (scope : Scope) (line : ℕ) (es : Exprs) (e : Expr) → EmitsExprs a b scope line es → EmitsExpr b c (over (operands es) scope) line e → EmitsExprs a c scope line (with_operand es e)
 exprs_more {a} {b} {c} scope line es e so_far one =

@@ -1,6 +1,6 @@
 -- What is emitted for one instruction, by its operand.
 use Rattle.std.proofs.Common.{◌≡◌, ◌<◌, ◌≤◌, ◌%◌, ◌^◌, ℕ, zero, suc, List, [], ◌∷◌, ◌++◌, Bool, true, false, Some, None, refl, sym, ap, ◌∙◌, subst, length, arith, length-append}
-use Rattle.std.specs.Prelude.{bytes_eq, slice_get, not}
+use Rattle.std.specs.Prelude.{bytes_eq, slice_get}
 use Rattle.std.specs.List.{list_any}
 use Rattle.std.proofs.lemmas.Bool.{and_from}
 use Rattle.std.proofs.lemmas.List.Folds.{list_all-append}
@@ -9,7 +9,7 @@ use Rattle.py_code.specs.declared.instruction.Instruction.TheVariants.{LoadFast,
 use Rattle.py_code.specs.declared.literal.Literal.{Literal}
 use Rattle.py_code.specs.Names.{interned, place_of}
 use Rattle.py_code.specs.Units.{is_prefix}
-use Rattle.py_check.specs.Constants.{has_code}
+use Rattle.py_check.specs.Constants.{is_earlier}
 use Rattle.py_tree.specs.declared.expr.Atom.TheVariants as atom
 use Rattle.py_tree.specs.Tree.{Name}
 use Rattle.py_tree.specs.Binding.{bound}
@@ -45,8 +45,8 @@ jump_emits old new scope line op label plain low shallow is =
 
 -- ---- constants
 
-no_code_more : (literals : List Literal) (literal : Literal) → has_code literal ≡ false → HaveNoCode literals → HaveNoCode (literals ++ literal ∷ [])
-no_code_more literals literal plain none = list_all-append (λ l. not (has_code l)) literals (literal ∷ []) ∙ and_from _ _ none (rw plain refl)
+no_code_more : (literals : List Literal) (literal : Literal) → is_earlier 0 literal ≡ true → HaveNoCode literals → HaveNoCode (literals ++ literal ∷ [])
+no_code_more literals literal plain none = list_all-append (is_earlier 0) literals (literal ∷ []) ∙ and_from _ _ none (rw plain refl)
 
 -- a place below so many bytes' room, cut to 32 bits, is itself and fits
 place_fits : (place long others : ℕ) → others ≤ 3 → place < long → long ≤ 256 ^ suc others → (place % 2 ^ 32 ≡ place) × (place % 2 ^ 32 < 256 ^ suc others)
@@ -56,7 +56,7 @@ place_fits place long (suc (suc zero)) low below room = (omega (arith, below, ro
 place_fits place long (suc (suc (suc zero))) low below room = (omega (arith, below, room), omega (arith, below, room))
 place_fits place long (suc (suc (suc (suc others)))) low below room = absurd (omega (arith, low))
 
-pub const_emits : (old new : Draft) (scope : Scope) (line : ℕ) (op : Instruction) (literal : Literal) (arg : ℕ) → is_prefix op ≡ false → has_code literal ≡ false → old.others ≤ 3 → scope.depth ≤ 65535
+pub const_emits : (old new : Draft) (scope : Scope) (line : ℕ) (op : Instruction) (literal : Literal) (arg : ℕ) → is_prefix op ≡ false → is_earlier 0 literal ≡ true → old.others ≤ 3 → scope.depth ≤ 65535
     → arg ≡ length old.parts.constants % 2 ^ 32 → new ≡ put old.others op arg scope line (with_constant literal old) → EmitsConst old new scope line op literal
 const_emits old new scope line op literal arg plain no_code low shallow place is =
     let k : ℕ = length old.parts.constants in

@@ -1,6 +1,6 @@
 -- What the functions of the compiler promise each other: what is emitted only goes behind what there is, its size is known before, and
 -- it stands as it should in each code that goes on behind it.
-use Rattle.std.specs.Prelude.{ℕ, zero, suc, ◌+◌, ◌*◌, ◌/◌, ◌%◌, ◌≤◌, ◌<◌, ◌^◌, max, Bool, true, false, not, Option, Some, None, List, [], ◌∷◌, ◌++◌, ◌≡◌, length, replicate, slice_get}
+use Rattle.std.specs.Prelude.{ℕ, zero, suc, ◌+◌, ◌/◌, ◌%◌, ◌≤◌, ◌<◌, ◌^◌, max, Bool, true, false, Option, Some, None, List, [], ◌∷◌, ◌++◌, ◌≡◌, length, replicate, slice_get}
 use Rattle.std.specs.List.{list_all}
 use Rattle.py_code.specs.declared.unit.CodeUnit.{CodeUnit}
 use Rattle.py_code.specs.declared.instruction.Instruction.{Instruction}
@@ -11,7 +11,7 @@ use Rattle.py_code.specs.Literals.{literals_of}
 use Rattle.py_check.specs.declared.note.Kind.{Kind}
 use Rattle.py_check.specs.declared.note.BlockNote.{BlockNote}
 use Rattle.py_check.specs.declared.note.Note.TheVariants.{Live}
-use Rattle.py_check.specs.Constants.{has_code}
+use Rattle.py_check.specs.Constants.{is_earlier}
 use Rattle.py_check.specs.Operands.{prefixes}
 use Rattle.py_code.specs.declared.operator.TestOperator.TheVariants as test
 use Rattle.py_code.specs.Numbers.{test_number}
@@ -131,7 +131,7 @@ pub record IsMatched (d : Draft) : Type 0 where
   pub located : length d.parts.locations ≡ length d.parts.units
   pub noted : length d.parts.notes ≡ length d.parts.units
   pub spelled : AreSpelled d.parts.units
-  pub no_code : list_all (λ literal. not (has_code literal)) d.parts.constants ≡ true
+  pub no_code : list_all (is_earlier 0) d.parts.constants ≡ true
   pub room : (at : ℕ) (kinds : List Kind) (blocks : List BlockNote) → slice_get d.parts.notes at ≡ Some (Live kinds blocks) → length kinds ≤ d.deepest
   pub low : d.deepest ≤ 65535
 

@@ -18,6 +18,7 @@ use crate::locals::locals_of;
 use crate::naming::{intern_all, intern_text};
 use crate::scope::{Site, entry};
 use crate::sizes::{Weights, size_of_suite};
+use bitflags::Flags;
 use py_check::Annotated;
 use py_code::{
     CodeFlags, CodeObject, Instruction, ItemList, Literal, NameId, NameSet, Names, NoMemory, PyCode,
@@ -131,10 +132,10 @@ fn names_for(
 fn flags_of(kind: BodyKind) -> CodeFlags
     ensures { result ≡ flags_of kind }
 {
-    let flags = CodeFlags::NEW_LOCALS | CodeFlags::IS_OPTIMIZED;
+    let flags = CodeFlags::NEW_LOCALS.union(CodeFlags::IS_OPTIMIZED);
     match kind {
-        BodyKind::Function => CodeFlags::new(flags),
-        BodyKind::Generator => CodeFlags::new(flags | CodeFlags::IS_GENERATOR),
+        BodyKind::Function => flags,
+        BodyKind::Generator => flags.union(CodeFlags::IS_GENERATOR),
     }
 }
 

@@ -1,8 +1,8 @@
 //! The emitter: units with their lines and notes, and the constants and names that they refer to.
 
-ghost use Rattle.std.specs.Prelude.{◌≡◌, ◌+◌, ◌%◌, ◌<◌, ◌≤◌, ◌^◌, ◌∷◌, ◌++◌, [], false, length, replicate, OnOk};
+ghost use Rattle.std.specs.Prelude.{◌≡◌, ◌+◌, ◌%◌, ◌<◌, ◌≤◌, ◌^◌, ◌∷◌, ◌++◌, [], false, true, length, replicate, OnOk};
 ghost use Rattle.py_code.specs.Units.{is_prefix};
-ghost use Rattle.py_check.specs.Constants.{has_code};
+ghost use Rattle.py_check.specs.Constants.{is_earlier};
 ghost use Rattle.py_tree.specs.declared.expr.Atom.TheVariants as Atom;
 ghost use Rattle.py_body.specs.Emitting.{blank, byte_of, draft_of, spelled, weights_of};
 ghost use Rattle.py_body.specs.Puts.{note_over, prefix, Puts, PutsPlain, PutsJump, PutsConst, PutsLocal, PutsAtom};
@@ -126,7 +126,7 @@ impl Emitter {
         above: u32,
     ) -> Result<(), NoMemory>
         requires plain { is_prefix op ≡ false }
-        requires no_code { has_code literal ≡ false }
+        requires no_code { is_earlier 0 literal ≡ true }
         requires low { self.old.others ≤ 3 }
         requires depth { at.now.scope.now.depth + above ≤ 65535 }
         ensures code { OnOk result (PutsConst self.old self.new at.now above op literal) }

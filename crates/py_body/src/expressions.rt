@@ -1,7 +1,7 @@
 //! The code of expressions.
 
-ghost use Rattle.std.specs.Prelude.{◌≡◌, ◌+◌, ◌≤◌, false, IfOk, OnOk};
-ghost use Rattle.py_check.specs.Constants.{has_code};
+ghost use Rattle.std.specs.Prelude.{◌≡◌, ◌+◌, ◌≤◌, true, IfOk, OnOk};
+ghost use Rattle.py_check.specs.Constants.{is_earlier};
 ghost use Rattle.py_code.specs.declared.instruction.Instruction.TheVariants.{LoadConst};
 ghost use Rattle.py_tree.specs.Tree.{Operate};
 ghost use Rattle.py_tree.specs.ExprViews.{expr_of, exprs_of};
@@ -36,7 +36,7 @@ impl Emitter {
 
     /// Adds the load of a constant.
     fn load_literal(&mut self, literal: Literal, at: &Site<'_>, above: u32) -> Result<(), NoMemory>
-        requires no_code { has_code literal ≡ false }
+        requires no_code { is_earlier 0 literal ≡ true }
         requires low { self.old.others ≤ 3 }
         requires depth { at.now.scope.now.depth + above ≤ 65535 }
         ensures code { OnOk result (PutsConst self.old self.new at.now above LoadConst literal) }

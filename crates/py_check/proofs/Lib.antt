@@ -1,4 +1,8 @@
 pub mod BreakingLemmas
 pub mod OperandLemmas
-mod RunLemmas
+mod KindRunsLemmas
+mod FittingLemmas
+mod TakingLemmas
+mod CheckLemmas
+mod EarlierLemmas
 pub mod WorkedLemmas

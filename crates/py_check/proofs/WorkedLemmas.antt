@@ -1,11 +1,11 @@
 -- How the rules are tried on a code whose parts are known.
-use Rattle.std.proofs.Common.{◌≡◌, ⊎_elim, ℕ, zero, suc, ◌<◌, Bool, true, false, ◌&&◌, nat_lt, length, ap, sym, subst, ◌∙◌, inl, inr, refl, arith}
+use Rattle.std.proofs.Common.{◌≡◌, ⊎_elim, ℕ, List, [], zero, suc, ◌<◌, Bool, true, false, ◌&&◌, nat_lt, length, ap, ◌∙◌, inl, inr, refl, arith}
 use Rattle.std.proofs.lemmas.Bool.{and_parts, cases_lt}
 use Rattle.std.proofs.lemmas.Bool.Decides.{nat_tests}
 use Rattle.py_check.specs.Sheet.{Sheet}
-use Rattle.py_check.specs.Typing.{keeps_at}
+use Rattle.py_check.specs.Typing.{keeps_at, IsTyped}
 use Rattle.py_check.specs.WholeCode.{keeps_whole}
-use Rattle.py_check.specs.Breaking.{keeps_all_at}
+use Rattle.py_check.specs.Breaking.{keeps, BreaksFirst}
 use Rattle.py_check.specs.Worked.{Typed, Breaks}
 
 -- all of the first so many numbers pass a test
@@ -22,32 +22,31 @@ each_passes test (suc n) k all below =
     (λ ge. let same : k ≡ n = omega arith in ap test same ∙ parts.1)
     (cases_lt k n)
 
-pub typed : (sheet : Sheet) → keeps_whole sheet ≡ true → all_below (keeps_at sheet) (length sheet.units) ≡ true → Typed sheet
-typed sheet whole all code same = record {
-  whole = ap keeps_whole same ∙ whole;
-  each = λ at below.
-      ap (λ (s : Sheet). keeps_at s at) same
-      ∙ each_passes (keeps_at sheet) (length sheet.units) at all (subst (λ (s : Sheet). at < length s.units) same below);
+-- after codes of these shapes
+pub typed_behind : (shapes : List ℕ) (sheet : Sheet) → keeps_whole shapes sheet ≡ true → all_below (keeps_at shapes sheet) (length sheet.units) ≡ true → IsTyped shapes sheet
+typed_behind shapes sheet whole all = record { whole = whole; each = λ at below. each_passes (keeps_at shapes sheet) (length sheet.units) at all below }
+
+pub breaks_behind : (shapes : List ℕ) (sheet : Sheet) (at : ℕ) → nat_lt at (length sheet.units) ≡ true → keeps shapes sheet at ≡ false → all_below (keeps shapes sheet) at ≡ true
+    → BreaksFirst shapes sheet at
+breaks_behind shapes sheet at within here before = record {
+  within = inr (grind (arith, nat_tests, within));
+  breaks = here;
+  before = λ k below. each_passes (keeps shapes sheet) at k before below;
 }
 
-pub breaks : (sheet : Sheet) (at : ℕ) → nat_lt at (length sheet.units) ≡ true → keeps_all_at sheet at ≡ false
-    → all_below (keeps_all_at sheet) at ≡ true → Breaks sheet at
-breaks sheet at within here before code same = record {
-  within = inr (subst (λ (s : Sheet). at < length s.units) (sym same) (grind (arith, nat_tests, within)));
-  breaks = ap (λ (s : Sheet). keeps_all_at s at) same ∙ here;
-  before = λ k below. ap (λ (s : Sheet). keeps_all_at s k) same ∙ each_passes (keeps_all_at sheet) at k before below;
-}
+-- after none
+pub typed : (sheet : Sheet) → keeps_whole [] sheet ≡ true → all_below (keeps_at [] sheet) (length sheet.units) ≡ true → Typed sheet
+typed sheet whole all = typed_behind [] sheet whole all
 
-pub breaks_whole : (sheet : Sheet) → keeps_all_at sheet 0 ≡ false → Breaks sheet 0
-breaks_whole sheet here code same = record {
-  within = inl refl;
-  breaks = ap (λ (s : Sheet). keeps_all_at s 0) same ∙ here;
-  before = λ k below. absurd (omega arith);
-}
+pub breaks : (sheet : Sheet) (at : ℕ) → nat_lt at (length sheet.units) ≡ true → keeps [] sheet at ≡ false → all_below (keeps [] sheet) at ≡ true → Breaks sheet at
+breaks sheet at within here before = breaks_behind [] sheet at within here before
+
+pub breaks_whole : (sheet : Sheet) → keeps [] sheet 0 ≡ false → Breaks sheet 0
+breaks_whole sheet here = record { within = inl refl; breaks = here; before = λ k below. absurd (omega arith) }
 
 -- the first unit breaks the rules on units, whether or not the whole code keeps its own
-pub breaks_first : (sheet : Sheet) → keeps_at sheet 0 ≡ false → Breaks sheet 0
-breaks_first sheet here = breaks_whole sheet (by_whole (keeps_whole sheet) (keeps_at sheet 0) here)
+pub breaks_first : (sheet : Sheet) → keeps_at [] sheet 0 ≡ false → Breaks sheet 0
+breaks_first sheet here = breaks_whole sheet (by_whole (keeps_whole [] sheet) (keeps_at [] sheet 0) here)
   where
     by_whole : (b c : Bool) → c ≡ false → (b && c) ≡ false
     by_whole true c is = is

@@ -1,8 +1,8 @@
--- Where control comes to that leaves blocks: behind their ends, out of loops, out of handlers, and behind the exit of a manager.
+-- Where control comes to that leaves blocks: after their ends, out of loops, out of handlers, and after the exit of a manager.
 use Rattle.std.specs.Prelude.{ℕ, suc, nat_lt, List, [], ◌∷◌, length, drop, slice_get, Bool, true, false, ◌&&◌, ◌==◌, Option, Some}
 use Rattle.std.specs.List.{list_all, list_any}
 use Rattle.py_check.specs.declared.note.Kind.{Kind}
-use Rattle.py_check.specs.declared.note.Kind.TheVariants.{Any}
+use Rattle.py_check.specs.declared.note.Kind.TheVariants.{Any, Exc}
 use Rattle.py_check.specs.declared.note.Pending.{Pending}
 use Rattle.py_check.specs.declared.note.Pending.TheVariants as pending
 use Rattle.py_check.specs.declared.note.BlockNote.{BlockNote}
@@ -11,6 +11,7 @@ use Rattle.py_check.specs.declared.note.Note.{Note}
 use Rattle.py_check.specs.declared.note.Note.TheVariants.{Live}
 use Rattle.py_check.specs.Notes.{level_of, pending_of, same_pending}
 use Rattle.py_check.specs.Landing.{goes_on, jumps, top_level}
+use Rattle.py_check.specs.Taking.{reads}
 use Rattle.py_code.specs.Bottom.{bottom}
 use Rattle.py_check.specs.Sheet.{Sheet}
 
@@ -31,7 +32,7 @@ abbrev pub lets_wait : Option Note → Pending → Bool
 lets_wait (Some (Live kinds (b ∷ blocks))) p = list_any (same_pending p) (pending_of b)
 lets_wait _ p = false
 
--- a break lands behind its loop, and a continue in it
+-- a break lands after its loop, and a continue in it
 abbrev pub reaches_loop : Sheet → Pending → ℕ → List Kind → List BlockNote → Bool
 reaches_loop sheet (pending.Break to) level kinds blocks = jumps sheet to (bottom level kinds) blocks
 reaches_loop sheet (pending.Continue to) level kinds blocks = jumps sheet to kinds (Loop level ∷ blocks)
@@ -45,10 +46,12 @@ walks sheet p kinds (Finally level handler ∷ blocks) = lets_wait (slice_get sh
 walks sheet p kinds (FinallyHandler level waiting ∷ blocks) = walks sheet p (bottom level kinds) blocks
 walks sheet p kinds (ExceptHandler level ∷ blocks) = walks sheet p (bottom level kinds) blocks
 
+-- a block that is the handler of a finally
 abbrev pub is_finally_handler : BlockNote → Bool
 is_finally_handler (FinallyHandler level waiting) = true
 is_finally_handler _ = false
 
+-- a block that is the handler of an except
 abbrev pub is_except_handler : BlockNote → Bool
 is_except_handler (ExceptHandler level) = true
 is_except_handler _ = false
@@ -73,7 +76,15 @@ starts_cleanup sheet to kinds [] = false
 starts_cleanup sheet to kinds (b ∷ blocks) =
     is_finally_handler b && (length kinds == level_of b) && nat_lt (top_level blocks) (level_of b) && goes_on sheet to (Any ∷ kinds) (b ∷ blocks)
 
+-- an exception goes, which lies alone above the level of its handler, and the iterator under it
+abbrev pub ends_async : Sheet → ℕ → List Kind → List BlockNote → Bool
+ends_async sheet to kinds [] = false
+ends_async sheet to kinds (b ∷ blocks) =
+    is_except_handler b && reads 0 Exc kinds && (length kinds == suc (level_of b)) && nat_lt (top_level blocks) (level_of b)
+    && goes_on sheet to (drop 2 kinds) blocks
+
 -- the answer of an exit goes, and the exit itself
 abbrev pub ends_cleanup : Sheet → ℕ → List Kind → List BlockNote → Bool
 ends_cleanup sheet to kinds [] = false
-ends_cleanup sheet to kinds (b ∷ blocks) = (length kinds == suc (level_of b)) && nat_lt (top_level blocks) (level_of b) && ends_with sheet to b (drop 2 kinds) blocks
+ends_cleanup sheet to kinds (b ∷ blocks) =
+    (length kinds == suc (level_of b)) && nat_lt (top_level blocks) (level_of b) && ends_with sheet to b (drop 2 kinds) blocks

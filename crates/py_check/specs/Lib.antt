@@ -1,5 +1,5 @@
 -- lists of kinds and of blocks as they lie in memory
-pub mod Runs
+pub mod KindRuns
 pub mod Blocks
 pub mod FewerBlocks
 -- what fits a note, and how many blocks notes have
@@ -15,6 +15,7 @@ pub mod Sheet
 -- where it comes to that leaves blocks
 pub mod Effects
 pub mod Taking
+pub mod Making
 pub mod Landing
 pub mod Leaving
 -- the rules on whole codes and on units, codes that keep them, and which is broken first
@@ -23,6 +24,15 @@ pub mod Typing
 pub mod Breaking
 -- what follows from them
 pub mod Laws
+-- what the machine carries out so far
+pub mod Running
+-- the table of effects, stacks and units as the checker has them
+pub mod Table
+pub mod Opened
+pub mod Sites
 -- codes worked by hand
 pub mod Worked
 pub mod WorkedHandlers
+pub mod WorkedRaw
+pub mod WorkedRows
+pub mod WorkedRules

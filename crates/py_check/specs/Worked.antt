@@ -1,10 +1,11 @@
 -- Codes that were worked by hand: small ones that keep the rules, and others that differ from them in one thing.
-use Rattle.std.specs.Prelude.{◌≡◌, ℕ, ℤ, List, [], ◌∷◌, length, replicate}
+use Rattle.std.specs.Prelude.{ℕ, ℤ, List, [], ◌∷◌, length, replicate}
+use Rattle.py_code.specs.declared.flags.TheConstants.CodeFlags.{NEW_LOCALS, IS_OPTIMIZED}
+use Rattle.py_code.specs.Flags.{all_of}
 use Rattle.py_code.specs.declared.unit.CodeUnit.{CodeUnit}
 use Rattle.py_code.specs.declared.instruction.Instruction.{Instruction}
 use Rattle.py_code.specs.declared.instruction.Instruction.TheVariants.{LoadConst, LoadFast, LoadGlobal, Pop, BinaryOperation, CallFunctionPositional, Jump, JumpIfFalse, SetupLoop, PopBlock, ReturnValue, ReturnConst, ExtendedArg}
-use Rattle.py_code.specs.declared.literal.Literal.{Literal, None as NoneLiteral, Builtin}
-use Rattle.py_code.specs.declared.literal.BuiltinFn.{BuiltinFn}
+use Rattle.py_code.specs.declared.literal.Literal.{Literal, None as NoneLiteral}
 use Rattle.py_check.specs.declared.note.Kind.{Kind}
 use Rattle.py_check.specs.declared.note.Kind.TheVariants.{Any, Str, Exc}
 use Rattle.py_check.specs.declared.note.Pending.{Pending}
@@ -13,18 +14,17 @@ use Rattle.py_check.specs.declared.note.BlockNote.{BlockNote}
 use Rattle.py_check.specs.declared.note.BlockNote.TheVariants.{Loop, TryExcept, FinallyHandler, ExceptHandler}
 use Rattle.py_check.specs.declared.note.Note.{Note}
 use Rattle.py_check.specs.declared.note.Note.TheVariants.{Live}
-use Rattle.py_check.specs.declared.annotated.Annotated.{Annotated}
-use Rattle.py_check.specs.Sheet.{Sheet, sheet_of}
+use Rattle.py_check.specs.Sheet.{Sheet}
 use Rattle.py_check.specs.Typing.{IsTyped}
 use Rattle.py_check.specs.Breaking.{BreaksFirst}
 
--- each code of which the rules read this keeps them
+-- a code of which the rules read this keeps them, where no code stands before it
 abbrev pub Typed : Sheet → Type 0
-Typed sheet = (code : Annotated) → sheet_of code ≡ sheet → IsTyped code
+Typed sheet = IsTyped [] sheet
 
--- each code of which the rules read this breaks them, first at a unit
+-- it breaks them, first at a unit
 abbrev pub Breaks : Sheet → ℕ → Type 0
-Breaks sheet at = (code : Annotated) → sheet_of code ≡ sheet → BreaksFirst code at
+Breaks sheet at = BreaksFirst [] sheet at
 
 abbrev pub unit : Instruction → ℕ → CodeUnit
 unit op arg = record { op = op; arg = arg }
@@ -36,7 +36,7 @@ sheet units notes =
       units = units;
       locations = length units;
       notes = notes;
-      flags = 33;
+      flags = all_of (NEW_LOCALS ∷ IS_OPTIMIZED ∷ []);
       posonlyarg_count = 0;
       arg_count = 2;
       kwonlyarg_count = 0;
@@ -46,6 +46,7 @@ sheet units notes =
       names = 1;
       varnames = 2;
       cellvars = 0;
+      freevars = 0;
     }
 
 -- a note without blocks
@@ -81,11 +82,11 @@ sum = on_both BinaryOperation 6
 abbrev pub with_cells : List ℤ → Sheet
 with_cells cells = record sum { cellvars = 2; cell2arg = cells }
 
--- a unit behind the load of the first parameter, and the note behind the unit, whose value is returned
+-- a unit after the load of the first parameter, and the note after the unit, whose value is returned
 abbrev pub on_first : CodeUnit → Note → Sheet
 on_first u behind = sheet (unit LoadFast 0 ∷ u ∷ unit ReturnValue 0 ∷ []) (nothing ∷ one ∷ behind ∷ [])
 
--- a unit ends the code behind the load of the first parameter
+-- a unit ends the code after the load of the first parameter
 abbrev pub ending : CodeUnit → Sheet
 ending u = sheet (unit LoadFast 0 ∷ u ∷ []) (nothing ∷ one ∷ [])
 
@@ -102,11 +103,11 @@ abbrev pub calling : ℕ → Sheet
 calling count =
     record (sheet (unit LoadGlobal 0 ∷ unit LoadFast 0 ∷ unit LoadFast 1 ∷ unit CallFunctionPositional count ∷ unit ReturnValue 0 ∷ []) (nothing ∷ one ∷ two ∷ holds (Any ∷ Any ∷ Any ∷ []) ∷ one ∷ [])) { max_stackdepth = 3 }
 
--- a code with a prefix in front, which carries this byte
+-- a code with a prefix before it, which carries this byte
 abbrev pub prefixed : ℕ → Sheet → Sheet
 prefixed byte s = sheet (unit ExtendedArg byte ∷ s.units) (nothing ∷ s.notes)
 
--- a constant is loaded and returned, and the note behind the load says this
+-- a constant is loaded and returned, and the note after the load says this
 abbrev pub loaded : Literal → Kind → Sheet
 loaded literal kind = record (sheet (unit LoadConst 0 ∷ unit ReturnValue 0 ∷ []) (nothing ∷ holds (kind ∷ []) ∷ [])) { constants = literal ∷ [] }
 
@@ -115,19 +116,7 @@ abbrev pub loaded_later : Literal → Kind → Sheet
 loaded_later literal kind =
     record (sheet (unit LoadConst 0 ∷ unit Pop 0 ∷ unit LoadConst 1 ∷ unit ReturnValue 0 ∷ []) (nothing ∷ one ∷ nothing ∷ holds (kind ∷ []) ∷ [])) { constants = NoneLiteral ∷ literal ∷ [] }
 
--- so is a function of the machine's own
-abbrev pub own_loaded : BuiltinFn → Sheet
-own_loaded f = loaded_later (Builtin f) Any
-
--- a constant is returned in the place of None
-abbrev pub returned : Literal → Sheet
-returned literal = record (sheet (unit ReturnConst 0 ∷ []) (nothing ∷ [])) { constants = literal ∷ [] }
-
--- so is a function of the machine's own, behind a local that is loaded and dropped
-abbrev pub own_returned : BuiltinFn → Sheet
-own_returned f = record (sheet (unit LoadFast 0 ∷ unit Pop 0 ∷ unit ReturnConst 0 ∷ []) (nothing ∷ one ∷ nothing ∷ [])) { constants = Builtin f ∷ [] }
-
--- None is returned at once, and other units stand behind that, where control never gets
+-- None is returned at once, and other units stand after that, where control never gets
 abbrev pub behind_the_end : List CodeUnit → List Note → Sheet
 behind_the_end units notes = sheet (unit ReturnConst 0 ∷ units) (nothing ∷ notes)
 
@@ -146,7 +135,7 @@ handles = Live (Exc ∷ []) (ExceptHandler 0 ∷ [])
 abbrev pub handled : Note
 handled = Live [] (ExceptHandler 0 ∷ [])
 
--- the same over a text, and the kinds in front of it
+-- the same over a text, and the kinds before it
 abbrev pub handles_above : Note
 handles_above = Live (Exc ∷ Str ∷ []) (ExceptHandler 1 ∷ [])
 
@@ -169,11 +158,11 @@ loop_above n = Live (values n) (Loop 1 ∷ [])
 abbrev pub falling_levels : Sheet
 falling_levels = behind_the_end (unit ReturnConst 0 ∷ []) (Live (values 1) (Loop 0 ∷ Loop 1 ∷ []) ∷ [])
 
--- a value is loaded in the handler of a finally, while which a break may wait before, and these jumps behind
+-- a value is loaded in the handler of a finally, while which a break may wait before, and these jumps after
 abbrev pub waiting_on : List Pending → Sheet
 waiting_on jumps = behind_the_end (unit LoadFast 0 ∷ unit ReturnValue 0 ∷ []) (finishes [] (pending.Break 1 ∷ []) ∷ finishes (values 1) jumps ∷ [])
 
--- the units of a loop that goes on while the first parameter is true, with the label behind it
+-- the units of a loop that goes on while the first parameter is true, with the label after it
 abbrev pub loop_units : ℕ → List CodeUnit
 loop_units behind = unit SetupLoop 0 ∷ unit LoadFast 0 ∷ unit JumpIfFalse behind ∷ unit Jump 1 ∷ unit PopBlock 0 ∷ unit ReturnConst 0 ∷ []
 

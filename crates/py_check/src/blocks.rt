@@ -1,6 +1,6 @@
 //! Open blocks, in lists that share what they have in common.
 
-ghost use Rattle.std.specs.Prelude.{◌≡◌, [], ◌∷◌, length, slice_get, option_copied, IfOk, OnErr, OnOk};
+ghost use Rattle.std.specs.Prelude.{◌≡◌, [], ◌∷◌, length, slice_get, option_copied, IfOk, MatchOption, OnErr, OnOk};
 
 use crate::note::BlockNote;
 use py_code::NoMemory;
@@ -97,6 +97,19 @@ impl BlockList {
         let pushed = self.with(alloc, block)?;
         *self = pushed;
         Ok(())
+    }
+
+    /// The innermost block and those around it, where there is one.
+    pub fn split(&self) -> Option<(&BlockNote, &BlockList)>
+        ensures { MatchOption result (self.now ≡ []) (λ p. self.now ≡ p.0.now ∷ p.1.now) }
+    {
+        match &self.top {
+            Some(cell) => {
+                let OpenBlock { block, around } = &**cell;
+                Some((block, around))
+            }
+            None => None,
+        }
     }
 
     /// The same blocks once more, which takes no memory. The count of those who have them may be full.

@@ -1,8 +1,9 @@
 //! Codes that were worked by hand, with handlers, finallies, managers, moves and yields.
 
-ghost use Rattle.std.specs.Prelude.{◌+◌, [], ◌∷◌};
+ghost use Rattle.std.specs.Prelude.{[], ◌∷◌};
 ghost use Rattle.py_code.specs.declared.instruction.Instruction.TheVariants as op;
 ghost use Rattle.py_code.specs.declared.flags.TheConstants.CodeFlags.{HAS_VARARGS, IS_COROUTINE, IS_GENERATOR};
+ghost use Rattle.py_code.specs.Flags.{all_of};
 ghost use Rattle.py_check.specs.declared.note.Kind.TheVariants as kind;
 ghost use Rattle.py_check.specs.declared.note.Pending.TheVariants as pending;
 ghost use Rattle.py_check.specs.declared.note.Note.TheVariants as note;
@@ -26,7 +27,7 @@ pub fn worked_handlers()
     ensures may_not_wait_twice { Breaks (breaking_twice []) 4 }
     ensures finally_popped { Breaks (finishing (unit op.PopBlock 0) 0 [] []) 1 }
     ensures waits_for_nowhere { Breaks (breaking (pending.Break 7 ∷ pending.Break 6 ∷ [])) 5 }
-    // A break lands behind its loop, and a continue in it.
+    // A break lands after its loop, and a continue in it.
     ensures breaks_out_of_handler { Typed handling }
     ensures breaks_out { Typed (jumping (unit op.Break 2) nothing) }
     ensures break_keeps_its_loop { Breaks (jumping (unit op.Break 1) nothing) 1 }
@@ -51,7 +52,7 @@ pub fn worked_values()
     ensures duplicates_nothing { Breaks (returning (unit op.Duplicate 0)) 0 }
     ensures moves_below { Breaks (stranded (unit op.Rotate2 0) (loop_above 2) (loop_above 2)) 1 }
     ensures matches { Typed (on_both op.TestOperation 4) }
-    ensures tests_otherwise { Breaks (on_both op.TestOperation 0) 2 }
+    ensures tests_otherwise { Breaks (on_both op.TestOperation 5) 2 }
     ensures deletes { Typed (beginning (unit op.DeleteFast 1)) }
     ensures deletes_no_local { Breaks (beginning (unit op.DeleteFast 2)) 0 }
     ensures raises { Typed (ending (unit op.Raise 1)) }
@@ -59,9 +60,9 @@ pub fn worked_values()
     ensures raises_with_cause { Typed raising_with_cause }
     ensures raises_without_cause { Breaks (ending (unit op.Raise 2)) 1 }
     ensures raises_otherwise { Breaks (ending (unit op.Raise 3)) 1 }
-    // Only a generator yields, and none that is a coroutine yet.
+    // A generator yields, and a coroutine.
     ensures yields { Typed (yielding IS_GENERATOR) }
     ensures yields_in_a_function { Breaks (record (yielding HAS_VARARGS) { arg_count = 1 }) 1 }
-    ensures yields_in_a_coroutine { Breaks (yielding IS_COROUTINE) 1 }
-    ensures yields_asynchronously { Breaks (yielding (IS_GENERATOR + IS_COROUTINE)) 1 }
+    ensures yields_in_a_coroutine { Typed (yielding IS_COROUTINE) }
+    ensures yields_asynchronously { Typed (yielding (all_of (IS_GENERATOR ∷ IS_COROUTINE ∷ []))) }
 {}

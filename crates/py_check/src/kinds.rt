@@ -1,14 +1,17 @@
 //! Kinds of the entries of a stack, as runs of equal ones.
 
 ghost use Rattle.std.specs.Prelude.{◌≡◌, ◌+◌, ◌<◌, ◌^◌, [], ◌∷◌, ◌++◌, length, replicate, slice_get, IfOk, OnErr, OnOk};
-ghost use Rattle.py_check.specs.Runs.{kinds_of};
+ghost use Rattle.py_check.specs.KindRuns.{kinds_of};
+ghost use Rattle.py_check.specs.Notes.{kinds_fit};
+ghost use Rattle.py_check.specs.Sites.{IsBehindRun};
 
+use crate::fits::kinds_are;
 use crate::note::Kind;
 use py_code::NoMemory;
 use std::alloc::Global;
 use std::marker::Model;
 
-/// As many entries of one kind, one behind another.
+/// As many entries of one kind, one after another.
 #[derive(Clone, Copy)]
 struct KindRun {
     kind: Kind,
@@ -28,7 +31,7 @@ impl Model for KindList {
 
     ghost Value = { List Kind };
 
-    ghost use Rattle.py_check.specs.Runs.{kinds_of};
+    ghost use Rattle.py_check.specs.KindRuns.{kinds_of};
 
     ghost view = { λ l. kinds_of l.runs.items };
 
@@ -73,7 +76,21 @@ impl KindList {
         kind_at(self.runs.as_slice(), at)
     }
 
-    /// Puts a kind behind the others.
+    /// The kinds in a list of their own.
+    pub(crate) fn expanded(&self, alloc: Global) -> Result<Vec<Kind>, NoMemory>
+        ensures { IfOk result (λ kinds. kinds.items ≡ self.now) }
+    {
+        expanded(alloc, self.runs.as_slice())
+    }
+
+    /// Whether kinds, the first ones before the others, fit these.
+    pub(crate) fn are_fit(&self, front: &[Kind], rest: &[Kind]) -> bool
+        ensures { result ≡ kinds_fit (front.now ++ rest.now) self.now }
+    {
+        runs_fit(front, rest, self.runs.as_slice())
+    }
+
+    /// Puts a kind after the others.
     pub fn push(&mut self, kind: Kind) -> Result<(), NoMemory>
         ensures added { OnOk result (self.new ≡ self.old ++ kind ∷ []) }
         ensures err { OnErr result (self.new ≡ self.old) }
@@ -103,7 +120,80 @@ fn kind_at(runs: &[KindRun], at: usize) -> Option<Kind>
     None
 }
 
-/// Puts a kind behind those of runs. The last run goes on where it is of this kind.
+/// The kinds of runs.
+fn expanded(alloc: Global, runs: &[KindRun]) -> Result<Vec<Kind>, NoMemory>
+    ensures { IfOk result (λ kinds. kinds.items ≡ kinds_of runs.now) }
+{
+    let mut kinds = Vec::new(alloc);
+    let mut left = runs;
+    'runs_left: while let [run, more @ ..] = left {
+        push_all(&mut kinds, run.kind, run.count)?;
+        left = more;
+    }
+    Ok(kinds)
+}
+
+/// Puts a kind after others so many times.
+fn push_all(kinds: &mut Vec<Kind>, kind: Kind, count: usize) -> Result<(), NoMemory>
+    ensures { OnOk result (kinds.new.items ≡ kinds.old.items ++ replicate count kind) }
+{
+    for place in 0..count {
+        kinds.push(kind)?;
+    }
+    Ok(())
+}
+
+/// What is left of kinds, the first ones before the others, after those that a run stands for, where these fit it.
+fn behind_run<'a>(
+    front: &'a [Kind],
+    rest: &'a [Kind],
+    run: KindRun,
+) -> Option<(&'a [Kind], &'a [Kind])>
+    ensures { IsBehindRun (front.now ++ rest.now) run result }
+{
+    let first = run.count.min(front.len());
+    let others = run.count - first;
+    if others > rest.len() {
+        return None;
+    }
+    let (front_now, front_left) = front.split_at(first);
+    let (rest_now, rest_left) = rest.split_at(others);
+    if !kinds_are(front_now, run.kind) {
+        return None;
+    }
+    if !kinds_are(rest_now, run.kind) {
+        return None;
+    }
+    Some((front_left, rest_left))
+}
+
+/// Whether there are no kinds, neither first ones nor others.
+#[tactic(auto, using(crate::proofs::FittingLemmas::nothing_fits))]
+fn are_none(front: &[Kind], rest: &[Kind]) -> bool
+    ensures { result ≡ kinds_fit (front.now ++ rest.now) [] }
+{
+    front.len() == 0 && rest.len() == 0
+}
+
+/// Whether kinds, the first ones before the others, fit those of runs.
+fn runs_fit(front: &[Kind], rest: &[Kind], runs: &[KindRun]) -> bool
+    ensures { result ≡ kinds_fit (front.now ++ rest.now) (kinds_of runs.now) }
+{
+    let mut ks = front;
+    let mut ls = rest;
+    let mut left = runs;
+    'fit: while let [run, more @ ..] = left {
+        let Some((ks_left, ls_left)) = behind_run(ks, ls, *run) else {
+            return false;
+        };
+        ks = ks_left;
+        ls = ls_left;
+        left = more;
+    }
+    are_none(ks, ls)
+}
+
+/// Puts a kind after those of runs. The last run goes on where it is of this kind.
 fn push_kind(runs: &mut Vec<KindRun>, kind: Kind) -> Result<(), NoMemory>
     requires { length (kinds_of runs.old.items) + 1 < 2 ^ 64 }
     ensures added { OnOk result (kinds_of runs.new.items ≡ kinds_of runs.old.items ++ kind ∷ []) }

@@ -1,16 +1,17 @@
 //! Codes that were worked by hand, and what the rules say of them.
 
-ghost use Rattle.std.specs.Prelude.{◌≡◌, ℕ, ℤ, Bool, true, false, pos, negsuc, List, [], ◌∷◌};
-ghost use Rattle.py_code.specs.declared.literal.Literal.{Bool as BoolOf, Builtin, Code, Int, Str, Tuple};
+ghost use Rattle.std.specs.Prelude.{◌≡◌, ℕ, ℤ, Bool, pos, negsuc, List, [], ◌∷◌};
+ghost use Rattle.py_code.specs.declared.flags.TheConstants.CodeFlags.{HAS_VARARGS, HAS_VARKEYWORDS};
+ghost use Rattle.py_code.specs.Flags.{all_of};
+ghost use Rattle.py_code.specs.declared.literal.Literal.{Bool as BoolOf, Builtin, Code, Int, Str};
 ghost use Rattle.py_code.specs.declared.literal.BuiltinFn.{BuiltinFn};
-ghost use Rattle.py_code.specs.declared.literal.LiteralList.{LiteralList};
 ghost use Rattle.py_code.specs.declared.instruction.Instruction.TheVariants as op;
 ghost use Rattle.py_check.specs.declared.note.Kind.TheVariants as kind;
 ghost use Rattle.py_check.specs.declared.note.Pending.TheVariants as pending;
 ghost use Rattle.py_check.specs.declared.note.BlockNote.TheVariants as block;
 ghost use Rattle.py_check.specs.declared.note.Note.TheVariants as note;
-ghost use Rattle.py_check.specs.Constants.{is_driving, tuple_kind};
-ghost use Rattle.py_check.specs.Worked.{Typed, Breaks, unit, sheet, nothing, one, two, one_text, on_both, sum, with_cells, on_first, ending, returning, beginning, calling, looping, loop_units, loop_notes, no_loop_notes, opening, cutting, prefixed, loaded, loaded_later, own_loaded, returned, own_returned, stranded, guarded, guarded_prefix, handles, handled, handles_above, above_text, finishes, loop_above, falling_levels, waiting_on};
+ghost use Rattle.py_check.specs.Constants.{tuple_kind};
+ghost use Rattle.py_check.specs.Worked.{Typed, Breaks, unit, sheet, nothing, one, two, one_text, on_both, sum, with_cells, on_first, ending, returning, beginning, calling, looping, loop_units, loop_notes, no_loop_notes, opening, cutting, prefixed, loaded, loaded_later, stranded, guarded, guarded_prefix, handles, handled, handles_above, above_text, finishes, loop_above, falling_levels, waiting_on};
 
 /// The code of a small function keeps the rules on units, and others break them, each first at a certain unit.
 pub fn worked_notes()
@@ -25,25 +26,20 @@ pub fn worked_notes()
     ensures no_operator { Breaks (on_both op.BinaryOperation 13) 2 }
     ensures no_constant { Breaks (sheet (unit op.ReturnConst 1 ∷ []) (nothing ∷ [])) 0 }
     ensures no_value { Breaks (on_first (unit op.BinaryOperation 6) one) 1 }
-    // The units end, and an instruction doesn't run yet.
+    // The units end.
     ensures no_end { Breaks (ending (unit op.Pop 0)) 1 }
-    ensures unknown { Breaks (sheet (unit op.Reverse 0 ∷ []) (nothing ∷ [])) 0 }
-    // An operator doesn't run yet, and constants aren't loaded yet.
     ensures subtracts { Typed (on_both op.BinaryOperation 7) }
-    ensures multiplies { Breaks (on_both op.BinaryOperation 1) 2 }
-    ensures compares { Typed (on_both op.CompareOperation 2) }
-    ensures compares_otherwise { Breaks (on_both op.CompareOperation 5) 2 }
+    ensures multiplies { Typed (on_both op.BinaryOperation 1) }
+    ensures compares { Typed (on_both op.CompareOperation 5) }
+    ensures compares_otherwise { Breaks (on_both op.CompareOperation 6) 2 }
     // A global is known by a name that is there.
     ensures global { Typed (returning (unit op.LoadGlobal 0)) }
     ensures no_global { Breaks (returning (unit op.LoadGlobal 1)) 0 }
     ensures loads_truth { (truth : Bool) → Typed (loaded_later (BoolOf truth) kind.Any) }
-    ensures loads_tuple { (items : LiteralList) → Breaks (loaded (Tuple items) kind.Tuple) 0 }
-    ensures loads_driving { (f : BuiltinFn) → is_driving f ≡ true → Typed (own_loaded f) }
-    ensures loads_builtin { (f : BuiltinFn) → is_driving f ≡ false → Breaks (own_loaded f) 2 }
-    ensures loads_code { (c : ℕ) → Breaks (loaded_later (Code c) (kind.Code c)) 0 }
-    ensures returns_tuple { (items : LiteralList) → Breaks (returned (Tuple items)) 0 }
-    ensures returns_builtin { (f : BuiltinFn) → is_driving f ≡ false → Breaks (own_returned f) 2 }
-    // A prefix counts for the unit behind it, and three may stand in a row.
+    ensures loads_builtin { (f : BuiltinFn) → Typed (loaded_later (Builtin f) kind.Any) }
+    // A code may stand among the constants where it is an earlier one.
+    ensures no_earlier_code { Breaks (loaded_later (Code 0) (kind.Code 0)) 0 }
+    // A prefix counts for the unit after it, and three may stand in a row.
     ensures three_prefixes { Typed (prefixed 0 (prefixed 0 (prefixed 0 sum))) }
     ensures four_prefixes { Breaks (prefixed 0 (prefixed 0 (prefixed 0 (prefixed 0 sum)))) 3 }
     ensures prefix_counts { Breaks (prefixed 1 sum) 1 }
@@ -62,8 +58,8 @@ pub fn worked_codes()
     ensures stack_too_large { Breaks (record sum { max_stackdepth = 65536 }) 0 }
     ensures no_such_code { Breaks (record sum { constants = Code 0 ∷ [] }) 0 }
     // Parameters are among the locals, and those by position alone are among those by position.
-    ensures var_args { Typed (record sum { arg_count = 1; flags = 8 }) }
-    ensures too_many_parameters { Breaks (record sum { arg_count = 1; flags = 24 }) 0 }
+    ensures var_args { Typed (record sum { arg_count = 1; flags = HAS_VARARGS }) }
+    ensures too_many_parameters { Breaks (record sum { arg_count = 1; flags = all_of (HAS_VARARGS ∷ HAS_VARKEYWORDS ∷ []) }) 0 }
     ensures by_position_alone { Breaks (record sum { posonlyarg_count = 3 }) 0 }
     // A cell takes over a parameter, or none.
     ensures cells { Typed (with_cells (negsuc 0 ∷ pos 1 ∷ [])) }
@@ -85,7 +81,7 @@ pub fn worked_blocks()
     ensures dead_handler { Breaks (guarded [] (block.TryExcept 0 2) note.Dead) 1 }
     ensures no_exception { Breaks (guarded [] (block.TryExcept 0 2) handled) 1 }
     ensures another_block { Breaks (guarded [] (block.Finally 0 2) handles) 1 }
-    // A label is a unit without a prefix in front of it.
+    // A label is a unit without a prefix before it.
     ensures no_label { Breaks (guarded [] (block.TryExcept 0 3) handles) 1 }
     ensures label_of_prefix { Typed (guarded_prefix 2) }
     ensures label_behind_prefix { Breaks (guarded_prefix 3) 1 }
@@ -102,7 +98,7 @@ pub fn worked_blocks()
 /// A code that loops keeps the rules, and others break them, each first at a certain unit.
 pub fn worked_loops()
     ensures loops { Typed looping }
-    // A jump goes to a unit without a prefix in front of it, whose note is as it should be.
+    // A jump goes to a unit without a prefix before it, whose note is as it should be.
     ensures no_label { Breaks (record looping { units = loop_units 6 }) 2 }
     ensures label_behind_prefix { Breaks (prefixed 0 (sheet (unit op.Jump 1 ∷ []) (nothing ∷ []))) 1 }
     ensures other_block { Breaks (record looping { units = loop_units 5 }) 2 }

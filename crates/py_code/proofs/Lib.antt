@@ -1,2 +1,4 @@
+mod LiteralLemmas
+mod ReplacingLemmas
 pub mod NamesLemmas
 pub mod TextLemmas

@@ -1,5 +1,5 @@
 -- Texts in a table, and what interning makes of it.
-use Rattle.std.proofs.Common.{◌≡◌, ◌≢◌, ◌<◌, ◌≤◌, ◌+◌, ℕ, zero, suc, List, [], ◌∷◌, ◌++◌, Bool, true, false, cond, not, ◌||◌, Some, None, refl, sym, ap, ◌∙◌, map, length, get_or, slice_get, arith, ◌⊎◌, inl, inr}
+use Rattle.std.proofs.Common.{◌≡◌, ◌≢◌, ◌<◌, ◌≤◌, ◌+◌, ℕ, zero, suc, List, [], ◌∷◌, ◌++◌, Bool, true, false, cond, not, ◌||◌, Some, None, refl, sym, ap, subst, append-nil, ◌∙◌, map, length, get_or, slice_get, arith, ◌⊎◌, inl, inr}
 use Rattle.std.specs.Prelude.{Option, IfSome, bytes_eq, position}
 use Rattle.std.specs.List.{list_any, position_or_len}
 use Rattle.std.proofs.lemmas.Bool.{cases_lt}
@@ -13,6 +13,7 @@ use Rattle.std.proofs.lemmas.Option.{slice_get-get_or, slice_get_within}
 use Rattle.std.proofs.lemmas.Slice.Eq.{bytes_eq-Decides}
 use Rattle.indexmap.specs.IndexSet.{insert_key}
 use Rattle.py_code.specs.Names.{interned, place_of, TextsDiffer}
+use Rattle.py_code.specs.Texts.{IsGrown}
 
 -- ---- a test on a list, and on the texts of a list of strings
 
@@ -152,6 +153,14 @@ place_of-interned texts text = by (list_any (bytes_eq text) texts) refl
         rw (position_or_len_push, bytes_eq-refl text, end) (grind (arith, nat_tests)) in
         let more : length (texts ++ text ∷ []) ≡ length texts + 1 = grind (arith, common_steps) in
         grind (arith, nat_tests)
+
+-- the others stay where they are
+pub grown-interned : (old new : List (List ℕ)) (text : List ℕ) → new ≡ interned old text → IsGrown old new
+grown-interned old new text made = subst (IsGrown old) (sym made) (by (list_any (bytes_eq text) old))
+  where
+    by : (b : Bool) → IsGrown old (cond b old (old ++ text ∷ []))
+    by true = ([], sym (append-nil old))
+    by false = (text ∷ [], refl)
 
 -- interning keeps the texts distinct
 pub TextsDiffer-interned : (texts : List (List ℕ)) (text : List ℕ) → TextsDiffer texts → TextsDiffer (interned texts text)

@@ -11,8 +11,14 @@ pub mod Range
 pub mod Literals
 -- the functions that the machine itself carries out, by their names
 pub mod BuiltinNames
+-- the flags of a code
+pub mod Flags
 -- a table of names as a list
 pub mod Names
+-- the text of a code
+pub mod CodeText
+-- codes in which parts are replaced
+pub mod Replacing
 -- codes with the names that they use
 pub mod Codes
 -- texts that grow

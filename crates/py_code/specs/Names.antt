@@ -6,6 +6,15 @@ use Rattle.std.specs.List.{list_any}
 abbrev pub interned : List (List ℕ) → List ℕ → List (List ℕ)
 interned texts text = if list_any (bytes_eq text) texts then texts else texts ++ text ∷ []
 
+-- the same of texts, one after another
+abbrev pub all_interned : List (List ℕ) → List (List ℕ) → List (List ℕ)
+all_interned texts [] = texts
+all_interned texts (text ∷ more) = all_interned (interned texts text) more
+
+-- some of these texts were interned, from the first on: all of them, where nothing failed
+abbrev pub AreInterned : List (List ℕ) → (old new : List (List ℕ)) → Type 0
+AreInterned texts old new = (done : List (List ℕ)) × (left : List (List ℕ)) × (texts ≡ done ++ left) × (new ≡ all_interned old done)
+
 -- where a text stands
 abbrev pub place_of : List (List ℕ) → List ℕ → Option ℕ
 place_of texts text = position (bytes_eq text) texts

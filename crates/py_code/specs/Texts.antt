@@ -1,6 +1,6 @@
--- Texts that grow at their end.
-use Rattle.std.specs.Prelude.{ℕ, List, ◌++◌, ◌≡◌}
+-- Texts and tables that grow at their end.
+use Rattle.std.specs.Prelude.{List, ◌++◌, ◌≡◌}
 
 -- more may have come behind what was there
-abbrev pub IsGrown : List ℕ → List ℕ → Type 0
-IsGrown old new = (more : List ℕ) × (new ≡ old ++ more)
+abbrev pub IsGrown : {A : Type 0} → List A → List A → Type 0
+IsGrown {A} old new = (more : List A) × (new ≡ old ++ more)

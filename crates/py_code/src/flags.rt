@@ -1,91 +1,88 @@
-//! The marks of a code, and of what makes a function.
+//! The flags of a code, and of what makes a function: sets of named bits.
 
-ghost use Rattle.std.specs.Prelude.{◌≡◌, ℕ};
+ghost use Rattle.std.specs.Prelude.{⊤, [], ◌∷◌, codes};
 
-use std::marker::Model;
+use bitflags::{Flag, Flags, bitflag_items};
 
-/// The marks of a code, each a bit of one number.
+/// The flags of a code, each a bit of one number (CPython's `co_flags` has other bits).
 #[derive(Clone, Copy, Debug, PartialEq, Eq)]
-pub struct CodeFlags {
-    bits: u16,
+pub struct CodeFlags(pub u16);
+
+bitflag_items! {
+    impl CodeFlags: u16 {
+        /// A frame of this code makes a scope of its own.
+        const NEW_LOCALS = 1;
+        /// A call of this code makes a generator.
+        const IS_GENERATOR = 2;
+        /// A call of this code makes a coroutine.
+        const IS_COROUTINE = 4;
+        /// A parameter takes the further positional arguments.
+        const HAS_VARARGS = 8;
+        /// A parameter takes the further keyword arguments.
+        const HAS_VARKEYWORDS = 16;
+        /// Locals are known by their places.
+        const IS_OPTIMIZED = 32;
+    }
 }
 
-impl Model for CodeFlags {
-    ghost use Rattle.std.specs.Prelude.{ℕ};
+impl Flags for CodeFlags {
+    type Bits = u16;
 
-    ghost Value = { ℕ };
+    ghost exact = { ⊤ };
 
-    ghost view = { λ f. f.bits };
+    ghost table = { (codes "NEW_LOCALS", 1) ∷ (codes "IS_GENERATOR", 2) ∷ (codes "IS_COROUTINE", 4)
+        ∷ (codes "HAS_VARARGS", 8) ∷ (codes "HAS_VARKEYWORDS", 16) ∷ (codes "IS_OPTIMIZED", 32) ∷ [] };
 
-    ghost inverse = { λ n. record { bits = n } };
-}
+    ghost set_of = { λ flags. flags.0 };
 
-impl CodeFlags {
-    /// A frame of this code makes a scope of its own.
-    pub const NEW_LOCALS: u16 = 1;
-    /// A call of this code makes a generator.
-    pub const IS_GENERATOR: u16 = 2;
-    /// A call of this code makes a coroutine.
-    pub const IS_COROUTINE: u16 = 4;
-    /// A parameter takes the further positional arguments.
-    pub const HAS_VARARGS: u16 = 8;
-    /// A parameter takes the further keyword arguments.
-    pub const HAS_VARKEYWORDS: u16 = 16;
-    /// Locals are known by their places.
-    pub const IS_OPTIMIZED: u16 = 32;
-
-    /// The marks that a number stands for.
-    pub fn new(bits: u16) -> CodeFlags
-        ensures { result ≡ bits }
-    {
-        CodeFlags { bits }
+    fn flags<'a>() -> &'a [Flag<CodeFlags>] {
+        CodeFlags::FLAGS
     }
 
-    /// The number that stands for the marks.
-    pub fn bits(self) -> u16
-        ensures { result ≡ self }
-    {
-        self.bits
+    fn bits(&self) -> u16 {
+        self.0
+    }
+
+    fn from_bits_retain(bits: u16) -> CodeFlags {
+        CodeFlags(bits)
     }
 }
 
 /// Which parts a new function has, each a bit of one number.
 #[derive(Clone, Copy, Debug, PartialEq, Eq)]
-pub struct MakeFunctionFlags {
-    bits: u8,
+pub struct MakeFunctionFlags(pub u8);
+
+bitflag_items! {
+    impl MakeFunctionFlags: u8 {
+        /// It has cells of bodies around.
+        const CLOSURE = 1;
+        /// It has annotations.
+        const ANNOTATIONS = 2;
+        /// It has defaults of parameters that are passed by name alone.
+        const KW_ONLY_DEFAULTS = 4;
+        /// It has defaults of parameters that are passed by position.
+        const DEFAULTS = 8;
+    }
 }
 
-impl Model for MakeFunctionFlags {
-    ghost use Rattle.std.specs.Prelude.{ℕ};
+impl Flags for MakeFunctionFlags {
+    type Bits = u8;
 
-    ghost Value = { ℕ };
+    ghost exact = { ⊤ };
 
-    ghost view = { λ f. f.bits };
+    ghost table = { (codes "CLOSURE", 1) ∷ (codes "ANNOTATIONS", 2) ∷ (codes "KW_ONLY_DEFAULTS", 4) ∷ (codes "DEFAULTS", 8) ∷ [] };
 
-    ghost inverse = { λ n. record { bits = n } };
-}
+    ghost set_of = { λ flags. flags.0 };
 
-impl MakeFunctionFlags {
-    /// It has cells of bodies around.
-    pub const CLOSURE: u8 = 1;
-    /// It has annotations.
-    pub const ANNOTATIONS: u8 = 2;
-    /// It has defaults of parameters that are passed by name alone.
-    pub const KW_ONLY_DEFAULTS: u8 = 4;
-    /// It has defaults of parameters that are passed by position.
-    pub const DEFAULTS: u8 = 8;
-
-    /// The parts that a number stands for.
-    pub fn new(bits: u8) -> MakeFunctionFlags
-        ensures { result ≡ bits }
-    {
-        MakeFunctionFlags { bits }
+    fn flags<'a>() -> &'a [Flag<MakeFunctionFlags>] {
+        MakeFunctionFlags::FLAGS
     }
 
-    /// The number that stands for the parts.
-    pub fn bits(self) -> u8
-        ensures { result ≡ self }
-    {
-        self.bits
+    fn bits(&self) -> u8 {
+        self.0
+    }
+
+    fn from_bits_retain(bits: u8) -> MakeFunctionFlags {
+        MakeFunctionFlags(bits)
     }
 }

@@ -10,6 +10,7 @@ mod literal;
 mod name_set;
 mod names;
 mod operator;
+mod replace;
 mod text;
 mod unit;
 
@@ -25,6 +26,7 @@ pub use operator::{
     BinaryOperator, ComparisonOperator, ConversionFlag, NoOperator, RaiseKind, TestOperator,
     UnaryOperator,
 };
+pub use replace::{ReplaceArgs, ReplaceFault};
 pub use text::{
     PyText, push_bytes, push_decimal, push_text, push_utf8, same_text, text_of, text_of_str,
     utf8_of,

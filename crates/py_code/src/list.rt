@@ -126,10 +126,17 @@ impl<T: Copy + Drop> ItemList<T> {
     pub fn copy(&self, alloc: Global) -> Result<ItemList<T>, NoMemory>
         ensures { IfOk result (λ copy. copy ≡ self.now) }
     {
-        let mut copy = ItemList::new(alloc);
-        for item in self.items.as_slice() {
-            copy.push(*item)?;
-        }
-        Ok(copy)
+        Ok(ItemList::of(copy_of(alloc, self.items.as_slice())?))
     }
+}
+
+/// The same items in memory of their own.
+pub(crate) fn copy_of<T: Copy + Drop>(alloc: Global, items: &[T]) -> Result<Vec<T>, NoMemory>
+    ensures { IfOk result (λ copy. copy.items ≡ items.now) }
+{
+    let mut copy = Vec::new(alloc);
+    for item in items {
+        copy.push(*item)?;
+    }
+    Ok(copy)
 }

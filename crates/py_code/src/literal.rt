@@ -1,9 +1,10 @@
 //! The constants of a code.
 
-ghost use Rattle.std.specs.Prelude.{◌≡◌, ◌==◌, [], ◌∷◌, ◌++◌, length, slice_get, OnOk, OnErr, option_copied};
+ghost use Rattle.std.specs.Prelude.{◌≡◌, ◌==◌, [], ◌∷◌, ◌++◌, length, slice_get, IfOk, OnOk, OnErr, option_copied};
+ghost use Rattle.std.specs.List.{list_all};
 ghost use Rattle.std.specs.Slice.Iter.{iter_rest};
 ghost use Rattle.py_code.specs.BuiltinNames.{builtin_name};
-ghost use Rattle.py_code.specs.Literals.{literals_of};
+ghost use Rattle.py_code.specs.Literals.{AreSame, constant_of, is_text, literals_of};
 
 use crate::list::NoMemory;
 use crate::text::PyText;
@@ -74,6 +75,39 @@ pub enum Literal {
     Builtin(BuiltinFn),
 }
 
+impl Literal {
+    /// Whether it is a text.
+    pub fn is_text(&self) -> bool
+        ensures { result ≡ is_text self.now }
+    {
+        match self {
+            Literal::Str(_) => true,
+            Literal::None => false,
+            Literal::Bool(_) => false,
+            Literal::Int(_) => false,
+            Literal::Tuple(_) => false,
+            Literal::Code(_) => false,
+            Literal::Builtin(_) => false,
+        }
+    }
+
+    /// The same constant in memory of its own.
+    #[cycle(copy)]
+    pub fn copy(&self, alloc: Global) -> Result<Literal, NoMemory>
+        ensures { IfOk result (λ copy. constant_of copy ≡ constant_of self.now) }
+    {
+        match self {
+            Literal::None => Ok(Literal::None),
+            Literal::Bool(truth) => Ok(Literal::Bool(*truth)),
+            Literal::Int(number) => Ok(Literal::Int(*number)),
+            Literal::Str(text) => Ok(Literal::Str(text.copy(alloc)?)),
+            Literal::Tuple(items) => Ok(Literal::Tuple(items.copy(alloc)?)),
+            Literal::Code(number) => Ok(Literal::Code(*number)),
+            Literal::Builtin(function) => Ok(Literal::Builtin(*function)),
+        }
+    }
+}
+
 /// Constants in order.
 #[derive(Drop)]
 #[cycle(literal)]
@@ -89,6 +123,21 @@ impl LiteralList {
         LiteralList {
             items: Vec::new(alloc),
         }
+    }
+
+    /// The list of these constants.
+    pub fn of(items: Vec<Literal>) -> LiteralList
+        ensures { literals_of result ≡ items.items }
+    {
+        LiteralList { items }
+    }
+
+    /// The constants, the list of which ends.
+    pub fn into_vec(self) -> Vec<Literal>
+        ensures { result.items ≡ literals_of self }
+    {
+        let LiteralList { items } = self;
+        items
     }
 
     /// How many constants there are.
@@ -117,6 +166,32 @@ impl LiteralList {
         ensures { option_copied result ≡ slice_get (literals_of self.now) at }
     {
         self.items.get(at)
+    }
+
+    /// The constants as a slice.
+    pub fn as_slice(&self) -> &[Literal]
+        ensures { result.now ≡ literals_of self.now }
+    {
+        self.items.as_slice()
+    }
+
+    /// Whether each is a text.
+    pub fn all_text(&self) -> bool
+        ensures { result ≡ list_all is_text (literals_of self.now) }
+    {
+        self.items.iter().all(|item| item.is_text())
+    }
+
+    /// The same constants in a list of their own.
+    #[cycle(copy)]
+    pub fn copy(&self, alloc: Global) -> Result<LiteralList, NoMemory>
+        ensures { IfOk result (λ copy. AreSame copy self.now) }
+    {
+        let mut copy = LiteralList::new(alloc);
+        for literal in &self.items {
+            copy.push(literal.copy(alloc)?)?;
+        }
+        Ok(copy)
     }
 
     /// Puts a constant behind the others.

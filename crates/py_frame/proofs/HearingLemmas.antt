@@ -88,7 +88,7 @@ module _ (objects : List Payload) (names : List (List ℕ)) (code : Annotated) w
   start_blocks : (f : Framed) → IsRunning objects names code f → f.state.wants ≡ expect.Start → f.state.blocks ≡ []
   start_blocks f running start =
       let fits : FitsAt objects code expect.Start f.state = subst (λ (x : Expect). FitsAt objects code x f.state) start running.fits in
-      let note : Some (Live fits.1.kinds fits.1.block_notes) ≡ Some (Live [] []) = sym fits.1.note ∙ ap (λ (n : ℕ). slice_get code.notes n) fits.0 ∙ (typed_whole code running.sound.typed).start in
+      let note : Some (Live fits.1.kinds fits.1.block_notes) ≡ Some (Live [] []) = sym fits.1.note ∙ ap (λ (n : ℕ). slice_get code.notes n) fits.0 ∙ (typed_whole running.sound.shapes code running.sound.typed).start in
       let nothing : fits.1.block_notes ≡ [] = cc in
       no_blocks objects f.state.blocks fits.1.block_notes nothing fits.1.blocks
 

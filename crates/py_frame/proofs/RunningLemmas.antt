@@ -66,7 +66,7 @@ run_keeps objects setting first s _ _ keeps (on {us = us} {vs = vs} {t = t} u ru
 
 -- a frame that goes on has a unit that runs next, or that waited
 pub unit_there : (objects : List Payload) (names : List (List ℕ)) (code : Annotated) (x : Expect) (s : State) → IsSound names code → FitsAt objects code x s → IsMoving x → s.at < length code.code.code.instructions.items
-unit_there objects names code expect.Go s sound fits moving = slice_get_within code.code.code.instructions.items s.at _ (unit_kept code s.at fits.kinds fits.block_notes sound.typed fits.note).is
+unit_there objects names code expect.Go s sound fits moving = slice_get_within code.code.code.instructions.items s.at _ (unit_kept names code s.at fits.kinds fits.block_notes sound fits.note).is
 unit_there objects names code (expect.Heard (got.Value v)) s sound fits moving = slice_get_within code.code.code.instructions.items s.at fits.1.unit fits.1.is
 unit_there objects names code (expect.Heard (got.Raise e)) s sound fits moving = fits.1.there
 unit_there objects names code (expect.Heard (got.Stop v)) s sound fits moving = absurd fits

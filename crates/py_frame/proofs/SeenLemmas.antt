@@ -11,7 +11,8 @@ use Rattle.py_objects.specs.declared.payload.Payload.{Payload}
 use Rattle.py_objects.specs.declared.request.Request.{Request}
 use Rattle.py_objects.specs.declared.event.GotAnswer.TheVariants as got
 use Rattle.py_objects.specs.Objects.{Obj, AllBelow, numbers}
-use Rattle.py_check.specs.Effects.{Effect, Moves, AsksOnce, Other, effect}
+use Rattle.py_check.specs.Effects.{Effect, Moves, AsksOnce, Takes, Other}
+use Rattle.py_rows.specs.Table.{row_effect}
 use Rattle.py_rows.specs.declared.expect.Expect.{Expect}
 use Rattle.py_rows.specs.declared.expect.Expect.TheVariants as expect
 use Rattle.py_rows.specs.States.{Setting, State, Step, Move, Manages, Resolves, begun, waiting, with_stack}
@@ -49,11 +50,12 @@ module _ (n : ℕ) where
   table_there : (e : Effect) (f : List Obj → Option Request) (own : Move) (s : State) → SeenBelow own → SeenBelow (acts_by e f own s)
   table_there (Moves k places) f own s there = tt
   table_there (AsksOnce wanted pushes) f own s there = tt
+  table_there (Takes k pushes) f own s there = there
   table_there Other f own s there = there
 
   unit_there : (setting : Setting) (u : Option CodeUnit) (s : State) → AllBelow n (numbers s.stack) → SeenBelow (unit_move setting u s)
   unit_there setting None s low = tt
-  unit_there setting (Some u) s low = table_there (effect u.op (with_byte s.prefix u.arg)) (asked setting u.op (with_byte s.prefix u.arg)) _ (begun s) (own_there setting u.op (with_byte s.prefix u.arg) (begun s) low)
+  unit_there setting (Some u) s low = table_there (row_effect u.op (with_byte s.prefix u.arg)) (asked setting u.op (with_byte s.prefix u.arg)) _ (begun s) (own_there setting u.op (with_byte s.prefix u.arg) (begun s) low)
 
   top_there : (stack : List Obj) (to : ℕ) (v : Obj) (s : State) → AllBelow n (numbers stack) → SeenBelow (enters_top stack to v s)
   top_there [] to v s low = tt
@@ -70,11 +72,12 @@ module _ (n : ℕ) where
   by_table : (e : Effect) (own : Move) (v : Obj) (s : State) → SeenBelow own → SeenBelow (answered_by e own v s)
   by_table (Moves k places) own v s there = tt
   by_table (AsksOnce wanted pushes) own v s there = tt
+  by_table (Takes k pushes) own v s there = there
   by_table Other own v s there = there
 
   answered_there : (u : Option CodeUnit) (v : Obj) (s : State) → AllBelow n (numbers s.stack) → SeenBelow (unit_answered u v s)
   answered_there None v s low = tt
-  answered_there (Some u) v s low = by_table (effect u.op (with_byte s.prefix u.arg)) _ v s (answer_there u.op (with_byte s.prefix u.arg) v s low)
+  answered_there (Some u) v s low = by_table (row_effect u.op (with_byte s.prefix u.arg)) _ v s (answer_there u.op (with_byte s.prefix u.arg) v s low)
 
   pub seen_there : (setting : Setting) (x : Expect) (s : State) → AllBelow n (numbers s.stack) → SeenBelow (moves setting x s)
   seen_there setting expect.Go s low = unit_there setting (slice_get setting.code.code.instructions.items s.at) s low

@@ -8,7 +8,7 @@ use Rattle.py_code.specs.declared.unit.CodeUnit.{CodeUnit}
 use Rattle.py_objects.specs.declared.refs.PyBaseExceptionRef.{PyBaseExceptionRef}
 use Rattle.py_objects.specs.declared.event.GotAnswer.{GotAnswer}
 use Rattle.py_objects.specs.Objects.{Obj, Name}
-use Rattle.py_check.specs.Effects.{effect}
+use Rattle.py_rows.specs.Table.{row_effect}
 use Rattle.py_rows.specs.declared.block.Block.{Block}
 use Rattle.py_rows.specs.declared.block.BlockType.TheVariants as typ
 use Rattle.py_rows.specs.declared.block.UnwindReason.{UnwindReason}
@@ -59,11 +59,11 @@ deletes_local scene place s = delete_fast (local_name scene place) place (slice_
 
 -- moves entries as the table of effects says
 abbrev pub moves_as : Instruction → ℕ → State → Step
-moves_as op arg s = moves_by (effect op arg) s
+moves_as op arg s = moves_by (row_effect op arg) s
 
 -- asks once, as the table of effects says
 abbrev pub asks_as : NamedCode → Framed → Instruction → ℕ → State → Step
-asks_as scene f op arg s = asks_by (effect op arg) (asked (setting scene f) op arg) s
+asks_as scene f op arg s = asks_by (row_effect op arg) (asked (setting scene f) op arg) s
 
 -- asks a test of two operands
 abbrev pub asks_test : ℕ → State → Step

@@ -8,7 +8,7 @@ use Rattle.py_objects.specs.Callees.{call_request}
 use Rattle.py_objects.specs.Growth.{Grows}
 use Rattle.py_objects.specs.Own.{Own}
 use Rattle.py_objects.specs.declared.request.Request.{Request}
-use Rattle.py_check.specs.Effects.{Effect, Moves, AsksOnce, Other}
+use Rattle.py_check.specs.Effects.{Effect, Moves, AsksOnce, Takes, Other}
 use Rattle.py_rows.specs.declared.block.Block.{Block}
 use Rattle.py_rows.specs.declared.expect.Expect.TheVariants as expect
 use Rattle.py_rows.specs.declared.block.UnwindReason.{UnwindReason}
@@ -50,12 +50,14 @@ done at (unit.Tells step) s = tells (told at step) s
 abbrev pub moves_by : Effect → State → Step
 moves_by (Moves n places) s = moves_entries n places s
 moves_by (AsksOnce wanted pushes) s = Stuck
+moves_by (Takes n pushes) s = Stuck
 moves_by Other s = Stuck
 
 -- and of one that asks once
 abbrev pub asks_by : Effect → (List Obj → Option Request) → State → Step
 asks_by (Moves n places) f s = Stuck
 asks_by (AsksOnce wanted pushes) f s = asks_once (length wanted) f s
+asks_by (Takes n pushes) f s = Stuck
 asks_by Other f s = Stuck
 
 -- a unit did what a row says, and left the same frame

@@ -1,6 +1,6 @@
 -- Scopes in which statements may stand, inside of blocks too: what a break or a continue finds there.
 -- The units that open, close and leave blocks keep the typing rules.
-use Rattle.std.proofs.Common.{◌≤◌, ◌≡◌, ◌+◌, ℕ, suc, List, [], ◌∷◌, Bool, true, false, ◌||◌, Some, None, refl, sym, ap, ◌∙◌, subst, length, arith}
+use Rattle.std.proofs.Common.{◌≤◌, ◌≡◌, ◌+◌, ℕ, suc, List, [], ◌∷◌, Bool, true, false, ◌&&◌, ◌||◌, Some, None, refl, sym, ap, ◌∙◌, subst, length, arith}
 use Rattle.std.specs.Prelude.{Option, slice_get}
 use Rattle.std.specs.List.{list_all}
 use Rattle.std.proofs.lemmas.Bool.{and_from, le-leb, lt-ltb, eq-eqb}
@@ -19,7 +19,8 @@ use Rattle.py_check.specs.Notes.{level_of, pending_of, is_subset, blocks_fit}
 use Rattle.py_check.specs.Operands.{is_label}
 use Rattle.py_check.specs.Landing.{levels_nest, goes_on, handler_lands, top_level}
 use Rattle.py_check.specs.Leaving.{lets_wait, walks}
-use Rattle.py_check.specs.Typing.{opens, keeps_op}
+use Rattle.py_check.specs.Typing.{keeps_op}
+use Rattle.py_check.specs.Running.{runs}
 use Rattle.py_laid.specs.Code.{Labels, Around, Scope, on, inside, in_loop, in_try, in_clauses, before_finally, leaving, in_finally, Stands, LaidBreak, LaidContinue}
 use Rattle.py_laid.proofs.NoteLemmas.{kinds_of, length-kinds_of, length-bottom, top_level-low, block_fits-self, block_fits-none, leaving_fits}
 use Rattle.py_laid.proofs.TypingUnits.{Noted, parts_of, Free, In, Safe, safe_on, goes, labels, jumps_to}
@@ -150,27 +151,36 @@ module _ (code : Noted) where
       → Typed code (Safe code scope × Safe code (in_loop l scope)) scope (in_loop l scope) at next
   loop_opens scope l line at next stands free =
       unit_typed code (Safe code scope × Safe code (in_loop l scope)) scope (in_loop l scope) line at 0 next op.SetupLoop stands free (λ holds. holds.0)
-      (λ (safe, inner) there k is_next. ap (λ (n : ℕ). goes_on code.sheet (k + 1) (kinds_of scope) (Loop n ∷ scope.blocks)) (length-kinds_of scope)
-      ∙ goes_as code (in_loop l scope) inner (kinds_of scope) k next is_next there (length-kinds_of scope))
+      (λ (safe, inner) there k is_next. (
+        ap (λ (n : ℕ). goes_on code.sheet (k + 1) (kinds_of scope) (Loop n ∷ scope.blocks)) (length-kinds_of scope)
+            ∙ goes_as code (in_loop l scope) inner (kinds_of scope) k next is_next there (length-kinds_of scope),
+        refl,
+      ))
 
   -- a block whose handler is a label with the note of the scope in which it runs
   pub block_opens : (scope handling : Scope) (block : ℕ → BlockNote) (line at handler next : ℕ) (i : Instruction)
-      → ((k : ℕ) → keeps_op code.sheet k i handler (kinds_of scope) scope.blocks ≡ opens code.sheet k handler (kinds_of scope) (block (length (kinds_of scope)) ∷ scope.blocks))
-      → Stands (parts_of code) scope line at i handler next → Free code at
+      → ((k : ℕ) → keeps_op code.shapes code.sheet k i handler (kinds_of scope) scope.blocks ≡ (is_label code.sheet.units handler && goes_on code.sheet (k + 1) (kinds_of scope) (block (length (kinds_of scope)) ∷ scope.blocks)))
+      → runs code.sheet i handler ≡ true → Stands (parts_of code) scope line at i handler next → Free code at
       → Typed code (Safe code scope × Safe code (inside (block scope.depth) scope) × In code handling handler) scope (inside (block scope.depth) scope) at next
-  block_opens scope handling block line at handler next i asks stands free =
+  block_opens scope handling block line at handler next i asks run stands free =
       unit_typed code (Safe code scope × Safe code (inside (block scope.depth) scope) × In code handling handler) scope (inside (block scope.depth) scope)
       line at handler next i stands free (λ holds. holds.0)
-      (λ (safe, inner, enters) there k is_next. asks k ∙ and_from _ _ (labels code handling handler enters)
-      (ap (λ (n : ℕ). goes_on code.sheet (k + 1) (kinds_of scope) (block n ∷ scope.blocks)) (length-kinds_of scope)
-      ∙ goes_as code (inside (block scope.depth) scope) inner (kinds_of scope) k next is_next there (length-kinds_of scope)))
+      (λ (safe, inner, enters) there k is_next. (
+        asks k ∙ and_from _ _ (labels code handling handler enters)
+            (ap (λ (n : ℕ). goes_on code.sheet (k + 1) (kinds_of scope) (block n ∷ scope.blocks)) (length-kinds_of scope)
+            ∙ goes_as code (inside (block scope.depth) scope) inner (kinds_of scope) k next is_next there (length-kinds_of scope)),
+        run,
+      ))
 
   -- the body of a finally has ended, and it begins
   pub finally_begins : (scope : Scope) (line at next : ℕ) → Stands (parts_of code) scope line at op.EnterFinally 0 next → Free code at → Typed code (Safe code scope) scope (in_finally scope) at next
   finally_begins scope line at next stands free =
       unit_typed code (Safe code scope) scope (in_finally scope) line at 0 next op.EnterFinally stands free (λ safe. safe)
-      (λ safe there k is_next. ap (λ (n : ℕ). goes_on code.sheet (k + 1) (kinds_of scope) (FinallyHandler n [] ∷ scope.blocks)) (length-kinds_of scope)
-      ∙ goes code (in_finally scope) (kinds_of scope) (FinallyHandler scope.depth [] ∷ scope.blocks) k next is_next there (length-kinds_of scope) (waits_for_none scope safe))
+      (λ safe there k is_next. (
+        ap (λ (n : ℕ). goes_on code.sheet (k + 1) (kinds_of scope) (FinallyHandler n [] ∷ scope.blocks)) (length-kinds_of scope)
+            ∙ goes code (in_finally scope) (kinds_of scope) (FinallyHandler scope.depth [] ∷ scope.blocks) k next is_next there (length-kinds_of scope) (waits_for_none scope safe),
+        refl,
+      ))
 
   -- a manager is entered: its exit stays under the block of the body, and the answer lies there
   pub with_opens : (scope : Scope) (line at handler next : ℕ) → Stands (parts_of code) (on scope) line at op.SetupWith handler next → Free code at
@@ -178,12 +188,14 @@ module _ (code : Noted) where
   with_opens scope line at handler next stands free =
       unit_typed code (Safe code scope × Safe code (before_finally handler (on scope)) × In code (in_finally (on scope)) handler) (on scope) (on (before_finally handler (on scope)))
       line at handler next op.SetupWith stands free (λ holds. safe_on code scope holds.0)
-      (λ (safe, inner, enters) there k is_next.
-      takes_one code scope safe (λ rest. opens code.sheet k handler (Any ∷ Any ∷ rest) (Finally (suc (length rest)) handler ∷ scope.blocks))
-      (and_from _ _ (labels code (in_finally (on scope)) handler enters)
-      (ap (λ (n : ℕ). goes_on code.sheet (k + 1) (Any ∷ Any ∷ kinds_of scope) (Finally (suc n) handler ∷ scope.blocks)) (length-kinds_of scope)
-      ∙ goes_as code (on (before_finally handler (on scope))) (safe_on code (before_finally handler (on scope)) inner) (Any ∷ Any ∷ kinds_of scope) k next is_next there
-      (ap suc (ap suc (length-kinds_of scope))))))
+      (λ (safe, inner, enters) there k is_next. (
+        and_from _ _ (labels code (in_finally (on scope)) handler enters)
+            (takes_one code scope safe (λ rest. goes_on code.sheet (k + 1) (Any ∷ Any ∷ rest) (Finally (suc (length rest)) handler ∷ scope.blocks))
+            (ap (λ (n : ℕ). goes_on code.sheet (k + 1) (Any ∷ Any ∷ kinds_of scope) (Finally (suc n) handler ∷ scope.blocks)) (length-kinds_of scope)
+            ∙ goes_as code (on (before_finally handler (on scope))) (safe_on code (before_finally handler (on scope)) inner) (Any ∷ Any ∷ kinds_of scope) k next is_next there
+            (ap suc (ap suc (length-kinds_of scope))))),
+        refl,
+      ))
 
   -- its exit is called
   pub cleanup_starts : (scope : Scope) (line at next : ℕ) → Stands (parts_of code) (in_finally (on scope)) line at op.WithCleanupStart 0 next → Free code at
@@ -192,9 +204,11 @@ module _ (code : Noted) where
       unit_typed code (Fine scope) (in_finally (on scope)) (on (in_finally (on scope))) line at 0 next op.WithCleanupStart stands free (λ fine. safe_exit scope fine.safe)
       (λ fine there k is_next.
       let long : length (kinds_of (in_finally (on scope))) ≡ suc scope.depth = length-kinds_of (in_finally (on scope)) in
-      let low : top_level scope.blocks ≤ scope.depth = top_level-low scope.depth scope.blocks fine.safe.nest in
-      and_from _ _ (and_from _ _ (and_from _ _ refl (eq-eqb _ _ long)) (lt-ltb _ _ (omega (arith, low))))
-      (goes_as code (on (in_finally (on scope))) (safe_on code (in_finally (on scope)) (safe_exit scope fine.safe)) (Any ∷ kinds_of (in_finally (on scope))) k next is_next there (ap suc long)))
+      let low : top_level scope.blocks ≤ scope.depth = top_level-low scope.depth scope.blocks fine.safe.nest in (
+        and_from _ _ (and_from _ _ (and_from _ _ refl (eq-eqb _ _ long)) (lt-ltb _ _ (omega (arith, low))))
+            (goes_as code (on (in_finally (on scope))) (safe_on code (in_finally (on scope)) (safe_exit scope fine.safe)) (Any ∷ kinds_of (in_finally (on scope))) k next is_next there (ap suc long)),
+        refl,
+      ))
 
   -- and control goes on, or each jump that waits finds its way
   pub cleanup_ends : (scope : Scope) (line at next : ℕ) → Stands (parts_of code) (on (in_finally (on scope))) line at op.WithCleanupFinish 0 next → Free code at
@@ -203,10 +217,12 @@ module _ (code : Noted) where
       unit_typed code (Fine scope) (on (in_finally (on scope))) scope line at 0 next op.WithCleanupFinish stands free (λ fine. safe_on code (in_finally (on scope)) (safe_exit scope fine.safe))
       (λ fine there k is_next.
       let long : length (kinds_of (on (in_finally (on scope)))) ≡ suc (suc scope.depth) = length-kinds_of (on (in_finally (on scope))) in
-      let low : top_level scope.blocks ≤ scope.depth = top_level-low scope.depth scope.blocks fine.safe.nest in
-      and_from _ _ (and_from _ _ (eq-eqb _ _ long) (lt-ltb _ _ (omega (arith, low))))
-      (and_from _ _ (and_from _ _ refl (goes_as code scope fine.safe (kinds_of scope) k next is_next there (length-kinds_of scope)))
-      (all_walk scope.around scope.depth (kinds_of scope) scope.blocks fine.walk (length-kinds_of scope))))
+      let low : top_level scope.blocks ≤ scope.depth = top_level-low scope.depth scope.blocks fine.safe.nest in (
+        and_from _ _ (and_from _ _ (eq-eqb _ _ long) (lt-ltb _ _ (omega (arith, low))))
+            (and_from _ _ (and_from _ _ refl (goes_as code scope fine.safe (kinds_of scope) k next is_next there (length-kinds_of scope)))
+            (all_walk scope.around scope.depth (kinds_of scope) scope.blocks fine.walk (length-kinds_of scope))),
+        refl,
+      ))
 
   -- ---- blocks are closed
 
@@ -220,18 +236,20 @@ module _ (code : Noted) where
 
   -- an instruction that goes on so behind a block
   pub block_closes : (scope inner : Scope) (line at next : ℕ) (i : Instruction)
-      → ((k : ℕ) → keeps_op code.sheet k i 0 (kinds_of inner) inner.blocks ≡ goes_on code.sheet (k + 1) (bottom scope.depth (kinds_of scope)) scope.blocks)
-      → Stands (parts_of code) inner line at i 0 next → Free code at → Typed code (Safe code scope × Safe code inner) inner scope at next
-  block_closes scope inner line at next i asks stands free =
-      unit_typed code (Safe code scope × Safe code inner) inner scope line at 0 next i stands free (λ holds. holds.1) (λ holds there k is_next. asks k ∙ left_on scope holds.0 k next is_next there)
+      → ((k : ℕ) → keeps_op code.shapes code.sheet k i 0 (kinds_of inner) inner.blocks ≡ goes_on code.sheet (k + 1) (bottom scope.depth (kinds_of scope)) scope.blocks)
+      → runs code.sheet i 0 ≡ true → Stands (parts_of code) inner line at i 0 next → Free code at → Typed code (Safe code scope × Safe code inner) inner scope at next
+  block_closes scope inner line at next i asks run stands free =
+      unit_typed code (Safe code scope × Safe code inner) inner scope line at 0 next i stands free (λ holds. holds.1) (λ holds there k is_next. (asks k ∙ left_on scope holds.0 k next is_next there, run))
 
   -- a finally ends: control goes on, or each jump that waits finds its way
   pub finally_ends : (scope : Scope) (line at next : ℕ) → Stands (parts_of code) (in_finally scope) line at op.EndFinally 0 next → Free code at
       → Typed code (Fine scope) (in_finally scope) scope at next
   finally_ends scope line at next stands free =
       unit_typed code (Fine scope) (in_finally scope) scope line at 0 next op.EndFinally stands free (λ fine. (fine_finally scope fine).safe)
-      (λ fine there k is_next. and_from _ _ (and_from _ _ refl (left_on scope fine.safe k next is_next there))
-      (all_walk scope.around scope.depth (bottom scope.depth (kinds_of scope)) scope.blocks fine.walk (length-under scope)))
+      (λ fine there k is_next. (
+        and_from _ _ (and_from _ _ refl (left_on scope fine.safe k next is_next there)) (all_walk scope.around scope.depth (bottom scope.depth (kinds_of scope)) scope.blocks fine.walk (length-under scope)),
+        refl,
+      ))
 
   -- ---- a loop is left, or goes on
 
@@ -242,7 +260,7 @@ module _ (code : Noted) where
       unit_typed code (Fine scope) scope scope line at l.stop next op.Break stands free (λ fine. fine.safe)
       (λ fine there k is_next.
       let walk : Walks (Some l) scope.depth scope.blocks = subst (λ (a : Around). Walks a scope.depth scope.blocks) (sym same) fine.walk in
-      and_from _ _ walk.0 (walk.2 (kinds_of scope) (length-kinds_of scope)))
+      (and_from _ _ walk.0 (walk.2 (kinds_of scope) (length-kinds_of scope)), refl))
 
   pub continue_typed : (around : Around) (scope : Scope) → around ≡ scope.around → (line at next : ℕ) → LaidContinue (parts_of code) scope around line at next → Free code at
       → Typed code (Fine scope) scope scope at next
@@ -251,4 +269,4 @@ module _ (code : Noted) where
       unit_typed code (Fine scope) scope scope line at l.again next op.Continue stands free (λ fine. fine.safe)
       (λ fine there k is_next.
       let walk : Walks (Some l) scope.depth scope.blocks = subst (λ (a : Around). Walks a scope.depth scope.blocks) (sym same) fine.walk in
-      and_from _ _ walk.1 (walk.3 (kinds_of scope) (length-kinds_of scope)))
+      (and_from _ _ walk.1 (walk.3 (kinds_of scope) (length-kinds_of scope)), refl))

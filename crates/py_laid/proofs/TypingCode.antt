@@ -1,15 +1,19 @@
 -- Laid code that is plain keeps the typing rules with its notes: those on the whole code, and those on each unit.
-use Rattle.std.proofs.Common.{◌≡◌, ◌≤◌, ℕ, List, true, refl, ap, ◌∙◌, length, arith}
-use Rattle.std.specs.Prelude.{Option}
-use Rattle.std.proofs.lemmas.Bool.{and_from, lt-ltb, le-leb, eq-eqb}
+use Rattle.std.proofs.Common.{◌≡◌, ◌≤◌, ℕ, List, [], ◌∷◌, true, refl, ap, ◌∙◌, length, arith}
+use Rattle.std.specs.List.{list_all}
+use Rattle.std.proofs.lemmas.Option.{slice_get_within}
+use Rattle.std.proofs.lemmas.Bool.{and_from, and_parts, ltb-true, lt-ltb, le-leb, eq-eqb}
+use Rattle.py_code.specs.declared.flags.CodeFlags.{CodeFlags}
 use Rattle.py_code.specs.declared.flags.TheConstants.CodeFlags.{HAS_VARARGS, HAS_VARKEYWORDS}
 use Rattle.py_code.specs.declared.instruction.Instruction.TheVariants as op
-use Rattle.py_code.specs.declared.literal.Literal.{Literal, None as NoneLiteral}
+use Rattle.py_code.specs.declared.literal.Literal.{Literal, None as NoneLiteral, Tuple' as TupleLiteral, Code as CodeLiteral, Row_of-Literal, end_of-Literal, more_of-Literal}
+use Rattle.py_code.specs.Literals.{literals_of}
+use Rattle.py_check.specs.Constants.{is_earlier, are_earlier}
 use Rattle.py_check.specs.declared.annotated.Annotated.{Annotated}
-use Rattle.py_check.specs.Constants.{loads}
 use Rattle.py_check.specs.Sheet.{Sheet, sheet_of}
 use Rattle.py_check.specs.WholeCode.{is_start, counts_match, counts_if, parameters, parameters_fit, cells_fit, keeps_whole}
-use Rattle.py_check.specs.Typing.{is_generator, IsTyped}
+use Rattle.py_check.specs.Typing.{IsTyped}
+use Rattle.py_check.specs.Running.{is_generator, loads_constant, AllRun}
 use Rattle.py_tree.specs.declared.body.BodyKind.{BodyKind}
 use Rattle.py_tree.specs.declared.body.BodyKind.TheVariants.{Function, Generator}
 use Rattle.py_tree.specs.Tree.{Name, Tree}
@@ -24,7 +28,7 @@ use Rattle.py_laid.proofs.BindingLemmas.{bound_by-longer}
 -- ---- bodies
 
 -- whether a code of these flags may yield, by the kind of its body
-yields_by : (kind : BodyKind) (flags : ℕ) → flags ≡ flags_of kind → kind ≡ Generator → is_generator flags ≡ true
+yields_by : (kind : BodyKind) (flags : CodeFlags) → flags ≡ flags_of kind → kind ≡ Generator → is_generator flags ≡ true
 yields_by kind flags is generator = ap is_generator (is ∙ ap flags_of generator)
 
 module _ (code : Noted) (t : Tree) (flags : code.sheet.flags ≡ flags_of t.kind) where
@@ -36,7 +40,7 @@ module _ (code : Noted) (t : Tree) (flags : code.sheet.flags ≡ flags_of t.kind
   return_keeps : (header at next : ℕ) → StandsConst (parts_of code) (entry t.kind) header at op.ReturnConst NoneLiteral next → Free code at → In code (entry t.kind) at × Keeps code at next
   return_keeps header at next (i, stands, here) free = (
     stands_in code (entry t.kind) header at i next op.ReturnConst stands free,
-    stands_kept code (entry t.kind) header at i next op.ReturnConst stands free fine_entry.safe (λ k is_next. ap (λ (o : Option Literal). loads o (λ kind. true)) here),
+    stands_kept code (entry t.kind) header at i next op.ReturnConst stands free fine_entry.safe (λ k is_next. (and_from _ _ (lt-ltb _ _ (slice_get_within code.sheet.constants i NoneLiteral here)) refl, ap loads_constant here)),
   )
 
   -- the first unit is entered without values and blocks, and each keeps the rules
@@ -48,6 +52,25 @@ module _ (code : Noted) (t : Tree) (flags : code.sheet.flags ≡ flags_of t.kind
 
 -- ---- codes
 
+-- what holds no code holds none but earlier ones
+mutual
+  earlier_more : (n : ℕ) (literal : Literal) → is_earlier 0 literal ≡ true → is_earlier n literal ≡ true
+  earlier_more n (TupleLiteral shape items) none = row_more n items none
+  earlier_more n (CodeLiteral c) none = absurd (omega (arith, ltb-true c 0 none))
+  earlier_more n _ none = refl
+
+  row_more : {m : _} (n : ℕ) (items : Row_of-Literal m) → are_earlier 0 items ≡ true → are_earlier n items ≡ true
+  row_more n end_of-Literal none = refl
+  row_more n (more_of-Literal item items) none =
+      let parts = and_parts (is_earlier 0 item) (are_earlier 0 items) none in
+      and_from (is_earlier n item) (are_earlier n items) (earlier_more n item parts.0) (row_more n items parts.1)
+
+all_earlier : (n : ℕ) (literals : List Literal) → list_all (is_earlier 0) literals ≡ true → list_all (is_earlier n) literals ≡ true
+all_earlier n [] none = refl
+all_earlier n (l ∷ literals) none =
+    let parts = and_parts (is_earlier 0 l) (list_all (is_earlier 0) literals) none in
+    and_from (is_earlier n l) (list_all (is_earlier n) literals) (earlier_more n l parts.0) (all_earlier n literals parts.1)
+
 -- no kind of body has further arguments
 no_varargs : (kind : BodyKind) → counts_if (flags_of kind) HAS_VARARGS ≡ 0
 no_varargs Function = refl
@@ -57,9 +80,10 @@ no_varkeywords : (kind : BodyKind) → counts_if (flags_of kind) HAS_VARKEYWORDS
 no_varkeywords Function = refl
 no_varkeywords Generator = refl
 
-module _ (globals : List Name) (code : Annotated) (t : Tree) (laid : IsLaid globals code t) (plain : IsPlain code t) where
+module _ (shapes : List ℕ) (globals : List Name) (code : Annotated) (t : Tree) (laid : IsLaid globals code t) (plain : IsPlain code t) where
   abbrev noted : Noted
   noted = record {
+    shapes = shapes;
     sheet = sheet_of code;
     locations = code.code.code.locations.items;
     names = globals;
@@ -81,8 +105,8 @@ module _ (globals : List Name) (code : Annotated) (t : Tree) (laid : IsLaid glob
     arith,
     laid.arity,
     plain.kwonlyarg_count,
-    ap (λ (flags : ℕ). counts_if flags HAS_VARARGS) plain.flags ∙ no_varargs t.kind,
-    ap (λ (flags : ℕ). counts_if flags HAS_VARKEYWORDS) plain.flags ∙ no_varkeywords t.kind,
+    ap (λ (flags : CodeFlags). counts_if flags HAS_VARARGS) plain.flags ∙ no_varargs t.kind,
+    ap (λ (flags : CodeFlags). counts_if flags HAS_VARKEYWORDS) plain.flags ∙ no_varkeywords t.kind,
   )
 
   parameters_within : parameters_fit (sheet_of code) ≡ true
@@ -92,13 +116,16 @@ module _ (globals : List Name) (code : Annotated) (t : Tree) (laid : IsLaid glob
       let within : parameters sheet ≤ sheet.varnames = omega (arith, parameters_are, laid.locals, bound_by-longer t.suite t.params) in
       and_from _ _ (le-leb _ _ positional) (le-leb _ _ within)
 
-  whole : keeps_whole (sheet_of code) ≡ true
+  whole : keeps_whole shapes (sheet_of code) ≡ true
   whole =
       and_from _ _ (and_from _ _ (and_from _ _ (and_from _ _ (and_from _ _ counts (ap is_start body.0.note)) parameters_within) (ap (cells_fit (sheet_of code)) plain.cells.1))
-      (le-leb _ _ plain.max_stackdepth)) plain.no_code
+      (le-leb _ _ plain.max_stackdepth)) (all_earlier (length shapes) (literals_of code.code.code.constants) plain.no_code)
 
-  typed_code : IsTyped code
-  typed_code = record { whole = whole; each = λ at low. body.1 at (omega arith) low }
+  typed_code : IsTyped shapes (sheet_of code)
+  typed_code = record { whole = whole; each = λ at low. (body.1 at (omega arith) low).0 }
+
+  code_runs : AllRun (sheet_of code)
+  code_runs at low = (body.1 at (omega arith) low).1
 
 pub laid_code_is_typed : LaidCodeIsTyped
-laid_code_is_typed globals code t laid plain = typed_code globals code t laid plain
+laid_code_is_typed globals code t laid plain = (λ shapes. typed_code shapes globals code t laid plain, code_runs [] globals code t laid plain)

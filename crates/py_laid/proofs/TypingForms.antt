@@ -8,11 +8,11 @@ use Rattle.py_code.specs.declared.instruction.Instruction.TheVariants as op
 use Rattle.py_check.specs.declared.note.Kind.TheVariants.{Any}
 use Rattle.py_check.specs.declared.note.BlockNote.TheVariants as block
 use Rattle.py_check.specs.Landing.{top_level}
-use Rattle.py_check.specs.Taking.{may_move}
+use Rattle.py_check.specs.Taking.{may_move, takes}
 use Rattle.py_tree.specs.declared.expr.Atom.TheVariants as atom
 use Rattle.py_tree.specs.Tree.{Name, Expr, Operate, Form, Assign, Do, Show, Return, Raise, Reraise, Break, Continue, Pass, If, IfElse, While, TryExcept, TryFinally, With, Suite, nothing, first, Clauses, no_more, clause}
 use Rattle.py_laid.specs.Code.{Scope, on, in_loop, in_try, in_clauses, before_finally, in_finally, place, Stands, LaidTaken, LaidForget, LaidFinally, LaidWith, LaidHandler, LaidBranch, LaidForm, LaidSuite, LaidClauses}
-use Rattle.py_laid.proofs.NoteLemmas.{kinds_of, length-kinds_of, top_level-low}
+use Rattle.py_laid.proofs.NoteLemmas.{kinds_of, length-kinds_of, takes-Any, top_level-low}
 use Rattle.py_laid.proofs.TypingUnits.{Noted, parts_of, Free, In, Safe, safe_on, Asks, keeps_then}
 use Rattle.py_laid.proofs.TypingLoads.{Typed, joined, typed_by, nothing_typed, unit_typed, goes_as, takes_one, taken_on, has_local, answer_typed}
 use Rattle.py_laid.proofs.TypingLoads.{JumpsBy, none_typed, atom_typed, expr_typed, target_typed, test_typed, jump_typed}
@@ -24,6 +24,10 @@ module _ (code : Noted) where
   fine_typed : (scope from to : Scope) (at next : ℕ) → Typed code (Safe code scope) from to at next → Typed code (Fine code scope) from to at next
   fine_typed scope from to at next typed = typed_by code (Safe code scope) (Fine code scope) from to at next (λ fine. fine.safe) typed
 
+  -- what is handled is raised again, which takes nothing
+  takes_none : (scope : Scope) → Safe code scope → takes [] (kinds_of scope) scope.blocks (λ rest. true) ≡ true
+  takes_none scope safe = takes-Any 0 (kinds_of scope) scope.blocks (λ rest. true) (omega (arith, length-kinds_of scope, top_level-low scope.depth scope.blocks safe.nest)) refl
+
   -- the value on top is copied
   copy_typed : (scope : Scope) (line at next : ℕ) → Stands (parts_of code) (on scope) line at op.Duplicate 0 next → Free code at → Typed code (Safe code scope) (on scope) (on (on scope)) at next
   copy_typed scope line at next stands free =
@@ -34,7 +38,7 @@ module _ (code : Noted) where
       let moves : may_move 0 (0 ∷ []) (suc (length (kinds_of scope))) (top_level scope.blocks) ≡ true =
       and_from _ _ (and_from _ _ (le-leb 0 (suc (length (kinds_of scope))) (omega arith)) (le-leb (top_level scope.blocks) (suc (length (kinds_of scope)) - 0) (omega (arith, long, low))))
       (and_from _ _ (lt-ltb 0 (suc (length (kinds_of scope))) (omega arith)) refl) in
-      and_from _ _ moves (goes_as code (on (on scope)) (safe_on code (on scope) (safe_on code scope safe)) (Any ∷ Any ∷ kinds_of scope) k next is_next there (ap suc (ap suc long))))
+      (and_from _ _ moves (goes_as code (on (on scope)) (safe_on code (on scope) (safe_on code scope safe)) (Any ∷ Any ∷ kinds_of scope) k next is_next there (ap suc (ap suc long))), refl))
 
   -- ---- a body and its finally
 
@@ -46,9 +50,9 @@ module _ (code : Noted) where
   finally_typed : (scope : Scope) (line : ℕ) (body final : Scope → ℕ → ℕ → Type 0) (at next : ℕ) → Types body → Types final → LaidFinally (parts_of code) scope line body final at next → Free code at
       → Typed code (Fine code scope) scope scope at next
   finally_typed scope line body final at next inner outer (begins, leaves, enters, handler, ends, sets, suite, pops, enter, last, end) free =
-      let opened = block_opens code scope (in_finally scope) (λ level. block.Finally level handler) line at handler begins op.SetupFinally (λ k. refl) sets free in
+      let opened = block_opens code scope (in_finally scope) (λ level. block.Finally level handler) line at handler begins op.SetupFinally (λ k. refl) refl sets free in
       let within = inner (before_finally handler scope) begins leaves suite opened.free in
-      let closed = block_closes code scope (before_finally handler scope) line leaves enters op.PopBlock (λ k. refl) pops within.free in
+      let closed = block_closes code scope (before_finally handler scope) line leaves enters op.PopBlock (λ k. refl) refl pops within.free in
       let begun = finally_begins code scope line enters handler enter closed.free in
       let runs = outer (in_finally scope) handler ends last begun.free in
       let ended = finally_ends code scope line ends next end runs.free in
@@ -77,8 +81,7 @@ module _ (code : Noted) where
       (joined code (Safe code scope) scope (on scope) scope at stores next front
       (joined code (Safe code scope) (on scope) scope scope stores deletes next stored
       (unit_typed code (Safe code scope) scope scope line deletes (place code.vars x) next op.DeleteFast delete.0 stored.free (λ safe. safe)
-      (λ safe there k is_next. and_from _ _ (has_local code (place code.vars x) delete.1)
-      (goes_as code scope safe (kinds_of scope) k next is_next there (length-kinds_of scope))))))
+      (λ safe there k is_next. (and_from _ _ (has_local code (place code.vars x) delete.1) (goes_as code scope safe (kinds_of scope) k next is_next there (length-kinds_of scope)), refl)))))
 
   -- the suite of a clause keeps them, where it binds a name too
   handler_typed : (x : Option Name) (scope : Scope) (line : ℕ) (suite : Scope → ℕ → ℕ → Type 0) (at next : ℕ) → Types suite → LaidHandler (parts_of code) scope line x suite at next → Free code at
@@ -96,7 +99,7 @@ module _ (code : Noted) where
       let opened = with_opens code scope line sets handler binds set_up front.free in
       let bound = target_typed code (before_finally handler under) line x binds begins bind opened.free in
       let within = inner (before_finally handler under) begins leaves suite bound.free in
-      let closed = block_closes code under (before_finally handler under) line leaves enters op.PopBlock (λ k. refl) pops within.free in
+      let closed = block_closes code under (before_finally handler under) line leaves enters op.PopBlock (λ k. refl) refl pops within.free in
       let begun = finally_begins code under line enters handler enter closed.free in
       let started = cleanup_starts code scope line handler ends starts begun.free in
       let ended = cleanup_ends code scope line ends next finishes started.free in
@@ -156,19 +159,19 @@ module _ (code : Noted) where
     form_typed (Do o es) scope line at next (drops, laid, pop) free =
         let front = expr_typed code (Operate o es) scope line at drops laid free in
         fine_typed scope scope scope at next (joined code (Safe code scope) scope (on scope) scope at drops next front (target_typed code scope line None drops next pop front.free))
-    form_typed (Show a) scope line at next laid free = taken_typed scope line a op.PrintExpr 0 at next (λ safe there k is_next. and_from _ _ refl (taken_on code scope safe k next is_next there)) laid free
-    form_typed (Return a) scope line at next laid free = taken_typed scope line a op.ReturnValue 0 at next (λ safe there k is_next. takes_one code scope safe (λ rest. true) refl) laid free
-    form_typed (Raise a) scope line at next laid free = taken_typed scope line a op.Raise _ at next (λ safe there k is_next. takes_one code scope safe (λ rest. true) refl) laid free
-    form_typed Reraise scope line at next stands free = unit_typed code (Fine code scope) scope scope line at _ next op.Raise stands free (λ fine. fine.safe) (λ fine there k is_next. refl)
+    form_typed (Show a) scope line at next laid free = taken_typed scope line a op.PrintExpr 0 at next (λ safe there k is_next. (taken_on code scope safe k next is_next there, refl)) laid free
+    form_typed (Return a) scope line at next laid free = taken_typed scope line a op.ReturnValue 0 at next (λ safe there k is_next. (takes_one code scope safe (λ rest. true) refl, refl)) laid free
+    form_typed (Raise a) scope line at next laid free = taken_typed scope line a op.Raise _ at next (λ safe there k is_next. (takes_one code scope safe (λ rest. true) refl, refl)) laid free
+    form_typed Reraise scope line at next stands free = unit_typed code (Fine code scope) scope scope line at _ next op.Raise stands free (λ fine. fine.safe) (λ fine there k is_next. (takes_none scope fine.safe, refl))
     form_typed Break scope line at next laid free = break_typed code scope.around scope refl line at next laid free
     form_typed Continue scope line at next laid free = continue_typed code scope.around scope refl line at next laid free
     form_typed Pass scope line at next is_at free = nothing_typed code (Fine code scope) scope at next is_at free
     form_typed (If a s) scope line at next laid free =
-        branch_typed scope line a op.JumpIfFalse (λ k to kinds blocks. refl) (λ begins to. LaidSuite (parts_of code) scope s begins to) at next
+        branch_typed scope line a op.JumpIfFalse (λ k to kinds blocks. (refl, refl)) (λ begins to. LaidSuite (parts_of code) scope s begins to) at next
         (λ begins suite free1. suite_typed s scope begins next suite free1) laid free
     form_typed (IfElse a s t) scope line at next (asks, begins, leaves, other, laid, test, suite, leave, second) free =
         let front = expr_typed code a scope line at asks laid free in
-        let tested = test_typed code op.JumpIfFalse (λ k to kinds blocks. refl) scope line asks other begins test front.free in
+        let tested = test_typed code op.JumpIfFalse (λ k to kinds blocks. (refl, refl)) scope line asks other begins test front.free in
         let body = suite_typed s scope begins leaves suite tested.free in
         let left = jump_typed code scope scope line leaves next other leave body.free in
         let rest = suite_typed t scope other next second left.free in
@@ -187,10 +190,10 @@ module _ (code : Noted) where
         let within : Scope = in_loop (record { stop = next; again = tests }) scope in
         let opened = loop_opens code scope (record { stop = next; again = tests }) line at tests sets free in
         let front = expr_typed code a within line tests asks laid opened.free in
-        let tested = test_typed code op.JumpIfFalse (λ k to kinds blocks. refl) within line asks ends begins test front.free in
+        let tested = test_typed code op.JumpIfFalse (λ k to kinds blocks. (refl, refl)) within line asks ends begins test front.free in
         let body = suite_typed s within begins repeats suite tested.free in
         let back = jump_typed code within within line repeats tests ends repeat body.free in
-        let closed = block_closes code scope within line ends next op.PopBlock (λ k. refl) pops back.free in
+        let closed = block_closes code scope within line ends next op.PopBlock (λ k. refl) refl pops back.free in
         record {
           free = closed.free;
           enters = λ there. opened.enters (front.enters (tested.enters (body.enters (back.enters (closed.enters there)))));
@@ -208,9 +211,9 @@ module _ (code : Noted) where
               (keeps_then code repeats ends next (back.kept (inner.safe, in_tests) in_ends) (closed.kept (fine.safe, inner.safe) there)))));
         }
     form_typed (TryExcept s cs) scope line at next (begins, leaves, jumps, handler, sets, suite, pops, jump, clauses) free =
-        let opened = block_opens code scope (on (in_clauses scope)) (λ level. block.TryExcept level handler) line at handler begins op.SetupExcept (λ k. refl) sets free in
+        let opened = block_opens code scope (on (in_clauses scope)) (λ level. block.TryExcept level handler) line at handler begins op.SetupExcept (λ k. refl) refl sets free in
         let body = suite_typed s (in_try handler scope) begins leaves suite opened.free in
-        let closed = block_closes code scope (in_try handler scope) line leaves jumps op.PopBlock (λ k. refl) pops body.free in
+        let closed = block_closes code scope (in_try handler scope) line leaves jumps op.PopBlock (λ k. refl) refl pops body.free in
         let left = jump_typed code scope (on (in_clauses scope)) line jumps next handler jump closed.free in
         let handled = clauses_typed cs scope line handler next clauses left.free in
         record {
@@ -244,17 +247,18 @@ module _ (code : Noted) where
         → Typed code (Fine code scope) (on (in_clauses scope)) scope at next
     clauses_typed no_more scope line at next stands free =
         unit_typed code (Fine code scope) (on (in_clauses scope)) scope line at _ next op.Raise stands free
-        (λ fine. safe_on code (in_clauses scope) (fine_clauses code scope fine).safe) (λ fine there k is_next. refl)
+        (λ fine. safe_on code (in_clauses scope) (fine_clauses code scope fine).safe)
+        (λ fine there k is_next. (takes_none (on (in_clauses scope)) (safe_on code (in_clauses scope) (fine_clauses code scope fine).safe), refl))
     clauses_typed (clause n c x s more) scope line at next (loads, asks, decides, binds, begins, leaves, jumps, other, copy, load, match, decide, bind, suite, pop, leave, rest) free =
         let within : Scope = in_clauses scope in
         let copied = copy_typed (in_clauses scope) n at loads copy free in
         let front = atom_typed code (on (on within)) n (atom.Name c) loads asks load copied.free in
-        let matched = answer_typed code (on within) 2 n asks _ decides op.TestOperation refl refl match front.free in
-        let tested = test_typed code op.JumpIfFalse (λ k to kinds blocks. refl) (on within) n decides other binds decide matched.free in
+        let matched = answer_typed code (on within) 2 n asks _ decides op.TestOperation refl refl refl match front.free in
+        let tested = test_typed code op.JumpIfFalse (λ k to kinds blocks. (refl, refl)) (on within) n decides other binds decide matched.free in
         let bound = target_typed code within n x binds begins bind tested.free in
         let body = handler_typed x within n (λ place from to. LaidSuite (parts_of code) place s from to) begins leaves
         (λ place from to laid free1. suite_typed s place from to laid free1) suite bound.free in
-        let closed = block_closes code scope within n leaves jumps op.PopException (λ k. refl) pop body.free in
+        let closed = block_closes code scope within n leaves jumps op.PopException (λ k. refl) refl pop body.free in
         let left = jump_typed code scope (on within) n jumps next other leave closed.free in
         let others = clauses_typed more scope line other next rest left.free in
         record {

@@ -1,9 +1,9 @@
 -- Code that keeps the typing rules where control may come to what follows it:
 -- one instruction, code behind code, expressions, what is done with values, and jumps.
-use Rattle.std.proofs.Common.{◌≡◌, ◌<◌, ◌≤◌, ◌+◌, ◌-◌, ℕ, zero, suc, List, [], ◌∷◌, Bool, true, false, ◌&&◌, Some, None, refl, sym, ap, ◌∙◌, subst, length, drop, replicate, arith}
-use Rattle.std.specs.Prelude.{Option, nat_lt, bytes_eq}
+use Rattle.std.proofs.Common.{◌≡◌, ◌<◌, ◌≤◌, ◌+◌, ◌-◌, ℕ, zero, suc, List, [], ◌∷◌, Bool, true, false, ◌&&◌, ◌||◌, Some, None, refl, sym, ap, ◌∙◌, subst, length, drop, replicate, arith}
+use Rattle.std.specs.Prelude.{Option, nat_lt, bytes_eq, ◌==◌}
 use Rattle.std.specs.List.{list_any}
-use Rattle.std.proofs.lemmas.Bool.{and_from, lt-ltb, le-leb}
+use Rattle.std.proofs.lemmas.Bool.{and_from, and_parts, or_left, lt-ltb, le-leb}
 use Rattle.std.proofs.lemmas.List.{length-drop, length-replicate}
 use Rattle.std.proofs.lemmas.Option.{slice_get_within}
 use Rattle.py_code.specs.declared.instruction.Instruction.{Instruction}
@@ -14,11 +14,15 @@ use Rattle.py_check.specs.declared.note.Kind.{Kind}
 use Rattle.py_check.specs.declared.note.Kind.TheVariants.{Any}
 use Rattle.py_check.specs.declared.note.BlockNote.{BlockNote}
 use Rattle.py_check.specs.Sheet.{Sheet}
-use Rattle.py_check.specs.Constants.{is_loaded, kind_of, loads}
-use Rattle.py_check.specs.Landing.{goes_on, jumps, top_level}
+use Rattle.py_check.specs.Constants.{kind_of, loads}
+use Rattle.py_code.specs.declared.flags.CodeFlags.{CodeFlags}
+use Rattle.py_code.specs.declared.flags.TheConstants.CodeFlags.{IS_GENERATOR, IS_COROUTINE}
+use Rattle.py_check.specs.WholeCode.{counts_if}
+use Rattle.py_check.specs.Running.{is_generator, is_loaded, loads_constant, runs}
+use Rattle.py_check.specs.Landing.{goes_on, lands, top_level}
 use Rattle.py_check.specs.Effects.{Effect, gives, effect, has_operand}
 use Rattle.py_check.specs.Taking.{takes, takes_top, may_move}
-use Rattle.py_check.specs.Typing.{keeps_own, keeps_by, keeps_op}
+use Rattle.py_check.specs.Typing.{may_yield, keeps_own, keeps_by, keeps_op}
 use Rattle.py_tree.specs.declared.body.BodyKind.TheVariants.{Generator}
 use Rattle.py_tree.specs.declared.expr.Atom.{Atom}
 use Rattle.py_tree.specs.declared.expr.Atom.TheVariants as atom
@@ -30,7 +34,7 @@ use Rattle.py_laid.specs.Operators.{Coding, By, Driven, Called, Yielded, coding_
 use Rattle.py_tree.specs.Tree.{Name, Expr, Leaf, Operate, Exprs, no_operands, operand}
 use Rattle.py_laid.specs.Code.{Scope, on, over, under, place, Stands, StandsConst, LaidName, LaidAtom, LaidCallee, LaidExpr, LaidExprs, LaidTarget}
 use Rattle.py_laid.proofs.NoteLemmas.{kinds_of, length-kinds_of, takes-Any, top_level-low}
-use Rattle.py_laid.proofs.TypingUnits.{Noted, parts_of, Free, In, Safe, safe_on, Keeps, keeps_none, keeps_then, goes, jumps_to, Asks, stands_free, stands_in, stands_kept}
+use Rattle.py_laid.proofs.TypingUnits.{Noted, parts_of, Free, In, Safe, safe_on, Keeps, keeps_none, keeps_then, fits_here, goes, labels, jumps_to, Asks, stands_free, stands_in, stands_kept}
 
 -- so many values on top
 abbrev raised : ℕ → Scope → Scope
@@ -55,7 +59,7 @@ own_callee o = tt
 
 -- a unit takes as many values as its operator
 abbrev TakesSo : ℕ → Instruction → ℕ → Type 0
-TakesSo n i arg = (sheet : Sheet) → (effect i arg ≡ gives n) × (has_operand sheet i arg ≡ true)
+TakesSo n i arg = (sheet : Sheet) → (effect i arg ≡ gives n) × (has_operand sheet i arg ≡ true) × (runs sheet i arg ≡ true)
 
 abbrev IsTypedSo : Way → Coding → Type 0
 IsTypedSo (Asks_one r) (By i arg) = TakesSo 1 i arg
@@ -66,11 +70,17 @@ IsTypedSo Yields_it Yielded = Unit {0}
 IsTypedSo way coding = ⊥
 
 is_typed_so : (o : Operator) → IsTypedSo (way_of o) (coding_of o)
-is_typed_so operator.Add = λ sheet. (refl, refl)
-is_typed_so operator.Sub = λ sheet. (refl, refl)
-is_typed_so operator.Lt = λ sheet. (refl, refl)
-is_typed_so operator.Eq = λ sheet. (refl, refl)
+is_typed_so operator.Add = λ sheet. (refl, refl, refl)
+is_typed_so operator.Sub = λ sheet. (refl, refl, refl)
+is_typed_so operator.Lt = λ sheet. (refl, refl, refl)
+is_typed_so operator.Eq = λ sheet. (refl, refl, refl)
 is_typed_so o = tt
+
+-- a generator may yield
+generator_yields : (flags : CodeFlags) → is_generator flags ≡ true → may_yield flags ≡ true
+generator_yields flags is =
+    let parts = and_parts (counts_if flags IS_GENERATOR == 1) (counts_if flags IS_COROUTINE == 0) is in
+    or_left (counts_if flags IS_GENERATOR == 1) (counts_if flags IS_COROUTINE == 1) parts.0
 
 module _ (code : Noted) where
   -- code from one place to another: no prefix stands in front of what follows, control comes to it where it may come to what
@@ -142,14 +152,17 @@ module _ (code : Noted) where
 
   -- so many values are taken, and the answer is pushed, which is all that an instruction asks of the notes
   given_typed : (scope : Scope) (n line at arg next : ℕ) (i : Instruction)
-      → ((k : ℕ) (kinds : List Kind) → takes (replicate n Any) kinds scope.blocks (λ rest. goes_on code.sheet (k + 1) (Any ∷ rest) scope.blocks) ≡ true → keeps_op code.sheet k i arg kinds scope.blocks ≡ true)
-      → Stands (parts_of code) (over n scope) line at i arg next → Free code at → Typed (Safe code scope) (over n scope) (on scope) at next
-  given_typed scope n line at arg next i keeps stands free =
+      → ((k : ℕ) (kinds : List Kind) → takes (replicate n Any) kinds scope.blocks (λ rest. goes_on code.sheet (k + 1) (Any ∷ rest) scope.blocks) ≡ true → keeps_op code.shapes code.sheet k i arg kinds scope.blocks ≡ true)
+      → runs code.sheet i arg ≡ true → Stands (parts_of code) (over n scope) line at i arg next → Free code at → Typed (Safe code scope) (over n scope) (on scope) at next
+  given_typed scope n line at arg next i keeps run stands free =
       subst (λ (from : Scope). Typed (Safe code scope) from (on scope) at next) (sym (over-raised n scope))
       (unit_typed (Safe code scope) (raised n scope) (on scope) line at arg next i (subst (λ (from : Scope). Stands (parts_of code) from line at i arg next) (over-raised n scope) stands) free
       (λ safe. subst (Safe code) (over-raised n scope) (raised_safe n scope safe))
-      (λ safe enters k is_next. keeps k kinds (takes-Any n kinds scope.blocks (λ rest. goes_on code.sheet (k + 1) (Any ∷ rest) scope.blocks) (omega (arith, many, top_level-low scope.depth scope.blocks safe.nest))
-      (goes_as (on scope) (safe_on code scope safe) (Any ∷ drop n kinds) k next is_next enters (omega (arith, many, length-drop n kinds))))))
+      (λ safe enters k is_next. (
+        keeps k kinds (takes-Any n kinds scope.blocks (λ rest. goes_on code.sheet (k + 1) (Any ∷ rest) scope.blocks) (omega (arith, many, top_level-low scope.depth scope.blocks safe.nest))
+            (goes_as (on scope) (safe_on code scope safe) (Any ∷ drop n kinds) k next is_next enters (omega (arith, many, length-drop n kinds)))),
+        run,
+      )))
     where
       kinds : List Kind
       kinds = replicate (n + scope.depth) Any
@@ -158,16 +171,18 @@ module _ (code : Noted) where
       many = length-replicate (n + scope.depth) Any
 
   -- the same of an instruction of the table of effects
-  pub answer_typed : (scope : Scope) (n line at arg next : ℕ) (i : Instruction) → effect i arg ≡ gives n → has_operand code.sheet i arg ≡ true
+  pub answer_typed : (scope : Scope) (n line at arg next : ℕ) (i : Instruction) → effect i arg ≡ gives n → has_operand code.sheet i arg ≡ true → runs code.sheet i arg ≡ true
       → Stands (parts_of code) (over n scope) line at i arg next → Free code at → Typed (Safe code scope) (over n scope) (on scope) at next
-  answer_typed scope n line at arg next i is there stands free =
+  answer_typed scope n line at arg next i is there run stands free =
       given_typed scope n line at arg next i
-      (λ k kinds taken. ap (λ (e : Effect). keeps_by code.sheet k e (has_operand code.sheet i arg) (keeps_own code.sheet k i arg kinds scope.blocks) kinds scope.blocks) is ∙ and_from _ _ there taken) stands free
+      (λ k kinds taken.
+      let own : Bool = keeps_own code.shapes code.sheet k i arg kinds scope.blocks in
+      and_from _ _ there (ap (λ (e : Effect). keeps_by code.sheet k e own kinds scope.blocks) is ∙ taken)) run stands free
 
   -- and of a call, which takes its callee besides
   pub call_typed : (scope : Scope) (n line at next : ℕ) → Stands (parts_of code) (over (suc n) scope) line at op.CallFunctionPositional n next → Free code at
       → Typed (Safe code scope) (over (suc n) scope) (on scope) at next
-  call_typed scope n line at next stands free = given_typed scope (suc n) line at n next op.CallFunctionPositional (λ k kinds taken. taken) stands free
+  call_typed scope n line at next stands free = given_typed scope (suc n) line at n next op.CallFunctionPositional (λ k kinds taken. taken) refl stands free
 
   -- ---- loads
 
@@ -176,8 +191,11 @@ module _ (code : Noted) where
       → Typed (Safe code scope) scope (on scope) at next
   const_typed scope line at next literal loaded (i, stands, here) free =
       unit_typed (Safe code scope) scope (on scope) line at i next op.LoadConst stands free (λ safe. safe)
-      (λ safe there k is_next. ap (λ (o : Option Literal). loads o (λ kind. goes_on code.sheet (k + 1) (kind ∷ kinds_of scope) scope.blocks)) here
-      ∙ and_from _ _ loaded (loaded_on scope safe (kind_of literal) k next is_next there))
+      (λ safe there k is_next. (
+        and_from _ _ (lt-ltb _ _ (slice_get_within code.sheet.constants i literal here))
+            (ap (λ (o : Option Literal). loads o (λ kind. goes_on code.sheet (k + 1) (kind ∷ kinds_of scope) scope.blocks)) here ∙ loaded_on scope safe (kind_of literal) k next is_next there),
+        ap loads_constant here ∙ loaded,
+      ))
 
   pub none_typed : (scope : Scope) (line at next : ℕ) → StandsConst (parts_of code) scope line at op.LoadConst NoneLiteral next → Free code at → Typed (Safe code scope) scope (on scope) at next
   none_typed scope line at next stands free = const_typed scope line at next NoneLiteral refl stands free
@@ -186,10 +204,10 @@ module _ (code : Noted) where
       → Typed (Safe code scope) scope (on scope) at next
   name_typed true scope line x at next (stands, below) free =
       unit_typed (Safe code scope) scope (on scope) line at (place code.vars x) next op.LoadFast stands free (λ safe. safe)
-      (λ safe there k is_next. and_from _ _ (has_local (place code.vars x) below) (loaded_on scope safe Any k next is_next there))
+      (λ safe there k is_next. (and_from _ _ (has_local (place code.vars x) below) (loaded_on scope safe Any k next is_next there), refl))
   name_typed false scope line x at next (i, stands, here) free =
       let below : nat_lt i code.sheet.names ≡ true = lt-ltb _ _ (omega (arith, slice_get_within code.names i x here, code.names_are)) in
-      answer_typed scope 0 line at i next op.LoadGlobal refl below stands free
+      answer_typed scope 0 line at i next op.LoadGlobal refl below refl stands free
 
   pub atom_typed : (scope : Scope) (line : ℕ) (a : Atom) (at next : ℕ) → LaidAtom (parts_of code) scope line a at next → Free code at → Typed (Safe code scope) scope (on scope) at next
   atom_typed scope line atom.None at next laid free = const_typed scope line at next NoneLiteral refl laid free
@@ -203,9 +221,12 @@ module _ (code : Noted) where
       → Typed (Safe code scope) (on scope) (on scope) at next
   yield_typed scope line at next generator stands free =
       unit_typed (Safe code scope) (on scope) (on scope) line at 0 next op.YieldValue stands free (safe_on code scope)
-      (λ safe there k is_next. and_from _ _ (safe.yields generator)
-      (takes_one scope safe (λ rest. goes_on code.sheet (k + 1) (Any ∷ rest) scope.blocks)
-      (goes_as (on scope) (safe_on code scope safe) (Any ∷ kinds_of scope) k next is_next there (ap suc (length-kinds_of scope)))))
+      (λ safe there k is_next. (
+        and_from _ _ (generator_yields code.sheet.flags (safe.yields generator))
+            (takes_one scope safe (λ rest. goes_on code.sheet (k + 1) (Any ∷ rest) scope.blocks)
+            (goes_as (on scope) (safe_on code scope safe) (Any ∷ kinds_of scope) k next is_next there (ap suc (length-kinds_of scope)))),
+        safe.yields generator,
+      ))
 
   -- ---- operators
 
@@ -231,10 +252,10 @@ module _ (code : Noted) where
       → Typed (Safe code scope) (over (operands es) (under (callee_of coding) scope)) (on scope) at next
   coding_typed (Asks_one r) (By i arg) is scope es line at next fits stands free =
       subst (λ (n : ℕ). Typed (Safe code scope) (over n scope) (on scope) at next) (sym fits)
-      (answer_typed scope 1 line at arg next i (is code.sheet).0 (is code.sheet).1 (subst (λ (n : ℕ). Stands (parts_of code) (over n scope) line at i arg next) fits stands) free)
+      (answer_typed scope 1 line at arg next i (is code.sheet).0 (is code.sheet).1 (is code.sheet).2 (subst (λ (n : ℕ). Stands (parts_of code) (over n scope) line at i arg next) fits stands) free)
   coding_typed (Asks_two r) (By i arg) is scope es line at next fits stands free =
       subst (λ (n : ℕ). Typed (Safe code scope) (over n scope) (on scope) at next) (sym fits)
-      (answer_typed scope 2 line at arg next i (is code.sheet).0 (is code.sheet).1 (subst (λ (n : ℕ). Stands (parts_of code) (over n scope) line at i arg next) fits stands) free)
+      (answer_typed scope 2 line at arg next i (is code.sheet).0 (is code.sheet).1 (is code.sheet).2 (subst (λ (n : ℕ). Stands (parts_of code) (over n scope) line at i arg next) fits stands) free)
   coding_typed way (Driven fn) is scope es line at next fits stands free = call_typed scope (operands es) line at next stands free
   coding_typed Calls_it Called is scope es line at next fits stands free = called_typed (operands es) fits.0 scope line at next stands free
   coding_typed Yields_it Yielded is scope es line at next fits stands free =
@@ -270,20 +291,21 @@ module _ (code : Noted) where
       let low : top_level scope.blocks ≤ scope.depth = top_level-low scope.depth scope.blocks safe.nest in
       let moves : may_move 1 [] (suc (length (kinds_of scope))) (top_level scope.blocks) ≡ true =
       and_from _ _ (and_from _ _ (le-leb 1 (suc (length (kinds_of scope))) (omega arith)) (le-leb (top_level scope.blocks) (suc (length (kinds_of scope)) - 1) (omega (arith, long, low)))) refl in
-      and_from _ _ moves (goes_as scope safe (kinds_of scope) k next is_next there long)
+      (and_from _ _ moves (goes_as scope safe (kinds_of scope) k next is_next there long), refl)
 
   -- a value goes to a local, or is dropped
   pub target_typed : (scope : Scope) (line : ℕ) (x : Option Name) (at next : ℕ) → LaidTarget (parts_of code) scope line x at next → Free code at → Typed (Safe code scope) (on scope) scope at next
   target_typed scope line None at next stands free = unit_typed (Safe code scope) (on scope) scope line at 0 next op.Pop stands free (safe_on code scope) (pop_typed scope next)
   target_typed scope line (Some x) at next (stands, below) free =
       unit_typed (Safe code scope) (on scope) scope line at (place code.vars x) next op.StoreFast stands free (safe_on code scope)
-      (λ safe there k is_next. and_from _ _ (has_local (place code.vars x) below) (taken_on scope safe k next is_next there))
+      (λ safe there k is_next. (and_from _ _ (has_local (place code.vars x) below) (taken_on scope safe k next is_next there), refl))
 
   -- ---- jumps
 
   -- an instruction asks what a jump by a value does
   abbrev pub JumpsBy : Instruction → Type 0
-  JumpsBy i = (k to : ℕ) (kinds : List Kind) (blocks : List BlockNote) → keeps_op code.sheet k i to kinds blocks ≡ keeps_op code.sheet k op.JumpIfFalse to kinds blocks
+  JumpsBy i = (k to : ℕ) (kinds : List Kind) (blocks : List BlockNote)
+      → (keeps_op code.shapes code.sheet k i to kinds blocks ≡ keeps_op code.shapes code.sheet k op.JumpIfFalse to kinds blocks) × (runs code.sheet i to ≡ true)
 
   -- a jump by a value
   pub test_typed : (i : Instruction) → JumpsBy i → (scope : Scope) (line at label next : ℕ) → Stands (parts_of code) (on scope) line at i label next → Free code at
@@ -292,12 +314,17 @@ module _ (code : Noted) where
       unit_typed (Safe code scope × In code scope label) (on scope) scope line at label next i stands free (λ holds. safe_on code scope holds.0)
       (λ (safe, enters) there k is_next.
       let long : length (kinds_of scope) ≡ scope.depth = length-kinds_of scope in
-      same k label (Any ∷ kinds_of scope) scope.blocks ∙ takes_one scope safe (λ rest. jumps code.sheet label rest scope.blocks && goes_on code.sheet (k + 1) rest scope.blocks)
-      (and_from _ _ (jumps_to code scope (kinds_of scope) scope.blocks label enters long safe.same) (goes_as scope safe (kinds_of scope) k next is_next there long)))
+      let both = same k label (Any ∷ kinds_of scope) scope.blocks in
+      let lands_there : lands code.sheet label (kinds_of scope) scope.blocks ≡ true = fits_here code scope (kinds_of scope) scope.blocks label enters.note long safe.same in (
+        both.0 ∙ and_from _ _ (labels code scope label enters)
+            (takes_one scope safe (λ rest. lands code.sheet label rest scope.blocks && goes_on code.sheet (k + 1) rest scope.blocks)
+            (and_from _ _ lands_there (goes_as scope safe (kinds_of scope) k next is_next there long))),
+        both.1,
+      ))
 
   -- a jump, whatever the scope behind it
   pub jump_typed : (scope behind : Scope) (line at label next : ℕ) → Stands (parts_of code) scope line at op.Jump label next → Free code at
       → Typed (Safe code scope × In code scope label) scope behind at next
   jump_typed scope behind line at label next stands free =
       unit_typed (Safe code scope × In code scope label) scope behind line at label next op.Jump stands free (λ holds. holds.0)
-      (λ (safe, enters) there k is_next. jumps_to code scope (kinds_of scope) scope.blocks label enters (length-kinds_of scope) safe.same)
+      (λ (safe, enters) there k is_next. (jumps_to code scope (kinds_of scope) scope.blocks label enters (length-kinds_of scope) safe.same, refl))

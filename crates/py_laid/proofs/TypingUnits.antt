@@ -14,7 +14,8 @@ use Rattle.py_check.specs.Notes.{level_of, blocks_fit, note_fits}
 use Rattle.py_check.specs.Operands.{is_prefixed, prefixes, carried, carried_by, operand, is_label}
 use Rattle.py_check.specs.Sheet.{Sheet}
 use Rattle.py_check.specs.Landing.{has_room, levels_nest, lands, goes_on, jumps, handler_lands, handlers_land}
-use Rattle.py_check.specs.Typing.{is_generator, keeps_op, keeps_both, keeps_at}
+use Rattle.py_check.specs.Typing.{keeps_op, keeps_both, keeps_at}
+use Rattle.py_check.specs.Running.{is_generator, runs, runs_both, runs_at}
 use Rattle.py_tree.specs.declared.body.BodyKind.TheVariants.{Generator}
 use Rattle.py_tree.specs.Tree.{Name}
 use Rattle.py_laid.specs.Code.{Parts, Scope, on, note_of, Holds, Stands}
@@ -23,6 +24,7 @@ use Rattle.py_laid.proofs.UnitLemmas.{slice_get-drop, prefix_is, decoded_is, dec
 
 -- what the rules read of a code, with its lines and names, where its stack has room for each note and prefixes are few
 pub record Noted : Type 0 where
+  pub shapes : List ℕ
   pub sheet : Sheet
   pub locations : List ℕ
   pub names : List Name
@@ -76,9 +78,9 @@ module _ (code : Noted) where
   pub safe_on : (scope : Scope) → Safe scope → Safe (on scope)
   safe_on scope safe = record { yields = safe.yields; nest = levels_nest-on scope.depth scope.blocks safe.nest; land = safe.land; same = safe.same }
 
-  -- each unit from one place up to another keeps the rules
+  -- each unit from one place up to another keeps the rules, and runs so far
   abbrev pub Keeps : ℕ → ℕ → Type 0
-  Keeps at next = (k : ℕ) → at ≤ k → k < next → keeps_at code.sheet k ≡ true
+  Keeps at next = (k : ℕ) → at ≤ k → k < next → (keeps_at code.shapes code.sheet k ≡ true) × (runs_at code.sheet k ≡ true)
 
   -- no unit, and units behind units
   pub keeps_none : (at next : ℕ) → next ≤ at → Keeps at next
@@ -90,7 +92,7 @@ module _ (code : Noted) where
   -- ---- where control may go, with as many entries as the note has
 
   -- control may come to a place with them
-  fits_here : (scope : Scope) (kinds : List Kind) (blocks : List BlockNote) (at : ℕ) → slice_get code.sheet.notes at ≡ Some (note_of scope) → length kinds ≡ scope.depth
+  pub fits_here : (scope : Scope) (kinds : List Kind) (blocks : List BlockNote) (at : ℕ) → slice_get code.sheet.notes at ≡ Some (note_of scope) → length kinds ≡ scope.depth
       → blocks_fit blocks scope.blocks ≡ true → lands code.sheet at kinds blocks ≡ true
   fits_here scope kinds blocks at note long fit = ap (note_fits kinds blocks) note ∙ and_from _ _ (kinds_fit-Any kinds scope.depth long) fit
 
@@ -116,33 +118,41 @@ module _ (code : Noted) where
   -- ---- one instruction
 
   module _ (scope : Scope) (safe : Safe scope) where
+    -- what the rules ask of an instruction with its operand, and that it runs
+    abbrev Passes : ℕ → Instruction → ℕ → Type 0
+    Passes at op arg = (keeps_op code.shapes code.sheet at op arg (kinds_of scope) scope.blocks ≡ true) × (runs code.sheet op arg ≡ true)
+
+    abbrev PassesAt : ℕ → Type 0
+    PassesAt at = (keeps_at code.shapes code.sheet at ≡ true) × (runs_at code.sheet at ≡ true)
+
     -- a unit that keeps the rules with its note
-    kept_at : (at : ℕ) (u : CodeUnit) → slice_get units at ≡ Some u → slice_get code.sheet.notes at ≡ Some (note_of scope)
-        → keeps_op code.sheet at u.op (operand units at u) (kinds_of scope) scope.blocks ≡ true → keeps_at code.sheet at ≡ true
-    kept_at at u here note keeps =
+    kept_at : (at : ℕ) (u : CodeUnit) → slice_get units at ≡ Some u → slice_get code.sheet.notes at ≡ Some (note_of scope) → Passes at u.op (operand units at u) → PassesAt at
+    kept_at at u here note passes =
         let long : length (kinds_of scope) ≡ scope.depth = length-kinds_of scope in
         let nest : levels_nest (length (kinds_of scope)) scope.blocks ≡ true = subst (λ (n : ℕ). levels_nest n scope.blocks ≡ true) (sym long) safe.nest in
-        let land : handlers_land code.sheet (kinds_of scope) scope.blocks ≡ true = handlers_land-all scope.blocks scope.depth (kinds_of scope) safe.nest safe.land long in
-        (λ k. keeps_both code.sheet at (here k) (note k)) ∙ and_from _ _ (and_from _ _ (and_from _ _ (room_here scope (kinds_of scope) at note long) nest) land) keeps
+        let land : handlers_land code.sheet (kinds_of scope) scope.blocks ≡ true = handlers_land-all scope.blocks scope.depth (kinds_of scope) safe.nest safe.land long in (
+          (λ k. keeps_both code.shapes code.sheet at (here k) (note k)) ∙ and_from _ _ (and_from _ _ (and_from _ _ (room_here scope (kinds_of scope) at note long) nest) land) passes.0,
+          (λ k. runs_both code.sheet at (here k) (note k)) ∙ passes.1,
+        )
 
     -- from a unit up to the next one
-    one_kept : (at : ℕ) → keeps_at code.sheet at ≡ true → Keeps at (suc at)
-    one_kept at keeps k low high = let same : at ≡ k = omega (arith, low, high) in subst (λ (j : ℕ). keeps_at code.sheet j ≡ true) same keeps
+    one_kept : (at : ℕ) → PassesAt at → Keeps at (suc at)
+    one_kept at passes k low high = let same : at ≡ k = omega (arith, low, high) in subst PassesAt same passes
 
     -- a prefix keeps the rules where the next unit has the same note
     prefix_keeps : (at arg : ℕ) (u : CodeUnit) → slice_get units at ≡ Some u → u.op ≡ ExtendedArg → suc at < length units → slice_get code.sheet.notes (suc at) ≡ Some (note_of scope)
-        → keeps_op code.sheet at ExtendedArg arg (kinds_of scope) scope.blocks ≡ true
+        → Passes at ExtendedArg arg
     prefix_keeps at arg u here prefixed low note =
         let more : prefixes units (suc at) ≡ prefixes units at + 1 = rw (here, prefixed) refl in
         let less : prefixes units at < 3 = omega (arith, more, code.spelled (suc at) (omega (arith, low))) in
         let long : length (kinds_of scope) ≡ scope.depth = length-kinds_of scope in
         let next : goes_on code.sheet (suc at) (kinds_of scope) scope.blocks ≡ true =
         and_from _ _ (room_here scope (kinds_of scope) (suc at) note long) (fits_here scope (kinds_of scope) scope.blocks (suc at) note long safe.same) in
-        and_from _ _ (lt-ltb _ _ less) (subst (λ (to : ℕ). goes_on code.sheet to (kinds_of scope) scope.blocks ≡ true) (sym (add-one at)) next)
+        (and_from _ _ (lt-ltb _ _ less) (subst (λ (to : ℕ). goes_on code.sheet to (kinds_of scope) scope.blocks ≡ true) (sym (add-one at)) next), refl)
 
     -- what an instruction asks of what lies in front of it
     abbrev pub Asks : Instruction → ℕ → ℕ → Type 0
-    Asks op arg next = (k : ℕ) → k + 1 ≡ next → keeps_op code.sheet k op arg (kinds_of scope) scope.blocks ≡ true
+    Asks op arg next = (k : ℕ) → k + 1 ≡ next → Passes k op arg
 
     -- an instruction keeps the rules with its prefixes
     decoded_kept : (left : List CodeUnit) (at state arg next : ℕ) (op : Instruction) → drop at units ≡ left → carried units at ≡ state
@@ -171,16 +181,19 @@ module _ (code : Noted) where
             let below : suc at < next = end.below in
             let kept = later (carried_on ∙ ap (λ (c : Bool). cond c (with_byte state u.arg) 0) prefixed) more in
             let is_op : u.op ≡ ExtendedArg = prefix_is u.op prefixed in
-            let keeps : keeps_op code.sheet at u.op (operand units at u) (kinds_of scope) scope.blocks ≡ true =
-            ap (λ (o : Instruction). keeps_op code.sheet at o (operand units at u) (kinds_of scope) scope.blocks) is_op
-            ∙ prefix_keeps at (operand units at u) u first.0 is_op (omega (arith, below, end.within)) (noted (suc at) (omega arith) below) in
-            keeps_then at (suc at) next (one_kept at (kept_at at u first.0 (noted at (omega arith) (omega (arith, below))) keeps)) kept
+            let passes : Passes at u.op (operand units at u) =
+            subst (λ (o : Instruction). Passes at o (operand units at u)) (sym is_op)
+            (prefix_keeps at (operand units at u) u first.0 is_op (omega (arith, below, end.within)) (noted (suc at) (omega arith) below)) in
+            keeps_then at (suc at) next (one_kept at (kept_at at u first.0 (noted at (omega arith) (omega (arith, below))) passes)) kept
         by false plain d later =
             let (is_op, is_arg, is_next) = decoded_is _ _ d in
             let behind : suc at ≡ next = sym (add-one at) ∙ is_next in
-            let keeps : keeps_op code.sheet at u.op (operand units at u) (kinds_of scope) scope.blocks ≡ true =
-            (λ k. keeps_op code.sheet at (is_op k) ((built_here ∙ is_arg) k) (kinds_of scope) scope.blocks) ∙ asks at is_next in
-            subst (Keeps at) behind (one_kept at (kept_at at u first.0 (noted at (omega arith) (omega (arith, behind))) keeps))
+            let asked = asks at is_next in
+            let passes : Passes at u.op (operand units at u) = (
+              (λ k. keeps_op code.shapes code.sheet at (is_op k) ((built_here ∙ is_arg) k) (kinds_of scope) scope.blocks) ∙ asked.0,
+              (λ k. runs code.sheet (is_op k) ((built_here ∙ is_arg) k)) ∙ asked.1,
+            ) in
+            subst (Keeps at) behind (one_kept at (kept_at at u first.0 (noted at (omega arith) (omega (arith, behind))) passes))
 
   -- ---- what stands at a place
 

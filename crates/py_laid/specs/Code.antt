@@ -1,6 +1,9 @@
 -- Where the code of each form stands, with its lines and notes. The label of a jump is the place that it goes to.
-use Rattle.std.specs.Prelude.{ℕ, zero, suc, ◌<◌, ◌≤◌, ◌^◌, Bool, true, false, Option, Some, None, List, [], ◌∷◌, ◌≡◌, not, slice_get, length, drop, replicate, bytes_eq, if◌then◌else◌}
+use Rattle.std.specs.Prelude.{ℕ, zero, suc, ◌<◌, ◌≤◌, ◌^◌, Bool, true, false, Option, Some, None, List, [], ◌∷◌, ◌≡◌, slice_get, length, drop, replicate, bytes_eq, if◌then◌else◌}
 use Rattle.std.specs.List.{list_all, list_any}
+use Rattle.py_code.specs.declared.flags.CodeFlags.{CodeFlags}
+use Rattle.py_code.specs.declared.flags.TheConstants.CodeFlags.{NEW_LOCALS, IS_GENERATOR, IS_OPTIMIZED}
+use Rattle.py_code.specs.Flags.{all_of}
 use Rattle.py_code.specs.declared.unit.CodeUnit.{CodeUnit}
 use Rattle.py_code.specs.declared.instruction.Instruction.{Instruction}
 use Rattle.py_code.specs.declared.instruction.Instruction.TheVariants as op
@@ -20,7 +23,7 @@ use Rattle.py_check.specs.declared.note.BlockNote.{BlockNote}
 use Rattle.py_check.specs.declared.note.BlockNote.TheVariants as block
 use Rattle.py_check.specs.declared.note.Note.{Note}
 use Rattle.py_check.specs.declared.note.Note.TheVariants.{Live}
-use Rattle.py_check.specs.Constants.{has_code}
+use Rattle.py_check.specs.Constants.{is_earlier}
 use Rattle.py_check.specs.Operands.{prefixes}
 use Rattle.py_rows.specs.Signature.{kind_of}
 use Rattle.py_tree.specs.declared.body.BodyKind.{BodyKind}
@@ -302,10 +305,10 @@ pub record IsLaid (names : List Name) (code : Annotated) (t : Tree) : Type 0 whe
   pub located : length code.code.code.locations.items ≡ length code.code.code.instructions.items
   pub noted : length code.notes ≡ length code.code.code.instructions.items
 
--- a code makes a scope (flag 1) and knows its locals by their places (flag 32); that of a generator says so (flag 2)
-abbrev pub flags_of : BodyKind → ℕ
-flags_of Function = 33
-flags_of Generator = 35
+-- a code makes a scope and knows its locals by their places; that of a generator says so
+abbrev pub flags_of : BodyKind → CodeFlags
+flags_of Function = all_of (NEW_LOCALS ∷ IS_OPTIMIZED ∷ [])
+flags_of Generator = all_of (NEW_LOCALS ∷ IS_OPTIMIZED ∷ IS_GENERATOR ∷ [])
 
 -- what the code of a body says of itself: it has the flags of its kind, it takes arguments by position only, it has no cells, its stack has
 -- room for each note, at most three prefixes stand in a row in front of any place, and no constant is a code or holds one
@@ -318,4 +321,4 @@ pub record IsPlain (code : Annotated) (t : Tree) : Type 0 where
   pub room : (at : ℕ) (kinds : List Kind) (blocks : List BlockNote) → slice_get code.notes at ≡ Some (Live kinds blocks) → length kinds ≤ code.code.code.max_stackdepth
   pub max_stackdepth : code.code.code.max_stackdepth ≤ 65535
   pub spelled : (at : ℕ) → at ≤ length code.code.code.instructions.items → prefixes code.code.code.instructions.items at ≤ 3
-  pub no_code : list_all (λ literal. not (has_code literal)) (literals_of code.code.code.constants) ≡ true
+  pub no_code : list_all (is_earlier 0) (literals_of code.code.code.constants) ≡ true

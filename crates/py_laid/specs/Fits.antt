@@ -8,6 +8,8 @@ use Rattle.py_objects.specs.Own.{Own, Makes}
 use Rattle.py_check.specs.declared.annotated.Annotated.{Annotated}
 use Rattle.py_rows.specs.States.{State}
 use Rattle.py_rows.specs.RunOfRows.{Runs, started}
+use Rattle.py_check.specs.Sheet.{sheet_of}
+use Rattle.py_check.specs.Typing.{IsTyped}
 use Rattle.py_rows.specs.Sound.{IsSound}
 use Rattle.py_rows.specs.Signature.{kind_of, params_of}
 use Rattle.py_tree.specs.Tree.{Tree, seen_as}
@@ -27,7 +29,7 @@ is_line line (Some other) = eqb line other
 abbrev pub located : PyCode → List Payload → Obj → Scene
 located code objects globals = record { objects = objects; globals = globals; is_of = λ at line. is_line line (slice_get code.code.locations.items at) }
 
--- the code has the body's kind and its parameters, keeps the typing rules with its notes, its names are in the table, and each run of its
+-- the code has the body's kind and its parameters, keeps the typing rules with its notes, behind whatever codes, its names are in the table, and each run of its
 -- rows, whole or cut, from any arguments, with any closure, whatever the slot holds at first and whatever answers of the wanted kinds come, is a
 -- trace of the body behind the making of its activation, in which each unit that asks has its statement's line; all this where
 -- the table may have grown since
@@ -36,6 +38,7 @@ pub record Fits (names : List (List ℕ)) (code : Annotated) (t : Tree) : Type 0
   pub arity : code.code.code.arg_count ≡ length t.params
   pub params : params_of names code.code ≡ t.params
   pub sound : IsSound names code
+  pub typed : (shapes : List ℕ) → IsTyped shapes (sheet_of code)
   pub traces : (table : List (List ℕ)) (globals : Obj) (closure : List Obj) (objects : List Payload)
       (slot : Option PyBaseExceptionRef) (args : List Obj) (ts : List Own) (s : State)
       → Continues names table → length args ≡ length t.params

@@ -7,7 +7,9 @@ use Rattle.py_objects.specs.Objects.{Obj}
 use Rattle.py_objects.specs.declared.request.Request.{Request}
 use Rattle.py_objects.specs.Own.{Own, Makes, Asks}
 use Rattle.py_check.specs.declared.annotated.Annotated.{Annotated}
+use Rattle.py_check.specs.Sheet.{sheet_of}
 use Rattle.py_check.specs.Typing.{IsTyped}
+use Rattle.py_check.specs.Running.{AllRun}
 use Rattle.py_rows.specs.States.{Setting, State}
 use Rattle.py_rows.specs.RunOfRows.{Runs, Steps, started}
 use Rattle.py_tree.specs.Tree.{Name, Tree}
@@ -28,9 +30,10 @@ RunsAreTraces = (globals : List Name) (code : Annotated) (t : Tree) (table : Lis
     → length args ≡ length t.params
     → Runs objects (record { code = code.code; names = table; globals = dict; closure = closure }) (started code.code slot args) ts s → IsTrace (located code.code objects dict) t args (Makes ∷ ts)
 
--- laid code that is plain keeps the typing rules with its notes
+-- laid code that is plain keeps the typing rules with its notes, behind whatever codes, and each of its units runs
 abbrev pub LaidCodeIsTyped : Type 0
-LaidCodeIsTyped = (globals : List Name) (code : Annotated) (t : Tree) → IsLaid globals code t → IsPlain code t → IsTyped code
+LaidCodeIsTyped = (globals : List Name) (code : Annotated) (t : Tree) → IsLaid globals code t → IsPlain code t
+    → ((shapes : List ℕ) → IsTyped shapes (sheet_of code)) × AllRun (sheet_of code)
 
 -- and fits its tree, where its names are in the table
 abbrev pub LaidCodeFits : Type 0

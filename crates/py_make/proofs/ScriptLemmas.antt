@@ -55,7 +55,7 @@ first_line (b ∷ bs) rest plain = passed (b == 10) (b == 13) (are_plain bs) (at
     passed false false z false plain more = ap (in_first b) (more plain)
 
 -- drives as lines are read
-abbrev drives_read : List DriveLine → List LineRead
+abbrev pub drives_read : List DriveLine → List LineRead
 drives_read [] = []
 drives_read (d ∷ ds) = Said (line.Drive d) ∷ drives_read ds
 
@@ -84,11 +84,11 @@ prints_both t u ds es front back rest =
 abbrev call : List ℕ → ℕ → DriveLine
 call f v = drive.Call f (argument.Int (pos v) ∷ [])
 
-abbrev drives_by : Bool → ℕ → ℕ → List DriveLine
+abbrev pub drives_by : Bool → ℕ → ℕ → List DriveLine
 drives_by true v n = call (codes "work") v ∷ []
 drives_by false v n = call (codes "count") v ∷ drive.Next n ∷ drive.Close n ∷ []
 
-abbrev drives_at : (r n : ℕ) → List DriveLine
+abbrev pub drives_at : (r n : ℕ) → List DriveLine
 drives_at r n = drives_by (r % 2 == 0) (r % 1000) n
 
 short_token : (n : ℕ) → n < 2 ^ 64 → number_token n ≡ Number (pos n)
@@ -136,11 +136,11 @@ group_prints false v n low small =
 
 -- ---- the drives of all groups
 
-abbrev drives_from : (count s n : ℕ) → List DriveLine
+abbrev pub drives_from : (count s n : ℕ) → List DriveLine
 drives_from zero s n = []
 drives_from (suc more) s n = drives_at (drawn (next_state s)) n ++ drives_from more (next_state s) (n + drives_of (drawn (next_state s)))
 
-groups_print : (count s n : ℕ) → n + 3 * count < 2 ^ 64 → Prints (groups count s n) (drives_from count s n)
+pub groups_print : (count s n : ℕ) → n + 3 * count < 2 ^ 64 → Prints (groups count s n) (drives_from count s n)
 groups_print zero s n low = λ rest. ([], refl, tt)
 groups_print (suc more) s n low =
     let t : ℕ = next_state s in
@@ -150,7 +150,7 @@ groups_print (suc more) s n low =
 
 -- ---- the declarations
 
-abbrev work_suite : Suite
+abbrev pub work_suite : Suite
 work_suite =
     first 10 (Assign (codes "c") (Operate operator.Lt (operand (Leaf (atom.Name (codes "a"))) (operand (Leaf (atom.Int (pos 500))) no_operands))))
     (first 11 (TryExcept
@@ -159,7 +159,7 @@ work_suite =
     (first 16 (Return (Leaf (atom.Name (codes "a")))) nothing))) nothing)
     (clause 18 (codes "Fault") (Some (codes "e")) (first 19 (Return (Leaf (atom.Name (codes "e")))) nothing) no_more)) nothing)
 
-abbrev count_suite : Suite
+abbrev pub count_suite : Suite
 count_suite =
     first 23 (Assign (codes "i") (Leaf (atom.Int (pos 0))))
     (first 24 (While (Leaf (atom.Bool true))
@@ -173,7 +173,7 @@ abbrev function : BodyKind → List ℕ → List (List ℕ) → Suite → ℕ �
 function kind name params suite line = Declares (FunctionDecl (record { kind = kind; name = name; params = params; suite = suite; line = line }))
 
 -- before these items
-abbrev declared_before : List Item → List Item
+abbrev pub declared_before : List Item → List Item
 declared_before more =
     Declares (ClassDecl (codes "Fault") (codes "Exception"))
     ∷ function body.Function (codes "enter") [] (first 3 (Show (Leaf (atom.Str (codes "open")))) nothing) 2
@@ -184,27 +184,27 @@ declared_before more =
     ∷ more
 
 -- what later lines see of them
-abbrev names_before : List Declared
+abbrev pub names_before : List Declared
 names_before = record { name = codes "Fault"; kind = OfClass } ∷ record { name = codes "enter"; kind = OfFunction } ∷ record { name = codes "exit"; kind = OfFunction }
     ∷ record { name = codes "scope"; kind = OfManager } ∷ record { name = codes "work"; kind = OfFunction } ∷ record { name = codes "count"; kind = OfFunction } ∷ []
 
 -- their lines
-abbrev lines_before : Text
+abbrev pub lines_before : Text
 lines_before = lines declarations
 
-abbrev reads_before : List LineRead
+abbrev pub reads_before : List LineRead
 reads_before = map (λ (r : Row). Said r.line) (items_rows (declared_before []))
 
-lines_after : (rest : List ℕ) → lines (declarations ++ rest) ≡ lines_before ++ lines rest
+pub lines_after : (rest : List ℕ) → lines (declarations ++ rest) ≡ lines_before ++ lines rest
 lines_after rest = refl
 
-read_before : AllZip IsReadAs lines_before reads_before
+pub read_before : AllZip IsReadAs lines_before reads_before
 read_before =
     ((refl, tt), ((refl, tt), ((refl, omega arith), ((refl, tt), ((refl, tt), ((refl, omega arith), ((refl, tt), ((refl, tt), ((refl, tt), ((refl, omega arith), ((refl, tt), ((refl, omega arith), ((refl, omega arith), ((refl, omega arith), ((refl, tt), ((refl, omega arith), ((refl, tt), ((refl, tt), ((refl, omega arith), ((refl, tt), ((refl, tt), ((refl, tt), ((refl, omega arith), ((refl, omega arith), ((refl, tt), ((refl, omega arith), ((refl, tt), ((refl, omega arith), ((refl, tt), ((refl, omega arith), ((refl, omega arith), ((refl, tt), ((refl, tt), ((refl, tt), ((refl, tt), ((refl, tt), tt))))))))))))))))))))))))))))))))))))
 
 -- ---- the drives keep the rules
 
-abbrev driven : List DriveLine → List Item
+abbrev pub driven : List DriveLine → List Item
 driven [] = []
 driven (d ∷ ds) = Drives d ∷ driven ds
 
@@ -212,7 +212,7 @@ driven_append : (ds es : List DriveLine) → driven (ds ++ es) ≡ driven ds ++ 
 driven_append [] es = refl
 driven_append (d ∷ ds) es = ap (λ (is : List Item). Drives d ∷ is) (driven_append ds es)
 
-rows_of_drives : (k : ℕ) (ds : List DriveLine) → rows_from k (drives_read ds) ≡ Some (items_rows (driven ds))
+pub rows_of_drives : (k : ℕ) (ds : List DriveLine) → rows_from k (drives_read ds) ≡ Some (items_rows (driven ds))
 rows_of_drives k [] = refl
 rows_of_drives k (d ∷ ds) = ap (option_map (λ (rs : List Row). row k (line.Drive d) ∷ rs)) (rows_of_drives (suc k) ds)
 
@@ -227,7 +227,7 @@ group_well false v made more well = (
   (numbered (suc made) (suc made) (omega arith) (omega arith), (numbered (suc (suc made)) (suc made) (omega arith) (omega arith), subst (λ (k : ℕ). WellItems names_before k (driven more)) (omega arith) well)),
 )
 
-groups_well : (count s made : ℕ) → WellItems names_before made (driven (drives_from count s (suc made)))
+pub groups_well : (count s made : ℕ) → WellItems names_before made (driven (drives_from count s (suc made)))
 groups_well zero s made = tt
 groups_well (suc more) s made =
     let t : ℕ = next_state s in

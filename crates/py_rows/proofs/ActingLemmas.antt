@@ -24,24 +24,24 @@ use Rattle.py_objects.specs.Callees.{call_request}
 use Rattle.py_check.specs.declared.note.Kind.{Kind}
 use Rattle.py_check.specs.declared.note.Kind.TheVariants as kind
 use Rattle.py_check.specs.declared.note.Note.TheVariants.{Live}
-use Rattle.py_check.specs.declared.note.Pending.TheVariants as pending
 use Rattle.py_check.specs.declared.note.BlockNote.{BlockNote}
 use Rattle.py_check.specs.declared.note.BlockNote.TheVariants as note
 use Rattle.py_check.specs.declared.annotated.Annotated.{Annotated}
-use Rattle.py_check.specs.Constants.{kind_of, is_loaded}
+use Rattle.py_check.specs.Constants.{kind_of}
+use Rattle.py_check.specs.Running.{is_loaded, loads_constant, runs}
 use Rattle.py_check.specs.Notes.{kind_fits, block_number, level_of, pending_of}
 use Rattle.py_check.specs.Operands.{carried, is_label, prefixes}
-use Rattle.py_check.specs.Effects.{Effect, Moves, AsksOnce, Other, effect, has_operand}
+use Rattle.py_check.specs.Effects.{Effect, Moves, AsksOnce, Takes, Other, effect, has_operand}
+use Rattle.py_rows.specs.Table.{row_effect}
 use Rattle.py_rows.specs.Rows.{is_there, reaches, payload_of, or_stuck, loads, asks, asks_if, takes_off, where_there, acts_by, load_fast, delete_fast, if_popped, pop_block, pop_type, pop_exception, finally_type, in_finally, goes_on as goes_on_with, end_finally, raised_by, raised_of, raised_in, asks_exit, finishes, finish_cleanup, raises, calls, call_function, act_own, act}
 use Rattle.py_check.specs.Sheet.{Sheet, sheet_of}
-use Rattle.py_check.specs.Landing.{top_level, has_room, lands, goes_on, jumps as may_jump, handlers_land}
+use Rattle.py_check.specs.Landing.{top_level, has_room, lands, goes_on, handlers_land}
 use Rattle.py_code.specs.Bottom.{bottom}
 use Rattle.py_check.specs.Taking.{takes, takes_top, at_place, picked, moved_kinds, may_move}
 use Rattle.py_check.specs.Leaving.{is_finally_handler, is_except_handler, ends_finally, leaves_handler, starts_cleanup, ends_cleanup, walks, is_popped, leaves_block}
-use Rattle.py_check.specs.Typing.{is_generator, opens, keeps_by, keeps_own, keeps_op}
+use Rattle.py_check.specs.Typing.{may_yield, keeps_by, keeps_own, keeps_op}
 use Rattle.py_check.specs.Constants as constants
 use Rattle.py_check.specs.Landing as landing
-use Rattle.py_check.specs.Typing as typing
 use Rattle.py_rows.specs.declared.block.Block.{Block}
 use Rattle.py_rows.specs.declared.block.BlockType.{BlockType}
 use Rattle.py_rows.specs.declared.block.BlockType.TheVariants.{Loop, TryExcept, Finally, FinallyHandler, ExceptHandler}
@@ -67,7 +67,8 @@ use Rattle.py_rows.proofs.TypingLemmas.{prefix_carried}
 use Rattle.py_rows.proofs.LandingLemmas.{Fits, StepFits, arrived, on_fits, may_jumped}
 use Rattle.py_rows.proofs.BehindLemmas.{arrives_behind, fits_behind}
 use Rattle.py_rows.proofs.UnwindingLemmas.{leaves, leaves_with}
-use Rattle.py_rows.proofs.TakingLemmas.{bottom-cons, bottom-drop, handlers_same, reached, places_there, takes_rest, takes_any, has_under, off, EndsExit, ends_exit}
+use Rattle.py_rows.proofs.TakingLemmas.{bottom-cons, bottom-drop, handlers_same, raises_by, raised_as, reached, places_there, takes_rest, takes_any, has_under, off, EndsExit, ends_exit}
+use Rattle.py_rows.proofs.RunningLemmas.{is_taken, none_taken, row_is}
 use Rattle.py_rows.proofs.AskingLemmas.{unit_asks, raise_is, got_there, Wants, AsksAs, named, asked_there, call_asked}
 
 -- a loaded constant has a payload, and an object of it is of the constant's kind
@@ -85,16 +86,17 @@ where_true P true step is led = led
 where_true P false step is led = absurd (cc is)
 
 -- only instructions that aren't in the table are prefixes
-by_prefix : (op : Instruction) (i : ℕ) → (effect op i ≡ Other) ⊎ (is_prefix op ≡ false)
+by_prefix : (op : Instruction) (i : ℕ) → (row_effect op i ≡ Other) ⊎ (is_prefix op ≡ false)
 by_prefix ExtendedArg i = inl refl
 by_prefix _ i = inr refl
 
-pub other_or_plain : (op : Instruction) (i : ℕ) (u : Instruction) → u ≡ op → (effect op i ≡ Other) ⊎ (is_prefix u ≡ false)
-other_or_plain op i u is_op = subst (λ (o : Instruction). (effect op i ≡ Other) ⊎ (is_prefix o ≡ false)) (sym is_op) (by_prefix op i)
+pub other_or_plain : (op : Instruction) (i : ℕ) (u : Instruction) → u ≡ op → (row_effect op i ≡ Other) ⊎ (is_prefix u ≡ false)
+other_or_plain op i u is_op = subst (λ (o : Instruction). (row_effect op i ≡ Other) ⊎ (is_prefix o ≡ false)) (sym is_op) (by_prefix op i)
 
 abbrev is_other : Effect → Bool
 is_other (Moves n places) = false
 is_other (AsksOnce wanted pushes) = false
+is_other (Takes n pushes) = false
 is_other Other = true
 
 pub listed_moves : (n : ℕ) (places : List ℕ) → Moves n places ≡ Other → ⊥
@@ -164,11 +166,11 @@ module _ (objects : List Payload) (names : List (List ℕ)) (globals : Obj) (clo
   }
 
   -- what the table of effects describes
-  by_effect : (op : Instruction) (i : ℕ) (e : Effect) (f : List Obj → Option Request) (own : Move) (there keeps : Bool) → unit.op ≡ op → with_byte s.prefix unit.arg ≡ i → (e ≡ Other) ⊎ (is_prefix unit.op ≡ false)
-      → left_of op i 0 kinds blocks ≡ left_by e (left_own op i 0 kinds blocks) kinds blocks → (there ≡ true → AsksAs op e f) → (keeps ≡ true → Always objects (StepFits objects code) own)
-      → keeps_by (sheet_of code) s.at e there keeps kinds blocks ≡ true → Always objects (StepFits objects code) (acts_by e f own s)
-  by_effect op i (Moves n places) f own there keeps is_op operand (inl other) left asks led may = absurd (listed_moves n places other)
-  by_effect op i (Moves n places) f own there keeps is_op operand (inr plain) left asks led may =
+  by_effect : (op : Instruction) (i : ℕ) (e : Effect) (f : List Obj → Option Request) (own : Move) (keeps : Bool) → unit.op ≡ op → with_byte s.prefix unit.arg ≡ i → (e ≡ Other) ⊎ (is_prefix unit.op ≡ false) → is_taken e ≡ false
+      → left_of op i 0 kinds blocks ≡ left_by e (left_own op i 0 kinds blocks) kinds blocks → AsksAs op e f → (keeps ≡ true → Always objects (StepFits objects code) own)
+      → keeps_by (sheet_of code) s.at e keeps kinds blocks ≡ true → Always objects (StepFits objects code) (acts_by e f own s)
+  by_effect op i (Moves n places) f own keeps is_op operand (inl other) none left asks led may = absurd (listed_moves n places other)
+  by_effect op i (Moves n places) f own keeps is_op operand (inr plain) none left asks led may =
       let parts = and_parts (may_move n places (length kinds) (top_level blocks)) (goes_with (moved_kinds n places kinds ++ drop n kinds) blocks) may in
       let moves = and_parts (nat_le n (length kinds) && nat_le (top_level blocks) (length kinds - n)) (list_all (λ p. nat_lt p (length kinds)) places) parts.0 in
       let enough = (and_parts (nat_le n (length kinds)) (nat_le (top_level blocks) (length kinds - n)) moves.0).0 in
@@ -179,28 +181,32 @@ module _ (objects : List Payload) (names : List (List ℕ)) (globals : Obj) (clo
       (goes_behind plain (moved_kinds n places kinds ++ drop n kinds) blocks (picked places s.stack ++ drop n s.stack) s.blocks s.locals s.slot parts.1
       (kinds_joined objects (picked places s.stack) (drop n s.stack) (moved_kinds n places kinds) (drop n kinds) (kinds_moved objects n places s.stack kinds places_below has.holds) (kinds_dropped objects n s.stack kinds has.holds))
       has.blocks has.locals)
-  by_effect op i (AsksOnce wanted pushes) f own there keeps is_op operand plain left asks led may =
-      let parts = and_parts there (takes wanted kinds blocks (λ rest. goes_with (at_place pushes ++ rest) blocks)) may in
-      let below = takes_rest wanted kinds blocks (λ rest. goes_with (at_place pushes ++ rest) blocks) parts.1 in
+  by_effect op i (AsksOnce wanted pushes) f own keeps is_op operand plain none left asks led may =
+      let below = takes_rest wanted kinds blocks (λ rest. goes_with (at_place pushes ++ rest) blocks) may in
       let enough : length wanted ≤ length s.stack = omega (arith, kinds_counted objects s.stack kinds has.holds, below.2) in
       where_true (StepFits objects code) _ _ (reached (length wanted) s.stack enough)
-      (asks_fit (f (take (length wanted) s.stack)) (asks parts.0 (take (length wanted) s.stack) (length-take-le (length wanted) s.stack enough)) (has_under objects code (length wanted) kinds blocks s below.1 has))
+      (asks_fit (f (take (length wanted) s.stack)) (asks (take (length wanted) s.stack) (length-take-le (length wanted) s.stack enough)) (has_under objects code (length wanted) kinds blocks s below.1 has))
     where
       asks_fit : (r : Option Request) → Wants op pushes r → Has objects code (drop (length wanted) kinds) blocks (with_stack (drop (length wanted) s.stack) s) → Led (asks_if r (with_stack (drop (length wanted) s.stack) s))
       asks_fit None wants has' = absurd wants
       asks_fit (Some r) wants has' =
           (may_be_asked op is_op r (wants.1 unit.arg), waits_but op i is_op operand (answers.wanted r) (drop (length wanted) kinds) blocks (wanted_of pushes) (drop (length wanted) s.stack) s.blocks s.slot (expect.Answer (answers.wanted r)) left wants.0 has')
-  by_effect op i Other f own there keeps is_op operand plain left asks led may = led may
+  by_effect op i (Takes n pushes) f own keeps is_op operand plain none left asks led may = cc
+  by_effect op i Other f own keeps is_op operand plain none left asks led may = led may
 
   -- loads
-  loads_fit : (literal : Option Literal) (rest : Kind → Bool) (f : Obj → Step) → constants.loads literal rest ≡ true → ((k : Kind) (v : Obj) → rest k ≡ true → HasKind objects v k → Led (f v))
+  loads_fit : (literal : Option Literal) (rest : Kind → Bool) (f : Obj → Step) → loads_constant literal ≡ true → constants.loads literal rest ≡ true → ((k : Kind) (v : Obj) → rest k ≡ true → HasKind objects v k → Led (f v))
       → Always objects (StepFits objects code) (loads literal f)
-  loads_fit None rest f keeps fits = cc
-  loads_fit (Some l) rest f keeps fits =
-      let parts = and_parts (is_loaded l) (rest (kind_of l)) keeps in
-      let (p, is, kind) = literal_kind objects l parts.0 in
-      let move : Always objects (StepFits objects code) (or_stuck (Some p) f) = λ v has. fits (kind_of l) v parts.1 (kind v has) in
+  loads_fit None rest f run keeps fits = cc
+  loads_fit (Some l) rest f run keeps fits =
+      let (p, is, kind) = literal_kind objects l run in
+      let move : Always objects (StepFits objects code) (or_stuck (Some p) f) = λ v has. fits (kind_of l) v keeps (kind v has) in
       subst (λ (q : Option Payload). Always objects (StepFits objects code) (or_stuck q f)) (sym is) move
+
+  -- a constant that is loaded is there
+  loaded_there : (literal : Option Literal) → loads_constant literal ≡ true → constants.loads literal (λ k. true) ≡ true
+  loaded_there None run = cc
+  loaded_there (Some l) run = refl
 
   -- a local that is unset is asked for by its name
   unbound_fits : (op : Instruction) (i : ℕ) → unit.op ≡ op → with_byte s.prefix unit.arg ≡ i → left_of op i 0 kinds blocks ≡ Some (record { kinds = kinds; blocks = blocks; wanted = want.NoValue }) → ((x : Name) → may_ask op unit.arg (request.Unbound x) ≡ true)
@@ -382,7 +388,7 @@ module _ (objects : List Payload) (names : List (List ℕ)) (globals : Obj) (clo
   may_be_raised : (i : ℕ) (k : RaiseKind) (r : Request) → with_byte s.prefix unit.arg ≡ i → slice_get raise_kinds i ≡ Some k → may_raise (Some k) r ≡ true → may_raise (raise_of unit.arg) r ≡ true
   may_be_raised i k r operand here may = ap (λ (o : Option RaiseKind). may_raise o r) (raise_is s.prefix unit.arg i k operand here) ∙ may
 
-  raises_fit : (i : ℕ) → unit.op ≡ Raise → with_byte s.prefix unit.arg ≡ i → (k : Option RaiseKind) → slice_get raise_kinds i ≡ k → typing.raises k kinds blocks ≡ true → Led (raises k s)
+  raises_fit : (i : ℕ) → unit.op ≡ Raise → with_byte s.prefix unit.arg ≡ i → (k : Option RaiseKind) → slice_get raise_kinds i ≡ k → raises_by k kinds blocks ≡ true → Led (raises k s)
   raises_fit i is_op operand None here may = cc
   raises_fit i is_op operand (Some raise.Reraise) here may =
       (may_be_asked Raise is_op request.Handled (may_be_raised i raise.Reraise request.Handled operand here refl), waits_but Raise i is_op operand (want.Of kind.Exc) kinds blocks (want.Of kind.Exc) s.stack s.blocks s.slot (expect.Answer (want.Of kind.Exc)) (ap (λ k. raise_left k 0 kinds blocks) here) (λ o v is. is) has)
@@ -414,70 +420,68 @@ module _ (objects : List Payload) (names : List (List ℕ)) (globals : Obj) (clo
       calls_fit k is_op operand (reverse (take (suc k) s.stack)) some (reaches (suc k) s.stack) (reached (suc k) s.stack enough) (has_under objects code (suc k) kinds blocks s below.1 has)
 
   -- an instruction that isn't in the table leads to frames that fit
-  own_fits : (op : Instruction) (i : ℕ) → unit.op ≡ op → with_byte s.prefix unit.arg ≡ i → keeps_own (sheet_of code) s.at op i kinds blocks ≡ true
+  own_fits : (op : Instruction) (i : ℕ) → unit.op ≡ op → with_byte s.prefix unit.arg ≡ i → has_operand (sheet_of code) op i ≡ true → runs (sheet_of code) op i ≡ true
+      → keeps_own sound.shapes (sheet_of code) s.at op i kinds blocks ≡ true
       → Always objects (StepFits objects code) (act_own (record { code = code.code; names = names; globals = globals; closure = closure }) op i s)
-  own_fits LoadConst i is_op operand keeps =
-      loads_fit (slice_get (literals_of code.code.code.constants) i) (λ k. goes_with (k ∷ kinds) blocks) _ keeps
+  own_fits LoadConst i is_op operand there run keeps =
+      loads_fit (slice_get (literals_of code.code.code.constants) i) (λ k. goes_with (k ∷ kinds) blocks) _ run keeps
       (λ k v may is_kind. goes_behind (ap is_prefix is_op) (k ∷ kinds) blocks (v ∷ s.stack) s.blocks s.locals s.slot may (is_kind, has.holds) has.blocks has.locals)
-  own_fits LoadFast i is_op operand keeps =
-      let parts = and_parts (nat_lt i (length code.code.code.varnames.items)) (goes_with (kind.Any ∷ kinds) blocks) keeps in
-      load_fast_fits i is_op operand parts.0 parts.1 (slice_get s.locals i) refl
-  own_fits StoreFast i is_op operand keeps =
-      let parts = and_parts (nat_lt i (length code.code.code.varnames.items)) (takes_top kinds blocks (λ rest. goes_with rest blocks)) keeps in
-      where_true (StepFits objects code) _ _ (ap (nat_lt i) has.locals ∙ parts.0)
-      (off objects code kinds blocks (λ rest. goes_with rest blocks) s (StepFits objects code) _ parts.1 has
+  own_fits LoadFast i is_op operand there run keeps = load_fast_fits i is_op operand there keeps (slice_get s.locals i) refl
+  own_fits StoreFast i is_op operand there run keeps =
+      where_true (StepFits objects code) _ _ (ap (nat_lt i) has.locals ∙ there)
+      (off objects code kinds blocks (λ rest. goes_with rest blocks) s (StepFits objects code) _ keeps has
       (λ v vs has' may count holds. goes_behind (ap is_prefix is_op) (drop 1 kinds) blocks vs s.blocks (slice_set s.locals i (Some v)) s.slot may has'.holds has.blocks (length-set s.locals i (Some v) ∙ has.locals)))
-  own_fits DeleteFast i is_op operand keeps =
-      let parts = and_parts (nat_lt i (length code.code.code.varnames.items)) (goes_with kinds blocks) keeps in
-      delete_fast_fits i is_op operand parts.0 parts.1 (slice_get s.locals i) refl
-  own_fits CallFunctionPositional k is_op operand keeps = call_fits k is_op operand keeps
-  own_fits Jump to is_op operand keeps = may_jumped objects code to kinds blocks s goes keeps has.holds has.blocks has.locals
-  own_fits JumpIfTrue to is_op operand keeps =
-      off objects code kinds blocks (λ rest. may_jump (sheet_of code) to rest blocks && goes_with rest blocks) s (StepFits objects code) _ keeps has
+  own_fits DeleteFast i is_op operand there run keeps = delete_fast_fits i is_op operand there keeps (slice_get s.locals i) refl
+  own_fits CallFunctionPositional k is_op operand there run keeps = call_fits k is_op operand keeps
+  own_fits Jump to is_op operand there run keeps =
+      may_jumped objects code to kinds blocks s goes (and_from (is_label code.code.code.instructions.items to) (lands (sheet_of code) to kinds blocks) there keeps) has.holds has.blocks has.locals
+  own_fits JumpIfTrue to is_op operand there run keeps =
+      off objects code kinds blocks (λ rest. lands (sheet_of code) to rest blocks && goes_with rest blocks) s (StepFits objects code) _ keeps has
       (λ v vs has' may count holds. (may_be_asked JumpIfTrue is_op (request.Truth v) refl, waits_but JumpIfTrue to is_op operand want.Truth (drop 1 kinds) blocks want.Truth vs s.blocks s.slot (expect.Answer want.Truth) refl (λ o v is. is) has'))
-  own_fits JumpIfFalse to is_op operand keeps =
-      off objects code kinds blocks (λ rest. may_jump (sheet_of code) to rest blocks && goes_with rest blocks) s (StepFits objects code) _ keeps has
+  own_fits JumpIfFalse to is_op operand there run keeps =
+      off objects code kinds blocks (λ rest. lands (sheet_of code) to rest blocks && goes_with rest blocks) s (StepFits objects code) _ keeps has
       (λ v vs has' may count holds. (may_be_asked JumpIfFalse is_op (request.Truth v) refl, waits_but JumpIfFalse to is_op operand want.Truth (drop 1 kinds) blocks want.Truth vs s.blocks s.slot (expect.Answer want.Truth) refl (λ o v is. is) has'))
-  own_fits SetupLoop i is_op operand keeps =
+  own_fits SetupLoop i is_op operand there run keeps =
       (tt, opens_fit (ap is_prefix is_op) (record { typ = Loop; level = length s.stack }) (note.Loop (length kinds)) (record { number = refl; level = stack_count; handler = refl; waits = tt }) keeps)
-  own_fits SetupExcept to is_op operand keeps =
-      let parts = and_parts (is_label code.code.code.instructions.items to) (goes_with kinds (note.TryExcept (length kinds) to ∷ blocks)) keeps in
-      opens_fit (ap is_prefix is_op) (record { typ = TryExcept to; level = length s.stack }) (note.TryExcept (length kinds) to) (record { number = refl; level = stack_count; handler = refl; waits = tt }) parts.1
-  own_fits SetupFinally to is_op operand keeps =
-      let parts = and_parts (is_label code.code.code.instructions.items to) (goes_with kinds (note.Finally (length kinds) to ∷ blocks)) keeps in
-      opens_fit (ap is_prefix is_op) (record { typ = Finally to; level = length s.stack }) (note.Finally (length kinds) to) (record { number = refl; level = stack_count; handler = refl; waits = tt }) parts.1
-  own_fits EnterFinally i is_op operand keeps =
+  own_fits SetupExcept to is_op operand there run keeps =
+      opens_fit (ap is_prefix is_op) (record { typ = TryExcept to; level = length s.stack }) (note.TryExcept (length kinds) to) (record { number = refl; level = stack_count; handler = refl; waits = tt }) keeps
+  own_fits SetupFinally to is_op operand there run keeps =
+      opens_fit (ap is_prefix is_op) (record { typ = Finally to; level = length s.stack }) (note.Finally (length kinds) to) (record { number = refl; level = stack_count; handler = refl; waits = tt }) keeps
+  own_fits EnterFinally i is_op operand there run keeps =
       opens_fit (ap is_prefix is_op) (record { typ = FinallyHandler None s.slot; level = length s.stack }) (note.FinallyHandler (length kinds) []) (record { number = refl; level = stack_count; handler = refl; waits = tt }) keeps
-  own_fits EndFinally i is_op operand keeps = end_finally_fits (ap is_prefix is_op) blocks has.blocks has.handlers keeps
-  own_fits SetupWith to is_op operand keeps =
-      off objects code kinds blocks (λ rest. opens (sheet_of code) s.at to (kind.Any ∷ kind.Any ∷ rest) (note.Finally (suc (length rest)) to ∷ blocks)) s (StepFits objects code) _ keeps has
+  own_fits EndFinally i is_op operand there run keeps = end_finally_fits (ap is_prefix is_op) blocks has.blocks has.handlers keeps
+  own_fits SetupWith to is_op operand there run keeps =
+      off objects code kinds blocks (λ rest. goes_with (kind.Any ∷ kind.Any ∷ rest) (note.Finally (suc (length rest)) to ∷ blocks)) s (StepFits objects code) _ keeps has
       (λ v vs has' may count holds. (may_be_asked SetupWith is_op (request.Enter v) refl, waits_but SetupWith to is_op operand (want.Of kind.Any) kinds blocks (want.Of kind.Any) s.stack s.blocks s.slot (expect.Answer (want.Of kind.Any)) refl (λ o v is. is) has))
-  own_fits WithCleanupStart i is_op operand keeps = (raised_there s.blocks blocks has.blocks, λ t v b. cleanup_starts is_op i operand blocks has.blocks keeps t v b)
-  own_fits WithCleanupFinish i is_op operand keeps = cleanup_finishes (ap is_prefix is_op) is_op i operand blocks refl has.blocks has.handlers keeps
-  own_fits PopBlock i is_op operand keeps = pop_block_fits (ap is_prefix is_op) s.blocks blocks has.blocks keeps
-  own_fits PopException i is_op operand keeps = pop_exception_fits (ap is_prefix is_op) s.blocks blocks has.blocks keeps
-  own_fits Raise i is_op operand keeps = raises_fit i is_op operand (slice_get raise_kinds i) refl keeps
-  own_fits Break to is_op operand keeps = leaves_with objects code (reason.Break to) kinds blocks s goes (and_parts (is_label code.code.code.instructions.items to) (walks (sheet_of code) (pending.Break to) kinds blocks) keeps).1 has
-  own_fits Continue to is_op operand keeps =
-      leaves_with objects code (reason.Continue to) kinds blocks s goes (and_parts (is_label code.code.code.instructions.items to) (walks (sheet_of code) (pending.Continue to) kinds blocks) keeps).1 has
-  own_fits ReturnValue i is_op operand keeps =
+  own_fits WithCleanupStart i is_op operand there run keeps = (raised_there s.blocks blocks has.blocks, λ t v b. cleanup_starts is_op i operand blocks has.blocks keeps t v b)
+  own_fits WithCleanupFinish i is_op operand there run keeps = cleanup_finishes (ap is_prefix is_op) is_op i operand blocks refl has.blocks has.handlers keeps
+  own_fits PopBlock i is_op operand there run keeps = pop_block_fits (ap is_prefix is_op) s.blocks blocks has.blocks keeps
+  own_fits PopException i is_op operand there run keeps = pop_exception_fits (ap is_prefix is_op) s.blocks blocks has.blocks keeps
+  own_fits Raise i is_op operand there run keeps = raises_fit i is_op operand (slice_get raise_kinds i) refl (raised_as i kinds blocks there keeps)
+  own_fits Break to is_op operand there run keeps = leaves_with objects code (reason.Break to) kinds blocks s goes keeps has
+  own_fits Continue to is_op operand there run keeps = leaves_with objects code (reason.Continue to) kinds blocks s goes keeps has
+  own_fits ReturnValue i is_op operand there run keeps =
       off objects code kinds blocks (λ rest. true) s (StepFits objects code) _ keeps has (λ v vs has' may count holds. leaves_with objects code (reason.Returning v) (drop 1 kinds) blocks (with_stack vs s) goes tt has')
-  own_fits ReturnConst i is_op operand keeps =
-      loads_fit (slice_get (literals_of code.code.code.constants) i) (λ k. true) _ keeps (λ k v may is_kind. leaves_with objects code (reason.Returning v) kinds blocks s goes tt has)
-  own_fits YieldValue i is_op operand keeps =
-      let parts = and_parts (is_generator code.code.code.flags) (takes_top kinds blocks (λ rest. goes_with (kind.Any ∷ rest) blocks)) keeps in
+  own_fits ReturnConst i is_op operand there run keeps =
+      let literal : Option Literal = slice_get (literals_of code.code.code.constants) i in
+      loads_fit literal (λ k. true) _ run (loaded_there literal run) (λ k v may is_kind. leaves_with objects code (reason.Returning v) kinds blocks s goes tt has)
+  own_fits YieldValue i is_op operand there run keeps =
+      let parts = and_parts (may_yield code.code.code.flags) (takes_top kinds blocks (λ rest. goes_with (kind.Any ∷ rest) blocks)) keeps in
       off objects code kinds blocks (λ rest. goes_with (kind.Any ∷ rest) blocks) s (StepFits objects code) _ parts.1 has
-      (λ v vs has' may count holds. ((subst UnitYields (sym is) is_op, parts.0), waits_but YieldValue i is_op operand (want.Of kind.Any) (drop 1 kinds) blocks (want.Of kind.Any) vs s.blocks s.slot expect.Resume refl (λ o v is. is) has'))
-  own_fits ExtendedArg i is_op operand keeps =
+      (λ v vs has' may count holds. ((subst UnitYields (sym is) is_op, run), waits_but YieldValue i is_op operand (want.Of kind.Any) (drop 1 kinds) blocks (want.Of kind.Any) vs s.blocks s.slot expect.Resume refl (λ o v is. is) has'))
+  own_fits ExtendedArg i is_op operand there run keeps =
       let parts = and_parts (nat_lt (prefixes code.code.code.instructions.items s.at) 3) (goes_with kinds blocks) keeps in
       let t : State = record (next s) { prefix = i } in
       on_fits objects code t goes
       (arrived objects code t (arrives_behind objects code s unit is goes kinds blocks s.stack s.blocks parts.1 has.holds has.blocks) (sym operand ∙ prefix_carried code.code.code.instructions.items s.at s.prefix unit is (ap is_prefix is_op) carries) has.locals)
-  own_fits _ i is_op operand keeps = cc
+  own_fits _ i is_op operand there run keeps = cc
 
-  -- each instruction that keeps the rules does
-  pub act_fits : (op : Instruction) (i : ℕ) → unit.op ≡ op → with_byte s.prefix unit.arg ≡ i → keeps_op (sheet_of code) s.at op i kinds blocks ≡ true
+  -- each instruction that keeps the rules and runs so far does
+  pub act_fits : (op : Instruction) (i : ℕ) → unit.op ≡ op → with_byte s.prefix unit.arg ≡ i → keeps_op sound.shapes (sheet_of code) s.at op i kinds blocks ≡ true → runs (sheet_of code) op i ≡ true
       → Always objects (StepFits objects code) (act (record { code = code.code; names = names; globals = globals; closure = closure }) op i s)
-  act_fits op i is_op operand keeps =
-      by_effect op i (effect op i) (asked (record { code = code.code; names = names; globals = globals; closure = closure }) op i) (act_own (record { code = code.code; names = names; globals = globals; closure = closure }) op i s) (has_operand (sheet_of code) op i)
-      (keeps_own (sheet_of code) s.at op i kinds blocks) is_op operand (other_or_plain op i unit.op is_op) refl (asked_there names globals closure code sound.named op i) (own_fits op i is_op operand) keeps
+  act_fits op i is_op operand keeps run =
+      let own : Bool = keeps_own sound.shapes (sheet_of code) s.at op i kinds blocks in
+      let parts = and_parts (has_operand (sheet_of code) op i) (keeps_by (sheet_of code) s.at (effect op i) own kinds blocks) keeps in
+      let may = subst (λ (e : Effect). keeps_by (sheet_of code) s.at e own kinds blocks ≡ true) (row_is (sheet_of code) op i run) parts.1 in
+      by_effect op i (row_effect op i) (asked (record { code = code.code; names = names; globals = globals; closure = closure }) op i) (act_own (record { code = code.code; names = names; globals = globals; closure = closure }) op i s)
+      own is_op operand (other_or_plain op i unit.op is_op) (none_taken op i) refl (asked_there names globals closure code sound.named op i run parts.0) (own_fits op i is_op operand parts.0 run) may

@@ -1,7 +1,7 @@
 -- What instructions ask of the operands that they take is there, and wants what the table of effects says.
-use Rattle.std.proofs.Common.{◌≡◌, ◌∙◌, ◌<◌, ℕ, zero, suc, List, [], ◌∷◌, Option, None, Some, Bool, true, false, cond, ◌⊎◌, inl, inr, ⊎_elim, subst, refl, sym, ap, length, arith}
+use Rattle.std.proofs.Common.{◌≡◌, ◌∙◌, ◌<◌, ℕ, zero, suc, List, [], ◌∷◌, Option, None, Some, Bool, true, false, ◌&&◌, cond, ◌⊎◌, inl, inr, ⊎_elim, subst, refl, sym, ap, length, arith}
 use Rattle.std.specs.Prelude.{◌%◌, slice_get, nat_lt, option_map, chars}
-use Rattle.std.proofs.lemmas.Bool.{both_ways, cases_lt, le-ltb}
+use Rattle.std.proofs.lemmas.Bool.{and_from, both_ways, cases_lt, le-ltb}
 use Rattle.std.proofs.lemmas.Option.{slice_get_within}
 use Rattle.py_code.specs.declared.unit.CodeUnit.{CodeUnit}
 use Rattle.py_code.specs.declared.instruction.Instruction.{Instruction}
@@ -24,7 +24,9 @@ use Rattle.py_code.specs.declared.literal.BuiltinFn.TheVariants as builtin
 use Rattle.py_check.specs.declared.note.Kind.{Kind}
 use Rattle.py_check.specs.declared.note.Kind.TheVariants as kind
 use Rattle.py_check.specs.declared.annotated.Annotated.{Annotated}
-use Rattle.py_check.specs.Effects.{Effect, Moves, AsksOnce, Other, effect, is_tested, has_operand, asks_operator, asks_comparison}
+use Rattle.py_check.specs.Effects.{Effect, Moves, AsksOnce, Takes, Other, has_operand}
+use Rattle.py_rows.specs.Table.{row_effect}
+use Rattle.py_check.specs.Running.{is_tested, asks_operator, asks_comparison, runs}
 use Rattle.py_check.specs.Sheet.{Sheet, sheet_of}
 use Rattle.py_rows.specs.States.{Setting}
 use Rattle.py_rows.proofs.BelowLemmas.{joined_below}
@@ -42,7 +44,16 @@ Wants op pushes (Some r) = Suits (wanted r) (wanted_of pushes) × ((arg : ℕ) �
 abbrev pub AsksAs : Instruction → Effect → (List Obj → Option Request) → Type 0
 AsksAs op (Moves n places) f = Unit {0}
 AsksAs op (AsksOnce taken pushes) f = (vs : List Obj) → length vs ≡ length taken → Wants op pushes (f vs)
+AsksAs op (Takes n pushes) f = Unit {0}
 AsksAs op Other f = Unit {0}
+
+-- whether an instruction runs so far, and what its operand names is there
+abbrev pub is_ready : Sheet → Instruction → ℕ → Bool
+is_ready sheet op i = runs sheet op i && has_operand sheet op i
+
+not_both : (b c : Bool) → b ≡ false → (b && c) ≡ false
+not_both false c is = refl
+not_both true c is = cc
 
 -- a name of globals that isn't there is out of range, or there is a gap
 module _ (Gap : Type 0) (setting : Setting) (sheet : Sheet) (places : (i : ℕ) → name_of_global setting i ≡ None → (nat_lt i sheet.names ≡ false → Gap) → Gap) where
@@ -56,6 +67,7 @@ module _ (Gap : Type 0) (setting : Setting) (sheet : Sheet) (places : (i : ℕ) 
   abbrev pub AsksAny : Instruction → Bool → Effect → (List Obj → Option Request) → Type 0
   AsksAny op there (Moves n places) f = Unit {0}
   AsksAny op there (AsksOnce taken pushes) f = (vs : List Obj) → ((length vs ≡ length taken → ⊥) ⊎ (there ≡ false) → Gap) → Asks op pushes vs (f vs)
+  AsksAny op there (Takes n pushes) f = Unit {0}
   AsksAny op there Other f = Unit {0}
 
   -- what an operand speaks of: a name, an operator, a comparison
@@ -99,13 +111,13 @@ module _ (Gap : Type 0) (setting : Setting) (sheet : Sheet) (places : (i : ℕ) 
   tested (Some test.ExceptionMatch) a b gap = (λ objects v is. tt, λ n there low. (low.1.0, (low.0, tt)), λ arg. refl)
   tested _ a b gap = gap refl
 
-  pub asked_as : (op : Instruction) (i : ℕ) → AsksAny op (has_operand sheet op i) (effect op i) (asked setting op i)
+  pub asked_as : (op : Instruction) (i : ℕ) → AsksAny op (is_ready sheet op i) (row_effect op i) (asked setting op i)
   asked_as LoadGlobal i = λ vs gap. none_asked LoadGlobal (Some kind.Any) _ vs (λ no. gap (inl no)) (by_name LoadGlobal (Some kind.Any) [] i _ (λ no. gap (inr no)) (λ x. (λ objects v is. tt, λ n there low. (there, tt), λ arg. refl)))
   asked_as BinaryOperation i =
-      λ vs gap. two_asked BinaryOperation (Some kind.Any) _ vs (λ no. gap (inl no)) (λ a b. by_operator BinaryOperation (Some kind.Any) (b ∷ a ∷ []) (slice_get binary_operators i) _ (λ no. gap (inr no)) (λ x runs. (λ objects v is. tt, λ n there low. (low.1.0, (low.0, tt)), λ arg. runs)))
+      λ vs gap. two_asked BinaryOperation (Some kind.Any) _ vs (λ no. gap (inl no)) (λ a b. by_operator BinaryOperation (Some kind.Any) (b ∷ a ∷ []) (slice_get binary_operators i) _ (λ no. gap (inr (not_both _ _ no))) (λ x runs. (λ objects v is. tt, λ n there low. (low.1.0, (low.0, tt)), λ arg. runs)))
   asked_as CompareOperation i =
-      λ vs gap. two_asked CompareOperation (Some kind.Any) _ vs (λ no. gap (inl no)) (λ a b. by_comparison CompareOperation (Some kind.Any) (b ∷ a ∷ []) (slice_get comparison_operators i) _ (λ no. gap (inr no)) (λ x runs. (λ objects v is. tt, λ n there low. (low.1.0, (low.0, tt)), λ arg. runs)))
-  asked_as TestOperation i = λ vs gap. two_asked TestOperation (Some kind.Any) _ vs (λ no. gap (inl no)) (λ a b. tested (slice_get test_operators i) a b (λ no. gap (inr no)))
+      λ vs gap. two_asked CompareOperation (Some kind.Any) _ vs (λ no. gap (inl no)) (λ a b. by_comparison CompareOperation (Some kind.Any) (b ∷ a ∷ []) (slice_get comparison_operators i) _ (λ no. gap (inr (not_both _ _ no))) (λ x runs. (λ objects v is. tt, λ n there low. (low.1.0, (low.0, tt)), λ arg. runs)))
+  asked_as TestOperation i = λ vs gap. two_asked TestOperation (Some kind.Any) _ vs (λ no. gap (inl no)) (λ a b. tested (slice_get test_operators i) a b (λ no. gap (inr (not_both _ _ no))))
   asked_as PrintExpr i = λ vs gap. one_asked PrintExpr None _ vs (λ no. gap (inl no)) (λ v. (λ objects v is. tt, λ n there low. low, λ arg. refl))
   asked_as _ i = tt
 
@@ -171,9 +183,10 @@ named names ids i places below =
     let (text, there) = got_there names id.index (places i id is) in
     (chars text, ap (name_in names) is ∙ ap (option_map chars) there)
 
-pub asked_there : (names : List (List ℕ)) (globals : Obj) (closure : List Obj) (code : Annotated) → AreNames names code.code → (op : Instruction) (i : ℕ) → has_operand (sheet_of code) op i ≡ true
-    → AsksAs op (effect op i) (asked (record { code = code.code; names = names; globals = globals; closure = closure }) op i)
-asked_there names globals closure code are op i there = by_effect (effect op i) (asked setting op i) (has_operand (sheet_of code) op i) there (asked_as ⊥ setting (sheet_of code) places op i)
+pub asked_there : (names : List (List ℕ)) (globals : Obj) (closure : List Obj) (code : Annotated) → AreNames names code.code → (op : Instruction) (i : ℕ) → runs (sheet_of code) op i ≡ true → has_operand (sheet_of code) op i ≡ true
+    → AsksAs op (row_effect op i) (asked (record { code = code.code; names = names; globals = globals; closure = closure }) op i)
+asked_there names globals closure code are op i run there =
+    by_effect (row_effect op i) (asked setting op i) (is_ready (sheet_of code) op i) (and_from (runs (sheet_of code) op i) (has_operand (sheet_of code) op i) run there) (asked_as ⊥ setting (sheet_of code) places op i)
   where
     setting : Setting
     setting = record { code = code.code; names = names; globals = globals; closure = closure }
@@ -189,4 +202,5 @@ asked_there names globals closure code are op i there = by_effect (effect op i) 
     by_effect : (e : Effect) (f : List Obj → Option Request) (b : Bool) → b ≡ true → AsksAny ⊥ setting (sheet_of code) places op b e f → AsksAs op e f
     by_effect (Moves n ps) f b is asks = tt
     by_effect (AsksOnce taken pushes) f b is asks = λ vs count. wants pushes vs (f vs) (asks vs (λ m. ⊎_elim (λ no. no count) (λ no. both_ways b no is) m))
+    by_effect (Takes n pushes) f b is asks = tt
     by_effect Other f b is asks = tt

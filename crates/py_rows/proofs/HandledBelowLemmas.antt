@@ -7,7 +7,8 @@ use Rattle.py_objects.specs.declared.request.Request.{Request}
 use Rattle.py_objects.specs.declared.request.Request.TheVariants as request
 use Rattle.py_objects.specs.Objects.{Obj, Name, AllBelow, numbers, number_if, request_numbers}
 use Rattle.py_check.specs.declared.note.Kind.{Kind}
-use Rattle.py_check.specs.Effects.{Effect, Moves, AsksOnce, Other, effect, has_operand}
+use Rattle.py_check.specs.Effects.{Effect, Moves, AsksOnce, Takes, Other}
+use Rattle.py_rows.specs.Table.{row_effect}
 use Rattle.py_check.specs.Sheet.{Sheet, sheet_of}
 use Rattle.py_rows.specs.declared.block.Block.{Block}
 use Rattle.py_rows.specs.declared.block.BlockType.{BlockType}
@@ -20,7 +21,7 @@ use Rattle.py_rows.specs.Asked.{asked}
 use Rattle.py_rows.specs.Rows.{raised_by, raised_of, raised_in}
 use Rattle.py_rows.specs.RunOfRows.{filled}
 use Rattle.py_rows.specs.Below.{ReasonBelow, IfBelow, TypeBelow, BlocksBelow}
-use Rattle.py_rows.proofs.AskingLemmas.{Asks, AsksAny, asked_as}
+use Rattle.py_rows.proofs.AskingLemmas.{Asks, AsksAny, asked_as, is_ready}
 
 -- a place of a list after one was set
 pub set_there : (n : ℕ) (xs : List (Option Obj)) (i j : ℕ) (x : Option Obj) (w : Obj) → ((v : Obj) → x ≡ Some v → v.number < n) → ((k : ℕ) (u : Obj) → slice_get xs k ≡ Some (Some u) → u.number < n)
@@ -67,10 +68,11 @@ mapped_unbound n (Some x) = tt
 abbrev pub AsksBelow : ℕ → Effect → (List Obj → Option Request) → Type 0
 AsksBelow n (Moves k places) f = Unit {0}
 AsksBelow n (AsksOnce wanted pushes) f = (vs : List Obj) → AllBelow n (numbers vs) → RequestBelow n (f vs)
+AsksBelow n (Takes k pushes) f = Unit {0}
 AsksBelow n Other f = Unit {0}
 
-pub asked_below : (n : ℕ) (setting : Setting) (op : Instruction) (i : ℕ) → setting.globals.number < n → AsksBelow n (effect op i) (asked setting op i)
-asked_below n setting op i there = by_effect (effect op i) (asked setting op i) (asked_as (Unit {0}) setting sheet (λ j none gap. tt) op i)
+pub asked_below : (n : ℕ) (setting : Setting) (op : Instruction) (i : ℕ) → setting.globals.number < n → AsksBelow n (row_effect op i) (asked setting op i)
+asked_below n setting op i there = by_effect (row_effect op i) (asked setting op i) (asked_as (Unit {0}) setting sheet (λ j none gap. tt) op i)
   where
     sheet : Sheet
     sheet = sheet_of (record { code = setting.code; notes = [] })
@@ -79,9 +81,10 @@ asked_below n setting op i there = by_effect (effect op i) (asked setting op i) 
     below pushes vs None low asks = tt
     below pushes vs (Some r) low asks = asks.1 n there low
 
-    by_effect : (e : Effect) (f : List Obj → Option Request) → AsksAny (Unit {0}) setting sheet (λ j none gap. tt) op (has_operand sheet op i) e f → AsksBelow n e f
+    by_effect : (e : Effect) (f : List Obj → Option Request) → AsksAny (Unit {0}) setting sheet (λ j none gap. tt) op (is_ready sheet op i) e f → AsksBelow n e f
     by_effect (Moves k places) f asks = tt
     by_effect (AsksOnce wanted pushes) f asks = λ vs low. below pushes vs (f vs) low (asks vs (λ m. tt))
+    by_effect (Takes k pushes) f asks = tt
     by_effect Other f asks = tt
 
 -- what a finally was entered by

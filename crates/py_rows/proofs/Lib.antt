@@ -16,6 +16,8 @@ pub mod BelowLemmas
 pub mod AskingLemmas
 -- frames that go on
 pub mod BehindLemmas
+-- what runs so far
+pub mod RunningLemmas
 -- what units do
 pub mod ActingLemmas
 -- what answers do

@@ -18,6 +18,7 @@ use Rattle.py_check.specs.Depths.{deepest}
 use Rattle.py_check.specs.Operands.{carried}
 use Rattle.py_check.specs.Sheet.{sheet_of}
 use Rattle.py_check.specs.Typing.{keeps_op}
+use Rattle.py_check.specs.Running.{runs}
 use Rattle.py_rows.specs.declared.expect.Wanted.{Wanted}
 use Rattle.py_rows.specs.declared.expect.Wanted.TheVariants as want
 use Rattle.py_rows.specs.declared.expect.Expect.{Expect}
@@ -43,7 +44,7 @@ module _ (objects : List Payload) (names : List (List ℕ)) (globals : Obj) (clo
   -- what a frame has that fits a note
   has_noted : (f : FitsNote objects code s) → (last : ℕ) (wants : Expect) → Has objects code f.kinds f.block_notes (record s { last = last; wants = wants })
   has_noted f last wants =
-      let kept = unit_kept code s.at f.kinds f.block_notes sound.typed f.note in
+      let kept = unit_kept names code s.at f.kinds f.block_notes sound f.note in
       record { holds = f.holds; blocks = f.blocks; handlers = kept.handlers; room = kept.room; block_room = deepest_there code.notes s.at (Live f.kinds f.block_notes) f.note; locals = f.locals }
 
   has_begun : (f : FitsNote objects code s) → Has objects code f.kinds f.block_notes (begun s)
@@ -71,28 +72,34 @@ module _ (objects : List Payload) (names : List (List ℕ)) (globals : Obj) (clo
 
   go_fits : FitsNote objects code s → Always objects (StepFits objects code) (moves (setting_of names globals closure code) expect.Go s)
   go_fits f =
-      let kept = unit_kept code s.at f.kinds f.block_notes sound.typed f.note in
+      let kept = unit_kept names code s.at f.kinds f.block_notes sound f.note in
       let u : CodeUnit = kept.there in
-      let keeps : keeps_op (sheet_of code) s.at u.op (with_byte s.prefix u.arg) f.kinds f.block_notes ≡ true =
-      subst (λ (n : ℕ). keeps_op (sheet_of code) s.at u.op (with_byte n u.arg) f.kinds f.block_notes ≡ true) (sym f.carries) kept.keeps in
+      let keeps : keeps_op sound.shapes (sheet_of code) s.at u.op (with_byte s.prefix u.arg) f.kinds f.block_notes ≡ true =
+      subst (λ (n : ℕ). keeps_op sound.shapes (sheet_of code) s.at u.op (with_byte n u.arg) f.kinds f.block_notes ≡ true) (sym f.carries) kept.keeps in
+      let runs_here : runs (sheet_of code) u.op (with_byte s.prefix u.arg) ≡ true =
+      subst (λ (n : ℕ). runs (sheet_of code) u.op (with_byte n u.arg) ≡ true) (sym f.carries) kept.runs in
       subst (λ (o : Option CodeUnit). Always objects (StepFits objects code) (unit_move (setting_of names globals closure code) o s)) (sym kept.is)
-      (act_fits objects names globals closure code sound (begun s) f.kinds f.block_notes u kept.is f.note refl refl (has_begun f) f.carries u.op (with_byte s.prefix u.arg) refl refl keeps)
+      (act_fits objects names globals closure code sound (begun s) f.kinds f.block_notes u kept.is f.note refl refl (has_begun f) f.carries u.op (with_byte s.prefix u.arg) refl refl keeps runs_here)
 
   value_fits : (w : Wanted) (v : Obj) → FitsBut objects code w s → IsValue objects w v → Always objects (StepFits objects code) (moves (setting_of names globals closure code) (expect.Heard (got.Value v)) s)
   value_fits w v f is_value =
-      let kept = unit_kept code s.at f.kinds f.block_notes sound.typed f.note in
+      let kept = unit_kept names code s.at f.kinds f.block_notes sound f.note in
       let u : CodeUnit = f.unit in
       let same : Some kept.there ≡ Some u = sym kept.is ∙ f.is in
       let there : kept.there ≡ u = cc in
-      let kept_keeps : keeps_op (sheet_of code) s.at u.op (with_byte (carried code.code.code.instructions.items s.at) u.arg) f.kinds f.block_notes ≡ true =
-      subst (λ (x : CodeUnit). keeps_op (sheet_of code) s.at x.op (with_byte (carried code.code.code.instructions.items s.at) x.arg) f.kinds f.block_notes ≡ true) there kept.keeps in
-      let keeps : keeps_op (sheet_of code) s.at u.op (with_byte s.prefix u.arg) f.kinds f.block_notes ≡ true =
-      subst (λ (n : ℕ). keeps_op (sheet_of code) s.at u.op (with_byte n u.arg) f.kinds f.block_notes ≡ true) (sym f.carries) kept_keeps in
-      let known : Given objects code (waiting expect.Go s) f.kinds f.block_notes u f.is refl f.note f.carries v (Some f.left) = (has_waiting f.left.kinds f.left.blocks expect.Go f.has, f.suits objects v is_value) in
-      let given : Given objects code (waiting expect.Go s) f.kinds f.block_notes u f.is refl f.note f.carries v (left_of u.op (with_byte s.prefix u.arg) s.phase f.kinds f.block_notes) =
-      subst (Given objects code (waiting expect.Go s) f.kinds f.block_notes u f.is refl f.note f.carries v) (sym f.waits) known in
+      let kept_keeps : keeps_op sound.shapes (sheet_of code) s.at u.op (with_byte (carried code.code.code.instructions.items s.at) u.arg) f.kinds f.block_notes ≡ true =
+      subst (λ (x : CodeUnit). keeps_op sound.shapes (sheet_of code) s.at x.op (with_byte (carried code.code.code.instructions.items s.at) x.arg) f.kinds f.block_notes ≡ true) there kept.keeps in
+      let keeps : keeps_op sound.shapes (sheet_of code) s.at u.op (with_byte s.prefix u.arg) f.kinds f.block_notes ≡ true =
+      subst (λ (n : ℕ). keeps_op sound.shapes (sheet_of code) s.at u.op (with_byte n u.arg) f.kinds f.block_notes ≡ true) (sym f.carries) kept_keeps in
+      let kept_runs : runs (sheet_of code) u.op (with_byte (carried code.code.code.instructions.items s.at) u.arg) ≡ true =
+      subst (λ (x : CodeUnit). runs (sheet_of code) x.op (with_byte (carried code.code.code.instructions.items s.at) x.arg) ≡ true) there kept.runs in
+      let runs_here : runs (sheet_of code) u.op (with_byte s.prefix u.arg) ≡ true =
+      subst (λ (n : ℕ). runs (sheet_of code) u.op (with_byte n u.arg) ≡ true) (sym f.carries) kept_runs in
+      let known : Given objects code sound.shapes (waiting expect.Go s) f.kinds f.block_notes u f.is refl f.note f.carries v (Some f.left) = (has_waiting f.left.kinds f.left.blocks expect.Go f.has, f.suits objects v is_value) in
+      let given : Given objects code sound.shapes (waiting expect.Go s) f.kinds f.block_notes u f.is refl f.note f.carries v (left_of u.op (with_byte s.prefix u.arg) s.phase f.kinds f.block_notes) =
+      subst (Given objects code sound.shapes (waiting expect.Go s) f.kinds f.block_notes u f.is refl f.note f.carries v) (sym f.waits) known in
       subst (λ (o : Option CodeUnit). Always objects (StepFits objects code) (unit_answered o v (waiting expect.Go s))) (sym f.is)
-      (answered_fits objects code (waiting expect.Go s) f.kinds f.block_notes u f.is refl f.note f.carries u.op (with_byte s.prefix u.arg) v refl refl keeps given)
+      (answered_fits objects code sound.shapes (waiting expect.Go s) f.kinds f.block_notes u f.is refl f.note f.carries u.op (with_byte s.prefix u.arg) v refl refl keeps runs_here given)
 
   -- a frame that expects no input fits behind its step
   steps_on : (x : Expect) → FitsAt objects code x s → IsMoving x → Always objects (StepFits objects code) (moves (setting_of names globals closure code) x s)
@@ -151,7 +158,7 @@ module _ (objects : List Payload) (names : List (List ℕ)) (globals : Obj) (clo
   heard_fits expect.Start (Resumes k how.Start) w f hears = subst (λ (y : Expect). FitsAt objects code y (waiting y s)) (sym hears) (note_waiting expect.Go f.1)
   heard_fits expect.Start (Resumes k (how.Throw e)) w f hears =
       let raised : Expect = expect.Heard (got.Raise e) in
-      let can : CanUnwind objects code (waiting raised s) = record { kinds = f.1.kinds; block_notes = f.1.block_notes; has = has_noted f.1 s.last raised; there = slice_get_within code.code.code.instructions.items s.at _ (unit_kept code s.at f.1.kinds f.1.block_notes sound.typed f.1.note).is } in
+      let can : CanUnwind objects code (waiting raised s) = record { kinds = f.1.kinds; block_notes = f.1.block_notes; has = has_noted f.1 s.last raised; there = slice_get_within code.code.code.instructions.items s.at _ (unit_kept names code s.at f.1.kinds f.1.block_notes sound f.1.note).is } in
       subst (λ (y : Expect). FitsAt objects code y (waiting y s)) (sym hears.1) (hears.0, can)
   heard_fits (expect.Answer wanted) (Gets k (got.Value v)) w f hears =
       subst (λ (y : Expect). FitsAt objects code y (waiting y s)) (sym hears.1) (wanted, but_waiting wanted (expect.Heard (got.Value v)) f, hears.0)
@@ -205,5 +212,5 @@ length-filled (suc n) (v ∷ vs) = ap suc (length-filled n vs)
 
 pub start_fits : (objects : List Payload) (names : List (List ℕ)) (code : Annotated) (slot : Option PyBaseExceptionRef) (args : List Obj) → IsSound names code → FitsAt objects code expect.Start (started code.code slot args)
 start_fits objects names code slot args sound =
-    let whole : IsWhole code = typed_whole code sound.typed in
+    let whole : IsWhole code = typed_whole sound.shapes code sound.typed in
     (refl, record { kinds = []; block_notes = []; note = whole.start; holds = tt; blocks = tt; carries = refl; locals = length-filled (length code.code.code.varnames.items) args })

@@ -1,5 +1,5 @@
 -- Operands that are taken off the stack.
-use Rattle.std.proofs.Common.{◌≡◌, ◌∙◌, ◌-◌, ◌<◌, ◌≤◌, ℕ, zero, suc, List, [], ◌∷◌, Bool, true, ◌&&◌, refl, sym, ap, subst, length, drop, length-drop, arith}
+use Rattle.std.proofs.Common.{◌≡◌, ◌∙◌, ◌-◌, ◌<◌, ◌≤◌, ℕ, zero, suc, List, [], ◌∷◌, Bool, Option, None, Some, true, false, ◌&&◌, refl, sym, ap, subst, length, drop, length-drop, arith}
 use Rattle.std.specs.Prelude.{nat_le, nat_lt, slice_get, replicate, ◌==◌}
 use Rattle.std.proofs.Math.ListN.{length-replicate}
 use Rattle.std.specs.List.{list_all}
@@ -16,7 +16,10 @@ use Rattle.py_rows.specs.Rows.{is_there, takes_off, reaches}
 use Rattle.py_check.specs.Sheet.{Sheet, sheet_of}
 use Rattle.py_check.specs.Landing.{goes_on, handler_lands, handlers_land, top_level}
 use Rattle.py_code.specs.Bottom.{bottom}
-use Rattle.py_check.specs.Taking.{takes}
+use Rattle.py_code.specs.declared.operator.RaiseKind.{RaiseKind}
+use Rattle.py_code.specs.declared.operator.RaiseKind.TheVariants as raise
+use Rattle.py_code.specs.Operators.{raise_kinds}
+use Rattle.py_check.specs.Taking.{takes, takes_top}
 use Rattle.py_rows.specs.States.{State, Step, with_stack}
 use Rattle.py_rows.specs.Fitting.{HaveKinds, Has}
 use Rattle.py_rows.proofs.AskingLemmas.{got_there}
@@ -106,3 +109,17 @@ places_there objects [] stack below = refl
 places_there objects (p ∷ ps) stack below =
     let parts = and_parts (nat_lt p (length stack)) (list_all (λ p. nat_lt p (length stack)) ps) below in
     and_from (is_there (slice_get stack p)) (list_all (λ p. is_there (slice_get stack p)) ps) (ap is_there (got_there stack p (ltb-true p (length stack) parts.0)).1) (places_there objects ps stack parts.1)
+
+-- what a raise of a kind takes: the exception on top, under its cause if it has one, or nothing where what is handled is raised again
+abbrev pub raises_by : Option RaiseKind → List Kind → List BlockNote → Bool
+raises_by None kinds blocks = false
+raises_by (Some raise.Reraise) kinds blocks = true
+raises_by (Some raise.Raise) kinds blocks = takes_top kinds blocks (λ rest. true)
+raises_by (Some raise.RaiseCause) kinds blocks = takes (kind.Any ∷ kind.Any ∷ []) kinds blocks (λ rest. true)
+
+-- which is as many entries as its number
+pub raised_as : (i : ℕ) (kinds : List Kind) (blocks : List BlockNote) → nat_lt i 3 ≡ true → takes (replicate i kind.Any) kinds blocks (λ rest. true) ≡ true → raises_by (slice_get raise_kinds i) kinds blocks ≡ true
+raised_as zero kinds blocks few there = refl
+raised_as (suc zero) kinds blocks few there = there
+raised_as (suc (suc zero)) kinds blocks few there = there
+raised_as (suc (suc (suc n))) kinds blocks few there = absurd (omega (arith, ltb-true (suc (suc (suc n))) 3 few))

@@ -16,6 +16,8 @@ use Rattle.py_check.specs.Sheet.{Sheet, sheet_of}
 use Rattle.py_check.specs.Landing.{has_room, handlers_land}
 use Rattle.py_check.specs.WholeCode.{is_start, counts_match}
 use Rattle.py_check.specs.Typing.{keeps_op, keeps_both, IsTyped}
+use Rattle.py_check.specs.Running.{runs, runs_both}
+use Rattle.py_rows.specs.Sound.{IsSound}
 
 -- what the rules say of a whole code
 pub record IsWhole (code : Annotated) : Type 0 where
@@ -33,8 +35,8 @@ start_noted (Some (Live [] [])) is = refl
 start_noted (Some (Live [] (b ∷ blocks))) is = cc
 start_noted (Some (Live (k ∷ kinds) blocks)) is = cc
 
-pub typed_whole : (code : Annotated) → IsTyped code → IsWhole code
-typed_whole code typed =
+pub typed_whole : (shapes : List ℕ) (code : Annotated) → IsTyped shapes (sheet_of code) → IsWhole code
+typed_whole shapes code typed =
     let sheet : Sheet = sheet_of code in
     let three = (and_parts _ _ (and_parts _ _ (and_parts _ _ typed.whole).0).0).0 in
     let both = and_parts (counts_match sheet) (is_start (slice_get sheet.notes 0)) (and_parts _ _ three).0 in
@@ -49,18 +51,21 @@ typed_whole code typed =
       start = start_noted (slice_get sheet.notes 0) both.1;
     }
 
--- a unit that keeps the rules behind a note
-pub record IsKept (sheet : Sheet) (at : ℕ) (unit : Option CodeUnit) (kinds : List Kind) (blocks : List BlockNote) : Type 0 where
+-- a unit that keeps the rules behind a note, and runs so far
+pub record IsKept (shapes : List ℕ) (sheet : Sheet) (at : ℕ) (unit : Option CodeUnit) (kinds : List Kind) (blocks : List BlockNote) : Type 0 where
   pub there : CodeUnit
   pub is : unit ≡ Some there
   pub room : length kinds ≤ sheet.max_stackdepth
   pub handlers : handlers_land sheet kinds blocks ≡ true
-  pub keeps : keeps_op sheet at there.op (operand sheet.units at there) kinds blocks ≡ true
+  pub keeps : keeps_op shapes sheet at there.op (operand sheet.units at there) kinds blocks ≡ true
+  pub runs : runs sheet there.op (operand sheet.units at there) ≡ true
 
-both_kept : (sheet : Sheet) (at : ℕ) (unit : Option CodeUnit) (kinds : List Kind) (blocks : List BlockNote) → keeps_both sheet at unit (Some (Live kinds blocks)) ≡ true → IsKept sheet at unit kinds blocks
-both_kept sheet at None kinds blocks keeps = cc
-both_kept sheet at (Some u) kinds blocks keeps =
-    let parts = and_parts _ (keeps_op sheet at u.op (operand sheet.units at u) kinds blocks) keeps in
+both_kept : (shapes : List ℕ) (sheet : Sheet) (at : ℕ) (unit : Option CodeUnit) (kinds : List Kind) (blocks : List BlockNote)
+    → keeps_both shapes sheet at unit (Some (Live kinds blocks)) ≡ true → runs_both sheet at unit (Some (Live kinds blocks)) ≡ true
+    → IsKept shapes sheet at unit kinds blocks
+both_kept shapes sheet at None kinds blocks keeps runs = cc
+both_kept shapes sheet at (Some u) kinds blocks keeps runs =
+    let parts = and_parts _ (keeps_op shapes sheet at u.op (operand sheet.units at u) kinds blocks) keeps in
     let lower = and_parts _ (handlers_land sheet kinds blocks) parts.0 in
     let room = (and_parts (has_room sheet kinds) _ lower.0).0 in
     record {
@@ -69,16 +74,20 @@ both_kept sheet at (Some u) kinds blocks keeps =
       room = (let is : nat_le (length kinds) sheet.max_stackdepth ≡ true = room in grind (arith, nat_tests, is));
       handlers = lower.1;
       keeps = parts.1;
+      runs = runs;
     }
 
--- a noted unit is there, and keeps the rules
-pub unit_kept : (code : Annotated) (at : ℕ) (kinds : List Kind) (blocks : List BlockNote) → IsTyped code → slice_get code.notes at ≡ Some (Live kinds blocks)
-    → IsKept (sheet_of code) at (slice_get code.code.code.instructions.items at) kinds blocks
-unit_kept code at kinds blocks typed note =
+-- a noted unit is there, keeps the rules, and runs
+pub unit_kept : (names : List (List ℕ)) (code : Annotated) (at : ℕ) (kinds : List Kind) (blocks : List BlockNote) (sound : IsSound names code)
+    → slice_get code.notes at ≡ Some (Live kinds blocks)
+    → IsKept sound.shapes (sheet_of code) at (slice_get code.code.code.instructions.items at) kinds blocks
+unit_kept names code at kinds blocks sound note =
     let sheet : Sheet = sheet_of code in
     let within : at < length code.notes = slice_get_within code.notes at _ note in
-    let count : length code.notes ≡ length code.code.code.instructions.items = (typed_whole code typed).notes in
-    both_kept sheet at (slice_get sheet.units at) kinds blocks (subst (λ (n : Option Note). keeps_both sheet at (slice_get sheet.units at) n ≡ true) note (typed.each at (omega arith)))
+    let count : length code.notes ≡ length code.code.code.instructions.items = (typed_whole sound.shapes code sound.typed).notes in
+    both_kept sound.shapes sheet at (slice_get sheet.units at) kinds blocks
+    (subst (λ (n : Option Note). keeps_both sound.shapes sheet at (slice_get sheet.units at) n ≡ true) note (sound.typed.each at (omega arith)))
+    (subst (λ (n : Option Note). runs_both sheet at (slice_get sheet.units at) n ≡ true) note (sound.runs at (omega arith)))
 
 -- what the prefixes carry behind a unit that is none
 pub none_carried : (units : List CodeUnit) (at : ℕ) (u : CodeUnit) → slice_get units at ≡ Some u → is_prefix u.op ≡ false → 0 ≡ carried units (suc at)

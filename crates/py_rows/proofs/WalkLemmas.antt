@@ -23,7 +23,8 @@ use Rattle.py_objects.specs.declared.event.GotAnswer.TheVariants as got
 use Rattle.py_objects.specs.Objects.{Obj, Name, AllBelow, numbers, number_if, request_numbers, as_object}
 use Rattle.py_objects.specs.Own.{Rounds}
 use Rattle.py_objects.specs.Callees.{call_request}
-use Rattle.py_check.specs.Effects.{Effect, Moves, AsksOnce, Other, effect}
+use Rattle.py_check.specs.Effects.{Effect, Moves, AsksOnce, Takes, Other}
+use Rattle.py_rows.specs.Table.{row_effect}
 use Rattle.py_check.specs.Taking.{picked}
 use Rattle.py_rows.specs.declared.block.Block.{Block}
 use Rattle.py_rows.specs.declared.block.BlockType.{BlockType}
@@ -304,6 +305,7 @@ module _ (first : Option PyBaseExceptionRef) (n : ℕ) (Kept Low : Type 0) where
     table_led {s = s} (AsksOnce wanted pushes) f own asked k led =
         where_led (reaches (length wanted) s.stack) (asks_if (f (take (length wanted) s.stack)) (with_stack (drop (length wanted) s.stack) s))
         (asks_if_led (f (take (length wanted) s.stack)) (λ m. asked m (take (length wanted) s.stack) (take_below n (length wanted) s.stack (k.holds.stack m))) (stacked (drop (length wanted) s.stack) (λ m. drop_below n (length wanted) s.stack (k.holds.stack m)) k))
+    table_led (Takes c pushes) f own asked k led = led
     table_led Other f own asked k led = led
 
     causes_led : {s : State} (phase : ℕ) (v : Obj) → (Low → v.number < n) → Stands s → Led (causes phase v s)
@@ -353,6 +355,7 @@ module _ (first : Option PyBaseExceptionRef) (n : ℕ) (Kept Low : Type 0) where
     answer_led (Moves c places) own v low k led = tt
     answer_led (AsksOnce wanted None) own v low k led = behind 0 k
     answer_led (AsksOnce wanted (Some kind)) own v low k led = behind 0 (topped v low k)
+    answer_led (Takes c pushes) own v low k led = led
     answer_led Other own v low k led = led
 
 -- the place behind the unit that was begun last, where a frame makes a step that expects this
@@ -379,7 +382,7 @@ module _ (first : Option PyBaseExceptionRef) (Kept Low : Type 0) (objects : List
       by_unit None = tt
       by_unit (Some u) =
           let i : ℕ = with_byte s.prefix u.arg in
-          table_led first (length objects) Kept Low s.at (suc s.at) (effect u.op i) (asked setting u.op i) (act_own setting u.op i (begun s)) (λ m. asked_below (length objects) setting u.op i (globals m)) now
+          table_led first (length objects) Kept Low s.at (suc s.at) (row_effect u.op i) (asked setting u.op i) (act_own setting u.op i (begun s)) (λ m. asked_below (length objects) setting u.op i (globals m)) now
           (own_led first (length objects) Kept Low s.at (suc s.at) setting u.op i (begun s) now)
   moves_led (expect.Answer w) globals low = tt
   moves_led expect.Resume globals low = tt
@@ -392,7 +395,7 @@ module _ (first : Option PyBaseExceptionRef) (Kept Low : Type 0) (objects : List
       by_unit None = tt
       by_unit (Some u) =
           let i : ℕ = with_byte s.prefix u.arg in
-          answer_led first (length objects) Kept Low s.at s.last (effect u.op i) (answered_own u.op i v (waiting expect.Go s)) v (λ m. (low m).0) now
+          answer_led first (length objects) Kept Low s.at s.last (row_effect u.op i) (answered_own u.op i v (waiting expect.Go s)) v (λ m. (low m).0) now
           (own_answer_led first (length objects) Kept Low s.at s.last u.op i v (waiting expect.Go s) (λ m. (low m).0) now)
   moves_led (expect.Heard (got.Stop v)) globals low = tt
   moves_led (expect.Heard (got.Raise e)) globals low =

@@ -23,7 +23,8 @@ use Rattle.py_check.specs.Depths.{deepest}
 use Rattle.py_check.specs.Notes.{level_of, handler_of, pending_of, block_number, same_pending}
 use Rattle.py_check.specs.Operands.{carried}
 use Rattle.py_check.specs.Sheet.{sheet_of}
-use Rattle.py_check.specs.Effects.{Effect, Moves, AsksOnce, Other, effect}
+use Rattle.py_check.specs.Effects.{Effect, Moves, AsksOnce, Takes, Other}
+use Rattle.py_rows.specs.Table.{row_effect}
 use Rattle.py_check.specs.Landing.{handlers_land}
 use Rattle.py_rows.specs.declared.block.Block.{Block}
 use Rattle.py_rows.specs.declared.block.BlockType.{BlockType}
@@ -164,11 +165,12 @@ left_own _ i phase ks bs = None
 abbrev pub left_by : Effect → Option Waiting → List Kind → List BlockNote → Option Waiting
 left_by (Moves n places) own ks bs = None
 left_by (AsksOnce taken pushes) own ks bs = Some (record { kinds = drop (length taken) ks; blocks = bs; wanted = wanted_of pushes })
+left_by (Takes n pushes) own ks bs = own
 left_by Other own ks bs = own
 
 -- what is left while an instruction waits, in this phase, with its operand
 abbrev pub left_of : Instruction → ℕ → ℕ → List Kind → List BlockNote → Option Waiting
-left_of op i phase ks bs = left_by (effect op i) (left_own op i phase ks bs) ks bs
+left_of op i phase ks bs = left_by (row_effect op i) (left_own op i phase ks bs) ks bs
 
 -- a frame fits the note of the unit that waits but for what that took
 pub record FitsBut (objects : List Payload) (code : Annotated) (w : Wanted) (s : State) : Type 0 where

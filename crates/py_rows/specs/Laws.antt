@@ -17,7 +17,7 @@ use Rattle.py_rows.specs.Slot.{KeepsSlot}
 use Rattle.py_check.specs.declared.note.Kind.TheVariants as kind
 use Rattle.py_rows.specs.Answers.{HasKind}
 use Rattle.py_rows.specs.Receiving.{moves}
-use Rattle.py_check.specs.Typing.{is_generator}
+use Rattle.py_check.specs.Running.{is_generator}
 use Rattle.py_rows.specs.Questions.{UnitAsks, UnitYields}
 use Rattle.py_rows.specs.RunOfRows.{Steps, Runs, started}
 use Rattle.py_rows.specs.Below.{HearsBelow, TellsBelow, HoldsBelow}

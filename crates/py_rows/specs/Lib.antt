@@ -8,8 +8,9 @@ pub mod Unwinding
 -- which answers requests want
 pub mod Answers
 pub mod Suits
--- what instructions ask, what they do, and what they do with an answer
+-- what instructions ask, what they do, by the table of effects or in a way of their own, and what they do with an answer
 pub mod Asked
+pub mod Table
 pub mod Rows
 pub mod Receiving
 -- which instruction may ask what

@@ -12,7 +12,8 @@ use Rattle.py_objects.specs.declared.request.Request.TheVariants as request
 use Rattle.py_objects.specs.declared.event.GotAnswer.{GotAnswer}
 use Rattle.py_objects.specs.declared.event.GotAnswer.TheVariants as got
 use Rattle.py_objects.specs.Objects.{Obj, as_exception}
-use Rattle.py_check.specs.Effects.{Effect, Moves, AsksOnce, Other, effect}
+use Rattle.py_check.specs.Effects.{Effect, Moves, AsksOnce, Takes, Other}
+use Rattle.py_rows.specs.Table.{row_effect}
 use Rattle.py_check.specs.Taking.{at_place}
 use Rattle.py_rows.specs.declared.block.BlockType.TheVariants.{Finally}
 use Rattle.py_rows.specs.declared.block.UnwindReason.TheVariants as reason
@@ -39,6 +40,7 @@ passes_if b e s = if b then Goes (next s) else unwinds (reason.Raising (as_excep
 abbrev pub answered_by : Effect → Move → Obj → State → Move
 answered_by (Moves n places) own v s = Plainly Stuck
 answered_by (AsksOnce wanted pushes) own v s = Plainly (Goes (with_stack (at_place (option_map (λ k. v) pushes) ++ s.stack) (next s)))
+answered_by (Takes n pushes) own v s = own
 answered_by Other own v s = own
 
 -- the next question of a unit
@@ -81,7 +83,7 @@ answered_own _ i v s = Plainly Stuck
 
 -- the same of each instruction
 abbrev pub answered : Instruction → ℕ → Obj → State → Move
-answered op i v s = answered_by (effect op i) (answered_own op i v s) v s
+answered op i v s = answered_by (row_effect op i) (answered_own op i v s) v s
 
 -- the same of a unit, with its operand
 abbrev pub unit_answered : Option CodeUnit → Obj → State → Move

@@ -19,7 +19,8 @@ use Rattle.py_objects.specs.declared.request.Request.TheVariants as request
 use Rattle.py_objects.specs.Objects.{Obj, Name, as_object}
 use Rattle.py_objects.specs.Own.{Asks, Rounds, Yields}
 use Rattle.py_objects.specs.Callees.{call_request}
-use Rattle.py_check.specs.Effects.{Effect, Moves, AsksOnce, Other, effect}
+use Rattle.py_check.specs.Effects.{Effect, Moves, AsksOnce, Takes, Other}
+use Rattle.py_rows.specs.Table.{row_effect}
 use Rattle.py_check.specs.Taking.{picked}
 use Rattle.py_rows.specs.declared.block.Block.{Block}
 use Rattle.py_rows.specs.declared.block.BlockType.{BlockType}
@@ -94,6 +95,7 @@ asks_once n f s = where_there (reaches n s.stack) (asks_if (f (take n s.stack)) 
 abbrev pub acts_by : Effect → (List Obj → Option Request) → Move → State → Move
 acts_by (Moves n places) f own s = Plainly (moves_entries n places s)
 acts_by (AsksOnce wanted pushes) f own s = Plainly (asks_once (length wanted) f s)
+acts_by (Takes n pushes) f own s = own
 acts_by Other f own s = own
 
 -- a local is pushed; one that is unset is asked for by its name
@@ -269,7 +271,7 @@ act_own setting _ i s = Plainly Stuck
 
 -- what an instruction does, with its operand
 abbrev pub act : Setting → Instruction → ℕ → State → Move
-act setting op i s = acts_by (effect op i) (asked setting op i) (act_own setting op i s) s
+act setting op i s = acts_by (row_effect op i) (asked setting op i) (act_own setting op i s) s
 
 -- a unit is begun, and does what its instruction does
 abbrev pub unit_move : Setting → Option CodeUnit → State → Move

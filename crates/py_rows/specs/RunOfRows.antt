@@ -10,6 +10,7 @@ use Rattle.py_objects.specs.declared.payload.ExceptionBody.{ExceptionBody}
 use Rattle.py_objects.specs.Objects.{Obj, HasPayload, IsTraceback, as_object, class_object}
 use Rattle.py_objects.specs.Callees.{is_manager}
 use Rattle.py_objects.specs.Own.{Own, Resumes, Gets}
+use Rattle.py_code.specs.declared.flags.CodeFlags.{CodeFlags}
 use Rattle.py_code.specs.declared.flags.TheConstants.CodeFlags.{IS_GENERATOR, IS_COROUTINE}
 use Rattle.py_check.specs.WholeCode.{counts_if}
 use Rattle.py_check.specs.declared.note.Kind.TheVariants as kind
@@ -35,7 +36,7 @@ MayLead objects (Resolves v f) done = (p : Payload) × HasPayload objects v p ×
 MayLead objects (Exits e f) done = (t : Obj) × (v : Obj) × (b : Obj) × IsExit objects e t v b × (f t v b ≡ done)
 
 -- the flags of generators and coroutines: an exception may be thrown into their frames, also into one that hasn't begun
-abbrev pub is_thrown_into : ℕ → Bool
+abbrev pub is_thrown_into : CodeFlags → Bool
 is_thrown_into flags = (counts_if flags IS_GENERATOR == 1) || (counts_if flags IS_COROUTINE == 1)
 
 -- an input that a frame may hear, and what it expects then

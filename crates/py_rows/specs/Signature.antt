@@ -1,6 +1,7 @@
 -- The parameters of a code, and what its activations are.
 use Rattle.std.specs.Prelude.{ℕ, ◌==◌, Bool, true, false, Option, Some, None, List, [], map, take}
 use Rattle.py_code.specs.declared.code.PyCode.{PyCode}
+use Rattle.py_code.specs.declared.flags.CodeFlags.{CodeFlags}
 use Rattle.py_code.specs.declared.flags.TheConstants.CodeFlags.{IS_GENERATOR, IS_COROUTINE}
 use Rattle.py_check.specs.WholeCode.{counts_if}
 use Rattle.py_objects.specs.declared.payload.CoroKind.{CoroKind}
@@ -26,5 +27,5 @@ kind_by false true = Some Coroutine
 kind_by true true = Some AsyncGen
 
 -- those of a code with these flags
-abbrev pub kind_of : (flags : ℕ) → Option CoroKind
+abbrev pub kind_of : CodeFlags → Option CoroKind
 kind_of flags = kind_by (counts_if flags IS_GENERATOR == 1) (counts_if flags IS_COROUTINE == 1)

@@ -3,7 +3,9 @@ use Rattle.std.specs.Prelude.{ℕ, ◌<◌, Some, List, ◌≡◌, slice_get, le
 use Rattle.py_code.specs.declared.code.PyCode.{PyCode}
 use Rattle.py_code.specs.declared.names.NameId.{NameId}
 use Rattle.py_check.specs.declared.annotated.Annotated.{Annotated}
+use Rattle.py_check.specs.Sheet.{sheet_of}
 use Rattle.py_check.specs.Typing.{IsTyped}
+use Rattle.py_check.specs.Running.{AllRun}
 
 -- each of these names is a place in the table
 abbrev pub ArePlaces : List (List ℕ) → List NameId → Type 0
@@ -14,7 +16,9 @@ pub record AreNames (names : List (List ℕ)) (code : PyCode) : Type 0 where
   pub locals : ArePlaces names code.code.varnames.items
   pub globals : ArePlaces names code.code.names.items
 
--- a code that frames can run: it keeps the rules, and its names are in the table
+-- a code that frames can run: it keeps the rules, behind codes of these shapes; each of its units runs so far; and its names are in the table
 pub record IsSound (names : List (List ℕ)) (code : Annotated) : Type 0 where
-  pub typed : IsTyped code
+  pub shapes : List ℕ
+  pub typed : IsTyped shapes (sheet_of code)
+  pub runs : AllRun (sheet_of code)
   pub named : AreNames names code.code

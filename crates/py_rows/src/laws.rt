@@ -4,7 +4,7 @@ ghost use Rattle.py_rows.specs.Laws.{EndsKeepSlot, EventsTold, FitsGrow, FitsWit
 
 /// States laws, and does nothing.
 ///
-/// A frame of a code that keeps the rules fits its notes before it has begun. It is never stuck: there is a step that it can
+/// A frame of a code that keeps the rules, and each of whose units runs so far, fits its notes before it has begun. It is never stuck: there is a step that it can
 /// make, among these objects or more, as a constant may have to be made; and it fits behind what it does next. It fits behind
 /// each step, also one that it hears, and so wherever a run comes to; and where it fits it is within the sizes. Each event that it
 /// tells is one that its unit may tell.

@@ -5,6 +5,7 @@ use Rattle.std.specs.List.{list_all}
 use Rattle.std.proofs.lemmas.List.{map-append, length-map, length-take-le, take_all}
 use Rattle.std.proofs.lemmas.Grind.{take_at_read}
 use Rattle.std.proofs.lemmas.Option.{slice_get-map, slice_get-get_or}
+use Rattle.py_code.specs.declared.flags.CodeFlags.{CodeFlags}
 use Rattle.py_code.specs.declared.flags.TheConstants.CodeFlags.{HAS_VARARGS, HAS_VARKEYWORDS}
 use Rattle.py_code.specs.declared.names.NameId.{NameId}
 use Rattle.py_check.specs.declared.annotated.Annotated.{Annotated}
@@ -13,7 +14,7 @@ use Rattle.py_objects.specs.declared.payload.CoroKind.{CoroKind}
 use Rattle.py_objects.specs.Objects.{Obj, Name, numbers, AllBelow}
 use Rattle.py_rows.specs.Asked.{name_in}
 use Rattle.py_rows.specs.Signature.{characters, kind_of, params_of}
-use Rattle.py_rows.specs.Sound.{AreNames, ArePlaces, IsSound}
+use Rattle.py_rows.specs.Sound.{ArePlaces, IsSound}
 use Rattle.py_objects.proofs.GrowthLemmas.{slice_get_grown}
 use Rattle.py_tree.specs.declared.body.BodyKind.{BodyKind}
 use Rattle.py_tree.specs.declared.body.BodyKind.TheVariants as kind
@@ -29,7 +30,7 @@ use Rattle.py_run.proofs.BoundLemmas.{AreSigned}
 use Rattle.py_objects.proofs.NewLemmas.{newest}
 use Rattle.py_meaning.specs.Whole.{signature_of}
 use Rattle.py_script.specs.Compiled.{AreCompiled}
-use Rattle.py_script.specs.Loaded.{AreChecked}
+use Rattle.py_script.specs.Loaded.{AreChecked, IsLoadable}
 use Rattle.py_meaning.proofs.Entries.{one_more}
 
 -- the entry of a list that is mapped
@@ -59,7 +60,9 @@ sound_continues : (names names' : List (List ℕ)) (c : Annotated) → Continues
 sound_continues names names' c (more, is) sound =
     let size : length names' ≡ length names + length more = ap length is ∙ length-append names more in
     record {
+      shapes = sound.shapes;
       typed = sound.typed;
+      runs = sound.runs;
       named = record {
         locals = λ i id at. let low = sound.named.locals i id at in omega (arith, low, size);
         globals = λ i id at. let low = sound.named.globals i id at in omega (arith, low, size);
@@ -95,6 +98,7 @@ fits_continues names names' c t grows fits = record {
   arity = fits.arity;
   params = params_continue names names' c t grows fits;
   sound = sound_continues names names' c grows fits.sound;
+  typed = fits.typed;
   traces = λ table globals closure objects slot args ts s on. fits.traces table globals closure objects slot args ts s (continues_on names names' table grows on);
 }
 
@@ -110,8 +114,8 @@ fits_driven names c t fits = subst IsDriven (sym fits.kind) (kind_driven t.kind)
 -- the code of a body takes positional arguments alone
 pub plain_positional : (c : Annotated) (t : Tree) → IsPlain c t → TakesPositional c.code.code
 plain_positional c t plain = record {
-  varargs = ap (λ (flags : ℕ). counts_if flags HAS_VARARGS) plain.flags ∙ no_varargs t.kind;
-  varkeywords = ap (λ (flags : ℕ). counts_if flags HAS_VARKEYWORDS) plain.flags ∙ no_varkeywords t.kind;
+  varargs = ap (λ (flags : CodeFlags). counts_if flags HAS_VARARGS) plain.flags ∙ no_varargs t.kind;
+  varkeywords = ap (λ (flags : CodeFlags). counts_if flags HAS_VARKEYWORDS) plain.flags ∙ no_varkeywords t.kind;
   keyword_only = plain.kwonlyarg_count;
   cells = ap (list_all takes_none) plain.cells.1;
 }
@@ -177,11 +181,11 @@ checked_compiled ts cs all = record {
       (k.0.code, entry_mapped (λ (a : Annotated). a.code) cs.codes i k.0 k.1, (k.0.notes, k.2));
 }
 
--- the names of each code are in the table
-pub codes_named : (ts : List Tree) (cs : Checked) → AreChecked ts cs → All (λ (code : Annotated). AreNames cs.names code.code) cs.codes
-codes_named ts cs all i c low =
+-- the machine takes each code
+pub codes_loadable : (ts : List Tree) (cs : Checked) → AreChecked ts cs → All (IsLoadable cs.names) cs.codes
+codes_loadable ts cs all i c low =
     let (t, at, fits) = code_fits ts cs i (get_or cs.codes i c) all (slice_get-get_or cs.codes i c low) in
-    fits.sound.named
+    record { typed = fits.typed; runs = fits.sound.runs; named = fits.sound.named }
 
 -- the signatures of the codes are those of the bodies
 pub codes_signed : (ts : List Tree) (cs : Checked) → AreChecked ts cs → AreSigned (signatures_of cs) (map signature_of ts)

@@ -6,6 +6,10 @@ use Rattle.py_objects.specs.declared.payload.ClassBody.{ClassBody}
 use Rattle.py_objects.specs.Objects.{Obj, HasPayload}
 use Rattle.py_objects.specs.Singletons.{none_object}
 use Rattle.py_check.specs.declared.annotated.Annotated.{Annotated}
+use Rattle.py_check.specs.Sheet.{sheet_of}
+use Rattle.py_check.specs.Typing.{IsTyped}
+use Rattle.py_check.specs.Running.{AllRun}
+use Rattle.py_rows.specs.Sound.{AreNames}
 use Rattle.py_tree.specs.Tree.{Tree}
 use Rattle.py_laid.specs.Fits.{Fits}
 use Rattle.py_grammar.specs.declared.script.Declaration.{Declaration}
@@ -37,6 +41,12 @@ pub record AreChecked (ts : List Tree) (cs : Checked) : Type 0 where
 -- these are the codes of the functions among declarations, with their names
 abbrev pub AreCodesOf : List Declaration → List (List ℕ) → List Annotated → Type 0
 AreCodesOf declarations names codes = AreChecked (functions_in (map decl_of declarations)) (record { names = names; codes = codes })
+
+-- a code that the machine takes behind whatever codes: it keeps the rules, each of its units runs so far, and its names are in the table
+pub record IsLoadable (names : List (List ℕ)) (code : Annotated) : Type 0 where
+  pub typed : (shapes : List ℕ) → IsTyped shapes (sheet_of code)
+  pub runs : AllRun (sheet_of code)
+  pub named : AreNames names code.code
 
 -- with more codes
 abbrev pub with_codes : Machine → List Annotated → Machine

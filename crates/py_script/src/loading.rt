@@ -6,11 +6,10 @@ ghost use Rattle.py_objects.specs.Objects.{HasPayload, pair_numbers, AllBelow};
 ghost use Rattle.py_laid.specs.Fits.{Fits, Continues};
 ghost use Rattle.py_tree.specs.Compilable.{IsCompilable};
 ghost use Rattle.py_tree.specs.Views.{tree_of};
-ghost use Rattle.py_rows.specs.Sound.{AreNames};
 ghost use Rattle.py_vm.specs.Codes.{CodeIsAnswered};
 ghost use Rattle.py_grammar.specs.Script.{decl_of, decls_of};
 ghost use Rattle.py_grammar.specs.WellFormed.{IsWellFormed};
-ghost use Rattle.py_script.specs.Loaded.{AreCodesOf, with_codes};
+ghost use Rattle.py_script.specs.Loaded.{AreCodesOf, IsLoadable, with_codes};
 ghost use Rattle.py_meaning.specs.Entries.{AreDeclared, AreWellDeclared};
 ghost use Rattle.py_script.specs.Session.{AreBindings, BindsAll, HasDeclarations, IsLoaded, IsSessionOf, IsValue, OnlyGrew, TakesGlobals};
 ghost use Rattle.py_run.specs.Coming.{IsDone};
@@ -21,7 +20,7 @@ use crate::declaring::{add_declarations, object_named};
 use crate::fault::LoadFault;
 use crate::session::Session;
 use py_body::compile_body;
-use py_check::CheckedCode;
+use py_check::{CheckFault, CheckedCode, Shapes, check_code};
 use py_code::{Names, NoMemory, PyText};
 use py_grammar::{Declaration, Script};
 use py_objects::{ObjList, PairList, Payload, PyObjectRef};
@@ -29,23 +28,28 @@ use py_tree::Body;
 use py_vm::VirtualMachine;
 use std::alloc::Global;
 
-/// The code of a body, which has this number. A body has no bodies inside of it so far.
+/// The code of a body, checked as the code behind others of these shapes. A body has no bodies inside of it so far, and what it is compiled
+/// to keeps the rules, whatever the shapes.
 fn compile_one(
     alloc: Global,
     names: &mut Names,
     body: &Body,
-    number: usize,
+    shapes: &Shapes,
 ) -> Result<CheckedCode, NoMemory>
     requires { IsCompilable (tree_of body.now) }
     ensures fits { IfOk result (λ code. Fits names.new code (tree_of body.now)) }
     ensures answered { IfOk result (λ code. CodeIsAnswered code.code) }
     ensures grows { Continues names.old names.new }
 {
-    let codes = compile_body(alloc, names, body, number)?;
+    let codes = compile_body(alloc, names, body, shapes.len())?;
     let Some(code) = codes.into_vec().pop() else {
         unreachable!();
     };
-    Ok(CheckedCode::of(code))
+    match check_code(alloc, code, shapes) {
+        Ok(code) => Ok(code),
+        Err(CheckFault::NoMemory) => Err(NoMemory),
+        Err(CheckFault::Breaks(_)) => unreachable!(),
+    }
 }
 
 /// The codes of the functions among the declarations, in order, whose names go into one table.
@@ -59,19 +63,22 @@ fn compile_all(
     ensures answered { IfOk result (λ codes. All (λ code. CodeIsAnswered code.code) codes.items) }
 {
     let mut codes = Vec::new(alloc);
+    let mut shapes = Shapes::new(alloc);
     for declaration in declarations {
         let Declaration::Function(body) = declaration else {
             continue;
         };
-        let code = compile_one(alloc, names, body, codes.len())?;
+        let code = compile_one(alloc, names, body, &shapes)?;
+        let free = code.code().code.freevars.len();
         codes.push(code)?;
+        shapes.push(free)?;
     }
     Ok(codes)
 }
 
 /// Puts the codes behind those of the machine.
 fn add_codes(vm: &mut VirtualMachine, codes: Vec<CheckedCode>) -> Result<(), NoMemory>
-    requires named { All (λ code. AreNames vm.old.checked.names code.code) codes.items }
+    requires loadable { All (IsLoadable vm.old.checked.names) codes.items }
     requires answered { All (λ code. CodeIsAnswered code.code) codes.items }
     ensures { OnOk result (vm.new ≡ with_codes vm.old codes.items) }
 {

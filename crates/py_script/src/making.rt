@@ -6,6 +6,7 @@ ghost use Rattle.py_script.specs.Making.{making_in, EndsMade, IsEndOfRun, IsWhol
 
 use crate::fault::{CommandResult, ScriptFault};
 use crate::session::run_drives;
+use crate::words::TURNS;
 use py_code::NoMemory;
 use py_grammar::{ParseFault, parse_script};
 use py_make::{Summary, make_script};
@@ -26,7 +27,7 @@ pub(crate) fn make<K: Sink>(alloc: Global, sink: &mut K, seed: u64, count: u64) 
     }
 }
 
-/// The journal of the whole run of a made script. The script ends by itself, so as many turns are given as can be.
+/// The journal of the whole run of a made script.
 fn run_made(alloc: Global, seed: u64, count: u64) -> Result<Journal, NoMemory>
     requires { count ≤ most_groups }
     ensures { IfOk result (IsWholeBy (made_text seed count)) }
@@ -38,12 +39,11 @@ fn run_made(alloc: Global, seed: u64, count: u64) -> Result<Journal, NoMemory>
         Err(ParseFault::Malformed(_)) => unreachable!(),
         Err(ParseFault::NoMemory) => return Err(NoMemory),
     };
-    let (journal, ran) = run_drives(alloc, &script, u64::MAX);
-    // For the prover: a list's length has 63 bits, so the turns are never spent.
-    let _events = journal.events.as_slice().len();
+    let (journal, ran) = run_drives(alloc, &script, TURNS);
     match ran {
         Ok(()) => Ok(journal),
         Err(VmFault::NoMemory) => Err(NoMemory),
+        // Each text that is made has a run to its end, of at most 37 events a group, and no run of a script is longer than a whole one.
         Err(VmFault::OutOfTurns) => unreachable!(),
         // A session is run once, and the raise of a drive is its answer.
         Err(VmFault::Failed) => unreachable!(),

@@ -10,6 +10,9 @@ use py_make::MOST_GROUPS;
 use std::alloc::Global;
 use std::marker::Model;
 
+/// As many turns as a run has where the words don't say.
+pub(crate) const TURNS: u64 = 1_000_000;
+
 /// Words in order, seen as the list of their texts.
 #[derive(Drop)]
 pub struct Words {
@@ -104,7 +107,7 @@ pub fn command_of(words: &Words) -> Command
     ensures few { HasFewGroups result }
 {
     match (words.len(), words.get(0), words.get(1), words.get(2)) {
-        (1, Some(word), _, _) if word == "run" => Command::Run { turns: 1_000_000 },
+        (1, Some(word), _, _) if word == "run" => Command::Run { turns: TURNS },
         (2, Some(word), Some(turns), _) if word == "run" => run_with(turns),
         (3, Some(word), Some(seed), Some(count)) if word == "make" => make_with(seed, count),
         _ => Command::Usage,

@@ -2,19 +2,17 @@
 
 ghost use Rattle.std.specs.Prelude.{◌≡◌, ◌≤◌, ◌<◌, false, length, IfOk, OnOk};
 ghost use Rattle.py_objects.specs.Objects.{payload_numbers, result_numbers, AllBelow, IsMade};
-ghost use Rattle.py_rows.specs.Sound.{AreNames};
 ghost use Rattle.py_run.specs.First.{IsAddable};
-ghost use Rattle.py_vm.specs.Codes.{CodeIsAnswered};
 ghost use Rattle.py_vm.specs.Machine.{IsCallable};
 ghost use Rattle.py_tree.specs.Compilable.{IsCompilable};
 ghost use Rattle.py_tree.specs.Views.{tree_of};
-ghost use Rattle.worked_host.specs.Host.{IsReady};
+ghost use Rattle.worked_host.specs.Host.{IsReady, IsTaken};
 
 use crate::fault::HostFault;
 use crate::function::{count_down, echo};
 use py_body::{Body, compile_body};
-use py_check::CheckedCode;
-use py_code::{Names, PyText, text_of_str, utf8_of};
+use py_check::{CheckFault, CheckedCode, Shapes, check_code};
+use py_code::{Names, NoMemory, PyText, text_of_str, utf8_of};
 use py_objects::{DriveAnswer, FunctionBody, ObjList, Payload, PyObjectRef};
 use py_vm::{Drive, Journal, VirtualMachine};
 use std::alloc::Global;
@@ -30,20 +28,23 @@ pub(crate) struct Host {
 /// The code of a body, whose names go into the table: the machine answers all that it may ask.
 fn checked_code(alloc: Global, names: &mut Names, body: &Body) -> Result<CheckedCode, HostFault>
     requires { IsCompilable (tree_of body.now) }
-    ensures named { IfOk result (λ code. AreNames names.new code.code) }
-    ensures answered { IfOk result (λ code. CodeIsAnswered code.code) }
+    ensures { IfOk result (IsTaken names.new) }
 {
     let codes = compile_body(alloc, names, body, 0)?;
     let Some(code) = codes.into_vec().pop() else {
         unreachable!();
     };
-    Ok(CheckedCode::of(code))
+    let shapes = Shapes::new(alloc);
+    match check_code(alloc, code, &shapes) {
+        Ok(code) => Ok(code),
+        Err(CheckFault::NoMemory) => Err(HostFault::from(NoMemory)),
+        Err(CheckFault::Breaks(_)) => unreachable!(),
+    }
 }
 
 /// Adds a code to a machine, and gives its place.
 fn add_code(vm: &mut VirtualMachine, code: CheckedCode) -> Result<usize, HostFault>
-    requires named { AreNames vm.old.checked.names code.code }
-    requires answered { CodeIsAnswered code.code }
+    requires { IsTaken vm.old.checked.names code }
     ensures works { OnOk result (vm.new.failed ≡ false) }
     ensures there { IfOk result (λ place. place < length vm.new.checked.codes) }
 {
@@ -57,8 +58,7 @@ fn add_function(
     code: CheckedCode,
     name: &PyText,
 ) -> Result<PyObjectRef, HostFault>
-    requires named { AreNames vm.old.checked.names code.code }
-    requires answered { CodeIsAnswered code.code }
+    requires { IsTaken vm.old.checked.names code }
     ensures works { OnOk result (vm.new.failed ≡ false) }
     ensures there { IfOk result (λ function. function.number < length vm.new.objects) }
 {

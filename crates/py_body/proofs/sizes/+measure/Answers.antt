@@ -1,6 +1,4 @@
-use Rattle.std.proofs.Common.{◌≡◌, ◌+◌, ◌*◌, ◌<◌, ◌≤◌, ℕ, ap, sym, ◌∙◌, subst, take, arith, rules}
-use Rattle.std.proofs.lemmas.List.{take_all}
-use Rattle.py_tree.specs.declared.expr.Expr.{Expr as OwnExpr}
+use Rattle.std.proofs.Common.{◌≡◌, ◌+◌, ◌*◌, ◌<◌, ◌≤◌, ap, sym, ◌∙◌, subst, take, arith, rules}
 use Rattle.py_tree.specs.Tree.{Expr, Operate}
 use Rattle.py_tree.specs.ExprViews.{expr_of, exprs_of, list_exprs}
 use Rattle.py_tree.specs.Compilable.{parts, all_parts}

@@ -1,5 +1,5 @@
 use Rattle.std.proofs.Common.{◌≡◌, length, slice_get}
-use Rattle.py_check.specs.Runs.{kinds_of}
+use Rattle.py_check.specs.KindRuns.{kinds_of}
 use Rattle.py_check.proofs.kinds.kind_at.Given as goal
 
 abbrev pub invariant-runs_left : goal.invariant-runs_left

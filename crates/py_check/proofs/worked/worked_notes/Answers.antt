@@ -1,9 +1,5 @@
-use Rattle.std.proofs.Common.{◌≡◌, true, false, refl}
-use Rattle.py_code.specs.declared.literal.BuiltinFn.{BuiltinFn}
-use Rattle.py_code.specs.declared.literal.BuiltinFn.TheVariants.{Send, Throw, Close}
-use Rattle.py_check.specs.Constants.{is_driving}
-use Rattle.py_check.specs.Worked.{Typed, Breaks, own_loaded, own_returned}
-use Rattle.py_check.proofs.WorkedLemmas.{typed, breaks, breaks_first, breaks_whole}
+use Rattle.std.proofs.Common.{refl}
+use Rattle.py_check.proofs.WorkedLemmas.{typed, breaks, breaks_whole}
 use Rattle.py_check.proofs.worked.worked_notes.Goals as goal
 
 pub returns-clause-sum_keeps : goal.returns-clause-sum_keeps
@@ -36,14 +32,11 @@ returns-clause-no_value c = breaks _ _ refl refl refl
 pub returns-clause-no_end : goal.returns-clause-no_end
 returns-clause-no_end c = breaks _ _ refl refl refl
 
-pub returns-clause-unknown : goal.returns-clause-unknown
-returns-clause-unknown c = breaks_whole _ refl
-
 pub returns-clause-subtracts : goal.returns-clause-subtracts
 returns-clause-subtracts c = typed _ refl refl
 
 pub returns-clause-multiplies : goal.returns-clause-multiplies
-returns-clause-multiplies c = breaks _ _ refl refl refl
+returns-clause-multiplies c = typed _ refl refl
 
 pub returns-clause-compares : goal.returns-clause-compares
 returns-clause-compares c = typed _ refl refl
@@ -60,41 +53,11 @@ returns-clause-no_global c = breaks_whole _ refl
 pub returns-clause-loads_truth : goal.returns-clause-loads_truth
 returns-clause-loads_truth c truth = typed _ refl refl
 
-pub returns-clause-loads_tuple : goal.returns-clause-loads_tuple
-returns-clause-loads_tuple c items = breaks_first _ refl
-
-driving_typed : (f : BuiltinFn) → is_driving f ≡ true → Typed (own_loaded f)
-driving_typed Send is = typed _ refl refl
-driving_typed Throw is = typed _ refl refl
-driving_typed Close is = typed _ refl refl
-driving_typed _ is = cc
-
-others_break : (f : BuiltinFn) → is_driving f ≡ false → Breaks (own_loaded f) 2
-others_break Send other = cc
-others_break Throw other = cc
-others_break Close other = cc
-others_break _ other = breaks _ _ refl refl refl
-
-others_return : (f : BuiltinFn) → is_driving f ≡ false → Breaks (own_returned f) 2
-others_return Send other = cc
-others_return Throw other = cc
-others_return Close other = cc
-others_return _ other = breaks _ _ refl refl refl
-
-pub returns-clause-loads_driving : goal.returns-clause-loads_driving
-returns-clause-loads_driving c f is = driving_typed f is
-
 pub returns-clause-loads_builtin : goal.returns-clause-loads_builtin
-returns-clause-loads_builtin c f other = others_break f other
+returns-clause-loads_builtin c f = typed _ refl refl
 
-pub returns-clause-loads_code : goal.returns-clause-loads_code
-returns-clause-loads_code c n = breaks_whole _ refl
-
-pub returns-clause-returns_tuple : goal.returns-clause-returns_tuple
-returns-clause-returns_tuple c items = breaks_first _ refl
-
-pub returns-clause-returns_builtin : goal.returns-clause-returns_builtin
-returns-clause-returns_builtin c f other = others_return f other
+pub returns-clause-no_earlier_code : goal.returns-clause-no_earlier_code
+returns-clause-no_earlier_code c = breaks_whole _ refl
 
 pub returns-clause-three_prefixes : goal.returns-clause-three_prefixes
 returns-clause-three_prefixes c = typed _ refl refl

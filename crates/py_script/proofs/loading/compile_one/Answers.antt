@@ -1,5 +1,8 @@
-use Rattle.std.proofs.Common.{subst, sym}
+use Rattle.std.proofs.Common.{subst, sym, ap, ◌∙◌}
+use Rattle.std.specs.Prelude.{Err}
 use Rattle.py_check.specs.declared.annotated.Annotated.{Annotated}
+use Rattle.py_check.specs.Sheet.{sheet_of}
+use Rattle.py_check.proofs.BreakingLemmas.{none_breaks}
 use Rattle.py_laid.specs.Code.{IsPlain}
 use Rattle.py_laid.specs.Fits.{Fits}
 use Rattle.py_laid.specs.Instructions.{UsesCompiled, is_compiled}
@@ -11,22 +14,29 @@ use Rattle.py_vm.proofs.CodesLemmas.{AreAnswered, code_answered}
 use Rattle.py_script.proofs.Declarations.{fits_driven, plain_positional}
 use Rattle.py_script.proofs.loading.compile_one.Goals as goal
 
-pub returns-clause-fits : goal.returns-clause-fits
-returns-clause-fits c =
+pub returns-in-Ok-clause-fits : goal.returns-in-Ok-clause-fits
+returns-in-Ok-clause-fits c =
     let fits = λ (code : Annotated). Fits c.compile_body.new.names code (tree_of c.args.body.now) in
-    subst fits (sym c.of.ensures) (last_of_each fits _ _ _ _ _ c.into_vec.ensures c.pop.ensures.items c.in-Some.is c.in_ok-codes.ensures.fits)
+    subst fits (sym c.in-Ok.ensures.ok) (last_of_each fits _ _ _ _ _ c.into_vec.ensures c.pop.ensures.items c.in-Some.is c.in_ok-codes.ensures.fits)
+
+-- the code keeps the rules
+pub unreachable-requires-in-Err-Breaks : goal.unreachable-requires-in-Err-Breaks
+unreachable-requires-in-Err-Breaks c =
+    let at = c.in-Err-Breaks.field-0-0 in
+    let fits = last_of_each (λ (code : Annotated). Fits c.compile_body.new.names code (tree_of c.args.body.now)) _ _ _ _ _ c.into_vec.ensures c.pop.ensures.items c.in-Some.is c.in_ok-codes.ensures.fits in
+    none_breaks c.args.shapes.now (sheet_of c.in-Some.code) at (fits.typed c.args.shapes.now) (c.check_code.ensures.breaks at (c.in-Err-Breaks.is ∙ ap Err c.in-Err-Breaks.field-0-is))
 
 -- the machine answers what code asks that bodies are compiled to
 compiled_answered : AreAnswered is_compiled
 compiled_answered = record { no_cause = compiled_raise }
 
-pub returns-clause-answered : goal.returns-clause-answered
-returns-clause-answered c =
+pub returns-in-Ok-clause-answered : goal.returns-in-Ok-clause-answered
+returns-in-Ok-clause-answered c =
     let names = c.compile_body.new.names in
     let tree = tree_of c.args.body.now in
     let uses = last_of_each (λ (code : Annotated). UsesCompiled code.code) _ _ _ _ _ c.into_vec.ensures c.pop.ensures.items c.in-Some.is c.in_ok-codes.ensures.uses in
     let fits = last_of_each (λ (code : Annotated). Fits names code tree) _ _ _ _ _ c.into_vec.ensures c.pop.ensures.items c.in-Some.is c.in_ok-codes.ensures.fits in
     let plain = last_of_each (λ (code : Annotated). IsPlain code tree) _ _ _ _ _ c.into_vec.ensures c.pop.ensures.items c.in-Some.is c.in_ok-codes.ensures.plain in
     let code : Annotated = c.in-Some.code in
-    subst (λ (code : Annotated). CodeIsAnswered code.code) (sym c.of.ensures)
+    subst (λ (code : Annotated). CodeIsAnswered code.code) (sym c.in-Ok.ensures.ok)
     (code_answered is_compiled compiled_answered code.code uses (plain_positional code tree plain) (fits_driven names code tree fits))

@@ -1,13 +1,11 @@
 use Rattle.std.proofs.Common.{◌∙◌, ap, length, List, map, sym, subst, arith}
 use Rattle.std.specs.Prelude.{All}
-use Rattle.py_check.specs.declared.annotated.Annotated.{Annotated}
-use Rattle.py_rows.specs.Sound.{AreNames}
 use Rattle.py_grammar.specs.Grammar.{Decl, functions_in}
 use Rattle.py_grammar.specs.Script.{decl_of}
 use Rattle.py_vm.specs.Machine.{Machine}
 use Rattle.py_meaning.specs.Entries.{AreWellDeclared}
-use Rattle.py_script.specs.Loaded.{AreChecked, HasObjects, with_codes}
-use Rattle.py_script.proofs.Declarations.{of_decls, codes_named}
+use Rattle.py_script.specs.Loaded.{AreChecked, HasObjects, IsLoadable, with_codes}
+use Rattle.py_script.proofs.Declarations.{of_decls, codes_loadable}
 use Rattle.py_script.proofs.Loaded.{has_declarations}
 use Rattle.py_script.proofs.loading.load_declarations.Goals as goal
 
@@ -19,7 +17,7 @@ add_codes-requires c =
     let declarations = c.as_slice-declarations.result.now in
     let checked : AreChecked (functions_in (map decl_of declarations)) (record { names = c.compile_all.new.names; codes = c.in_ok-codes.codes.items }) = c.in_ok-codes.ensures.checked in
     record {
-      named = subst (λ (m : Machine). All (λ (code : Annotated). AreNames m.checked.names code.code) c.in_ok-codes.codes.items) (sym c.in_ok-vm.ensures) (codes_named (functions_in (map decl_of declarations)) _ checked);
+      loadable = subst (λ (m : Machine). All (IsLoadable m.checked.names) c.in_ok-codes.codes.items) (sym c.in_ok-vm.ensures) (codes_loadable (functions_in (map decl_of declarations)) _ checked);
       answered = c.in_ok-codes.ensures.answered;
     }
 

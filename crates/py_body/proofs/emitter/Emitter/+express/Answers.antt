@@ -1,4 +1,4 @@
-use Rattle.std.proofs.Common.{◌≡◌, ◌+◌, ◌*◌, ◌<◌, ◌≤◌, ℕ, suc, ap, sym, ◌∙◌, subst, length, take, arith, rules}
+use Rattle.std.proofs.Common.{◌≡◌, ◌+◌, ◌*◌, ◌<◌, ◌≤◌, ℕ, ap, sym, ◌∙◌, subst, length, take, arith, rules}
 use Rattle.std.specs.Prelude.{OnOk}
 use Rattle.py_tree.specs.Tree.{Expr, Exprs, Operate}
 use Rattle.py_tree.specs.ExprViews.{expr_of, exprs_of, list_exprs}

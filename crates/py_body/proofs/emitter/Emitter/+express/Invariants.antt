@@ -1,5 +1,4 @@
 use Rattle.std.proofs.Common.{◌≡◌, ◌+◌, ◌*◌, take}
-use Rattle.py_tree.specs.Tree.{Operate}
 use Rattle.py_tree.specs.ExprViews.{expr_of, exprs_of, list_exprs}
 use Rattle.py_tree.specs.Compilable.{parts, all_parts}
 use Rattle.py_laid.specs.Code.{over}

@@ -1,5 +1,4 @@
-use Rattle.std.proofs.Common.{◌≡◌, ◌+◌, ◌≤◌, ap, ◌∙◌, add-one, arith}
-use Rattle.py_laid.specs.Code.{over}
+use Rattle.std.proofs.Common.{arith}
 use Rattle.py_body.specs.Emitting.{scope_of}
 use Rattle.py_body.proofs.ExpressionLemmas.{over-add}
 use Rattle.py_body.proofs.emitter.Emitter.put_callee.Goals as goal

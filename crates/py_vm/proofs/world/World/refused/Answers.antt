@@ -9,6 +9,11 @@ unreachable-requires-in_default-get c =
     code_not_none c.args.self.now.codes c.args.self.now.store.made c.args.callee c.in-Function.body c.requires.sound.runnable
     (function_read c.args.self.now.store.made c.args.callee c.entry.result.now c.in-Function.body c.entry.ensures c.in-Function.is) (sym (rw c.in_default-get.is at c.get.ensures))
 
+pub refusal-requires-clause-named : goal.refusal-requires-clause-named
+refusal-requires-clause-named c =
+    let runnable = c.requires.sound.runnable.each c.in-Function.body.code c.in-Some.code.now (sym c.in-Some.ensures) in
+    rw (c.names-names.ensures, c.code.ensures.value) runnable.named
+
 pub returns-in-Some-2 : goal.returns-in-Some-2
 returns-in-Some-2 c =
     unbound_refused c.args.self.now.codes c.args.self.now.generators c.args.at c.args.self.now.store.made c.args.callee c.in-Function.body c.in-Some.code.now c.args.given c.requires.sound.runnable

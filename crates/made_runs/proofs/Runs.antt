@@ -1,0 +1,120 @@
+-- Each text that is made is a script that has a whole run, whose journal is put together here.
+use Rattle.std.proofs.Common.{◌≡◌, ◌+◌, ◌*◌, ◌%◌, ◌^◌, ℕ, List, [], length, length-append, refl, sym, ap, subst, ◌∙◌}
+use Rattle.std.proofs.Common.{arith}
+use Rattle.std.specs.Prelude.{slice_get}
+use Rattle.py_objects.specs.declared.payload.Payload.{Payload}
+use Rattle.py_objects.specs.declared.event.Event.{Event}
+use Rattle.py_objects.specs.Objects.{event_numbers, AllBelow, AreNamed}
+use Rattle.py_lines.specs.declared.drive.DriveLine.{DriveLine}
+use Rattle.py_grammar.specs.Grammar.{Decl}
+use Rattle.py_grammar.specs.Lines.{lines}
+use Rattle.py_grammar.specs.Script.{Text, Spells}
+use Rattle.py_make.specs.Made.{made_text}
+use Rattle.py_make.proofs.ScriptLemmas.{drives_from}
+use Rattle.py_run.specs.Run.{Posed, State}
+use Rattle.py_run.specs.Coming.{IsDone}
+use Rattle.py_run.specs.declared.journal.Journal.{Journal}
+use Rattle.py_meaning.specs.Whole.{IsRunOf}
+use Rattle.made_runs.specs.Runs.{HaveRuns, most_events_of_a_group}
+use Rattle.made_runs.proofs.Lists.{Each, each_at, each_both}
+use Rattle.made_runs.proofs.Blocks.{Names}
+use Rattle.made_runs.proofs.Objects.{number_count, first_of_groups, base, decls, store, IsMore, are_objects}
+use Rattle.made_runs.proofs.Objects.{are_globals, store_fits, numbers_from, numbers_length, numbers_more, globals_object}
+use Rattle.made_runs.proofs.Scripts.{script_of}
+use Rattle.made_runs.proofs.Spelled.{spelled}
+use Rattle.made_runs.proofs.Reaching.{objects_from, asked_from, objects_many, objects_more, all_more, Reached}
+use Rattle.made_runs.proofs.Reaching.{reaches, none}
+
+module _ (count s : ℕ) where
+  -- the objects of the groups
+  abbrev own : List Payload
+  own = objects_from count s 0
+
+  -- the numbers and these: all that comes behind what all runs share
+  abbrev behind : List Payload
+  behind = all_more own
+
+  -- what the drives ask
+  abbrev asked : List Posed
+  asked = asked_from count s first_of_groups
+
+  -- the run of all groups
+  run : Reached asked own (drives_from count s 1) asked
+      (first_of_groups + 2 * count) (0 + most_events_of_a_group * count)
+  run = reaches asked own count s [] [] [] [] first_of_groups [] (none asked own) refl refl (omega arith)
+
+  -- these objects may come behind what all runs share
+  are_more : Each IsMore behind
+  are_more = each_both IsMore (numbers_from number_count 0) own (numbers_more number_count 0) (objects_more count s 0)
+
+  -- there are so many objects
+  store_long : length (store behind) ≡ first_of_groups + 2 * count
+  store_long =
+      let numbers_many = numbers_length number_count 0 in
+      let own_many = objects_many count s 0 in
+      omega (arith, numbers_many, own_many, length-append base behind, length-append (numbers_from number_count 0) own)
+
+  -- and all that is named is one of them
+  named : AreNamed (store behind) run.events
+  named =
+      let Below : Event → Type 0 = λ e. AllBelow (length (store behind)) (event_numbers e) in
+      let names : Names (length (store behind)) run.events =
+      subst (λ (n : ℕ). Names n run.events) (sym store_long) run.ended.names in
+      record {
+        in_events = λ i e at. each_at Below run.events names i e at;
+        in_payloads = λ i p at. (store_fits behind are_more i p at).0;
+      }
+
+  -- they are those of a run of the declarations and the drives
+  is_run : IsRunOf decls (drives_from count s 1) (store behind) run.events
+  is_run = record {
+    asked = asked;
+    are_asked = run.ended.asks;
+    globals = globals_object;
+    are_globals = are_globals behind;
+    run =
+        record {
+          comes = run.ended.comes;
+          tells = λ i a at.
+              run.ended.tells i a (ap (λ (st : State). slice_get st.made i) (sym run.ended.state) ∙ at);
+          named = named;
+        };
+    are_objects = are_objects behind are_more;
+  }
+
+  -- which is whole
+  is_done : IsDone (length (drives_from count s 1)) run.events
+  is_done = record {
+    done = ap (λ (st : State). st.done) run.ended.state ∙ sym run.ended.all;
+    idle = ap (λ (st : State). st.phase) run.ended.state;
+  }
+
+  -- the journal of this run
+  abbrev journal : Journal
+  journal = record {
+    events = run.events;
+    objects = store behind;
+    changes = [];
+    codes = record { names = []; codes = [] };
+  }
+
+-- each text that is made has a whole run
+pub have_runs : HaveRuns
+have_runs seed count low =
+    let s : ℕ = seed % 2 ^ 32 in
+    let text : Text = lines (made_text seed count) in
+    let j : Journal = journal count s in
+    let (script, declares, drives) = script_of (drives_from count s 1) in (
+      script,
+      j,
+      subst (λ (l : List Decl). Spells text l script.drives) (sym declares)
+          (subst (Spells text decls) (sym drives) (spelled seed count low)),
+      record {
+        run =
+            subst (λ (l : List Decl). IsRunOf l script.drives j.objects j.events) (sym declares)
+            (subst (λ (l : List DriveLine). IsRunOf decls l j.objects j.events) (sym drives) (is_run count s));
+        unchanged = refl;
+      },
+      subst (λ (l : List DriveLine). IsDone (length l) j.events) (sym drives) (is_done count s),
+      (let short = (run count s).short in omega (arith, short)),
+    )
