@@ -46,6 +46,7 @@ pub fn compile_body(
     ensures uses { IfOk result (λ codes. Each (λ code. UsesCompiled code.code) codes) }
     ensures grows { Continues names.old names.new }
 {
+    // No body has others inside of it so far, so nothing names a code by its number.
     let _first = first;
     let code = compile_code(alloc, names, body)?;
     let mut codes = AnnotatedList::new(alloc);

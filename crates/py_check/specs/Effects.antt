@@ -1,5 +1,5 @@
--- The table of effects: what instructions do to the stack that only move its entries, or that take operands, ask one question
--- and push its answer.
+-- The table of effects: what instructions do to the stack that move its entries, take operands and ask once, or take some and
+-- push others; and what their operands name.
 use Rattle.std.specs.Prelude.{ℕ, zero, suc, ◌+◌, ◌*◌, ◌%◌, ◌/◌, List, [], ◌∷◌, Bool, true, ◌&&◌, ◌==◌, Option, Some, None, nat_lt, nat_le, length, replicate, if◌then◌else◌}
 use Rattle.py_code.specs.declared.instruction.Instruction.{Instruction}
 use Rattle.py_code.specs.declared.instruction.Instruction.TheVariants.{LoadConst, LoadFast, StoreFast, DeleteFast, LoadGlobal, LoadNameAny, StoreLocal, StoreGlobal, DeleteLocal, DeleteGlobal, LoadDeref, LoadClassDeref, StoreDeref, DeleteDeref, LoadClosure, Pop, Duplicate, Duplicate2, Rotate2, Rotate3, Reverse, Subscript, StoreSubscript, DeleteSubscript, BuildString, BuildList, BuildSet, BuildListUnpack, BuildTupleUnpack, BuildSetUnpack, BuildMap, BuildMapForCall, BuildSlice, BinaryOperation, BinaryOperationInplace, UnaryOperation, CompareOperation, TestOperation, LoadAttr, StoreAttr, DeleteAttr, ReturnConst, SetupAnnotation, SetupExcept, SetupFinally, SetupWith, SetupAsyncWith, BeforeAsyncWith, GetIter, GetAwaitable, GetAIter, ForIter, MakeFunction, CallFunctionEx, LoadMethod, CallMethodPositional, CallMethodEx, Jump, JumpIfTrue, JumpIfFalse, JumpIfTrueOrPop, JumpIfFalseOrPop, Raise, Break, Continue, PrintExpr, LoadBuildClass, UnpackSequence, UnpackEx, FormatValue, ImportName, ImportNameless, ImportFrom, ImportStar}

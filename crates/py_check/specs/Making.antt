@@ -1,5 +1,5 @@
 -- What a new function is made of.
-use Rattle.std.specs.Prelude.{ℕ, List, [], ◌∷◌, Bool, true, false, ◌&&◌, ◌==◌, Option, Some, None, slice_get, bit_and, if◌then◌else◌}
+use Rattle.std.specs.Prelude.{ℕ, List, [], ◌∷◌, Bool, false, ◌&&◌, ◌||◌, not, ◌==◌, Option, Some, None, slice_get, bit_and, if◌then◌else◌}
 use Rattle.py_code.specs.declared.flags.MakeFunctionFlags.{MakeFunctionFlags}
 use Rattle.py_code.specs.declared.flags.TheConstants.MakeFunctionFlags.{CLOSURE, ANNOTATIONS, KW_ONLY_DEFAULTS, DEFAULTS}
 use Rattle.py_check.specs.declared.note.Kind.{Kind}
@@ -8,9 +8,13 @@ use Rattle.py_check.specs.declared.note.BlockNote.{BlockNote}
 use Rattle.py_check.specs.Notes.{kind_fits}
 use Rattle.py_check.specs.Taking.{takes}
 
+-- whether the flags say that a part is there
+abbrev pub has_part : ℕ → MakeFunctionFlags → Bool
+has_part flags flag = not (bit_and flags flag.0 == 0)
+
 -- a part that is there where the flags say so, on top of the others
 abbrev pub part_if : ℕ → MakeFunctionFlags → Kind → List Kind → List Kind
-part_if flags flag k more = if bit_and flags flag.0 == 0 then more else k ∷ more
+part_if flags flag k more = if has_part flags flag then k ∷ more else more
 
 -- the kinds of the parts below a code with so many free names
 abbrev pub parts_of : ℕ → ℕ → List Kind
@@ -22,7 +26,7 @@ parts_of flags n =
 
 -- a code without free names needs no closure
 abbrev pub closure_fits : ℕ → ℕ → Bool
-closure_fits flags n = if bit_and flags CLOSURE.0 == 0 then n == 0 else true
+closure_fits flags n = has_part flags CLOSURE || (n == 0)
 
 -- the parts below a code, which is an earlier one
 abbrev pub takes_parts : Option ℕ → ℕ → List Kind → List BlockNote → (List Kind → Bool) → Bool

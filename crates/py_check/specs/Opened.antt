@@ -1,8 +1,7 @@
 -- Blocks with one that a unit opens.
-use Rattle.std.specs.Prelude.{ℕ, List, [], ◌∷◌, Bool, false, ◌&&◌, ◌==◌}
+use Rattle.std.specs.Prelude.{List, [], ◌∷◌, Bool, false, ◌&&◌, ◌==◌}
 use Rattle.py_check.specs.declared.note.BlockNote.{BlockNote}
 use Rattle.py_check.specs.declared.note.BlockNote.TheVariants as block
-use Rattle.py_check.specs.Notes.{block_number, level_of, handler_of, blocks_fit}
 use Rattle.py_check.specs.declared.opened.Opened.{Opened}
 use Rattle.py_check.specs.declared.opened.Opened.TheVariants as opened
 
@@ -15,8 +14,11 @@ inside (opened.Finally level handler) blocks = block.Finally level handler ∷ b
 inside (opened.FinallyHandler level) blocks = block.FinallyHandler level [] ∷ blocks
 inside (opened.ExceptHandler level) blocks = block.ExceptHandler level ∷ blocks
 
--- a block of this form, level and handler, in which no jump waits, fits the innermost of others, and those around it the rest
-abbrev pub opened_fits : ℕ → ℕ → ℕ → List BlockNote → List BlockNote → Bool
-opened_fits number level handler blocks [] = false
-opened_fits number level handler blocks (c ∷ outer) =
-    ((number == block_number c) && (level == level_of c) && (handler == handler_of c)) && blocks_fit blocks outer
+-- the block that a unit opens has the form, the level and the handler of another
+abbrev pub opens : Opened → BlockNote → Bool
+opens (opened.Loop level) (block.Loop wanted) = level == wanted
+opens (opened.TryExcept level handler) (block.TryExcept wanted label) = (level == wanted) && (handler == label)
+opens (opened.Finally level handler) (block.Finally wanted label) = (level == wanted) && (handler == label)
+opens (opened.FinallyHandler level) (block.FinallyHandler wanted waiting) = level == wanted
+opens (opened.ExceptHandler level) (block.ExceptHandler wanted) = level == wanted
+opens _ _ = false

@@ -1,4 +1,5 @@
--- What runs so far: the rules are for each instruction, and the machine carries out these.
+-- What runs so far: the rules are for each instruction, and frames carry out these. A raise with a cause is run by frames, and no
+-- machine answers what it asks yet.
 use Rattle.std.specs.Prelude.{◌≡◌, ◌<◌, ℕ, Bool, true, false, ◌&&◌, ◌==◌, Option, Some, None, slice_get, length}
 use Rattle.py_code.specs.declared.unit.CodeUnit.{CodeUnit}
 use Rattle.py_code.specs.declared.instruction.Instruction.{Instruction}

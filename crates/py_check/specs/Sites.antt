@@ -8,6 +8,7 @@ use Rattle.py_code.specs.declared.instruction.Instruction.{Instruction}
 use Rattle.py_check.specs.declared.note.Kind.{Kind}
 use Rattle.py_check.specs.declared.note.Kind.TheVariants as kind
 use Rattle.py_check.specs.declared.note.BlockNote.{BlockNote}
+use Rattle.py_check.specs.declared.note.Pending.{Pending}
 use Rattle.py_check.specs.declared.kinds.KindRun.{KindRun}
 use Rattle.py_check.specs.declared.opened.Opened.{Opened}
 use Rattle.py_check.specs.declared.opened.Opened.TheVariants as opened
@@ -21,7 +22,8 @@ use Rattle.py_check.specs.Taking.{moved_kinds, reads, takes, takes_named}
 use Rattle.py_code.specs.declared.flags.MakeFunctionFlags.{MakeFunctionFlags}
 use Rattle.py_check.specs.Making.{part_if}
 use Rattle.py_check.specs.Landing.{goes_on, lands, top_level}
-use Rattle.py_check.specs.Typing.{keeps_own, keeps_op}
+use Rattle.py_check.specs.Leaving.{walks}
+use Rattle.py_check.specs.Typing.{delegates, keeps_own, keeps_op}
 
 -- the kinds of the entries that a unit leaves, the top first
 abbrev pub kinds_on : Stack → List Kind
@@ -49,6 +51,18 @@ IsBelowPart flags flag wanted kinds result =
 -- what the rules read of the code of a unit
 abbrev pub sheet_at : Site → Sheet
 sheet_at site = sheet_of site.code.now
+
+-- a rule on leaving blocks is kept at a unit, with the place after it and what is on the stack before it
+abbrev pub at_site : (Sheet → ℕ → List Kind → List BlockNote → Bool) → Site → Bool
+at_site rule site = rule (sheet_at site) (site.at + 1) site.kinds.now site.blocks.now
+
+-- a break or a continue there finds its loop, or a finally whose handler lets it wait
+abbrev pub walks_at : Site → Pending → Bool
+walks_at site p = walks (sheet_at site) p site.kinds.now site.blocks.now
+
+-- a value for a delegate lies there, and control may come back and go on
+abbrev pub delegates_at : Site → Bool
+delegates_at site = delegates (sheet_at site) site.at site.kinds.now site.blocks.now
 
 -- control may go on after a unit with these kinds
 abbrev pub goes : Site → List Kind → Bool

@@ -111,15 +111,15 @@ keeps_op shapes sheet at op i kinds blocks =
     has_operand sheet op i && keeps_by sheet at (effect op i) (keeps_own shapes sheet at op i kinds blocks) kinds blocks
 
 -- a unit keeps the rules, with this note before it
-abbrev pub keeps_behind : List ℕ → Sheet → ℕ → CodeUnit → Note → Bool
-keeps_behind shapes sheet at unit Dead = true
-keeps_behind shapes sheet at unit (Live kinds blocks) =
+abbrev pub keeps_after_note : List ℕ → Sheet → ℕ → CodeUnit → Note → Bool
+keeps_after_note shapes sheet at unit Dead = true
+keeps_after_note shapes sheet at unit (Live kinds blocks) =
     has_room sheet kinds && levels_nest (length kinds) blocks && handlers_land sheet kinds blocks
     && keeps_op shapes sheet at unit.op (operand sheet.units at unit) kinds blocks
 
 -- a unit and its note are there, and keep the rules
 abbrev pub keeps_both : List ℕ → Sheet → ℕ → Option CodeUnit → Option Note → Bool
-keeps_both shapes sheet at (Some unit) (Some note) = keeps_behind shapes sheet at unit note
+keeps_both shapes sheet at (Some unit) (Some note) = keeps_after_note shapes sheet at unit note
 keeps_both shapes sheet at _ _ = false
 
 -- the unit at a place keeps the rules on units

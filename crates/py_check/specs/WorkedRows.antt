@@ -1,4 +1,5 @@
--- Codes that were worked by hand, instruction by instruction: what a unit finds on the stack, and what it leaves there.
+-- Codes that were worked by hand for the instructions, and the cases of instructions, that the other worked codes leave out: what a unit
+-- finds on the stack, and what it leaves there.
 use Rattle.std.specs.Prelude.{ℕ, suc, List, [], ◌∷◌, ◌++◌}
 use Rattle.py_code.specs.declared.flags.CodeFlags.{CodeFlags}
 use Rattle.py_code.specs.declared.flags.TheConstants.CodeFlags.{IS_GENERATOR}

@@ -1,6 +1,6 @@
 //! The rules on units, and the first that is broken.
 
-ghost use Rattle.std.specs.Prelude.{◌≡◌, ◌≤◌, ◌<◌, ◌+◌, ℕ, Some, None, Err, IfOk, OnOk, length, nat_lt, replicate, slice_get};
+ghost use Rattle.std.specs.Prelude.{◌≡◌, ◌≤◌, ◌<◌, ◌+◌, Some, None, Err, IfOk, OnOk, length, nat_lt, replicate, slice_get};
 ghost use Rattle.std.specs.List.{list_all};
 ghost use Rattle.py_check.specs.declared.fault.CheckFault.TheVariants as CheckFault;
 ghost use Rattle.py_check.specs.Sheet.{sheet_of};
@@ -10,7 +10,7 @@ ghost use Rattle.py_check.specs.Operands.{operand};
 ghost use Rattle.py_check.specs.Taking.{picked};
 ghost use Rattle.py_check.specs.Sites.{exchanges, keeps_op_at, moves, IsOperand};
 ghost use Rattle.py_check.specs.Typing.{keeps_at, IsTyped};
-ghost use Rattle.py_check.specs.Breaking.{BreaksFirst};
+ghost use Rattle.py_check.specs.Breaking.{BreaksWhere};
 
 use crate::annotated::Annotated;
 use crate::checked::CheckedCode;
@@ -178,13 +178,13 @@ fn keeps_op(
             let places = places_by(alloc, op, count)?;
             moves(alloc, site, count, places.as_slice())
         }
-        Effect::Gives(count, of, kind) => Ok(site.gives(count, of, &[kind])),
+        Effect::Gives { count, of, pushed } => Ok(site.gives(count, of, &[pushed])),
         Effect::Does(count) => Ok(site.gives(count, Kind::Any, &[])),
         Effect::Formats => match below_formatted(site.kinds, site.blocks) {
             Some(rest) => Ok(site.goes_on(&[Kind::Any], rest)),
             None => Ok(false),
         },
-        Effect::Takes(count, pushed, of) => exchanges(alloc, site, count, pushed, of),
+        Effect::Takes { count, pushed, of } => exchanges(alloc, site, count, pushed, of),
         Effect::Other => Ok(site.keeps_own(shapes, op, arg)),
     }
 }
@@ -232,7 +232,7 @@ fn keeps_at(
 /// The first unit that breaks a rule, if any does.
 fn first_break(alloc: Global, code: &Annotated, shapes: &[usize]) -> Result<Option<usize>, NoMemory>
     ensures none { IfOk result (λ found. found ≡ None → IsTyped shapes.now (sheet_of code.now)) }
-    ensures first { IfOk result (λ found. (at : ℕ) → found ≡ Some at → BreaksFirst shapes.now (sheet_of code.now) at) }
+    ensures first { IfOk result (λ found. BreaksWhere (λ at. found ≡ Some at) shapes.now code.now) }
 {
     if !keeps_whole(code, shapes) {
         return Ok(Some(0));
@@ -261,7 +261,7 @@ pub fn check_code(
 ) -> Result<CheckedCode, CheckFault>
     ensures ok { IfOk result (λ checked. checked ≡ code) }
     ensures typed { OnOk result (IsTyped shapes.now (sheet_of code)) }
-    ensures breaks { (at : ℕ) → result ≡ Err (CheckFault.Breaks at) → BreaksFirst shapes.now (sheet_of code) at }
+    ensures breaks { BreaksWhere (λ at. result ≡ Err (CheckFault.Breaks at)) shapes.now code }
 {
     match first_break(alloc, &code, shapes.as_slice())? {
         Some(at) => Err(CheckFault::Breaks(at)),

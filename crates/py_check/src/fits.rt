@@ -2,47 +2,12 @@
 
 ghost use Rattle.std.specs.Prelude.{◌≡◌};
 ghost use Rattle.std.specs.List.{list_all, list_any};
-ghost use Rattle.py_check.specs.Opened.{inside, opened_fits};
-ghost use Rattle.py_check.specs.Notes.{block_fits, block_number, blocks_fit, handler_of, is_subset, kind_fits, kind_number, kind_size, level_of, pending_of, plain_kind, same_kind, same_pending};
+ghost use Rattle.py_check.specs.Opened.{inside, opens};
+ghost use Rattle.py_check.specs.Notes.{block_fits, block_number, blocks_fit, handler_of, is_subset, kind_fits, level_of, pending_of, plain_kind, same_pending};
 
 use crate::blocks::BlockList;
 use crate::note::{BlockNote, Kind, Pending};
 use crate::opened::Opened;
-
-fn kind_number(kind: Kind) -> u8
-    ensures { result ≡ kind_number kind }
-{
-    match kind {
-        Kind::Any => 0,
-        Kind::Str => 1,
-        Kind::Tuple => 2,
-        Kind::List => 3,
-        Kind::Set => 4,
-        Kind::Dict => 5,
-        Kind::Exc => 6,
-        Kind::Cell => 7,
-        Kind::Cells(_) => 8,
-        Kind::Names(_) => 9,
-        Kind::Code(_) => 10,
-    }
-}
-
-fn kind_size(kind: Kind) -> usize
-    ensures { result ≡ kind_size kind }
-{
-    match kind {
-        Kind::Cells(n) => n,
-        Kind::Names(n) => n,
-        Kind::Code(c) => c,
-        _ => 0,
-    }
-}
-
-pub(crate) fn same_kind(kind: Kind, other: Kind) -> bool
-    ensures { result ≡ same_kind kind other }
-{
-    kind_number(kind) == kind_number(other) && kind_size(kind) == kind_size(other)
-}
 
 fn plain_kind(kind: Kind) -> Kind
     ensures { result ≡ plain_kind kind }
@@ -58,7 +23,7 @@ fn plain_kind(kind: Kind) -> Kind
 pub(crate) fn kind_fits(kind: Kind, wanted: Kind) -> bool
     ensures { result ≡ kind_fits kind wanted }
 {
-    same_kind(kind, wanted) || (same_kind(plain_kind(kind), wanted) || same_kind(Kind::Any, wanted))
+    kind == wanted || (plain_kind(kind) == wanted || Kind::Any == wanted)
 }
 
 /// Whether kinds are all as wanted.
@@ -68,22 +33,11 @@ pub(crate) fn kinds_are(kinds: &[Kind], wanted: Kind) -> bool
     kinds.iter().all(|kind| kind_fits(*kind, wanted))
 }
 
-fn same_pending(pending: Pending, other: Pending) -> bool
-    ensures { result ≡ same_pending pending other }
-{
-    match (pending, other) {
-        (Pending::Break(to), Pending::Break(label)) => to == label,
-        (Pending::Continue(to), Pending::Continue(label)) => to == label,
-        (Pending::Break(_), Pending::Continue(_)) => false,
-        (Pending::Continue(_), Pending::Break(_)) => false,
-    }
-}
-
 /// Whether a jump is among others.
 pub(crate) fn may_wait(pending: Pending, others: &[Pending]) -> bool
     ensures { result ≡ list_any (same_pending pending) others.now }
 {
-    others.iter().any(|other| same_pending(pending, *other))
+    others.iter().any(|other| pending == *other)
 }
 
 fn is_subset(waiting: &[Pending], others: &[Pending]) -> bool
@@ -173,23 +127,33 @@ fn blocks_fit(blocks: &BlockList, wanted: &BlockList) -> bool
     }
 }
 
-/// Whether a block that is opened fits another, and the blocks around it those around that.
-fn opened_fits(
-    number: u8,
-    level: usize,
-    handler: u32,
-    blocks: &BlockList,
-    wanted: &BlockList,
-) -> bool
-    ensures { result ≡ opened_fits number level handler blocks.now wanted.now }
+/// Whether the block that a unit opens has the form, the level and the handler of another.
+fn opens(opened: Opened, block: &BlockNote) -> bool
+    ensures { result ≡ opens opened block.now }
 {
-    match wanted.split() {
-        None => false,
-        Some((block, outer)) => {
-            (number == block_number(block)
-                && (level == level_of(block) && handler == handler_of(block)))
-                && blocks_fit(blocks, outer)
+    match (opened, block) {
+        (Opened::Loop { level }, BlockNote::Loop { level: wanted }) => level == *wanted,
+        (
+            Opened::TryExcept { level, handler },
+            BlockNote::TryExcept {
+                level: wanted,
+                handler: label,
+            },
+        ) => level == *wanted && handler == *label,
+        (
+            Opened::Finally { level, handler },
+            BlockNote::Finally {
+                level: wanted,
+                handler: label,
+            },
+        ) => level == *wanted && handler == *label,
+        (Opened::FinallyHandler { level }, BlockNote::FinallyHandler { level: wanted, .. }) => {
+            level == *wanted
         }
+        (Opened::ExceptHandler { level }, BlockNote::ExceptHandler { level: wanted }) => {
+            level == *wanted
+        }
+        _ => false,
     }
 }
 
@@ -199,10 +163,9 @@ pub(crate) fn all_blocks_fit(opened: Opened, blocks: &BlockList, wanted: &BlockL
 {
     match opened {
         Opened::Nothing => blocks_fit(blocks, wanted),
-        Opened::Loop { level } => opened_fits(0, level, 0, blocks, wanted),
-        Opened::TryExcept { level, handler } => opened_fits(1, level, handler, blocks, wanted),
-        Opened::Finally { level, handler } => opened_fits(2, level, handler, blocks, wanted),
-        Opened::FinallyHandler { level } => opened_fits(3, level, 0, blocks, wanted),
-        Opened::ExceptHandler { level } => opened_fits(4, level, 0, blocks, wanted),
+        _ => match wanted.split() {
+            None => false,
+            Some((block, outer)) => opens(opened, block) && blocks_fit(blocks, outer),
+        },
     }
 }

@@ -1,9 +1,9 @@
 //! Where control comes to that leaves blocks.
 
-ghost use Rattle.std.specs.Prelude.{◌≡◌, ◌+◌, drop, slice_get};
+ghost use Rattle.std.specs.Prelude.{◌≡◌, drop, slice_get};
 ghost use Rattle.std.specs.List.{list_all};
 ghost use Rattle.py_check.specs.Sheet.{sheet_of};
-ghost use Rattle.py_check.specs.Sites.{blocks_on, kinds_on, sheet_at};
+ghost use Rattle.py_check.specs.Sites.{at_site, blocks_on, kinds_on};
 ghost use Rattle.py_check.specs.Leaving.{ends_async, ends_cleanup, ends_finally, ends_with, is_except_handler, is_finally_handler, is_popped, leaves_block, leaves_handler, lets_wait, reaches_loop, starts_cleanup, walks};
 ghost use Rattle.py_check.specs.Notes.{pending_of};
 
@@ -59,7 +59,7 @@ fn is_except_handler(block: &BlockNote) -> bool
 
 /// Whether the innermost block may end, with what lies above its level.
 pub(crate) fn leaves_block(site: &Site<'_>) -> bool
-    ensures { result ≡ leaves_block (sheet_at site.now) (site.now.at + 1) site.now.kinds.now site.now.blocks.now }
+    ensures { result ≡ at_site leaves_block site.now }
 {
     match site.blocks.split() {
         None => false,
@@ -165,7 +165,7 @@ fn ends_with(
 
 /// Whether the innermost block is the handler of a finally, and may end.
 pub(crate) fn ends_finally(site: &Site<'_>) -> bool
-    ensures { result ≡ ends_finally (sheet_at site.now) (site.now.at + 1) site.now.kinds.now site.now.blocks.now }
+    ensures { result ≡ at_site ends_finally site.now }
 {
     match site.blocks.split() {
         None => false,
@@ -178,7 +178,7 @@ pub(crate) fn ends_finally(site: &Site<'_>) -> bool
 
 /// Whether the innermost block is the handler of an except, and may end.
 pub(crate) fn leaves_handler(site: &Site<'_>) -> bool
-    ensures { result ≡ leaves_handler (sheet_at site.now) (site.now.at + 1) site.now.kinds.now site.now.blocks.now }
+    ensures { result ≡ at_site leaves_handler site.now }
 {
     match site.blocks.split() {
         None => false,
@@ -191,7 +191,7 @@ pub(crate) fn leaves_handler(site: &Site<'_>) -> bool
 
 /// Whether an exit is called with nothing above it.
 pub(crate) fn starts_cleanup(site: &Site<'_>) -> bool
-    ensures { result ≡ starts_cleanup (sheet_at site.now) (site.now.at + 1) site.now.kinds.now site.now.blocks.now }
+    ensures { result ≡ at_site starts_cleanup site.now }
 {
     match site.blocks.split() {
         None => false,
@@ -206,7 +206,7 @@ pub(crate) fn starts_cleanup(site: &Site<'_>) -> bool
 
 /// Whether the answer of an exit and the exit may go.
 pub(crate) fn ends_cleanup(site: &Site<'_>) -> bool
-    ensures { result ≡ ends_cleanup (sheet_at site.now) (site.now.at + 1) site.now.kinds.now site.now.blocks.now }
+    ensures { result ≡ at_site ends_cleanup site.now }
 {
     match site.blocks.split() {
         None => false,
@@ -221,7 +221,7 @@ pub(crate) fn ends_cleanup(site: &Site<'_>) -> bool
 
 /// Whether the exception after an asynchronous loop and its iterator may go.
 pub(crate) fn ends_async(site: &Site<'_>) -> bool
-    ensures { result ≡ ends_async (sheet_at site.now) (site.now.at + 1) site.now.kinds.now site.now.blocks.now }
+    ensures { result ≡ at_site ends_async site.now }
 {
     match site.blocks.split() {
         None => false,

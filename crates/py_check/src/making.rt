@@ -3,7 +3,7 @@
 ghost use Rattle.std.specs.Prelude.{◌≡◌};
 ghost use Rattle.py_check.specs.Sites.{IsBelow, IsBelowPart};
 ghost use Rattle.py_check.specs.Taking.{takes};
-ghost use Rattle.py_check.specs.Making.{closure_fits, makes_function, parts_of, takes_code};
+ghost use Rattle.py_check.specs.Making.{closure_fits, has_part, makes_function, parts_of, takes_code};
 
 use crate::blocks::BlockList;
 use crate::fits::kind_fits;
@@ -11,6 +11,13 @@ use crate::landing::top_level;
 use crate::note::Kind;
 use bitflags::Flags;
 use py_code::MakeFunctionFlags;
+
+/// Whether the flags say that a part is there.
+fn has_part(flags: u32, flag: MakeFunctionFlags) -> bool
+    ensures { result ≡ has_part flags flag }
+{
+    flags & u32::from(flag.bits()) != 0
+}
 
 /// What lies below a part that the flags say is there.
 fn below_part<'a>(
@@ -21,7 +28,7 @@ fn below_part<'a>(
 ) -> Option<&'a [Kind]>
     ensures { IsBelowPart flags flag wanted kinds.now result }
 {
-    if flags & u32::from(flag.bits()) == 0 {
+    if !has_part(flags, flag) {
         return Some(kinds);
     }
     match kinds {
@@ -64,11 +71,7 @@ fn below_parts<'a>(
 fn closure_fits(free: usize, flags: u32) -> bool
     ensures { result ≡ closure_fits flags free }
 {
-    if flags & u32::from(MakeFunctionFlags::CLOSURE.bits()) == 0 {
-        free == 0
-    } else {
-        true
-    }
+    has_part(flags, MakeFunctionFlags::CLOSURE) || free == 0
 }
 
 /// What lies below a code, which is an earlier one, and below its parts.

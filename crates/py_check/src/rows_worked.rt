@@ -1,4 +1,5 @@
-//! Codes that were worked by hand, instruction by instruction: what each takes off the stack and leaves there. Most don't run yet.
+//! Codes that were worked by hand for the instructions, and the cases of instructions, that the other worked codes leave out: what each
+//! takes off the stack and leaves there. Most don't run yet.
 
 ghost use Rattle.std.specs.Prelude.{[], ◌∷◌};
 ghost use Rattle.py_code.specs.declared.flags.TheConstants.CodeFlags.{IS_COROUTINE};

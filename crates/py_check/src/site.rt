@@ -2,9 +2,8 @@
 
 ghost use Rattle.std.specs.Prelude.{◌≡◌, ◌≤◌, ◌+◌, ◌++◌, [], true, replicate};
 ghost use Rattle.py_code.specs.declared.instruction.Instruction.TheVariants as op;
-ghost use Rattle.py_check.specs.Sites.{IsBelow, calls_named, comes, enters, gives, goes, keeps_own_at, opens, puts_in, sheet_at, takes_at, takes_some};
-ghost use Rattle.py_check.specs.Leaving.{walks};
-ghost use Rattle.py_check.specs.Typing.{delegates, may_yield};
+ghost use Rattle.py_check.specs.Sites.{IsBelow, calls_named, comes, delegates_at, enters, gives, goes, keeps_own_at, opens, puts_in, takes_at, takes_some, walks_at};
+ghost use Rattle.py_check.specs.Typing.{may_yield};
 
 use crate::annotated::Annotated;
 use crate::blocks::BlockList;
@@ -90,7 +89,7 @@ impl<'a> Site<'a> {
 
     /// Whether a break or a continue finds its loop, or a finally whose handler lets it wait.
     fn leaves_by(&self, pending: Pending) -> bool
-        ensures { result ≡ walks (sheet_at self.now) pending self.now.kinds.now self.now.blocks.now }
+        ensures { result ≡ walks_at self.now pending }
     {
         walks(self.code, pending, self.kinds, self.blocks)
     }
@@ -112,7 +111,7 @@ impl<'a> Site<'a> {
         }
     }
 
-    /// Whether so many entries are there.
+    /// Whether so many entries are there, above the innermost block's level.
     fn has_entries(&self, count: usize) -> bool
         ensures { result ≡ takes_some self.now count (λ rest. true) }
     {
@@ -129,7 +128,7 @@ impl<'a> Site<'a> {
         }
     }
 
-    /// Whether control may come to a label with the stack as it is, or go on without the top.
+    /// Whether control may both come to a label with the stack as it is and go on without the top.
     fn branches_or_pops(&self, to: usize) -> bool
         ensures { result ≡ keeps_own_at self.now [] op.JumpIfTrueOrPop to }
     {
@@ -139,7 +138,7 @@ impl<'a> Site<'a> {
         }
     }
 
-    /// Whether control may come to a label without the top, or go on with a value above it.
+    /// Whether control may both come to a label without the top and go on with a value above it.
     fn iterates(&self, to: usize) -> bool
         ensures { result ≡ keeps_own_at self.now [] op.ForIter to }
     {
@@ -225,9 +224,9 @@ impl<'a> Site<'a> {
         may_yield(self.code.code.code.flags) && self.gives(1, Kind::Any, &[Kind::Any])
     }
 
-    /// Whether a value and a delegate are there.
+    /// Whether a value and a delegate are there, and control may come back here with what is sent and go on with what is returned.
     fn delegates(&self) -> bool
-        ensures { result ≡ delegates (sheet_at self.now) self.now.at self.now.kinds.now self.now.blocks.now }
+        ensures { result ≡ delegates_at self.now }
     {
         match self.below(2, Kind::Any) {
             Some(rest) => {
@@ -247,8 +246,8 @@ impl<'a> Site<'a> {
             && (may_begin_after(op_before(units, self.at as usize)) && self.delegates())
     }
 
-    /// Whether a prefix has at most two before it.
-    fn is_one_of_three(&self) -> bool
+    /// Whether a prefix has at most two before it, and control goes on.
+    fn goes_on_as_prefix(&self) -> bool
         ensures { result ≡ keeps_own_at self.now [] op.ExtendedArg 0 }
     {
         let units = self.code.code.code.instructions.as_slice();
@@ -302,7 +301,7 @@ impl<'a> Site<'a> {
             Instruction::Raise => self.has_entries(n),
             Instruction::Break => self.leaves_by(Pending::Break(arg)),
             Instruction::Continue => self.leaves_by(Pending::Continue(arg)),
-            Instruction::ExtendedArg => self.is_one_of_three(),
+            Instruction::ExtendedArg => self.goes_on_as_prefix(),
             _ => false,
         }
     }

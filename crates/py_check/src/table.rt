@@ -1,6 +1,8 @@
 //! The table of effects.
 
 ghost use Rattle.std.specs.Prelude.{◌≡◌};
+ghost use Rattle.py_check.specs.declared.note.Kind.TheVariants.{Any};
+ghost use Rattle.py_check.specs.declared.table.Effect.TheVariants.{Gives, Takes};
 ghost use Rattle.py_check.specs.Effects.{effect, names_by};
 ghost use Rattle.py_check.specs.Table.{effect_of};
 
@@ -12,14 +14,22 @@ use py_code::Instruction;
 pub(crate) enum Effect {
     /// So many entries go, and others come in their place.
     Moves(usize),
-    /// So many entries of a kind are taken, and the answer, which is of this kind, is pushed.
-    Gives(usize, Kind, Kind),
+    /// So many entries of a kind are taken, and the answer, which is of the pushed kind, is pushed.
+    Gives {
+        count: usize,
+        of: Kind,
+        pushed: Kind,
+    },
     /// So many entries are taken, and nothing is pushed.
     Does(usize),
     /// A value and how to format it are taken, and the answer is pushed.
     Formats,
-    /// So many entries are taken, and so many of this kind pushed.
-    Takes(usize, usize, Kind),
+    /// So many entries are taken, and so many of a kind pushed.
+    Takes {
+        count: usize,
+        pushed: usize,
+        of: Kind,
+    },
     /// It does more.
     Other,
 }
@@ -37,66 +47,117 @@ pub(crate) enum OpArgType {
     OneOf(usize),
 }
 
+/// So many entries of any kind are taken, and the answer is pushed.
+fn gives(count: usize) -> Effect
+    ensures { result ≡ Gives count Any Any }
+{
+    Effect::Gives {
+        count,
+        of: Kind::Any,
+        pushed: Kind::Any,
+    }
+}
+
+/// So many entries are taken, and so many of any kind pushed.
+fn takes(count: usize, pushed: usize) -> Effect
+    ensures { result ≡ Takes count pushed Any }
+{
+    Effect::Takes {
+        count,
+        pushed,
+        of: Kind::Any,
+    }
+}
+
 /// The table of effects.
 pub(crate) fn look_up(op: Instruction, arg: u32) -> Effect
     ensures { effect_of op arg result ≡ effect op arg }
 {
     let n = arg as usize;
     match op {
-        Instruction::LoadGlobal => Effect::Gives(0, Kind::Any, Kind::Any),
-        Instruction::LoadNameAny => Effect::Gives(0, Kind::Any, Kind::Any),
-        Instruction::StoreLocal => Effect::Does(1),
-        Instruction::StoreGlobal => Effect::Does(1),
-        Instruction::DeleteLocal => Effect::Does(0),
-        Instruction::DeleteGlobal => Effect::Does(0),
-        Instruction::LoadDeref => Effect::Takes(0, 1, Kind::Any),
-        Instruction::LoadClassDeref => Effect::Gives(0, Kind::Any, Kind::Any),
-        Instruction::StoreDeref => Effect::Takes(1, 0, Kind::Any),
-        Instruction::DeleteDeref => Effect::Takes(0, 0, Kind::Any),
-        Instruction::LoadClosure => Effect::Takes(0, 1, Kind::Cell),
+        Instruction::LoadGlobal | Instruction::LoadNameAny | Instruction::LoadClassDeref => {
+            gives(0)
+        }
+        Instruction::StoreLocal
+        | Instruction::StoreGlobal
+        | Instruction::DeleteAttr
+        | Instruction::PrintExpr
+        | Instruction::ImportStar => Effect::Does(1),
+        Instruction::DeleteLocal | Instruction::DeleteGlobal | Instruction::SetupAnnotation => {
+            Effect::Does(0)
+        }
+        Instruction::LoadDeref | Instruction::LoadBuildClass => takes(0, 1),
+        Instruction::StoreDeref => takes(1, 0),
+        Instruction::DeleteDeref => takes(0, 0),
+        Instruction::LoadClosure => Effect::Takes {
+            count: 0,
+            pushed: 1,
+            of: Kind::Cell,
+        },
         Instruction::Pop => Effect::Moves(1),
-        Instruction::Duplicate => Effect::Moves(0),
-        Instruction::Duplicate2 => Effect::Moves(0),
+        Instruction::Duplicate | Instruction::Duplicate2 => Effect::Moves(0),
         Instruction::Rotate2 => Effect::Moves(2),
         Instruction::Rotate3 => Effect::Moves(3),
         Instruction::Reverse => Effect::Moves(n),
-        Instruction::Subscript => Effect::Gives(2, Kind::Any, Kind::Any),
+        Instruction::Subscript
+        | Instruction::BinaryOperation
+        | Instruction::BinaryOperationInplace
+        | Instruction::CompareOperation
+        | Instruction::TestOperation
+        | Instruction::ImportName
+        | Instruction::ImportNameless => gives(2),
         Instruction::StoreSubscript => Effect::Does(3),
-        Instruction::DeleteSubscript => Effect::Does(2),
-        Instruction::BuildString => Effect::Gives(n, Kind::Str, Kind::Str),
-        Instruction::BuildList => Effect::Gives(n, Kind::Any, Kind::List),
-        Instruction::BuildSet => Effect::Gives(n, Kind::Any, Kind::Set),
-        Instruction::BuildListUnpack => Effect::Takes(n, 1, Kind::List),
-        Instruction::BuildTupleUnpack => Effect::Takes(n, 1, Kind::Tuple),
-        Instruction::BuildSetUnpack => Effect::Takes(n, 1, Kind::Set),
-        Instruction::BuildMap => Effect::Gives(2 * n, Kind::Any, Kind::Dict),
-        Instruction::BuildMapForCall => Effect::Gives(n, Kind::Any, Kind::Any),
-        Instruction::BuildSlice => Effect::Gives(if n == 1 { 3 } else { 2 }, Kind::Any, Kind::Any),
-        Instruction::BinaryOperation => Effect::Gives(2, Kind::Any, Kind::Any),
-        Instruction::BinaryOperationInplace => Effect::Gives(2, Kind::Any, Kind::Any),
-        Instruction::UnaryOperation => Effect::Gives(1, Kind::Any, Kind::Any),
-        Instruction::CompareOperation => Effect::Gives(2, Kind::Any, Kind::Any),
-        Instruction::TestOperation => Effect::Gives(2, Kind::Any, Kind::Any),
-        Instruction::LoadAttr => Effect::Gives(1, Kind::Any, Kind::Any),
-        Instruction::StoreAttr => Effect::Does(2),
-        Instruction::DeleteAttr => Effect::Does(1),
-        Instruction::SetupAnnotation => Effect::Does(0),
-        Instruction::BeforeAsyncWith => Effect::Takes(1, 2, Kind::Any),
-        Instruction::GetIter => Effect::Gives(1, Kind::Any, Kind::Any),
-        Instruction::GetAwaitable => Effect::Gives(1, Kind::Any, Kind::Any),
-        Instruction::GetAIter => Effect::Gives(1, Kind::Any, Kind::Any),
-        Instruction::CallFunctionEx => Effect::Takes(if n == 1 { 3 } else { 2 }, 1, Kind::Any),
-        Instruction::LoadMethod => Effect::Takes(1, 3, Kind::Any),
-        Instruction::CallMethodPositional => Effect::Takes(n + 3, 1, Kind::Any),
-        Instruction::CallMethodEx => Effect::Takes(if n == 1 { 5 } else { 4 }, 1, Kind::Any),
-        Instruction::PrintExpr => Effect::Does(1),
-        Instruction::LoadBuildClass => Effect::Takes(0, 1, Kind::Any),
-        Instruction::UnpackSequence => Effect::Takes(1, n, Kind::Any),
-        Instruction::UnpackEx => Effect::Takes(1, n % 256 + 1 + n / 256, Kind::Any),
+        Instruction::DeleteSubscript | Instruction::StoreAttr => Effect::Does(2),
+        Instruction::BuildString => Effect::Gives {
+            count: n,
+            of: Kind::Str,
+            pushed: Kind::Str,
+        },
+        Instruction::BuildList => Effect::Gives {
+            count: n,
+            of: Kind::Any,
+            pushed: Kind::List,
+        },
+        Instruction::BuildSet => Effect::Gives {
+            count: n,
+            of: Kind::Any,
+            pushed: Kind::Set,
+        },
+        Instruction::BuildListUnpack => Effect::Takes {
+            count: n,
+            pushed: 1,
+            of: Kind::List,
+        },
+        Instruction::BuildTupleUnpack => Effect::Takes {
+            count: n,
+            pushed: 1,
+            of: Kind::Tuple,
+        },
+        Instruction::BuildSetUnpack => Effect::Takes {
+            count: n,
+            pushed: 1,
+            of: Kind::Set,
+        },
+        Instruction::BuildMap => Effect::Gives {
+            count: 2 * n,
+            of: Kind::Any,
+            pushed: Kind::Dict,
+        },
+        Instruction::BuildMapForCall => gives(n),
+        Instruction::BuildSlice => gives(if n == 1 { 3 } else { 2 }),
+        Instruction::UnaryOperation
+        | Instruction::LoadAttr
+        | Instruction::GetIter
+        | Instruction::GetAwaitable
+        | Instruction::GetAIter => gives(1),
+        Instruction::BeforeAsyncWith => takes(1, 2),
+        Instruction::CallFunctionEx => takes(if n == 1 { 3 } else { 2 }, 1),
+        Instruction::LoadMethod => takes(1, 3),
+        Instruction::CallMethodPositional => takes(n + 3, 1),
+        Instruction::CallMethodEx => takes(if n == 1 { 5 } else { 4 }, 1),
+        Instruction::UnpackSequence => takes(1, n),
+        Instruction::UnpackEx => takes(1, n % 256 + 1 + n / 256),
         Instruction::FormatValue => Effect::Formats,
-        Instruction::ImportName => Effect::Gives(2, Kind::Any, Kind::Any),
-        Instruction::ImportNameless => Effect::Gives(2, Kind::Any, Kind::Any),
-        Instruction::ImportStar => Effect::Does(1),
         _ => Effect::Other,
     }
 }
@@ -106,43 +167,41 @@ pub(crate) fn names_by(op: Instruction) -> OpArgType
     ensures { result ≡ names_by op }
 {
     match op {
-        Instruction::LoadConst => OpArgType::Constant,
-        Instruction::ReturnConst => OpArgType::Constant,
-        Instruction::LoadFast => OpArgType::Local,
-        Instruction::StoreFast => OpArgType::Local,
-        Instruction::DeleteFast => OpArgType::Local,
-        Instruction::LoadGlobal => OpArgType::Name,
-        Instruction::LoadNameAny => OpArgType::Name,
-        Instruction::StoreLocal => OpArgType::Name,
-        Instruction::StoreGlobal => OpArgType::Name,
-        Instruction::DeleteLocal => OpArgType::Name,
-        Instruction::DeleteGlobal => OpArgType::Name,
-        Instruction::LoadAttr => OpArgType::Name,
-        Instruction::StoreAttr => OpArgType::Name,
-        Instruction::DeleteAttr => OpArgType::Name,
-        Instruction::LoadMethod => OpArgType::Name,
-        Instruction::ImportName => OpArgType::Name,
-        Instruction::ImportFrom => OpArgType::Name,
-        Instruction::LoadDeref => OpArgType::Cell,
-        Instruction::StoreDeref => OpArgType::Cell,
-        Instruction::DeleteDeref => OpArgType::Cell,
-        Instruction::LoadClosure => OpArgType::Cell,
+        Instruction::LoadConst | Instruction::ReturnConst => OpArgType::Constant,
+        Instruction::LoadFast | Instruction::StoreFast | Instruction::DeleteFast => {
+            OpArgType::Local
+        }
+        Instruction::LoadGlobal
+        | Instruction::LoadNameAny
+        | Instruction::StoreLocal
+        | Instruction::StoreGlobal
+        | Instruction::DeleteLocal
+        | Instruction::DeleteGlobal
+        | Instruction::LoadAttr
+        | Instruction::StoreAttr
+        | Instruction::DeleteAttr
+        | Instruction::LoadMethod
+        | Instruction::ImportName
+        | Instruction::ImportFrom => OpArgType::Name,
+        Instruction::LoadDeref
+        | Instruction::StoreDeref
+        | Instruction::DeleteDeref
+        | Instruction::LoadClosure => OpArgType::Cell,
         Instruction::LoadClassDeref => OpArgType::FreeCell,
-        Instruction::SetupExcept => OpArgType::Label,
-        Instruction::SetupFinally => OpArgType::Label,
-        Instruction::SetupWith => OpArgType::Label,
-        Instruction::SetupAsyncWith => OpArgType::Label,
-        Instruction::ForIter => OpArgType::Label,
-        Instruction::Jump => OpArgType::Label,
-        Instruction::JumpIfTrue => OpArgType::Label,
-        Instruction::JumpIfFalse => OpArgType::Label,
-        Instruction::JumpIfTrueOrPop => OpArgType::Label,
-        Instruction::JumpIfFalseOrPop => OpArgType::Label,
-        Instruction::Break => OpArgType::Label,
-        Instruction::Continue => OpArgType::Label,
+        Instruction::SetupExcept
+        | Instruction::SetupFinally
+        | Instruction::SetupWith
+        | Instruction::SetupAsyncWith
+        | Instruction::ForIter
+        | Instruction::Jump
+        | Instruction::JumpIfTrue
+        | Instruction::JumpIfFalse
+        | Instruction::JumpIfTrueOrPop
+        | Instruction::JumpIfFalseOrPop
+        | Instruction::Break
+        | Instruction::Continue => OpArgType::Label,
         // There are 13 operators of two operands, 4 of one, 6 comparisons and 5 tests.
-        Instruction::BinaryOperation => OpArgType::OneOf(13),
-        Instruction::BinaryOperationInplace => OpArgType::OneOf(13),
+        Instruction::BinaryOperation | Instruction::BinaryOperationInplace => OpArgType::OneOf(13),
         Instruction::UnaryOperation => OpArgType::OneOf(4),
         Instruction::CompareOperation => OpArgType::OneOf(6),
         Instruction::TestOperation => OpArgType::OneOf(5),

@@ -8,7 +8,7 @@ ghost use Rattle.py_check.specs.Sites.{IsBelow};
 ghost use Rattle.py_check.specs.Taking.{names_at_most, reads, takes, takes_named, tuple_of};
 
 use crate::blocks::BlockList;
-use crate::fits::{kind_fits, kinds_are, same_kind};
+use crate::fits::{kind_fits, kinds_are};
 use crate::landing::top_level;
 use crate::note::Kind;
 
@@ -95,7 +95,7 @@ pub(crate) fn reads(place: usize, wanted: Kind, kinds: &[Kind]) -> bool
 fn are_cells(kinds: &[Kind]) -> bool
     ensures { result ≡ list_all (λ k. same_kind k kind.Cell) kinds.now }
 {
-    kinds.iter().all(|kind| same_kind(*kind, Kind::Cell))
+    kinds.iter().all(|kind| *kind == Kind::Cell)
 }
 
 /// The kind of a tuple of so many entries of these kinds.

@@ -26,6 +26,9 @@ pub fn worked_notes()
     ensures no_operator { Breaks (on_both op.BinaryOperation 13) 2 }
     ensures no_constant { Breaks (sheet (unit op.ReturnConst 1 ∷ []) (nothing ∷ [])) 0 }
     ensures no_value { Breaks (on_first (unit op.BinaryOperation 6) one) 1 }
+    ensures sets_no_local { Breaks (stranded (unit op.StoreFast 2) one nothing) 1 }
+    ensures sets_a_local_to_nothing { Breaks (stranded (unit op.StoreFast 1) nothing nothing) 1 }
+    ensures returns_no_value { Breaks (stranded (unit op.ReturnValue 0) nothing nothing) 1 }
     // The units end.
     ensures no_end { Breaks (ending (unit op.Pop 0)) 1 }
     ensures subtracts { Typed (on_both op.BinaryOperation 7) }
@@ -60,6 +63,7 @@ pub fn worked_codes()
     // Parameters are among the locals, and those by position alone are among those by position.
     ensures var_args { Typed (record sum { arg_count = 1; flags = HAS_VARARGS }) }
     ensures too_many_parameters { Breaks (record sum { arg_count = 1; flags = all_of (HAS_VARARGS ∷ HAS_VARKEYWORDS ∷ []) }) 0 }
+    ensures too_many_by_name { Breaks (record sum { kwonlyarg_count = 1 }) 0 }
     ensures by_position_alone { Breaks (record sum { posonlyarg_count = 3 }) 0 }
     // A cell takes over a parameter, or none.
     ensures cells { Typed (with_cells (negsuc 0 ∷ pos 1 ∷ [])) }

@@ -30,6 +30,7 @@ impl Flags for CodeFlags {
 
     ghost exact = { ⊤ };
 
+    // The items of `FLAGS` again: clauses read this table, and the proof of `flags` compares both.
     ghost table = { (codes "NEW_LOCALS", 1) ∷ (codes "IS_GENERATOR", 2) ∷ (codes "IS_COROUTINE", 4)
         ∷ (codes "HAS_VARARGS", 8) ∷ (codes "HAS_VARKEYWORDS", 16) ∷ (codes "IS_OPTIMIZED", 32) ∷ [] };
 

@@ -3,6 +3,7 @@
 
 mod code;
 mod code_list;
+mod code_repr;
 mod flags;
 mod instruction;
 mod list;

@@ -125,21 +125,6 @@ impl LiteralList {
         }
     }
 
-    /// The list of these constants.
-    pub fn of(items: Vec<Literal>) -> LiteralList
-        ensures { literals_of result ≡ items.items }
-    {
-        LiteralList { items }
-    }
-
-    /// The constants, the list of which ends.
-    pub fn into_vec(self) -> Vec<Literal>
-        ensures { result.items ≡ literals_of self }
-    {
-        let LiteralList { items } = self;
-        items
-    }
-
     /// How many constants there are.
     pub fn len(&self) -> usize
         ensures { result ≡ length (literals_of self.now) }

@@ -1,9 +1,8 @@
 //! Codes in which some parts are replaced.
 
-ghost use Rattle.std.specs.Prelude.{◌≡◌, ◌&&◌, None, Err, IfOk, OnOk, false, map, true, unwrap_or};
+ghost use Rattle.std.specs.Prelude.{◌≡◌, Err, IfOk, OnOk, false, true, unwrap_or};
 ghost use Rattle.std.specs.List.{list_all};
 ghost use Rattle.py_code.specs.declared.replace.ReplaceFault.TheVariants as ReplaceFault;
-ghost use Rattle.py_code.specs.Flags.{known_flags};
 ghost use Rattle.py_code.specs.Literals.{AreSame, is_text, literals_of};
 ghost use Rattle.py_code.specs.Names.{all_interned, AreInterned};
 ghost use Rattle.py_code.specs.Replacing.{AreNames, AreNamesOr, are_texts, IsNameOr, IsReplaced, line_or, flags_or, names_are_texts, names_given, nothing_given, text_given, texts_given, texts_of};
@@ -21,19 +20,25 @@ use thiserror::Error;
 /// What a code gets in place of its own parts. What is None stays.
 #[derive(Drop)]
 pub struct ReplaceArgs {
+    /// How many parameters take a positional argument alone.
     pub co_posonlyargcount: Option<u32>,
+    /// How many parameters take a positional argument, those of `co_posonlyargcount` among them.
     pub co_argcount: Option<u32>,
+    /// How many parameters take a keyword argument alone.
     pub co_kwonlyargcount: Option<u32>,
     /// Bits that stand for no flag are dropped.
     pub co_flags: Option<u16>,
     /// 0 stands for code without a source.
     pub co_firstlineno: Option<u32>,
+    /// The file that the code comes from.
     pub co_filename: Option<PyText>,
+    /// The name of the code.
     pub co_name: Option<PyText>,
     /// Each is to be a text.
     pub co_names: Option<LiteralList>,
     /// Each is to be a text.
     pub co_varnames: Option<LiteralList>,
+    /// The constants that instructions refer to.
     pub co_consts: Option<LiteralList>,
 }
 
@@ -162,7 +167,8 @@ fn line_or(given: Option<u32>, own: Option<u32>) -> Option<u32>
 {
     match given {
         None => own,
-        Some(line) => { if line == 0 { None } else { Some(line) } }
+        Some(0) => None,
+        Some(line) => Some(line),
     }
 }
 
@@ -177,9 +183,11 @@ fn flags_or(given: Option<u16>, own: CodeFlags) -> CodeFlags
 }
 
 impl PyCode {
-    /// A code like this one, with the given parts in place of its own. The texts that are to be names go into the table: that of the
-    /// file, of the code, of the names and of the locals, in order. The table stays as it is where one of them isn't a text; where memory
-    /// ran out it may have some of them.
+    /// A code like this one, with the given parts in place of its own (Python Language Reference,
+    /// 3.2.13, code objects). `NotText` where a name isn't a text, `NoMemory` where memory ran out.
+    /// The texts that are to be names go into the table: that of the file, of the code, of the
+    /// names and of the locals, in order. The table stays as it is where one of them isn't a text;
+    /// where memory ran out it may have some of them.
     pub fn replace(
         &self,
         alloc: Global,
@@ -199,11 +207,11 @@ impl PyCode {
         if !are_texts(&args.co_varnames) {
             return Err(ReplaceFault::NotText);
         }
-        Ok(self.replaced(alloc, names, args)?)
+        Ok(self.with_parts(alloc, names, args)?)
     }
 
-    /// The same where each name is a text.
-    fn replaced(
+    /// The code that `replace` answers with, where each name is known to be a text.
+    fn with_parts(
         &self,
         alloc: Global,
         names: &mut Names,

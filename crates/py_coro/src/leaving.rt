@@ -155,9 +155,8 @@ fn class_of(store: &Store, exc: PyBaseExceptionRef) -> PyTypeRef
     requires { IsException (objects_of store.now) (as_object exc) }
     ensures { IsClassOf (objects_of store.now) exc result }
 {
-    let object = PyObjectRef { number: exc.number };
-    let Payload::Exception(body) = store.get(object) else {
+    let Some(body) = store.get(PyObjectRef::from(exc)).exception() else {
         unreachable!();
     };
-    body.value().class
+    body.class
 }

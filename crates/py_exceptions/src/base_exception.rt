@@ -75,28 +75,22 @@ impl BaseException for PyBaseExceptionRef {
     }
 
     fn set_traceback(&self, store: &mut Store, tb: Option<PyTracebackRef>) {
-        let exception = PyObjectRef {
-            number: self.number,
-        };
         let link = traceback_object(tb);
-        store.change(exception, Edit::Link(LinkField::Traceback, link));
+        store.change(
+            PyObjectRef::from(*self),
+            Edit::Link(LinkField::Traceback, link),
+        );
     }
 
     fn str(&self, alloc: Global, store: &Store) -> Result<PyText, NoMemory> {
         let mut out = String::new(alloc);
-        let object = PyObjectRef {
-            number: self.number,
-        };
-        push_whole_str(&mut out, store.objects(), object)?;
+        push_whole_str(&mut out, store.objects(), PyObjectRef::from(*self))?;
         text_of_str(alloc, out.as_str())
     }
 
     fn repr(&self, alloc: Global, store: &Store) -> Result<PyText, NoMemory> {
         let mut out = String::new(alloc);
-        let object = PyObjectRef {
-            number: self.number,
-        };
-        push_whole_repr(&mut out, store.objects(), object)?;
+        push_whole_repr(&mut out, store.objects(), PyObjectRef::from(*self))?;
         text_of_str(alloc, out.as_str())
     }
 }

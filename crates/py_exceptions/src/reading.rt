@@ -5,19 +5,17 @@ ghost use Rattle.py_objects.specs.Edits.{objects_of};
 ghost use Rattle.py_objects.specs.declared.payload.Payload.TheVariants.{Class, Exception, Tuple};
 ghost use Rattle.py_exceptions.specs.Arguments.{IsTuple};
 
-use py_objects::{
-    ClassBody, ExceptionBody, ObjList, Payload, PyBaseExceptionRef, PyObjectRef, Store,
-};
+use py_objects::{ClassBody, ExceptionBody, ObjList, PyBaseExceptionRef, PyObjectRef, Store};
 
 /// What a class is.
 pub(crate) fn class_body(store: &Store, class: PyObjectRef) -> &ClassBody
     requires { IsClassObject (objects_of store.now) class }
     ensures { HasPayload (objects_of store.now) class (Class result.now) }
 {
-    let Payload::Class(body) = store.get(class) else {
+    let Some(body) = store.get(class).class() else {
         unreachable!();
     };
-    body.value()
+    body
 }
 
 /// What an exception is.
@@ -25,10 +23,10 @@ pub(crate) fn exception_body(store: &Store, exc: PyBaseExceptionRef) -> &Excepti
     requires { IsException (objects_of store.now) (as_object exc) }
     ensures { HasPayload (objects_of store.now) (as_object exc) (Exception result.now) }
 {
-    let Payload::Exception(body) = store.get(PyObjectRef::from(exc)) else {
+    let Some(body) = store.get(PyObjectRef::from(exc)).exception() else {
         unreachable!();
     };
-    body.value()
+    body
 }
 
 /// The items of a tuple.
@@ -36,7 +34,7 @@ pub(crate) fn tuple_items(store: &Store, tuple: PyObjectRef) -> &ObjList
     requires { IsTuple (objects_of store.now) tuple }
     ensures { HasPayload (objects_of store.now) tuple (Tuple result.now) }
 {
-    let Payload::Tuple(items) = store.get(tuple) else {
+    let Some(items) = store.get(tuple).tuple() else {
         unreachable!();
     };
     items

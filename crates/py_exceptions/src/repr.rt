@@ -252,20 +252,18 @@ pub(crate) fn push_class_name(
 ) -> Result<(), NoMemory>
     ensures { Adds result out.old out.new (class_text objects.now class) }
 {
-    let object = PyObjectRef {
-        number: class.number,
-    };
-    let Some(Payload::Class(class)) = payload_at(objects, object) else {
+    let class = payload_at(objects, PyObjectRef::from(class)).and_then(Payload::class);
+    let Some(class) = class else {
         return Ok(());
     };
-    push_utf8(out, &class.value().name)
+    push_utf8(out, &class.name)
 }
 
 /// The items of a tuple: none, where it isn't there or is none.
 pub(crate) fn items_at(objects: &[Payload], object: PyObjectRef) -> &[PyObjectRef]
     ensures { result.now ≡ items_of (payload_of objects.now object) }
 {
-    let Some(Payload::Tuple(items)) = payload_at(objects, object) else {
+    let Some(items) = payload_at(objects, object).and_then(Payload::tuple) else {
         return &[];
     };
     items.as_slice()

@@ -43,13 +43,10 @@ pub fn push_raised(
 ) -> Result<(), NoMemory>
     ensures { Adds result out.old out.new (raised_text objects.now exception) }
 {
-    let object = PyObjectRef {
-        number: exception.number,
-    };
-    let Some(Payload::Exception(body)) = payload_at(objects, object) else {
+    let object = PyObjectRef::from(exception);
+    let Some(body) = payload_at(objects, object).and_then(Payload::exception) else {
         return Ok(());
     };
-    let body = body.value();
     push_class_name(out, objects, body.class)?;
     push_details(out, objects, items_at(objects, body.args))
 }

@@ -4,10 +4,10 @@ ghost use Rattle.py_rows.specs.Laws.{EndsKeepSlot, EventsTold, FitsGrow, FitsWit
 
 /// States laws, and does nothing.
 ///
-/// A frame of a code that keeps the rules, and each of whose units runs so far, fits its notes before it has begun. It is never stuck: there is a step that it can
-/// make, among these objects or more, as a constant may have to be made; and it fits behind what it does next. It fits behind
-/// each step, also one that it hears, and so wherever a run comes to; and where it fits it is within the sizes. Each event that it
-/// tells is one that its unit may tell.
+/// A frame of a code that keeps the rules, and each of whose units runs so far, fits its notes before it has begun. It is never stuck:
+/// there is a step that it can make, among these objects or more, as a constant may have to be made; and it fits behind what it does
+/// next. It fits behind each step, also one that it hears, and so wherever a run comes to; and where it fits it is within the sizes.
+/// Each event that it tells is one that its unit may tell.
 ///
 /// The slot holds the exception of the innermost handler, or what it held at first, and this where a run has ended. Of every
 /// code: a frame that waits is at the unit that was begun last, and each event that it tells is of that unit; a question names

@@ -9,9 +9,9 @@ ghost use Rattle.py_vm.specs.Turns.{entered_by, input_of, CanReply, CreatesOne, 
 use crate::calls::kind_of;
 use crate::generators::KeptGenerator;
 use crate::machinery::Core;
+use crate::reading::function_body;
 use crate::reply::Reply;
 use crate::stage::{Running, Stage, Suspended};
-use py_answers::entry;
 use py_code::{NoMemory, PyCode};
 use py_coro::Coro;
 use py_frame::{Frame, FrameConstructor, Input, OwnStack, positional};
@@ -102,9 +102,7 @@ impl Core {
         ensures ok { IfOk result (CreatesOne self.old running function kind self.new) }
         ensures err { OnErr result (Halts self.old self.new) }
     {
-        let Payload::Function(body) = entry(&self.world.store, function) else {
-            unreachable!();
-        };
+        let body = function_body(&self.world.store, function);
         let Some(code) = self.world.codes.get(body.code) else {
             unreachable!();
         };
@@ -162,9 +160,7 @@ impl Core {
         ensures ok { IfOk result (MakesFresh self.old act function args.now self.new) }
         ensures err { OnErr result (Halts self.old self.new) }
     {
-        let Payload::Function(body) = entry(&self.world.store, function) else {
-            unreachable!();
-        };
+        let body = function_body(&self.world.store, function);
         let number = body.code;
         let Some(code) = self.world.codes.get(number) else {
             unreachable!();

@@ -6,10 +6,11 @@ ghost use Rattle.py_answers.specs.Replying.{IsLeft, IsManager};
 ghost use Rattle.py_vm.specs.Worlds.{EntersFrom, HasGrown, IsExitFunction, IsSound, LeavesFrom};
 
 use crate::calls::{Course, Standing};
+use crate::reading::manager_body;
 use crate::world::World;
 use py_answers::entry;
 use py_code::NoMemory;
-use py_objects::{ObjList, Payload, PyObjectRef};
+use py_objects::{ObjList, PyObjectRef};
 
 impl World {
     /// What the entry of a manager comes to: its enter function is called without arguments.
@@ -19,10 +20,7 @@ impl World {
         ensures grows { HasGrown self.old self.new }
         ensures course { IfOk result (EntersFrom self.old self.new at manager) }
     {
-        let Payload::Manager(body) = entry(&self.store, manager) else {
-            unreachable!();
-        };
-        let enter = body.enter;
+        let enter = manager_body(&self.store, manager).enter;
         let nothing = ObjList::new(self.alloc);
         self.called(enter, &nothing, at)
     }
@@ -49,9 +47,9 @@ impl World {
         requires readable { IsReadable self.now.store }
         ensures { IsExitFunction self.now.store.made exit result }
     {
-        match entry(&self.store, exit) {
-            Payload::Manager(body) => body.exit,
-            _ => exit,
+        match entry(&self.store, exit).manager() {
+            Some(body) => body.exit,
+            None => exit,
         }
     }
 }

@@ -152,9 +152,7 @@ impl Formed {
         ensures { result ≡ answer_of self }
     {
         match self {
-            Formed::Made(exception, _) => DriveAnswer::Returns(PyObjectRef {
-                number: exception.number,
-            }),
+            Formed::Made(exception, _) => DriveAnswer::Returns(PyObjectRef::from(exception)),
             Formed::Raised(exception) => DriveAnswer::Raises(exception),
         }
     }

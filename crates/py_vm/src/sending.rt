@@ -156,7 +156,7 @@ impl World {
         requires readable { IsReadable self.now.store }
         ensures { IsKindOf self.now.store.made generator result }
     {
-        let Payload::Generator(body) = entry(&self.store, generator) else {
+        let Some(body) = entry(&self.store, generator).generator() else {
             unreachable!();
         };
         body.kind

@@ -101,9 +101,7 @@ impl Core {
             traceback: _,
         } = raise;
         let entry = PyTraceback::new(&mut self.world.store, None, frame, lasti, lineno)?;
-        let traceback = PyObjectRef {
-            number: entry.number,
-        };
+        let traceback = PyObjectRef::from(entry);
         let told = KeptRaise {
             frame,
             lasti,
@@ -128,9 +126,7 @@ fn raised_by(request: &Request, answer: Answer) -> Option<PyObjectRef>
             }
         }
         Answer::Stop(_) => None,
-        Answer::Fresh(exception) | Answer::Passed(exception) => Some(PyObjectRef {
-            number: exception.number,
-        }),
+        Answer::Fresh(exception) | Answer::Passed(exception) => Some(PyObjectRef::from(exception)),
     }
 }
 

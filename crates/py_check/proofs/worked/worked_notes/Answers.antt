@@ -29,6 +29,15 @@ returns-clause-no_constant c = breaks_whole _ refl
 pub returns-clause-no_value : goal.returns-clause-no_value
 returns-clause-no_value c = breaks _ _ refl refl refl
 
+pub returns-clause-sets_no_local : goal.returns-clause-sets_no_local
+returns-clause-sets_no_local c = breaks _ _ refl refl refl
+
+pub returns-clause-sets_a_local_to_nothing : goal.returns-clause-sets_a_local_to_nothing
+returns-clause-sets_a_local_to_nothing c = breaks _ _ refl refl refl
+
+pub returns-clause-returns_no_value : goal.returns-clause-returns_no_value
+returns-clause-returns_no_value c = breaks _ _ refl refl refl
+
 pub returns-clause-no_end : goal.returns-clause-no_end
 returns-clause-no_end c = breaks _ _ refl refl refl
 

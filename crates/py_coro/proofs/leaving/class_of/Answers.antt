@@ -3,4 +3,4 @@ use Rattle.py_objects.proofs.ChangesLemmas.{now_within}
 use Rattle.py_coro.proofs.leaving.class_of.Goals as goal
 
 pub get-requires : goal.get-requires
-get-requires c = now_within c.args.store.now (as_object c.args.exc) _ c.requires.1
+get-requires c = rw c.from.ensures (now_within c.args.store.now (as_object c.args.exc) _ c.requires.1)

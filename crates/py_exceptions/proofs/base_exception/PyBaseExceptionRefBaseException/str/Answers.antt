@@ -1,7 +1,7 @@
 use Rattle.std.proofs.Common.{◌≡◌, ◌++◌, ◌∙◌, List, ℕ, ap, subst}
 use Rattle.std.specs.Prelude.{IfOk, chars}
 use Rattle.py_objects.specs.declared.payload.Payload.{Payload}
-use Rattle.py_objects.specs.Objects.{as_object}
+use Rattle.py_objects.specs.Objects.{Obj, as_object}
 use Rattle.py_objects.specs.Edits.{objects_of}
 use Rattle.py_exceptions.specs.Texts.{str}
 use Rattle.py_exceptions.proofs.base_exception.PyBaseExceptionRefBaseException.str.Goals as goal
@@ -12,6 +12,7 @@ returns c =
     let written : c.as_str.result.now ≡ str objects (as_object c.args.self.now) =
     c.as_str.ensures.value
     ∙ (c.in_ok-push_whole_str.ensures
-    ∙ (ap (λ (front : List ℕ). front ++ str c.objects.result.now (as_object c.args.self.now)) c.new-out.ensures.bytes
-    ∙ ap (λ (os : List Payload). str os (as_object c.args.self.now)) c.objects.ensures)) in
+    ∙ (ap (λ (front : List ℕ). front ++ str c.objects.result.now c.from.result) c.new-out.ensures.bytes
+    ∙ (ap (λ (exception : Obj). str c.objects.result.now exception) c.from.ensures
+    ∙ ap (λ (os : List Payload). str os (as_object c.args.self.now)) c.objects.ensures))) in
     subst (λ (bytes : List ℕ). IfOk c.text_of_str.result (λ text. text ≡ chars bytes)) written c.text_of_str.ensures

@@ -3,15 +3,15 @@ use Rattle.py_objects.specs.declared.payload.Payload.TheVariants as payload
 use Rattle.py_objects.proofs.GrownLemmas.{added_grown, still_grown}
 use Rattle.py_frame.proofs.RunningLemmas.{erred}
 use Rattle.py_vm.specs.declared.machinery.Core.{Core}
-use Rattle.py_vm.proofs.CallsLemmas.{function_read, code_not_none}
+use Rattle.py_vm.proofs.CallsLemmas.{code_not_none}
 use Rattle.py_vm.proofs.LeavingLemmas.{new_not_kept}
 use Rattle.py_vm.proofs.PartsLemmas.{grew_halts}
 use Rattle.py_vm.proofs.machinery.Core.create.Goals as goal
 
-pub unreachable-requires-in_default-get : goal.unreachable-requires-in_default-get
-unreachable-requires-in_default-get c =
-    code_not_none c.args.self.now.world.codes c.args.self.now.world.store.made c.args.function c.in-Function.body c.requires.can.runnable
-    (function_read c.args.self.now.world.store.made c.args.function c.entry.result.now c.in-Function.body c.entry.ensures c.in-Function.is) (sym (rw c.in_default-get.is at c.get.ensures))
+pub unreachable-requires : goal.unreachable-requires
+unreachable-requires c =
+    code_not_none c.args.self.now.world.codes c.args.self.now.world.store.made c.args.function c.function_body-body.result.now c.requires.can.runnable
+    c.function_body-body.ensures (sym (rw c.in_default.is at c.get.ensures))
 
 pub returns-in_err-object-clause-err : goal.returns-in_err-object-clause-err
 returns-in_err-object-clause-err c =

@@ -3,7 +3,7 @@ use Rattle.py_code.specs.declared.code.CodeObject.{CodeObject}
 use Rattle.py_code.specs.declared.names.NameId.{NameId}
 use Rattle.py_code.specs.Replacing.{AreNamesOr, IsReplaced, names_given, text_given, texts_given}
 use Rattle.py_code.proofs.ReplacingLemmas.{AreNamesOr-grown, IsNameOr-grown, all_are, all_done, first_failed, fourth_failed, grown-trans, interned_grown, second_failed, third_failed}
-use Rattle.py_code.proofs.code.PyCode.replaced.Goals as goal
+use Rattle.py_code.proofs.code.PyCode.with_parts.Goals as goal
 
 pub returns-clause-replaced : goal.returns-clause-replaced
 returns-clause-replaced c =
