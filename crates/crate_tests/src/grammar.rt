@@ -49,3 +49,38 @@ fn a_text_is_a_script_or_has_a_bad_line(rt: HostRuntime) -> Result<(), NoMemory>
     );
     Ok(())
 }
+
+const RAW_SCRIPT: &[u8] = b"def g\nend\ncode f a\nflags gen newlocals\ndepth 1\nconsts None 5 'b'\n\
+    counts 0 1 0\nvars x\ncells\nnames n\nu ExtendedArg 1 - -\nu LoadConst 0 - -\nu YieldValue 0 any -\nend\n\
+    code h\nconsts 'x'\ndepth 1\nu ReturnConst 0 - -\nend\nmanager m f h\ncall f 1\n";
+
+#[test]
+fn raw_codes_are_declarations(rt: HostRuntime) -> Result<(), NoMemory> {
+    let alloc = rt.alloc();
+    let script = Outline::Script {
+        names: 4,
+        drives: 1,
+    };
+    assert_eq!(rt; outline_of(alloc, RAW_SCRIPT)?, script);
+    assert_eq!(rt;
+        outline_of(alloc, b"code f\ndepth 1\nvars\nvars a\n")?,
+        Outline::BadLine(4)
+    );
+    assert_eq!(rt;
+        outline_of(alloc, b"code f\ndepth 1\nu Pop 0 - -\nu Raise 2 - -\n")?,
+        Outline::BadLine(4)
+    );
+    assert_eq!(rt;
+        outline_of(alloc, b"code f\ndepth 1\nend\n")?,
+        Outline::BadLine(3)
+    );
+    assert_eq!(rt;
+        outline_of(alloc, b"def g\nend\ncode f\nconsts @g\n")?,
+        Outline::BadLine(4)
+    );
+    assert_eq!(rt;
+        outline_of(alloc, b"code f\nconsts (1 'b')\n")?,
+        Outline::BadLine(2)
+    );
+    Ok(())
+}

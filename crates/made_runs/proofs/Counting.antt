@@ -37,6 +37,7 @@ use Rattle.py_make.proofs.ScriptLemmas.{count_suite}
 use Rattle.py_tree.specs.Binding.{start_env}
 use Rattle.py_tree.specs.Outcome.{RunsSuite}
 use Rattle.py_tree.specs.Trace.{EndsBy}
+use Rattle.py_grammar.specs.Grammar.{OfBody}
 use Rattle.py_run.specs.Run.{Posed, Activation, Idle, Asking, Made, requested_by, entered_in}
 use Rattle.py_run.specs.Generators.{Generator, generator_at, running_at, settled}
 use Rattle.py_run.specs.Calls.{Course, IsDue, Setting, Begins, Enters, Sends, Throws, course_by, CallsFunction}
@@ -116,7 +117,7 @@ abbrev count_kind : (asked : List Posed) (more : List Payload)
 count_kind asked more = record {
   body = count_function;
   entry = refl;
-  signature = signature_of count_tree;
+  signature = signature_of (OfBody count_tree);
   signed = refl;
   kind_is = refl;
 }
@@ -406,6 +407,6 @@ pub counting_tells : (more : List Payload) (k n : ℕ) (x : Obj)
     → Tell more 0 k (counting 0 1 2 0 n x) (made_of Counts n x)
 unfolding own_from told_by
 counting_tells more k n x = (
-  (count_function, refl, (count_tree, refl, (refl, (_, refl, body_tells more k n x)))),
+  (count_function, refl, (OfBody count_tree, refl, (refl, (_, refl, body_tells more k n x)))),
   tt,
 )

@@ -23,7 +23,7 @@ use Rattle.py_exceptions.specs.Classes.{class_of, mro_of, first_classes}
 use Rattle.py_tree.specs.declared.body.BodyKind.TheVariants as body
 use Rattle.py_tree.specs.declared.expr.Atom.TheVariants as atom
 use Rattle.py_tree.specs.Tree.{Tree, Leaf, Show, nothing, first}
-use Rattle.py_grammar.specs.Grammar.{Decl, ClassDecl, ManagerDecl, FunctionDecl, functions_in}
+use Rattle.py_grammar.specs.Grammar.{Decl, ClassDecl, ManagerDecl, FunctionDecl, Coded, OfBody, codes_in}
 use Rattle.py_make.proofs.ScriptLemmas.{work_suite, count_suite}
 use Rattle.py_run.specs.First.{first_objects}
 use Rattle.py_run.proofs.FirstLemmas.{first_fit}
@@ -85,9 +85,9 @@ count_tree = record {
   line = 22;
 }
 
--- the functions, in order
-abbrev pub trees : List Tree
-trees = enter_tree ∷ exit_tree ∷ work_tree ∷ count_tree ∷ []
+-- what the codes are of, in order: the bodies of the functions
+abbrev pub coded : List Coded
+coded = OfBody enter_tree ∷ OfBody exit_tree ∷ OfBody work_tree ∷ OfBody count_tree ∷ []
 
 -- the class of the exception that work raises
 abbrev fault : Decl
@@ -117,7 +117,7 @@ above = record { name = name_of Exception; mro = mro_of first_classes Exception 
 abbrev pub fault_body : ClassBody
 fault_body = record { name = codes "Fault"; mro = base_class ∷ above.mro }
 
--- a function, by its name and the place of its body among the bodies
+-- a function, by its name and the place of its code among the codes
 abbrev function : (name : List ℕ) → (place : ℕ) → FunctionBody
 function name place = record { name = name; code = place }
 
@@ -273,7 +273,7 @@ HaveObjects k = AreObjects (take k decls) (objects_of k)
 
 -- the entry of a function that is declared behind these
 abbrev entry_behind : List Decl → Tree → Payload
-entry_behind ds t = payload.Function (function t.name (length (functions_in ds)))
+entry_behind ds t = payload.Function (function t.name (length (codes_in ds)))
 
 -- such a function has its object
 function_there : (ds : List Decl) (objects : List Payload) (t : Tree) → AreObjects ds objects

@@ -14,8 +14,9 @@ use Rattle.py_make.proofs.ScriptLemmas.{drives_from}
 use Rattle.py_run.specs.Run.{Posed, State}
 use Rattle.py_run.specs.Coming.{IsDone}
 use Rattle.py_run.specs.declared.journal.Journal.{Journal}
+use Rattle.py_meaning.specs.Core.{IsCore}
 use Rattle.py_meaning.specs.Whole.{IsRunOf}
-use Rattle.made_runs.specs.Runs.{HaveRuns, most_events_of_a_group}
+use Rattle.made_runs.specs.Runs.{AreCore, HaveRuns, most_events_of_a_group}
 use Rattle.made_runs.proofs.Lists.{Each, each_at, each_both}
 use Rattle.made_runs.proofs.Blocks.{Names}
 use Rattle.made_runs.proofs.Objects.{number_count, first_of_groups, base, decls, store, IsMore, are_objects}
@@ -117,4 +118,16 @@ have_runs seed count low =
       },
       subst (λ (l : List DriveLine). IsDone (length l) j.events) (sym drives) (is_done count s),
       (let short = (run count s).short in omega (arith, short)),
+    )
+
+-- and no raw code
+pub are_core : AreCore
+are_core seed count low =
+    let s : ℕ = seed % 2 ^ 32 in
+    let text : Text = lines (made_text seed count) in
+    let (script, declares, drives) = script_of (drives_from count s 1) in (
+      script,
+      subst (λ (l : List Decl). Spells text l script.drives) (sym declares)
+          (subst (Spells text decls) (sym drives) (spelled seed count low)),
+      subst IsCore (sym declares) refl,
     )

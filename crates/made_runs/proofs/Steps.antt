@@ -18,6 +18,7 @@ use Rattle.py_objects.specs.Objects.{Obj, Name, HasPayload, declared, numbers, n
 use Rattle.py_coro.specs.declared.coro.CoroEnd.TheVariants as left
 use Rattle.py_answers.specs.Answers.{Has, Is, Compares, found, truth}
 use Rattle.py_tree.specs.Tree.{Tree, seen_as}
+use Rattle.py_grammar.specs.Grammar.{OfBody}
 use Rattle.py_run.specs.Run.{Posed, Plan, Phase, Idle, Asking, Going, Due, Act, Activation, State, requested_by}
 use Rattle.py_run.specs.Run.{entered_in, handled_among}
 use Rattle.py_run.specs.Generators.{Generator, running_at}
@@ -27,7 +28,7 @@ use Rattle.py_run.specs.Coming.{Past, IsOfKind, Opens, Comes}
 use Rattle.py_meaning.specs.Whole.{plan_of, signature_of}
 use Rattle.made_runs.proofs.Lists.{length_on}
 use Rattle.made_runs.proofs.Blocks.{Names, names_both}
-use Rattle.made_runs.proofs.Objects.{shared_count, enter_tree, exit_tree, work_tree, trees, enter_function}
+use Rattle.made_runs.proofs.Objects.{shared_count, enter_tree, exit_tree, work_tree, coded, enter_function}
 use Rattle.made_runs.proofs.Objects.{exit_function, work_function, store, truth_object, truth_there, enter_object}
 use Rattle.made_runs.proofs.Objects.{exit_object, scope_object, work_object, globals_object, open_object}
 use Rattle.made_runs.proofs.Objects.{close_object, limit_object, false_object, true_object}
@@ -36,7 +37,7 @@ use Rattle.made_runs.proofs.Groups.{enters, leaves, returns}
 
 -- what a run of the script is of, where its drives ask this
 abbrev pub plan : List Posed → Plan
-plan asked = plan_of trees asked
+plan asked = plan_of coded asked
 
 -- a past by its parts
 abbrev pub past : List Event → (d : ℕ) → Phase → List Act → List Activation → List Generator → Past
@@ -99,25 +100,25 @@ module _ (asked : List Posed) (more : List Payload) where
   -- a call of the function of this tree enters it
   pub function_called : (at : Setting) (f : Obj) (vs : List Obj) (b : FunctionBody) (t : Tree)
       → HasPayload (store more) f (payload.Function b)
-      → slice_get at.signatures b.code ≡ Some (signature_of t)
+      → slice_get at.signatures b.code ≡ Some (signature_of (OfBody t))
       → Enters f vs ≡ bound_by (refusal b.name t.params (length vs)) (made_at (seen_as t.kind) at.depth (Enters f vs))
       → CallsFunction at (store more) f vs (Enters f vs)
   function_called at f vs b t entry signed is = record {
     body = b;
     entry = entry;
-    signature = signature_of t;
+    signature = signature_of (OfBody t);
     signed = signed;
     is = is;
   }
 
   -- a function whose tree isn't one of generators is none of generators
   function_plain : (f : Obj) (b : FunctionBody) (t : Tree) → HasPayload (store more) f (payload.Function b)
-      → slice_get (plan asked).signatures b.code ≡ Some (signature_of t) → seen_as t.kind ≡ None
+      → slice_get (plan asked).signatures b.code ≡ Some (signature_of (OfBody t)) → seen_as t.kind ≡ None
       → IsOfKind (plan asked) (store more) f None
   function_plain f b t entry signed plain = record {
     body = b;
     entry = entry;
-    signature = signature_of t;
+    signature = signature_of (OfBody t);
     signed = signed;
     kind_is = plain;
   }

@@ -23,19 +23,20 @@ use Rattle.py_tree.specs.Binding.{Env, set_local, start_env}
 use Rattle.py_tree.specs.Scene.{Scene, anywhere}
 use Rattle.py_tree.specs.Outcome.{After, On_normal, On_raise, On_exit, RunsSuite, Tries}
 use Rattle.py_tree.specs.Trace.{EndsBy}
+use Rattle.py_grammar.specs.Grammar.{OfBody}
 use Rattle.py_make.proofs.ScriptLemmas.{work_suite}
 use Rattle.py_run.specs.Run.{Activation}
 use Rattle.py_run.specs.Coming.{May}
 use Rattle.py_meaning.specs.Whole.{Traces}
 use Rattle.made_runs.proofs.Blocks.{up}
-use Rattle.made_runs.proofs.Objects.{enter_tree, exit_tree, work_tree, trees, enter_function, exit_function}
+use Rattle.made_runs.proofs.Objects.{enter_tree, exit_tree, work_tree, coded, enter_function, exit_function}
 use Rattle.made_runs.proofs.Objects.{work_function}
 use Rattle.made_runs.proofs.Objects.{store, truth_object, enter_object, exit_object, scope_object, work_object}
 use Rattle.made_runs.proofs.Objects.{globals_object, open_object, close_object, limit_object}
 
 -- what activations of the script may tell
 abbrev pub may : List Payload → May
-may more = Traces trees globals_object (store more)
+may more = Traces coded globals_object (store more)
 
 -- each of these activations, numbered from l on, tells what it may by these events, numbered from k on
 abbrev pub Tell : List Payload → (l k : ℕ) → List Event → List Activation → Type 0
@@ -81,14 +82,14 @@ shown_tells more i j line text v env is =
 pub enter_tells : (more : List Payload) (i j : ℕ) → may more enter_object [] (showing i j open_object)
 enter_tells more i j =
     let shown = shown_tells more i j 3 (codes "open") open_object (start_env enter_tree []) refl in
-    (enter_function, refl, (enter_tree, refl, (refl, (_, refl, shown))))
+    (enter_function, refl, (OfBody enter_tree, refl, (refl, (_, refl, shown))))
 
 -- and its exits
 pub exit_tells : (more : List Payload) (i j : ℕ) (c e t : Obj)
     → may more exit_object (c ∷ e ∷ t ∷ []) (showing i j close_object)
 exit_tells more i j c e t =
     let shown = shown_tells more i j 6 (codes "close") close_object (start_env exit_tree (c ∷ e ∷ t ∷ [])) refl in
-    (exit_function, refl, (exit_tree, refl, (refl, (_, refl, shown))))
+    (exit_function, refl, (OfBody exit_tree, refl, (refl, (_, refl, shown))))
 
 -- ---- work is called
 
@@ -156,4 +157,4 @@ module _ (more : List Payload) where
       let tests : RunsSuite (scene more) work_suite (start_env work_tree (x ∷ [])) None (up k 2) (working k x b rest)
       (EndsBy (scene more)) =
       inr (inr (limit_object, refl, hears (truth_object b) tries)) in
-      (work_function, refl, (work_tree, refl, (refl, (_, refl, tests))))
+      (work_function, refl, (OfBody work_tree, refl, (refl, (_, refl, tests))))

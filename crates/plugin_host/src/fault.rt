@@ -18,6 +18,8 @@ pub(crate) enum Refusal {
     DrivesItself,
     /// It doesn't declare what the host's lines call.
     Lacks,
+    /// A raw code of it breaks a rule: the number of its code, from 0, and the unit.
+    Broken(usize, usize),
 }
 
 impl fmt::Display for Refusal {
@@ -28,6 +30,7 @@ impl fmt::Display for Refusal {
             Refusal::Malformed(line) => write!(f, "line {line} is bad"),
             Refusal::DrivesItself => write!(f, "it drives itself"),
             Refusal::Lacks => write!(f, "it lacks what the host calls"),
+            Refusal::Broken(code, at) => write!(f, "code {code} breaks a rule at unit {at}"),
         }
     }
 }

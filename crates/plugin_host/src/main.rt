@@ -43,6 +43,10 @@ fn run_plugin(
 {
     let mut session = match load_script(alloc, script) {
         Ok(session) => session,
+        Err(LoadFault::Refused(code, at)) => return report.put_refused(
+            name,
+            &Refusal::Broken(code, at),
+        ),
         Err(LoadFault::NoMemory) => return Err(NoMemory),
     };
     let course = drive_lines(alloc, report, name, script, &mut session)?;

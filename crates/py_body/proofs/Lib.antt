@@ -9,7 +9,7 @@ mod ScopeLemmas
 mod Places
 mod Binding
 mod Parameters
-mod NamingLemmas
+pub mod NamingLemmas
 -- what is emitted piece by piece
 mod EmittingLemmas
 mod Operands

@@ -14,6 +14,7 @@ mod sizes;
 mod statements;
 
 pub use compile::{AnnotatedList, compile_body};
+pub use naming::{intern_all, intern_text};
 pub use py_tree::{
     Atom, Body, BodyKind, Clause, ClauseList, Expr, ExprList, Operator, ParamList, Stmt, StmtForm,
     StmtList,

@@ -1,158 +1,45 @@
 -- Which lines scripts begin with: those that the reader takes.
-use Rattle.std.proofs.Common.{◌≡◌, ◌⊎◌, inl, inr, ℕ, suc, List, [], ◌∷◌, ◌++◌, Option, Some, None, refl, sym, ap, ◌∙◌, append_assoc, append-nil, subst}
+use Rattle.std.proofs.Common.{◌≡◌, ◌⊎◌, inl, inr, ℕ, List, [], ◌∷◌, ◌++◌, Option, Some, None, refl, sym, ap, ◌∙◌, append_assoc, append-nil, subst}
 use Rattle.std.specs.Prelude.{codes, option_map}
 use Rattle.py_tree.specs.Tree.{Form, If, IfElse, While, TryExcept, TryFinally, With, Suite, nothing}
+use Rattle.py_tree.specs.Suites.{with_clause}
 use Rattle.py_lines.specs.declared.drive.DriveLine.{DriveLine}
-use Rattle.py_lines.specs.declared.head.Turn.{Turn}
 use Rattle.py_lines.specs.declared.head.Turn.TheVariants as turn
-use Rattle.py_lines.specs.declared.header.Header.TheVariants as header
-use Rattle.py_lines.specs.Line.{Line, LineRead, Blank, Said, Malformed}
+use Rattle.py_lines.specs.Line.{LineRead, Blank, Said, Malformed}
 use Rattle.py_lines.specs.Line as line
 use Rattle.py_lines.specs.Reading.{IsReadAs}
-use Rattle.py_grammar.specs.Grammar.{Row, row, Decl, FunctionDecl, kept_number, items_rows, drives_in}
+use Rattle.py_grammar.specs.Grammar.{Row, row, Decl, FunctionDecl, items_rows, drives_in}
 use Rattle.py_grammar.specs.Lines.{lines}
 use Rattle.py_grammar.specs.Script.{Text, with_read, rows_from, Spells, Begins}
-use Rattle.py_grammar.specs.Reader.{Began, in_if, in_else, in_while, in_try, in_except, in_finally, in_with, Block, Open, State, state, start, accept, accept_at, outside, in_body, still_inside, takes_line, finally_behind, turned, turned_to, ended, function_of, one_block, ended_in, closed, closes}
-use Rattle.py_tree.specs.Suites.{with_clause}
-use Rattle.py_grammar.proofs.LineReads.{AreReadAs, read_length, one_reading, read_append, read_parts, after, after-one, both_rows, rows_from-append}
-use Rattle.py_grammar.proofs.Whole.{run, run-append, and_then, items_read}
-use Rattle.py_grammar.proofs.Sound.{Came, CameTo, sound}
-
--- ---- one more line
-
--- the reader looks at no number that trees don't keep
-outside-kept : (ts : List Decl) (ds : List DriveLine) (n : ℕ) (l : Line) → outside ts ds (kept_number n l) l ≡ outside ts ds n l
-outside-kept ts ds n line.End = refl
-outside-kept ts ds n (line.Header (header.Def k f ps)) = refl
-outside-kept ts ds n (line.Header (header.Class c b)) = refl
-outside-kept ts ds n (line.Header (header.Manager m e x)) = refl
-outside-kept ts ds n l = refl
-
-turned-kept : (o : Open) (n : ℕ) (t : Turn) (bs : List Block) → turned o (kept_number n (line.Turns t)) t bs ≡ turned o n t bs
-turned-kept o n turn.Else [] = refl
-turned-kept o n turn.Else (b ∷ bs) = refl
-turned-kept o n (turn.Except c x) bs = refl
-turned-kept o n turn.Finally [] = refl
-turned-kept o n turn.Finally (b ∷ bs) = refl
-
-in_body-kept : (ts : List Decl) (ds : List DriveLine) (o : Open) (n : ℕ) (l : Line) → in_body ts ds o (kept_number n l) l ≡ in_body ts ds o n l
-in_body-kept ts ds o n line.End = refl
-in_body-kept ts ds o n (line.Turns t) = ap (still_inside ts ds) (turned-kept o n t o.blocks)
-in_body-kept ts ds o n l = refl
-
-accept-kept : (ts : List Decl) (ds : List DriveLine) (i : Option Open) (n : ℕ) (l : Line) → accept_at ts ds i (kept_number n l) l ≡ accept_at ts ds i n l
-accept-kept ts ds None n l = outside-kept ts ds n l
-accept-kept ts ds (Some o) n l = in_body-kept ts ds o n l
-
--- the reader has taken these lines and is here
-pub record Been (front : Text) (st : State) : Type 0 where
-  pub reads : List LineRead
-  pub read : AreReadAs front reads
-  pub rows : List Row
-  pub numbered : rows_from 1 reads ≡ Some rows
-  pub ran : run start rows ≡ Some st
-  pub came : Came rows st.decls st.drives st.inside
-
-abbrev pub BeenTo : Text → Option State → Type 0
-BeenTo front None = Unit {0}
-BeenTo front (Some st) = Been front st
-
-pub been_start : Been [] start
-been_start = record {
-  reads = [];
-  read = tt;
-  rows = [];
-  numbered = refl;
-  ran = refl;
-  came = record { items = []; spelled = refl; declared = refl; driven = refl; well = tt; well_open = tt };
-}
-
--- the rows with one more line
-rows_behind : (front : Text) (st : State) (b : Been front st) (r : LineRead)
-    → rows_from 1 (b.reads ++ r ∷ []) ≡ both_rows (Some b.rows) (with_read (after 1 front) r (Some []))
-rows_behind front st b r =
-    let numbers : after 1 b.reads ≡ after 1 front = after-one b.reads ∙ ap suc (read_length front b.reads b.read) ∙ sym (after-one front) in
-    rows_from-append 1 b.reads (r ∷ []) ∙ ap (λ q. both_rows q (with_read (after 1 b.reads) r (Some []))) b.numbered
-    ∙ ap (λ n. both_rows (Some b.rows) (with_read n r (Some []))) numbers
-
-and_then_some : (o : Option State) → and_then o (λ s. Some s) ≡ o
-and_then_some None = refl
-and_then_some (Some s) = refl
-
--- what the reader has behind them
-ran_behind : (front : Text) (st : State) (b : Been front st) (x : Line) → run start (b.rows ++ row (after 1 front) x ∷ []) ≡ accept st (after 1 front) x
-ran_behind front st b x =
-    let n : ℕ = after 1 front in
-    run-append start b.rows (row n x ∷ []) ∙ ap (λ q. and_then q (λ s. run s (row n x ∷ []))) b.ran
-    ∙ and_then_some (accept st (kept_number n x) x) ∙ accept-kept st.decls st.drives st.inside n x
-
-pub one_line : (front : Text) (st : State) (l : List ℕ) (r : LineRead) → IsReadAs l r → Been front st → BeenTo (front ++ l ∷ []) (takes_line st (after 1 front) r)
-one_line front st l Malformed e b = tt
-one_line front st l Blank e b = record {
-  reads = b.reads ++ Blank ∷ [];
-  read = read_append front (l ∷ []) b.reads (Blank ∷ []) b.read (e, tt);
-  rows = b.rows;
-  numbered = rows_behind front st b Blank ∙ ap Some (append-nil b.rows);
-  ran = b.ran;
-  came = b.came;
-}
-one_line front st l (Said x) e b = go (accept st (after 1 front) x) refl (sound b.rows st.decls st.drives st.inside (after 1 front) x b.came)
-  where
-    go : (o : Option State) → accept st (after 1 front) x ≡ o → CameTo (b.rows ++ row (after 1 front) x ∷ []) o → BeenTo (front ++ l ∷ []) o
-    go None k c = tt
-    go (Some s) k c = record {
-      reads = b.reads ++ Said x ∷ [];
-      read = read_append front (l ∷ []) b.reads (Said x ∷ []) b.read (e, tt);
-      rows = b.rows ++ row (after 1 front) x ∷ [];
-      numbered = rows_behind front st b (Said x);
-      ran = ran_behind front st b x ∙ k;
-      came = c;
-    }
+use Rattle.py_grammar.specs.Reader.{Began, in_if, in_else, in_while, in_try, in_except, in_finally, in_with, Block, Open, Unclosed, open_body, open_code, State, state, start, still_inside, takes_line, finally_behind, turned, turned_to, ended, function_of, one_block, ended_in, closed, closes}
+use Rattle.py_grammar.proofs.LineReads.{AreReadAs, one_reading, read_append, read_parts, after, both_rows, rows_from-append}
+use Rattle.py_grammar.proofs.Runs.{run, run-append, and_then}
+use Rattle.py_grammar.proofs.Whole.{items_read}
+use Rattle.py_grammar.proofs.Been.{Been, BeenTo, been_start, rows_behind, ran_behind, one_line, begins_whole, begins_before, end_line, begins_end}
+use Rattle.py_grammar.proofs.BegunCodes.{begins_code}
 
 -- ---- lines that are taken
-
--- with no body open, the lines are a script
-pub been_spells : (front : Text) (ts : List Decl) (ds : List DriveLine) → Been front (state ts ds None) → Spells front ts ds
-been_spells front ts ds b = record {
-  items = b.came.items;
-  reads = b.reads;
-  read = b.read;
-  spelled = b.numbered ∙ ap Some (b.came.spelled ∙ append-nil _);
-  well = b.came.well;
-  declared = b.came.declared;
-  driven = b.came.driven;
-}
-
-begins_whole : (front : Text) (ts : List Decl) (ds : List DriveLine) → Been front (state ts ds None) → Begins front
-begins_whole front ts ds b = ([], ts, ds, subst (λ t. Spells t ts ds) (sym (append-nil front)) (been_spells front ts ds b))
-
-abbrev end_line : List ℕ
-end_line = codes "end"
 
 abbrev finally_line : List ℕ
 finally_line = codes "finally"
 
--- a script that begins with lines and an end begins with the lines
-begins_end : (front : Text) → Begins (front ++ end_line ∷ []) → Begins front
-begins_end front b = (end_line ++ 10 ∷ b.0, b.1, b.2, subst (λ t. Spells t b.1 b.2) (append_assoc front (end_line ∷ []) (lines b.0)) b.3)
-
--- so does one with a finally in place of the end
+-- a script that begins with lines and a finally begins with the lines
 begins_finally : (front : Text) → Begins (front ++ finally_line ∷ []) → Begins front
-begins_finally front b = (finally_line ++ 10 ∷ b.0, b.1, b.2, subst (λ t. Spells t b.1 b.2) (append_assoc front (finally_line ∷ []) (lines b.0)) b.3)
+begins_finally front b = begins_before finally_line (λ more. refl) front b
 
 -- behind an end
-been_end : (bs : List Block) (front : Text) (ts : List Decl) (ds : List DriveLine) (o : Open) → o.blocks ≡ bs → Been front (state ts ds (Some o))
+been_end : (bs : List Block) (front : Text) (ts : List Decl) (ds : List DriveLine) (o : Open) → o.blocks ≡ bs → Been front (state ts ds (Some (open_body o)))
     → BeenTo (front ++ end_line ∷ []) (option_map (closes ts ds) (closed o bs))
 been_end bs front ts ds o e b =
-    subst (λ x. BeenTo (front ++ end_line ∷ []) (option_map (closes ts ds) (closed o x))) e (one_line front (state ts ds (Some o)) end_line (Said line.End) (refl, tt) b)
+    subst (λ x. BeenTo (front ++ end_line ∷ []) (option_map (closes ts ds) (closed o x))) e (one_line front (state ts ds (Some (open_body o))) end_line (Said line.End) (refl, tt) b)
 
 -- behind a finally, where the innermost block is a try
 been_finally : (c : Block) (bs : List Block) (front : Text) (ts : List Decl) (ds : List DriveLine) (o : Open) → o.blocks ≡ c ∷ bs → c.began ≡ in_try
-    → Been front (state ts ds (Some o)) → Been (front ++ finally_line ∷ []) (state ts ds (Some (turned_to o c bs (in_finally o.done))))
+    → Been front (state ts ds (Some (open_body o))) → Been (front ++ finally_line ∷ []) (state ts ds (Some (open_body (turned_to o c bs (in_finally o.done)))))
 been_finally c bs front ts ds o e is b =
     subst (λ g. BeenTo (front ++ finally_line ∷ []) (still_inside ts ds (option_map (turned_to o c bs) (finally_behind g o.done)))) is
     (subst (λ x. BeenTo (front ++ finally_line ∷ []) (still_inside ts ds (turned o (after 1 front) turn.Finally x))) e
-    (one_line front (state ts ds (Some o)) finally_line (Said (line.Turns turn.Finally)) (refl, tt) b))
+    (one_line front (state ts ds (Some (open_body o))) finally_line (Said (line.Turns turn.Finally)) (refl, tt) b))
 
 -- each block may end but a try that has neither a clause nor a finally
 ends : (g : Began) (s : Suite) → ((f : Form) × (ended g s ≡ Some f)) ⊎ (g ≡ in_try)
@@ -166,19 +53,19 @@ ends (in_with a x) s = inl (With a x s, refl)
 
 -- some script begins with lines behind which these blocks are open
 abbrev BeginsBehind : List Block → List Decl → List DriveLine → Type 0
-BeginsBehind bs ts ds = (front : Text) (o : Open) → o.blocks ≡ bs → Been front (state ts ds (Some o)) → Begins front
+BeginsBehind bs ts ds = (front : Text) (o : Open) → o.blocks ≡ bs → Been front (state ts ds (Some (open_body o))) → Begins front
 
 -- the innermost block ends
 begins_ended : (c : Block) (bs : List Block) (front : Text) (ts : List Decl) (ds : List DriveLine) (o : Open) (f : Form) → o.blocks ≡ c ∷ bs → ended c.began o.done ≡ Some f
-    → Been front (state ts ds (Some o)) → BeginsBehind bs ts ds → Begins front
+    → Been front (state ts ds (Some (open_body o))) → BeginsBehind bs ts ds → Begins front
 begins_ended c bs front ts ds o f e is b behind =
-    let ends : Been (front ++ end_line ∷ []) (state ts ds (Some (ended_in o c bs f))) =
+    let ends : Been (front ++ end_line ∷ []) (state ts ds (Some (open_body (ended_in o c bs f)))) =
     subst (λ q. BeenTo (front ++ end_line ∷ []) (option_map (closes ts ds) (option_map (λ g. one_block (ended_in o c bs g)) q))) is (been_end (c ∷ bs) front ts ds o e b) in
     begins_end front (behind (front ++ end_line ∷ []) (ended_in o c bs f) refl ends)
 
 -- at once, or behind a finally
 begins_block : (c : Block) (bs : List Block) (front : Text) (ts : List Decl) (ds : List DriveLine) (o : Open) → o.blocks ≡ c ∷ bs
-    → ((f : Form) × (ended c.began o.done ≡ Some f)) ⊎ (c.began ≡ in_try) → Been front (state ts ds (Some o)) → BeginsBehind bs ts ds → Begins front
+    → ((f : Form) × (ended c.began o.done ≡ Some f)) ⊎ (c.began ≡ in_try) → Been front (state ts ds (Some (open_body o))) → BeginsBehind bs ts ds → Begins front
 begins_block c bs front ts ds o e (inl p) b behind = begins_ended c bs front ts ds o p.0 e p.1 b behind
 begins_block c bs front ts ds o e (inr is) b behind =
     let next : Open = turned_to o c bs (in_finally o.done) in
@@ -186,13 +73,14 @@ begins_block c bs front ts ds o e (inr is) b behind =
     (been_finally c bs front ts ds o e is b) behind)
 
 -- an end for each open block, some behind a finally, and one for the body close all
-begins_open : (bs : List Block) (front : Text) (ts : List Decl) (ds : List DriveLine) (o : Open) → o.blocks ≡ bs → Been front (state ts ds (Some o)) → Begins front
+begins_open : (bs : List Block) (front : Text) (ts : List Decl) (ds : List DriveLine) (o : Open) → o.blocks ≡ bs → Been front (state ts ds (Some (open_body o))) → Begins front
 begins_open [] front ts ds o e b = begins_end front (begins_whole (front ++ end_line ∷ []) (ts ++ FunctionDecl (function_of o) ∷ []) ds (been_end [] front ts ds o e b))
 begins_open (c ∷ bs) front ts ds o e b = begins_block c bs front ts ds o e (ends c.began o.done) b (λ more p same been. begins_open bs more ts ds p same been)
 
-pub begins_at : (front : Text) (ts : List Decl) (ds : List DriveLine) (i : Option Open) → Been front (state ts ds i) → Begins front
+pub begins_at : (front : Text) (ts : List Decl) (ds : List DriveLine) (i : Option Unclosed) → Been front (state ts ds i) → Begins front
 begins_at front ts ds None b = begins_whole front ts ds b
-begins_at front ts ds (Some o) b = begins_open o.blocks front ts ds o refl b
+begins_at front ts ds (Some (open_body o)) b = begins_open o.blocks front ts ds o refl b
+begins_at front ts ds (Some (open_code t)) b = begins_code front ts ds t b
 
 pub begins : (front : Text) (st : State) → Been front st → Begins front
 begins front st b = begins_at front st.decls st.drives st.inside b

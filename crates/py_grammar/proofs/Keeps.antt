@@ -1,5 +1,5 @@
 -- What the rules on scripts keep for the layers above.
-use Rattle.std.proofs.Common.{length-append, ◌≡◌, ◌≢◌, ◌<◌, ◌≤◌, ℕ, List, [], ◌∷◌, ◌++◌, ◌+◌, Some, slice_get, take, length, Bool, true, false, ◌&&◌, ◌||◌, not, refl, sym, ap, inl, inr, ◌∙◌, append_assoc, append-nil, subst, arith, map, get_or, suc, zero}
+use Rattle.std.proofs.Common.{◌≡◌, ◌≢◌, ◌<◌, ◌≤◌, ℕ, List, [], ◌∷◌, ◌++◌, ◌+◌, Some, slice_get, take, length, Bool, true, false, ◌&&◌, ◌||◌, not, refl, sym, ap, inl, inr, ◌∙◌, append_assoc, append-nil, subst, arith, map, get_or, suc, zero}
 use Rattle.std.proofs.lemmas.List.{map-append}
 use Rattle.std.proofs.lemmas.List.Elements.{All-nil, All-cons}
 use Rattle.std.proofs.lemmas.List.Kept.{AllPairs-cons}
@@ -22,8 +22,9 @@ use Rattle.py_lines.specs.Statements as said
 use Rattle.py_lines.specs.Statements.{Head}
 use Rattle.py_grammar.specs.declared.rules.Inside.{Inside}
 use Rattle.py_grammar.specs.declared.script.Script.{Script}
-use Rattle.py_grammar.specs.Rules.{Declared, is_among, all_differ, declares, declares_callable, is_callable, is_class, is_base, is_new, is_builtin_class, may_declare, may_manage, numbers_drive, is_drivable, is_thrown, may_drive, may_yield, may_operate, may_compute, may_compute_all, may_begin, may_open, body_of, within}
-use Rattle.py_grammar.specs.Grammar.{Decl, ClassDecl, ManagerDecl, FunctionDecl, decl_name, decl_kind, Item, Declares, Drives, declared_as, form_rows, suite_rows, clauses_rows, end_row, else_row, finally_row, decl_rows, WellForm, WellSuite, WellClauses, WellDecl, WellItems, items_rows, decls_in, drives_in}
+use Rattle.py_grammar.specs.Rules.{Declared, is_among, all_differ, declares, declares_callable, is_callable, is_class, is_base, is_new, is_builtin_class, callables, may_declare, may_manage, numbers_drive, is_drivable, is_thrown, may_drive, may_yield, may_operate, may_compute, may_compute_all, may_begin, may_open, body_of, within}
+use Rattle.py_grammar.specs.Grammar.{Decl, ClassDecl, ManagerDecl, FunctionDecl, RawDecl, decl_name, decl_kind, Item, Declares, Codes, Drives, declared_as, form_rows, suite_rows, clauses_rows, end_row, else_row, finally_row, code_rows, decl_rows, WellForm, WellSuite, WellClauses, WellCode, WellDecl, WellItems, items_rows, decls_in, drives_in}
+use Rattle.py_grammar.specs.RawText.{RawText, head_of, raw_of}
 use Rattle.py_grammar.specs.Script.{IsScript, decls_of}
 use Rattle.py_grammar.specs.Tables.{names_of}
 use Rattle.py_grammar.specs.WellFormed.{AreDistinct, IsFunctionNamed, IsClassNamed, IsFunction, IsClass, IsKnown, IsWellDeclared, NumbersDrive, IsDrivable, IsThrowable, IsWellDriven, AreWellDriven, AreWellFormed, IsWellFormed}
@@ -31,7 +32,10 @@ use Rattle.py_lines.specs.Reading.{ExprIsLow}
 use Rattle.py_grammar.specs.Lines.{lines}
 use Rattle.py_grammar.proofs.Low.{AreLow, low_parts, rows_low}
 use Rattle.py_grammar.proofs.Short.{decl_size, script_size, size_append, size_of}
+use Rattle.py_grammar.proofs.KeepsCodes.{HeadKeeps, head_keeps}
+use Rattle.py_grammar.proofs.RawLines.{some_by_test}
 use Rattle.py_grammar.proofs.Tables.{declares-names}
+use Rattle.py_grammar.proofs.Tests.{all_by_test}
 use Rattle.py_grammar.proofs.Whole.{well_behind_one}
 
 -- ---- names
@@ -51,11 +55,6 @@ distinct_by_test [] h = λ i j d a b. absurd (omega arith)
 distinct_by_test (x ∷ xs) h =
     let parts = and_parts (not (is_among x xs)) (all_differ xs) h in
     AllPairs-cons (λ y z. y ≢ z) x xs (others_differ x xs (not-true (is_among x xs) parts.0)) (distinct_by_test xs parts.1)
-
--- each element has what the test says
-all_by_test : {X : Type 0} (p : X → Bool) (P : X → Type 0) → ((x : X) → p x ≡ true → P x) → (xs : List X) → list_all p xs ≡ true → All P xs
-all_by_test p P f [] h = All-nil P
-all_by_test p P f (x ∷ xs) h = let parts = and_parts (p x) (list_all p xs) h in All-cons P x xs (f x parts.0) (all_by_test p P f xs parts.1)
 
 -- ---- bodies
 
@@ -186,16 +185,16 @@ managed_new ds m e x h =
     let front = and_parts new enter parts.0 in
     (front.0, front.1, parts.1)
 
+headed_new : (ds : List Decl) (f : Name) (ps : List Name) → may_declare (map declared_as ds) f ps ≡ true → is_new (map declared_as ds) f ≡ true
+headed_new ds f ps h =
+    let new : Bool = is_new (map declared_as ds) f in
+    (and_parts new (all_differ ps) (and_parts (new && all_differ ps) (nat_le (length ps) 255) h).0).0
+
 new_by_test : (ds : List Decl) (d : Decl) → WellDecl (map declared_as ds) d → is_among (decl_name d) (names_of ds) ≡ false
 new_by_test ds (ClassDecl c b) h = (new_name ds c (and_parts (is_new (map declared_as ds) c) (is_base (map declared_as ds) b) h).0).0
 new_by_test ds (ManagerDecl m e x) h = (new_name ds m (managed_new ds m e x h).0).0
-new_by_test ds (FunctionDecl t) h =
-    let new : Bool = not (declares t.name (map declared_as ds)) in
-    let free : Bool = not (is_builtin_class t.name) in
-    let differ : Bool = all_differ t.params in
-    let few : Bool = nat_le (length t.params) 255 in
-    sym (declares-names t.name ds)
-    ∙ not-true (declares t.name (map declared_as ds)) (and_parts new free (and_parts (new && free) differ (and_parts (new && free && differ) few h.0).0).0).0
+new_by_test ds (FunctionDecl t) h = (new_name ds t.name (headed_new ds t.name t.params h.0)).0
+new_by_test ds (RawDecl b) h = absurd h
 
 not_among : (f : Name) (names : List Name) → is_among f names ≡ false → (k : ℕ) (d : Name) → k < length names → get_or names k d ≢ f
 not_among f [] h k d low e = absurd (omega arith)
@@ -212,6 +211,11 @@ names_keep [] ts made w v = subst (λ x. AreDistinct (names_of x)) (sym (append-
 names_keep (Declares t ∷ is) ts made w v =
     subst (λ x. AreDistinct (names_of x)) (append_assoc ts (t ∷ []) (decls_in is))
     (names_keep is (ts ++ t ∷ []) made (well_behind_one ts t made is w.1) (names_push ts t (new_by_test ts t w.0) v))
+names_keep (Codes t ∷ is) ts made w v =
+    let d : Decl = RawDecl (raw_of t) in
+    let new = (new_name ts t.name (headed_new ts t.name t.params w.0.declared)).0 in
+    subst (λ x. AreDistinct (names_of x)) (append_assoc ts (d ∷ []) (decls_in is))
+    (names_keep is (ts ++ d ∷ []) made (well_behind_one ts d made is w.1) (names_push ts d new v))
 names_keep (Drives d ∷ is) ts made w v = names_keep is ts (suc made) w.1 v
 
 -- ---- drives
@@ -242,6 +246,7 @@ callable_any f (d ∷ ds) = ap (λ b. callable_decl f d || b) (callable_any f ds
 callable_is : (f : Name) (d : Decl) → callable_decl f d ≡ true → IsFunctionNamed f d
 callable_is f (ClassDecl c b) h = cc ((and_parts (bytes_eq f c) false h).1)
 callable_is f (ManagerDecl m e x) h = cc ((and_parts (bytes_eq f m) false h).1)
+callable_is f (RawDecl b) h = sym ((bytes_eq-Decides f b.name).0 (and_parts (bytes_eq f b.name) true h).0)
 callable_is f (FunctionDecl t) h = sym ((bytes_eq-Decides f t.name).0 (and_parts (bytes_eq f t.name) true h).0)
 
 function_by_test : (f : Name) (ds more : List Decl) → declares_callable f (map declared_as ds) ≡ true → IsFunction (ds ++ more) f
@@ -258,6 +263,7 @@ class_any c (d ∷ ds) = ap (λ b. class_decl c d || b) (class_any c ds)
 class_is : (c : Name) (d : Decl) → class_decl c d ≡ true → IsClassNamed c d
 class_is c (ClassDecl d b) h = sym ((bytes_eq-Decides c d).0 (and_parts (bytes_eq c d) true h).0)
 class_is c (ManagerDecl m e x) h = cc ((and_parts (bytes_eq c m) false h).1)
+class_is c (RawDecl b) h = cc ((and_parts (bytes_eq c b.name) false h).1)
 class_is c (FunctionDecl t) h = cc ((and_parts (bytes_eq c t.name) false h).1)
 
 class_by_test : (c : Name) (ds more : List Decl) → is_base (map declared_as ds) c ≡ true → IsClass (ds ++ more) c
@@ -316,6 +322,9 @@ drives_keep : (is : List Item) (ts : List Decl) (made : ℕ) → WellItems (map 
 drives_keep [] ts made w i d at = cc at
 drives_keep (Declares t ∷ is) ts made w i d at =
     subst (λ x. IsWellDriven x (made + i) d) (append_assoc ts (t ∷ []) (decls_in is)) (drives_keep is (ts ++ t ∷ []) made (well_behind_one ts t made is w.1) i d at)
+drives_keep (Codes t ∷ is) ts made w i d at =
+    let e : Decl = RawDecl (raw_of t) in
+    subst (λ x. IsWellDriven x (made + i) d) (append_assoc ts (e ∷ []) (decls_in is)) (drives_keep is (ts ++ e ∷ []) made (well_behind_one ts e made is w.1) i d at)
 drives_keep (Drives d ∷ is) ts made w zero e at =
     let same : d ≡ e = cc at in
     let none : made ≡ made + 0 = omega arith in
@@ -351,6 +360,28 @@ decl_keeps ds (FunctionDecl t) w low short =
     let size = decl_size t in
     let k = function_keeps (map declared_as ds) t w.0 w.1 (low_parts (suite_rows t.suite) (end_row ∷ []) low.1).0 (omega (arith, size, short)) in
     record { no_class = k.0; founded = k.1 }
+decl_keeps ds (RawDecl b) w low short = absurd w
+
+-- so does a raw code, by its lines
+code_keeps : (ds : List Decl) (t : RawText) → WellCode (map declared_as ds) t → IsWellDeclared ds (RawDecl (raw_of t))
+code_keeps ds t w =
+    let new : Bool = is_new (map declared_as ds) t.name in
+    let parts = and_parts (new && all_differ t.params) (nat_le (length t.params) 255) w.declared in
+    let h : HeadKeeps (head_of t.head) = head_keeps (callables (map declared_as ds)) t.head w.head in
+    record {
+      no_class = (new_name ds t.name (headed_new ds t.name t.params w.declared)).1;
+      founded = record {
+        distinct = distinct_by_test t.params (and_parts new (all_differ t.params) parts.0).1;
+        few = leb-true (length t.params) 255 parts.1;
+        flags = h.flags;
+        counts = h.counts;
+        cells = h.cells;
+        frees = h.frees;
+        consts = h.consts;
+        some = some_by_test t.units w.some;
+        run = w.run;
+      };
+    }
 
 -- each declaration of the items, behind those in front of it
 decls_keep : (is : List Item) (ds : List Decl) (made : ℕ) → WellItems (map declared_as ds) made is → AreLow (items_rows is) → size_of (items_rows is) ≤ 1048576 → (i : ℕ) (d : Decl)
@@ -365,6 +396,14 @@ decls_keep (Declares e ∷ is) ds made w low short (suc i) d at =
     let all = size_append (decl_rows e) (items_rows is) in
     subst (λ x. IsWellDeclared x d) (append_assoc ds (e ∷ []) (take i (decls_in is)))
     (decls_keep is (ds ++ e ∷ []) made (well_behind_one ds e made is w.1) (low_parts (decl_rows e) (items_rows is) low).1 (omega (arith, all, short)) i d at)
+decls_keep (Codes t ∷ is) ds made w low short zero d at =
+    let same : RawDecl (raw_of t) ≡ d = cc at in
+    subst (IsWellDeclared (ds ++ [])) same (subst (λ x. IsWellDeclared x (RawDecl (raw_of t))) (sym (append-nil ds)) (code_keeps ds t w.0))
+decls_keep (Codes t ∷ is) ds made w low short (suc i) d at =
+    let e : Decl = RawDecl (raw_of t) in
+    let all = size_append (code_rows t) (items_rows is) in
+    subst (λ x. IsWellDeclared x d) (append_assoc ds (e ∷ []) (take i (decls_in is)))
+    (decls_keep is (ds ++ e ∷ []) made (well_behind_one ds e made is w.1) (low_parts (code_rows t) (items_rows is) low).1 (omega (arith, all, short)) i d at)
 decls_keep (Drives e ∷ is) ds made w low short i d at = decls_keep is ds (suc made) w.1 low.1 (omega (arith, short)) i d at
 
 -- each script keeps all of that

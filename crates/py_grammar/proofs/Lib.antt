@@ -8,10 +8,18 @@ mod Stacks
 mod Clauses
 -- the reader against the grammar
 pub mod LineReads
+mod Runs
+mod RawLines
+mod WholeCodes
 mod Whole
+mod SoundCodes
 mod Sound
+mod Been
+mod BegunCodes
 mod Begun
 -- what every script keeps
+mod Tests
+mod KeepsCodes
 mod Low
 mod Short
 pub mod Keeps
@@ -21,3 +29,4 @@ mod Texts
 mod Walks
 pub mod Verdicts
 mod WorkedLemmas
+mod WorkedRawLemmas

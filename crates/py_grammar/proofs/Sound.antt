@@ -14,8 +14,10 @@ use Rattle.py_lines.specs.Statements.{Plain, Head}
 use Rattle.py_lines.specs.Statements as said
 use Rattle.py_grammar.specs.declared.rules.Inside.{Inside}
 use Rattle.py_grammar.specs.Rules.{Declared, may_declare, body_of, within, may_hold, may_open}
-use Rattle.py_grammar.specs.Grammar.{Row, row, Decl, ClassDecl, ManagerDecl, FunctionDecl, Item, Declares, Drives, declared_as, plain_rows, head_row, except_row, suite_rows, form_rows, clauses_rows, end_row, else_row, finally_row, decl_rows, item_rows, items_rows, decls_in, drives_in, HasClause, WellForm, WellSuite, WellClauses, WellDecl, WellItems}
-use Rattle.py_grammar.specs.Reader.{Began, in_if, in_else, in_while, in_try, in_except, in_finally, in_with, began, opener, Block, Open, State, inside_of, inside, plain_form, accept_at, in_body, outside, goes_on, still_inside, only_if, grown, deeper, turned_by, turned_to, turned, ended, function_of, one_block, ended_in, closed, closes}
+use Rattle.py_grammar.specs.Grammar.{Row, row, Decl, ClassDecl, ManagerDecl, FunctionDecl, RawDecl, Item, Declares, Codes, Drives, declared_as, plain_rows, head_row, except_row, suite_rows, form_rows, clauses_rows, end_row, else_row, finally_row, decl_rows, item_rows, items_rows, decls_in, drives_in, HasClause, WellForm, WellSuite, WellClauses, WellDecl, WellItems}
+use Rattle.py_grammar.specs.RawText.{RawText, raw_of}
+use Rattle.py_grammar.specs.Reader.{Began, in_if, in_else, in_while, in_try, in_except, in_finally, in_with, began, opener, Block, Open, State, inside_of, inside, plain_form, Unclosed, open_body, open_code, accept_at, in_body, in_code, outside, goes_on, still_inside, still_coded, only_if, grown, deeper, turned_by, turned_to, turned, ended, function_of, one_block, ended_in, closed, closes}
+use Rattle.py_grammar.proofs.SoundCodes.{WellOpenCode, CodeGrows, open_code_rows, well_bare, code_grows, well_whole}
 
 -- ---- what is open
 
@@ -209,16 +211,18 @@ goes_on_sound ts o n l w = tt
 
 -- ---- lines of a script
 
-abbrev pub inside_rows : Option Open → List Row
+abbrev pub inside_rows : Option Unclosed → List Row
 inside_rows None = []
-inside_rows (Some o) = open_rows o
+inside_rows (Some (open_body o)) = open_rows o
+inside_rows (Some (open_code t)) = open_code_rows t
 
-abbrev pub WellInside : List Decl → Option Open → Type 0
+abbrev pub WellInside : List Decl → Option Unclosed → Type 0
 WellInside ts None = Unit {0}
-WellInside ts (Some o) = WellOpen ts o
+WellInside ts (Some (open_body o)) = WellOpen ts o
+WellInside ts (Some (open_code t)) = WellOpenCode (map declared_as ts) t
 
 -- the rows are those of items that keep the rules, and of what is open behind them
-pub record Came (rows : List Row) (ts : List Decl) (ds : List DriveLine) (i : Option Open) : Type 0 where
+pub record Came (rows : List Row) (ts : List Decl) (ds : List DriveLine) (i : Option Unclosed) : Type 0 where
   pub items : List Item
   pub spelled : rows ≡ items_rows items ++ inside_rows i
   pub declared : ts ≡ decls_in items
@@ -238,11 +242,13 @@ items_rows-append (i ∷ is) js = ap (λ r. item_rows i ++ r) (items_rows-append
 decls_in-append : (is js : List Item) → decls_in (is ++ js) ≡ decls_in is ++ decls_in js
 decls_in-append [] js = refl
 decls_in-append (Declares t ∷ is) js = ap (λ r. t ∷ r) (decls_in-append is js)
+decls_in-append (Codes t ∷ is) js = ap (λ r. RawDecl (raw_of t) ∷ r) (decls_in-append is js)
 decls_in-append (Drives d ∷ is) js = decls_in-append is js
 
 drives_in-append : (is js : List Item) → drives_in (is ++ js) ≡ drives_in is ++ drives_in js
 drives_in-append [] js = refl
 drives_in-append (Declares t ∷ is) js = drives_in-append is js
+drives_in-append (Codes t ∷ is) js = drives_in-append is js
 drives_in-append (Drives d ∷ is) js = ap (λ r. d ∷ r) (drives_in-append is js)
 
 well_append : (is js : List Item) (ds : List Declared) (made : ℕ) → WellItems ds made is
@@ -253,6 +259,10 @@ well_append [] js ds made w v =
 well_append (Declares t ∷ is) js ds made w v =
     let behind = subst (λ x. WellItems x (made + length (drives_in is)) js) (sym (append_assoc ds (declared_as t ∷ []) (map declared_as (decls_in is)))) v in
     (w.0, well_append is js (ds ++ declared_as t ∷ []) made w.1 behind)
+well_append (Codes t ∷ is) js ds made w v =
+    let it : Declared = declared_as (RawDecl (raw_of t)) in
+    let behind = subst (λ x. WellItems x (made + length (drives_in is)) js) (sym (append_assoc ds (it ∷ []) (map declared_as (decls_in is)))) v in
+    (w.0, well_append is js (ds ++ it ∷ []) made w.1 behind)
 well_append (Drives d ∷ is) js ds made w v =
     let one : made + suc (length (drives_in is)) ≡ suc made + length (drives_in is) = omega arith in
     (w.0, well_append is js ds (suc made) w.1 (subst (λ n. WellItems (ds ++ map declared_as (decls_in is)) n js) one v))
@@ -264,7 +274,7 @@ well_behind is js w v =
     well_append is js [] 0 w (subst (λ n. WellItems (map declared_as (decls_in is)) n js) none v)
 
 -- one more item
-one_item : (rows all : List Row) (ts : List Decl) (ds : List DriveLine) (i : Option Open) (it : Item) (c : Came rows ts ds i)
+one_item : (rows all : List Row) (ts : List Decl) (ds : List DriveLine) (i : Option Unclosed) (it : Item) (c : Came rows ts ds i)
     → all ≡ items_rows c.items ++ item_rows it → WellItems (map declared_as ts) (length ds) (it ∷ []) → Came all (ts ++ decls_in (it ∷ [])) (ds ++ drives_in (it ∷ [])) None
 one_item rows all ts ds i it c e w = record {
   items = c.items ++ it ∷ [];
@@ -299,6 +309,14 @@ outside_sound rows ts ds n (line.Header (header.Def k f ps)) c = came_if _ _ _ (
   well = c.well;
   well_open = (e, (tt, tt));
 })
+outside_sound rows ts ds n (line.Header (header.Code f ps)) c = came_if _ _ _ (λ e. record {
+  items = c.items;
+  spelled = ap (λ r. r ++ row n (line.Header (header.Code f ps)) ∷ []) (c.spelled ∙ append-nil _);
+  declared = c.declared;
+  driven = c.driven;
+  well = c.well;
+  well_open = well_bare (map declared_as ts) n f ps e;
+})
 outside_sound rows ts ds n (line.Header (header.Class x b)) c = came_if _ _ _ (λ e. declared_sound rows ts ds (ClassDecl x b) _ refl c e)
 outside_sound rows ts ds n (line.Header (header.Manager m f x)) c = came_if _ _ _ (λ e. declared_sound rows ts ds (ManagerDecl m f x) _ refl c e)
 outside_sound rows ts ds n (line.Drive d) c = came_if _ _ _ (λ e.
@@ -306,7 +324,7 @@ outside_sound rows ts ds n (line.Drive d) c = came_if _ _ _ (λ e.
     (one_item rows _ ts ds None (Drives d) c (ap (λ r. r ++ row n (line.Drive d) ∷ []) (c.spelled ∙ append-nil _)) (e, tt)))
 outside_sound rows ts ds n l c = tt
 
-still_sound : (rows : List Row) (ts : List Decl) (ds : List DriveLine) (o : Open) (r : Row) (p : Option Open) → Came rows ts ds (Some o) → Grows ts o r p
+still_sound : (rows : List Row) (ts : List Decl) (ds : List DriveLine) (o : Open) (r : Row) (p : Option Open) → Came rows ts ds (Some (open_body o)) → Grows ts o r p
     → CameTo (rows ++ r ∷ []) (still_inside ts ds p)
 still_sound rows ts ds o r None c g = tt
 still_sound rows ts ds o r (Some o2) c g = record {
@@ -330,23 +348,23 @@ ended_in_sound ts o b bs f e w k =
     )
 
 block_sound : (rows : List Row) (ts : List Decl) (ds : List DriveLine) (o : Open) (b : Block) (bs : List Block) (q : Option Form) → o.blocks ≡ b ∷ bs
-    → Came rows ts ds (Some o)
+    → Came rows ts ds (Some (open_body o))
     → Ends (inside_of o.kind bs) b.began o.done q → CameTo (rows ++ end_row ∷ []) (option_map (closes ts ds) (option_map (λ f. one_block (ended_in o b bs f)) q))
 block_sound rows ts ds o b bs None e c k = tt
 block_sound rows ts ds o b bs (Some f) e c k = still_sound rows ts ds o end_row (Some (ended_in o b bs f)) c (ended_in_sound ts o b bs f e c.well_open k)
 
 -- the body ends
-body_sound : (rows : List Row) (ts : List Decl) (ds : List DriveLine) (o : Open) → o.blocks ≡ [] → Came rows ts ds (Some o)
+body_sound : (rows : List Row) (ts : List Decl) (ds : List DriveLine) (o : Open) → o.blocks ≡ [] → Came rows ts ds (Some (open_body o))
     → Came (rows ++ end_row ∷ []) (ts ++ FunctionDecl (function_of o) ∷ []) ds None
 body_sound rows ts ds o e c =
     let w : WellSuite (body_of o.kind) o.done = subst (λ x. WellSuite (inside_of o.kind x) o.done) e c.well_open.1.1 in
     subst (λ x. Came (rows ++ end_row ∷ []) (ts ++ FunctionDecl (function_of o) ∷ []) x None) (append-nil ds)
-    (one_item rows _ ts ds (Some o) (Declares (FunctionDecl (function_of o))) c
+    (one_item rows _ ts ds (Some (open_body o)) (Declares (FunctionDecl (function_of o))) c
     (ap (λ x. x ++ end_row ∷ []) c.spelled ∙ append_assoc (items_rows c.items) (open_rows o) (end_row ∷ [])
     ∙ ap (λ x. items_rows c.items ++ (behind_header o (blocks_rows x ++ suite_rows o.done) ++ end_row ∷ [])) e)
     ((c.well_open.0, w), tt))
 
-end_sound : (rows : List Row) (ts : List Decl) (ds : List DriveLine) (o : Open) (bs : List Block) → o.blocks ≡ bs → Came rows ts ds (Some o)
+end_sound : (rows : List Row) (ts : List Decl) (ds : List DriveLine) (o : Open) (bs : List Block) → o.blocks ≡ bs → Came rows ts ds (Some (open_body o))
     → CameTo (rows ++ end_row ∷ []) (option_map (closes ts ds) (closed o bs))
 end_sound rows ts ds o [] e c = body_sound rows ts ds o e c
 end_sound rows ts ds o (b ∷ bs) e c =
@@ -354,13 +372,37 @@ end_sound rows ts ds o (b ∷ bs) e c =
     block_sound rows ts ds o b bs (ended b.began o.done) e c (end_lays (inside_of o.kind bs) b.began o.done v.0.1.1 v.1)
 
 -- a line where a body is open
-inside_sound : (rows : List Row) (ts : List Decl) (ds : List DriveLine) (o : Open) (n : ℕ) (l : Line) → Came rows ts ds (Some o)
+inside_sound : (rows : List Row) (ts : List Decl) (ds : List DriveLine) (o : Open) (n : ℕ) (l : Line) → Came rows ts ds (Some (open_body o))
     → CameTo (rows ++ row n l ∷ []) (in_body ts ds o n l)
 inside_sound rows ts ds o n line.End c = end_sound rows ts ds o o.blocks refl c
 inside_sound rows ts ds o n l c = still_sound rows ts ds o (row n l) (goes_on o n l) c (goes_on_sound ts o n l c.well_open)
 
+-- a line where a raw code is open
+still_code_sound : (rows : List Row) (ts : List Decl) (ds : List DriveLine) (t : RawText) (r : Row) (p : Option RawText) → Came rows ts ds (Some (open_code t))
+    → CodeGrows (map declared_as ts) t r p → CameTo (rows ++ r ∷ []) (still_coded ts ds p)
+still_code_sound rows ts ds t r None c g = tt
+still_code_sound rows ts ds t r (Some u) c g = record {
+  items = c.items;
+  spelled = ap (λ x. x ++ r ∷ []) c.spelled ∙ append_assoc (items_rows c.items) (open_code_rows t) (r ∷ []) ∙ ap (λ x. items_rows c.items ++ x) (sym g.0);
+  declared = c.declared;
+  driven = c.driven;
+  well = c.well;
+  well_open = g.1;
+}
+
+code_sound : (rows : List Row) (ts : List Decl) (ds : List DriveLine) (t : RawText) (n : ℕ) (l : Line) → Came rows ts ds (Some (open_code t))
+    → CameTo (rows ++ row n l ∷ []) (in_code ts ds t n l)
+code_sound rows ts ds t n line.End c = came_if _ _ _ (λ e.
+    subst (λ x. Came (rows ++ end_row ∷ []) (ts ++ RawDecl (raw_of t) ∷ []) x None) (append-nil ds)
+    (one_item rows _ ts ds (Some (open_code t)) (Codes t) c
+    (ap (λ x. x ++ end_row ∷ []) c.spelled ∙ append_assoc (items_rows c.items) (open_code_rows t) (end_row ∷ []))
+    (well_whole (map declared_as ts) t c.well_open e, tt)))
+code_sound rows ts ds t n (line.Raw l) c = still_code_sound rows ts ds t (row n (line.Raw l)) _ c (code_grows (map declared_as ts) t n l c.well_open)
+code_sound rows ts ds t n l c = tt
+
 -- one more line that is taken
-pub sound : (rows : List Row) (ts : List Decl) (ds : List DriveLine) (i : Option Open) (n : ℕ) (l : Line) → Came rows ts ds i
+pub sound : (rows : List Row) (ts : List Decl) (ds : List DriveLine) (i : Option Unclosed) (n : ℕ) (l : Line) → Came rows ts ds i
     → CameTo (rows ++ row n l ∷ []) (accept_at ts ds i n l)
 sound rows ts ds None n l c = outside_sound rows ts ds n l c
-sound rows ts ds (Some o) n l c = inside_sound rows ts ds o n l c
+sound rows ts ds (Some (open_body o)) n l c = inside_sound rows ts ds o n l c
+sound rows ts ds (Some (open_code t)) n l c = code_sound rows ts ds t n l c

@@ -11,10 +11,11 @@ use Rattle.py_grammar.specs.declared.script.Script.{Script}
 use Rattle.py_grammar.specs.Grammar.{Decl}
 use Rattle.py_grammar.specs.Lines.{lines}
 use Rattle.py_grammar.specs.Script.{Text, Spells, SpellsSome, Begins, IsFirstBad, IsLeftOpen, IsBadLine, IsScript, decls_of}
-use Rattle.py_grammar.specs.Reader.{Open, State, state, start, takes_line, at_end, Verdict, Good, Bad, Goes, WalksTo}
+use Rattle.py_grammar.specs.Reader.{Unclosed, State, state, start, takes_line, at_end, Verdict, Good, Bad, Goes, WalksTo}
 use Rattle.py_grammar.specs.Reading.{IsAnswerTo}
 use Rattle.py_grammar.proofs.LineReads.{after, after-append, after-one}
-use Rattle.py_grammar.proofs.Begun.{Been, BeenTo, been_start, one_line, been_spells, begins_at, begins, as_lines, script_read, refused, as_bytes, begins_fewer}
+use Rattle.py_grammar.proofs.Been.{Been, BeenTo, been_start, one_line, been_spells}
+use Rattle.py_grammar.proofs.Begun.{begins_at, begins, as_lines, script_read, refused, as_bytes, begins_fewer}
 use Rattle.py_grammar.proofs.Walks.{walked}
 
 abbrev pub IsBad : Text → ℕ → Type 0
@@ -26,7 +27,7 @@ IsTrueOf text (Good ts ds) = Spells text ts ds
 IsTrueOf text (Bad k) = IsBad text k
 
 -- at the end of the lines
-true_at_end : (front : Text) (ts : List Decl) (ds : List DriveLine) (i : Option Open) → Been front (state ts ds i) → IsTrueOf front (at_end ts ds i (after 1 front))
+true_at_end : (front : Text) (ts : List Decl) (ds : List DriveLine) (i : Option Unclosed) → Been front (state ts ds i) → IsTrueOf front (at_end ts ds i (after 1 front))
 true_at_end front ts ds None b = been_spells front ts ds b
 true_at_end front ts ds (Some o) b = inr (
   after-one front,
@@ -52,7 +53,7 @@ true_from (l ∷ ls) front st v b w = go (takes_line st (after 1 front) w.0) ref
     go (Some s) k c u f = subst (λ t. IsTrueOf t v) (append_assoc front (l ∷ []) ls) (f s c u)
 
 -- the verdict on a text is true of it
-verdict_true : (text : Text) (v : Verdict) → WalksTo start 1 text v → IsTrueOf text v
+pub verdict_true : (text : Text) (v : Verdict) → WalksTo start 1 text v → IsTrueOf text v
 verdict_true text v w = true_from text [] start v been_start w
 
 -- a text is one script at most

@@ -8,28 +8,12 @@ use Rattle.py_lines.specs.declared.drive.DriveLine.{DriveLine}
 use Rattle.py_lines.specs.Statements.{Plain, Head}
 use Rattle.py_lines.specs.Statements as said
 use Rattle.py_grammar.specs.Rules.{may_drive, within, may_hold, may_open}
-use Rattle.py_grammar.specs.Grammar.{Row, Decl, ClassDecl, ManagerDecl, FunctionDecl, Item, Declares, Drives, declared_as, plain_rows, head_row, suite_rows, form_rows, clauses_rows, end_row, else_row, finally_row, items_rows, decls_in, drives_in, WellForm, WellSuite, WellClauses, WellItems}
-use Rattle.py_grammar.specs.Reader.{Began, in_if, in_else, in_while, in_try, in_except, in_finally, in_with, began, Block, State, state, inside_of, plain_form, accept}
+use Rattle.py_grammar.specs.Grammar.{Row, Decl, ClassDecl, ManagerDecl, FunctionDecl, RawDecl, Item, Declares, Codes, Drives, declared_as, plain_rows, head_row, suite_rows, form_rows, clauses_rows, end_row, else_row, finally_row, items_rows, decls_in, drives_in, WellForm, WellSuite, WellClauses, WellItems}
+use Rattle.py_grammar.specs.Reader.{Began, in_if, in_else, in_while, in_try, in_except, in_finally, in_with, began, Block, State, state, open_body, inside_of, plain_form}
+use Rattle.py_grammar.specs.RawText.{raw_of}
+use Rattle.py_grammar.proofs.Runs.{run}
+use Rattle.py_grammar.proofs.WholeCodes.{code_read}
 use Rattle.py_grammar.proofs.Clauses.{joined_clauses_assoc, joined_clauses-no_more}
-
-abbrev pub and_then : Option State → (State → Option State) → Option State
-and_then None f = None
-and_then (Some s) f = f s
-
--- what a reader has behind some rows
-abbrev pub run : State → List Row → Option State
-run st [] = Some st
-run st (r ∷ rows) = and_then (accept st r.number r.line) (λ s. run s rows)
-
--- rows behind rows
-pub run-append : (st : State) (rows more : List Row) → run st (rows ++ more) ≡ and_then (run st rows) (λ s. run s more)
-run-append st [] more = refl
-run-append st (r ∷ rows) more = go (accept st r.number r.line) (λ s. run-append s rows more)
-  where
-    go : (o : Option State) → ((s : State) → run s (rows ++ more) ≡ and_then (run s rows) (λ q. run q more))
-        → and_then o (λ s. run s (rows ++ more)) ≡ and_then (and_then o (λ s. run s rows)) (λ q. run q more)
-    go None f = refl
-    go (Some s) f = f s
 
 pub joined_assoc : (a b c : Suite) → joined (joined a b) c ≡ joined a (joined b c)
 joined_assoc nothing b c = refl
@@ -42,7 +26,7 @@ joined-nothing (first n s more) = ap (first n s) (joined-nothing more)
 module _ (ts : List Decl) (ds : List DriveLine) (line : ℕ) (k : BodyKind) (name : Name) (params : List Name) where
   -- this body is open, with these blocks and these statements in the innermost
   abbrev body_at : List Block → Suite → State
-  body_at bs done = state ts ds (Some (record { line = line; kind = k; name = name; params = params; blocks = bs; done = done }))
+  body_at bs done = state ts ds (Some (open_body (record { line = line; kind = k; name = name; params = params; blocks = bs; done = done })))
 
   abbrev block : Suite → ℕ → Began → Block
   block before n g = record { before = before; line = n; began = g }
@@ -152,6 +136,11 @@ items_read (Declares (FunctionDecl t) ∷ is) ts ds made e w =
     ∙ suite_read ts ds t.line t.kind t.name t.params t.suite [] nothing (end_row ∷ items_rows is) w.0.1
     ∙ items_read is (ts ++ FunctionDecl t ∷ []) ds made e (well_behind_one ts (FunctionDecl t) made is w.1)
     ∙ ap (λ x. Some (state x (ds ++ drives_in is) None)) (append_assoc ts (FunctionDecl t ∷ []) (decls_in is)))
+items_read (Declares (RawDecl b) ∷ is) ts ds made e w = absurd w.0
+items_read (Codes t ∷ is) ts ds made e w =
+    rw w.0.declared (code_read ts ds t (items_rows is) w.0
+    ∙ items_read is (ts ++ RawDecl (raw_of t) ∷ []) ds made e (well_behind_one ts (RawDecl (raw_of t)) made is w.1)
+    ∙ ap (λ x. Some (state x (ds ++ drives_in is) None)) (append_assoc ts (RawDecl (raw_of t) ∷ []) (decls_in is)))
 items_read (Drives d ∷ is) ts ds made e w =
     let may : may_drive (map declared_as ts) (length ds) d ≡ true = subst (λ n. may_drive (map declared_as ts) n d ≡ true) (sym e) w.0 in
     let one : length (ds ++ d ∷ []) ≡ suc made = omega (arith, e, length-append ds (d ∷ [])) in

@@ -1,42 +1,64 @@
 -- Scripts as trees, the rows that a tree prints, and the rules that it keeps.
-use Rattle.std.specs.Prelude.{◌≡◌, ℕ, suc, List, [], ◌∷◌, ◌++◌, Option, true}
+use Rattle.std.specs.Prelude.{◌≡◌, ◌==◌, ℕ, suc, List, [], ◌∷◌, ◌++◌, length, Option, true, false, map}
 use Rattle.py_tree.specs.Tree.{Name, Form, Assign, Do, Show, Return, Raise, Reraise, Break, Continue, Pass, If, IfElse, While, TryExcept, TryFinally, With, Suite, nothing, first, Clauses, no_more, clause, Tree}
 use Rattle.py_lines.specs.declared.drive.DriveLine.{DriveLine}
 use Rattle.py_lines.specs.declared.head.Turn.TheVariants as turn
 use Rattle.py_lines.specs.declared.header.Header.TheVariants as header
+use Rattle.py_lines.specs.declared.raw.RawLine.{RawLine}
+use Rattle.py_lines.specs.declared.raw.RawLine.TheVariants as raw
 use Rattle.py_lines.specs.Line.{Line}
 use Rattle.py_lines.specs.Line as line
 use Rattle.py_lines.specs.Statements.{Plain, Head}
 use Rattle.py_lines.specs.Statements as said
+use Rattle.py_grammar.specs.declared.raw_block.RawBlock.{RawBlock}
+use Rattle.py_grammar.specs.declared.raw_block.RawUnit.{RawUnit}
 use Rattle.py_grammar.specs.declared.rules.Inside.{Inside}
-use Rattle.py_grammar.specs.Rules.{Kind, OfClass, OfManager, OfFunction, Declared, may_declare, may_derive, may_drive, may_manage, body_of, within, may_hold, may_open}
+use Rattle.py_grammar.specs.RawRules.{all_run, have_depth, may_all_follow}
+use Rattle.py_grammar.specs.RawText.{RawText, raw_of}
+use Rattle.py_grammar.specs.Rules.{Kind, OfClass, OfManager, OfFunction, Declared, callables, may_declare, may_derive, may_drive, may_manage, body_of, within, may_hold, may_open}
 
--- a declaration: a class by its name and its base, a manager by its name, its enter and its exit, or a function
+-- a declaration: a class by its name and its base, a manager by its name, its enter and its exit, a function by its body, or
+-- one by the units of its code
 pub data Decl : Type 0 where
   ClassDecl : Name → Name → Decl
   ManagerDecl : Name → Name → Name → Decl
   FunctionDecl : Tree → Decl
+  RawDecl : RawBlock → Decl
 
 abbrev pub decl_name : Decl → Name
 decl_name (ClassDecl c b) = c
 decl_name (ManagerDecl m e x) = m
 decl_name (FunctionDecl t) = t.name
+decl_name (RawDecl b) = b.name
 
 abbrev pub decl_kind : Decl → Kind
 decl_kind (ClassDecl c b) = OfClass
 decl_kind (ManagerDecl m e x) = OfManager
 decl_kind (FunctionDecl t) = OfFunction
+decl_kind (RawDecl b) = OfFunction
 
--- the functions among declarations
-abbrev pub functions_in : List Decl → List Tree
-functions_in [] = []
-functions_in (ClassDecl c b ∷ ds) = functions_in ds
-functions_in (ManagerDecl m e x ∷ ds) = functions_in ds
-functions_in (FunctionDecl t ∷ ds) = t ∷ functions_in ds
+-- what a code is of: the body of a function, or what was written unit by unit
+pub data Coded : Type 0 where
+  OfBody : Tree → Coded
+  OfRaw : RawBlock → Coded
 
--- one thing that a script says outside of bodies
+-- the name that a code has
+abbrev pub coded_name : Coded → Name
+coded_name (OfBody t) = t.name
+coded_name (OfRaw b) = b.name
+
+-- what the codes of declarations are of, in order; the number of a code is its place among them
+abbrev pub codes_in : List Decl → List Coded
+codes_in [] = []
+codes_in (ClassDecl c b ∷ ds) = codes_in ds
+codes_in (ManagerDecl m e x ∷ ds) = codes_in ds
+codes_in (FunctionDecl t ∷ ds) = OfBody t ∷ codes_in ds
+codes_in (RawDecl b ∷ ds) = OfRaw b ∷ codes_in ds
+
+-- one thing that a script says outside of bodies; a raw code is what its lines were in their order
 pub data Item : Type 0 where
   Declares : Decl → Item
+  Codes : RawText → Item
   Drives : DriveLine → Item
 
 -- a declaration as later lines see it
@@ -59,9 +81,12 @@ kept_number n (line.Turns turn.Else) = 0
 kept_number n (line.Turns (turn.Except c x)) = n
 kept_number n (line.Turns turn.Finally) = 0
 kept_number n (line.Header (header.Def k f ps)) = n
+kept_number n (line.Header (header.Code f ps)) = n
 kept_number n (line.Header (header.Class c b)) = 0
 kept_number n (line.Header (header.Manager m e x)) = 0
 kept_number n (line.Drive d) = 0
+kept_number n (line.Raw (raw.Unit i a x)) = n
+kept_number n (line.Raw l) = 0
 
 abbrev pub row : ℕ → Line → Row
 row n l = record { number = kept_number n l; line = l }
@@ -113,13 +138,34 @@ abbrev mutual
   clauses_rows no_more = []
   clauses_rows (clause n c x s more) = except_row n c x ∷ (suite_rows s ++ clauses_rows more)
 
+-- a header line of a raw code, and a unit
+abbrev pub said_row : RawLine → Row
+said_row l = record { number = 0; line = line.Raw l }
+
+abbrev pub unit_row : RawUnit → Row
+unit_row u = row u.line (line.Raw (raw.Unit u.op u.arg u.note))
+
+-- those of a raw code behind its first line
+abbrev pub inner_rows : RawText → List Row
+inner_rows t = map said_row t.head ++ map unit_row t.units
+
+abbrev pub code_row : RawText → Row
+code_row t = row t.line (line.Header (header.Code t.name t.params))
+
+-- the rows of a raw code
+abbrev pub code_rows : RawText → List Row
+code_rows t = code_row t ∷ (inner_rows t ++ end_row ∷ [])
+
+-- those of a declaration; of a raw code they are known by its lines alone
 abbrev pub decl_rows : Decl → List Row
 decl_rows (ClassDecl c b) = row 0 (line.Header (header.Class c b)) ∷ []
 decl_rows (ManagerDecl m e x) = row 0 (line.Header (header.Manager m e x)) ∷ []
 decl_rows (FunctionDecl t) = row t.line (line.Header (header.Def t.kind t.name t.params)) ∷ (suite_rows t.suite ++ end_row ∷ [])
+decl_rows (RawDecl b) = []
 
 abbrev pub item_rows : Item → List Row
 item_rows (Declares d) = decl_rows d
+item_rows (Codes t) = code_rows t
 item_rows (Drives d) = row 0 (line.Drive d) ∷ []
 
 -- the rows of a whole script
@@ -130,11 +176,13 @@ items_rows (i ∷ is) = item_rows i ++ items_rows is
 abbrev pub decls_in : List Item → List Decl
 decls_in [] = []
 decls_in (Declares d ∷ is) = d ∷ decls_in is
+decls_in (Codes t ∷ is) = RawDecl (raw_of t) ∷ decls_in is
 decls_in (Drives d ∷ is) = decls_in is
 
 abbrev pub drives_in : List Item → List DriveLine
 drives_in [] = []
 drives_in (Declares d ∷ is) = drives_in is
+drives_in (Codes t ∷ is) = drives_in is
 drives_in (Drives d ∷ is) = d ∷ drives_in is
 
 -- ---- the rules that it keeps
@@ -173,14 +221,25 @@ abbrev mutual
   WellClauses i no_more = Unit {0}
   WellClauses i (clause n c x s more) = WellSuite i s × WellClauses i more
 
--- so does a declaration that follows these
+-- so does a raw code behind these declarations: its header lines stand before its units, one of them is the depth, there
+-- is a unit, and each runs so far
+pub record WellCode (ds : List Declared) (t : RawText) : Type 0 where
+  pub declared : may_declare ds t.name t.params ≡ true
+  pub head : may_all_follow (callables ds) [] t.head ≡ true
+  pub deep : have_depth t.head ≡ true
+  pub some : (length t.units == 0) ≡ false
+  pub run : all_run 0 t.units ≡ true
+
+-- so does a declaration that follows these; a raw code does by its lines
 abbrev pub WellDecl : List Declared → Decl → Type 0
 WellDecl ds (ClassDecl c b) = may_derive ds c b ≡ true
 WellDecl ds (ManagerDecl m e x) = may_manage ds m e x ≡ true
 WellDecl ds (FunctionDecl t) = (may_declare ds t.name t.params ≡ true) × WellSuite (body_of t.kind) t.suite
+WellDecl ds (RawDecl b) = ⊥
 
 -- so do the items that follow these declarations and so many drives
 abbrev pub WellItems : List Declared → ℕ → List Item → Type 0
 WellItems ds made [] = Unit {0}
 WellItems ds made (Declares d ∷ is) = WellDecl ds d × WellItems (ds ++ declared_as d ∷ []) made is
+WellItems ds made (Codes t ∷ is) = WellCode ds t × WellItems (ds ++ declared_as (RawDecl (raw_of t)) ∷ []) made is
 WellItems ds made (Drives d ∷ is) = (may_drive ds made d ≡ true) × WellItems ds (suc made) is

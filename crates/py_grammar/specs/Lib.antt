@@ -2,6 +2,8 @@
 pub mod Script
 pub mod Grammar
 pub mod Rules
+pub mod RawText
+pub mod RawRules
 pub mod Lines
 -- what every script keeps, for the layers above
 pub mod WellFormed
@@ -12,3 +14,4 @@ pub mod Tables
 pub mod Reading
 -- a small script and rules, worked by hand
 pub mod Worked
+pub mod WorkedRaw

@@ -1,5 +1,5 @@
 -- A reader of lines, by what it has read.
-use Rattle.std.specs.Prelude.{◌≡◌, ℕ, suc, List, [], ◌∷◌, ◌++◌, length, Option, Some, None, option_map, map, Bool, true, false}
+use Rattle.std.specs.Prelude.{◌≡◌, ◌==◌, ◌&&◌, not, ℕ, suc, List, [], ◌∷◌, ◌++◌, length, Option, Some, None, option_map, map, Bool, true, false}
 use Rattle.py_tree.specs.declared.body.BodyKind.{BodyKind}
 use Rattle.py_tree.specs.Tree.{Name, Expr, Form, Assign, Do, Show, Return, Raise, Reraise, Break, Continue, Pass, If, IfElse, While, TryExcept, TryFinally, With, Suite, nothing, Clauses, no_more, Tree}
 use Rattle.py_tree.specs.Suites.{add, with_clause}
@@ -8,14 +8,19 @@ use Rattle.py_lines.specs.declared.head.Turn.{Turn}
 use Rattle.py_lines.specs.declared.head.Turn.TheVariants as turn
 use Rattle.py_lines.specs.declared.header.Header.{Header}
 use Rattle.py_lines.specs.declared.header.Header.TheVariants as header
+use Rattle.py_lines.specs.declared.raw.RawLine.{RawLine}
+use Rattle.py_lines.specs.declared.raw.RawLine.TheVariants as raw
 use Rattle.py_lines.specs.Line.{Line, LineRead, Blank, Said, Malformed}
 use Rattle.py_lines.specs.Line as line
 use Rattle.py_lines.specs.Statements.{Plain, Head}
 use Rattle.py_lines.specs.Statements as said
 use Rattle.py_lines.specs.Reading.{IsReadAs}
+use Rattle.py_grammar.specs.declared.raw_block.RawUnit.{RawUnit}
 use Rattle.py_grammar.specs.declared.rules.Inside.{Inside}
-use Rattle.py_grammar.specs.Grammar.{Decl, ClassDecl, ManagerDecl, FunctionDecl, declared_as}
-use Rattle.py_grammar.specs.Rules.{may_declare, may_derive, may_drive, may_manage, body_of, within, may_hold, may_open}
+use Rattle.py_grammar.specs.Grammar.{Decl, ClassDecl, ManagerDecl, FunctionDecl, RawDecl, declared_as}
+use Rattle.py_grammar.specs.RawRules.{have_depth, may_follow, may_run_behind}
+use Rattle.py_grammar.specs.RawText.{RawText, bare_text, carried, raw_of}
+use Rattle.py_grammar.specs.Rules.{callables, may_declare, may_derive, may_drive, may_manage, body_of, within, may_hold, may_open}
 use Rattle.py_grammar.specs.Script.{Text}
 
 -- ---- the body that is open
@@ -136,6 +141,7 @@ goes_on o n (line.Opens h) = only_if (may_open (inside o) h) (deeper o n h)
 goes_on o n (line.Turns t) = turned o n t o.blocks
 goes_on o n (line.Header h) = None
 goes_on o n (line.Drive d) = None
+goes_on o n (line.Raw r) = None
 
 -- the statement that a block with this last suite is at its end, where it may end: a try needs a clause or a finally
 abbrev pub ended : Began → Suite → Option Form
@@ -164,15 +170,37 @@ abbrev pub closed : Open → List Block → Option Closing
 closed o [] = Some (whole_body (function_of o))
 closed o (b ∷ bs) = option_map (λ f. one_block (ended_in o b bs f)) (ended b.began o.done)
 
+-- ---- lines of a raw code
+
+-- one more header line, in front of the units
+abbrev pub with_said : List Name → RawText → RawLine → Option RawText
+with_said fs t l =
+    only_if ((length t.units == 0) && may_follow fs t.head l) (record t { head = t.head ++ l ∷ [] })
+
+-- one more unit, behind the depth
+abbrev pub with_unit : RawText → RawUnit → Option RawText
+with_unit t u =
+    only_if (have_depth t.head && may_run_behind (carried t.units) u) (record t { units = t.units ++ u ∷ [] })
+
+-- a line of a raw code other than its end, behind functions of these names
+abbrev pub code_line : List Name → RawText → ℕ → RawLine → Option RawText
+code_line fs t n (raw.Unit i a x) = with_unit t (record { line = n; op = i; arg = a; note = x })
+code_line fs t n l = with_said fs t l
+
 -- ---- lines of a script
+
+-- what is open: a body, or a raw code by what its lines were so far
+pub data Unclosed : Type 0 where
+  open_body : Open → Unclosed
+  open_code : RawText → Unclosed
 
 -- what was read
 pub record State : Type 0 where
   pub decls : List Decl
   pub drives : List DriveLine
-  pub inside : Option Open
+  pub inside : Option Unclosed
 
-abbrev pub state : List Decl → List DriveLine → Option Open → State
+abbrev pub state : List Decl → List DriveLine → Option Unclosed → State
 state ts ds i = record { decls = ts; drives = ds; inside = i }
 
 -- nothing was read
@@ -181,10 +209,13 @@ start = state [] [] None
 
 abbrev pub closes : List Decl → List DriveLine → Closing → State
 closes ts ds (whole_body t) = state (ts ++ FunctionDecl t ∷ []) ds None
-closes ts ds (one_block o) = state ts ds (Some o)
+closes ts ds (one_block o) = state ts ds (Some (open_body o))
 
 abbrev pub still_inside : List Decl → List DriveLine → Option Open → Option State
-still_inside ts ds o = option_map (λ x. state ts ds (Some x)) o
+still_inside ts ds o = option_map (λ x. state ts ds (Some (open_body x))) o
+
+abbrev pub still_coded : List Decl → List DriveLine → Option RawText → Option State
+still_coded ts ds t = option_map (λ x. state ts ds (Some (open_code x))) t
 
 -- a line where a body is open
 abbrev pub in_body : List Decl → List DriveLine → Open → ℕ → Line → Option State
@@ -194,10 +225,19 @@ in_body ts ds o n (line.Opens h) = still_inside ts ds (goes_on o n (line.Opens h
 in_body ts ds o n (line.Turns t) = still_inside ts ds (goes_on o n (line.Turns t))
 in_body ts ds o n (line.Header h) = None
 in_body ts ds o n (line.Drive d) = None
+in_body ts ds o n (line.Raw r) = None
 
--- a header: a class or a manager is declared in one line, a function opens its body
+-- a line where a raw code is open: it ends behind a unit
+abbrev pub in_code : List Decl → List DriveLine → RawText → ℕ → Line → Option State
+in_code ts ds t n line.End =
+    only_if (not (length t.units == 0)) (state (ts ++ RawDecl (raw_of t) ∷ []) ds None)
+in_code ts ds t n (line.Raw l) = still_coded ts ds (code_line (callables (map declared_as ts)) t n l)
+in_code ts ds t n l = None
+
+-- a header: a class or a manager is declared in one line, a function opens its body, and a raw code its lines
 abbrev pub headed : List Decl → List DriveLine → ℕ → Header → Option State
-headed ts ds n (header.Def k f ps) = only_if (may_declare (map declared_as ts) f ps) (state ts ds (Some (opened n k f ps)))
+headed ts ds n (header.Def k f ps) = only_if (may_declare (map declared_as ts) f ps) (state ts ds (Some (open_body (opened n k f ps))))
+headed ts ds n (header.Code f ps) = only_if (may_declare (map declared_as ts) f ps) (state ts ds (Some (open_code (bare_text n f ps))))
 headed ts ds n (header.Class c b) = only_if (may_derive (map declared_as ts) c b) (state (ts ++ ClassDecl c b ∷ []) ds None)
 headed ts ds n (header.Manager m e x) = only_if (may_manage (map declared_as ts) m e x) (state (ts ++ ManagerDecl m e x ∷ []) ds None)
 
@@ -208,11 +248,13 @@ outside ts ds n (line.Plain p) = None
 outside ts ds n (line.Opens h) = None
 outside ts ds n (line.Turns t) = None
 outside ts ds n (line.Header h) = headed ts ds n h
+outside ts ds n (line.Raw r) = None
 outside ts ds n (line.Drive d) = only_if (may_drive (map declared_as ts) (length ds) d) (state ts (ds ++ d ∷ []) None)
 
-abbrev pub accept_at : List Decl → List DriveLine → Option Open → ℕ → Line → Option State
+abbrev pub accept_at : List Decl → List DriveLine → Option Unclosed → ℕ → Line → Option State
 accept_at ts ds None n l = outside ts ds n l
-accept_at ts ds (Some o) n l = in_body ts ds o n l
+accept_at ts ds (Some (open_body o)) n l = in_body ts ds o n l
+accept_at ts ds (Some (open_code t)) n l = in_code ts ds t n l
 
 -- a line, where it may stand here
 abbrev pub accept : State → ℕ → Line → Option State
@@ -231,7 +273,7 @@ pub data Verdict : Type 0 where
   Good : List Decl → List DriveLine → Verdict
   Bad : ℕ → Verdict
 
-abbrev pub at_end : List Decl → List DriveLine → Option Open → ℕ → Verdict
+abbrev pub at_end : List Decl → List DriveLine → Option Unclosed → ℕ → Verdict
 at_end ts ds None n = Good ts ds
 at_end ts ds (Some o) n = Bad n
 

@@ -1,16 +1,18 @@
 -- The program's reader and answers as the definitions see them.
-use Rattle.std.specs.Prelude.{◌≡◌, ◌⊎◌, ℕ, Bool, List, [], ◌∷◌, Option, Some, None, option_map, IsOk}
+use Rattle.std.specs.Prelude.{◌≡◌, ◌⊎◌, ℕ, Bool, List, [], ◌∷◌, ◌++◌, Option, Some, None, option_map, IsOk}
 use Rattle.std.specs.declared.result.Result.{Result}
 use Rattle.std.specs.declared.result.Result.TheVariants.{Ok, Err}
 use Rattle.py_tree.specs.declared.stmt.ClauseList.{ClauseList}
 use Rattle.py_tree.specs.declared.stmt.StmtList.{StmtList}
 use Rattle.py_tree.specs.declared.stmt.StmtForm.{StmtForm}
+use Rattle.py_tree.specs.Tree.{Name}
 use Rattle.py_tree.specs.Suites.{with_clause}
 use Rattle.py_tree.specs.ExprViews.{expr_of}
 use Rattle.py_tree.specs.Views.{clauses_of, form_of, suite_of}
 use Rattle.py_lines.specs.declared.head.Turn.{Turn}
 use Rattle.py_lines.specs.declared.header.Header.{Header}
 use Rattle.py_lines.specs.declared.header.Header.TheVariants.{Def}
+use Rattle.py_lines.specs.declared.raw.RawLine.{RawLine}
 use Rattle.py_lines.specs.Line.{Line, LineRead}
 use Rattle.py_lines.specs.Reading.{IsReadAs}
 use Rattle.py_grammar.specs.declared.fault.ParseFault.{ParseFault}
@@ -23,10 +25,15 @@ use Rattle.py_grammar.specs.declared.open_body.OpenBlock.{OpenBlock}
 use Rattle.py_grammar.specs.declared.open_body.OpenBody.{OpenBody}
 use Rattle.py_grammar.specs.declared.open_body.Ended.{Ended}
 use Rattle.py_grammar.specs.declared.open_body.Ended.TheVariants as ended
+use Rattle.py_grammar.specs.declared.raw_block.RawUnit.{RawUnit}
+use Rattle.py_grammar.specs.declared.open_item.OpenItem.{OpenItem}
+use Rattle.py_grammar.specs.declared.open_item.OpenItem.TheVariants as item
 use Rattle.py_grammar.specs.declared.reader.Reader.{Reader}
 use Rattle.py_grammar.specs.declared.script.Script.{Script}
+use Rattle.py_grammar.specs.Grammar.{Decl, FunctionDecl, RawDecl}
+use Rattle.py_grammar.specs.RawText.{RawText, raw_of}
 use Rattle.py_grammar.specs.Script.{decls_of, IsBadLine, IsScript, Text}
-use Rattle.py_grammar.specs.Reader.{Began, in_if, in_else, in_while, in_try, in_except, in_finally, in_with, Block, Open, Closing, whole_body, one_block, closed, ended as ended_as, except_behind, turned_by, function_of, State, state, accept, closes, goes_on, headed, only_if, takes_line, Good, Bad, WalksTo, start}
+use Rattle.py_grammar.specs.Reader.{Began, in_if, in_else, in_while, in_try, in_except, in_finally, in_with, Block, Open, Closing, whole_body, one_block, closed, ended as ended_as, except_behind, turned_by, function_of, with_said, with_unit, code_line, Unclosed, open_body, open_code, State, state, accept, goes_on, headed, only_if, takes_line, Good, Bad, WalksTo, start}
 
 -- how an open block began
 abbrev pub began_of : BlockHead → Began
@@ -60,9 +67,14 @@ closing_of ended.Body o = Some (whole_body (function_of (open_of o)))
 closing_of ended.Block o = Some (one_block (open_of o))
 closing_of ended.Nothing o = None
 
+-- what is open
+abbrev pub unclosed_of : OpenItem → Unclosed
+unclosed_of (item.Body o) = open_body (open_of o)
+unclosed_of (item.Raw t) = open_code t
+
 -- what was read so far
 abbrev pub state_of : Reader → State
-state_of r = state (decls_of r.whole) r.whole.drives (option_map open_of r.inside)
+state_of r = state (decls_of r.whole) r.whole.drives (option_map unclosed_of r.inside)
 
 -- all clauses: those before, and one that began so and has this suite
 abbrev pub AddsClause : ClauseList → ClauseHead → StmtList → ClauseList → Type 0
@@ -91,15 +103,30 @@ header_of f = Def f.kind f.name f.params
 abbrev pub GoesOn : (old new : OpenBody) → ℕ → Line → (taken : Bool) → Type 0
 GoesOn old new n l taken = only_if taken (open_of new) ≡ goes_on (open_of old) n l
 
--- a reader with no open body took this header, or refused it
+-- an open raw code behind functions of these names took this header line, this unit, or any line, or refused it
+abbrev pub AddsHead : List Name → (old new : RawText) → RawLine → (taken : Bool) → Type 0
+AddsHead fs old new l taken = only_if taken new ≡ with_said fs old l
+
+abbrev pub AddsUnit : (old new : RawText) → RawUnit → (taken : Bool) → Type 0
+AddsUnit old new u taken = only_if taken new ≡ with_unit old u
+
+abbrev pub CodeGoesOn : List Name → (old new : RawText) → ℕ → RawLine → (taken : Bool) → Type 0
+CodeGoesOn fs old new n l taken = only_if taken new ≡ code_line fs old n l
+
+-- a reader with nothing open took this header, or refused it
 abbrev pub IsHeaded : (old new : Reader) → ℕ → Header → (taken : Bool) → Type 0
 IsHeaded old new n h taken = only_if taken (state_of new) ≡ headed (decls_of old.whole) old.whole.drives n h
 
--- the function that is open declares itself, where one is
+-- what an open item declares at its end
+abbrev pub declared_by : OpenItem → Decl
+declared_by (item.Body o) = FunctionDecl (function_of (open_of o))
+declared_by (item.Raw t) = RawDecl (raw_of t)
+
+-- the item that is open declares itself, where one is
 abbrev pub IsDeclared : (old new : Reader) → (taken : Bool) → Type 0
 IsDeclared old new taken =
     only_if taken (state_of new)
-    ≡ option_map (λ body. closes (decls_of old.whole) old.whole.drives (whole_body (function_of body))) (state_of old).inside
+    ≡ option_map (λ i. state (decls_of old.whole ++ declared_by i ∷ []) old.whole.drives None) old.inside
 
 -- a reader took this line, or refused it
 abbrev pub IsTaken : (old new : Reader) → ℕ → Line → (taken : Bool) → Type 0

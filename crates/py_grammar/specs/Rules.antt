@@ -1,5 +1,5 @@
 -- The rules on lines that look at what stands around them, each a test.
-use Rattle.std.specs.Prelude.{ℕ, suc, List, [], ◌∷◌, length, Bool, Option, Some, None, true, false, ◌==◌, ◌&&◌, ◌||◌, not, nat_le, nat_lt, bytes_eq, map}
+use Rattle.std.specs.Prelude.{ℕ, suc, List, [], ◌∷◌, length, Bool, Option, Some, None, true, false, ◌==◌, ◌&&◌, ◌||◌, not, nat_le, nat_lt, bytes_eq, map, if◌then◌else◌}
 use Rattle.std.specs.List.{list_any, list_all}
 use Rattle.py_objects.specs.ErrorKinds.{error_kinds, name_of}
 use Rattle.py_tree.specs.declared.body.BodyKind.{BodyKind}
@@ -50,6 +50,11 @@ is_class OfFunction = false
 -- whether what is declared under a name can be called
 abbrev pub declares_callable : Name → List Declared → Bool
 declares_callable f ds = list_any (λ d. bytes_eq f d.name && is_callable d.kind) ds
+
+-- the names of what can be called
+abbrev pub callables : List Declared → List Name
+callables [] = []
+callables (d ∷ ds) = if is_callable d.kind then d.name ∷ callables ds else callables ds
 
 -- the names of the classes that are there without a declaration
 abbrev pub is_builtin_class : Name → Bool

@@ -6,9 +6,9 @@ use Rattle.py_lines.specs.declared.drive.DriveLine.{DriveLine}
 use Rattle.py_lines.specs.Line.{LineRead, Blank, Said, Malformed}
 use Rattle.py_lines.specs.Reading.{IsReadAs}
 use Rattle.py_grammar.specs.declared.script.Declaration.{Declaration}
-use Rattle.py_grammar.specs.declared.script.Declaration.TheVariants.{Class, Manager, Function}
+use Rattle.py_grammar.specs.declared.script.Declaration.TheVariants.{Class, Manager, Function, Raw}
 use Rattle.py_grammar.specs.declared.script.Script.{Script}
-use Rattle.py_grammar.specs.Grammar.{Row, row, Decl, ClassDecl, ManagerDecl, FunctionDecl, Item, items_rows, decls_in, drives_in, WellItems}
+use Rattle.py_grammar.specs.Grammar.{Row, row, Decl, ClassDecl, ManagerDecl, FunctionDecl, RawDecl, Item, items_rows, decls_in, drives_in, WellItems}
 use Rattle.py_grammar.specs.Lines.{lines}
 
 -- a declaration, as plain data
@@ -16,6 +16,7 @@ abbrev pub decl_of : Declaration → Decl
 decl_of (Class c b) = ClassDecl c b
 decl_of (Manager m e x) = ManagerDecl m e x
 decl_of (Function b) = FunctionDecl (tree_of b)
+decl_of (Raw b) = RawDecl b
 
 -- what a script declares
 abbrev pub decls_of : Script → List Decl

@@ -7,10 +7,11 @@ use Rattle.py_lines.specs.declared.drive.DriveAtom.{DriveAtom}
 use Rattle.py_lines.specs.declared.drive.DriveAtom.TheVariants as argument
 use Rattle.py_lines.specs.declared.drive.DriveLine.{DriveLine}
 use Rattle.py_lines.specs.declared.drive.DriveLine.TheVariants as drive
-use Rattle.py_grammar.specs.declared.open_body.OpenBody.{OpenBody}
+use Rattle.py_grammar.specs.declared.open_item.OpenItem.{OpenItem}
+use Rattle.py_grammar.specs.declared.open_item.OpenItem.TheVariants as item
 use Rattle.py_grammar.specs.declared.reader.Reader.{Reader}
 use Rattle.py_grammar.specs.declared.table.Table.{Table}
-use Rattle.py_grammar.specs.Grammar.{Decl, ClassDecl, ManagerDecl, FunctionDecl, decl_name, functions_in}
+use Rattle.py_grammar.specs.Grammar.{Decl, ClassDecl, ManagerDecl, FunctionDecl, RawDecl, decl_name}
 use Rattle.py_grammar.specs.Script.{decls_of}
 use Rattle.py_grammar.specs.Rules.{is_among, all_differ, is_builtin_class, numbers_drive}
 
@@ -18,25 +19,39 @@ use Rattle.py_grammar.specs.Rules.{is_among, all_differ, is_builtin_class, numbe
 abbrev pub names_of : List Decl → List Name
 names_of ds = map decl_name ds
 
--- the names of the functions and of the classes among them
+-- those of the functions among them
 abbrev pub function_names : List Decl → List Name
-function_names ds = map (λ t. t.name) (functions_in ds)
+function_names [] = []
+function_names (ClassDecl c b ∷ ds) = function_names ds
+function_names (ManagerDecl m e x ∷ ds) = function_names ds
+function_names (FunctionDecl t ∷ ds) = t.name ∷ function_names ds
+function_names (RawDecl b ∷ ds) = b.name ∷ function_names ds
 
--- those of the classes
+-- and those of the classes
 abbrev pub class_names : List Decl → List Name
 class_names [] = []
 class_names (ClassDecl c b ∷ ds) = c ∷ class_names ds
 class_names (ManagerDecl m e x ∷ ds) = class_names ds
 class_names (FunctionDecl t ∷ ds) = class_names ds
+class_names (RawDecl b ∷ ds) = class_names ds
 
--- the table of these declarations, and the one with the name of an open body behind them
-abbrev pub table_of : List Decl → Option OpenBody → Table
+-- the table of these declarations, and the one with the name of an open body behind them; a raw code isn't among its own constants, so
+-- its name goes there at its end
+abbrev pub table_of : List Decl → Option OpenItem → Table
 table_of ds None = record { names = names_of ds; functions = function_names ds; classes = class_names ds }
-table_of ds (Some o) = record { names = names_of ds ++ o.name ∷ []; functions = function_names ds ++ o.name ∷ []; classes = class_names ds }
+table_of ds (Some (item.Body o)) = record { names = names_of ds ++ o.name ∷ []; functions = function_names ds ++ o.name ∷ []; classes = class_names ds }
+table_of ds (Some (item.Raw t)) = record { names = names_of ds; functions = function_names ds; classes = class_names ds }
+
+-- until then it is that of no declaration
+abbrev pub is_still_new : List Decl → Option OpenItem → Bool
+is_still_new ds None = true
+is_still_new ds (Some (item.Body o)) = true
+is_still_new ds (Some (item.Raw t)) = not (is_among t.name (names_of ds))
 
 -- the table of a reader is that of what it has read
-abbrev pub TableIsKept : Reader → Type 0
-TableIsKept r = r.table ≡ table_of (decls_of r.whole) r.inside
+pub record TableIsKept (r : Reader) : Type 0 where
+  pub table : r.table ≡ table_of (decls_of r.whole) r.inside
+  pub still_new : is_still_new (decls_of r.whole) r.inside ≡ true
 
 -- the table with the name of a function
 abbrev pub with_function_name : Table → Name → Table

@@ -1,13 +1,18 @@
 -- What every script keeps, as the layers above need it.
-use Rattle.std.specs.Prelude.{◌≡◌, ◌≢◌, ◌≤◌, ◌⊎◌, ℕ, List, Option, Some, None, length, true, false, All, Any, AllPairs, map, slice_get, take}
+use Rattle.std.specs.Prelude.{◌≡◌, ◌≢◌, ◌≤◌, ◌⊎◌, ℕ, List, [], Option, Some, None, length, true, false, All, Any, AllPairs, map, slice_get, take}
 use Rattle.py_tree.specs.Compilable.{IsCompilable}
 use Rattle.py_tree.specs.Tree.{Name}
+use Rattle.py_lines.specs.declared.constant.RawConst.{RawConst}
+use Rattle.py_lines.specs.declared.constant.RawConst.TheVariants as constant
 use Rattle.py_lines.specs.declared.drive.DriveAtom.{DriveAtom}
 use Rattle.py_lines.specs.declared.drive.DriveAtom.TheVariants as argument
 use Rattle.py_lines.specs.declared.drive.DriveLine.{DriveLine}
 use Rattle.py_lines.specs.declared.drive.DriveLine.TheVariants as drive
 use Rattle.py_grammar.specs.declared.script.Script.{Script}
-use Rattle.py_grammar.specs.Grammar.{Decl, ClassDecl, ManagerDecl, FunctionDecl, decl_name}
+use Rattle.py_grammar.specs.declared.raw_block.RawBlock.{RawBlock}
+use Rattle.py_grammar.specs.declared.raw_block.RawCounts.{RawCounts}
+use Rattle.py_grammar.specs.Grammar.{Decl, ClassDecl, ManagerDecl, FunctionDecl, RawDecl, decl_name}
+use Rattle.py_grammar.specs.RawRules.{all_run, is_heeded}
 use Rattle.py_grammar.specs.Rules.{is_builtin_class}
 use Rattle.py_grammar.specs.Script.{decls_of}
 
@@ -20,11 +25,13 @@ abbrev pub IsFunctionNamed : Name → Decl → Type 0
 IsFunctionNamed f (ClassDecl c b) = ⊥
 IsFunctionNamed f (ManagerDecl m e x) = ⊥
 IsFunctionNamed f (FunctionDecl t) = t.name ≡ f
+IsFunctionNamed f (RawDecl b) = b.name ≡ f
 
 abbrev pub IsClassNamed : Name → Decl → Type 0
 IsClassNamed c (ClassDecl d b) = d ≡ c
 IsClassNamed c (ManagerDecl m e x) = ⊥
 IsClassNamed c (FunctionDecl t) = ⊥
+IsClassNamed c (RawDecl b) = ⊥
 
 abbrev pub IsFunction : List Decl → Name → Type 0
 IsFunction decls f = Any (IsFunctionNamed f) decls
@@ -33,11 +40,36 @@ IsFunction decls f = Any (IsFunctionNamed f) decls
 abbrev pub IsClass : List Decl → Name → Type 0
 IsClass decls c = Any (IsClassNamed c) decls ⊎ (is_builtin_class c ≡ true)
 
--- behind these declarations, a class has a base that is one, a manager has functions, and a function can be compiled
+-- a constant of a raw code that frames load so far: one that holds no others, and no code
+abbrev pub IsLoadable : RawConst → Type 0
+IsLoadable (constant.Atom a) = Unit {0}
+IsLoadable (constant.Code f) = ⊥
+IsLoadable (constant.Tuple xs) = ⊥
+
+-- no parameter takes named arguments alone
+abbrev pub NoneNamed : Option RawCounts → Type 0
+NoneNamed None = Unit {0}
+NoneNamed (Some c) = c.named ≡ 0
+
+-- a raw code has what frames heed, load and run so far
+pub record IsWellCoded (b : RawBlock) : Type 0 where
+  pub distinct : AreDistinct b.params
+  pub few : length b.params ≤ 255
+  pub flags : All (λ f. is_heeded f ≡ true) b.flags
+  pub counts : NoneNamed b.counts
+  pub cells : b.cells ≡ []
+  pub frees : b.frees ≡ []
+  pub consts : All IsLoadable b.consts
+  pub some : b.units ≢ []
+  pub run : all_run 0 b.units ≡ true
+
+-- behind these declarations, a class has a base that is one, a manager has functions, a function can be compiled, and a raw code can be
+-- made and run
 abbrev pub IsFounded : List Decl → Decl → Type 0
 IsFounded decls (ClassDecl c b) = IsClass decls b
 IsFounded decls (ManagerDecl m e x) = IsFunction decls e × IsFunction decls x
 IsFounded decls (FunctionDecl t) = IsCompilable t
+IsFounded decls (RawDecl b) = IsWellCoded b
 
 -- so does a declaration that isn't named like a built-in class
 pub record IsWellDeclared (decls : List Decl) (d : Decl) : Type 0 where

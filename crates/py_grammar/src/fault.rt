@@ -6,7 +6,8 @@ use thiserror::Error;
 /// Why bytes give no script.
 #[derive(Clone, Copy, Debug, PartialEq, Eq, Error)]
 pub enum ParseFault {
-    /// The bad line, from 1: the least with which no script begins, or the one behind the last where a body is left open.
+    /// The bad line, from 1: the least with which no script begins, or the one behind the last where a body or a raw code is left
+    /// open.
     #[error("the bytes are no script: the first bad line is {0}")]
     Malformed(u64),
     /// Memory ran out.

@@ -4,6 +4,7 @@ ghost use Rattle.std.specs.Prelude.{◌≡◌};
 ghost use Rattle.py_grammar.specs.Grammar.{decl_name};
 ghost use Rattle.py_grammar.specs.Script.{decl_of};
 
+use crate::raw_block::RawBlock;
 use py_code::{ItemList, PyText};
 use py_lines::DriveLine;
 use py_tree::Body;
@@ -17,6 +18,8 @@ pub enum Declaration {
     Manager(PyText, PyText, PyText),
     /// `def f p ..` or `gen f p ..`, its statements and `end`.
     Function(Body),
+    /// `code f p ..`, its lines and `end`.
+    Raw(RawBlock),
 }
 
 impl Declaration {
@@ -28,6 +31,7 @@ impl Declaration {
             Declaration::Class(name, _) => name,
             Declaration::Manager(name, _, _) => name,
             Declaration::Function(body) => &body.name,
+            Declaration::Raw(block) => &block.name,
         }
     }
 }

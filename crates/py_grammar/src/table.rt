@@ -6,7 +6,7 @@ ghost use Rattle.py_grammar.specs.Tables.{table_of, with_class_name, with_functi
 use py_code::{NameSet, NoMemory, PyText};
 use std::alloc::Global;
 
-/// The names of the declarations in order, and behind them that of the open body; also those of functions and those of classes alone.
+/// The names of the declarations in order, and behind them that of an open body; also those of functions and those of classes alone.
 #[derive(Drop)]
 pub struct Table {
     pub names: NameSet,

@@ -17,6 +17,7 @@ use Rattle.py_lines.specs.declared.head.Turn.TheVariants as turn
 use Rattle.py_lines.specs.declared.header.Header.{Header}
 use Rattle.py_lines.specs.declared.header.Header.TheVariants as header
 use Rattle.py_lines.specs.declared.keyword.Keyword.TheVariants as keyword
+use Rattle.py_lines.specs.declared.raw.RawLine.{RawLine}
 use Rattle.py_lines.specs.Line.{Line}
 use Rattle.py_lines.specs.Line as line
 use Rattle.py_lines.specs.declared.meaning.Sense.{Sense}
@@ -25,10 +26,11 @@ use Rattle.py_lines.specs.Statements.{Plain, Head}
 use Rattle.py_lines.specs.Finding.{Prints, Shows, ShowsExpr, ShowsTarget}
 use Rattle.py_lines.specs.Reading.{HeadIsLow, LineIsLow, PlainIsLow}
 use Rattle.py_lines.specs.Meaning.{Meaning, Key, Word, Drive}
+use Rattle.py_lines.specs.RawLines.{raw_tokens}
 use Rattle.py_lines.specs.Senses.{meaning_of}
 use Rattle.py_lines.specs.Printing.{atom_token, drive_token, number_token, plain_tokens, head_tokens, target_tokens, turn_tokens, body_keyword, header_tokens, thrown_tokens, drive_tokens, line_tokens}
 use Rattle.py_lines.proofs.Expressions.{no_open}
-use Rattle.py_lines.proofs.OneToOne.{other_word}
+use Rattle.py_lines.proofs.Alike.{other_word}
 
 -- where nothing was found, none that may be found prints these
 pub none_shows : {X Y T : Type 0} (view : Y → X) (May : X → Type 0) (printing : X → T) (ts : T) (r : Option Y) → r ≡ None → Shows view May printing ts r → (x : X) → May x → ts ≢ printing x
@@ -44,6 +46,12 @@ pub no_def : (k : BodyKind) (ts : List Meaning) (r : Option (Name × List Name))
 no_def k ts r is found (header.Def j f ps) e = none_prints (λ p. Word p.0 ∷ map Word p.1) ts r is found (f, ps) (cc)
 no_def body.Function ts r is found h e = cc
 no_def body.Generator ts r is found h e = cc
+
+pub no_code : (ts : List Meaning) (r : Option (Name × List Name)) → r ≡ None → Prints (λ p. Word p.0 ∷ map Word p.1) ts r → (h : Header) → Key keyword.Code ∷ ts ≢ header_tokens h
+no_code ts r is found (header.Code f ps) e = none_prints (λ p. Word p.0 ∷ map Word p.1) ts r is found (f, ps) (cc)
+no_code ts r is found (header.Def body.Function f ps) e = cc
+no_code ts r is found (header.Def body.Generator f ps) e = cc
+no_code ts r is found h e = cc
 
 -- a `class` has two names behind it
 pub no_class : (ts : List Meaning) (r : Option (Name × Name)) → r ≡ None → Prints (λ p. Word p.0 ∷ Word p.1 ∷ []) ts r → (h : Header) → Key keyword.Class ∷ ts ≢ header_tokens h
@@ -105,13 +113,14 @@ no_drive s other n e = cc
 
 -- a line is of one of the classes
 pub no_line : (ts : List Meaning) → ((p : Plain) → PlainIsLow p → ts ≢ plain_tokens p) → ((h : Head) → HeadIsLow h → ts ≢ head_tokens h) → ((t : Turn) → ts ≢ turn_tokens t) → ((h : Header) → ts ≢ header_tokens h)
-    → ((d : DriveLine) → ts ≢ drive_tokens d) → (ts ≢ Key keyword.End ∷ []) → (l : Line) → LineIsLow l → ts ≢ line_tokens l
-no_line ts plain head turn header drive end line.End low = end
-no_line ts plain head turn header drive end (line.Plain p) low = plain p low
-no_line ts plain head turn header drive end (line.Opens h) low = head h low
-no_line ts plain head turn header drive end (line.Turns t) low = turn t
-no_line ts plain head turn header drive end (line.Header h) low = header h
-no_line ts plain head turn header drive end (line.Drive d) low = drive d
+    → ((d : DriveLine) → ts ≢ drive_tokens d) → ((r : RawLine) → ts ≢ raw_tokens r) → (ts ≢ Key keyword.End ∷ []) → (l : Line) → LineIsLow l → ts ≢ line_tokens l
+no_line ts plain head turn header drive raw end line.End low = end
+no_line ts plain head turn header drive raw end (line.Plain p) low = plain p low
+no_line ts plain head turn header drive raw end (line.Opens h) low = head h low
+no_line ts plain head turn header drive raw end (line.Turns t) low = turn t
+no_line ts plain head turn header drive raw end (line.Header h) low = header h
+no_line ts plain head turn header drive raw end (line.Drive d) low = drive d
+no_line ts plain head turn header drive raw end (line.Raw r) low = raw r
 
 behind_do : (ts us : List Meaning) → Key keyword.Do ∷ ts ≡ Key keyword.Do ∷ us → ts ≡ us
 behind_do ts us e = cc

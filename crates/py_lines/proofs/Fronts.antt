@@ -10,7 +10,7 @@ use Rattle.py_tree.specs.Compilable.{deep, deepest}
 use Rattle.py_tree.specs.declared.expr.Expr.{Operation}
 use Rattle.py_tree.specs.declared.expr.ExprList.{ExprList}
 use Rattle.py_tree.specs.ExprViews.{expr_of, exprs_of, with_operand}
-use Rattle.py_lines.specs.Meaning.{Meaning, Open, Close, Word, Number}
+use Rattle.py_lines.specs.Meaning.{Meaning, Open, Close, Word}
 use Rattle.py_lines.specs.Senses.{meaning_of}
 use Rattle.py_lines.specs.Printing.{atom_token, operator_word, expr_tokens, exprs_tokens}
 use Rattle.py_lines.specs.Finding.{begins_closed, Fronts, NoneFronts, Operands, NoOperands}
@@ -105,15 +105,15 @@ dropped : (n : ℕ) (ts : List Meaning) → n ≤ length ts → length (drop n t
 dropped n ts within = omega (arith, length-drop n ts, within)
 
 -- the parenthesis that closes
-closed_rest : (rest : List Meaning) → begins_closed rest ≡ true → rest ≡ Close ∷ drop 1 rest
+pub closed_rest : (rest : List Meaning) → begins_closed rest ≡ true → rest ≡ Close ∷ drop 1 rest
 closed_rest (Close ∷ ts) is = refl
 closed_rest ts is = absurd (cc is)
 
-not_closed : (rest : List Meaning) → begins_closed rest ≡ false → (vs : List Meaning) → rest ≢ Close ∷ vs
+pub not_closed : (rest : List Meaning) → begins_closed rest ≡ false → (vs : List Meaning) → rest ≢ Close ∷ vs
 not_closed rest is vs same = let clash : true ≡ false = sym (ap begins_closed same) ∙ is in cc clash
 
 -- a place behind which something is left lies in front of the end
-below_end : (n : ℕ) (ts : List Meaning) (t : Meaning) (us : List Meaning) → drop n ts ≡ t ∷ us → n < length ts
+pub below_end : (n : ℕ) (ts : List Meaning) (t : Meaning) (us : List Meaning) → drop n ts ≡ t ∷ us → n < length ts
 below_end n ts t us is = let long : length (drop n ts) ≡ suc (length us) = ap length is in omega (arith, long, length-drop n ts)
 
 pub operands_end : (room : ℕ) (ts : List Meaning) (at : ℕ) (es : Exprs) → ts ≡ exprs_tokens es (drop at ts) → deepest es ≤ room → begins_closed (drop at ts) ≡ true → Operands room ts es (at + 1)

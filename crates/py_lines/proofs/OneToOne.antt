@@ -1,7 +1,6 @@
 -- That no two lines print the same tokens, class by class.
-use Rattle.std.proofs.Common.{◌≡◌, ◌≢◌, ℕ, List, [], ◌∷◌, true, false, refl, sym, ap, ◌∙◌, map, bytes_eq, Some, None}
+use Rattle.std.proofs.Common.{◌≡◌, ◌≢◌, [], true, false, refl, sym, ap, ◌∙◌, Some, None}
 use Rattle.std.specs.Prelude.{Option}
-use Rattle.std.proofs.lemmas.Slice.Eq.{bytes_eq-Decides}
 use Rattle.py_tree.specs.declared.body.BodyKind.TheVariants as body
 use Rattle.py_tree.specs.Tree.{Name, Expr, Operate}
 use Rattle.py_lines.specs.declared.drive.DriveAtom.{DriveAtom}
@@ -18,10 +17,13 @@ use Rattle.py_lines.specs.Line as line
 use Rattle.py_lines.specs.Statements.{Plain, Head}
 use Rattle.py_lines.specs.Statements as said
 use Rattle.py_lines.specs.Meaning.{Meaning, Key, Word, Number, Text, Drive}
+use Rattle.py_lines.specs.Words.{is_short}
 use Rattle.py_lines.specs.Printing.{drive_token, expr_tokens, plain_tokens, head_tokens, target_tokens, turn_tokens, header_tokens, thrown_tokens, drive_tokens, line_tokens}
+use Rattle.py_lines.proofs.Alike.{same_all, same_names, other_word}
 use Rattle.py_lines.proofs.Classes.{line_class, same_class}
 use Rattle.py_lines.proofs.Counts.{same_count}
 use Rattle.py_lines.proofs.Expressions.{one_expr}
+use Rattle.py_lines.proofs.RawOneToOne.{same_raw}
 
 -- the argument of a drive that prints a token
 abbrev pub token_drive : Meaning → Option DriveAtom
@@ -44,20 +46,6 @@ no_drive_atom t none a e = let h : None ≡ Some a = sym none ∙ ap token_drive
 
 same_drive_atom : (a b : DriveAtom) → drive_token a ≡ drive_token b → a ≡ b
 same_drive_atom a b e = let h : Some a ≡ Some b = sym (drive_back a) ∙ ap token_drive e ∙ drive_back b in cc h
-
--- lists are the same where their elements print the same
-same_all : {X T : Type 0} (printing : X → T) → ((x y : X) → printing x ≡ printing y → x ≡ y) → (xs ys : List X) → map printing xs ≡ map printing ys → xs ≡ ys
-same_all printing same [] [] e = refl
-same_all printing same [] (y ∷ ys) e = cc
-same_all printing same (x ∷ xs) [] e = cc
-same_all printing same (x ∷ xs) (y ∷ ys) e = let h : x ≡ y = same x y (cc) in let t : xs ≡ ys = same_all printing same xs ys (cc) in cc
-
-same_names : (xs ys : List Name) → map Word xs ≡ map Word ys → xs ≡ ys
-same_names = same_all Word (λ x y e. cc)
-
--- words that differ begin tokens that do
-pub other_word : (v w : List ℕ) → bytes_eq v w ≡ false → (ts us : List Meaning) → Word v ∷ ts ≢ Word w ∷ us
-other_word v w other ts us e = let same : v ≡ w = cc in let h : false ≡ true = sym other ∙ (bytes_eq-Decides v w).1 same in cc h
 
 -- an expression with nothing behind it
 same_expr : (e f : Expr) → expr_tokens e [] ≡ expr_tokens f [] → e ≡ f
@@ -100,6 +88,7 @@ same_turn t u e = cc
 same_header : (h k : Header) → header_tokens h ≡ header_tokens k → h ≡ k
 same_header (header.Def body.Function f ps) (header.Def body.Function g qs) e = let k : ps ≡ qs = same_names ps qs (cc) in cc
 same_header (header.Def body.Generator f ps) (header.Def body.Generator g qs) e = let k : ps ≡ qs = same_names ps qs (cc) in cc
+same_header (header.Code f ps) (header.Code g qs) e = let k : ps ≡ qs = same_names ps qs (cc) in cc
 same_header (header.Def body.Function f ps) k e = cc
 same_header (header.Def body.Generator f ps) k e = cc
 same_header h (header.Def body.Function g qs) e = cc
@@ -114,10 +103,10 @@ same_thrown (Some a) (Some b) e = let h : a ≡ b = same_drive_atom a b (cc) in 
 
 same_drive : (d e : DriveLine) → drive_tokens d ≡ drive_tokens e → d ≡ e
 same_drive (drive_line.Call f xs) (drive_line.Call g ys) h = let k : xs ≡ ys = same_all drive_token same_drive_atom xs ys (cc) in cc
-same_drive (drive_line.Next m) (drive_line.Next n) h = let k : m ≡ n = same_count m n (cc) in cc
-same_drive (drive_line.Send m a) (drive_line.Send n b) h = let j : m ≡ n = same_count m n (cc) in let k : a ≡ b = same_drive_atom a b (cc) in cc
-same_drive (drive_line.Throw m c v) (drive_line.Throw n d w) h = let j : m ≡ n = same_count m n (cc) in let k : v ≡ w = same_thrown v w (cc) in cc
-same_drive (drive_line.Close m) (drive_line.Close n) h = let k : m ≡ n = same_count m n (cc) in cc
+same_drive (drive_line.Next m) (drive_line.Next n) h = let k : m ≡ n = same_count is_short m n (cc) in cc
+same_drive (drive_line.Send m a) (drive_line.Send n b) h = let j : m ≡ n = same_count is_short m n (cc) in let k : a ≡ b = same_drive_atom a b (cc) in cc
+same_drive (drive_line.Throw m c v) (drive_line.Throw n d w) h = let j : m ≡ n = same_count is_short m n (cc) in let k : v ≡ w = same_thrown v w (cc) in cc
+same_drive (drive_line.Close m) (drive_line.Close n) h = let k : m ≡ n = same_count is_short m n (cc) in cc
 same_drive d e h = absurd (other_word _ _ refl _ _ h)
 
 -- no two lines print the same tokens
@@ -131,4 +120,5 @@ same_line l m e = go l m (same_class l m e) e
     go (line.Turns t) (line.Turns u) c e = ap line.Turns (same_turn t u e)
     go (line.Header h) (line.Header k) c e = ap line.Header (same_header h k e)
     go (line.Drive d) (line.Drive f) c e = ap line.Drive (same_drive d f e)
+    go (line.Raw r) (line.Raw s) c e = ap line.Raw (same_raw r s e)
     go l m c e = cc

@@ -5,7 +5,8 @@ use Rattle.std.proofs.lemmas.Bool.{eqb-true}
 use Rattle.py_code.specs.Range.{in_range}
 use Rattle.py_lines.specs.Line.{Line, LineRead, Blank, Said, Malformed}
 use Rattle.py_lines.specs.Comments.{is_comment, is_utf8}
-use Rattle.py_lines.specs.Meaning.{Unknown, word_meaning, meaning}
+use Rattle.py_lines.specs.Meaning.{Parts, word_meaning, meaning}
+use Rattle.py_lines.specs.Parts.{parts_of}
 use Rattle.py_lines.specs.Printing.{line_tokens}
 use Rattle.py_lines.specs.Reading.{meanings, are_none, says_nothing, IsReadAs, LineIsLow}
 use Rattle.py_lines.specs.Tokens.{Lexeme, is_blank, cut_from, Between, Inside, tokens_of}
@@ -23,11 +24,11 @@ no_digits false n = refl
 no_number : (w : List ℕ) → number_of (35 ∷ w) ≡ None
 no_number w = no_digits (nat_le 1 (length (35 ∷ w))) _
 
--- a word that begins with # means nothing
-no_meaning : (w : List ℕ) → word_meaning (35 ∷ w) ≡ Unknown
+-- a word that begins with # is none that begins a line
+no_meaning : (w : List ℕ) → word_meaning (35 ∷ w) ≡ Parts (parts_of (35 ∷ w))
 no_meaning w = rw (no_number w) refl
 
--- the first token of a comment means nothing
+-- nor is the first token of a comment
 comment_unknown : (bytes : List ℕ) → is_comment bytes ≡ true → tokens_class (meanings bytes) ≡ None
 comment_unknown [] e = refl
 comment_unknown (b ∷ bs) e = go (is_blank b) refl (comment_unknown bs)

@@ -1,7 +1,6 @@
 -- What line prints some tokens, or that none does, from the same of its parts.
-use Rattle.std.proofs.Common.{◌≡◌, ◌≢◌, ◌*◌, ℕ, List, [], ◌∷◌, Bool, Some, None, true, false, refl, sym, ap, ◌∙◌, bytes_eq, length, map, arith}
-use Rattle.std.specs.Prelude.{codes, pos}
-use Rattle.std.proofs.lemmas.Slice.Eq.{bytes_eq-Decides}
+use Rattle.std.proofs.Common.{◌≡◌, ◌≢◌, ◌*◌, List, [], ◌∷◌, Some, None, true, false, refl, sym, ap, ◌∙◌, length, map, arith}
+use Rattle.std.specs.Prelude.{codes}
 use Rattle.py_tree.specs.declared.body.BodyKind.{BodyKind}
 use Rattle.py_tree.specs.declared.body.BodyKind.TheVariants as body
 use Rattle.py_tree.specs.declared.expr.Operator.{Operator}
@@ -10,29 +9,25 @@ use Rattle.py_lines.specs.declared.drive.DriveAtom.TheVariants as drive
 use Rattle.py_lines.specs.declared.drive.DriveLine.TheVariants as drive_line
 use Rattle.py_lines.specs.declared.head.Turn.TheVariants as turn
 use Rattle.py_lines.specs.declared.header.Header.TheVariants as header
-use Rattle.py_lines.specs.declared.keyword.Keyword.{Keyword}
 use Rattle.py_lines.specs.declared.keyword.Keyword.TheVariants as keyword
 use Rattle.py_lines.specs.Line as line
 use Rattle.py_lines.specs.Line.{Line}
 use Rattle.py_lines.specs.Statements as said
 use Rattle.py_lines.specs.Statements.{Plain, Head}
-use Rattle.py_lines.specs.Keywords.{keyword_of, keyword_text}
-use Rattle.py_lines.specs.Meaning.{Meaning, Equals, Key, Word, Number, Text, Drive, Beyond}
+use Rattle.py_lines.specs.Meaning.{Meaning, Equals, Key, Word, Number, Text, Drive}
 use Rattle.py_lines.specs.Reading.{ExprIsLow, HeadIsLow, LineIsLow, PlainIsLow}
 use Rattle.py_lines.specs.Words.{is_short}
-use Rattle.py_lines.specs.Printing.{drive_token, number_token, expr_tokens, plain_tokens, head_tokens, target_tokens, turn_tokens, body_keyword, header_tokens, thrown_tokens, drive_tokens, line_tokens}
+use Rattle.py_lines.specs.Printing.{drive_token, expr_tokens, plain_tokens, head_tokens, target_tokens, turn_tokens, body_keyword, header_tokens, thrown_tokens, drive_tokens, line_tokens}
 use Rattle.py_lines.proofs.Finders.{Finds, Found, Missing, or_else, find_behind, find_nothing, find_both, find_lone, find_all}
 use Rattle.py_lines.proofs.Finds.{no_line}
-use Rattle.py_lines.proofs.Counts.{no_count, no_other, printed}
+use Rattle.py_lines.proofs.Counts.{find_count}
 use Rattle.py_lines.proofs.Expressions.{no_open, one_expr}
 use Rattle.py_lines.proofs.OneToOne.{no_drive_atom}
+use Rattle.py_lines.proofs.RawTotals.{find_raw}
 use Rattle.py_lines.proofs.Searching.{Front, Is, None_is, front}
+use Rattle.py_lines.proofs.TokenFinders.{find_name, behind_word, behind_key}
 
--- one token: a name, an atom, an argument of a drive, or the number of one
-find_name : (t : Meaning) → Finds Word t
-find_name (Word x) = Found x refl
-find_name t = Missing λ x e. cc
-
+-- an argument of a drive
 find_argument : (t : Meaning) → Finds drive_token t
 find_argument (Key keyword.None) = Found drive.None refl
 find_argument (Key keyword.True) = Found (drive.Bool true) refl
@@ -42,48 +37,6 @@ find_argument (Text s) = Found (drive.Str s) refl
 find_argument (Word x) = Found (drive.Name x) refl
 find_argument (Drive n) = Found (drive.Drive n) refl
 find_argument t = Missing (no_drive_atom t refl)
-
-find_number : (t : Meaning) → Finds number_token t
-find_number (Number (pos n)) = at (is_short n) refl
-  where
-    at : (short : Bool) → is_short n ≡ short → Finds number_token (Number (pos n))
-    at true is = Found n (sym (ap (λ p. printed p n) is))
-    at false is = Missing (no_other false n is (Number (pos n)) refl (λ e. cc))
-find_number (Beyond n) = at (is_short n) refl
-  where
-    at : (short : Bool) → is_short n ≡ short → Finds number_token (Beyond n)
-    at true is = Missing (no_other true n is (Beyond n) refl (λ e. cc))
-    at false is = Found n (sym (ap (λ p. printed p n) is))
-find_number t = Missing (no_count t refl)
-
--- the tokens behind a word
-same_word : (v w : List ℕ) → Dec (v ≡ w)
-same_word v w = go (bytes_eq v w) refl
-  where
-    go : (p : Bool) → bytes_eq v w ≡ p → Dec (v ≡ w)
-    go true e = yes ((bytes_eq-Decides v w).0 e)
-    go false e = no λ same. let h : false ≡ true = sym e ∙ (bytes_eq-Decides v w).1 same in cc h
-
-behind_word : (w : List ℕ) (ts : List Meaning) → Finds (λ us. Word w ∷ us) ts
-behind_word w (Word v ∷ ts) = elim (same_word v w) [ yes e ↦ Found ts (ap (λ x. Word x ∷ ts) e) | no other ↦ Missing λ us e. other (cc) ]
-behind_word w ts = Missing λ us e. cc
-
--- each keyword is the one that its text is read as
-pub read_back : (k : Keyword) → keyword_of (keyword_text k) ≡ Some k
-read_back keyword.None = refl
-read_back k = refl
-
-same_keyword : (j k : Keyword) → keyword_text j ≡ keyword_text k → j ≡ k
-same_keyword j k e = let h : Some j ≡ Some k = sym (read_back j) ∙ ap keyword_of e ∙ read_back k in cc h
-
--- the tokens behind a keyword
-behind_key : (k : Keyword) (ts : List Meaning) → Finds (λ us. Key k ∷ us) ts
-behind_key k (Key j ∷ ts) =
-    elim (same_word (keyword_text j) (keyword_text k)) [
-      | yes e ↦ Found ts (ap (λ i. Key i ∷ ts) (same_keyword j k e))
-      | no other ↦ Missing λ us e. other (ap keyword_text (cc))
-    ]
-behind_key k ts = Missing λ us e. cc
 
 find_target : (ts : List Meaning) → Finds target_tokens ts
 find_target [] = Found None refl
@@ -177,11 +130,13 @@ find_header : (ts : List Meaning) → Finds header_tokens ts
 find_header ts =
     or_else (find_names body.Function ts) (λ z. Found (header.Def body.Function z.0 z.1)) λ no_def.
     or_else (find_names body.Generator ts) (λ z. Found (header.Def body.Generator z.0 z.1)) λ no_gen.
+    or_else (find_behind (behind_key keyword.Code ts) (find_both find_name (find_all find_name))) (λ z. Found (header.Code z.0 z.1)) λ no_code.
     or_else (find_behind (behind_key keyword.Class ts) (find_both find_name (find_lone find_name))) (λ z. Found (header.Class z.0 z.1)) λ no_class.
     or_else (find_behind (behind_key keyword.Manager ts) (find_both find_name (find_both find_name (find_lone find_name)))) (λ z. Found (header.Manager z.0 z.1.0 z.1.1)) λ no_manager.
     Missing (elim [
       | header.Def body.Function f ps ↦ no_def (f, ps)
       | header.Def body.Generator f ps ↦ no_gen (f, ps)
+      | header.Code f ps ↦ no_code (f, ps)
       | header.Class c b ↦ no_class (c, b)
       | header.Manager m e x ↦ no_manager (m, (e, x))
     ])
@@ -193,10 +148,10 @@ find_thrown (t ∷ ts) = or_else (find_lone find_argument (t ∷ ts)) (λ a. Fou
 find_drive : (ts : List Meaning) → Finds drive_tokens ts
 find_drive ts =
     or_else (find_behind (behind_word (codes "call") ts) (find_both find_name (find_all find_argument))) (λ z. Found (drive_line.Call z.0 z.1)) λ no_call.
-    or_else (find_behind (behind_word (codes "next") ts) (find_lone find_number)) (λ n. Found (drive_line.Next n)) λ no_next.
-    or_else (find_behind (behind_word (codes "send") ts) (find_both find_number (find_lone find_argument))) (λ z. Found (drive_line.Send z.0 z.1)) λ no_send.
-    or_else (find_behind (behind_word (codes "throw") ts) (find_both find_number (find_both find_name find_thrown))) (λ z. Found (drive_line.Throw z.0 z.1.0 z.1.1)) λ no_throw.
-    or_else (find_behind (behind_word (codes "close") ts) (find_lone find_number)) (λ n. Found (drive_line.Close n)) λ no_close.
+    or_else (find_behind (behind_word (codes "next") ts) (find_lone (find_count is_short))) (λ n. Found (drive_line.Next n)) λ no_next.
+    or_else (find_behind (behind_word (codes "send") ts) (find_both (find_count is_short) (find_lone find_argument))) (λ z. Found (drive_line.Send z.0 z.1)) λ no_send.
+    or_else (find_behind (behind_word (codes "throw") ts) (find_both (find_count is_short) (find_both find_name find_thrown))) (λ z. Found (drive_line.Throw z.0 z.1.0 z.1.1)) λ no_throw.
+    or_else (find_behind (behind_word (codes "close") ts) (find_lone (find_count is_short))) (λ n. Found (drive_line.Close n)) λ no_close.
     Missing (elim [
       | drive_line.Call f args ↦ no_call (f, args)
       | drive_line.Next n ↦ no_next n
@@ -212,5 +167,6 @@ find_line ts =
     or_else (find_turn ts) (λ t. Found (line.Turns t, tt)) λ no_turn.
     or_else (find_header ts) (λ h. Found (line.Header h, tt)) λ no_header.
     or_else (find_drive ts) (λ d. Found (line.Drive d, tt)) λ no_drive.
+    or_else (find_raw ts) (λ r. Found (line.Raw r, tt)) λ no_raw.
     or_else (find_behind (behind_key keyword.End ts) find_nothing) (λ x. Found (line.End, tt)) λ no_end.
-    Missing (λ z. no_line ts (λ p low. no_plain (p, low)) (λ h low. no_head (h, low)) no_turn no_header no_drive (no_end tt) z.0 z.1)
+    Missing (λ z. no_line ts (λ p low. no_plain (p, low)) (λ h low. no_head (h, low)) no_turn no_header no_drive no_raw (no_end tt) z.0 z.1)

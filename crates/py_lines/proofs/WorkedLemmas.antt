@@ -11,8 +11,9 @@ use Rattle.py_lines.specs.declared.header.Header.TheVariants as header
 use Rattle.py_lines.specs.declared.keyword.Keyword.TheVariants as keyword
 use Rattle.py_lines.specs.Statements.{Plain, Head}
 use Rattle.py_lines.specs.Statements as said
-use Rattle.py_lines.specs.Meaning.{Meaning, Open, Close, Equals, Key, Word, Number, Unknown}
+use Rattle.py_lines.specs.Meaning.{Meaning, Open, Close, Equals, Key, Word, Number, Parts}
 use Rattle.py_lines.specs.Printing.{exprs_tokens, operator_word, number_token, plain_tokens, head_tokens, target_tokens, header_tokens, drive_tokens}
+use Rattle.py_lines.specs.Words.{is_short}
 use Rattle.py_lines.specs.Worked.{AddIsAName, AsIsAName, CallIsADrive, CallIsAName, CallOfSums, ClassOfItself, ClassOfNothing, CloseIsAName, KeywordIsNoName, ManagerOfTwo, NextNothing, NoCloseAtTheEnd, NoCountBeyond, NoLargeNumber, NoNameBehindAs, NoNumberBelow, NoOperatorOfThisName, NothingBehind, NothingInParentheses, NothingIsBlank, ThrowIsADrive, WithAs, WithNone, YieldIsAName}
 use Rattle.py_lines.proofs.Classes.{no_plain, no_opening, no_header, no_drive_line}
 use Rattle.py_lines.proofs.Counts.{no_count, no_other}
@@ -45,7 +46,7 @@ pub no_number_below : NoNumberBelow
 no_number_below = (refl, λ l low. no_drive_line _ refl drives l)
   where
     drives : (d : DriveLine) → Word (codes "close") ∷ Number (neg_ℤ (pos 1)) ∷ [] ≢ drive_tokens d
-    drives (drive_line.Close n) e = let h : Number (neg_ℤ (pos 1)) ≡ number_token n = cc in no_count _ refl n h
+    drives (drive_line.Close n) e = let h : Number (neg_ℤ (pos 1)) ≡ number_token n = cc in no_count is_short _ refl n h
     drives d e = cc
 
 pub no_count_beyond : NoCountBeyond
@@ -54,7 +55,7 @@ no_count_beyond = (refl, λ l low. no_drive_line _ refl drives l)
     drives : (d : DriveLine) → Word (codes "next") ∷ Number (pos (2 ^ 64)) ∷ [] ≢ drive_tokens d
     drives (drive_line.Next n) e =
         let h : Number (pos (2 ^ 64)) ≡ number_token n = cc in
-        no_other false (2 ^ 64) refl (Number (pos (2 ^ 64))) refl (λ same. cc) n h
+        no_other is_short false (2 ^ 64) refl (Number (pos (2 ^ 64))) refl (λ same. cc) n h
     drives d e = cc
 
 pub as_is_a_name : AsIsAName
@@ -111,8 +112,8 @@ nothing_behind = (refl, λ l low. no_plain _ refl plains l)
 pub no_large_number : NoLargeNumber
 no_large_number = (refl, λ l low. no_plain _ refl plains l)
   where
-    plains : (p : Plain) → Key keyword.Return ∷ Unknown ∷ [] ≢ plain_tokens p
-    plains (said.Return (Leaf a)) e = no_atom Unknown refl a (cc)
+    plains : (p : Plain) → Key keyword.Return ∷ Parts None ∷ [] ≢ plain_tokens p
+    plains (said.Return (Leaf a)) e = no_atom (Parts None) refl a (cc)
     plains (said.Return (Operate o es)) e = cc
     plains p e = cc
 

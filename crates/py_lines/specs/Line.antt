@@ -2,6 +2,7 @@
 use Rattle.py_lines.specs.declared.drive.DriveLine.{DriveLine}
 use Rattle.py_lines.specs.declared.head.Turn.{Turn}
 use Rattle.py_lines.specs.declared.header.Header as own
+use Rattle.py_lines.specs.declared.raw.RawLine.{RawLine}
 use Rattle.py_lines.specs.Statements as said
 
 -- a line that says something, by its class
@@ -12,6 +13,7 @@ pub data Line : Type 0 where
   Turns : Turn → Line  -- the open block turns to its next suite
   Header : own.Header → Line  -- a declaration, or what opens one
   Drive : DriveLine → Line  -- a drive
+  Raw : RawLine → Line  -- a line of a raw code
 
 -- how a line reads by itself: nothing stands in it, or a comment; it says something; or no line is of its tokens
 pub data LineRead : Type 0 where

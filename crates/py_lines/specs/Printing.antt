@@ -1,5 +1,5 @@
 -- The tokens that a line prints.
-use Rattle.std.specs.Prelude.{ℕ, List, [], ◌∷◌, true, false, Option, Some, None, codes, map, pos, if◌then◌else◌}
+use Rattle.std.specs.Prelude.{ℕ, List, [], ◌∷◌, true, false, Option, Some, None, codes, map}
 use Rattle.py_tree.specs.declared.body.BodyKind.{BodyKind}
 use Rattle.py_tree.specs.declared.body.BodyKind.TheVariants as body
 use Rattle.py_tree.specs.declared.expr.Atom.{Atom}
@@ -21,7 +21,8 @@ use Rattle.py_lines.specs.Statements.{Plain, Head}
 use Rattle.py_lines.specs.Statements as said
 use Rattle.py_lines.specs.Line.{Line}
 use Rattle.py_lines.specs.Line as line
-use Rattle.py_lines.specs.Meaning.{Meaning, Open, Close, Equals, Key, Word, Number, Text, Drive, Beyond}
+use Rattle.py_lines.specs.Meaning.{Meaning, Open, Close, Equals, Key, Word, Number, Text, Drive, number_within}
+use Rattle.py_lines.specs.RawLines.{raw_tokens}
 use Rattle.py_lines.specs.Words.{is_short}
 
 -- an atom is one token
@@ -45,7 +46,7 @@ drive_token (drive.Drive n) = Drive n
 
 -- the number of the drive that another one goes on with, which has at most 64 bits
 abbrev pub number_token : ℕ → Meaning
-number_token n = if is_short n then Number (pos n) else Beyond n
+number_token n = number_within is_short n
 
 abbrev pub operator_word : Operator → List ℕ
 operator_word operator.Add = codes "add"
@@ -102,6 +103,7 @@ body_keyword body.Generator = keyword.Gen
 
 abbrev pub header_tokens : Header → List Meaning
 header_tokens (header.Def k f ps) = Key (body_keyword k) ∷ Word f ∷ map Word ps
+header_tokens (header.Code f ps) = Key keyword.Code ∷ Word f ∷ map Word ps
 header_tokens (header.Class c b) = Key keyword.Class ∷ Word c ∷ Word b ∷ []
 header_tokens (header.Manager m e x) = Key keyword.Manager ∷ Word m ∷ Word e ∷ Word x ∷ []
 
@@ -125,3 +127,4 @@ line_tokens (line.Opens h) = head_tokens h
 line_tokens (line.Turns t) = turn_tokens t
 line_tokens (line.Header h) = header_tokens h
 line_tokens (line.Drive d) = drive_tokens d
+line_tokens (line.Raw r) = raw_tokens r

@@ -37,6 +37,7 @@ line_of (own_line.Opens h) = line.Opens (head_of h)
 line_of (own_line.Turns t) = line.Turns t
 line_of (own_line.Header h) = line.Header h
 line_of (own_line.Drive d) = line.Drive d
+line_of (own_line.Raw r) = line.Raw r
 
 abbrev pub read_of : OwnRead → LineRead
 read_of own_read.Blank = line.Blank

@@ -38,6 +38,13 @@ digits_number digits = if are_digits digits then Some (value_of digits) else Non
 abbrev pub is_short : ℕ → Bool
 is_short n = nat_lt n (2 ^ 64)
 
+-- whether it has at most 32 bits, and whether at most 8
+abbrev pub is_small : ℕ → Bool
+is_small n = nat_lt n (2 ^ 32)
+
+abbrev pub is_byte : ℕ → Bool
+is_byte n = nat_lt n (2 ^ 8)
+
 -- a value that passes a test
 abbrev pub passing : {X : Type 0} → (X → Bool) → Option X → Option X
 passing p None = None

@@ -57,7 +57,7 @@ pub fn from<'a, 'b>(tokens: &'b [Sense<'a>], at: usize) -> &'b [Sense<'a>]
 }
 
 /// Whether a parenthesis that closes stands in front.
-fn closes(tokens: &[Sense<'_>]) -> bool
+pub fn closes(tokens: &[Sense<'_>]) -> bool
     ensures { result ≡ begins_closed (map meaning_of tokens.now) }
 {
     match tokens {

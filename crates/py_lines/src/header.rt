@@ -18,6 +18,8 @@ use std::alloc::Global;
 pub enum Header {
     /// `def f p ..`, or `gen f p ..`: the kind of the body, its name and its parameters.
     Def(BodyKind, PyText, ParamList),
+    /// `code f p ..`: the name of a raw code and its parameters.
+    Code(PyText, ParamList),
     /// `class C B`: the name of an exception class, and that of its base.
     Class(PyText, PyText),
     /// `manager M E X`: the name of a manager, and those of the functions that enter and exit it.
@@ -34,6 +36,7 @@ pub fn read_header(alloc: Global, tokens: &[Sense<'_>]) -> Result<Option<Header>
     match first {
         Sense::Key(Keyword::Def) => def_of(alloc, BodyKind::Function, rest),
         Sense::Key(Keyword::Gen) => def_of(alloc, BodyKind::Generator, rest),
+        Sense::Key(Keyword::Code) => code_of(alloc, rest),
         Sense::Key(Keyword::Class) => class_of(alloc, rest),
         Sense::Key(Keyword::Manager) => manager_of(alloc, rest),
         _ => Ok(None),
@@ -48,6 +51,16 @@ fn def_of(alloc: Global, kind: BodyKind, tokens: &[Sense<'_>]) -> Result<Option<
         return Ok(None);
     };
     Ok(Some(Header::Def(kind, name, params)))
+}
+
+/// The header of a raw code, by its name and its parameters.
+fn code_of(alloc: Global, tokens: &[Sense<'_>]) -> Result<Option<Header>, NoMemory>
+    ensures { IfOk result (ReadsAfter (Key keyword.Code) header_tokens tokens.now) }
+{
+    let Some((name, params)) = name_and_names(alloc, tokens)? else {
+        return Ok(None);
+    };
+    Ok(Some(Header::Code(name, params)))
 }
 
 /// The class that the tokens behind a `class` declare.

@@ -17,6 +17,7 @@ use crate::header::{Header, read_header};
 use crate::keyword::Keyword;
 use crate::meaning::{Sense, meanings_of};
 use crate::plain::{Plain, read_plain};
+use crate::raw::{RawLine, read_raw};
 use py_code::NoMemory;
 use std::alloc::Global;
 
@@ -35,6 +36,8 @@ pub enum Line {
     Header(Header),
     /// A drive.
     Drive(DriveLine),
+    /// A line of a raw code.
+    Raw(RawLine),
 }
 
 /// How a line reads by itself.
@@ -77,6 +80,9 @@ fn line_of(alloc: Global, tokens: &[Sense<'_>]) -> Result<Option<Line>, NoMemory
     }
     if let Some(drive) = read_drive(alloc, tokens)? {
         return Ok(Some(Line::Drive(drive)));
+    }
+    if let Some(raw) = read_raw(alloc, tokens)? {
+        return Ok(Some(Line::Raw(raw)));
     }
     if let Some(()) = read_end(tokens) {
         return Ok(Some(Line::End));

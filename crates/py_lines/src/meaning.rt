@@ -1,8 +1,8 @@
 //! What the tokens of a line mean.
 
-ghost use Rattle.std.specs.Prelude.{◌≡◌, IfOk, map};
+ghost use Rattle.std.specs.Prelude.{◌≡◌, IfOk, map, option_copied};
 ghost use Rattle.py_lines.specs.Reading.{meanings};
-ghost use Rattle.py_lines.specs.Meaning.{literal_meaning as literal_meaning_in, meaning as meaning_in, word_meaning as word_meaning_in};
+ghost use Rattle.py_lines.specs.Meaning.{code_name as code_name_in, is_name as is_name_in, literal_meaning as literal_meaning_in, meaning as meaning_in, word_meaning as word_meaning_in};
 ghost use Rattle.py_lines.specs.Senses.{meaning_of};
 ghost use Rattle.py_lines.specs.Pieces.{lexeme_of};
 
@@ -31,8 +31,31 @@ pub enum Sense<'a> {
     Text(&'a [u8]),
     /// The drive that `$` and a number name.
     Drive(u64),
-    /// A word that no line has.
-    Unknown,
+    /// The code that `@` and a name name.
+    Ref(&'a [u8]),
+    /// `-`.
+    Dash,
+    /// Any other word, by the pieces that commas and dots join in it, if it is such a word.
+    Parts(&'a [u8]),
+}
+
+/// Whether a word is a name, which no keyword is.
+fn is_name(word: &[u8]) -> bool
+    ensures { result ≡ is_name_in word.now }
+{
+    is_spelled_as_name(word) && Keyword::of(word).is_none()
+}
+
+/// The name of the code that a word names: `@`, then a name.
+fn code_name(word: &[u8]) -> Option<&[u8]>
+    ensures { option_copied result ≡ code_name_in word.now }
+{
+    let (first, name) = word.split_first()?;
+    if *first == b'@' && is_name(name) {
+        Some(name)
+    } else {
+        None
+    }
 }
 
 /// What a word means that is neither a keyword nor spelled as a name.
@@ -45,9 +68,16 @@ fn literal_meaning(word: &[u8]) -> Sense<'_>
     if let Some(text) = quoted_text(word) {
         return Sense::Text(text);
     }
-    match drive_number(word) {
-        Some(number) => Sense::Drive(number),
-        None => Sense::Unknown,
+    if let Some(number) = drive_number(word) {
+        return Sense::Drive(number);
+    }
+    if let Some(name) = code_name(word) {
+        return Sense::Ref(name);
+    }
+    if word == b"-".as_slice() {
+        Sense::Dash
+    } else {
+        Sense::Parts(word)
     }
 }
 

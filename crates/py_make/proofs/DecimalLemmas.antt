@@ -9,9 +9,9 @@ use Rattle.std.proofs.lemmas.Slice.Eq.{bytes_eq-Decides}
 use Rattle.py_code.specs.Range.{in_range}
 use Rattle.py_lines.specs.declared.keyword.Keyword.{Keyword}
 use Rattle.py_lines.specs.Keywords.{all_keywords, keyword_text}
-use Rattle.py_lines.specs.Meaning.{Drive, Key, Meaning, Number, Text, Unknown, Word, literal_meaning, meaning, meant}
+use Rattle.py_lines.specs.Meaning.{Key, Meaning, Number, Word, literal_meaning, meaning, meant, other_meaning}
 use Rattle.py_lines.specs.Tokens.{Cut, Inside, Word as Spelled, cut, cut_from, is_blank, is_mark, is_quote, longer, started, tokens_of}
-use Rattle.py_lines.specs.Words.{are_digits, digits_number, is_digit, is_spelled_as_name, drive_number, number_of, passing, quoted_text, starts_name, value_of}
+use Rattle.py_lines.specs.Words.{are_digits, digits_number, is_digit, is_spelled_as_name, number_of, passing, starts_name, value_of}
 
 -- a digit's byte
 pub record IsDigit (b : ℕ) : Type 0 where
@@ -156,4 +156,4 @@ digits_mean (b ∷ bs) n small are =
     ∙ ap (λ (m : Meaning). m ∷ [])
     (ap (λ (k : Option Keyword). meant (option_map Key k) (if is_spelled_as_name w then Word w else literal_meaning w)) (none_found b bs digit all_keywords refl)
     ∙ ap (λ (x : Bool). if x then Word w else literal_meaning w) (no_name b bs digit)
-    ∙ ap (λ o. meant (option_map Number o) (meant (option_map Text (quoted_text w)) (meant (option_map Drive (drive_number w)) Unknown))) (number_spelled b bs n small digit are))
+    ∙ ap (λ o. meant (option_map Number o) (other_meaning w)) (number_spelled b bs n small digit are))

@@ -12,7 +12,7 @@ use Rattle.py_objects.specs.ErrorKinds.{name_of, bases_of}
 use Rattle.py_objects.specs.Objects.{Obj, Name, HasPayload, class_object, declares, is_name, declared}
 use Rattle.py_objects.specs.Ancestry.{class_in, has_name, first_class}
 use Rattle.py_answers.proofs.ReadingLemmas.{one_payload}
-use Rattle.py_grammar.specs.Grammar.{Decl}
+use Rattle.py_grammar.specs.Grammar.{Decl, coded_name}
 use Rattle.py_agreement.specs.Agreement.{Relation, SameMaybe, SameAll, has_literal}
 use Rattle.py_determined.specs.Alike.{Alike, AreAlike, numbered}
 use Rattle.py_determined.specs.Related.{Related}
@@ -207,9 +207,9 @@ module _ (decls : List Decl) (objects objects' : List Payload) (are : AreObjects
       (w, payload.Class (record { name = x; mro = ws }), is', has', (named, all))
   declared_alike x v (payload.Function f) is has =
       let named : f.name ≡ x = let says : Some f.name ≡ Some x = entry_named objects x v (payload.Function f) is has in cc says in
-      let (t, at, same, found) = are.only_functions v f has in
-      let (g, is', has') = are'.functions f.code t at in
-      (g, payload.Function (record { name = t.name; code = f.code }), ap (declared objects') (sym named ∙ same) ∙ is', has', ap (λ (n : Name). record { name = n; code = f.code }) same)
+      let (coded, at, same, found) = are.only_functions v f has in
+      let (g, is', has') = are'.functions f.code coded at in
+      (g, payload.Function (record { name = coded_name coded; code = f.code }), ap (declared objects') (sym named ∙ same) ∙ is', has', ap (λ (n : Name). record { name = n; code = f.code }) same)
   declared_alike x v (payload.Manager m) is has =
       let (i, n, e, l, at, said) = are.only_managers v m has in
       let h : HasManager objects n e l = are.managers i n e l at in

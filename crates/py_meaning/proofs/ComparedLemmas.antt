@@ -28,10 +28,10 @@ module _ (objects objects' : List Payload) (events events' : List Event) (are : 
   S = Paired objects objects' events events'
 
   same : SameEvents S events events'
-  same = (scripts_agree are.decls are.drives are.earlier objects objects' events events' are.run are.run').0
+  same = (scripts_agree are.decls are.drives are.core are.earlier objects objects' events events' are.run are.run').0
 
   alike : AreAlike S objects objects'
-  alike = (scripts_agree are.decls are.drives are.earlier objects objects' events events' are.run are.run').1
+  alike = (scripts_agree are.decls are.drives are.core are.earlier objects objects' events events' are.run are.run').1
 
   -- values that are got at one place are related
   gets_related : (i : ℕ) (v w : Obj) → Gets events i v → Gets events' i w → S v w

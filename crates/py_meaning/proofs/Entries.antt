@@ -19,10 +19,11 @@ use Rattle.py_objects.proofs.GrowthLemmas.{slice_get_grown, slice_get_split, pay
 use Rattle.py_objects.proofs.NewLemmas.{newest, declared_within}
 use Rattle.py_exceptions.proofs.ClassesLemmas.{class_grown}
 use Rattle.py_tree.specs.Tree.{Tree}
-use Rattle.py_grammar.specs.Grammar.{Decl, ClassDecl, ManagerDecl, FunctionDecl, decl_name, functions_in}
+use Rattle.py_grammar.specs.declared.raw_block.RawBlock.{RawBlock}
+use Rattle.py_grammar.specs.Grammar.{Decl, ClassDecl, ManagerDecl, FunctionDecl, RawDecl, decl_name, Coded, OfBody, OfRaw, coded_name, codes_in}
 use Rattle.py_grammar.specs.Rules.{is_builtin_class}
 use Rattle.py_grammar.specs.WellFormed.{IsFunction, IsFunctionNamed, IsClass, IsClassNamed, IsFounded, IsKnown}
-use Rattle.py_grammar.proofs.Tables.{functions_in-append}
+use Rattle.py_grammar.proofs.Tables.{codes_in-append}
 use Rattle.py_run.specs.First.{IsAddable}
 use Rattle.py_meaning.specs.Whole.{HasFunction, HasClass, HasManager, IsBuiltinClass, IsDeclaredFunction, IsDeclaredClass, IsDeclaredManager, AreObjects}
 use Rattle.py_meaning.specs.Entries.{AreWellDeclared, IsNamed, AreDeclared, IsFoundedOn, IsEntryOf}
@@ -37,23 +38,39 @@ one_more [] y x (suc i) h = absurd (cc h)
 one_more (z ∷ xs) y x zero h = inl h
 one_more (z ∷ xs) y x (suc i) h = elim (one_more xs y x i h) [ inl old ↦ inl old | inr new ↦ inr (ap suc new.0, new.1) ]
 
--- a function that is declared has its place among the functions
-function_place : (ds : List Decl) (k : ℕ) (t : Tree) → slice_get ds k ≡ Some (FunctionDecl t) → (i : ℕ) × (slice_get (functions_in ds) i ≡ Some t)
+-- the body of a function that is declared has its place among the codes
+function_place : (ds : List Decl) (k : ℕ) (t : Tree) → slice_get ds k ≡ Some (FunctionDecl t) → (i : ℕ) × (slice_get (codes_in ds) i ≡ Some (OfBody t))
 function_place [] k t at = absurd (cc at)
 function_place (ClassDecl c b ∷ ds) zero t at = absurd (cc at)
 function_place (ManagerDecl m e x ∷ ds) zero t at = absurd (cc at)
-function_place (FunctionDecl u ∷ ds) zero t at = (0, cc at)
+function_place (FunctionDecl u ∷ ds) zero t at = (0, let same : u ≡ t = cc at in ap (λ (t : Tree). Some (OfBody t)) same)
 function_place (ClassDecl c b ∷ ds) (suc k) t at = function_place ds k t at
 function_place (ManagerDecl m e x ∷ ds) (suc k) t at = function_place ds k t at
 function_place (FunctionDecl u ∷ ds) (suc k) t at = let (i, is) = function_place ds k t at in (suc i, is)
+function_place (RawDecl b ∷ ds) zero t at = absurd (cc at)
+function_place (RawDecl b ∷ ds) (suc k) t at = let (i, is) = function_place ds k t at in (suc i, is)
 
--- and each of these is declared
-function_declared : (ds : List Decl) (i : ℕ) (t : Tree) → slice_get (functions_in ds) i ≡ Some t → (k : ℕ) × (slice_get ds k ≡ Some (FunctionDecl t))
-function_declared [] i t at = absurd (cc at)
-function_declared (ClassDecl c b ∷ ds) i t at = let (k, is) = function_declared ds i t at in (suc k, is)
-function_declared (ManagerDecl m e x ∷ ds) i t at = let (k, is) = function_declared ds i t at in (suc k, is)
-function_declared (FunctionDecl u ∷ ds) zero t at = (0, let same : u ≡ t = cc at in ap (λ (t : Tree). Some (FunctionDecl t)) same)
-function_declared (FunctionDecl u ∷ ds) (suc i) t at = let (k, is) = function_declared ds i t at in (suc k, is)
+-- so has a raw code
+raw_place : (ds : List Decl) (k : ℕ) (b : RawBlock) → slice_get ds k ≡ Some (RawDecl b) → (i : ℕ) × (slice_get (codes_in ds) i ≡ Some (OfRaw b))
+raw_place [] k b at = absurd (cc at)
+raw_place (ClassDecl c base ∷ ds) zero b at = absurd (cc at)
+raw_place (ManagerDecl m e x ∷ ds) zero b at = absurd (cc at)
+raw_place (FunctionDecl t ∷ ds) zero b at = absurd (cc at)
+raw_place (RawDecl r ∷ ds) zero b at = (0, let same : r ≡ b = cc at in ap (λ (b : RawBlock). Some (OfRaw b)) same)
+raw_place (ClassDecl c base ∷ ds) (suc k) b at = raw_place ds k b at
+raw_place (ManagerDecl m e x ∷ ds) (suc k) b at = raw_place ds k b at
+raw_place (FunctionDecl t ∷ ds) (suc k) b at = let (i, is) = raw_place ds k b at in (suc i, is)
+raw_place (RawDecl r ∷ ds) (suc k) b at = let (i, is) = raw_place ds k b at in (suc i, is)
+
+-- and what a code is of is declared under its name
+code_declared : (ds : List Decl) (i : ℕ) (c : Coded) → slice_get (codes_in ds) i ≡ Some c → (k : ℕ) × (d : Decl) × (slice_get ds k ≡ Some d) × (decl_name d ≡ coded_name c)
+code_declared [] i c at = absurd (cc at)
+code_declared (ClassDecl n b ∷ ds) i c at = let (k, d, is, named) = code_declared ds i c at in (suc k, d, is, named)
+code_declared (ManagerDecl m e x ∷ ds) i c at = let (k, d, is, named) = code_declared ds i c at in (suc k, d, is, named)
+code_declared (FunctionDecl t ∷ ds) zero c at = (0, FunctionDecl t, refl, let same : OfBody t ≡ c = cc at in ap coded_name same)
+code_declared (FunctionDecl t ∷ ds) (suc i) c at = let (k, d, is, named) = code_declared ds i c at in (suc k, d, is, named)
+code_declared (RawDecl b ∷ ds) zero c at = (0, RawDecl b, refl, let same : OfRaw b ≡ c = cc at in ap coded_name same)
+code_declared (RawDecl b ∷ ds) (suc i) c at = let (k, d, is, named) = code_declared ds i c at in (suc k, d, is, named)
 
 -- ---- names that stand for something
 
@@ -79,6 +96,7 @@ function_known ds f (k, d, low, is, named) = inl (k, d, low, is, named_so d name
     named_so (ClassDecl c b) named = absurd named
     named_so (ManagerDecl m e x) named = absurd named
     named_so (FunctionDecl t) named = named
+    named_so (RawDecl b) named = named
 
 pub class_known : (ds : List Decl) (c : Name) → IsClass ds c → IsKnown ds c
 class_known ds c (inl (k, d, low, is, named)) = inl (k, d, low, is, named_so d named)
@@ -87,6 +105,7 @@ class_known ds c (inl (k, d, low, is, named)) = inl (k, d, low, is, named_so d n
     named_so (ClassDecl n b) named = named
     named_so (ManagerDecl m e x) named = absurd named
     named_so (FunctionDecl t) named = absurd named
+    named_so (RawDecl b) named = absurd named
 class_known ds c (inr builtin) = inr builtin
 
 module _ (ds : List Decl) (objects : List Payload) (are : AreObjects ds objects) where
@@ -96,7 +115,11 @@ module _ (ds : List Decl) (objects : List Payload) (are : AreObjects ds objects)
   decl_named k (ManagerDecl m e x) at = let has = are.managers k m e x at in (has.manager, has.is_declared)
   decl_named k (FunctionDecl t) at =
       let (i, is) = function_place ds k t at in
-      let (f, found, entry) = are.functions i t is in
+      let (f, found, entry) = are.functions i (OfBody t) is in
+      (f, found)
+  decl_named k (RawDecl b) at =
+      let (i, is) = raw_place ds k b at in
+      let (f, found, entry) = are.functions i (OfRaw b) is in
       (f, found)
 
   -- so has a built-in class
@@ -148,9 +171,9 @@ module _ (ds : List Decl) (objects : List Payload) (are : AreObjects ds objects)
   -- what an entry declares stands for something
   known_by : (v : Obj) (p : Payload) (x : Name) → HasPayload objects v p → is_name x (declares p) ≡ true → IsKnown ds x
   known_by v (payload.Function b) x has hit =
-      let (t, at, named, found) = are.only_functions v b has in
-      let (k, is) = function_declared ds b.code t at in
-      known_at k (FunctionDecl t) x is (sym ((bytes_eq-Decides x b.name).0 hit ∙ named))
+      let (c, at, named, found) = are.only_functions v b has in
+      let (k, d, is, own) = code_declared ds b.code c at in
+      known_at k d x is (own ∙ sym ((bytes_eq-Decides x b.name).0 hit ∙ named))
   known_by v (payload.Class b) x has hit =
       let same : x ≡ b.name = (bytes_eq-Decides x b.name).0 hit in
       elim (are.only_classes v b has) [
@@ -186,7 +209,11 @@ module _ (ds : List Decl) (objects : List Payload) (are : AreObjects ds objects)
       go (ManagerDecl m e x) at named = absurd named
       go (FunctionDecl t) at named =
           let (i, place) = function_place ds k t at in
-          let (v, found, entry) = are.functions i t place in
+          let (v, found, entry) = are.functions i (OfBody t) place in
+          (v, ap (declared objects) (sym named) ∙ found, (_, entry))
+      go (RawDecl b) at named =
+          let (i, place) = raw_place ds k b at in
+          let (v, found, entry) = are.functions i (OfRaw b) place in
           (v, ap (declared objects) (sym named) ∙ found, (_, entry))
 
   class_there : (b : Name) → IsClass ds b → IsFoundedOn objects (ClassDecl b b)
@@ -196,6 +223,7 @@ module _ (ds : List Decl) (objects : List Payload) (are : AreObjects ds objects)
       go (ClassDecl c base) at named = let has = are.classes k c base at in (has.class, ap (declared objects) (sym named) ∙ has.is_declared, (_, has.entry))
       go (ManagerDecl m e x) at named = absurd named
       go (FunctionDecl t) at named = absurd named
+      go (RawDecl r) at named = absurd named
   class_there b (inr builtin) =
       let (kind, is) = named_class b error_kinds builtin in
       let (class, has) = are.builtins kind in
@@ -208,6 +236,7 @@ module _ (ds : List Decl) (objects : List Payload) (are : AreObjects ds objects)
       let (exit, is_exit, entry_of_exit) = function_there x is.1 in
       (enter, is_enter, entry, (exit, is_exit, entry_of_exit))
   founded (FunctionDecl t) is = tt
+  founded (RawDecl b) is = tt
 
 -- a declaration's name is one that stands for nothing before it
 pub new_name : (ds : List Decl) (i : ℕ) (d : Decl) (objects : List Payload) → AreWellDeclared ds → slice_get ds i ≡ Some d → AreObjects (take i ds) objects → declared objects (decl_name d) ≡ None
@@ -228,8 +257,8 @@ new_name ds i d objects well at are = not_declared (take i ds) objects are (decl
 
 -- ---- more objects
 
-function_grows : (objects objects' : List Payload) (i : ℕ) (t : Tree) → Grows objects objects' → HasFunction objects i t → HasFunction objects' i t
-function_grows objects objects' i t grows (f, found, entry) = (f, declared_grown objects objects' t.name f grows found, payload_grown objects objects' f _ grows entry)
+function_grows : (objects objects' : List Payload) (i : ℕ) (c : Coded) → Grows objects objects' → HasFunction objects i c → HasFunction objects' i c
+function_grows objects objects' i c grows (f, found, entry) = (f, declared_grown objects objects' (coded_name c) f grows found, payload_grown objects objects' f _ grows entry)
 
 class_grows : (objects objects' : List Payload) (c b : Name) → Grows objects objects' → HasClass objects c b → HasClass objects' c b
 class_grows objects objects' c b grows has = record {
@@ -257,7 +286,7 @@ manager_grows objects objects' m e x grows has = record {
 pub objects_more : (ds : List Decl) (objects objects' : List Payload) → Grows objects objects' → AreObjects ds objects
     → ((v : Obj) (p : Payload) (x : Name) → declares p ≡ Some x → HasPayload objects' v p → HasPayload objects v p) → AllFit objects' → AreObjects ds objects'
 objects_more ds objects objects' grows are before fit = record {
-  functions = λ i t at. function_grows objects objects' i t grows (are.functions i t at);
+  functions = λ i c at. function_grows objects objects' i c grows (are.functions i c at);
   classes = λ i c b at. class_grows objects objects' c b grows (are.classes i c b at);
   managers = λ i m e x at. manager_grows objects objects' m e x grows (are.managers i m e x at);
   builtins = λ kind. let (class, has) = are.builtins kind in (class, class_grown objects objects' kind class grows has);
@@ -268,7 +297,7 @@ objects_more ds objects objects' grows are before fit = record {
 }
   where
     function_still : (f : Obj) (b : FunctionBody) → IsDeclaredFunction ds objects f b → IsDeclaredFunction ds objects' f b
-    function_still f b (t, at, named, found) = (t, at, named, declared_grown objects objects' t.name f grows found)
+    function_still f b (c, at, named, found) = (c, at, named, declared_grown objects objects' (coded_name c) f grows found)
 
     class_still : (c : Obj) → IsBuiltinClass objects c ⊎ IsDeclaredClass ds objects c → IsBuiltinClass objects' c ⊎ IsDeclaredClass ds objects' c
     class_still c (inl (kind, found)) = inl (kind, declared_grown objects objects' (name_of kind) c grows found)
@@ -297,7 +326,7 @@ pub record MayBeAdded (objects : List Payload) (codes : ℕ) (p : Payload) : Typ
   pub addable : IsAddable codes p
 
 -- the entry of a declaration is one
-pub entry_added : (objects : List Payload) (codes n : ℕ) (d : Decl) (p : Payload) → AllFit objects → IsFoundedOn objects d → IsEntryOf objects n d p → n + length (functions_in (d ∷ [])) ≤ codes → MayBeAdded objects codes p
+pub entry_added : (objects : List Payload) (codes n : ℕ) (d : Decl) (p : Payload) → AllFit objects → IsFoundedOn objects d → IsEntryOf objects n d p → n + length (codes_in (d ∷ [])) ≤ codes → MayBeAdded objects codes p
 entry_added objects codes n (ClassDecl c b) p fit founded (base, above, found, has, is) few =
     let (below, made) = fit base.number (payload.Class above) has in
     let low = declared_within objects b base found in
@@ -312,18 +341,21 @@ entry_added objects codes n (ManagerDecl m e x) p fit (f, f_found, f_is, (g, g_f
     subst (MayBeAdded objects codes) (sym is) (record { below = (low, (lower, tt)); made = (entered, left); addable = tt })
 entry_added objects codes n (FunctionDecl t) p fit founded is few =
     subst (MayBeAdded objects codes) (sym is) (record { below = tt; made = tt; addable = (let low : n < codes = omega (arith, few) in low) })
+entry_added objects codes n (RawDecl b) p fit founded is few =
+    subst (MayBeAdded objects codes) (sym is) (record { below = tt; made = tt; addable = (let low : n < codes = omega (arith, few) in low) })
 
 -- it declares its name
 entry_declares : (objects : List Payload) (n : ℕ) (d : Decl) (p : Payload) → IsEntryOf objects n d p → declares p ≡ Some (decl_name d)
 entry_declares objects n (ClassDecl c b) p (base, above, found, has, is) = ap declares is
 entry_declares objects n (ManagerDecl m e x) p (enter, exit, is_enter, is_exit, is) = ap declares is
 entry_declares objects n (FunctionDecl t) p is = ap declares is
+entry_declares objects n (RawDecl b) p is = ap declares is
 
 -- a declaration whose entry comes behind the objects of those before
 pub record IsNext (ds : List Decl) (objects : List Payload) (d : Decl) (p : Payload) : Type 0 where
   pub are : AreObjects ds objects
   pub new : declared objects (decl_name d) ≡ None
-  pub entry : IsEntryOf objects (length (functions_in ds)) d p
+  pub entry : IsEntryOf objects (length (codes_in ds)) d p
   pub fit : AllFit (objects ++ p ∷ [])
 
 module _ (ds : List Decl) (objects : List Payload) (d : Decl) (p : Payload) (next : IsNext ds objects d p) where
@@ -341,20 +373,26 @@ module _ (ds : List Decl) (objects : List Payload) (d : Decl) (p : Payload) (nex
   grows = (p ∷ [], refl)
 
   is_last : declared more (decl_name d) ≡ Some last
-  is_last = newest_declared objects p (decl_name d) next.new (entry_declares objects (length (functions_in ds)) d p next.entry)
+  is_last = newest_declared objects p (decl_name d) next.new (entry_declares objects (length (codes_in ds)) d p next.entry)
 
-  function_added : (i : ℕ) (t : Tree) (e : Decl) → d ≡ e → IsEntryOf objects (length (functions_in ds)) e p → declared more (decl_name e) ≡ Some last
-      → slice_get (functions_in ds ++ functions_in (e ∷ [])) i ≡ Some t → HasFunction more i t
-  function_added i t (ClassDecl c b) same entry found at = function_grows objects more i t grows (next.are.functions i t (ap (λ (ts : List Tree). slice_get ts i) (sym (append-nil (functions_in ds))) ∙ at))
-  function_added i t (ManagerDecl m e x) same entry found at = function_grows objects more i t grows (next.are.functions i t (ap (λ (ts : List Tree). slice_get ts i) (sym (append-nil (functions_in ds))) ∙ at))
-  function_added i t (FunctionDecl u) same entry found at = elim (one_more (functions_in ds) u t i at) [
-    | inl old ↦ function_grows objects more i t grows (next.are.functions i t old)
+  function_added : (i : ℕ) (c : Coded) (e : Decl) → d ≡ e → IsEntryOf objects (length (codes_in ds)) e p → declared more (decl_name e) ≡ Some last
+      → slice_get (codes_in ds ++ codes_in (e ∷ [])) i ≡ Some c → HasFunction more i c
+  function_added i c (ClassDecl n b) same entry found at = function_grows objects more i c grows (next.are.functions i c (ap (λ (cs : List Coded). slice_get cs i) (sym (append-nil (codes_in ds))) ∙ at))
+  function_added i c (ManagerDecl m e x) same entry found at = function_grows objects more i c grows (next.are.functions i c (ap (λ (cs : List Coded). slice_get cs i) (sym (append-nil (codes_in ds))) ∙ at))
+  function_added i c (FunctionDecl t) same entry found at = elim (one_more (codes_in ds) (OfBody t) c i at) [
+    | inl old ↦ function_grows objects more i c grows (next.are.functions i c old)
     | inr new ↦
-        subst (λ (n : ℕ). HasFunction more n t) (sym new.0)
-        (subst (λ (s : Tree). HasFunction more (length (functions_in ds)) s) new.1 (last, found, newest objects p ∙ ap Some entry))
+        subst (λ (n : ℕ). HasFunction more n c) (sym new.0)
+        (subst (λ (k : Coded). HasFunction more (length (codes_in ds)) k) new.1 (last, found, newest objects p ∙ ap Some entry))
+  ]
+  function_added i c (RawDecl b) same entry found at = elim (one_more (codes_in ds) (OfRaw b) c i at) [
+    | inl old ↦ function_grows objects more i c grows (next.are.functions i c old)
+    | inr new ↦
+        subst (λ (n : ℕ). HasFunction more n c) (sym new.0)
+        (subst (λ (k : Coded). HasFunction more (length (codes_in ds)) k) new.1 (last, found, newest objects p ∙ ap Some entry))
   ]
 
-  class_added : (c b : Name) → IsEntryOf objects (length (functions_in ds)) (ClassDecl c b) p → declared more c ≡ Some last → HasClass more c b
+  class_added : (c b : Name) → IsEntryOf objects (length (codes_in ds)) (ClassDecl c b) p → declared more c ≡ Some last → HasClass more c b
   class_added c b (base, above, found, has, is) newly = record {
     class = last;
     is_declared = newly;
@@ -365,7 +403,7 @@ module _ (ds : List Decl) (objects : List Payload) (d : Decl) (p : Payload) (nex
     entry = newest objects p ∙ ap Some is;
   }
 
-  manager_added : (m e x : Name) → IsEntryOf objects (length (functions_in ds)) (ManagerDecl m e x) p → declared more m ≡ Some last → HasManager more m e x
+  manager_added : (m e x : Name) → IsEntryOf objects (length (codes_in ds)) (ManagerDecl m e x) p → declared more m ≡ Some last → HasManager more m e x
   manager_added m e x (enter, exit, is_enter, is_exit, is) newly = record {
     manager = last;
     is_declared = newly;
@@ -376,35 +414,41 @@ module _ (ds : List Decl) (objects : List Payload) (d : Decl) (p : Payload) (nex
     entry = newest objects p ∙ ap Some is;
   }
 
-  only_function : (b : FunctionBody) (e : Decl) → IsEntryOf objects (length (functions_in ds)) e p → p ≡ payload.Function b → declared more (decl_name e) ≡ Some last
-      → (t : Tree) × (slice_get (functions_in ds ++ functions_in (e ∷ [])) b.code ≡ Some t) × (b.name ≡ t.name) × (declared more t.name ≡ Some last)
+  only_function : (b : FunctionBody) (e : Decl) → IsEntryOf objects (length (codes_in ds)) e p → p ≡ payload.Function b → declared more (decl_name e) ≡ Some last
+      → (c : Coded) × (slice_get (codes_in ds ++ codes_in (e ∷ [])) b.code ≡ Some c) × (b.name ≡ coded_name c) × (declared more (coded_name c) ≡ Some last)
   only_function b (ClassDecl c x) (base, above, found, has, is) same newly = absurd (let clash : payload.Class (record { name = c; mro = base ∷ above.mro }) ≡ payload.Function b = sym is ∙ same in cc clash)
   only_function b (ManagerDecl m e x) (enter, exit, is_enter, is_exit, is) same newly = absurd (let clash : payload.Manager (record { name = m; enter = enter; exit = exit }) ≡ payload.Function b = sym is ∙ same in cc clash)
   only_function b (FunctionDecl t) is same newly =
-      let one : payload.Function (record { name = t.name; code = length (functions_in ds) }) ≡ payload.Function b = sym is ∙ same in
-      let body : record { name = t.name; code = length (functions_in ds) } ≡ b = cc one in
-      (t, ap (λ (k : FunctionBody). slice_get (functions_in ds ++ t ∷ []) k.code) (sym body) ∙ newest (functions_in ds) t, ap (λ (k : FunctionBody). k.name) (sym body), newly)
+      let one : payload.Function (record { name = t.name; code = length (codes_in ds) }) ≡ payload.Function b = sym is ∙ same in
+      let body : record { name = t.name; code = length (codes_in ds) } ≡ b = cc one in
+      (OfBody t, ap (λ (k : FunctionBody). slice_get (codes_in ds ++ OfBody t ∷ []) k.code) (sym body) ∙ newest (codes_in ds) (OfBody t), ap (λ (k : FunctionBody). k.name) (sym body), newly)
+  only_function b (RawDecl r) is same newly =
+      let one : payload.Function (record { name = r.name; code = length (codes_in ds) }) ≡ payload.Function b = sym is ∙ same in
+      let body : record { name = r.name; code = length (codes_in ds) } ≡ b = cc one in
+      (OfRaw r, ap (λ (k : FunctionBody). slice_get (codes_in ds ++ OfRaw r ∷ []) k.code) (sym body) ∙ newest (codes_in ds) (OfRaw r), ap (λ (k : FunctionBody). k.name) (sym body), newly)
 
-  only_class : (b : ClassBody) (e : Decl) → IsEntryOf objects (length (functions_in ds)) e p → p ≡ payload.Class b → declared more (decl_name e) ≡ Some last → (e ≡ d) → IsDeclaredClass all more last
+  only_class : (b : ClassBody) (e : Decl) → IsEntryOf objects (length (codes_in ds)) e p → p ≡ payload.Class b → declared more (decl_name e) ≡ Some last → (e ≡ d) → IsDeclaredClass all more last
   only_class b (ClassDecl c x) entry same newly one = (length ds, c, x, newest ds d ∙ ap Some (sym one), newly)
   only_class b (ManagerDecl m e x) (enter, exit, is_enter, is_exit, is) same newly one = absurd (let clash : payload.Manager (record { name = m; enter = enter; exit = exit }) ≡ payload.Class b = sym is ∙ same in cc clash)
-  only_class b (FunctionDecl t) is same newly one = absurd (let clash : payload.Function (record { name = t.name; code = length (functions_in ds) }) ≡ payload.Class b = sym is ∙ same in cc clash)
+  only_class b (FunctionDecl t) is same newly one = absurd (let clash : payload.Function (record { name = t.name; code = length (codes_in ds) }) ≡ payload.Class b = sym is ∙ same in cc clash)
+  only_class b (RawDecl r) is same newly one = absurd (let clash : payload.Function (record { name = r.name; code = length (codes_in ds) }) ≡ payload.Class b = sym is ∙ same in cc clash)
 
-  only_manager : (b : ManagerBody) (e : Decl) → IsEntryOf objects (length (functions_in ds)) e p → p ≡ payload.Manager b → declared more (decl_name e) ≡ Some last → (e ≡ d) → IsDeclaredManager all more last
+  only_manager : (b : ManagerBody) (e : Decl) → IsEntryOf objects (length (codes_in ds)) e p → p ≡ payload.Manager b → declared more (decl_name e) ≡ Some last → (e ≡ d) → IsDeclaredManager all more last
   only_manager b (ClassDecl c x) (base, above, found, has, is) same newly one = absurd (let clash : payload.Class (record { name = c; mro = base ∷ above.mro }) ≡ payload.Manager b = sym is ∙ same in cc clash)
   only_manager b (ManagerDecl m e x) entry same newly one = (length ds, m, e, x, newest ds d ∙ ap Some (sym one), newly)
-  only_manager b (FunctionDecl t) is same newly one = absurd (let clash : payload.Function (record { name = t.name; code = length (functions_in ds) }) ≡ payload.Manager b = sym is ∙ same in cc clash)
+  only_manager b (FunctionDecl t) is same newly one = absurd (let clash : payload.Function (record { name = t.name; code = length (codes_in ds) }) ≡ payload.Manager b = sym is ∙ same in cc clash)
+  only_manager b (RawDecl r) is same newly one = absurd (let clash : payload.Function (record { name = r.name; code = length (codes_in ds) }) ≡ payload.Manager b = sym is ∙ same in cc clash)
 
   -- the number of the newest object
   numbered : (v : Obj) → v.number ≡ length objects → last ≡ v
   numbered v at = ap (λ n. let w : Obj = record { number = n } in w) (sym at)
 
   old_function : (f : Obj) (b : FunctionBody) → IsDeclaredFunction ds objects f b → IsDeclaredFunction all more f b
-  old_function f b (t, at, named, found) =
-      (t, ap (λ (ts : List Tree). slice_get ts b.code) (functions_in-append ds (d ∷ [])) ∙ slice_get_grown (functions_in ds) (functions_in (d ∷ [])) b.code t at, named, declared_grown objects more t.name f grows found)
+  old_function f b (c, at, named, found) =
+      (c, ap (λ (cs : List Coded). slice_get cs b.code) (codes_in-append ds (d ∷ [])) ∙ slice_get_grown (codes_in ds) (codes_in (d ∷ [])) b.code c at, named, declared_grown objects more (coded_name c) f grows found)
 
-  new_function : (b : FunctionBody) → (t : Tree) × (slice_get (functions_in ds ++ functions_in (d ∷ [])) b.code ≡ Some t) × (b.name ≡ t.name) × (declared more t.name ≡ Some last) → IsDeclaredFunction all more last b
-  new_function b (t, at, named, found) = (t, ap (λ (ts : List Tree). slice_get ts b.code) (functions_in-append ds (d ∷ [])) ∙ at, named, found)
+  new_function : (b : FunctionBody) → (c : Coded) × (slice_get (codes_in ds ++ codes_in (d ∷ [])) b.code ≡ Some c) × (b.name ≡ coded_name c) × (declared more (coded_name c) ≡ Some last) → IsDeclaredFunction all more last b
+  new_function b (c, at, named, found) = (c, ap (λ (cs : List Coded). slice_get cs b.code) (codes_in-append ds (d ∷ [])) ∙ at, named, found)
 
   old_class : (c : Obj) → IsBuiltinClass objects c ⊎ IsDeclaredClass ds objects c → IsBuiltinClass more c ⊎ IsDeclaredClass all more c
   old_class c (inl (kind, found)) = inl (kind, declared_grown objects more (name_of kind) c grows found)
@@ -416,14 +460,14 @@ module _ (ds : List Decl) (objects : List Payload) (d : Decl) (p : Payload) (nex
   -- the objects of all declarations
   pub next_objects : AreObjects all more
   next_objects = record {
-    functions = λ i t at. function_added i t d refl next.entry is_last (ap (λ (ts : List Tree). slice_get ts i) (sym (functions_in-append ds (d ∷ []))) ∙ at);
+    functions = λ i c at. function_added i c d refl next.entry is_last (ap (λ (cs : List Coded). slice_get cs i) (sym (codes_in-append ds (d ∷ []))) ∙ at);
     classes = λ i c b at. elim (one_more ds d (ClassDecl c b) i at) [
       | inl old ↦ class_grows objects more c b grows (next.are.classes i c b old)
-      | inr new ↦ class_added c b (subst (λ (e : Decl). IsEntryOf objects (length (functions_in ds)) e p) new.1 next.entry) (subst (λ (e : Decl). declared more (decl_name e) ≡ Some last) new.1 is_last)
+      | inr new ↦ class_added c b (subst (λ (e : Decl). IsEntryOf objects (length (codes_in ds)) e p) new.1 next.entry) (subst (λ (e : Decl). declared more (decl_name e) ≡ Some last) new.1 is_last)
     ];
     managers = λ i m e x at. elim (one_more ds d (ManagerDecl m e x) i at) [
       | inl old ↦ manager_grows objects more m e x grows (next.are.managers i m e x old)
-      | inr new ↦ manager_added m e x (subst (λ (e : Decl). IsEntryOf objects (length (functions_in ds)) e p) new.1 next.entry) (subst (λ (e : Decl). declared more (decl_name e) ≡ Some last) new.1 is_last)
+      | inr new ↦ manager_added m e x (subst (λ (e : Decl). IsEntryOf objects (length (codes_in ds)) e p) new.1 next.entry) (subst (λ (e : Decl). declared more (decl_name e) ≡ Some last) new.1 is_last)
     ];
     builtins = λ kind. let (class, has) = next.are.builtins kind in (class, class_grown objects more kind class grows has);
     only_functions = λ f b has. elim (one_more objects p (payload.Function b) f.number has) [
@@ -443,8 +487,8 @@ module _ (ds : List Decl) (objects : List Payload) (d : Decl) (p : Payload) (nex
 
 -- the same, where that declaration is founded on what is there
 pub one_declared : (ds : List Decl) (objects : List Payload) (d : Decl) (p : Payload) → AreObjects ds objects → declared objects (decl_name d) ≡ None → IsFoundedOn objects d
-    → IsEntryOf objects (length (functions_in ds)) d p → AreObjects (ds ++ d ∷ []) (objects ++ p ∷ [])
+    → IsEntryOf objects (length (codes_in ds)) d p → AreObjects (ds ++ d ∷ []) (objects ++ p ∷ [])
 one_declared ds objects d p are new founded entry =
-    let n = length (functions_in ds) in
-    let may = entry_added objects (n + length (functions_in (d ∷ []))) n d p are.fit founded entry (omega arith) in
+    let n = length (codes_in ds) in
+    let may = entry_added objects (n + length (codes_in (d ∷ []))) n d p are.fit founded entry (omega arith) in
     next_objects ds objects d p (record { are = are; new = new; entry = entry; fit = fit_more objects p are.fit may.below may.made })

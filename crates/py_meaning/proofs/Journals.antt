@@ -37,7 +37,7 @@ use Rattle.py_lines.specs.declared.drive.DriveAtom.{DriveAtom}
 use Rattle.py_lines.specs.declared.drive.DriveLine.{DriveLine}
 use Rattle.py_lines.specs.declared.drive.DriveLine.TheVariants as drive
 use Rattle.py_lines.specs.Line.{LineRead, Said}
-use Rattle.py_grammar.specs.Grammar.{Row, FunctionDecl, Item, items_rows}
+use Rattle.py_grammar.specs.Grammar.{Row, FunctionDecl, Coded, OfBody, Item, items_rows}
 use Rattle.py_answers.specs.Answers.{This, Reply, Passes, Replies, CallsAs, GivesBody, IsRaised, sum, whole}
 use Rattle.py_coro.specs.declared.coro.CoroEnd.{CoroEnd}
 use Rattle.py_run.specs.Run.{Signature, Pose, Requests, Forms, Posed, Plan, Activation, Phase, Asking, IsTop, requested, makings, question, start, state_after}
@@ -46,7 +46,7 @@ use Rattle.py_run.specs.Coming.{Past, setting, IsOfKind, IsReply, MayCome, nothi
 use Rattle.py_run.specs.Past.{past_behind}
 use Rattle.py_run.specs.First.{first_objects}
 use Rattle.py_run.proofs.FirstLemmas.{first_fit}
-use Rattle.py_meaning.specs.Whole.{AreOf, AsksThis, Poses, Asks as AsksFor, AreAsked, AreGlobals, AreObjects, Traces, IsRunOf, plan_of, signature_of}
+use Rattle.py_meaning.specs.Whole.{AreOf, AsksThis, Poses, Asks as AsksFor, AreAsked, AreGlobals, AreObjects, Tells, Traces, IsRunOf, plan_of, signature_of}
 use Rattle.py_meaning.specs.Worked.{call_of, object, exception, function_entry, loaded, objects_of, entered, asked, greatest, overflowing_of, out_of_range, error_entry, error_objects, raising_by, raised, raises, overflow_by}
 use Rattle.py_meaning.proofs.Behind.{declares_it, have_classes, none_declared}
 use Rattle.py_meaning.proofs.Entries.{one_declared}
@@ -350,14 +350,14 @@ module _ (t : Tree) where
   -- the two numbers are taken
   abbrev pub Binds : List Payload → Type 0
   Binds store =
-      CallsFunction (record { signatures = map signature_of (t ∷ []); depth = 0; handled = None; generators = [] }) store (object 0) (object 3 ∷ object 4 ∷ [])
+      CallsFunction (record { signatures = map signature_of (OfBody t ∷ []); depth = 0; handled = None; generators = [] }) store (object 0) (object 3 ∷ object 4 ∷ [])
       (Enters (object 0) (object 3 ∷ object 4 ∷ []))
 
   -- the script's function is none of generators
-  pub never_suspended : (qs : List Posed) (store : List Payload) (f : Obj) (kind : CoroKind) → seen_as t.kind ≡ None → IsOfKind (plan_of (t ∷ []) qs) store f (Some kind) → ⊥
+  pub never_suspended : (qs : List Posed) (store : List Payload) (f : Obj) (kind : CoroKind) → seen_as t.kind ≡ None → IsOfKind (plan_of (OfBody t ∷ []) qs) store f (Some kind) → ⊥
   never_suspended qs store f kind plain is = go is.body.code is.signed
     where
-      go : (i : ℕ) → slice_get (map signature_of (t ∷ [])) i ≡ Some is.signature → ⊥
+      go : (i : ℕ) → slice_get (map signature_of (OfBody t ∷ [])) i ≡ Some is.signature → ⊥
       go zero signed =
           let own : seen_as t.kind ≡ is.signature.kind = ap (λ (s : Signature). s.kind) (some_is _ _ signed) in
           let clash : None ≡ Some kind = sym plain ∙ own ∙ is.kind_is in
@@ -370,11 +370,11 @@ module _ (t : Tree) where
 
   -- a run of the script whose first drive asks this
   abbrev pub plan_with : List Posed → Plan
-  plan_with qs = plan_of (t ∷ []) (call ∷ qs)
+  plan_with qs = plan_of (OfBody t ∷ []) (call ∷ qs)
 
   -- such a run, where its events are told to be one
   pub call_runs : (m n : ℤ) (more : List Payload) (events : List Event) → IsDeclared (with_more m n more) → Each DeclaresNothing more → AllFit (with_more m n more) → Comes (plan_with []) (with_more m n more) nothing events
-      → EachTells (Traces (t ∷ []) (object 2) (with_more m n more)) events → AreNamed (with_more m n more) events → IsRunOf (FunctionDecl t ∷ []) (call_of t.name m n ∷ []) (with_more m n more) events
+      → EachTells (Traces (OfBody t ∷ []) (object 2) (with_more m n more)) events → AreNamed (with_more m n more) events → IsRunOf (FunctionDecl t ∷ []) (call_of t.name m n ∷ []) (with_more m n more) events
   call_runs m n more events d own fit comes tells named = record {
     asked = call ∷ [];
     are_asked = (asks_numbers m n more events d, tt);
@@ -402,11 +402,11 @@ module _ (t : Tree) where
       (top, (reply, (request, asks, replies), given))
 
   -- an activation of the script's function tells what that may
-  pub traced_by : (globals : Obj) (store : List Payload) (f : Obj) (vs : List Obj) (ts : List Own) → HasPayload store f (function_entry t.name 0) → Traces (t ∷ []) globals store f vs ts → IsTrace (anywhere store globals) t vs ts
+  pub traced_by : (globals : Obj) (store : List Payload) (f : Obj) (vs : List Obj) (ts : List Own) → HasPayload store f (function_entry t.name 0) → Traces (OfBody t ∷ []) globals store f vs ts → IsTrace (anywhere store globals) t vs ts
   traced_by globals store f vs ts p h =
       let code : 0 ≡ h.0.code = code_of t.name h.0.name 0 h.0.code (sym p ∙ h.1) in
-      let same : t ≡ h.2.0 = some_is _ _ (subst (λ (i : ℕ). slice_get (t ∷ []) i ≡ Some h.2.0) (sym code) h.2.1) in
-      subst (λ (u : Tree). IsTrace (anywhere store globals) u vs ts) (sym same) h.2.2
+      let same : OfBody t ≡ h.2.0 = some_is _ _ (subst (λ (i : ℕ). slice_get (OfBody t ∷ []) i ≡ Some h.2.0) (sym code) h.2.1) in
+      subst (λ (c : Coded). Tells (anywhere store globals) c vs ts) (sym same) h.2.2
 
   -- what a run of the script says of its activation
   pub traced_with : (vs : List Obj) (store : List Payload) (drives : List DriveLine) (events : List Event) → HasPayload store (object 0) (function_entry t.name 0) → slice_get (state_after start events).made 0 ≡ Some (record { function = object 0; args = vs })
@@ -421,7 +421,7 @@ module _ (t : Tree) where
   -- the entry of the function, where it is the script's
   pub entry_of : (store : List Payload) (f : Obj) → AreObjects (FunctionDecl t ∷ []) store → declared store t.name ≡ Some f → HasPayload store f (function_entry t.name 0)
   entry_of store f h e =
-      let entry = h.functions 0 t refl in
+      let entry = h.functions 0 (OfBody t) refl in
       subst (λ (f : Obj). HasPayload store f (function_entry t.name 0)) (some_is _ _ (sym entry.1 ∙ e)) entry.2
 
   -- the objects of drives that overflow, and more
@@ -456,9 +456,9 @@ module _ (t : Tree) where
   overflow_fits : AllFit (overflow_with [])
   overflow_fits = fits (payload.Int greatest ∷ payload.Int (pos 1) ∷ payload.Frame 0 ∷ error_objects OverflowError []) refl (tt, (tt, (tt, (tt, (tt, (made_error [], tt))))))
 
-  overflow_tells : RaiseIsTraced [] 2 4 (exception 8) → EachTells (Traces (t ∷ []) (object 2) (overflow_with [])) (overflow_by (exception 8))
+  overflow_tells : RaiseIsTraced [] 2 4 (exception 8) → EachTells (Traces (OfBody t ∷ []) (object 2) (overflow_with [])) (overflow_by (exception 8))
   unfolding own_from told_by
-  overflow_tells h = one_tells (Traces (t ∷ []) (object 2) (overflow_with [])) (object 0) (object 3 ∷ object 4 ∷ []) (overflow_by (exception 8)) refl (_, refl, (t, refl, h))
+  overflow_tells h = one_tells (Traces (OfBody t ∷ []) (object 2) (overflow_with [])) (object 0) (object 3 ∷ object 4 ∷ []) (overflow_by (exception 8)) refl (_, refl, (OfBody t, refl, h))
 
   -- the run of one drive that overflows
   pub overflow_is_run : IsDeclared (overflow_with []) → Binds (overflow_with []) → seen_as t.kind ≡ None → RaiseIsTraced [] 2 4 (exception 8) → IsRunOf (FunctionDecl t ∷ []) (overflowing_of t.name ∷ []) (overflow_with []) (overflow_by (exception 8))

@@ -7,7 +7,7 @@ use Rattle.py_objects.specs.declared.event.Event.TheVariants as event
 use Rattle.py_objects.specs.declared.event.ResumeHow.TheVariants as how
 use Rattle.py_lines.specs.declared.drive.DriveLine.{DriveLine}
 use Rattle.py_grammar.specs.declared.script.Script.{Script}
-use Rattle.py_grammar.specs.Grammar.{Decl, functions_in}
+use Rattle.py_grammar.specs.Grammar.{Decl, codes_in}
 use Rattle.py_grammar.specs.Script.{decls_of, IsScript}
 use Rattle.py_grammar.proofs.Verdicts.{one_tree}
 use Rattle.py_run.specs.declared.journal.Journal.{Journal}
@@ -51,7 +51,7 @@ asked_few objects events (d ∷ ds) (q ∷ asked) are = let rest = asked_few obj
 -- a run whose first events are a whole one has no others
 pub whole_is_all : (decls : List Decl) (drives : List DriveLine) (objects : List Payload) (es more : List Event) → IsRunOf decls drives objects (es ++ more) → IsDone (length drives) es → more ≡ []
 whole_is_all decls drives objects es more run done =
-    let plan : Plan = plan_of (functions_in decls) run.asked in
+    let plan : Plan = plan_of (codes_in decls) run.asked in
     let state : (past_behind plan nothing es).state ≡ state_after start es = past_state plan es in
     let few : length run.asked ≤ length drives = asked_few objects (es ++ more) drives run.asked run.are_asked in
     let count : (past_behind plan nothing es).state.done ≡ length drives = ap (λ (s : State). s.done) state ∙ done.done in

@@ -2,6 +2,7 @@
 pub mod Behind
 pub mod Entries
 -- two runs of one script: what is alike before any event, what drives ask, what activations tell
+pub mod CoreLemmas
 mod EarlierLemmas
 mod AlikeObjects
 mod AskedAgree
@@ -23,4 +24,5 @@ mod WorkedCallLemmas
 mod WorkedFinallyLemmas
 mod WorkedGeneratorLemmas
 mod WorkedWithLemmas
+mod WorkedRawLemmas
 mod ComparedLemmas

@@ -26,7 +26,7 @@ use Rattle.py_objects.specs.ErrorKinds.{name_of}
 use Rattle.py_objects.specs.Objects.{Obj, Name, HasPayload, class_object, declared}
 use Rattle.py_objects.specs.Own.{Own, Asks, Gets, Ends, whose, own_of, own_from, told_by}
 use Rattle.py_objects.specs.Telling.{Given, Failed, AfterValue, Asked, Answered, Answers}
-use Rattle.py_grammar.specs.Grammar.{Decl, functions_in}
+use Rattle.py_grammar.specs.Grammar.{Decl, OfBody, codes_in}
 use Rattle.py_tree.specs.Scene.{anywhere}
 use Rattle.py_tree.specs.Trace.{IsBegun, Ended}
 use Rattle.py_lines.specs.declared.drive.DriveAtom.TheVariants as atom
@@ -110,7 +110,7 @@ WritesAt store line w = (x : Ending) × ((ts : List Own) → EndedBy w ts → En
 module _ (store : List Payload) (globals : Obj) (journal : List Event) (qs : List Posed) (m n : ℤ) (line : List ℕ) (given : (before : List Event) (w : GotAnswer) → GivesBody store before (whole (m +ℤ n)) w → WritesAt store line w) where
   -- what the run is of
   abbrev plan : Plan
-  plan = plan_of (functions_in decls) qs
+  plan = plan_of (codes_in decls) qs
 
   -- the script's function is called with the two numbers
   abbrev IsCalled : Obj → List Obj → Type 0
@@ -368,16 +368,16 @@ module _ (store : List Payload) (globals : Obj) (journal : List Event) (qs : Lis
   none_formed (x ∷ xs) h = let (q, requests, asks, none) = posed_request store journal (call_of (codes "f") m n) x.pose h.0.0 in none
 
   -- with so many arguments as it takes the function is entered
-  entered_by : (f : Obj) (vs : List Obj) (place : Setting) (course : Course) → AreObjects decls store → place.signatures ≡ map signature_of (functions_in decls) → place.depth ≡ 0 → IsCalled f vs → CallsFunction place store f vs course → course ≡ Enters f vs
+  entered_by : (f : Obj) (vs : List Obj) (place : Setting) (course : Course) → AreObjects decls store → place.signatures ≡ map signature_of (codes_in decls) → place.depth ≡ 0 → IsCalled f vs → CallsFunction place store f vs course → course ≡ Enters f vs
   entered_by f [] place course o signed at_zero q calls = absurd q.1
   entered_by f (a ∷ []) place course o signed at_zero q calls = absurd q.1.1
   entered_by f (a ∷ b ∷ c ∷ vs) place course o signed at_zero q calls = absurd q.1.1.1
   entered_by f (a ∷ b ∷ []) place course o signed at_zero q calls =
       let is : course ≡ entry_at place.depth (Enters f (a ∷ b ∷ [])) =
-      course_is place store f (record { name = codes "f"; code = 0 }) (signature_of function) (a ∷ b ∷ []) course (entry_of function store f o q.0) (ap (λ (xs : List Signature). slice_get xs 0) signed) calls in
+      course_is place store f (record { name = codes "f"; code = 0 }) (signature_of (OfBody function)) (a ∷ b ∷ []) course (entry_of function store f o q.0) (ap (λ (xs : List Signature). slice_get xs 0) signed) calls in
       is ∙ ap (λ (k : ℕ). entry_at k (Enters f (a ∷ b ∷ []))) at_zero
 
-  enters_only : (xs : List Posed) (r : Request) (course : Course) (place : Setting) → AreObjects decls store → place.signatures ≡ map signature_of (functions_in decls) → AreAsked store journal (call_of (codes "f") m n ∷ []) xs → place.depth ≡ 0
+  enters_only : (xs : List Posed) (r : Request) (course : Course) (place : Setting) → AreObjects decls store → place.signatures ≡ map signature_of (codes_in decls) → AreAsked store journal (call_of (codes "f") m n ∷ []) xs → place.depth ≡ 0
       → open_in (slice_get xs 0) [] ≡ Some r → ComesTo place store r course → (f : Obj) × (vs : List Obj) × (course ≡ Enters f vs) × (r ≡ Calling f vs keywords.None)
   enters_only [] r course place o signed h at_zero e c = absurd cc
   enters_only (x ∷ xs) r course place o signed h at_zero e c =
@@ -392,7 +392,7 @@ module _ (store : List Payload) (globals : Obj) (journal : List Event) (qs : Lis
 
   -- what the first activation that is made tells among these events, the first of which has this number
   abbrev Tells : State → ℕ → List Event → Type 0
-  Tells s i es = (a : Activation) → slice_get (state_after s es).made 0 ≡ Some a → Traces (functions_in decls) globals store a.function a.args (own_from 1 i es)
+  Tells s i es = (a : Activation) → slice_get (state_after s es).made 0 ≡ Some a → Traces (codes_in decls) globals store a.function a.args (own_from 1 i es)
 
   making : (f : Obj) (vs : List Obj) (before es : List Event) → AreObjects decls store → AreCalls → IsCalled f vs → Tells (at 0 Asking [] []) 1 (event.Make 1 f vs ∷ es) → Follows before (at 0 Asking [] []) (event.Make 1 f vs ∷ es) → plain_text store (event.Make 1 f vs ∷ es) ≡ line
   unfolding own_from told_by

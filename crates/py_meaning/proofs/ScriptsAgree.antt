@@ -4,16 +4,18 @@ use Rattle.py_objects.specs.declared.payload.Payload.{Payload}
 use Rattle.py_objects.specs.declared.edit.Change.{Change}
 use Rattle.py_objects.specs.declared.event.Event.{Event}
 use Rattle.py_lines.specs.declared.drive.DriveLine.{DriveLine}
-use Rattle.py_grammar.specs.Grammar.{Decl, functions_in}
+use Rattle.py_grammar.specs.Grammar.{Decl, codes_in}
 use Rattle.py_grammar.specs.Script.{decls_of}
 use Rattle.py_run.specs.declared.journal.Journal.{Journal}
 use Rattle.py_determined.specs.Alike.{AreAlike}
 use Rattle.py_determined.specs.Events.{SameEvents}
 use Rattle.py_determined.specs.Related.{Paired}
 use Rattle.py_determined.proofs.RunsAgree.{runs_agree}
+use Rattle.py_meaning.specs.Core.{IsCore, IsCoreFrom}
 use Rattle.py_meaning.specs.Earlier.{NameEarlier}
 use Rattle.py_meaning.specs.Whole.{IsRunOf, IsRunFrom, IsWholeFrom, IsUnfinishedFrom, Traces, plan_of}
 use Rattle.py_meaning.specs.Text.{text_of, events_text}
+use Rattle.py_meaning.proofs.CoreLemmas.{core_script}
 use Rattle.py_meaning.proofs.EarlierLemmas.{script_earlier}
 use Rattle.py_meaning.proofs.OneScript.{signatures_agree, first_alike, bodies_agree, drives_agree}
 use Rattle.py_meaning.proofs.Lengths.{run_of, no_longer, unfinished_shorter}
@@ -22,20 +24,20 @@ use Rattle.py_meaning.proofs.TextsAgree.{texts_agree}
 unchanged_text : (j : Journal) → j.changes ≡ [] → text_of j ≡ events_text j.objects [] j.events
 unchanged_text j none = ap (λ (cs : List Change). events_text j.objects cs j.events) none
 
--- two runs of the same declarations and drives
-module _ (decls : List Decl) (drives : List DriveLine) (earlier : NameEarlier drives) (objects objects' : List Payload) (events events' : List Event)
+-- two runs of the same declarations and drives, where no declaration is a raw code
+module _ (decls : List Decl) (drives : List DriveLine) (core : IsCore decls) (earlier : NameEarlier drives) (objects objects' : List Payload) (events events' : List Event)
     (run : IsRunOf decls drives objects events) (run' : IsRunOf decls drives objects' events') where
   pub scripts_agree : SameEvents (Paired objects objects' events events') events events' × AreAlike (Paired objects objects' events events') objects objects'
   scripts_agree =
-      runs_agree (plan_of (functions_in decls) run.asked) (plan_of (functions_in decls) run'.asked) objects objects' (Traces (functions_in decls) run.globals objects) (Traces (functions_in decls) run'.globals objects')
+      runs_agree (plan_of (codes_in decls) run.asked) (plan_of (codes_in decls) run'.asked) objects objects' (Traces (codes_in decls) run.globals objects) (Traces (codes_in decls) run'.globals objects')
       events events' (record {
         signatures = signatures_agree decls drives earlier objects objects' events events' run run';
-        bodies = bodies_agree decls drives earlier objects objects' events events' run run';
+        bodies = bodies_agree decls drives earlier objects objects' events events' run run' core;
         alike = first_alike decls drives earlier objects objects' events events' run run';
         drives = λ es fs more more' d is is' count same. drives_agree decls drives earlier objects objects' events events' run run' es fs more more' d is is' same;
       }) run.run.comes run'.run.comes run.run.tells run'.run.tells
 
--- ---- journals of the script that bytes are
+-- ---- journals of the script that bytes are, which has no raw code
 
 whole_runs : (bytes : List ℕ) (j : Journal) → IsWholeFrom bytes j → IsRunFrom bytes j
 whole_runs bytes j (s, is, run, whole) = (s, is, run)
@@ -43,12 +45,12 @@ whole_runs bytes j (s, is, run, whole) = (s, is, run)
 pub unfinished_runs : (bytes : List ℕ) (j : Journal) → IsUnfinishedFrom bytes j → IsRunFrom bytes j
 unfinished_runs bytes j (s, is, run, not_whole) = (s, is, run)
 
-module _ (bytes : List ℕ) (j j' : Journal) where
+module _ (bytes : List ℕ) (j j' : Journal) (core : IsCoreFrom bytes) where
   -- two runs of it have the same events, as far as both go
   pub runs_agree_from : IsRunFrom bytes j → IsRunFrom bytes j'
       → SameEvents (Paired j.objects j'.objects j.events j'.events) j.events j'.events × AreAlike (Paired j.objects j'.objects j.events j'.events) j.objects j'.objects
   runs_agree_from (s, is, run) (t, is', run') =
-      scripts_agree (decls_of s) s.drives (script_earlier bytes s is) j.objects j'.objects j.events j'.events run.run (run_of bytes s t j' is is' run')
+      scripts_agree (decls_of s) s.drives (core_script bytes s core is) (script_earlier bytes s is) j.objects j'.objects j.events j'.events run.run (run_of bytes s t j' is is' run')
 
   -- one that isn't whole is shorter than a whole one
   pub shorter : IsWholeFrom bytes j → IsUnfinishedFrom bytes j' → length j'.events < length j.events
@@ -70,14 +72,14 @@ module _ (bytes : List ℕ) (j j' : Journal) where
       ∙ (texts_agree (Paired j.objects j'.objects j.events j'.events) j.objects j'.objects alike ran.run.are_objects.fit ran'.run.are_objects.fit j.events j'.events count same ran.run.run.named ran'.run.run.named
       ∙ sym (unchanged_text j' ran'.unchanged))
 
-module _ (bytes : List ℕ) (j j' : Journal) (whole : IsWholeFrom bytes j) (whole' : IsWholeFrom bytes j') where
+module _ (bytes : List ℕ) (j j' : Journal) (core : IsCoreFrom bytes) (whole : IsWholeFrom bytes j) (whole' : IsWholeFrom bytes j') where
   -- two whole ones are as long
   pub as_long : length j.events ≡ length j'.events
   as_long =
-      let one = never_longer bytes j j' whole (whole_runs bytes j' whole') in
-      let other = never_longer bytes j' j whole' (whole_runs bytes j whole) in
+      let one = never_longer bytes j j' core whole (whole_runs bytes j' whole') in
+      let other = never_longer bytes j' j core whole' (whole_runs bytes j whole) in
       omega (arith, one, other)
 
   -- and have one text
   pub one_text : text_of j ≡ text_of j'
-  one_text = same_text bytes j j' (whole_runs bytes j whole) (whole_runs bytes j' whole') as_long
+  one_text = same_text bytes j j' core (whole_runs bytes j whole) (whole_runs bytes j' whole') as_long

@@ -18,11 +18,11 @@ use Rattle.py_objects.specs.declared.event.DriveAnswer.TheVariants as answer
 use Rattle.py_objects.specs.declared.event.Event.{Event}
 use Rattle.py_objects.specs.declared.event.Event.TheVariants as event
 use Rattle.py_objects.specs.ErrorKinds.{name_of}
-use Rattle.py_objects.specs.Objects.{Obj, Name, declared, AllFit}
+use Rattle.py_objects.specs.Objects.{Obj, Name, AllFit}
 use Rattle.py_objects.specs.Own.{Makes, Resumes, Ends, own_events, own_from, told_by}
 use Rattle.py_tree.specs.Scene.{anywhere}
 use Rattle.py_tree.specs.Trace.{IsTrace}
-use Rattle.py_grammar.specs.Grammar.{Declares, Drives, FunctionDecl, functions_in}
+use Rattle.py_grammar.specs.Grammar.{Declares, Drives, FunctionDecl, OfBody, codes_in}
 use Rattle.py_lines.specs.declared.drive.DriveAtom.TheVariants as argument
 use Rattle.py_lines.specs.declared.drive.DriveLine.{DriveLine}
 use Rattle.py_lines.specs.declared.drive.DriveLine.TheVariants as drive
@@ -151,7 +151,7 @@ refused =
 
 -- what the run is of
 abbrev plan : Plan
-plan = plan_of (functions_in decls) asked
+plan = plan_of (codes_in decls) asked
 
 -- the third drive and the second one, each with what follows
 abbrev third : List Event
@@ -230,13 +230,13 @@ callee_traced : (k : ℕ) (w : Obj) → IsTrace (anywhere objects (object 4)) ca
 callee_traced k w = (refl, (_, refl, inr (inr (1, refl))))
 
 abbrev Tells : ℕ → Activation → Type 0
-Tells i a = Traces (functions_in decls) (object 4) objects a.function a.args (own_events (suc i) events)
+Tells i a = Traces (codes_in decls) (object 4) objects a.function a.args (own_events (suc i) events)
 
-tells : EachTells (Traces (functions_in decls) (object 4) objects) events
+tells : EachTells (Traces (codes_in decls) (object 4) objects) events
 unfolding own_from told_by
-tells zero a e = subst (Tells 0) (some_is _ a e) (_, refl, (caller, refl, caller_traced))
-tells (suc zero) a e = subst (Tells 1) (some_is _ a e) (_, refl, (callee, refl, callee_traced 7 (object 7)))
-tells (suc (suc zero)) a e = subst (Tells 2) (some_is _ a e) (_, refl, (callee, refl, callee_traced 14 (object 9)))
+tells zero a e = subst (Tells 0) (some_is _ a e) (_, refl, (OfBody caller, refl, caller_traced))
+tells (suc zero) a e = subst (Tells 1) (some_is _ a e) (_, refl, (OfBody callee, refl, callee_traced 7 (object 7)))
+tells (suc (suc zero)) a e = subst (Tells 2) (some_is _ a e) (_, refl, (OfBody callee, refl, callee_traced 14 (object 9)))
 tells (suc (suc (suc i))) a e = absurd cc
 
 pub is_run : IsRunOf decls drives objects events
@@ -285,7 +285,7 @@ not_asked (p ∷ q ∷ qs) r h e making =
 
 pub no_other_object : IsRunOf decls drives objects (again (object 0) []) → ⊥
 no_other_object r =
-    let at : Setting = setting (plan_of (functions_in decls) r.asked) (past_behind (plan_of (functions_in decls) r.asked) nothing (returned (object 6) (event.Drive 2 ∷ []))) in
+    let at : Setting = setting (plan_of (codes_in decls) r.asked) (past_behind (plan_of (codes_in decls) r.asked) nothing (returned (object 6) (event.Drive 2 ∷ []))) in
     let opened = r.run.comes.1.1.1.1.1.1.1.1.1.1.1.1.1.0.1.1 in
     not_asked r.asked opened.0 r.are_asked opened.1 (enters_call at objects opened.0 (object 0) (object 0 ∷ object 9 ∷ []) opened.2).0
 
@@ -300,7 +300,7 @@ first_argument f a b c d e = cc
 
 pub no_swapped_arguments : IsRunOf decls drives objects swapped → ⊥
 no_swapped_arguments r =
-    let at : Setting = setting (plan_of (functions_in decls) r.asked) (past_behind (plan_of (functions_in decls) r.asked) nothing (asking [])) in
+    let at : Setting = setting (plan_of (codes_in decls) r.asked) (past_behind (plan_of (codes_in decls) r.asked) nothing (asking [])) in
     let opened = r.run.comes.1.1.1.1.1.1.0.1.1 in
     let asked : Calling (object 0) (object 6 ∷ object 7 ∷ []) keywords.None ≡ opened.0 = some_is _ _ opened.1 in
     let asks = subst (λ (x : Request). IsMaking objects x (object 0) (object 7 ∷ object 6 ∷ [])) (sym asked) (enters_call at objects opened.0 (object 0) (object 7 ∷ object 6 ∷ []) opened.2).0 in
@@ -328,11 +328,11 @@ no_other_result r =
 
 pub no_activation_of_a_refused_drive : IsRunOf decls drives objects refused_made → ⊥
 no_activation_of_a_refused_drive r =
-    let at : Setting = setting (plan_of (functions_in decls) r.asked) (past_behind (plan_of (functions_in decls) r.asked) nothing refusing) in
+    let at : Setting = setting (plan_of (codes_in decls) r.asked) (past_behind (plan_of (codes_in decls) r.asked) nothing refusing) in
     let opened = r.run.comes.1.1.1.1.1.1.1.1.1.1.1.1.1.1.1.1.1.1.0.1.1 in
     let calls = enters_call at objects opened.0 (object 1) (object 6 ∷ []) opened.2 in
     let course : Enters (object 1) (object 6 ∷ []) ≡ Says (Fails TypeError (too_many (codes "f") 0 1)) =
-    course_is at objects (object 1) (record { name = codes "f"; code = 1 }) (signature_of caller) (object 6 ∷ []) (Enters (object 1) (object 6 ∷ [])) refl refl calls.1 in
+    course_is at objects (object 1) (record { name = codes "f"; code = 1 }) (signature_of (OfBody caller)) (object 6 ∷ []) (Enters (object 1) (object 6 ∷ [])) refl refl calls.1 in
     cc course
 
 -- ---- how deep calls go

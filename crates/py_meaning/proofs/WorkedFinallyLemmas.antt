@@ -17,7 +17,7 @@ use Rattle.py_tree.specs.Binding.{start_env}
 use Rattle.py_tree.specs.Outcome.{Raises, On_normal, Behind_finally, RunsSuite}
 use Rattle.py_tree.specs.Scene.{Scene, anywhere}
 use Rattle.py_tree.specs.Trace.{IsTrace, EndsBy}
-use Rattle.py_grammar.specs.Grammar.{Declares, Drives, FunctionDecl, functions_in}
+use Rattle.py_grammar.specs.Grammar.{Declares, Drives, FunctionDecl, OfBody, codes_in}
 use Rattle.py_lines.specs.declared.drive.DriveLine.TheVariants as drive
 use Rattle.py_grammar.specs.Lines.{lines}
 use Rattle.py_grammar.specs.Script.{Spells}
@@ -58,7 +58,7 @@ raised_new = is_raised own (asked []) NameError not_defined (object 4) (object 5
 
 -- what the run is of
 abbrev plan : Plan
-plan = plan_of (functions_in decls) (call ∷ [])
+plan = plan_of (codes_in decls) (call ∷ [])
 
 comes : Comes plan objects at_first events
 comes = (
@@ -96,7 +96,7 @@ is_run =
       are_asked = (((object 0, [], refl, refl, tt), refl), tt);
       globals = object 2;
       are_globals = are_globals function (payload.Frame 0 ∷ run_objects) refl;
-      run = record { comes = comes; tells = one_tells (Traces (functions_in decls) (object 2) objects) (object 0) [] events refl (_, refl, (function, refl, traced)); named = are_named objects events all_fit refl };
+      run = record { comes = comes; tells = one_tells (Traces (codes_in decls) (object 2) objects) (object 0) [] events refl (_, refl, (OfBody function, refl, traced)); named = are_named objects events all_fit refl };
       are_objects = are_loaded function (payload.Frame 0 ∷ run_objects) refl (tt, (tt, (tt, (tt, (tt, tt))))) all_fit;
     }
 

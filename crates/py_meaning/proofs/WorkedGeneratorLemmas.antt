@@ -16,7 +16,7 @@ use Rattle.py_objects.specs.Own.{Own, Yields as Yielding, own_events, own_from, 
 use Rattle.py_tree.specs.Scene.{anywhere}
 use Rattle.py_tree.specs.Trace.{IsTrace}
 use Rattle.py_lines.specs.declared.drive.DriveLine.TheVariants as drive
-use Rattle.py_grammar.specs.Grammar.{Declares, Drives, FunctionDecl, functions_in}
+use Rattle.py_grammar.specs.Grammar.{Declares, Drives, FunctionDecl, OfBody, codes_in}
 use Rattle.py_grammar.specs.Lines.{lines}
 use Rattle.py_grammar.specs.Script.{Spells}
 use Rattle.py_coro.specs.declared.coro.CoroAnswer.TheVariants as told
@@ -50,7 +50,7 @@ are_asked = (((object 0, [], refl, refl, tt), refl), (((object 4, none_object, r
 
 -- what the run is of
 abbrev plan : Plan
-plan = plan_of (functions_in decls) asked
+plan = plan_of (codes_in decls) asked
 
 -- the generator is a new object
 new : IsNew objects (event.Drive 1 ∷ event.Make 1 (object 0) [] ∷ []) (object 4).number
@@ -85,7 +85,7 @@ is_run =
       are_asked = are_asked;
       globals = object 2;
       are_globals = are_globals function own_objects refl;
-      run = record { comes = comes; tells = one_tells (Traces (functions_in decls) (object 2) objects) (object 0) [] events refl (_, refl, (function, refl, traced)); named = are_named objects events all_fit refl };
+      run = record { comes = comes; tells = one_tells (Traces (codes_in decls) (object 2) objects) (object 0) [] events refl (_, refl, (OfBody function, refl, traced)); named = are_named objects events all_fit refl };
       are_objects = are_loaded function own_objects refl (tt, (tt, (tt, tt))) all_fit;
     }
 
@@ -108,10 +108,10 @@ text =
 -- ---- what is none
 
 -- the activations of g can be suspended
-suspended : (qs : List Posed) → IsOfKind (plan_of (functions_in decls) qs) objects (object 0) None → ⊥
+suspended : (qs : List Posed) → IsOfKind (plan_of (codes_in decls) qs) objects (object 0) None → ⊥
 suspended qs is = go is.body.code is.signed
   where
-    go : (i : ℕ) → slice_get (map signature_of (functions_in decls)) i ≡ Some is.signature → ⊥
+    go : (i : ℕ) → slice_get (map signature_of (codes_in decls)) i ≡ Some is.signature → ⊥
     go zero signed =
         let own : Some coro.Generator ≡ is.signature.kind = ap (λ (s : Signature). s.kind) (some_is _ _ signed) in
         let clash : Some coro.Generator ≡ None = own ∙ is.kind_is in

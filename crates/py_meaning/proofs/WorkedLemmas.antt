@@ -17,7 +17,7 @@ use Rattle.py_objects.specs.Objects.{Obj, Name, AllFit}
 use Rattle.py_objects.specs.Own.{Own, Asks, own_events, own_from, told_by}
 use Rattle.py_tree.specs.Scene.{anywhere}
 use Rattle.py_tree.specs.Trace.{IsTrace}
-use Rattle.py_grammar.specs.Grammar.{Declares, Drives, FunctionDecl, ManagerDecl, functions_in}
+use Rattle.py_grammar.specs.Grammar.{Declares, Drives, FunctionDecl, ManagerDecl, OfBody, codes_in}
 use Rattle.py_grammar.specs.Lines.{lines}
 use Rattle.py_grammar.specs.Script.{Spells}
 use Rattle.py_answers.specs.Answers.{This, Is, Passes}
@@ -55,11 +55,11 @@ sum_traced = (refl, (_, refl, inr (inr (2, _, refl, refl, inr (4, got.Value (obj
 pub is_run : IsRunOf decls drives objects events
 is_run =
     call_runs function (pos 33) (pos 12) (payload.Int (pos 45) ∷ []) events refl (tt, tt) sum_fits (front_comes (event.Result 1 (answer.Returns (object 6)) ∷ []) ((refl, refl, (Is (object 6), inl (_, refl, (refl, refl)), refl)), tt))
-    (one_tells (Traces (functions_in decls) (object 2) objects) (object 0) (object 3 ∷ object 4 ∷ []) events refl (_, refl, (function, refl, sum_traced))) (are_named objects events sum_fits refl)
+    (one_tells (Traces (codes_in decls) (object 2) objects) (object 0) (object 3 ∷ object 4 ∷ []) events refl (_, refl, (OfBody function, refl, sum_traced))) (are_named objects events sum_fits refl)
 
-front_tells : EachTells (Traces (functions_in decls) (object 2) objects) unfinished
+front_tells : EachTells (Traces (codes_in decls) (object 2) objects) unfinished
 unfolding own_from told_by
-front_tells = one_tells (Traces (functions_in decls) (object 2) objects) (object 0) (object 3 ∷ object 4 ∷ []) unfinished refl (_, refl, (function, refl, sum_traced))
+front_tells = one_tells (Traces (codes_in decls) (object 2) objects) (object 0) (object 3 ∷ object 4 ∷ []) unfinished refl (_, refl, (OfBody function, refl, sum_traced))
 
 pub front_is_run : IsRunOf decls drives objects unfinished
 front_is_run = call_runs function (pos 33) (pos 12) (payload.Int (pos 45) ∷ []) unfinished refl (tt, tt) sum_fits (front_comes [] tt) front_tells (are_named objects unfinished sum_fits refl)
@@ -90,7 +90,7 @@ pub no_other_code : IsRunOf decls drives (objects_by (function_entry (codes "f")
 no_other_code r = let e = code_of (codes "f") (codes "f") 1 0 (entry_of function _ (object 0) r.are_objects refl) in cc
 
 pub no_other_name : IsRunOf decls drives (objects_by (function_entry (codes "g") 0)) events → ⊥
-no_other_name r = let entry = r.are_objects.functions 0 function refl in let e = entry.1 in cc
+no_other_name r = let entry = r.are_objects.functions 0 (OfBody function) refl in let e = entry.1 in cc
 
 no_declared : (i : ℕ) (m e x : Name) → slice_get decls i ≡ Some (ManagerDecl m e x) → ⊥
 no_declared zero m e x at = cc at
@@ -117,10 +117,10 @@ both_fit =
     let more = error_entry OverflowError ∷ [] in
     fits function (payload.Int greatest ∷ payload.Int (pos 1) ∷ payload.Frame 0 ∷ error_objects OverflowError more) refl (tt, (tt, (tt, (tt, (tt, (made_error function more, (made_error function more, tt)))))))
 
-both_tell : EachTells (Traces (functions_in decls) (object 2) both_objects) both_raise
+both_tell : EachTells (Traces (codes_in decls) (object 2) both_objects) both_raise
 unfolding own_from told_by
-both_tell zero a e = subst (λ (a : Activation). Traces (functions_in decls) (object 2) both_objects a.function a.args (own_events 1 both_raise)) (some_is _ a e) (_, refl, (function, refl, raise_traced (error_entry OverflowError ∷ []) 2 4 (exception 8)))
-both_tell (suc zero) a e = subst (λ (a : Activation). Traces (functions_in decls) (object 2) both_objects a.function a.args (own_events 2 both_raise)) (some_is _ a e) (_, refl, (function, refl, raise_traced (error_entry OverflowError ∷ []) 9 11 (exception 9)))
+both_tell zero a e = subst (λ (a : Activation). Traces (codes_in decls) (object 2) both_objects a.function a.args (own_events 1 both_raise)) (some_is _ a e) (_, refl, (OfBody function, refl, raise_traced (error_entry OverflowError ∷ []) 2 4 (exception 8)))
+both_tell (suc zero) a e = subst (λ (a : Activation). Traces (codes_in decls) (object 2) both_objects a.function a.args (own_events 2 both_raise)) (some_is _ a e) (_, refl, (OfBody function, refl, raise_traced (error_entry OverflowError ∷ []) 9 11 (exception 9)))
 both_tell (suc (suc i)) a e = absurd cc
 
 -- what it is of
@@ -170,6 +170,6 @@ errors_are_run =
 
 pub no_error_twice : IsRunOf decls (overflowing ∷ overflowing ∷ []) both_objects (raises 1 (exception 8) (raises 2 (exception 8) [])) → ⊥
 no_error_twice r =
-    let given = gives_sum (plan_of (functions_in decls) r.asked) both_objects (past_behind (plan_of (functions_in decls) r.asked) nothing second_asks) (object 3) (object 4) greatest (pos 1) (got.Raise (exception 8)) refl refl r.run.comes.1.1.1.1.1.1.1.1.1.1.1.0.1 in
+    let given = gives_sum (plan_of (codes_in decls) r.asked) both_objects (past_behind (plan_of (codes_in decls) r.asked) nothing second_asks) (object 3) (object 4) greatest (pos 1) (got.Raise (exception 8)) refl refl r.run.comes.1.1.1.1.1.1.1.1.1.1.1.0.1 in
     let named = given.made.new.unnamed 4 (event.Got 1 (got.Raise (exception 8))) refl in
     cc

@@ -19,7 +19,7 @@ use Rattle.py_tree.specs.Scene.{Scene, anywhere}
 use Rattle.py_tree.specs.Outcome.{After, Normal, On_normal, On_turn, Chooses, By_truth, Loops, RunsSuite}
 use Rattle.py_tree.specs.Trace.{IsTrace, EndsBy}
 use Rattle.py_lines.specs.declared.drive.DriveLine.TheVariants as drive
-use Rattle.py_grammar.specs.Grammar.{Declares, Drives, FunctionDecl, functions_in}
+use Rattle.py_grammar.specs.Grammar.{Declares, Drives, FunctionDecl, OfBody, codes_in}
 use Rattle.py_grammar.specs.Lines.{lines}
 use Rattle.py_grammar.specs.Script.{Spells}
 use Rattle.py_answers.specs.Answers.{This, Has, Fails, Passes, unknown_text, IsRaised}
@@ -43,7 +43,7 @@ call = record { pose = Requests (Calling (object 0) [] keywords.None); entered =
 
 -- what the run is of
 abbrev plan : Plan
-plan = plan_of (functions_in decls) (call ∷ [])
+plan = plan_of (codes_in decls) (call ∷ [])
 
 loop_fits : AllFit objects
 loop_fits = fits function (payload.Frame 0 ∷ payload.Bool true ∷ payload.Bool true ∷ []) refl (tt, (tt, (tt, tt)))
@@ -72,7 +72,7 @@ is_run =
       are_asked = (((object 0, [], refl, refl, tt), refl), tt);
       globals = object 2;
       are_globals = are_globals function (payload.Frame 0 ∷ payload.Bool true ∷ payload.Bool true ∷ []) refl;
-      run = record { comes = comes; tells = one_tells (Traces (functions_in decls) (object 2) objects) (object 0) [] events refl (_, refl, (function, refl, loop_traced)); named = are_named objects events loop_fits refl };
+      run = record { comes = comes; tells = one_tells (Traces (codes_in decls) (object 2) objects) (object 0) [] events refl (_, refl, (OfBody function, refl, loop_traced)); named = are_named objects events loop_fits refl };
       are_objects = are_loaded function (payload.Frame 0 ∷ payload.Bool true ∷ payload.Bool true ∷ []) refl (tt, (tt, (tt, tt))) loop_fits;
     }
 
@@ -177,7 +177,7 @@ unknown_fits = fits unknown_function (payload.Frame 0 ∷ raised_objects NameErr
 unknown_raised : IsRaised unknown_objects (asked []) NameError not_defined (exception 6)
 unknown_raised = is_raised unknown_own (asked []) NameError not_defined (object 4) (object 5) (exception 6) refl refl refl (refl, (refl, (refl, (refl, tt))))
 
-unknown_comes : Comes (plan_of (functions_in unknown_decls) (call ∷ [])) unknown_objects at_first unknown_events
+unknown_comes : Comes (plan_of (codes_in unknown_decls) (call ∷ [])) unknown_objects at_first unknown_events
 unknown_comes = (
   (refl, refl, lit< tt),
   (
@@ -209,7 +209,7 @@ unknown_is_run =
       run =
           record {
             comes = unknown_comes;
-            tells = one_tells (Traces (functions_in unknown_decls) (object 2) unknown_objects) (object 0) [] unknown_events refl (_, refl, (unknown_function, refl, unknown_traced));
+            tells = one_tells (Traces (codes_in unknown_decls) (object 2) unknown_objects) (object 0) [] unknown_events refl (_, refl, (OfBody unknown_function, refl, unknown_traced));
             named = are_named unknown_objects unknown_events unknown_fits refl;
           };
       are_objects = are_loaded unknown_function (payload.Frame 0 ∷ raised_objects NameError) refl (tt, (tt, (tt, (tt, tt)))) unknown_fits;

@@ -25,7 +25,7 @@ use Rattle.py_tree.specs.Binding.{Env, start_env, set_local}
 use Rattle.py_tree.specs.Outcome.{Normal, Use, On_normal, RunsSuite}
 use Rattle.py_tree.specs.Scene.{Scene, anywhere}
 use Rattle.py_tree.specs.Trace.{IsTrace, EndsBy}
-use Rattle.py_grammar.specs.Grammar.{Declares, Drives, FunctionDecl, functions_in}
+use Rattle.py_grammar.specs.Grammar.{Declares, Drives, FunctionDecl, OfBody, codes_in}
 use Rattle.py_grammar.specs.Lines.{lines}
 use Rattle.py_grammar.specs.Script.{Spells}
 use Rattle.py_answers.specs.Answers.{Reply, Has, Is, GivesBody}
@@ -84,7 +84,7 @@ named a r n m =
 pub any_none : (a r : Obj) → IsNone a → IsNone r → IsRunOf decls drives objects (events_by (object 6) a r)
 any_none a r n m =
     call_runs function (pos 33) (pos 12) (payload.Int (pos 45) ∷ payload.None ∷ []) (events_by (object 6) a r) refl (tt, (tt, tt)) all_fit (comes a r n m)
-    (one_tells (Traces (functions_in decls) (object 2) objects) (object 0) (object 3 ∷ object 4 ∷ []) (events_by (object 6) a r) refl (_, refl, (function, refl, shown_traced a r m))) (named a r n m)
+    (one_tells (Traces (codes_in decls) (object 2) objects) (object 0) (object 3 ∷ object 4 ∷ []) (events_by (object 6) a r) refl (_, refl, (OfBody function, refl, shown_traced a r m))) (named a r n m)
 
 pub text : events_text objects [] events ≡ codes "45\n1 returns None\n"
 text = simp (decimal_45, decimal_1)
@@ -155,7 +155,7 @@ gives_none plan store p v w (reply, (r, asks, replies), gives) =
 
 pub no_other_answer : IsRunOf decls drives objects (events_by (object 6) (object 6) (object 7)) → ⊥
 no_other_answer r =
-    let e = gives_none (plan_of (functions_in decls) r.asked) objects (past_behind (plan_of (functions_in decls) r.asked) at_first (summed (shows (object 6) []))) (object 6) (got.Value (object 6)) r.run.comes.1.1.1.1.1.1.0.1 in
+    let e = gives_none (plan_of (codes_in decls) r.asked) objects (past_behind (plan_of (codes_in decls) r.asked) at_first (summed (shows (object 6) []))) (object 6) (got.Value (object 6)) r.run.comes.1.1.1.1.1.1.0.1 in
     cc
 
 returned_one : (at at' : ℕ) (v w : Obj) → Ends at (ending.Return v) ≡ Ends at' (ending.Return w) → v ≡ w
@@ -176,10 +176,10 @@ raise_ends = overflow_run function refl (runs _ _ _ _ _ _ _ refl refl refl) refl
 
 pub raise_text : events_text overflow_objects [] (overflow_by (exception 8)) ≡ codes "1 raises OverflowError: integer out of range\n"
 raise_text =
-    let asking : Past = past_behind (plan_of (functions_in decls) raise_ends.asked) at_first (entered 1 (asked 1 (object 3) (object 4) [])) in
+    let asking : Past = past_behind (plan_of (codes_in decls) raise_ends.asked) at_first (entered 1 (asked 1 (object 3) (object 4) [])) in
     append-nil (result_text overflow_objects 1 (answer.Raises (exception 8)))
     ∙ overflow_line decls overflow_objects raise_ends.are_objects asking.events (exception 8)
-    (gives_sum (plan_of (functions_in decls) raise_ends.asked) overflow_objects asking (object 3) (object 4) greatest (pos 1) (got.Raise (exception 8)) refl refl raise_ends.run.comes.1.1.1.1.0.1)
+    (gives_sum (plan_of (codes_in decls) raise_ends.asked) overflow_objects asking (object 3) (object 4) greatest (pos 1) (got.Raise (exception 8)) refl refl raise_ends.run.comes.1.1.1.1.0.1)
 
 pub no_show_behind_a_raise : IsRunOf decls (overflowing ∷ []) overflow_objects shown_behind_raise → ⊥
 unfolding own_from told_by

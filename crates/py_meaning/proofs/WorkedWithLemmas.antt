@@ -25,8 +25,8 @@ use Rattle.py_tree.specs.Binding.{bind, start_env}
 use Rattle.py_tree.specs.Outcome.{By_truth, On_exit, On_normal, Requests, RunsSuite, Use}
 use Rattle.py_tree.specs.Scene.{Scene, anywhere}
 use Rattle.py_tree.specs.Trace.{IsTrace, EndsBy}
-use Rattle.py_tree.specs.Tree.{Leaf, Return, Tree, nothing, first}
-use Rattle.py_grammar.specs.Grammar.{ClassDecl, ManagerDecl, FunctionDecl, Declares, Drives, functions_in}
+use Rattle.py_tree.specs.Tree.{Leaf, Return, nothing, first}
+use Rattle.py_grammar.specs.Grammar.{ClassDecl, ManagerDecl, FunctionDecl, Declares, Drives, Coded, OfBody, codes_in}
 use Rattle.py_lines.specs.declared.drive.DriveLine.TheVariants as drive
 use Rattle.py_grammar.specs.Lines.{lines}
 use Rattle.py_grammar.specs.Script.{Spells}
@@ -34,7 +34,7 @@ use Rattle.py_answers.specs.Answers.{Is}
 use Rattle.py_run.specs.Run.{Activation, Plan, Requests as Poses, Posed, start, state_after}
 use Rattle.py_run.specs.Coming.{nothing as at_first, Comes, EachTells}
 use Rattle.py_run.specs.First.{first_objects}
-use Rattle.py_meaning.specs.Whole.{AreGlobals, AreObjects, Traces, IsRunOf, plan_of}
+use Rattle.py_meaning.specs.Whole.{AreGlobals, AreObjects, Tells, Traces, IsRunOf, plan_of}
 use Rattle.py_meaning.specs.Text.{events_text}
 use Rattle.py_meaning.specs.Worked.{object, function_entry}
 use Rattle.py_meaning.specs.WorkedLoop.{drives}
@@ -124,7 +124,7 @@ call = record { pose = Poses (Calling (object 4) [] keywords.None); entered = 0 
 
 -- what the run is of
 abbrev plan : Plan
-plan = plan_of (functions_in decls) (call ∷ [])
+plan = plan_of (codes_in decls) (call ∷ [])
 
 comes : Comes plan objects at_first events
 comes = (
@@ -205,13 +205,13 @@ exits_traced : IsTrace (anywhere objects (object 10)) exits (none_object ∷ non
 unfolding own_from told_by
 exits_traced = (refl, (_, refl, inr (inr (true_object, refl, inr (1, refl)))))
 
-abbrev Tells : ℕ → Activation → Type 0
-Tells i a = Traces (functions_in decls) (object 10) objects a.function a.args (own_events (suc i) events)
+abbrev TellsAt : ℕ → Activation → Type 0
+TellsAt i a = Traces (codes_in decls) (object 10) objects a.function a.args (own_events (suc i) events)
 
-tells : EachTells (Traces (functions_in decls) (object 10) objects) events
-tells zero a e = subst (Tells 0) (some_is _ a e) (_, refl, (function, refl, traced))
-tells (suc zero) a e = subst (Tells 1) (some_is _ a e) (_, refl, (enters, refl, enters_traced))
-tells (suc (suc zero)) a e = subst (Tells 2) (some_is _ a e) (_, refl, (exits, refl, exits_traced))
+tells : EachTells (Traces (codes_in decls) (object 10) objects) events
+tells zero a e = subst (TellsAt 0) (some_is _ a e) (_, refl, (OfBody function, refl, traced))
+tells (suc zero) a e = subst (TellsAt 1) (some_is _ a e) (_, refl, (OfBody enters, refl, enters_traced))
+tells (suc (suc zero)) a e = subst (TellsAt 2) (some_is _ a e) (_, refl, (OfBody exits, refl, exits_traced))
 tells (suc (suc (suc i))) a e = absurd cc
 
 pub is_run : IsRunOf decls drives objects events
@@ -236,8 +236,8 @@ told : (es : List Event) → slice_get (state_after start es).made 0 ≡ Some (r
 told es made r =
     let h = r.run.tells 0 _ made in
     let code : 2 ≡ h.0.code = code_of (codes "f") h.0.name 2 h.0.code h.1 in
-    let same : function ≡ h.2.0 = some_is _ _ (subst (λ (i : ℕ). slice_get (functions_in decls) i ≡ Some h.2.0) (sym code) h.2.1) in
-    subst (λ (t : Tree). IsTrace (anywhere objects r.globals) t [] (own_events 1 es)) (sym same) h.2.2
+    let same : OfBody function ≡ h.2.0 = some_is _ _ (subst (λ (i : ℕ). slice_get (codes_in decls) i ≡ Some h.2.0) (sym code) h.2.1) in
+    subst (λ (c : Coded). Tells (anywhere objects r.globals) c [] (own_events 1 es)) (sym same) h.2.2
 
 -- what follows the entry: the body, which returns x, and then the exit
 abbrev Body : Scene → List Own → Type 0

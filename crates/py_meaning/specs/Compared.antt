@@ -11,13 +11,15 @@ use Rattle.py_objects.specs.declared.event.Event.TheVariants as event
 use Rattle.py_objects.specs.Objects.{Obj, Name, HasPayload}
 use Rattle.py_grammar.specs.Grammar.{Decl}
 use Rattle.py_lines.specs.declared.drive.DriveLine.{DriveLine}
+use Rattle.py_meaning.specs.Core.{IsCore}
 use Rattle.py_meaning.specs.Earlier.{NameEarlier}
 use Rattle.py_meaning.specs.Whole.{IsRunOf}
 
--- prefixes of two runs of the same declarations and drives
+-- prefixes of two runs of the same declarations and drives, where no declaration is a raw code
 pub record AreRuns (objects objects' : List Payload) (events events' : List Event) : Type 0 where
   pub decls : List Decl
   pub drives : List DriveLine
+  pub core : IsCore decls
   pub earlier : NameEarlier drives
   pub run : IsRunOf decls drives objects events
   pub run' : IsRunOf decls drives objects' events'

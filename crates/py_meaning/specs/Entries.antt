@@ -4,7 +4,7 @@ use Rattle.py_objects.specs.declared.payload.Payload.{Payload}
 use Rattle.py_objects.specs.declared.payload.Payload.TheVariants as payload
 use Rattle.py_objects.specs.declared.payload.ClassBody.{ClassBody}
 use Rattle.py_objects.specs.Objects.{Obj, Name, HasPayload, declared, IsClassObject, IsFunction}
-use Rattle.py_grammar.specs.Grammar.{Decl, ClassDecl, ManagerDecl, FunctionDecl, decl_name}
+use Rattle.py_grammar.specs.Grammar.{Decl, ClassDecl, ManagerDecl, FunctionDecl, RawDecl, decl_name}
 use Rattle.py_grammar.specs.WellFormed.{AreDistinct, IsWellDeclared}
 
 -- declarations that keep the rules, each behind those in front of it
@@ -26,11 +26,14 @@ IsFoundedOn objects (ClassDecl c b) = (base : Obj) × (declared objects b ≡ So
 IsFoundedOn objects (ManagerDecl m e x) =
     (enter : Obj) × (declared objects e ≡ Some enter) × IsFunction objects enter × ((exit : Obj) × (declared objects x ≡ Some exit) × IsFunction objects exit)
 IsFoundedOn objects (FunctionDecl t) = Unit {0}
+IsFoundedOn objects (RawDecl b) = Unit {0}
 
--- the entry of a declaration behind these objects; that of a function has the code of this number
+-- the entry of a declaration behind these objects; that of a function has the code of this number, whether it was written
+-- as a body or unit by unit
 abbrev pub IsEntryOf : List Payload → ℕ → Decl → Payload → Type 0
 IsEntryOf objects n (ClassDecl c b) p =
     (base : Obj) × (above : ClassBody) × (declared objects b ≡ Some base) × HasPayload objects base (payload.Class above) × (p ≡ payload.Class (record { name = c; mro = base ∷ above.mro }))
 IsEntryOf objects n (ManagerDecl m e x) p =
     (enter : Obj) × (exit : Obj) × (declared objects e ≡ Some enter) × (declared objects x ≡ Some exit) × (p ≡ payload.Manager (record { name = m; enter = enter; exit = exit }))
 IsEntryOf objects n (FunctionDecl t) p = p ≡ payload.Function (record { name = t.name; code = n })
+IsEntryOf objects n (RawDecl b) p = p ≡ payload.Function (record { name = b.name; code = n })

@@ -1,4 +1,5 @@
--- What any two runs of one script have in common.
+-- What any two runs of one script have in common, where it has no raw code: what such a code tells is not said by its
+-- meaning alone.
 use Rattle.std.specs.Prelude.{List, length, ℕ, ◌≡◌, ◌≤◌, ◌<◌}
 use Rattle.py_objects.specs.declared.payload.Payload.{Payload}
 use Rattle.py_objects.specs.declared.event.Event.{Event}
@@ -8,14 +9,17 @@ use Rattle.py_run.specs.declared.journal.Journal.{Journal}
 use Rattle.py_determined.specs.Alike.{AreAlike}
 use Rattle.py_determined.specs.Events.{SameEvents}
 use Rattle.py_determined.specs.Related.{Paired}
+use Rattle.py_meaning.specs.Core.{IsCore, IsCoreFrom}
 use Rattle.py_meaning.specs.Earlier.{NameEarlier}
 use Rattle.py_meaning.specs.Whole.{IsRunFrom, IsRunOf, IsUnfinishedFrom, IsWholeFrom}
 use Rattle.py_meaning.specs.Text.{text_of}
 
--- what is said of the objects and events of each two runs of the same declarations and drives
+-- what is said of the objects and events of each two runs of the same declarations and drives, where no declaration is a
+-- raw code
 abbrev pub OfTwoRuns : ((objects objects' : List Payload) (events events' : List Event) → Type 0) → Type 0
 OfTwoRuns claim =
-    (decls : List Decl) (drives : List DriveLine) (objects objects' : List Payload) (events events' : List Event) → NameEarlier drives
+    (decls : List Decl) (drives : List DriveLine) (objects objects' : List Payload) (events events' : List Event)
+    → IsCore decls → NameEarlier drives
     → IsRunOf decls drives objects events → IsRunOf decls drives objects' events' → claim objects objects' events events'
 
 -- the events of both are the same, as far as both go, where two objects are related that the runs pair
@@ -26,29 +30,38 @@ HaveSameEvents objects objects' events events' = SameEvents (Paired objects obje
 abbrev pub HaveAlikeObjects : (objects objects' : List Payload) (events events' : List Event) → Type 0
 HaveAlikeObjects objects objects' events events' = AreAlike (Paired objects objects' events events') objects objects'
 
--- both hold of two journals of the script that bytes are
+-- both hold of two journals of the script that bytes are, where it has no raw code; so do the claims below
 abbrev pub JournalsAreSame : Type 0
 JournalsAreSame =
-    (bytes : List ℕ) (j j' : Journal) → IsRunFrom bytes j → IsRunFrom bytes j'
+    (bytes : List ℕ) (j j' : Journal) → IsCoreFrom bytes → IsRunFrom bytes j → IsRunFrom bytes j'
     → HaveSameEvents j.objects j'.objects j.events j'.events × HaveAlikeObjects j.objects j'.objects j.events j'.events
 
 -- a journal that isn't whole is shorter than a whole one
 abbrev pub UnfinishedIsShorter : Type 0
-UnfinishedIsShorter = (bytes : List ℕ) (j j' : Journal) → IsWholeFrom bytes j → IsUnfinishedFrom bytes j' → length j'.events < length j.events
+UnfinishedIsShorter =
+    (bytes : List ℕ) (j j' : Journal) → IsCoreFrom bytes → IsWholeFrom bytes j → IsUnfinishedFrom bytes j'
+    → length j'.events < length j.events
 
 -- none is longer than a whole one
 abbrev pub NoneIsLonger : Type 0
-NoneIsLonger = (bytes : List ℕ) (j j' : Journal) → IsWholeFrom bytes j → IsRunFrom bytes j' → length j'.events ≤ length j.events
+NoneIsLonger =
+    (bytes : List ℕ) (j j' : Journal) → IsCoreFrom bytes → IsWholeFrom bytes j → IsRunFrom bytes j'
+    → length j'.events ≤ length j.events
 
 -- two whole ones are as long
 abbrev pub WholeAreAsLong : Type 0
-WholeAreAsLong = (bytes : List ℕ) (j j' : Journal) → IsWholeFrom bytes j → IsWholeFrom bytes j' → length j.events ≡ length j'.events
+WholeAreAsLong =
+    (bytes : List ℕ) (j j' : Journal) → IsCoreFrom bytes → IsWholeFrom bytes j → IsWholeFrom bytes j'
+    → length j.events ≡ length j'.events
 
 -- two of as many events have one text
 abbrev pub AsLongHaveOneText : Type 0
 AsLongHaveOneText =
-    (bytes : List ℕ) (j j' : Journal) → IsRunFrom bytes j → IsRunFrom bytes j' → length j.events ≡ length j'.events → text_of j ≡ text_of j'
+    (bytes : List ℕ) (j j' : Journal) → IsCoreFrom bytes → IsRunFrom bytes j → IsRunFrom bytes j'
+    → length j.events ≡ length j'.events → text_of j ≡ text_of j'
 
 -- and so have two whole ones
 abbrev pub WholeHaveOneText : Type 0
-WholeHaveOneText = (bytes : List ℕ) (j j' : Journal) → IsWholeFrom bytes j → IsWholeFrom bytes j' → text_of j ≡ text_of j'
+WholeHaveOneText =
+    (bytes : List ℕ) (j j' : Journal) → IsCoreFrom bytes → IsWholeFrom bytes j → IsWholeFrom bytes j'
+    → text_of j ≡ text_of j'

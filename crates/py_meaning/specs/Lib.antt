@@ -4,6 +4,8 @@ pub mod Whole
 pub mod Text
 -- how the entries of declarations come one behind the other
 pub mod Entries
+-- which scripts have no raw code
+pub mod Core
 -- which drives the lines of a script name
 pub mod Earlier
 -- what two runs of a script have in common
@@ -16,5 +18,6 @@ pub mod WorkedFinally
 pub mod WorkedCall
 pub mod WorkedGenerator
 pub mod WorkedWith
+pub mod WorkedRaw
 -- events of two runs, compared by hand
 pub mod Compared

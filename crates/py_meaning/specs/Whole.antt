@@ -1,6 +1,6 @@
 -- What a script means: which journals are runs of it.
-use Rattle.std.specs.Prelude.{ℕ, ◌⊎◌, Option, Some, None, List, [], ◌∷◌, ◌≡◌, slice_get, length, map}
-use Rattle.std.specs.List.{AllZip}
+use Rattle.std.specs.Prelude.{ℕ, ◌⊎◌, Bool, true, false, if◌then◌else◌, Option, Some, None, List, [], ◌∷◌, ◌++◌, ◌≡◌, slice_get, length, map, take}
+use Rattle.std.specs.List.{AllZip, list_any}
 use Rattle.std.specs.List.Sorted.{IsPermutation}
 use Rattle.py_objects.specs.declared.refs.PyTypeRef.{PyTypeRef}
 use Rattle.py_objects.specs.declared.payload.Payload.{Payload}
@@ -18,15 +18,22 @@ use Rattle.py_objects.specs.declared.event.Event.{Event}
 use Rattle.py_objects.specs.declared.event.Event.TheVariants as event
 use Rattle.py_objects.specs.ErrorKinds.{name_of}
 use Rattle.py_objects.specs.Objects.{Obj, Name, HasPayload, as_object, declared, AllFit}
-use Rattle.py_tree.specs.Tree.{Tree, seen_as}
-use Rattle.py_tree.specs.Scene.{anywhere}
+use Rattle.py_objects.specs.Own.{Own}
+use Rattle.py_tree.specs.declared.body.BodyKind.{BodyKind}
+use Rattle.py_tree.specs.declared.body.BodyKind.TheVariants.{Function, Generator}
+use Rattle.py_tree.specs.Tree.{seen_as}
+use Rattle.py_tree.specs.Scene.{Scene, anywhere}
 use Rattle.py_tree.specs.Trace.{IsTrace}
 use Rattle.py_lines.specs.declared.drive.DriveAtom.{DriveAtom}
 use Rattle.py_lines.specs.declared.drive.DriveAtom.TheVariants as atom
 use Rattle.py_lines.specs.declared.drive.DriveLine.{DriveLine}
 use Rattle.py_lines.specs.declared.drive.DriveLine.TheVariants as drive
+use Rattle.py_lines.specs.declared.flag.RawFlag.{RawFlag}
+use Rattle.py_lines.specs.declared.flag.RawFlag.TheVariants as flag
+use Rattle.py_grammar.specs.declared.raw_block.RawBlock.{RawBlock}
+use Rattle.py_grammar.specs.declared.raw_block.RawCounts.{RawCounts}
 use Rattle.py_grammar.specs.declared.script.Script.{Script}
-use Rattle.py_grammar.specs.Grammar.{Decl, ClassDecl, ManagerDecl, decl_name, functions_in}
+use Rattle.py_grammar.specs.Grammar.{Decl, ClassDecl, ManagerDecl, decl_name, Coded, OfBody, OfRaw, coded_name, codes_in}
 use Rattle.py_grammar.specs.Script.{decls_of, IsScript}
 use Rattle.py_exceptions.specs.BuiltIn.{IsClassOf}
 use Rattle.py_run.specs.declared.journal.Journal.{Journal}
@@ -88,13 +95,33 @@ AreAsked objects events ds [] = Unit {0}
 AreAsked objects events [] (q ∷ qs) = ⊥
 AreAsked objects events (d ∷ ds) (q ∷ qs) = Asks objects events d q × AreAsked objects events ds qs
 
--- the signature of a function: its parameters, and what its activations are seen as where they can be suspended
-abbrev pub signature_of : Tree → Signature
-signature_of t = record { params = t.params; kind = seen_as t.kind }
+-- how many parameters a raw code has: as many as its counts say that take positional arguments, and where it has none, as
+-- many as its first line names
+abbrev pub arity : RawBlock → Option RawCounts → ℕ
+arity b None = length b.params
+arity b (Some c) = c.args
 
--- what a run of these functions is of, where the drives that were begun ask this
-abbrev pub plan_of : List Tree → List Posed → Plan
-plan_of trees asked = record { signatures = map signature_of trees; asked = asked }
+-- the first so many of its locals, which are the names of its first line and those of its vars behind them
+abbrev pub raw_params : RawBlock → List Name
+raw_params b = take (arity b b.counts) (b.params ++ b.vars)
+
+-- a flag by which a call makes a generator
+abbrev pub is_gen : RawFlag → Bool
+is_gen flag.Gen = true
+is_gen _ = false
+
+-- what a raw code is by its flags: no other that frames heed makes what can be suspended
+abbrev pub raw_kind : RawBlock → BodyKind
+raw_kind b = if list_any is_gen b.flags then Generator else Function
+
+-- the signature of a code: its parameters, and what its activations are seen as where they can be suspended
+abbrev pub signature_of : Coded → Signature
+signature_of (OfBody t) = record { params = t.params; kind = seen_as t.kind }
+signature_of (OfRaw b) = record { params = raw_params b; kind = seen_as (raw_kind b) }
+
+-- what a run of these codes is of, where the drives that were begun ask this
+abbrev pub plan_of : List Coded → List Posed → Plan
+plan_of coded asked = record { signatures = map signature_of coded; asked = asked }
 
 -- a pair binds the name of a declaration, as a text, to the object that is declared under it
 abbrev pub Binds : List Payload → Decl → Obj × Obj → Type 0
@@ -108,9 +135,9 @@ pub record AreGlobals (decls : List Decl) (objects : List Payload) (globals : Ob
   pub bind : AllZip (Binds objects) decls bindings
   pub same : IsPermutation bindings pairs
 
--- a function has its entry, which is declared under its name and names the code of this number
-abbrev pub HasFunction : List Payload → ℕ → Tree → Type 0
-HasFunction objects i t = (f : Obj) × (declared objects t.name ≡ Some f) × HasPayload objects f (payload.Function (record { name = t.name; code = i }))
+-- the function of a code has its entry, which is declared under its name and names the code of this number
+abbrev pub HasFunction : List Payload → ℕ → Coded → Type 0
+HasFunction objects i c = (f : Obj) × (declared objects (coded_name c) ≡ Some f) × HasPayload objects f (payload.Function (record { name = coded_name c; code = i }))
 
 -- a class has its entry, which is declared under its name: it derives from what is declared under its base's name, and then from all that that
 -- class derives from
@@ -145,15 +172,15 @@ IsDeclaredClass decls objects v = (i : ℕ) × (c : Name) × (b : Name) × (slic
 abbrev pub IsDeclaredManager : List Decl → List Payload → Obj → Type 0
 IsDeclaredManager decls objects v = (i : ℕ) × (m : Name) × (e : Name) × (x : Name) × (slice_get decls i ≡ Some (ManagerDecl m e x)) × (declared objects m ≡ Some v)
 
--- a function that they declare, whose body has its place among the bodies
+-- a function that they declare, whose code has its place among the codes
 abbrev pub IsDeclaredFunction : List Decl → List Payload → Obj → FunctionBody → Type 0
-IsDeclaredFunction decls objects v b = (t : Tree) × (slice_get (functions_in decls) b.code ≡ Some t) × (b.name ≡ t.name) × (declared objects t.name ≡ Some v)
+IsDeclaredFunction decls objects v b = (c : Coded) × (slice_get (codes_in decls) b.code ≡ Some c) × (b.name ≡ coded_name c) × (declared objects (coded_name c) ≡ Some v)
 
 -- the objects of a script: each function, class and manager that it declares, and each built-in class, has its entry, where a function's has the
--- place of its body among the bodies; no other function, class or manager is there; each entry names objects that are there, of the kinds that it
+-- place of its code among the codes; no other function, class or manager is there; each entry names objects that are there, of the kinds that it
 -- needs
 pub record AreObjects (decls : List Decl) (objects : List Payload) : Type 0 where
-  pub functions : (i : ℕ) (t : Tree) → slice_get (functions_in decls) i ≡ Some t → HasFunction objects i t
+  pub functions : (i : ℕ) (c : Coded) → slice_get (codes_in decls) i ≡ Some c → HasFunction objects i c
   pub classes : (i : ℕ) (c b : Name) → slice_get decls i ≡ Some (ClassDecl c b) → HasClass objects c b
   pub managers : (i : ℕ) (m e x : Name) → slice_get decls i ≡ Some (ManagerDecl m e x) → HasManager objects m e x
   pub builtins : (kind : ErrorKind) → (c : PyTypeRef) × IsClassOf objects kind c
@@ -162,10 +189,18 @@ pub record AreObjects (decls : List Decl) (objects : List Payload) : Type 0 wher
   pub only_managers : (m : Obj) (b : ManagerBody) → HasPayload objects m (payload.Manager b) → IsDeclaredManager decls objects m
   pub fit : AllFit objects
 
--- an activation's own events are a trace of the body of its function, where this is the dict of the globals
-abbrev pub Traces : List Tree → Obj → List Payload → May
-Traces trees globals objects f vs own =
-    (b : FunctionBody) × HasPayload objects f (payload.Function b) × ((t : Tree) × (slice_get trees b.code ≡ Some t) × IsTrace (anywhere objects globals) t vs own)
+-- an activation of a code may tell these own events where it runs here: that of a body, a trace of it. What one of a raw
+-- code tells is said by the claim that a run has the runs of its codes (`RunsItsCodes` in py_script), which stands beside
+-- `IsRun` wherever a run is claimed: alone this lets it tell anything, and so two runs are compared of scripts without raw
+-- codes only (`IsCore`)
+abbrev pub Tells : Scene → Coded → List Obj → List Own → Type 0
+Tells scene (OfBody t) vs own = IsTrace scene t vs own
+Tells scene (OfRaw b) vs own = Unit {0}
+
+-- an activation's own events are what one of the code of its function may tell, where this is the dict of the globals
+abbrev pub Traces : List Coded → Obj → List Payload → May
+Traces coded globals objects f vs own =
+    (b : FunctionBody) × HasPayload objects f (payload.Function b) × ((c : Coded) × (slice_get coded b.code ≡ Some c) × Tells (anywhere objects globals) c vs own)
 
 -- a prefix of a run of these declarations and drives
 pub record IsRunOf (decls : List Decl) (drives : List DriveLine) (objects : List Payload) (events : List Event) : Type 0 where
@@ -173,7 +208,7 @@ pub record IsRunOf (decls : List Decl) (drives : List DriveLine) (objects : List
   pub are_asked : AreAsked objects events drives asked
   pub globals : Obj  -- one and the same dict throughout
   pub are_globals : AreGlobals decls objects globals
-  pub run : IsRunBy (Traces (functions_in decls) globals objects) (plan_of (functions_in decls) asked) objects events
+  pub run : IsRunBy (Traces (codes_in decls) globals objects) (plan_of (codes_in decls) asked) objects events
   pub are_objects : AreObjects decls objects
 
 -- the journal is a prefix of a run of these declarations and drives

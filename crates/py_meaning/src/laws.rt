@@ -12,7 +12,9 @@ ghost use Rattle.py_meaning.specs.Laws.{
   WholeHaveOneText,
 };
 
-/// States laws, and does nothing. Two runs of the same declarations and drives are the same, event by event, as far as both go, but for the numbers
+/// States laws of scripts without raw codes, and does nothing.
+///
+/// Two runs of the same declarations and drives are the same, event by event, as far as both go, but for the numbers
 /// of objects and of units: their events are of one kind, of one drive or activation, and name related objects, where two objects are related that
 /// one literal may stand for, that are declared under one name, or that the events name at one place; and these are alike. So where the script that
 /// bytes are has a whole run, no other is longer, and one that isn't whole is shorter; runs of as many events have one text, and so have all whole ones.

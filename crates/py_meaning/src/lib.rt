@@ -9,6 +9,7 @@ mod worked_call;
 mod worked_finally;
 mod worked_generator;
 mod worked_loop;
+mod worked_raw;
 mod worked_show;
 mod worked_with;
 
@@ -19,5 +20,6 @@ pub use worked_call::worked_calls;
 pub use worked_finally::worked_finallies;
 pub use worked_generator::worked_generators;
 pub use worked_loop::worked_loops;
+pub use worked_raw::worked_raws;
 pub use worked_show::worked_shows;
 pub use worked_with::worked_withs;

@@ -1,18 +1,16 @@
 -- One declaration more of a list that is gone through in order.
-use Rattle.std.proofs.Common.{◌≡◌, ◌<◌, ◌≤◌, ◌+◌, ℕ, List, [], ◌∷◌, ◌++◌, length, take, drop, get_or, Some, None, refl, sym, ap, ◌∙◌, subst, arith, length-append, take-append-drop}
+use Rattle.std.proofs.Common.{◌≡◌, ◌<◌, ◌≤◌, ◌+◌, ℕ, List, [], ◌∷◌, ◌++◌, length, take, drop, get_or, Some, None, refl, sym, ap, ◌∙◌, subst, arith, length-append, append_assoc, take-append-drop}
 use Rattle.std.specs.Prelude.{map, slice_get}
 use Rattle.std.proofs.lemmas.List.{map-append, length-map, length-take-le, take-append-le, take_all}
 use Rattle.py_objects.specs.declared.payload.Payload.{Payload}
 use Rattle.py_objects.specs.declared.payload.Payload.TheVariants as payload
 use Rattle.py_objects.specs.Objects.{declared}
 use Rattle.py_objects.proofs.GrowthLemmas.{slice_get_grown}
-use Rattle.py_tree.specs.declared.body.Body.{Body}
 use Rattle.py_grammar.specs.declared.script.Declaration.{Declaration}
-use Rattle.py_grammar.specs.declared.script.Declaration.TheVariants.{Class, Manager, Function}
-use Rattle.py_grammar.specs.Grammar.{Decl, decl_name, functions_in}
+use Rattle.py_grammar.specs.Grammar.{Decl, Coded, decl_name, codes_in}
 use Rattle.py_grammar.specs.Script.{decl_of}
 use Rattle.py_grammar.specs.WellFormed.{IsWellDeclared}
-use Rattle.py_grammar.proofs.Tables.{functions_in-append}
+use Rattle.py_grammar.proofs.Tables.{codes_in-append}
 use Rattle.py_run.specs.First.{first_objects}
 use Rattle.py_vm.specs.Machine.{Machine}
 use Rattle.py_meaning.specs.Whole.{AreObjects}
@@ -21,12 +19,6 @@ use Rattle.py_script.specs.Loaded.{HasNone, HasObjects}
 use Rattle.py_meaning.proofs.Behind.{none_declared}
 use Rattle.py_script.proofs.Declarations.{entry_mapped, entry_read, front_more}
 use Rattle.py_meaning.proofs.Entries.{MayBeAdded, entry_added, founded, new_name, one_declared}
-
--- a declaration that is no function's has no code
-pub no_function : (d : Declaration) → ((b : Body) → d ≡ Function b → ⊥) → functions_in (decl_of d ∷ []) ≡ []
-no_function (Class c b) none = refl
-no_function (Manager m e x) none = refl
-no_function (Function b) none = absurd (none b refl)
 
 -- no declaration was gone through yet
 pub nothing_added : (vm : Machine) → vm.objects ≡ first_objects → HasObjects [] vm vm
@@ -39,19 +31,25 @@ module _ (ds : List Declaration) (i : ℕ) (d : Declaration) (low : i < length d
   there : slice_get (map decl_of ds) i ≡ Some (decl_of d)
   there = entry_mapped decl_of ds i d (entry_read ds i d low is)
 
-  -- the functions up to it
-  pub functions_more : functions_in (map decl_of (take (i + 1) ds)) ≡ functions_in front ++ functions_in (decl_of d ∷ [])
-  functions_more = ap functions_in (front_more decl_of ds i d low is) ∙ functions_in-append front (decl_of d ∷ [])
+  -- the codes up to it
+  pub codes_more : codes_in (map decl_of (take (i + 1) ds)) ≡ codes_in front ++ codes_in (decl_of d ∷ [])
+  codes_more = ap codes_in (front_more decl_of ds i d low is) ∙ codes_in-append front (decl_of d ∷ [])
+
+  -- all of them are those before it, its own, and those after it
+  pub codes_whole : codes_in (map decl_of ds) ≡ codes_in front ++ (codes_in (decl_of d ∷ []) ++ codes_in (map decl_of (drop (i + 1) ds)))
+  codes_whole =
+      ap (λ (xs : List Declaration). codes_in (map decl_of xs)) (sym (take-append-drop (i + 1) ds))
+      ∙ (ap codes_in (map-append decl_of (take (i + 1) ds) (drop (i + 1) ds)) ∙ (codes_in-append (map decl_of (take (i + 1) ds)) (map decl_of (drop (i + 1) ds))
+      ∙ (ap (λ (ks : List Coded). ks ++ codes_in (map decl_of (drop (i + 1) ds))) codes_more ∙ append_assoc (codes_in front) (codes_in (decl_of d ∷ [])) (codes_in (map decl_of (drop (i + 1) ds))))))
 
   -- they are no more than all
-  pub few_functions : length (functions_in front) + length (functions_in (decl_of d ∷ [])) ≤ length (functions_in (map decl_of ds))
-  few_functions =
-      let whole : functions_in (map decl_of ds) ≡ functions_in (map decl_of (take (i + 1) ds)) ++ functions_in (map decl_of (drop (i + 1) ds)) =
-      ap (λ (xs : List Declaration). functions_in (map decl_of xs)) (sym (take-append-drop (i + 1) ds))
-      ∙ (ap functions_in (map-append decl_of (take (i + 1) ds) (drop (i + 1) ds)) ∙ functions_in-append (map decl_of (take (i + 1) ds)) (map decl_of (drop (i + 1) ds))) in
-      let some = ap length whole ∙ length-append (functions_in (map decl_of (take (i + 1) ds))) (functions_in (map decl_of (drop (i + 1) ds))) in
-      let first = ap length functions_more ∙ length-append (functions_in front) (functions_in (decl_of d ∷ [])) in
-      omega (arith, some, first)
+  pub few_codes : length (codes_in front) + length (codes_in (decl_of d ∷ [])) ≤ length (codes_in (map decl_of ds))
+  few_codes =
+      let own : List Coded = codes_in (decl_of d ∷ []) in
+      let others : List Coded = codes_in (map decl_of (drop (i + 1) ds)) in
+      let all = ap length codes_whole ∙ length-append (codes_in front) (own ++ others) in
+      let behind = length-append own others in
+      omega (arith, all, behind)
 
   module _ (well : AreWellDeclared (map decl_of ds)) where
     -- those in front of it are the first of all
@@ -73,11 +71,11 @@ module _ (ds : List Declaration) (i : ℕ) (d : Declaration) (low : i < length d
     founded_next objects are = founded front objects are (decl_of d) well_next.founded
 
     -- its entry may be added
-    pub entry_next : (objects : List Payload) (codes : ℕ) (n : ℕ) (p : Payload) → AreObjects front objects → n ≡ length (functions_in front) → length (functions_in (map decl_of ds)) ≤ codes → IsEntryOf objects n (decl_of d) p → MayBeAdded objects codes p
-    entry_next objects codes n p are same enough entry = entry_added objects codes n (decl_of d) p are.fit (founded_next objects are) entry (omega (arith, few_functions, same, enough))
+    pub entry_next : (objects : List Payload) (codes : ℕ) (n : ℕ) (p : Payload) → AreObjects front objects → n ≡ length (codes_in front) → length (codes_in (map decl_of ds)) ≤ codes → IsEntryOf objects n (decl_of d) p → MayBeAdded objects codes p
+    entry_next objects codes n p are same enough entry = entry_added objects codes n (decl_of d) p are.fit (founded_next objects are) entry (omega (arith, few_codes, same, enough))
 
     -- and with it these are the objects of one more
-    pub added_next : (old now new : Machine) (n : ℕ) (p : Payload) → HasObjects front old now → n ≡ length (functions_in front) → IsEntryOf now.objects n (decl_of d) p
+    pub added_next : (old now new : Machine) (n : ℕ) (p : Payload) → HasObjects front old now → n ≡ length (codes_in front) → IsEntryOf now.objects n (decl_of d) p
         → new ≡ record now { objects = now.objects ++ p ∷ [] } → HasObjects (map decl_of (take (i + 1) ds)) old new
     added_next old now new n p has same entry made =
         let objects : now.objects ++ p ∷ [] ≡ new.objects = ap (λ (m : Machine). m.objects) (sym made) in

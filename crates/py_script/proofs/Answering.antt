@@ -8,7 +8,9 @@ use Rattle.py_vm.specs.declared.fault.VmFault.TheVariants as vm_fault
 use Rattle.py_run.specs.declared.journal.Journal.{Journal}
 use Rattle.py_script.specs.declared.fault.ScriptFault.{ScriptFault}
 use Rattle.py_script.specs.declared.fault.ScriptFault.TheVariants as fault
+use Rattle.py_grammar.specs.Script.{decls_of}
 use Rattle.py_script.specs.Answered.{IsPartOfRun, IsWholeRun, IsCutRun}
+use Rattle.py_script.specs.Broken.{IsBrokenFrom, IsFirstBroken}
 use Rattle.py_script.specs.Steps.{IsReading, HasRun, IsWriting, result_in}
 use Rattle.py_script.specs.Causes.{IsAnswer, IsWritten, WasRead}
 
@@ -35,7 +37,7 @@ module _ (before after : SourceSeen) (sink sink' : SinkSeen) (turns : ℕ) where
       → IsAnswer before after turns (Err f)
   unwritten j (fault.WriteFault k) was is =
       let P : Journal → Type 0 = λ k. IsAnswer before after turns (Err (fault.WriteFault k)) in subst P (sym is.0) was
-  unwritten j (fault.Refused code at) was is = is
+  unwritten j (fault.Refused code at) was is = absurd is
   unwritten j (fault.NoMemory k) was is =
       let P : Journal → Type 0 = λ k. IsAnswer before after turns (Err (fault.NoMemory k)) in
       subst P (sym is.0) (inr (claims_more _ _ before after (λ bytes. part bytes turns j) was))
@@ -56,8 +58,11 @@ module _ (before after : SourceSeen) (sink sink' : SinkSeen) (turns : ℕ) where
 
   -- a run that memory ended
   pub answered_no_memory : (s : Script) (j : Journal) → IsReading before after (Ok s) → HasRun s turns j (Err vm_fault.NoMemory) → IsAnswer before after turns (Err (fault.NoMemory j))
-  answered_no_memory s j read (inl empty) = inl empty
-  answered_no_memory s j read (inr (run, short, codes)) = inr (claims_more _ (λ bytes. IsPartOfRun bytes turns j) before after (λ bytes is. (s, is, run, short, codes)) read)
+  answered_no_memory s j read (run, short, codes) = inr (claims_more _ (λ bytes. IsPartOfRun bytes turns j) before after (λ bytes is. (s, is, run, short, codes)) read)
+
+  -- a script that was refused
+  pub answered_refused : (s : Script) (code at : ℕ) → IsReading before after (Ok s) → IsFirstBroken (decls_of s) code at → IsAnswer before after turns (Err (fault.Refused code at))
+  answered_refused s code at read broken = claims_more _ (λ bytes. IsBrokenFrom bytes code at) before after (λ bytes is. (s, is, broken)) read
 
   -- a cut run that wasn't written whole, handed on
   pub answered_cut_unwritten : (s : Script) (j : Journal) (f : ScriptFault) (r : Result Journal ScriptFault) → IsErrAnd r (λ given. given ≡ f) → IsReading before after (Ok s)
@@ -76,7 +81,7 @@ module _ (before after : SinkSeen) (j : Journal) where
   written_answer (Err (fault.WriteFault k)) is =
       let P : Journal → Type 0 = λ k. IsWritten before after (result_in (Err (fault.WriteFault k))) in subst P (sym is.0) (is.1, is.2)
   written_answer (Err (fault.NoMemory k)) is = is.1
-  written_answer (Err (fault.Refused code at)) is = is
+  written_answer (Err (fault.Refused code at)) is = absurd is
   written_answer (Err _) is = absurd is
 
   -- also of a fault that is handed on

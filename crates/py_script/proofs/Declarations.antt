@@ -1,12 +1,13 @@
--- The codes of a script's functions, one behind the other.
-use Rattle.std.proofs.Common.{◌≡◌, ◌<◌, ◌≤◌, ◌+◌, ℕ, zero, suc, List, [], ◌∷◌, ◌++◌, length, Some, refl, sym, ap, ◌∙◌, subst, arith, length-append, append_assoc, ◌⊎◌, inl, inr, get_or, take}
-use Rattle.std.specs.Prelude.{Option, option_map, chars, slice_get, map, All}
+-- The codes that a script declares, one behind the other.
+use Rattle.std.proofs.Common.{◌≡◌, ◌<◌, ◌≤◌, ◌+◌, ℕ, zero, suc, List, [], ◌∷◌, ◌++◌, length, Some, refl, sym, ap, ◌∙◌, subst, arith, length-append, append-nil, append_assoc, ◌⊎◌, inl, inr, get_or, take}
+use Rattle.std.specs.Prelude.{Option, option_map, chars, slice_get, map}
 use Rattle.std.specs.List.{list_all}
-use Rattle.std.proofs.lemmas.List.{map-append, length-map, length-take-le, take_all}
+use Rattle.std.proofs.lemmas.List.{map-append, length-map, length-take-le, take-append-le, take_all}
 use Rattle.std.proofs.lemmas.Grind.{take_at_read}
-use Rattle.std.proofs.lemmas.Option.{slice_get-map, slice_get-get_or}
+use Rattle.std.proofs.lemmas.Option.{slice_get-map, slice_get-get_or, slice_get_within}
 use Rattle.py_code.specs.declared.flags.CodeFlags.{CodeFlags}
 use Rattle.py_code.specs.declared.flags.TheConstants.CodeFlags.{HAS_VARARGS, HAS_VARKEYWORDS}
+use Rattle.py_code.specs.declared.code.PyCode.{PyCode}
 use Rattle.py_code.specs.declared.names.NameId.{NameId}
 use Rattle.py_check.specs.declared.annotated.Annotated.{Annotated}
 use Rattle.py_check.specs.WholeCode.{counts_if}
@@ -14,7 +15,7 @@ use Rattle.py_objects.specs.declared.payload.CoroKind.{CoroKind}
 use Rattle.py_objects.specs.Objects.{Obj, Name, numbers, AllBelow}
 use Rattle.py_rows.specs.Asked.{name_in}
 use Rattle.py_rows.specs.Signature.{characters, kind_of, params_of}
-use Rattle.py_rows.specs.Sound.{ArePlaces, IsSound}
+use Rattle.py_rows.specs.Sound.{AreNames, ArePlaces, IsSound}
 use Rattle.py_objects.proofs.GrowthLemmas.{slice_get_grown}
 use Rattle.py_tree.specs.declared.body.BodyKind.{BodyKind}
 use Rattle.py_tree.specs.declared.body.BodyKind.TheVariants as kind
@@ -22,15 +23,17 @@ use Rattle.py_tree.specs.Tree.{Tree, seen_as}
 use Rattle.py_laid.specs.Code.{IsPlain, flags_of}
 use Rattle.py_laid.specs.Fits.{Fits, Continues}
 use Rattle.py_grammar.specs.declared.script.Declaration.{Declaration}
-use Rattle.py_grammar.specs.Grammar.{Decl}
+use Rattle.py_grammar.specs.Grammar.{Decl, Coded, OfBody, OfRaw}
 use Rattle.py_grammar.specs.Script.{decl_of}
 use Rattle.py_run.specs.Run.{Signature}
-use Rattle.py_vm.specs.Codes.{Checked, IsDriven, TakesPositional, plain_codes, signature_in, signatures_of, takes_none}
+use Rattle.py_vm.specs.Codes.{Checked, CodeIsAnswered, IsDriven, TakesPositional, plain_codes, shapes_of, signature_in, signatures_of, takes_none}
 use Rattle.py_run.proofs.BoundLemmas.{AreSigned}
 use Rattle.py_objects.proofs.NewLemmas.{newest}
 use Rattle.py_meaning.specs.Whole.{signature_of}
-use Rattle.py_script.specs.Compiled.{AreCompiled}
-use Rattle.py_script.specs.Loaded.{AreChecked, IsLoadable}
+use Rattle.py_script.specs.Compiled.{AreCompiled, IsCodeOf}
+use Rattle.py_script.specs.Loaded.{AreChecked, AreLoadable, AreReady, IsLoadable, IsReadyCode}
+use Rattle.py_script.specs.Shapes.{free_names, shapes_before}
+use Rattle.py_raw.proofs.AssembledLemmas.{assembled_continues}
 use Rattle.py_meaning.proofs.Entries.{one_more}
 
 -- the entry of a list that is mapped
@@ -55,19 +58,23 @@ front_whole f xs i high = ap (map f) (take_all i xs high)
 pub of_decls : (P : List Decl → Type 0) (some all : List Declaration) → some ≡ all → P (map decl_of some) → P (map decl_of all)
 of_decls P some all same is = subst (λ (l : List Declaration). P (map decl_of l)) same is
 
--- a code that is sound for a table is so for one that goes on
-sound_continues : (names names' : List (List ℕ)) (c : Annotated) → Continues names names' → IsSound names c → IsSound names' c
-sound_continues names names' c (more, is) sound =
+-- names that are places in a table are so in one that goes on
+names_continue : (names names' : List (List ℕ)) (c : PyCode) → Continues names names' → AreNames names c → AreNames names' c
+names_continue names names' c (more, is) named =
     let size : length names' ≡ length names + length more = ap length is ∙ length-append names more in
     record {
-      shapes = sound.shapes;
-      typed = sound.typed;
-      runs = sound.runs;
-      named = record {
-        locals = λ i id at. let low = sound.named.locals i id at in omega (arith, low, size);
-        globals = λ i id at. let low = sound.named.globals i id at in omega (arith, low, size);
-      };
+      locals = λ i id at. let low = named.locals i id at in omega (arith, low, size);
+      globals = λ i id at. let low = named.globals i id at in omega (arith, low, size);
     }
+
+-- a code that is sound for a table is so for one that goes on
+sound_continues : (names names' : List (List ℕ)) (c : Annotated) → Continues names names' → IsSound names c → IsSound names' c
+sound_continues names names' c grows sound = record {
+  shapes = sound.shapes;
+  typed = sound.typed;
+  runs = sound.runs;
+  named = names_continue names names' c.code grows sound.named;
+}
 
 -- a list that goes on goes on also where that goes on
 continues_on : (a b c : List (List ℕ)) → Continues a b → Continues b c → Continues a c
@@ -86,17 +93,17 @@ params_stay names more (suc n) (id ∷ ids) there =
     let others = params_stay names more n ids (λ i k at. there (suc i) k at) in
     λ k. one k ∷ others k
 
--- so do the parameters of a code that fits
-params_continue : (names names' : List (List ℕ)) (c : Annotated) (t : Tree) → Continues names names' → Fits names c t → params_of names' c.code ≡ t.params
-params_continue names names' c t (more, is) fits =
-    ap (λ (table : List (List ℕ)). params_of table c.code) is ∙ params_stay names more c.code.code.arg_count c.code.code.varnames.items fits.sound.named.locals ∙ fits.params
+-- so do the parameters of a code
+params_continue : (names names' : List (List ℕ)) (c : PyCode) → Continues names names' → AreNames names c → params_of names' c ≡ params_of names c
+params_continue names names' c (more, is) named =
+    ap (λ (table : List (List ℕ)). params_of table c) is ∙ params_stay names more c.code.arg_count c.code.varnames.items named.locals
 
 -- so it fits its tree
 fits_continues : (names names' : List (List ℕ)) (c : Annotated) (t : Tree) → Continues names names' → Fits names c t → Fits names' c t
 fits_continues names names' c t grows fits = record {
   kind = fits.kind;
   arity = fits.arity;
-  params = params_continue names names' c t grows fits;
+  params = params_continue names names' c.code grows fits.sound.named ∙ fits.params;
   sound = sound_continues names names' c grows fits.sound;
   typed = fits.typed;
   traces = λ table globals closure objects slot args ts s on. fits.traces table globals closure objects slot args ts s (continues_on names names' table grows on);
@@ -128,28 +135,88 @@ plain_positional c t plain = record {
     no_varkeywords kind.Function = refl
     no_varkeywords kind.Generator = refl
 
--- no body is compiled yet
-pub none_checked : (names : List (List ℕ)) → AreChecked [] (record { names = names; codes = [] })
-none_checked names = record { count = refl; fit = λ i t none. absurd (cc none) }
+-- a code of something is so also with names that go on
+code_continues : (names names' : List (List ℕ)) (shapes : List ℕ) (c : Annotated) (k : Coded) → Continues names names' → IsCodeOf names shapes c k → IsCodeOf names' shapes c k
+code_continues names names' shapes c (OfBody t) grows is = fits_continues names names' c t grows is
+code_continues names names' shapes c (OfRaw b) grows is = (assembled_continues names names' c b grows is.0, is.1)
 
--- one more body is compiled, as the table goes on
-pub checked_more : (ts : List Tree) (names names' : List (List ℕ)) (cs : List Annotated) (t : Tree) (c : Annotated) → AreChecked ts (record { names = names; codes = cs })
-    → Continues names names' → Fits names' c t → AreChecked (ts ++ t ∷ []) (record { names = names'; codes = cs ++ c ∷ [] })
-checked_more ts names names' cs t c all grows fits = record {
-  count = length-append cs (c ∷ []) ∙ ap (λ n. n + 1) all.count ∙ sym (length-append ts (t ∷ []));
-  fit = λ i u is. go i u (one_more ts t u i is);
+-- and it is ready
+ready_continues : (names names' : List (List ℕ)) (shapes : List ℕ) (c : Annotated) (k : Coded) → Continues names names' → IsReadyCode names shapes c k → IsReadyCode names' shapes c k
+ready_continues names names' shapes c k grows ready =
+    let named = ready.loadable.named in
+    record {
+      is = code_continues names names' shapes c k grows ready.is;
+      signed = ready.signed ∙ ap (λ (xs : List Name). let s : Signature = record { params = xs; kind = kind_of c.code.code.flags } in s) (sym (params_continue names names' c.code grows named));
+      free = ready.free;
+      loadable = record { typed = ready.loadable.typed; runs = ready.loadable.runs; named = names_continue names names' c.code grows named; answered = ready.loadable.answered };
+    }
+
+-- there is no code yet
+pub none_ready : (names : List (List ℕ)) → AreReady [] (record { names = names; codes = [] })
+none_ready names = record { count = refl; fit = λ i k none. absurd (cc none) }
+
+-- codes stay ready as the table goes on
+pub ready_stays : (coded : List Coded) (names names' : List (List ℕ)) (cs : List Annotated) → AreReady coded (record { names = names; codes = cs }) → Continues names names'
+    → AreReady coded (record { names = names'; codes = cs })
+ready_stays coded names names' cs all grows = record {
+  count = all.count;
+  fit = λ i k is. let (c, at, ready) = all.fit i k is in (c, at, ready_continues names names' (shapes_before coded i) c k grows ready);
+}
+
+-- the codes before one of a list stay those before it as the list goes on
+shapes_stay : (coded : List Coded) (k : Coded) (i : ℕ) → i ≤ length coded → shapes_before (coded ++ k ∷ []) i ≡ shapes_before coded i
+shapes_stay coded k i low = ap (map free_names) (take-append-le i coded (k ∷ []) low)
+
+-- and those before the last are all others
+shapes_whole : (coded : List Coded) (k : Coded) → shapes_before (coded ++ k ∷ []) (length coded) ≡ map free_names coded
+shapes_whole coded k = shapes_stay coded k (length coded) (omega arith) ∙ ap (map free_names) (take_all (length coded) coded (omega arith))
+
+-- there is one code more, as the table goes on
+pub ready_more : (coded : List Coded) (names names' : List (List ℕ)) (cs : List Annotated) (k : Coded) (c : Annotated) → AreReady coded (record { names = names; codes = cs })
+    → Continues names names' → IsReadyCode names' (map free_names coded) c k → AreReady (coded ++ k ∷ []) (record { names = names'; codes = cs ++ c ∷ [] })
+ready_more coded names names' cs k c all grows own = record {
+  count = length-append cs (c ∷ []) ∙ ap (λ n. n + 1) all.count ∙ sym (length-append coded (k ∷ []));
+  fit = λ i u is. go i u (one_more coded k u i is);
 }
   where
-    go : (i : ℕ) (u : Tree) → (slice_get ts i ≡ Some u) ⊎ ((i ≡ length ts) × (t ≡ u)) → (d : Annotated) × (slice_get (cs ++ c ∷ []) i ≡ Some d) × Fits names' d u
-    go i u (inl old) = let k = all.fit i u old in (k.0, slice_get_grown cs (c ∷ []) i k.0 k.1, fits_continues names names' k.0 u grows k.2)
-    go i u (inr (at, new)) = (c, ap (slice_get (cs ++ c ∷ [])) (at ∙ sym all.count) ∙ newest cs c, subst (λ (u : Tree). Fits names' c u) new fits)
+    go : (i : ℕ) (u : Coded) → (slice_get coded i ≡ Some u) ⊎ ((i ≡ length coded) × (k ≡ u))
+        → (d : Annotated) × (slice_get (cs ++ c ∷ []) i ≡ Some d) × IsReadyCode names' (shapes_before (coded ++ k ∷ []) i) d u
+    go i u (inl old) =
+        let (d, at, ready) = all.fit i u old in
+        let low : i < length coded = slice_get_within coded i u old in (
+          d,
+          slice_get_grown cs (c ∷ []) i d at,
+          subst (λ (s : List ℕ). IsReadyCode names' s d u) (sym (shapes_stay coded k i (omega (arith, low)))) (ready_continues names names' (shapes_before coded i) d u grows ready),
+        )
+    go i u (inr (at, new)) =
+        let here : IsReadyCode names' (shapes_before (coded ++ k ∷ []) i) c k =
+        subst (λ (s : List ℕ). IsReadyCode names' s c k) (sym (ap (shapes_before (coded ++ k ∷ [])) at ∙ shapes_whole coded k)) own in
+        (c, ap (slice_get (cs ++ c ∷ [])) (at ∙ sym all.count) ∙ newest cs c, subst (IsReadyCode names' (shapes_before (coded ++ k ∷ []) i) c) new here)
 
--- what holds of all holds of the first and of the others
-pub first_of_all : {X : Type 0} (P : X → Type 0) (x : X) (xs : List X) → All P (x ∷ xs) → P x
-first_of_all P x xs all = all 0 x (omega arith)
+-- how many free names the codes have, as they are counted from what they are of
+pub shapes_more : (coded : List Coded) (shapes : List ℕ) (names : List (List ℕ)) (k : Coded) (c : Annotated) → shapes ≡ map free_names coded → IsReadyCode names shapes c k
+    → shapes ++ length c.code.code.freevars.items ∷ [] ≡ map free_names (coded ++ k ∷ [])
+shapes_more coded shapes names k c is ready =
+    ap (λ (n : ℕ). shapes ++ n ∷ []) ready.free ∙ (ap (λ (s : List ℕ). s ++ free_names k ∷ []) is ∙ sym (map-append free_names coded (k ∷ [])))
 
-pub others_of_all : {X : Type 0} (P : X → Type 0) (x : X) (xs : List X) → All P (x ∷ xs) → All P xs
-others_of_all P x xs all = λ i y low. all (suc i) y (omega (arith, low))
+-- the front of two lists maps alike where each two entries do
+same_front : {A B C : Type 0} (f : A → C) (g : B → C) (n : ℕ) (xs : List A) (ys : List B) → length xs ≡ length ys
+    → ((i : ℕ) (x : A) (y : B) → slice_get xs i ≡ Some x → slice_get ys i ≡ Some y → f x ≡ g y) → map f (take n xs) ≡ map g (take n ys)
+same_front f g zero xs ys same each = refl
+same_front f g (suc n) [] [] same each = refl
+same_front f g (suc n) [] (y ∷ ys) same each = absurd (cc same)
+same_front f g (suc n) (x ∷ xs) [] same each = absurd (cc same)
+same_front f g (suc n) (x ∷ xs) (y ∷ ys) same each =
+    let others = same_front f g n xs ys (let less : length xs ≡ length ys = cc same in less) (λ i a b at here. each (suc i) a b at here) in
+    ap (λ c. c ∷ map f (take n xs)) (each zero x y refl refl) ∙ ap (λ cs. g y ∷ cs) others
+
+-- of codes that a machine takes one after another it takes the first, and then the others
+pub first_loadable : (cs : Checked) (c : Annotated) (more : List Annotated) → AreLoadable cs (c ∷ more) → IsLoadable cs.names (shapes_of cs.codes) c
+first_loadable cs c more all = subst (λ (codes : List Annotated). IsLoadable cs.names (shapes_of codes) c) (append-nil cs.codes) (all zero c refl)
+
+pub others_loadable : (cs : Checked) (c : Annotated) (more : List Annotated) → AreLoadable cs (c ∷ more) → AreLoadable (record cs { codes = cs.codes ++ c ∷ [] }) more
+others_loadable cs c more all i d at =
+    subst (λ (codes : List Annotated). IsLoadable cs.names (shapes_of codes) d) (sym (append_assoc cs.codes (c ∷ []) (take i more))) (all (suc i) d at)
 
 -- what is at a place of a list is at that of one as long
 at_place : {A B : Type 0} (xs : List A) (ys : List B) (i : ℕ) (x : A) → length xs ≡ length ys → slice_get xs i ≡ Some x → (y : B) × (slice_get ys i ≡ Some y)
@@ -164,44 +231,68 @@ mapped_entry f [] i y is = absurd (cc is)
 mapped_entry f (x ∷ xs) zero y is = (x, refl, cc is)
 mapped_entry f (x ∷ xs) (suc i) y is = mapped_entry f xs i y is
 
--- each code fits the body at its place
-code_fits : (ts : List Tree) (cs : Checked) (i : ℕ) (c : Annotated) → AreChecked ts cs → slice_get cs.codes i ≡ Some c → (t : Tree) × (slice_get ts i ≡ Some t) × Fits cs.names c t
-code_fits ts cs i c all is =
-    let (t, at) = at_place cs.codes ts i c all.count is in
-    let (d, here, fits) = all.fit i t at in
-    let same : Some d ≡ Some c = sym here ∙ is in
-    (t, at, subst (λ (x : Annotated). Fits cs.names x t) (let e : d ≡ c = cc same in e) fits)
+one_entry : {X : Type 0} (x y : X) → Some x ≡ Some y → x ≡ y
+one_entry x y is = cc is
 
--- codes that fit with their notes are compiled
-pub checked_compiled : (ts : List Tree) (cs : Checked) → AreChecked ts cs → AreCompiled ts (plain_codes cs)
-checked_compiled ts cs all = record {
-  count = length-map cs.codes (λ (a : Annotated). a.code) ∙ all.count;
-  fit = λ i t at.
-      let k = all.fit i t at in
-      (k.0.code, entry_mapped (λ (a : Annotated). a.code) cs.codes i k.0 k.1, (k.0.notes, k.2));
+-- each code is one of what has its place
+ready_is : (coded : List Coded) (cs : Checked) (i : ℕ) (c : Annotated) → AreReady coded cs → slice_get cs.codes i ≡ Some c
+    → (k : Coded) × (slice_get coded i ≡ Some k) × IsReadyCode cs.names (shapes_before coded i) c k
+ready_is coded cs i c all is =
+    let (k, at) = at_place cs.codes coded i c all.count is in
+    let (d, here, own) = all.fit i k at in
+    (k, at, subst (λ (x : Annotated). IsReadyCode cs.names (shapes_before coded i) x k) (one_entry d c (sym here ∙ is)) own)
+
+-- codes that are ready are checked
+pub ready_checked : (coded : List Coded) (cs : Checked) → AreReady coded cs → AreChecked coded cs
+ready_checked coded cs all = record {
+  count = all.count;
+  fit = λ i k at. let (c, here, ready) = all.fit i k at in (c, here, ready.is, ready.signed);
 }
 
--- the machine takes each code
-pub codes_loadable : (ts : List Tree) (cs : Checked) → AreChecked ts cs → All (IsLoadable cs.names) cs.codes
-codes_loadable ts cs all i c low =
-    let (t, at, fits) = code_fits ts cs i (get_or cs.codes i c) all (slice_get-get_or cs.codes i c low) in
-    record { typed = fits.typed; runs = fits.sound.runs; named = fits.sound.named }
+-- a machine without codes takes them one after another
+pub ready_loadable : (coded : List Coded) (cs : Checked) → AreReady coded cs → AreLoadable (record { names = cs.names; codes = [] }) cs.codes
+ready_loadable coded cs all i c is =
+    let (k, at, ready) = ready_is coded cs i c all is in
+    subst (λ (s : List ℕ). IsLoadable cs.names s c) shapes ready.loadable
+  where
+    free : (j : ℕ) (u : Coded) (d : Annotated) → slice_get coded j ≡ Some u → slice_get cs.codes j ≡ Some d → free_names u ≡ length d.code.code.freevars.items
+    free j u d at here = let (e, there, ready) = all.fit j u at in sym (ap (λ (a : Annotated). length a.code.code.freevars.items) (one_entry d e (sym here ∙ there)) ∙ ready.free)
 
--- the signatures of the codes are those of the bodies
-pub codes_signed : (ts : List Tree) (cs : Checked) → AreChecked ts cs → AreSigned (signatures_of cs) (map signature_of ts)
-codes_signed ts cs all i s is =
+    shapes : shapes_before coded i ≡ shapes_of (take i cs.codes)
+    shapes = same_front free_names (λ (a : Annotated). length a.code.code.freevars.items) i coded cs.codes (sym all.count) free
+
+-- codes that were checked are compiled, with their notes
+pub checked_compiled : (coded : List Coded) (cs : Checked) → AreChecked coded cs → AreCompiled coded (plain_codes cs)
+checked_compiled coded cs all = record {
+  count = length-map cs.codes (λ (a : Annotated). a.code) ∙ all.count;
+  fit = λ i k at.
+      let (d, here, is, signed) = all.fit i k at in
+      (d.code, entry_mapped (λ (a : Annotated). a.code) cs.codes i d here, (d.notes, is));
+}
+
+-- the code of a body is ready where it fits
+pub fits_ready : (names : List (List ℕ)) (shapes : List ℕ) (c : Annotated) (t : Tree) → Fits names c t → IsPlain c t → CodeIsAnswered c.code → IsReadyCode names shapes c (OfBody t)
+fits_ready names shapes c t fits plain answered = record {
+  is = fits;
+  signed = ap (λ (xs : List Name). let s : Signature = record { params = xs; kind = seen_as t.kind } in s) (sym fits.params)
+      ∙ ap (λ (o : Option CoroKind). let s : Signature = record { params = params_of names c.code; kind = o } in s) (sym fits.kind);
+  free = ap length plain.cells.2;
+  loadable = record { typed = fits.typed shapes; runs = fits.sound.runs; named = fits.sound.named; answered = answered };
+}
+
+-- all codes have the signatures of what they are of
+pub codes_signed : (coded : List Coded) (cs : Checked) → AreChecked coded cs → AreSigned (signatures_of cs) (map signature_of coded)
+codes_signed coded cs all i s is =
     let (c, at, signs) = mapped_entry (signature_in cs.names) cs.codes i s is in
-    let (t, here, fits) = code_fits ts cs i c all at in
-    let same : signature_of t ≡ signature_in cs.names c =
-    ap (λ (xs : List Name). let k : Signature = record { params = xs; kind = seen_as t.kind } in k) (sym fits.params)
-    ∙ ap (λ (o : Option CoroKind). let k : Signature = record { params = params_of cs.names c.code; kind = o } in k) (sym fits.kind) in
-    entry_mapped signature_of ts i t here ∙ ap Some (same ∙ signs)
+    let (k, here) = at_place cs.codes coded i c all.count at in
+    let (d, there, own, signed) = all.fit i k here in
+    entry_mapped signature_of coded i k here ∙ ap Some (signed ∙ (ap (signature_in cs.names) (one_entry d c (sym there ∙ at)) ∙ signs))
 
--- the body of a signature
-pub signed_by_body : (ts : List Tree) (i : ℕ) (s : Signature) → slice_get (map signature_of ts) i ≡ Some s → (t : Tree) × (slice_get ts i ≡ Some t) × (s.params ≡ t.params)
-signed_by_body ts i s is =
-    let (t, at, signs) = mapped_entry signature_of ts i s is in
-    (t, at, ap (λ (k : Signature). k.params) (sym signs))
+-- what a signature is of
+pub signed_by : (coded : List Coded) (i : ℕ) (s : Signature) → slice_get (map signature_of coded) i ≡ Some s → (k : Coded) × (slice_get coded i ≡ Some k) × (s.params ≡ (signature_of k).params)
+signed_by coded i s is =
+    let (k, at, signs) = mapped_entry signature_of coded i s is in
+    (k, at, ap (λ (x : Signature). x.params) (sym signs))
 
 pub numbers_more : (n : ℕ) (vs : List Obj) (v : Obj) → AllBelow n (numbers vs) → v.number < n → AllBelow n (numbers (vs ++ v ∷ []))
 numbers_more n [] v below low = (low, tt)

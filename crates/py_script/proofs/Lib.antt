@@ -5,6 +5,9 @@ pub mod Made
 pub mod Traced
 pub mod Declarations
 pub mod Adding
+pub mod RawCodes
+pub mod Broken
+pub mod Coding
 pub mod Driven
 pub mod Asking
 pub mod Loaded

@@ -14,7 +14,7 @@ use Rattle.py_lines.specs.declared.drive.DriveAtom.{DriveAtom}
 use Rattle.py_lines.specs.declared.drive.DriveAtom.TheVariants as atom
 use Rattle.py_lines.specs.declared.drive.DriveLine.{DriveLine}
 use Rattle.py_lines.specs.declared.drive.DriveLine.TheVariants as drive
-use Rattle.py_grammar.specs.Grammar.{Decl, functions_in}
+use Rattle.py_grammar.specs.Grammar.{Decl, codes_in}
 use Rattle.py_grammar.specs.WellFormed.{IsDrivable, IsThrowable, IsWellDriven, NumbersDrive}
 use Rattle.py_run.specs.declared.drive.Drive.{Drive as Question}
 use Rattle.py_run.specs.Run.{Posed}
@@ -92,7 +92,7 @@ journal_of_more decls ds es j has = record {
 pub has_run_of : (decls : List Decl) (drives : List DriveLine) (s : Held) → IsInRun decls drives s.vm → HasRunOf decls drives (journal_of s)
 has_run_of decls drives s (asked, r) = record {
   run = record { run = is_run_of decls drives s.vm (asked, r); unchanged = r.unchanged };
-  codes = record { compiled = checked_compiled (functions_in decls) s.vm.checked r.checked; globals = s.vm.globals; are_globals = r.are_globals; tells = r.tells };
+  codes = record { compiled = checked_compiled (codes_in decls) s.vm.checked r.checked; globals = s.vm.globals; are_globals = r.are_globals; tells = r.tells };
 }
 
 pub session_runs : (decls : List Decl) (drives : List DriveLine) (s : Held) → IsSessionOf decls drives s → HasRunOf decls drives (journal_of s)

@@ -20,40 +20,40 @@ module _ (bytes : List ℕ) (turns : ℕ) where
   -- an answer that is neither a whole run nor a cut one
   neither : (f : ScriptFault) → (status_in (outcome.Fault f) ≡ 0 → ⊥) → (status_in (outcome.Fault f) ≡ 4 → ⊥) → HasFewer turns (outcome.Fault f) → IsSettled bytes turns (outcome.Fault f)
   neither f no_run no_cut fewer = record {
-    never_cut = λ j whole few is. no_cut is;
-    never_whole = λ j unfinished enough is. no_run is;
-    whole_text = λ j whole is. absurd (no_run is);
-    cut_text = λ j run count is. absurd (no_cut is);
+    never_cut = λ j core whole few is. no_cut is;
+    never_whole = λ j core unfinished enough is. no_run is;
+    whole_text = λ j core whole is. absurd (no_run is);
+    cut_text = λ j core run count is. absurd (no_cut is);
     fewer = λ none. fewer;
   }
 
   -- a whole run
-  whole_settles : (j : Journal) → IsWholeFrom bytes j → length j.events ≤ turns → IsSettled bytes turns (outcome.Ran j)
-  whole_settles j whole few = record {
-    never_cut = λ j' other enough is. cc is;
-    never_whole = λ j' unfinished enough is. let less = shorter bytes j j' whole unfinished in omega (arith, less, few, enough);
-    whole_text = λ j' other is. one_text bytes j j' whole other;
-    cut_text = λ j' run count is. absurd (cc is);
+  whole_settles : (j : Journal) → IsWholeRun bytes turns j → IsWholeFrom bytes j → length j.events ≤ turns → IsSettled bytes turns (outcome.Ran j)
+  whole_settles j run whole few = record {
+    never_cut = λ j' core other enough is. cc is;
+    never_whole = λ j' core unfinished enough is. let less = shorter bytes j j' core whole unfinished in omega (arith, less, few, enough);
+    whole_text = λ j' core other is. one_text bytes j j' core whole other;
+    cut_text = λ j' core other count is. absurd (cc is);
     fewer = λ none. by none (cases_lt (length j.events) turns);
   }
     where
-      by : ((k : Journal) → IsWholeFrom bytes k → length k.events ≡ turns → ⊥) → (length j.events < turns) ⊎ (turns ≤ length j.events) → length j.events < turns
+      by : ((k : Journal) → IsWholeRun bytes turns k → length k.events ≡ turns → ⊥) → (length j.events < turns) ⊎ (turns ≤ length j.events) → length j.events < turns
       by none (inl fewer) = fewer
-      by none (inr enough) = absurd (none j whole (omega (arith, few, enough)))
+      by none (inr enough) = absurd (none j run (omega (arith, few, enough)))
 
   -- one that is cut
   cut_settles : (j : Journal) → IsUnfinishedFrom bytes j → length j.events ≡ turns → IsSettled bytes turns (outcome.Fault (fault.OutOfTurns j))
   cut_settles j unfinished count = record {
-    never_cut = λ j' whole few is. let less = shorter bytes j' j whole unfinished in omega (arith, less, few, count);
-    never_whole = λ j' other enough is. cc is;
-    whole_text = λ j' whole is. absurd (cc is);
-    cut_text = λ j' run count' is. same_text bytes j j' (unfinished_runs bytes j unfinished) run (count ∙ sym count');
+    never_cut = λ j' core whole few is. let less = shorter bytes j' j core whole unfinished in omega (arith, less, few, count);
+    never_whole = λ j' core other enough is. cc is;
+    whole_text = λ j' core whole is. absurd (cc is);
+    cut_text = λ j' core run count' is. same_text bytes j j' core (unfinished_runs bytes j unfinished) run (count ∙ sym count');
     fewer = λ none. tt;
   }
 
   -- by what was read
   whole_read : (j : Journal) → IsWholeRun bytes turns j → IsSettled bytes turns (outcome.Ran j)
-  whole_read j (s, is, run, whole, few, codes) = whole_settles j (s, is, run, whole) few
+  whole_read j (s, is, run, whole, few, codes) = whole_settles j (s, is, run, whole, few, codes) (s, is, run, whole) few
 
   cut_read : (j : Journal) → IsCutRun bytes turns j → IsSettled bytes turns (outcome.Fault (fault.OutOfTurns j))
   cut_read j (s, is, run, not_whole, count, codes) = cut_settles j (s, is, run, not_whole) count

@@ -12,6 +12,7 @@ use Rattle.py_run.specs.declared.journal.Journal.{Journal}
 use Rattle.py_make.specs.declared.summary.Tally.{Tally}
 use Rattle.py_make.specs.declared.summary.Tally.TheVariants as tally
 use Rattle.py_make.specs.Summaries.{count, counts, counts_result, summary_of}
+use Rattle.py_meaning.specs.Core.{IsCoreFrom}
 use Rattle.py_meaning.specs.Whole.{IsWholeFrom}
 use Rattle.py_script.specs.Making.{Making, Summed, Unwritten, OutOfMemory, EndsMade, IsEndOfRun, IsWholeBy}
 use Rattle.py_meaning.proofs.ScriptsAgree.{as_long, runs_agree_from}
@@ -76,13 +77,14 @@ module _ (S : Relation) where
       ∙ ap (λ (n : ℕ). record (summary_of fs) { raises = n }) f
 
 -- two whole runs of one script
-pub one_summary : (bytes : List ℕ) (j j' : Journal) → IsWholeFrom bytes j → IsWholeFrom bytes j' → summary_of j.events ≡ summary_of j'.events
-one_summary bytes j j' (s, is, run, done) (t, is', run', done') =
-    same_summary _ j.events j'.events (as_long bytes j j' (s, is, run, done) (t, is', run', done')) (runs_agree_from bytes j j' (s, is, run) (t, is', run')).0
+pub one_summary : (bytes : List ℕ) (j j' : Journal) → IsCoreFrom bytes → IsWholeFrom bytes j → IsWholeFrom bytes j' → summary_of j.events ≡ summary_of j'.events
+one_summary bytes j j' core (s, is, run, done) (t, is', run', done') =
+    same_summary _ j.events j'.events (as_long bytes j j' core (s, is, run, done) (t, is', run', done')) (runs_agree_from bytes j j' core (s, is, run) (t, is', run')).0
 
 -- a whole run was summed up, or its line couldn't be written
-pub made_ends : (bytes : List ℕ) (j : Journal) (m : Option Making) → IsWholeBy bytes j → IsEndOfRun j m → EndsMade bytes m
-made_ends bytes j None whole of_run = of_run
-made_ends bytes j (Some (Summed summary)) (s, is, run, done, codes) of_run = record { some = (j, (s, is, run, done)); each = λ k other. of_run ∙ one_summary bytes j k (s, is, run, done) other }
-made_ends bytes j (Some (Unwritten k)) whole of_run = subst (IsWholeBy bytes) (sym of_run) whole
-made_ends bytes j (Some OutOfMemory) whole of_run = tt
+pub made_ends : (bytes : List ℕ) (j : Journal) (m : Option Making) → IsCoreFrom bytes → IsWholeBy bytes j → IsEndOfRun j m → EndsMade bytes m
+made_ends bytes j None core whole of_run = of_run
+made_ends bytes j (Some (Summed summary)) core (s, is, run, done, codes) of_run =
+    record { some = (j, (s, is, run, done)); each = λ k other. of_run ∙ one_summary bytes j k core (s, is, run, done) other }
+made_ends bytes j (Some (Unwritten k)) core whole of_run = subst (IsWholeBy bytes) (sym of_run) whole
+made_ends bytes j (Some OutOfMemory) core whole of_run = tt

@@ -1,4 +1,4 @@
--- What the rows of compiled code may tell is a trace of its body.
+-- What the rows of a code may tell is what an activation of it may tell: of compiled code, a trace of its body.
 use Rattle.std.proofs.Common.{◌≡◌, suc, List, [], ◌∷◌, ◌++◌, length, Some, refl, sym, ap, ◌∙◌, subst, append-nil}
 use Rattle.std.specs.Prelude.{slice_get, map}
 use Rattle.py_code.specs.Codes.{Codes}
@@ -10,18 +10,18 @@ use Rattle.py_objects.specs.declared.payload.FunctionBody.{FunctionBody}
 use Rattle.py_objects.specs.declared.event.Event.{Event}
 use Rattle.py_objects.specs.Objects.{Obj}
 use Rattle.py_objects.specs.Own.{Own, Makes, own_events}
-use Rattle.py_tree.specs.Tree.{Tree}
 use Rattle.py_tree.specs.Scene.{anywhere}
 use Rattle.py_tree.specs.Trace.{IsTrace}
 use Rattle.py_laid.specs.Fits.{Fits, located}
 use Rattle.py_tree.proofs.Carry.{traces_carry}
+use Rattle.py_grammar.specs.Grammar.{Coded, OfBody, OfRaw}
 use Rattle.py_run.specs.Run.{Posed, Activation}
 use Rattle.py_run.specs.Coming.{nothing, Comes, EachTells}
 use Rattle.py_vm.specs.RowsOf.{RowsOf}
 use Rattle.py_run.proofs.BoundLemmas.{IsBound, comes_bound}
 use Rattle.py_meaning.specs.Whole.{signature_of, plan_of, Traces}
 use Rattle.py_script.specs.Compiled.{AreCompiled}
-use Rattle.py_script.proofs.Declarations.{signed_by_body}
+use Rattle.py_script.proofs.Declarations.{signed_by}
 use Rattle.py_script.proofs.Made.{HasTold, activation_tells}
 
 -- two entries at one place are one
@@ -31,16 +31,18 @@ one_body b b' is = cc is
 one_code : (c c' : PyCode) → Some c ≡ Some c' → c ≡ c'
 one_code c c' is = cc is
 
--- an activation that was made has its tree's trace where its code's rows tell it
-traced : (trees : List Tree) (globals : Obj) (objects : List Payload) (codes : Codes) (act : Activation) (own : List Own) → AreCompiled trees codes → IsBound (map signature_of trees) objects act
-    → HasTold own → RowsOf codes globals objects act.function act.args own → Traces trees globals objects act.function act.args own
-traced trees globals objects codes act own compiled bound told (b, has, c, is, closure, closed, (slot, us, s, own_is, run)) = go (signed_by_body trees bound.body.code bound.signature bound.is_signature)
+-- an activation that was made tells what one of its code may where its code's rows tell it
+traced : (coded : List Coded) (globals : Obj) (objects : List Payload) (codes : Codes) (act : Activation) (own : List Own) → AreCompiled coded codes → IsBound (map signature_of coded) objects act
+    → HasTold own → RowsOf codes globals objects act.function act.args own → Traces coded globals objects act.function act.args own
+traced coded globals objects codes act own compiled bound told (b, has, c, is, closure, closed, (slot, us, s, own_is, run)) = go (signed_by coded bound.body.code bound.signature bound.is_signature)
   where
-    go : (t : Tree) × (slice_get trees bound.body.code ≡ Some t) × (bound.signature.params ≡ t.params) → Traces trees globals objects act.function act.args own
-    go (t, at, params) =
-        let same_body : b ≡ bound.body = one_body b bound.body (sym has ∙ bound.is_function) in
-        let place : b.code ≡ bound.body.code = ap (λ (x : FunctionBody). x.code) same_body in
-        let (k, k_at, k_fits) = compiled.fit bound.body.code t at in
+    place : b.code ≡ bound.body.code
+    place = ap (λ (x : FunctionBody). x.code) (one_body b bound.body (sym has ∙ bound.is_function))
+
+    go : (d : Coded) × (slice_get coded bound.body.code ≡ Some d) × (bound.signature.params ≡ (signature_of d).params) → Traces coded globals objects act.function act.args own
+    go (OfRaw r, at, params) = (b, has, (OfRaw r, ap (slice_get coded) place ∙ at, tt))
+    go (OfBody t, at, params) =
+        let (k, k_at, k_fits) = compiled.fit bound.body.code (OfBody t) at in
         let same_code : k ≡ c = one_code k c (sym k_at ∙ ap (slice_get codes.codes) (sym place) ∙ is) in
         let (notes, fits) = subst (λ (x : PyCode). (notes : List Note) × Fits codes.names (record { code = x; notes = notes }) t) same_code k_fits in
         let arity : length act.args ≡ length t.params = bound.binds ∙ ap length params in
@@ -49,10 +51,10 @@ traced trees globals objects codes act own compiled bound told (b, has, c, is, c
         subst (IsTrace (located c objects globals) t act.args) (sym own_is ∙ told.is ∙ sym (append-nil (told.front ∷ told.behind))) whole in
         let front : IsTrace (anywhere objects globals) t act.args (told.front ∷ told.behind) =
         traces_carry (located c objects globals) (anywhere objects globals) t act.args told.front told.behind [] (record { objects = ([], sym (append-nil objects)); globals = refl; units = λ at line is. refl }) split in
-        (b, has, (t, ap (slice_get trees) place ∙ at, subst (IsTrace (anywhere objects globals) t act.args) (sym told.is) front))
+        (b, has, (OfBody t, ap (slice_get coded) place ∙ at, subst (IsTrace (anywhere objects globals) t act.args) (sym told.is) front))
 
--- what activations tell by their rows they tell by their bodies
-pub tells_traces : (trees : List Tree) (asked : List Posed) (globals : Obj) (objects : List Payload) (codes : Codes) (events : List Event) → AreCompiled trees codes
-    → Comes (plan_of trees asked) objects nothing events → EachTells (RowsOf codes globals objects) events → EachTells (Traces trees globals objects) events
-tells_traces trees asked globals objects codes events compiled comes tells i a made =
-    traced trees globals objects codes a (own_events (suc i) events) compiled (comes_bound (plan_of trees asked) objects events comes i a made) (activation_tells (plan_of trees asked) objects events i a comes made) (tells i a made)
+-- what activations tell by their rows they may tell by their codes
+pub tells_traces : (coded : List Coded) (asked : List Posed) (globals : Obj) (objects : List Payload) (codes : Codes) (events : List Event) → AreCompiled coded codes
+    → Comes (plan_of coded asked) objects nothing events → EachTells (RowsOf codes globals objects) events → EachTells (Traces coded globals objects) events
+tells_traces coded asked globals objects codes events compiled comes tells i a made =
+    traced coded globals objects codes a (own_events (suc i) events) compiled (comes_bound (plan_of coded asked) objects events comes i a made) (activation_tells (plan_of coded asked) objects events i a comes made) (tells i a made)

@@ -1,10 +1,14 @@
 -- No unit of a sum's code but the one that adds asks for it.
-use Rattle.std.proofs.Common.{◌≡◌, ◌∙◌, ℕ, zero, suc, List, [], ◌∷◌, Some, refl, sym, subst, map}
-use Rattle.std.specs.Prelude.{true, false, None, slice_get, codes}
+use Rattle.std.proofs.Common.{◌≡◌, ◌∙◌, ℕ, zero, suc, List, [], ◌∷◌, Some, refl, sym, ap, subst, map, arith}
+use Rattle.std.specs.Prelude.{All, true, false, None, slice_get, codes}
 use Rattle.std.proofs.lemmas.Bool.{false≢true}
 use Rattle.py_code.specs.declared.code.PyCode.{PyCode}
 use Rattle.py_code.specs.declared.unit.CodeUnit.{CodeUnit}
 use Rattle.py_code.specs.declared.instruction.Instruction.{Instruction}
+use Rattle.py_code.specs.declared.instruction.Instruction.TheVariants.{ReturnConst}
+use Rattle.py_check.specs.declared.annotated.Annotated.{Annotated}
+use Rattle.py_check.specs.Sheet.{Sheet, sheet_of}
+use Rattle.py_check.specs.Typing.{IsTyped}
 use Rattle.py_objects.specs.declared.payload.Payload.TheVariants as payload
 use Rattle.py_objects.specs.declared.payload.FunctionBody.{FunctionBody}
 use Rattle.py_objects.specs.declared.request.Request.{Request}
@@ -17,8 +21,13 @@ use Rattle.py_rows.specs.Questions.{UnitAsks, may_ask}
 use Rattle.py_rows.specs.Sound.{IsSound}
 use Rattle.py_rows.specs.Laws.{AllMayTell}
 use Rattle.py_rows.proofs.RunLemmas.{runs_tell}
+use Rattle.py_grammar.specs.Grammar.{OfBody, OfRaw}
+use Rattle.py_grammar.specs.WellFormed.{IsLoadable, IsWellCoded}
+use Rattle.py_raw.specs.Assembled.{IsAssembled}
+use Rattle.py_raw.proofs.AssembledLemmas.{assembled_named, assembled_runs}
 use Rattle.py_meaning.specs.Worked.{function, object, objects}
-use Rattle.py_script.specs.WorkedUnits.{sum, events_at, operations, NoOtherUnit}
+use Rattle.py_meaning.specs.WorkedRaw.{block}
+use Rattle.py_script.specs.WorkedUnits.{sum, events_at, operations, NoOtherUnit, NoRawSum}
 
 -- one value is another
 same_value : {A : Type 0} {x y : A} → Some x ≡ Some y → x ≡ y
@@ -73,10 +82,53 @@ no_other_unit cs at (c, first, adds) other runs =
     let number : b.code ≡ 0 = cc same_entry in
     let is_first : slice_get cs.codes 0 ≡ Some d = subst (λ (k : ℕ). slice_get cs.codes k ≡ Some d) number is_d in
     let same : c ≡ d = same_value (sym first ∙ is_first) in
-    let (e, is_e, notes_fit) = runs.compiled.fit 0 function refl in
+    let (e, is_e, notes_fit) = runs.compiled.fit 0 (OfBody function) refl in
     let (notes, fits) = notes_fit in
     let same_code : e ≡ d = same_value (sym is_e ∙ is_first) in
     let sound : IsSound cs.names (record { code = d; notes = notes }) = subst (λ (x : PyCode). IsSound cs.names (record { code = x; notes = notes })) same_code fits.sound in
     let all = runs_tell objects cs.names runs.globals closure (record { code = d; notes = notes }) slot args s us sound run in
     let does : map (λ u. u.op) d.code.instructions.items ≡ operations = subst (λ (x : PyCode). map (λ u. u.op) x.code.instructions.items ≡ operations) same adds in
     only_third at other (asks_at d.code.instructions.items operations at sum does (asked_by d at us front all))
+
+-- ---- a raw code that returns its constant
+
+-- it has what frames heed, load and run
+block_coded : IsWellCoded block
+block_coded = record {
+  distinct = λ i j d low lower same. absurd (omega (arith, low, lower));
+  few = omega arith;
+  flags = λ i f low. absurd (omega (arith, low));
+  counts = refl;
+  cells = refl;
+  frees = refl;
+  consts = one_constant;
+  some = λ none. absurd (cc none);
+  run = refl;
+}
+  where
+    one_constant : All IsLoadable block.consts
+    one_constant zero c low = tt
+    one_constant (suc i) c low = absurd (omega (arith, low))
+
+-- its only unit asks nothing
+asks_nothing : (at : ℕ) → UnitAsks (slice_get (record { op = ReturnConst; arg = 0 } ∷ []) at) sum → ⊥
+asks_nothing zero asks = absurd (cc asks)
+asks_nothing (suc at) asks = asks
+
+pub no_raw_sum : NoRawSum
+no_raw_sum cs at runs =
+    let args : List Obj = object 3 ∷ object 4 ∷ [] in
+    let (b, has, d, is_d, closure, closed, (slot, us, s, front, run)) = runs.tells 0 (record { function = object 0; args = args }) refl in
+    let entry : FunctionBody = record { name = codes "f"; code = 0 } in
+    let same_entry : payload.Function entry ≡ payload.Function b = same_value has in
+    let number : b.code ≡ 0 = cc same_entry in
+    let is_first : slice_get cs.codes 0 ≡ Some d = subst (λ (k : ℕ). slice_get cs.codes k ≡ Some d) number is_d in
+    let (e, is_e, (notes, (assembled, typed))) = runs.compiled.fit 0 (OfRaw block) refl in
+    let same_code : e ≡ d = same_value (sym is_e ∙ is_first) in
+    let code : Annotated = record { code = d; notes = notes } in
+    let is : IsAssembled cs.names code block = subst (λ (x : PyCode). IsAssembled cs.names (record { code = x; notes = notes }) block) same_code assembled in
+    let keeps : IsTyped [] (sheet_of code) = subst (λ (x : PyCode). IsTyped [] (sheet_of (record { code = x; notes = notes }))) same_code typed in
+    let sound : IsSound cs.names code = record { shapes = []; typed = keeps; runs = assembled_runs cs.names [] code block is block_coded keeps; named = assembled_named cs.names code block is } in
+    let all = runs_tell objects cs.names runs.globals closure code slot args s us sound run in
+    let units : d.code.instructions.items ≡ record { op = ReturnConst; arg = 0 } ∷ [] = ap (λ (s : Sheet). s.units) is.sheet in
+    asks_nothing at (subst (λ (us : List CodeUnit). UnitAsks (slice_get us at) sum) units (asked_by d at us front all))

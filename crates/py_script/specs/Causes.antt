@@ -6,7 +6,7 @@ use Rattle.py_outside.specs.Seen.{SinkSeen, SourceSeen}
 use Rattle.py_outside.specs.Reading.{HasFailed, HasOver}
 use Rattle.py_outside.specs.Transfer.{AppendsAll, AppendsFront}
 use Rattle.py_grammar.specs.declared.script.Script.{Script}
-use Rattle.py_grammar.specs.Script.{IsScript, IsBadLine}
+use Rattle.py_grammar.specs.Script.{decls_of, IsScript, IsBadLine}
 use Rattle.py_run.specs.declared.journal.Journal.{Journal}
 use Rattle.py_make.specs.Made.{made_text}
 use Rattle.py_script.specs.declared.words.Command.{Command}
@@ -17,8 +17,10 @@ use Rattle.py_script.specs.declared.fault.CommandResult.{CommandResult}
 use Rattle.py_script.specs.declared.fault.CommandResult.TheVariants as outcome
 use Rattle.py_script.specs.Words.{command_in}
 use Rattle.py_script.specs.Making.{making_in, EndsMade, WritesMade, WritesMadeSurely}
+use Rattle.py_meaning.specs.Core.{IsCoreFrom}
 use Rattle.py_meaning.specs.Whole.{IsRunFrom, IsWholeFrom, IsUnfinishedFrom}
 use Rattle.py_script.specs.Answered.{IsEmpty, IsPartOfRun, IsWholeRun, IsCutRun}
+use Rattle.py_script.specs.Broken.{AllKeepRules, IsBrokenFrom}
 use Rattle.py_meaning.specs.Text.{text_of}
 
 -- what was read of a source: at most 2^20 bytes, all that it had left where it tells them, and then its end; and this holds of them
@@ -43,7 +45,7 @@ IsAnswer before after turns (Err fault.ReadFault) = HasFailed before after
 IsAnswer before after turns (Err (fault.WriteFault j)) = WasRead before after (λ bytes. IsWholeRun bytes turns j ⊎ IsCutRun bytes turns j)
 IsAnswer before after turns (Err fault.TooLong) = IsTooLong before after
 IsAnswer before after turns (Err (fault.Malformed line)) = WasRead before after (λ bytes. IsBadLine bytes line)
-IsAnswer before after turns (Err (fault.Refused code at)) = ⊥
+IsAnswer before after turns (Err (fault.Refused code at)) = WasRead before after (λ bytes. IsBrokenFrom bytes code at)
 IsAnswer before after turns (Err (fault.OutOfTurns j)) = WasRead before after (λ bytes. IsCutRun bytes turns j)
 IsAnswer before after turns (Err (fault.NoMemory j)) = IsEmpty j ⊎ WasRead before after (λ bytes. IsPartOfRun bytes turns j)
 
@@ -51,7 +53,7 @@ IsAnswer before after turns (Err (fault.NoMemory j)) = IsEmpty j ⊎ WasRead bef
 abbrev pub IsWritten : SinkSeen → SinkSeen → CommandResult → Type 0
 IsWritten before after (outcome.Ran j) = AppendsAll before after (text_of j)
 IsWritten before after (outcome.Fault (fault.Malformed line)) = Keeps before.taken after.taken
-IsWritten before after (outcome.Fault (fault.Refused code at)) = ⊥
+IsWritten before after (outcome.Fault (fault.Refused code at)) = Keeps before.taken after.taken
 IsWritten before after (outcome.Fault (fault.OutOfTurns j)) = AppendsAll before after (text_of j)
 IsWritten before after (outcome.Fault fault.ReadFault) = Keeps before.taken after.taken
 IsWritten before after (outcome.Fault (fault.WriteFault j)) = Rose before.faults after.faults × AppendsFront before after (text_of j)
@@ -177,28 +179,41 @@ IsOfRun status = (status ≡ 0) ⊎ (status ≡ 4) ⊎ (status ≡ 8)
 abbrev pub IsOfFault : ℕ → Type 0
 IsOfFault status = (status ≡ 5) ⊎ (status ≡ 6)
 
--- a script of at most 2^20 bytes is run: its status is 0, 4 or 8, or 5 or 6 by a fault
+-- a script of at most 2^20 bytes whose raw codes keep the rules is run: its status is 0, 4 or 8, or 5 or 6 by a fault
 abbrev pub RunsScripts : SourceSeen → CommandResult → Type 0
 RunsScripts before result =
-    (bytes : List ℕ) → (s : Script) → before.left ≡ Some bytes → length bytes ≤ 2 ^ 20 → IsScript bytes s → IsOfRun (status_in result) ⊎ IsOfFault (status_in result)
+    (bytes : List ℕ) (s : Script) → before.left ≡ Some bytes → length bytes ≤ 2 ^ 20 → IsScript bytes s → AllKeepRules (decls_of s)
+    → IsOfRun (status_in result) ⊎ IsOfFault (status_in result)
+
+-- a result is that this code was refused at this unit, or comes of a failed read, or of memory that ran out
+abbrev pub IsRefusedAt : ℕ → ℕ → CommandResult → Type 0
+IsRefusedAt code at result = (result ≡ outcome.Fault (fault.Refused code at)) ⊎ (status_in result ≡ 5) ⊎ (status_in result ≡ 8)
+
+-- one of which this raw code is the first that breaks a rule, first at this unit, is refused
+abbrev pub RefusesScripts : SourceSeen → CommandResult → Type 0
+RefusesScripts before result =
+    (bytes : List ℕ) (code at : ℕ) → before.left ≡ Some bytes → length bytes ≤ 2 ^ 20 → IsBrokenFrom bytes code at → IsRefusedAt code at result
 
 -- so is one where the words ask for a run
 abbrev pub RunsAskedScripts : SourceSeen → List (List ℕ) → CommandResult → Type 0
 RunsAskedScripts before words result = (turns : ℕ) → command_in words ≡ command.Run turns → RunsScripts before result
+
+abbrev pub RefusesAskedScripts : SourceSeen → List (List ℕ) → CommandResult → Type 0
+RefusesAskedScripts before words result = (turns : ℕ) → command_in words ≡ command.Run turns → RefusesScripts before result
 
 -- a run that is answered as whole has fewer events than turns
 abbrev pub HasFewer : ℕ → CommandResult → Type 0
 HasFewer turns (outcome.Ran j) = length j.events < turns
 HasFewer turns result = Unit {0}
 
--- what the runs of the script that bytes are settle: where a whole one has at most so many events, turns never run out; where one that isn't whole has
+-- what the runs of the script that bytes are settle. Where it has no raw code: where a whole one has at most so many events, turns never run out; where one that isn't whole has
 -- as many, none is answered as whole; the text that is written is that of any such run; and where no whole one has just so many, an answered one has fewer
 pub record IsSettled (bytes : List ℕ) (turns : ℕ) (result : CommandResult) : Type 0 where
-  pub never_cut : (j : Journal) → IsWholeFrom bytes j → length j.events ≤ turns → status_in result ≡ 4 → ⊥
-  pub never_whole : (j : Journal) → IsUnfinishedFrom bytes j → turns ≤ length j.events → status_in result ≡ 0 → ⊥
-  pub whole_text : (j : Journal) → IsWholeFrom bytes j → status_in result ≡ 0 → text_in result ≡ text_of j
-  pub cut_text : (j : Journal) → IsRunFrom bytes j → length j.events ≡ turns → status_in result ≡ 4 → text_in result ≡ text_of j
-  pub fewer : ((j : Journal) → IsWholeFrom bytes j → length j.events ≡ turns → ⊥) → HasFewer turns result
+  pub never_cut : (j : Journal) → IsCoreFrom bytes → IsWholeFrom bytes j → length j.events ≤ turns → status_in result ≡ 4 → ⊥
+  pub never_whole : (j : Journal) → IsCoreFrom bytes → IsUnfinishedFrom bytes j → turns ≤ length j.events → status_in result ≡ 0 → ⊥
+  pub whole_text : (j : Journal) → IsCoreFrom bytes → IsWholeFrom bytes j → status_in result ≡ 0 → text_in result ≡ text_of j
+  pub cut_text : (j : Journal) → IsCoreFrom bytes → IsRunFrom bytes j → length j.events ≡ turns → status_in result ≡ 4 → text_in result ≡ text_of j
+  pub fewer : ((j : Journal) → IsWholeRun bytes turns j → length j.events ≡ turns → ⊥) → HasFewer turns result
 
 -- those of the script that a source holds
 abbrev pub RunsSettle : SourceSeen → ℕ → CommandResult → Type 0

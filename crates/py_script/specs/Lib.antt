@@ -6,8 +6,11 @@ pub mod Driving
 pub mod Words
 -- what comes of making a script from a seed
 pub mod Making
--- which journals are handed back, and when each answer of the top call comes
+-- which journals are handed back, which raw codes are refused, and when each answer of the top call comes
+pub mod Shapes
 pub mod Compiled
+pub mod Broken
+pub mod Laws
 pub mod Answered
 pub mod Causes
 -- what answers were worked out to say, and a journal that codes don't run

@@ -1,5 +1,5 @@
 -- How a script's declarations come into a machine.
-use Rattle.std.specs.Prelude.{ℕ, Some, List, ◌∷◌, ◌++◌, ◌≡◌, map, slice_get, length}
+use Rattle.std.specs.Prelude.{ℕ, Option, Some, None, List, [], ◌∷◌, ◌++◌, ◌≡◌, map, slice_get, length, take}
 use Rattle.py_objects.specs.declared.payload.Payload.{Payload}
 use Rattle.py_objects.specs.declared.payload.Payload.TheVariants as payload
 use Rattle.py_objects.specs.declared.payload.ClassBody.{ClassBody}
@@ -10,14 +10,16 @@ use Rattle.py_check.specs.Sheet.{sheet_of}
 use Rattle.py_check.specs.Typing.{IsTyped}
 use Rattle.py_check.specs.Running.{AllRun}
 use Rattle.py_rows.specs.Sound.{AreNames}
-use Rattle.py_tree.specs.Tree.{Tree}
-use Rattle.py_laid.specs.Fits.{Fits}
 use Rattle.py_grammar.specs.declared.script.Declaration.{Declaration}
-use Rattle.py_grammar.specs.Grammar.{Decl, functions_in}
+use Rattle.py_grammar.specs.Grammar.{Decl, ClassDecl, ManagerDecl, FunctionDecl, RawDecl, Coded, codes_in}
 use Rattle.py_grammar.specs.Script.{decl_of}
-use Rattle.py_vm.specs.Codes.{Checked}
+use Rattle.py_grammar.specs.WellFormed.{IsWellCoded}
+use Rattle.py_tree.specs.Compilable.{IsCompilable}
+use Rattle.py_vm.specs.Codes.{Checked, CodeIsAnswered, shapes_of, signature_in}
 use Rattle.py_vm.specs.Machine.{Machine}
-use Rattle.py_meaning.specs.Whole.{AreObjects}
+use Rattle.py_meaning.specs.Whole.{AreObjects, signature_of}
+use Rattle.py_script.specs.Compiled.{IsCodeOf}
+use Rattle.py_script.specs.Shapes.{free_names, shapes_before}
 
 -- None is the first object
 abbrev pub HasNone : List Payload → Type 0
@@ -33,20 +35,55 @@ pub record HasObjects (decls : List Decl) (old new : Machine) : Type 0 where
 abbrev pub IsOrderFrom : List Payload → Obj → List Obj → Type 0
 IsOrderFrom objects base order = (above : ClassBody) × HasPayload objects base (payload.Class above) × (order ≡ base ∷ above.mro)
 
--- there is a checked code for each body, and the one at its place fits it
-pub record AreChecked (ts : List Tree) (cs : Checked) : Type 0 where
-  pub count : length cs.codes ≡ length ts
-  pub fit : (i : ℕ) (t : Tree) → slice_get ts i ≡ Some t → (c : Annotated) × (slice_get cs.codes i ≡ Some c) × Fits cs.names c t
+-- ---- one code
 
--- these are the codes of the functions among declarations, with their names
-abbrev pub AreCodesOf : List Declaration → List (List ℕ) → List Annotated → Type 0
-AreCodesOf declarations names codes = AreChecked (functions_in (map decl_of declarations)) (record { names = names; codes = codes })
+-- a declaration whose code can be made: a function can be compiled, and a raw code has what can be run so far
+abbrev pub IsCodable : Decl → Type 0
+IsCodable (ClassDecl c b) = Unit {0}
+IsCodable (ManagerDecl m e x) = Unit {0}
+IsCodable (FunctionDecl t) = IsCompilable t
+IsCodable (RawDecl b) = IsWellCoded b
 
--- a code that the machine takes behind whatever codes: it keeps the rules, each of its units runs so far, and its names are in the table
-pub record IsLoadable (names : List (List ℕ)) (code : Annotated) : Type 0 where
-  pub typed : (shapes : List ℕ) → IsTyped shapes (sheet_of code)
+-- a code that the machine takes after codes of so many free names: it keeps the rules, each of its units runs so far, its names are in
+-- the table, and the machine answers all that it may ask
+pub record IsLoadable (names : List (List ℕ)) (shapes : List ℕ) (code : Annotated) : Type 0 where
+  pub typed : IsTyped shapes (sheet_of code)
   pub runs : AllRun (sheet_of code)
   pub named : AreNames names code.code
+  pub answered : CodeIsAnswered code.code
+
+-- it is one of this, with its signature and its free names
+pub record IsReadyCode (names : List (List ℕ)) (shapes : List ℕ) (code : Annotated) (k : Coded) : Type 0 where
+  pub is : IsCodeOf names shapes code k
+  pub signed : signature_of k ≡ signature_in names code
+  pub free : length code.code.code.freevars.items ≡ free_names k
+  pub loadable : IsLoadable names shapes code
+
+-- the code of a declaration, where it has one
+abbrev pub IsCodeFor : List (List ℕ) → List ℕ → Decl → Option Annotated → Type 0
+IsCodeFor names shapes d None = codes_in (d ∷ []) ≡ []
+IsCodeFor names shapes d (Some code) = (k : Coded) × (codes_in (d ∷ []) ≡ k ∷ []) × IsReadyCode names shapes code k
+
+-- ---- all codes
+
+-- there is a code for each of these, and the one at its place is one of it
+pub record AreReady (coded : List Coded) (cs : Checked) : Type 0 where
+  pub count : length cs.codes ≡ length coded
+  pub fit : (i : ℕ) (k : Coded) → slice_get coded i ≡ Some k → (c : Annotated) × (slice_get cs.codes i ≡ Some c) × IsReadyCode cs.names (shapes_before coded i) c k
+
+-- these are the codes of declarations, in order, with their names
+abbrev pub AreCodesOf : List Declaration → List (List ℕ) → List Annotated → Type 0
+AreCodesOf declarations names codes = AreReady (codes_in (map decl_of declarations)) (record { names = names; codes = codes })
+
+-- the machine takes these codes one after another, after those that it has
+abbrev pub AreLoadable : Checked → List Annotated → Type 0
+AreLoadable cs codes = (i : ℕ) (c : Annotated) → slice_get codes i ≡ Some c → IsLoadable cs.names (shapes_of (cs.codes ++ take i codes)) c
+
+-- there is a checked code for each of these, and the one at its place is one of it and has its signature
+pub record AreChecked (coded : List Coded) (cs : Checked) : Type 0 where
+  pub count : length cs.codes ≡ length coded
+  pub fit : (i : ℕ) (k : Coded) → slice_get coded i ≡ Some k
+      → (c : Annotated) × (slice_get cs.codes i ≡ Some c) × IsCodeOf cs.names (shapes_before coded i) c k × (signature_of k ≡ signature_in cs.names c)
 
 -- with more codes
 abbrev pub with_codes : Machine → List Annotated → Machine

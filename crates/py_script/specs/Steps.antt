@@ -1,5 +1,5 @@
 -- What the steps of a run answer: reading the script, making its drives, and writing the text; and what the run does.
-use Rattle.std.specs.Prelude.{ℕ, ◌≤◌, ◌⊎◌, List, ◌≡◌, length, Result, Ok, Err}
+use Rattle.std.specs.Prelude.{ℕ, ◌≤◌, List, ◌≡◌, length, Result, Ok, Err}
 use Rattle.std.specs.Io.KnownBytes.{Keeps}
 use Rattle.py_outside.specs.Faults.{Rose}
 use Rattle.py_outside.specs.Seen.{SinkSeen, SourceSeen}
@@ -56,7 +56,7 @@ IsReading before after (Err (fault.NoMemory j)) = IsEmpty j
 abbrev pub HasRun : Script → ℕ → Journal → Result Unit VmFault → Type 0
 HasRun s turns j (Ok _) = IsRun s j × IsWhole s j × (length j.events ≤ turns) × RunsItsCodes s j
 HasRun s turns j (Err vm_fault.OutOfTurns) = IsRun s j × (IsWhole s j → ⊥) × (length j.events ≡ turns) × RunsItsCodes s j
-HasRun s turns j (Err vm_fault.NoMemory) = IsEmpty j ⊎ (IsRun s j × (length j.events ≤ turns) × RunsItsCodes s j)
+HasRun s turns j (Err vm_fault.NoMemory) = IsRun s j × (length j.events ≤ turns) × RunsItsCodes s j
 HasRun s turns j (Err vm_fault.Failed) = ⊥
 HasRun s turns j (Err (vm_fault.Exception e)) = ⊥
 

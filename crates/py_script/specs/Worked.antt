@@ -7,10 +7,11 @@ use Rattle.py_run.specs.declared.journal.Journal.{Journal}
 use Rattle.py_script.specs.declared.fault.ScriptFault.TheVariants.{Malformed, OutOfTurns, TooLong}
 use Rattle.py_meaning.specs.Whole.{IsRun, IsWhole}
 use Rattle.py_script.specs.Causes.{IsAnswer}
+use Rattle.py_script.specs.Compiled.{RunsItsCodes}
 
--- a run that is answered as whole is one of some script, also where the source tells no bytes
+-- a run that is answered as whole is one of some script and of its codes, also where the source tells no bytes
 abbrev pub WholeIsOfSome : Type 0
-WholeIsOfSome = (a b : SourceSeen) → (turns : ℕ) → (j : Journal) → IsAnswer a b turns (Ok j) → (s : Script) × IsRun s j × IsWhole s j
+WholeIsOfSome = (a b : SourceSeen) → (turns : ℕ) → (j : Journal) → IsAnswer a b turns (Ok j) → (s : Script) × IsRun s j × IsWhole s j × RunsItsCodes s j
 
 -- it comes only once the source has told its end, and so do a bad line, and turns that ran out
 abbrev pub WholeIsAtEnd : Type 0

@@ -11,6 +11,7 @@ use Rattle.py_objects.specs.declared.event.Event.{Event}
 use Rattle.py_objects.specs.declared.event.Event.TheVariants as event
 use Rattle.py_run.specs.declared.journal.Journal.{Journal}
 use Rattle.py_meaning.specs.Worked.{decls, entered, object, objects, returned}
+use Rattle.py_meaning.specs.WorkedRaw.{decls as raw_decls}
 use Rattle.py_script.specs.Compiled.{RunsCodesOf}
 
 -- the question for the sum of the two arguments
@@ -32,6 +33,10 @@ operations = LoadFast ∷ LoadFast ∷ BinaryOperation ∷ StoreFast ∷ LoadFas
 -- the first code has these units
 abbrev pub AddsAtTwo : Codes → Type 0
 AddsAtTwo cs = (c : PyCode) × (slice_get cs.codes 0 ≡ Some c) × (map (λ u. u.op) c.code.instructions.items ≡ operations)
+
+-- no journal of a raw code that returns its constant at its only unit has the question, whichever unit it names
+abbrev pub NoRawSum : Type 0
+NoRawSum = (cs : Codes) (at : ℕ) → RunsCodesOf raw_decls (journal_at cs at) → ⊥
 
 -- where the question names another unit than the third, the journal is no run of such codes
 abbrev pub NoOtherUnit : Type 0

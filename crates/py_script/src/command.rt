@@ -1,13 +1,13 @@
 //! The top call: reads a script, runs it, and writes the text of its journal.
 
 ghost use Rattle.std.specs.Prelude.{◌≡◌, ◌+◌, ◌≤◌, ◌^◌};
-ghost use Rattle.py_script.specs.Causes.{IsAnswer, IsEnding, IsNoted, IsWritten, CountsReadFault, CountsWriteFault, ReadsSoundly, WritesAsked, WritesAskedSurely, WritesSurely, RunsScripts, RunsAskedScripts, RunsSettle, AskedRunsSettle, status_in};
+ghost use Rattle.py_script.specs.Causes.{IsAnswer, IsEnding, IsNoted, IsWritten, CountsReadFault, CountsWriteFault, ReadsSoundly, WritesAsked, WritesAskedSurely, WritesSurely, RunsScripts, RunsAskedScripts, RefusesScripts, RefusesAskedScripts, RunsSettle, AskedRunsSettle, status_in};
 ghost use Rattle.py_script.specs.Steps.{result_in};
 
-use crate::fault::{CommandResult, Ended, ScriptFault};
+use crate::fault::{CommandResult, Ended, LoadFault, ScriptFault};
 use crate::making::make;
 use crate::notes::write_note;
-use crate::read::read_script;
+use crate::read::{empty_journal, read_script};
 use crate::session::run_drives;
 use crate::words::{Command, Words, command_of};
 use crate::write::write_text;
@@ -31,8 +31,9 @@ pub fn run_script<S: Source, K: Sink>(
     ensures write_fault { CountsWriteFault (K.seen sink.old) (K.seen sink.new) (result_in result) }
     ensures sound { ReadsSoundly (S.seen source.old) (S.seen source.new) (result_in result) }
     ensures sure { WritesSurely (K.seen sink.old) (K.seen sink.new) (result_in result) }
-    // A script is run, and what its runs settle is answered.
+    // A script is run where its raw codes keep the rules, else it is refused, and what its runs settle is answered.
     ensures complete { RunsScripts (S.seen source.old) (result_in result) }
+    ensures refused { RefusesScripts (S.seen source.old) (result_in result) }
     ensures settled { RunsSettle (S.seen source.old) turns (result_in result) }
     ensures reads { (S.seen source.new).reads ≤ (S.seen source.old).reads + (2 ^ 20 + 1) }
 {
@@ -53,7 +54,11 @@ fn answer_of<S: Source, K: Sink>(
     ensures reads { (S.seen source.new).reads ≤ (S.seen source.old).reads + (2 ^ 20 + 1) }
 {
     let script = read_script(alloc, source)?;
-    let (journal, ran) = run_drives(alloc, &script, turns);
+    let (journal, ran) = match run_drives(alloc, &script, turns) {
+        Ok(ran) => ran,
+        Err(LoadFault::Refused(code, at)) => return Err(ScriptFault::Refused(code, at)),
+        Err(LoadFault::NoMemory) => return Err(ScriptFault::NoMemory(empty_journal(alloc))),
+    };
     match ran {
         Ok(()) => write_text(alloc, sink, journal),
         Err(VmFault::OutOfTurns) => Err(ScriptFault::OutOfTurns(write_text(alloc, sink, journal)?)),
@@ -132,8 +137,10 @@ pub fn run_command<S: Source, K: Sink, N: Sink>(
     ensures write_fault { CountsWriteFault (K.seen sink.old) (K.seen sink.new) result.result }
     ensures sound { ReadsSoundly (S.seen source.old) (S.seen source.new) result.result }
     ensures sure { WritesAskedSurely (K.seen sink.old) (K.seen sink.new) words.now result.result }
-    // A script is run where the words ask for it, and what its runs settle is answered.
+    // So is a script where the words ask for it: it is run where its raw codes keep the rules, else it is refused, and what its runs
+    // settle is answered.
     ensures complete { RunsAskedScripts (S.seen source.old) words.now result.result }
+    ensures refused { RefusesAskedScripts (S.seen source.old) words.now result.result }
     ensures settled { AskedRunsSettle (S.seen source.old) words.now result.result }
     ensures reads { (S.seen source.new).reads ≤ (S.seen source.old).reads + (2 ^ 20 + 1) }
 {

@@ -2,7 +2,7 @@
 
 ghost use Rattle.std.specs.Prelude.{◌≡◌, ◌≤◌, ◌+◌, ◌∷◌, [], false, IfOk, OnOk, map, length};
 ghost use Rattle.py_objects.specs.Objects.{declared, IsClassObject};
-ghost use Rattle.py_grammar.specs.Grammar.{ClassDecl, ManagerDecl, functions_in};
+ghost use Rattle.py_grammar.specs.Grammar.{ClassDecl, ManagerDecl, codes_in};
 ghost use Rattle.py_grammar.specs.Script.{decl_of};
 ghost use Rattle.py_run.specs.First.{first_objects};
 ghost use Rattle.py_meaning.specs.Entries.{AreWellDeclared, IsEntryOf, IsFoundedOn, IsNamed};
@@ -104,18 +104,23 @@ fn entry_of(
             name: body.name.copy(alloc)?,
             code,
         })),
+        Declaration::Raw(block) => Ok(Payload::Function(FunctionBody {
+            name: block.name.copy(alloc)?,
+            code,
+        })),
     }
 }
 
 /// How many codes a declaration has.
 fn code_count(declaration: &Declaration) -> usize
-    ensures is { result ≡ length (functions_in (decl_of declaration.now ∷ [])) }
+    ensures is { result ≡ length (codes_in (decl_of declaration.now ∷ [])) }
     ensures few { result ≤ 1 }
 {
     match declaration {
         Declaration::Class(_, _) => 0,
         Declaration::Manager(_, _, _) => 0,
         Declaration::Function(_) => 1,
+        Declaration::Raw(_) => 1,
     }
 }
 
@@ -129,7 +134,7 @@ pub(crate) fn add_declarations(
     requires first { vm.old.objects ≡ first_objects }
     requires unchanged { vm.old.changes ≡ [] }
     requires well { AreWellDeclared (map decl_of declarations.now) }
-    requires coded { length (functions_in (map decl_of declarations.now)) ≤ length vm.old.checked.codes }
+    requires coded { length (codes_in (map decl_of declarations.now)) ≤ length vm.old.checked.codes }
     ensures { OnOk result (HasObjects (map decl_of declarations.now) vm.old vm.new) }
 {
     let mut code = 0;

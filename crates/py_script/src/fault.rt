@@ -1,5 +1,9 @@
 //! What a run of a script, and a whole command, come to.
 
+ghost use Rattle.std.specs.Prelude.{◌≡◌};
+ghost use Rattle.py_script.specs.declared.fault.LoadFault.TheVariants as LoadFault;
+
+use py_code::NoMemory;
 use py_make::Summary;
 use py_vm::Journal;
 use thiserror::Error;
@@ -7,9 +11,20 @@ use thiserror::Error;
 /// Why a script wasn't loaded.
 #[derive(Clone, Copy, Debug, PartialEq, Eq, Error)]
 pub enum LoadFault {
+    /// A raw code breaks a rule: its number among the codes, from 0, and the unit.
+    #[error("code {0} was refused at unit {1}")]
+    Refused(usize, usize),
     /// Memory ran out.
     #[error("memory ran out")]
     NoMemory,
+}
+
+impl From<NoMemory> for LoadFault {
+    ghost from_gives = { λ _ fault. fault ≡ LoadFault.NoMemory };
+
+    fn from(_error: NoMemory) -> LoadFault {
+        LoadFault::NoMemory
+    }
 }
 
 /// Why a script wasn't run to its end and written.
@@ -27,7 +42,7 @@ pub enum ScriptFault {
     /// The bytes are no script; the line is the first bad one, from 1.
     #[error("the bytes are no script: the first bad line is {0}")]
     Malformed(u64),
-    /// A raw block was refused: the number of its code, from 0, and the unit.
+    /// A raw code breaks a rule: its number among the codes, from 0, and the unit.
     #[error("code {0} was refused at unit {1}")]
     Refused(usize, usize),
     /// The turns were spent before the run was whole; the journal is that of the run.

@@ -5,6 +5,7 @@ mod command;
 mod declaring;
 mod fault;
 mod journal;
+mod laws;
 mod loading;
 mod making;
 mod notes;
@@ -19,6 +20,7 @@ mod write;
 pub use command::{run_command, run_script};
 pub use fault::{CommandResult, Ended, LoadFault, ScriptFault};
 pub use journal::journal_text;
+pub use laws::laws_of_refusals;
 pub use loading::load_script;
 pub use py_grammar::{
     DeclList, Declaration, DriveAtom, DriveAtomList, DriveLine, DriveList, ParseFault, Script,

@@ -1,15 +1,16 @@
 //! The declarations of a script in a machine: their codes, their objects, and the dict of their names.
 
-ghost use Rattle.std.specs.Prelude.{false, ◌≡◌, ◌<◌, [], IfOk, OnOk, map, length, All};
+ghost use Rattle.std.specs.Prelude.{false, ◌≡◌, ◌<◌, ◌++◌, ◌∷◌, [], IfErr, IfOk, OnOk, map, length};
 ghost use Rattle.py_objects.specs.declared.payload.Payload.TheVariants as payload;
 ghost use Rattle.py_objects.specs.Objects.{HasPayload, pair_numbers, AllBelow};
-ghost use Rattle.py_laid.specs.Fits.{Fits, Continues};
+ghost use Rattle.py_laid.specs.Fits.{Continues};
 ghost use Rattle.py_tree.specs.Compilable.{IsCompilable};
 ghost use Rattle.py_tree.specs.Views.{tree_of};
-ghost use Rattle.py_vm.specs.Codes.{CodeIsAnswered};
+ghost use Rattle.py_grammar.specs.Grammar.{OfBody, OfRaw};
 ghost use Rattle.py_grammar.specs.Script.{decl_of, decls_of};
-ghost use Rattle.py_grammar.specs.WellFormed.{IsWellFormed};
-ghost use Rattle.py_script.specs.Loaded.{AreCodesOf, IsLoadable, with_codes};
+ghost use Rattle.py_grammar.specs.WellFormed.{IsWellCoded, IsWellFormed};
+ghost use Rattle.py_script.specs.Broken.{AllKeepRules, IsCodeFault, IsDeclFault, IsLoadFault};
+ghost use Rattle.py_script.specs.Loaded.{AreCodesOf, AreLoadable, IsCodable, IsCodeFor, IsReadyCode, with_codes};
 ghost use Rattle.py_meaning.specs.Entries.{AreDeclared, AreWellDeclared};
 ghost use Rattle.py_script.specs.Session.{AreBindings, BindsAll, HasDeclarations, IsLoaded, IsSessionOf, IsValue, OnlyGrew, TakesGlobals};
 ghost use Rattle.py_run.specs.Coming.{IsDone};
@@ -22,8 +23,9 @@ use crate::session::Session;
 use py_body::compile_body;
 use py_check::{CheckFault, CheckedCode, Shapes, check_code};
 use py_code::{Names, NoMemory, PyText};
-use py_grammar::{Declaration, Script};
+use py_grammar::{Declaration, RawBlock, Script};
 use py_objects::{ObjList, PairList, Payload, PyObjectRef};
+use py_raw::assemble;
 use py_tree::Body;
 use py_vm::VirtualMachine;
 use std::alloc::Global;
@@ -37,8 +39,7 @@ fn compile_one(
     shapes: &Shapes,
 ) -> Result<CheckedCode, NoMemory>
     requires { IsCompilable (tree_of body.now) }
-    ensures fits { IfOk result (λ code. Fits names.new code (tree_of body.now)) }
-    ensures answered { IfOk result (λ code. CodeIsAnswered code.code) }
+    ensures ready { IfOk result (λ code. IsReadyCode names.new shapes.now code (OfBody (tree_of body.now))) }
     ensures grows { Continues names.old names.new }
 {
     let codes = compile_body(alloc, names, body, shapes.len())?;
@@ -52,34 +53,85 @@ fn compile_one(
     }
 }
 
-/// The codes of the functions among the declarations, in order, whose names go into one table.
-fn compile_all(
+/// The code of a raw code, checked as the code after others of these shapes.
+fn assemble_one(
+    alloc: Global,
+    names: &mut Names,
+    block: &RawBlock,
+    shapes: &Shapes,
+) -> Result<CheckedCode, CheckFault>
+    requires { IsWellCoded block.now }
+    ensures ready { IfOk result (λ code. IsReadyCode names.new shapes.now code (OfRaw block.now)) }
+    ensures fault { IfErr result (IsCodeFault shapes.now (OfRaw block.now)) }
+    ensures grows { Continues names.old names.new }
+{
+    let code = assemble(alloc, names, block)?;
+    check_code(alloc, code, shapes)
+}
+
+/// The code of a declaration, where it has one, checked as the code after others of these shapes.
+fn code_for(
+    alloc: Global,
+    names: &mut Names,
+    declaration: &Declaration,
+    shapes: &Shapes,
+) -> Result<Option<CheckedCode>, CheckFault>
+    requires { IsCodable (decl_of declaration.now) }
+    ensures made { IfOk result (IsCodeFor names.new shapes.now (decl_of declaration.now)) }
+    ensures fault { IfErr result (IsDeclFault shapes.now (decl_of declaration.now)) }
+    ensures grows { Continues names.old names.new }
+{
+    match declaration {
+        Declaration::Class(_, _) => Ok(None),
+        Declaration::Manager(_, _, _) => Ok(None),
+        Declaration::Function(body) => Ok(Some(compile_one(alloc, names, body, shapes)?)),
+        Declaration::Raw(block) => Ok(Some(assemble_one(alloc, names, block, shapes)?)),
+    }
+}
+
+/// Puts a code after the others, and how many free names it has after theirs.
+fn push_code(
+    codes: &mut Vec<CheckedCode>,
+    shapes: &mut Shapes,
+    code: CheckedCode,
+) -> Result<(), NoMemory>
+    ensures codes { OnOk result (codes.new.items ≡ codes.old.items ++ code ∷ []) }
+    ensures shapes { OnOk result (shapes.new ≡ shapes.old ++ length code.code.code.freevars.items ∷ []) }
+{
+    let free = code.code().code.freevars.len();
+    codes.push(code)?;
+    shapes.push(free)?;
+    Ok(())
+}
+
+/// The codes of the declarations, in order, whose names go into one table. The first raw code that breaks a rule is refused.
+fn codes_for(
     alloc: Global,
     names: &mut Names,
     declarations: &[Declaration],
-) -> Result<Vec<CheckedCode>, NoMemory>
+) -> Result<Vec<CheckedCode>, LoadFault>
     requires { AreWellDeclared (map decl_of declarations.now) }
     ensures checked { IfOk result (λ codes. AreCodesOf declarations.now names.new codes.items) }
-    ensures answered { IfOk result (λ codes. All (λ code. CodeIsAnswered code.code) codes.items) }
+    ensures fault { IfErr result (IsLoadFault (map decl_of declarations.now)) }
 {
     let mut codes = Vec::new(alloc);
     let mut shapes = Shapes::new(alloc);
     for declaration in declarations {
-        let Declaration::Function(body) = declaration else {
-            continue;
+        let made = match code_for(alloc, names, declaration, &shapes) {
+            Ok(made) => made,
+            Err(CheckFault::Breaks(at)) => return Err(LoadFault::Refused(codes.len(), at)),
+            Err(CheckFault::NoMemory) => return Err(LoadFault::NoMemory),
         };
-        let code = compile_one(alloc, names, body, &shapes)?;
-        let free = code.code().code.freevars.len();
-        codes.push(code)?;
-        shapes.push(free)?;
+        if let Some(code) = made {
+            push_code(&mut codes, &mut shapes, code)?;
+        }
     }
     Ok(codes)
 }
 
 /// Puts the codes behind those of the machine.
 fn add_codes(vm: &mut VirtualMachine, codes: Vec<CheckedCode>) -> Result<(), NoMemory>
-    requires loadable { All (IsLoadable vm.old.checked.names) codes.items }
-    requires answered { All (λ code. CodeIsAnswered code.code) codes.items }
+    requires { AreLoadable vm.old.checked codes.items }
     ensures { OnOk result (vm.new ≡ with_codes vm.old codes.items) }
 {
     for code in codes {
@@ -157,13 +209,14 @@ fn take_globals(vm: &mut VirtualMachine, pairs: PairList) -> Result<(), NoMemory
 }
 
 /// A machine with the codes and the objects of the declarations.
-fn load_declarations(alloc: Global, script: &Script) -> Result<VirtualMachine, NoMemory>
+fn load_declarations(alloc: Global, script: &Script) -> Result<VirtualMachine, LoadFault>
     requires { IsWellFormed script.now }
-    ensures { IfOk result (λ vm. HasDeclarations (decls_of script.now) vm) }
+    ensures has { IfOk result (λ vm. HasDeclarations (decls_of script.now) vm) }
+    ensures fault { IfErr result (IsLoadFault (decls_of script.now)) }
 {
     let declarations = script.declarations.as_slice();
     let mut names = Names::new(alloc);
-    let codes = compile_all(alloc, &mut names, declarations)?;
+    let codes = codes_for(alloc, &mut names, declarations)?;
     let mut vm = VirtualMachine::new(alloc, names)?;
     add_codes(&mut vm, codes)?;
     add_declarations(alloc, &mut vm, declarations)?;
@@ -186,9 +239,10 @@ fn bind_declarations(
 }
 
 /// A machine that holds the declarations of the script, with the dict of their names as its globals.
-fn load_session(alloc: Global, script: &Script) -> Result<Session, NoMemory>
+fn load_session(alloc: Global, script: &Script) -> Result<Session, LoadFault>
     requires { IsWellFormed script.now }
-    ensures { IfOk result (λ session. IsLoaded (decls_of script.now) session) }
+    ensures loaded { IfOk result (λ session. IsLoaded (decls_of script.now) session) }
+    ensures fault { IfErr result (IsLoadFault (decls_of script.now)) }
 {
     let mut vm = load_declarations(alloc, script)?;
     bind_declarations(alloc, &mut vm, script.declarations.as_slice())?;
@@ -201,15 +255,18 @@ fn load_session(alloc: Global, script: &Script) -> Result<Session, NoMemory>
 }
 
 /// A session of the script's declarations, behind no drive. Its journal has no event, and is a whole run of the declarations without drives.
+/// It comes only where each raw code keeps the rules. Else the first one that breaks one is named, and its first unit that does, or
+/// memory ran out.
 pub fn load_script(alloc: Global, script: &Script) -> Result<Session, LoadFault>
     requires { IsWellFormed script.now }
     ensures session { IfOk result (λ session. IsSessionOf (decls_of script.now) [] session) }
     ensures runs { IfOk result (λ session. HasRunOf (decls_of script.now) [] (journal_of session)) }
     ensures whole { IfOk result (λ session. IsDone 0 (journal_of session).events) }
     ensures begun { IfOk result (λ session. (journal_of session).events ≡ []) }
+    ensures keeps { IfOk result (λ _. AllKeepRules (decls_of script.now)) }
+    ensures fault { IfErr result (IsLoadFault (decls_of script.now)) }
 {
-    match load_session(alloc, script) {
-        Ok(session) => Ok(session),
-        Err(NoMemory) => Err(LoadFault::NoMemory),
-    }
+    // Taken apart, so that each clause speaks of the session itself.
+    let session = load_session(alloc, script)?;
+    Ok(session)
 }

@@ -4,7 +4,7 @@ ghost use Rattle.std.specs.Prelude.{◌≤◌, IfOk};
 ghost use Rattle.py_make.specs.Made.{made_text, most_groups};
 ghost use Rattle.py_script.specs.Making.{making_in, EndsMade, IsEndOfRun, IsWholeBy, WritesMade, WritesMadeSurely};
 
-use crate::fault::{CommandResult, ScriptFault};
+use crate::fault::{CommandResult, LoadFault, ScriptFault};
 use crate::session::run_drives;
 use crate::words::TURNS;
 use py_code::NoMemory;
@@ -39,7 +39,12 @@ fn run_made(alloc: Global, seed: u64, count: u64) -> Result<Journal, NoMemory>
         Err(ParseFault::Malformed(_)) => unreachable!(),
         Err(ParseFault::NoMemory) => return Err(NoMemory),
     };
-    let (journal, ran) = run_drives(alloc, &script, TURNS);
+    let (journal, ran) = match run_drives(alloc, &script, TURNS) {
+        Ok(ran) => ran,
+        // No text that is made has a raw code.
+        Err(LoadFault::Refused(_, _)) => unreachable!(),
+        Err(LoadFault::NoMemory) => return Err(NoMemory),
+    };
     match ran {
         Ok(()) => Ok(journal),
         Err(VmFault::NoMemory) => Err(NoMemory),

@@ -1,5 +1,4 @@
-use Rattle.std.proofs.Common.{◌≡◌, ◌+◌, ◌*◌, ◌<◌, ◌∙◌, ◌&&◌, ℕ, Bool, ap, sym, length, take, true, false, arith, rules}
-use Rattle.std.proofs.lemmas.List.{take_all}
+use Rattle.std.proofs.Common.{◌≡◌, ◌+◌, ◌*◌, ◌<◌, ◌∙◌, ◌&&◌, Bool, ap, sym, length, take, true, false, arith, rules}
 use Rattle.py_tree.specs.Tree.{Operate}
 use Rattle.py_tree.specs.ExprViews.{expr_of, exprs_of, list_exprs}
 use Rattle.py_tree.specs.Compilable.{operands, parts, all_parts}

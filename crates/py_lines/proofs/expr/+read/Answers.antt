@@ -1,7 +1,7 @@
 use Rattle.std.proofs.Common.{rules, ◌≡◌, ◌≢◌, ◌+◌, ◌-◌, ℕ, suc, List, [], ◌∷◌, true, false, map, drop, length, sym, ap, ◌∙◌, subst, arith}
 use Rattle.std.proofs.lemmas.List.{drop-map}
 use Rattle.py_lines.specs.declared.meaning.Sense.{Sense}
-use Rattle.py_lines.specs.Meaning.{Meaning, Open, Close, Word}
+use Rattle.py_lines.specs.Meaning.{Meaning, Open, Word}
 use Rattle.py_lines.specs.Senses.{meaning_of}
 use Rattle.py_lines.specs.Printing.{atom_token, operator_word}
 use Rattle.py_tree.specs.declared.expr.Expr.{Operation}

@@ -1,6 +1,6 @@
 use Rattle.py_lines.proofs.OneToOne.{same_line}
 use Rattle.py_lines.proofs.Readings.{one_way, some_way}
-use Rattle.py_lines.proofs.Totals.{read_back}
+use Rattle.py_lines.proofs.TokenFinders.{read_back}
 use Rattle.py_lines.proofs.Utf8.{line_is_utf8}
 use Rattle.py_lines.proofs.laws.laws_of_lines.Goals as goal
 

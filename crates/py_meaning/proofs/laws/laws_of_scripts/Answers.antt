@@ -3,12 +3,12 @@ use Rattle.py_meaning.proofs.laws.laws_of_scripts.Goals as goal
 
 pub returns : goal.returns
 returns c = record {
-  same = λ decls drives objects objects' events events' earlier run run'. (scripts_agree decls drives earlier objects objects' events events' run run').0;
-  alike = λ decls drives objects objects' events events' earlier run run'. (scripts_agree decls drives earlier objects objects' events events' run run').1;
-  journals = λ bytes j j' run run'. runs_agree_from bytes j j' run run';
-  shorter = λ bytes j j' whole unfinished. shorter bytes j j' whole unfinished;
-  never_longer = λ bytes j j' whole run. never_longer bytes j j' whole run;
-  as_long = λ bytes j j' whole whole'. as_long bytes j j' whole whole';
-  same_text = λ bytes j j' run run' count. same_text bytes j j' run run' count;
-  one_text = λ bytes j j' whole whole'. one_text bytes j j' whole whole';
+  same = λ decls drives objects objects' events events' core earlier run run'. (scripts_agree decls drives core earlier objects objects' events events' run run').0;
+  alike = λ decls drives objects objects' events events' core earlier run run'. (scripts_agree decls drives core earlier objects objects' events events' run run').1;
+  journals = λ bytes j j' core run run'. runs_agree_from bytes j j' core run run';
+  shorter = λ bytes j j' core whole unfinished. shorter bytes j j' core whole unfinished;
+  never_longer = λ bytes j j' core whole run. never_longer bytes j j' core whole run;
+  as_long = λ bytes j j' core whole whole'. as_long bytes j j' core whole whole';
+  same_text = λ bytes j j' core run run' count. same_text bytes j j' core run run' count;
+  one_text = λ bytes j j' core whole whole'. one_text bytes j j' core whole whole';
 }

@@ -1,10 +1,10 @@
 use Rattle.std.proofs.Common.{◌∙◌, ◌∷◌, [], refl, ap, arith, length, length-append, map, subst, take}
-use Rattle.py_grammar.specs.Grammar.{functions_in}
+use Rattle.py_grammar.specs.Grammar.{codes_in}
 use Rattle.py_grammar.specs.Script.{decl_of}
 use Rattle.py_vm.specs.Machine.{Machine}
 use Rattle.py_script.specs.Loaded.{HasObjects}
 use Rattle.py_script.proofs.Declarations.{front_whole}
-use Rattle.py_script.proofs.Adding.{added_next, entry_next, founded_next, functions_more, nothing_added}
+use Rattle.py_script.proofs.Adding.{added_next, entry_next, founded_next, codes_more, nothing_added}
 use Rattle.py_script.proofs.declaring.add_declarations.Goals as goal
 
 pub entry_of-requires : goal.entry_of-requires
@@ -35,7 +35,7 @@ loop-declaration-preserved c =
     let d = c.declaration-item.result in
     let now = c.loop-declaration.vm in
     let n = c.loop-declaration.code in
-    let count = ap length (functions_more ds i d c.loop-declaration-test.true c.declaration-item.is) ∙ length-append (functions_in (map decl_of (take i ds))) (functions_in (decl_of d ∷ [])) in
+    let count = ap length (codes_more ds i d c.loop-declaration-test.true c.declaration-item.is) ∙ length-append (codes_in (map decl_of (take i ds))) (codes_in (decl_of d ∷ [])) in
     record {
       added = added_next ds i d c.loop-declaration-test.true c.declaration-item.is c.requires.well c.args.vm.now now c.add_object.new.self n c.in_ok-entry.entry so_far.added so_far.number c.in_ok-entry.ensures c.in-Ok.ensures.1.1;
       number = omega (arith, so_far.number, count, c.code_count-code.ensures.is);

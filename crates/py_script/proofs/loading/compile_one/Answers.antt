@@ -3,21 +3,17 @@ use Rattle.std.specs.Prelude.{Err}
 use Rattle.py_check.specs.declared.annotated.Annotated.{Annotated}
 use Rattle.py_check.specs.Sheet.{sheet_of}
 use Rattle.py_check.proofs.BreakingLemmas.{none_breaks}
+use Rattle.py_grammar.specs.Grammar.{OfBody}
 use Rattle.py_laid.specs.Code.{IsPlain}
 use Rattle.py_laid.specs.Fits.{Fits}
 use Rattle.py_laid.specs.Instructions.{UsesCompiled, is_compiled}
 use Rattle.py_laid.proofs.Uses.{compiled_raise}
 use Rattle.py_body.proofs.CodesLemmas.{last_of_each}
 use Rattle.py_tree.specs.Views.{tree_of}
-use Rattle.py_vm.specs.Codes.{CodeIsAnswered}
 use Rattle.py_vm.proofs.CodesLemmas.{AreAnswered, code_answered}
-use Rattle.py_script.proofs.Declarations.{fits_driven, plain_positional}
+use Rattle.py_script.specs.Loaded.{IsReadyCode}
+use Rattle.py_script.proofs.Declarations.{fits_driven, fits_ready, plain_positional}
 use Rattle.py_script.proofs.loading.compile_one.Goals as goal
-
-pub returns-in-Ok-clause-fits : goal.returns-in-Ok-clause-fits
-returns-in-Ok-clause-fits c =
-    let fits = λ (code : Annotated). Fits c.compile_body.new.names code (tree_of c.args.body.now) in
-    subst fits (sym c.in-Ok.ensures.ok) (last_of_each fits _ _ _ _ _ c.into_vec.ensures c.pop.ensures.items c.in-Some.is c.in_ok-codes.ensures.fits)
 
 -- the code keeps the rules
 pub unreachable-requires-in-Err-Breaks : goal.unreachable-requires-in-Err-Breaks
@@ -30,13 +26,14 @@ unreachable-requires-in-Err-Breaks c =
 compiled_answered : AreAnswered is_compiled
 compiled_answered = record { no_cause = compiled_raise }
 
-pub returns-in-Ok-clause-answered : goal.returns-in-Ok-clause-answered
-returns-in-Ok-clause-answered c =
+pub returns-in-Ok-clause-ready : goal.returns-in-Ok-clause-ready
+returns-in-Ok-clause-ready c =
     let names = c.compile_body.new.names in
+    let shapes = c.args.shapes.now in
     let tree = tree_of c.args.body.now in
     let uses = last_of_each (λ (code : Annotated). UsesCompiled code.code) _ _ _ _ _ c.into_vec.ensures c.pop.ensures.items c.in-Some.is c.in_ok-codes.ensures.uses in
     let fits = last_of_each (λ (code : Annotated). Fits names code tree) _ _ _ _ _ c.into_vec.ensures c.pop.ensures.items c.in-Some.is c.in_ok-codes.ensures.fits in
     let plain = last_of_each (λ (code : Annotated). IsPlain code tree) _ _ _ _ _ c.into_vec.ensures c.pop.ensures.items c.in-Some.is c.in_ok-codes.ensures.plain in
     let code : Annotated = c.in-Some.code in
-    subst (λ (code : Annotated). CodeIsAnswered code.code) (sym c.in-Ok.ensures.ok)
-    (code_answered is_compiled compiled_answered code.code uses (plain_positional code tree plain) (fits_driven names code tree fits))
+    let answered = code_answered is_compiled compiled_answered code.code uses (plain_positional code tree plain) (fits_driven names code tree fits) in
+    subst (λ (made : Annotated). IsReadyCode names shapes made (OfBody tree)) (sym c.in-Ok.ensures.ok) (fits_ready names shapes code tree fits plain answered)

@@ -1,25 +1,21 @@
 use Rattle.std.proofs.Common.{◌∙◌, ap, length, List, map, sym, subst, arith}
-use Rattle.std.specs.Prelude.{All}
-use Rattle.py_grammar.specs.Grammar.{Decl, functions_in}
+use Rattle.py_grammar.specs.Grammar.{Decl, codes_in}
 use Rattle.py_grammar.specs.Script.{decl_of}
 use Rattle.py_vm.specs.Machine.{Machine}
 use Rattle.py_meaning.specs.Entries.{AreWellDeclared}
-use Rattle.py_script.specs.Loaded.{AreChecked, HasObjects, IsLoadable, with_codes}
-use Rattle.py_script.proofs.Declarations.{of_decls, codes_loadable}
+use Rattle.py_script.specs.Loaded.{AreChecked, AreLoadable, AreReady, HasObjects, with_codes}
+use Rattle.py_script.proofs.Declarations.{of_decls, ready_checked, ready_loadable}
 use Rattle.py_script.proofs.Loaded.{has_declarations}
 use Rattle.py_script.proofs.loading.load_declarations.Goals as goal
 
-pub compile_all-requires : goal.compile_all-requires
-compile_all-requires c = of_decls AreWellDeclared _ _ (sym c.as_slice-declarations.ensures) (record { each = c.requires.declared; distinct = c.requires.distinct })
+pub codes_for-requires : goal.codes_for-requires
+codes_for-requires c = of_decls AreWellDeclared _ _ (sym c.as_slice-declarations.ensures) (record { each = c.requires.declared; distinct = c.requires.distinct })
 
 pub add_codes-requires : goal.add_codes-requires
 add_codes-requires c =
     let declarations = c.as_slice-declarations.result.now in
-    let checked : AreChecked (functions_in (map decl_of declarations)) (record { names = c.compile_all.new.names; codes = c.in_ok-codes.codes.items }) = c.in_ok-codes.ensures.checked in
-    record {
-      loadable = subst (λ (m : Machine). All (IsLoadable m.checked.names) c.in_ok-codes.codes.items) (sym c.in_ok-vm.ensures) (codes_loadable (functions_in (map decl_of declarations)) _ checked);
-      answered = c.in_ok-codes.ensures.answered;
-    }
+    let ready : AreReady (codes_in (map decl_of declarations)) (record { names = c.codes_for.new.names; codes = c.in_ok-codes.codes.items }) = c.in_ok-codes.ensures.checked in
+    subst (λ (m : Machine). AreLoadable m.checked c.in_ok-codes.codes.items) (sym c.in_ok-vm.ensures) (ready_loadable (codes_in (map decl_of declarations)) _ ready)
 
 pub add_declarations-requires : goal.add_declarations-requires
 add_declarations-requires c =
@@ -34,11 +30,12 @@ add_declarations-requires c =
       coded = omega (arith, count, bodies);
     }
 
-pub returns : goal.returns
-returns c =
-    let names = c.compile_all.new.names in
+pub returns-clause-has : goal.returns-clause-has
+returns-clause-has c =
+    let names = c.codes_for.new.names in
     let codes = c.in_ok-codes.codes.items in
-    let P : List Decl → Type 0 = λ ds. AreChecked (functions_in ds) (record { names = names; codes = codes }) in
+    let P : List Decl → Type 0 = λ ds. AreChecked (codes_in ds) (record { names = names; codes = codes }) in
+    let checked = ready_checked (codes_in (map decl_of c.as_slice-declarations.result.now)) (record { names = names; codes = codes }) c.in_ok-codes.ensures.checked in
     has_declarations (map decl_of c.args.script.now.declarations) c.in_ok-vm.vm c.add_codes.new.vm c.add_declarations.new.vm names codes c.in_ok-vm.ensures c.in_ok-add_codes.ensures
-    (of_decls P _ _ c.as_slice-declarations.ensures c.in_ok-codes.ensures.checked)
+    (of_decls P _ _ c.as_slice-declarations.ensures checked)
     (of_decls (λ ds. HasObjects ds c.add_codes.new.vm c.add_declarations.new.vm) _ _ c.as_slice-declarations.ensures c.in_ok-add_declarations.ensures)

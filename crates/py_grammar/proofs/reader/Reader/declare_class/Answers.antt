@@ -1,4 +1,4 @@
-use Rattle.std.proofs.Common.{◌≡◌, ◌∙◌, sym, true, map}
+use Rattle.std.proofs.Common.{◌≡◌, ◌∙◌, sym, true, refl, map}
 use Rattle.py_grammar.specs.Grammar.{declared_as}
 use Rattle.py_grammar.specs.Rules.{may_derive}
 use Rattle.py_grammar.specs.Script.{decls_of}
@@ -15,5 +15,8 @@ returns-clause-taken c =
 pub returns-clause-kept : goal.returns-clause-kept
 returns-clause-kept c =
     let kept = table_outside c.args.self.now c.requires.kept c.requires.outside in
-    rw (decls_more _ _ _ c.in_ok-push.ensures.added, c.requires.outside)
-    (c.in_ok-add_class.ensures ∙ table_class (decls_of c.args.self.now.whole) c.args.self.now.table c.args.name c.args.base kept (sym c.may_derive.ensures ∙ c.if-not-may_derive.false))
+    record {
+      table = rw (decls_more _ _ _ c.in_ok-push.ensures.added, c.requires.outside)
+          (c.in_ok-add_class.ensures ∙ table_class (decls_of c.args.self.now.whole) c.args.self.now.table c.args.name c.args.base kept (sym c.may_derive.ensures ∙ c.if-not-may_derive.false));
+      still_new = rw c.requires.outside refl;
+    }
